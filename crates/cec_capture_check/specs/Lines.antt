@@ -6,7 +6,7 @@ use Rattle.std.specs.Str.{bytes_eq}
 use Rattle.hdmi_core.specs.Number.{number_of}
 use Rattle.hdmi_core.specs.Words.{words_of, one_of}
 use Rattle.cec_expect.specs.Fault.{after_label, at_word}
-use Rattle.cec_expect.specs.Line.{after_label, has_verb, label_in}
+use Rattle.cec_expect.specs.Line.{unlabelled_words, has_verb, label_in}
 use Rattle.cec_expect.specs.declared.fault.LineFault.{LineFault}
 use Rattle.cec_expect.specs.declared.form.ExpectCause.TheVariants.{Word, Number}
 
@@ -23,7 +23,7 @@ instant_in (verb ∷ words) = if bytes_eq verb (codes "at") then number_by (one_
 
 -- the instant that a line names
 abbrev pub instant_of : List ℕ → Option ℕ
-instant_of line = instant_in (after_label (words_of line))
+instant_of line = instant_in (unlabelled_words (words_of line))
 
 -- ---- faults
 
@@ -60,4 +60,4 @@ kind_fault label (verb ∷ words) =
 
 -- why a line is none of a capture's, and its word at fault
 abbrev pub line_fault : List ℕ → Option LineFault
-line_fault line = kind_fault (label_in (words_of line)) (after_label (words_of line))
+line_fault line = kind_fault (label_in (words_of line)) (unlabelled_words (words_of line))

@@ -3,7 +3,7 @@ use Rattle.std.proofs.Common.{◌≡◌, ℕ, List, [], ◌∷◌, ◌++◌, Som
 use Rattle.std.specs.Io.KnownBytes.{Appends}
 use Rattle.hdmi_core.specs.Lines.{lines_of}
 use Rattle.hdmi_core.specs.Words.{words_of}
-use Rattle.cec_expect.specs.Line.{after_label, cut_script, plain_script}
+use Rattle.cec_expect.specs.Line.{unlabelled_words, cut_script, plain_script}
 use Rattle.cec_expect.specs.Form.{Form, form_in}
 use Rattle.cec_expect.specs.Form.Form.{Other, Rounds, State, Refused}
 use Rattle.cec_expect.specs.declared.fault.LineFault.{LineFault}
@@ -70,7 +70,7 @@ one_states topology plain [] xs ys h k = h ∙ sym k
 one_states topology plain (line ∷ lines) [] ys h k = absurd h
 one_states topology plain (line ∷ lines) (x ∷ xs) [] h k = absurd k
 one_states topology plain (line ∷ lines) (x ∷ xs) (y ∷ ys) h k =
-    ap (λ a. a ∷ xs) (one_state topology plain (form_in (after_label (words_of line))) x y h.0 k.0) ∙ ap (λ zs. y ∷ zs) (one_states topology plain lines xs ys h.1 k.1)
+    ap (λ a. a ∷ xs) (one_state topology plain (form_in (unlabelled_words (words_of line))) x y h.0 k.0) ∙ ap (λ zs. y ∷ zs) (one_states topology plain lines xs ys h.1 k.1)
 
 -- ---- one report
 

@@ -6,7 +6,7 @@ use Rattle.std.proofs.lemmas.Bool.Decides.{nat_tests}
 use Rattle.hdmi_core.specs.Lines.{lines_of}
 use Rattle.hdmi_core.specs.Words.{words_of}
 use Rattle.cec_expect.specs.Fits.{fits}
-use Rattle.cec_expect.specs.Line.{after_label}
+use Rattle.cec_expect.specs.Line.{unlabelled_words}
 use Rattle.cec_expect.specs.Form.{Form, form_in}
 use Rattle.cec_expect.specs.Form.Form.{Other, Rounds, State, Refused}
 use Rattle.cec_expect.specs.Faults.{event_labelled}
@@ -148,7 +148,7 @@ FormCovered all (Ok (Refused name word)) = Unit {0}
 abbrev AreCovered : List ℕ → ℕ → List (List ℕ) → Type 0
 AreCovered script number [] = Unit {0}
 AreCovered script number (line ∷ lines) =
-    FormCovered (lines_of script) (form_in (after_label (words_of line))) × (is_labelled line ≡ true → is_named script number ≡ true) × AreCovered script (number + 1) lines
+    FormCovered (lines_of script) (form_in (unlabelled_words (words_of line))) × (is_labelled line ≡ true → is_named script number ≡ true) × AreCovered script (number + 1) lines
 
 or_so : (a : Bool) → (a || true) ≡ true
 or_so true = refl
@@ -165,13 +165,13 @@ covered : (script : List ℕ) (number : ℕ) (lines : List (List ℕ)) → ((rep
     → ((other : ℕ) → name_lines number lines other ≡ true → is_named script other ≡ true) → AreCovered script number lines
 covered script number [] h names = tt
 covered script number (line ∷ lines) h names = (
-  first (form_in (after_label (words_of line))) refl,
+  first (form_in (unlabelled_words (words_of line))) refl,
   λ labelled. names number (or_first (names_line number line number) (name_lines (number + 1) lines number) (ap (λ b. b && (number == number)) labelled ∙ itself number)),
   covered script (number + 1) lines (λ reported k. h reported (ap (λ b. meets reported line || b) k ∙ or_so (meets reported line)))
       (λ other k. names other (ap (λ b. names_line number line other || b) k ∙ or_so (names_line number line other))),
 )
   where
-    first : (f : Result Form LineFault) → form_in (after_label (words_of line)) ≡ f → FormCovered all f
+    first : (f : Result Form LineFault) → form_in (unlabelled_words (words_of line)) ≡ f → FormCovered all f
     first (Err cause) e = tt
     first (Ok Other) e = tt
     first (Ok (Rounds quantity window pattern)) e =
@@ -223,7 +223,7 @@ module _ (script few trace : List ℕ) (are : lines_of few ≡ filter (is_kept s
   lines_same at number [] states c = refl
   lines_same at number (line ∷ lines) [] c = refl
   lines_same at number (line ∷ lines) (state ∷ states) c =
-      ap (λ (j : Judged). j ∷ lines_judged script few (noted at number j.at) (number + 1) lines states) (form_same state at number (is_labelled line) (form_in (after_label (words_of line))) c.0 c.1)
+      ap (λ (j : Judged). j ∷ lines_judged script few (noted at number j.at) (number + 1) lines states) (form_same state at number (is_labelled line) (form_in (unlabelled_words (words_of line))) c.0 c.1)
       ∙ ap (λ (js : List Judged). line_judged script trace state at number line ∷ js)
       (lines_same (noted at number (line_judged script trace state at number line).at) (number + 1) lines states c.2)
 
@@ -248,14 +248,14 @@ module _ (script few trace : List ℕ) (are : lines_of few ≡ filter (is_kept s
   remarks_same state j (Ok (State time device words)) c h = refl
   remarks_same state j (Ok (Refused name word)) c h = refl
 
-  line_same : (state : List ℕ) (r : Report) (number : ℕ) (line : List ℕ) (j : Judged) → FormCovered (lines_of script) (form_in (after_label (words_of line))) → is_unmet j ≡ false
+  line_same : (state : List ℕ) (r : Report) (number : ℕ) (line : List ℕ) (j : Judged) → FormCovered (lines_of script) (form_in (unlabelled_words (words_of line))) → is_unmet j ≡ false
       → with_line few state r number line j ≡ with_line trace state r number line j
   line_same state r number line j c h = by j.holds h
     where
       by : (o : Option Bool) → (has_failed o && is_some j.span && (j.count == 0)) ≡ false → with_found few state r number line j o ≡ with_found trace state r number line j o
       by None k = refl
       by (Some true) k = refl
-      by (Some false) k = ap (with_remarks (with_test r false number [] line) false) (remarks_same state j (form_in (after_label (words_of line))) c k)
+      by (Some false) k = ap (with_remarks (with_test r false number [] line) false) (remarks_same state j (form_in (unlabelled_words (words_of line))) c k)
 
   tests_same : (r : Report) (number : ℕ) (lines states : List (List ℕ)) (js : List Judged) → AreCovered script number lines → list_any (λ f. is_unmet f.judged) (findings_from number states js) ≡ false
       → with_lines few r number lines states js ≡ with_lines trace r number lines states js

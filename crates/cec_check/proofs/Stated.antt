@@ -1,7 +1,7 @@
 -- The state lines of a script, one after another.
 use Rattle.std.proofs.Common.{◌≡◌, ℕ, Bool, true, false, List, [], ◌∷◌, ◌++◌, refl, sym, ap, ◌∙◌, subst, append_assoc, append-nil, Result, Ok, Err}
 use Rattle.hdmi_core.specs.Words.{words_of}
-use Rattle.cec_expect.specs.Line.{after_label}
+use Rattle.cec_expect.specs.Line.{unlabelled_words}
 use Rattle.cec_expect.specs.Form.{Form, form_in}
 use Rattle.cec_expect.specs.Form.Form.{Other, Rounds, State, Refused}
 use Rattle.cec_expect.specs.declared.form.ExpectCause.{ExpectCause}
@@ -27,7 +27,7 @@ pub none_more : (topology plain : List ℕ) (all lines rest : List (List ℕ)) (
 none_more topology plain all lines rest line found split none before more h =
     before more (subst (λ ls. AreStates topology plain ls (states_for ls more)) (sym split)
     (subst (λ b. AreStates topology plain (line ∷ rest) (first_state b more ∷ states_for rest (later_states b more))) (sym none)
-    (no_state topology plain (form_in (after_label (words_of line))) none, h)))
+    (no_state topology plain (form_in (unlabelled_words (words_of line))) none, h)))
 
 -- one that speaks of one
 pub one_more : (topology plain : List ℕ) (all lines rest : List (List ℕ)) (line state : List ℕ) (found new : List (List ℕ)) → lines ≡ line ∷ rest → is_of_state line ≡ true

@@ -6,7 +6,7 @@ use Rattle.std.specs.List.{list_any}
 use Rattle.hdmi_core.specs.Lines.{lines_of}
 use Rattle.hdmi_core.specs.Words.{words_of}
 use Rattle.cec_expect.specs.Fits.{fits}
-use Rattle.cec_expect.specs.Line.{after_label, has_verb}
+use Rattle.cec_expect.specs.Line.{unlabelled_words, has_verb}
 use Rattle.cec_expect.specs.Form.{Form, form_in}
 use Rattle.cec_expect.specs.Form.Form.{Other, Rounds, State, Refused}
 use Rattle.cec_expect.specs.declared.fault.LineFault.{LineFault}
@@ -22,7 +22,7 @@ pattern_by (Ok (Refused name word)) = None
 
 -- the pattern of a line of a script
 abbrev pub pattern_of : List ℕ → Option (List ℕ)
-pattern_of line = pattern_by (form_in (after_label (words_of line)))
+pattern_of line = pattern_by (form_in (unlabelled_words (words_of line)))
 
 abbrev pub meets_pattern : List ℕ → Option (List ℕ) → Bool
 meets_pattern reported None = false

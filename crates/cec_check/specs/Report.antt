@@ -5,7 +5,7 @@ use Rattle.std.specs.Fmt.{decimal}
 use Rattle.std.specs.List.{concat, flat_map}
 use Rattle.hdmi_core.specs.Lines.{lines_of}
 use Rattle.hdmi_core.specs.Words.{words_of}
-use Rattle.cec_expect.specs.Line.{after_label}
+use Rattle.cec_expect.specs.Line.{unlabelled_words}
 use Rattle.cec_expect.specs.Form.{Form, form_in}
 use Rattle.cec_expect.specs.Form.Form.{Other, Rounds, State, Refused}
 use Rattle.cec_expect.specs.declared.fault.LineFault.{LineFault}
@@ -78,7 +78,7 @@ form_remarks trace state j (Ok (State time device words)) = shown_line state
 form_remarks trace state j (Ok (Refused name word)) = []
 
 abbrev pub remarks : List ℕ → List ℕ → Judged → List ℕ → List ℕ
-remarks trace state j line = form_remarks trace state j (form_in (after_label (words_of line)))
+remarks trace state j line = form_remarks trace state j (form_in (unlabelled_words (words_of line)))
 
 abbrev pub with_remarks : Report → Bool → List ℕ → Report
 with_remarks r true text = r

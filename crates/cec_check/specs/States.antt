@@ -1,7 +1,7 @@
 -- The states that a script speaks of (own): a device's line with which the run would end, had it ended at a time.
 use Rattle.std.specs.Prelude.{◌≡◌, ℕ, true, false, List, [], ◌∷◌, Option, Some, None, Result, Ok, Err}
 use Rattle.hdmi_core.specs.Words.{words_of}
-use Rattle.cec_expect.specs.Line.{after_label, cut_script}
+use Rattle.cec_expect.specs.Line.{unlabelled_words, cut_script}
 use Rattle.cec_expect.specs.Form.{Form, form_in}
 use Rattle.cec_expect.specs.Form.Form.{Other, Rounds, State, Refused}
 use Rattle.cec_expect.specs.declared.fault.LineFault.{LineFault}
@@ -26,7 +26,7 @@ IsStateOf topology plain (Ok (Refused name word)) state = state ≡ []
 IsStateOf topology plain (Err cause) state = state ≡ []
 
 abbrev pub IsStateFor : List ℕ → List ℕ → List ℕ → List ℕ → Type 0
-IsStateFor topology plain line state = IsStateOf topology plain (form_in (after_label (words_of line))) state
+IsStateFor topology plain line state = IsStateOf topology plain (form_in (unlabelled_words (words_of line))) state
 
 -- the state line of a line that speaks of one, and none of another line
 abbrev pub IsStateRead : List ℕ → List ℕ → List ℕ → Option (List ℕ) → Type 0

@@ -8,7 +8,7 @@ use Rattle.std.specs.Option.{option_map}
 use Rattle.hdmi_core.specs.Lines.{lines_of}
 use Rattle.hdmi_core.specs.Words.{words_of}
 use Rattle.hdmi_core.specs.Number.{number_of}
-use Rattle.cec_expect.specs.Line.{label_in, after_label, is_event}
+use Rattle.cec_expect.specs.Line.{label_in, unlabelled_words, is_event}
 use Rattle.cec_expect.specs.Fault.{after_label, at_word}
 use Rattle.cec_expect.specs.Form.{Form, Window, form_in, in_window}
 use Rattle.cec_expect.specs.Form.Form.{Other, Rounds, State, Refused}
@@ -27,7 +27,7 @@ abbrev pub has_label : List ℕ → List ℕ → Bool
 has_label name line = is_named name (label_in (words_of line))
 
 abbrev pub is_event_line : List ℕ → Bool
-is_event_line line = is_event (after_label (words_of line))
+is_event_line line = is_event (unlabelled_words (words_of line))
 
 -- the first line that has a label, or of events alone, where the first of these lines has this number
 abbrev pub labelled_from : Bool → ℕ → List (List ℕ) → List ℕ → Option ℕ
@@ -81,7 +81,7 @@ is_past time (Some end) = nat_lt end time
 
 -- the script ends before this time
 abbrev pub ends_before : List ℕ → ℕ → Bool
-ends_before script time = list_any (λ line. is_past time (end_in (after_label (words_of line)))) (lines_of script)
+ends_before script time = list_any (λ line. is_past time (end_in (unlabelled_words (words_of line)))) (lines_of script)
 
 -- ---- lines at fault
 
@@ -111,7 +111,7 @@ fault_by topology script number label (Ok form) =
 
 -- why a line is refused, and its word at fault
 abbrev pub line_fault : List ℕ → List ℕ → ℕ → List ℕ → Option LineFault
-line_fault topology script number line = fault_by topology script number (label_in (words_of line)) (form_in (after_label (words_of line)))
+line_fault topology script number line = fault_by topology script number (label_in (words_of line)) (form_in (unlabelled_words (words_of line)))
 
 abbrev pub fault_or : ℕ → Option LineFault → Option ExpectFault → Option ExpectFault
 fault_or number None next = next

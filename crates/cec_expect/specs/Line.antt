@@ -21,9 +21,9 @@ after_name line [] = line
 after_name line (name ∷ words) = words
 
 -- the words without the label
-abbrev pub after_label : List (List ℕ) → List (List ℕ)
-after_label [] = []
-after_label (verb ∷ words) = if bytes_eq verb (codes "label") then after_name (verb ∷ words) words else verb ∷ words
+abbrev pub unlabelled_words : List (List ℕ) → List (List ℕ)
+unlabelled_words [] = []
+unlabelled_words (verb ∷ words) = if bytes_eq verb (codes "label") then after_name (verb ∷ words) words else verb ∷ words
 
 abbrev pub has_verb : List ℕ → List (List ℕ) → Bool
 has_verb verb [] = false
@@ -42,7 +42,7 @@ abbrev pub plain_words : List (List ℕ) → List ℕ
 plain_words words = if is_expectation words then [] else text_of words
 
 abbrev pub plain_line : List ℕ → List ℕ
-plain_line line = plain_words (after_label (words_of line)) ++ 10 ∷ []
+plain_line line = plain_words (unlabelled_words (words_of line)) ++ 10 ∷ []
 
 -- The script without labels and expectations, line for line: the line of an expectation is empty.
 abbrev pub plain_script : List ℕ → List ℕ

@@ -6,7 +6,7 @@ ghost use Rattle.hdmi_core.specs.Lines.{lines_of};
 ghost use Rattle.hdmi_core.specs.Words.{words_after, words_of};
 ghost use Rattle.cec_expect.specs.Fault.{IsNear, after_label};
 ghost use Rattle.cec_expect.specs.Form.{form_as, window_of};
-ghost use Rattle.cec_expect.specs.Line.{after_label};
+ghost use Rattle.cec_expect.specs.Line.{unlabelled_words};
 ghost use Rattle.cec_expect.specs.Faults.{declared_in, end_in, ends_before, first_fault, form_fault, is_above, is_declared, is_line, is_named, is_own_label, is_past, is_strange, line_fault, window_fault};
 
 use crate::fault::{LineFault, after_label, at_word};
@@ -102,7 +102,7 @@ fn end_in(rest: Option<&[u8]>) -> Option<u64>
 }
 
 fn is_past(time: u64, line: &[u8]) -> bool
-    ensures { result ≡ is_past time (end_in (after_label (words_of line.now))) }
+    ensures { result ≡ is_past time (end_in (unlabelled_words (words_of line.now))) }
 {
     match end_in(unlabelled(line).rest) {
         None => false,

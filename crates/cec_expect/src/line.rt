@@ -3,7 +3,7 @@ ghost use Rattle.std.specs.Prelude.{◌≡◌, ◌++◌, ◌∷◌, [], codes, i
 ghost use Rattle.std.specs.Fmt.{decimal};
 ghost use Rattle.std.specs.Option.{option_copied};
 ghost use Rattle.hdmi_core.specs.Words.{words_after, words_of};
-ghost use Rattle.cec_expect.specs.Line.{after_label, cut_line, cut_script, has_verb, is_before, label_in, plain_line, plain_script, plain_words};
+ghost use Rattle.cec_expect.specs.Line.{unlabelled_words, cut_line, cut_script, has_verb, is_before, label_in, plain_line, plain_script, plain_words};
 
 use hdmi_core::{first_line, first_word, is_skipped, number_in};
 use std::alloc::{AllocError, Global};
@@ -19,7 +19,7 @@ pub struct Labelled<'a> {
 /// A line's label, and the line without it.
 pub fn unlabelled(line: &[u8]) -> Labelled<'_>
     ensures label { option_copied result.label ≡ label_in (words_of line.now) }
-    ensures rest { words_after (option_copied result.rest) ≡ after_label (words_of line.now) }
+    ensures rest { words_after (option_copied result.rest) ≡ unlabelled_words (words_of line.now) }
 {
     let (verb, rest) = first_word(line);
     if verb != b"label".as_slice() {

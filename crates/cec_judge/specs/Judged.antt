@@ -5,7 +5,7 @@ use Rattle.std.specs.Str.{bytes_eq}
 use Rattle.std.specs.List.{list_all, list_any}
 use Rattle.hdmi_core.specs.Lines.{lines_of}
 use Rattle.hdmi_core.specs.Words.{words_of}
-use Rattle.cec_expect.specs.Line.{after_label}
+use Rattle.cec_expect.specs.Line.{unlabelled_words}
 use Rattle.cec_expect.specs.Form.{Form, Window, form_in}
 use Rattle.cec_expect.specs.Form.Form.{Other, Rounds, State, Refused}
 use Rattle.cec_expect.specs.Form.Window.{Within, From}
@@ -118,7 +118,7 @@ form_judged script trace state at number named (Ok (Refused name word)) = refuse
 
 -- a line of this number, by the instants of the lines above and the state line that it speaks of
 abbrev pub line_judged : List ℕ → List ℕ → List ℕ → (ℕ → Option ℕ) → ℕ → List ℕ → Judged
-line_judged script trace state at number line = form_judged script trace state at number (is_labelled line) (form_in (after_label (words_of line)))
+line_judged script trace state at number line = form_judged script trace state at number (is_labelled line) (form_in (unlabelled_words (words_of line)))
 
 -- with the instant of one line more, where it has one
 abbrev pub noted : (ℕ → Option ℕ) → ℕ → Option ℕ → ℕ → Option ℕ
@@ -172,7 +172,7 @@ is_state_form (Ok (Refused name word)) = false
 
 -- a line speaks of a state
 abbrev pub is_of_state : List ℕ → Bool
-is_of_state line = is_state_form (form_in (after_label (words_of line)))
+is_of_state line = is_state_form (form_in (unlabelled_words (words_of line)))
 
 abbrev pub first_state : Bool → List (List ℕ) → List ℕ
 first_state false states = []
@@ -203,7 +203,7 @@ form_expects script number (Ok (State time device words)) = false
 form_expects script number (Ok (Refused name word)) = is_number number (event_labelled script name)
 
 abbrev pub line_expects : List ℕ → ℕ → List ℕ → Bool
-line_expects script number line = form_expects script number (form_in (after_label (words_of line)))
+line_expects script number line = form_expects script number (form_in (unlabelled_words (words_of line)))
 
 -- a line of the script expects that the event of this line is refused
 abbrev pub is_refusal_expected : List ℕ → ℕ → Bool
