@@ -42,20 +42,6 @@ reports script t u xs ys e f = ap (λ b. report script b xs) e ∙ ap (report sc
 
 -- ---- states
 
--- one more line's state
-pub one_more : (topology plain : List ℕ) (all lines rest : List (List ℕ)) (line state : List ℕ) (found new : List (List ℕ)) → lines ≡ line ∷ rest → IsStateFor topology plain line state
-    → new ≡ found ++ state ∷ [] → ((more : List (List ℕ)) → AreStates topology plain lines more → AreStates topology plain all (found ++ more))
-    → (more : List (List ℕ)) → AreStates topology plain rest more → AreStates topology plain all (new ++ more)
-one_more topology plain all lines rest line state found new split is made before more h =
-    let again : AreStates topology plain lines (state ∷ more) = subst (λ ls. AreStates topology plain ls (state ∷ more)) (sym split) (is, h) in
-    subst (λ xs. AreStates topology plain all xs) (sym (ap (λ n. n ++ more) made ∙ append_assoc found (state ∷ []) more)) (before (state ∷ more) again)
-
--- the states of all lines
-pub no_more : (topology plain : List ℕ) (all lines : List (List ℕ)) (found : List (List ℕ)) → lines ≡ []
-    → ((more : List (List ℕ)) → AreStates topology plain lines more → AreStates topology plain all (found ++ more)) → AreStates topology plain all found
-no_more topology plain all lines found split before =
-    subst (λ xs. AreStates topology plain all xs) (append-nil found) (before [] (subst (λ ls. AreStates topology plain ls []) (sym split) refl))
-
 one_state : (topology plain : List ℕ) (form : Result Form LineFault) (x y : List ℕ) → IsStateOf topology plain form x → IsStateOf topology plain form y → x ≡ y
 one_state topology plain (Ok (State time device words)) x y h k =
     let same = texts_have_one_trace topology (cut_script time plain) h.trace k.trace h.totals k.totals h.run k.run in

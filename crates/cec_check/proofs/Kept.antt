@@ -171,7 +171,7 @@ covered script number (line ∷ lines) h names = (
       (λ other k. names other (ap (λ b. names_line number line other || b) k ∙ or_so (names_line number line other))),
 )
   where
-    first : (f : Result Form LineFault) → form_in (unlabelled_words (words_of line)) ≡ f → FormCovered all f
+    first : (f : Result Form LineFault) → form_in (unlabelled_words (words_of line)) ≡ f → FormCovered (lines_of script) f
     first (Err cause) e = tt
     first (Ok Other) e = tt
     first (Ok (Rounds quantity window pattern)) e =
@@ -212,12 +212,14 @@ module _ (script few trace : List ℕ) (are : lines_of few ≡ filter (is_kept s
       by None e = refl
       by (Some line) e = ap refusal_by (same_event line (label_names true 1 (lines_of script) name line e))
 
-  form_same : (script state : List ℕ) (above : List Judged) (f : Result Form LineFault) → FormCovered all f → form_judged script few state above f ≡ form_judged script trace state above f
-  form_same script state above (Err cause) c = refl
-  form_same script state above (Ok Other) c = ap (λ (es : List EventLine). of_event (event_instant (find (λ e. e.line == length above + 1) es))) same_events
-  form_same script state above (Ok (Rounds quantity window pattern)) c = rounds_same quantity pattern c (span_of script above window)
-  form_same script state above (Ok (State time device words)) c = refl
-  form_same script state above (Ok (Refused name word)) c = ap (of_refusal word) (refusals_same (event_labelled script name))
+  form_same : (state : List ℕ) (at : ℕ → Option ℕ) (number : ℕ) (named : Bool) (f : Result Form LineFault) → FormCovered (lines_of script) f → (named ≡ true → is_named script number ≡ true)
+      → form_judged script few state at number named f ≡ form_judged script trace state at number named f
+  form_same state at number named (Err cause) c names = refl
+  form_same state at number true (Ok Other) c names = ap (λ (o : Option EventLine). of_event (event_instant o)) (same_event number (names refl))
+  form_same state at number false (Ok Other) c names = refl
+  form_same state at number named (Ok (Rounds quantity window pattern)) c names = rounds_same quantity pattern c (span_of script at window)
+  form_same state at number named (Ok (State time device words)) c names = refl
+  form_same state at number named (Ok (Refused name word)) c names = ap (of_refusal word) (refusals_same name)
 
   lines_same : (at : ℕ → Option ℕ) (number : ℕ) (lines states : List (List ℕ)) → AreCovered script number lines → lines_judged script few at number lines states ≡ lines_judged script trace at number lines states
   lines_same at number [] states c = refl
@@ -241,7 +243,7 @@ module _ (script few trace : List ℕ) (are : lines_of few ≡ filter (is_kept s
       ap (λ t. seen_line count span ++ t)
       (ap (λ b. shown_text few span (if b then codes "*" else pattern)) h ∙ shown_same span pattern covers ∙ sym (ap (λ b. shown_text trace span (if b then codes "*" else pattern)) h))
 
-  remarks_same : (state : List ℕ) (j : Judged) (f : Result Form LineFault) → FormCovered all f → (is_some j.span && (j.count == 0)) ≡ false → form_remarks few state j f ≡ form_remarks trace state j f
+  remarks_same : (state : List ℕ) (j : Judged) (f : Result Form LineFault) → FormCovered (lines_of script) f → (is_some j.span && (j.count == 0)) ≡ false → form_remarks few state j f ≡ form_remarks trace state j f
   remarks_same state j (Err cause) c h = refl
   remarks_same state j (Ok Other) c h = refl
   remarks_same state j (Ok (Rounds quantity window pattern)) c h = span_same pattern j.count c j.span h

@@ -4,7 +4,7 @@ use Rattle.hdmi_core.specs.Words.{words_of}
 use Rattle.cec_expect.specs.Line.{unlabelled_words}
 use Rattle.cec_expect.specs.Form.{Form, form_in}
 use Rattle.cec_expect.specs.Form.Form.{Other, Rounds, State, Refused}
-use Rattle.cec_expect.specs.declared.form.ExpectCause.{ExpectCause}
+use Rattle.cec_expect.specs.declared.fault.LineFault.{LineFault}
 use Rattle.std.proofs.lemmas.Bool.{false≢true}
 use Rattle.cec_judge.specs.Judged.{first_state, is_of_state, is_state_form, later_states, states_for}
 use Rattle.cec_check.specs.States.{AreStates, IsStateFor, IsStateOf}
@@ -14,7 +14,7 @@ abbrev pub Lead : List ℕ → List ℕ → List (List ℕ) → List (List ℕ) 
 Lead topology plain all lines found =
     (more : List (List ℕ)) → AreStates topology plain lines (states_for lines more) → AreStates topology plain all (states_for all (found ++ more))
 
-no_state : (topology plain : List ℕ) (form : Result Form ExpectCause) → is_state_form form ≡ false → IsStateOf topology plain form []
+no_state : (topology plain : List ℕ) (form : Result Form LineFault) → is_state_form form ≡ false → IsStateOf topology plain form []
 no_state topology plain (Err cause) h = refl
 no_state topology plain (Ok Other) h = refl
 no_state topology plain (Ok (Rounds quantity window pattern)) h = refl

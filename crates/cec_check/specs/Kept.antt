@@ -10,7 +10,8 @@ use Rattle.cec_expect.specs.Line.{unlabelled_words, has_verb}
 use Rattle.cec_expect.specs.Form.{Form, form_in}
 use Rattle.cec_expect.specs.Form.Form.{Other, Rounds, State, Refused}
 use Rattle.cec_expect.specs.declared.fault.LineFault.{LineFault}
-use Rattle.cec_judge.specs.Told.{RoundLine, event_in, round_in}
+use Rattle.cec_judge.specs.Told.{EventLine, RoundLine, event_in, refusal_in, round_in}
+use Rattle.cec_judge.specs.Named.{is_named}
 use Rattle.cec_judge.specs.declared.judge.Judged.{Judged}
 
 abbrev pub pattern_by : Result Form LineFault → Option (List ℕ)

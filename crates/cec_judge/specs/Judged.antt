@@ -102,14 +102,11 @@ event_instant (Some e) = Some e.at
 abbrev pub other_judged : List ℕ → ℕ → Judged
 other_judged trace number = record { holds = None; at = event_instant (event_at trace number); span = None; count = 0 }
 
-abbrev pub form_judged : List ℕ → List ℕ → List ℕ → List Judged → Result Form LineFault → Judged
-form_judged script trace state above (Err cause) = failure
-form_judged script trace state above (Ok Other) = other_judged trace (length above + 1)
-form_judged script trace state above (Ok (Rounds quantity window pattern)) = rounds_judged trace quantity pattern (span_of script above window)
-form_judged script trace state above (Ok (State time device words)) = state_judged state words
-form_judged script trace state above (Ok (Refused name word)) = refused_judged script trace name word
+-- nothing is found of a line that expects nothing, where no label names it
+abbrev pub nothing : Judged
+nothing = record { holds = None; at = None; span = None; count = 0 }
 
-abbrev pub form_judged : List ℕ → List ℕ → List ℕ → (ℕ → Option ℕ) → ℕ → Bool → Result Form ExpectCause → Judged
+abbrev pub form_judged : List ℕ → List ℕ → List ℕ → (ℕ → Option ℕ) → ℕ → Bool → Result Form LineFault → Judged
 form_judged script trace state at number named (Err cause) = failure
 form_judged script trace state at number named (Ok Other) = if named then other_judged trace number else nothing
 form_judged script trace state at number named (Ok (Rounds quantity window pattern)) = rounds_judged trace quantity pattern (span_of script at window)
@@ -163,7 +160,7 @@ findings_of script trace states = findings_from 1 states (verdicts_of script tra
 
 -- ---- state lines
 
-abbrev pub is_state_form : Result Form ExpectCause → Bool
+abbrev pub is_state_form : Result Form LineFault → Bool
 is_state_form (Err cause) = false
 is_state_form (Ok Other) = false
 is_state_form (Ok (Rounds quantity window pattern)) = false
