@@ -20,17 +20,17 @@ edges-preserved g c =
     let b = edge_read c.edges.lines c.next.new.self c.in-Ok.line c.in-Edge.edge c.in-Ok.ensures c.in-Edge.is in
     record {
       watched = λ f h. watched_more f c.edges.lines c.next.new.self c.edges.monitor c.edge-reading.new.self c.in-Edge.edge (option_map listed_as c.edge-reading.result) _ _ _ _ _ _
-          c.edges.written _ (c.edges.invariant.watched f h) b c.edge-reading.ensures.follows c.in_ok-write_reported.ensures;
+          c.edges.written _ (c.edges.invariant.watched f h) b c.edge-reading.ensures.follows c.in_ok-write_reported-in-Edge.ensures;
       room = omega (arith, b.room, c.edges.invariant.room);
     }
 
-pub returns-in_err-write_reported : goal.returns-in_err-write_reported
-returns-in_err-write_reported g c = λ f h.
+pub returns-in_err-write_reported-in-Edge : goal.returns-in_err-write_reported-in-Edge
+returns-in_err-write_reported-in-Edge g c = λ f h.
     let b = edge_read c.edges.lines c.next.new.self c.in-Ok.line c.in-Edge.edge c.in-Ok.ensures c.in-Edge.is in
     hands_on (WritesFile (g.S.Sink.contents c.args.out.now) (g.S.Sink.contents c.write_reported.new.out) (g.S.Sink.is_stuck c.args.out.now) (g.S.Sink.is_stuck c.write_reported.new.out) f)
-    c.in_err-write_reported.field-0.0 c.from_residual.result c.from_residual.ensures.0 c.from_residual.ensures.1
+    c.in_err-write_reported-in-Edge.field-0.0 c.from_residual.result c.from_residual.ensures.0 c.from_residual.ensures.1
     (cut_edge f c.edges.lines c.next.new.self c.edges.monitor c.edge-reading.new.self c.in-Edge.edge (option_map listed_as c.edge-reading.result) _ _ _ _ _ _
-    c.edges.written c.write_reported.new.written c.in_err-write_reported.field-0.0 (c.edges.invariant.watched f h) b c.edge-reading.ensures.follows c.in_err-write_reported.ensures)
+    c.edges.written c.write_reported.new.written c.in_err-write_reported-in-Edge.field-0.0 (c.edges.invariant.watched f h) b c.edge-reading.ensures.follows c.in_err-write_reported-in-Edge.ensures)
 
 pub returns-in-End : goal.returns-in-End
 returns-in-End g c = λ f h.
