@@ -21,27 +21,6 @@ const ENGLISH: Triple = Triple {
     third: b'g',
 };
 
-/// The forms of keys. A word in capitals stands for a value.
-pub const KEY_FORMS: &[&str] = &[
-    "play",
-    "stop",
-    "eject",
-    "load",
-    "menu",
-    "power",
-    "volume-up",
-    "volume-down",
-    "mute",
-    "port N",
-    "watch PA",
-    "language LLL",
-    "audio on",
-    "audio off",
-    "arc on",
-    "arc off",
-    "remote D CODE",
-];
-
 /// The causes for which a topology is refused.
 const TOPOLOGY: &[&str] = &[
     "word",
@@ -67,34 +46,9 @@ fn has(kind: Kind, key: &Key) -> bool {
     has_key(kind, Port::new(1), key)
 }
 
-// A key of each form, in their order.
-fn keys() -> [Key; 17] {
-    let code = UserControl::Play;
-    let to = Addr::new(4);
-    [
-        Key::Play,
-        Key::Stop,
-        Key::Eject,
-        Key::Load,
-        Key::Menu,
-        Key::Power,
-        Key::Volume(VolumeKey::Up),
-        Key::Volume(VolumeKey::Down),
-        Key::Volume(VolumeKey::Mute),
-        Key::Port(1),
-        Key::Watch(ADDRESS),
-        Key::Language(ENGLISH),
-        Key::Audio { on: true },
-        Key::Audio { on: false },
-        Key::Arc { on: true },
-        Key::Arc { on: false },
-        Key::Remote { to, code },
-    ]
-}
-
-// The kinds that have a key, after its form.
-fn add_key(draft: &mut Draft, form: &str, key: &Key) {
-    let mut list = List::begin(draft, form, "", LABELS);
+// The kinds that have a key, which is its word and what it takes.
+fn add_key(draft: &mut Draft, takes: &str, key: &Key) {
+    let mut list = List::begin(draft, key.word().text(), takes, LABELS);
     for kind in Kind::ALL {
         if has(*kind, key) {
             list.add(draft, kind.word());
@@ -103,15 +57,64 @@ fn add_key(draft: &mut Draft, form: &str, key: &Key) {
     draft.add("\n");
 }
 
-/// The forms of the keys that a kind has, with commas between them, after a text.
-pub fn add_keys_of(draft: &mut Draft, kind: Kind, after: &str) {
-    let mut before = after;
-    for (form, key) in KEY_FORMS.iter().zip(keys().as_slice()) {
+// Some keys, each with what it takes.
+fn list_keys(draft: &mut Draft, keys: &[(&str, Key)]) {
+    for (takes, key) in keys {
+        add_key(draft, takes, key);
+    }
+}
+
+// The forms of those keys that a kind has, with commas between them, and what stands before the first one.
+fn add_forms<'a>(draft: &mut Draft, kind: Kind, keys: &[(&str, Key)], first: &'a str) -> &'a str {
+    let mut before = first;
+    for (takes, key) in keys {
         if has(kind, key) {
-            draft.add_all(&[before, "`", form, "`"]);
+            draft.add(before);
+            draft.add("`");
+            draft.add(key.word().text());
+            draft.add(takes);
+            draft.add("`");
             before = ", ";
         }
     }
+    before
+}
+
+// The keys of one word.
+fn plain_keys() -> [(&'static str, Key); 9] {
+    [
+        ("", Key::Play),
+        ("", Key::Stop),
+        ("", Key::Eject),
+        ("", Key::Load),
+        ("", Key::Menu),
+        ("", Key::Power),
+        ("", Key::Volume(VolumeKey::Up)),
+        ("", Key::Volume(VolumeKey::Down)),
+        ("", Key::Volume(VolumeKey::Mute)),
+    ]
+}
+
+// The keys of a word and what it takes.
+fn other_keys() -> [(&'static str, Key); 8] {
+    let code = UserControl::Play;
+    let to = Addr::new(4);
+    [
+        (" N", Key::Port(1)),
+        (" PA", Key::Watch(ADDRESS)),
+        (" LLL", Key::Language(ENGLISH)),
+        (" on", Key::Audio { on: true }),
+        (" off", Key::Audio { on: false }),
+        (" on", Key::Arc { on: true }),
+        (" off", Key::Arc { on: false }),
+        (" D CODE", Key::Remote { to, code }),
+    ]
+}
+
+/// The forms of the keys that a kind has, with commas between them, after a text.
+pub fn add_keys_of(draft: &mut Draft, kind: Kind, after: &str) {
+    let before = add_forms(draft, kind, plain_keys().as_slice(), after);
+    let _ = add_forms(draft, kind, other_keys().as_slice(), before);
 }
 
 /// The words of a set, after a label, in lines of some columns.
@@ -136,9 +139,8 @@ fn add_causes(draft: &mut Draft, part: &str, causes: &[&str]) {
 /// Where memory runs out.
 pub fn run_words(alloc: Global) -> Result<String, AllocError> {
     let mut draft = Draft::new(alloc);
-    for (form, key) in KEY_FORMS.iter().zip(keys().as_slice()) {
-        add_key(&mut draft, form, key);
-    }
+    list_keys(&mut draft, plain_keys().as_slice());
+    list_keys(&mut draft, other_keys().as_slice());
     list_set(&mut draft, "CODE", LABELS, WordSet::UserControl);
     draft.add("and the causes of faults\n");
     add_causes(&mut draft, "of a topology", TOPOLOGY);

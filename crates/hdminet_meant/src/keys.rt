@@ -2,8 +2,29 @@
 use crate::forms::add_missing;
 use cec_opcode::WordSet;
 use hdmi_core::Kind;
-use hdminet_help::{Draft, KEY_FORMS, add_keys_of, add_set};
+use hdminet_help::{Draft, add_keys_of, add_set};
 use hdminet_marks::{Place, is_value, is_word, kind_of, word_at, word_count};
+
+/// The forms of keys.
+const KEY_FORMS: &[&str] = &[
+    "play",
+    "stop",
+    "eject",
+    "load",
+    "menu",
+    "power",
+    "volume-up",
+    "volume-down",
+    "mute",
+    "port N",
+    "watch PA",
+    "language LLL",
+    "audio on",
+    "audio off",
+    "arc on",
+    "arc off",
+    "remote D CODE",
+];
 
 /// The number of a key's first word, after `at T press NAME`.
 const KEY: usize = 4;
