@@ -38,17 +38,16 @@ all_lines : (trace : List ℕ) (r : Report) (number : ℕ) (lines states : List 
 all_lines trace r number [] states js = refl
 all_lines trace r number (line ∷ lines) [] js = refl
 all_lines trace r number (line ∷ lines) (state ∷ states) [] = refl
-all_lines trace r number (line ∷ lines) (state ∷ states) (j ∷ js) = by j.holds refl
+all_lines trace r number (line ∷ lines) (state ∷ states) (j ∷ js) = by j.holds refl (λ q. all_lines trace q (number + 1) lines states js)
   where
-    more : (q : Report) → with_findings trace q (number + 1) lines (findings_from (number + 1) states js) ≡ with_lines trace q (number + 1) lines states js
-    more q = all_lines trace q (number + 1) lines states js
-
-    by : (o : Option Bool) → j.holds ≡ o → with_findings trace r number (line ∷ lines) (or_more number state j o (findings_from (number + 1) states js))
+    by : (o : Option Bool) → j.holds ≡ o
+        → ((q : Report) → with_findings trace q (number + 1) lines (findings_from (number + 1) states js) ≡ with_lines trace q (number + 1) lines states js)
+        → with_findings trace r number (line ∷ lines) (or_more number state j o (findings_from (number + 1) states js))
         ≡ with_lines trace (with_line trace state r number line j) (number + 1) lines states js
-    by None e =
+    by None e more =
         skipped trace r number (number + 1) line lines states js (omega arith) ∙ more r
         ∙ sym (ap (λ (o : Option Bool). with_lines trace (with_found trace state r number line j o) (number + 1) lines states js) e)
-    by (Some holds) e =
+    by (Some holds) e more =
         ap (λ b. if b then with_findings trace (with_line trace state r number line j) (number + 1) lines (findings_from (number + 1) states js)
         else with_findings trace r (number + 1) lines (or_more number state j (Some holds) (findings_from (number + 1) states js))) (itself number)
         ∙ more (with_line trace state r number line j)

@@ -346,7 +346,6 @@ fn report_found(
 }
 
 /// The report of a script, by the trace of its run and the state lines of the lines that speak of one, in order.
-#[tactic(auto, using(crate::proofs::Found::report_is))]
 pub fn whole_report(
     alloc: Global,
     script: &[u8],
@@ -357,12 +356,12 @@ pub fn whole_report(
 {
     let labels = Labels::new(alloc, script)?;
     let found = all_judged(alloc, &labels, trace, states)?;
-    report_found(alloc, &labels, trace, &found)
+    let draft = report_found(alloc, &labels, trace, &found)?;
+    Ok(draft)
 }
 
 /// The report of a script, by the lines that it needs of its trace. Where a test failed whose window no round meets, these are
 /// not enough.
-#[tactic(auto, using(crate::proofs::Kept::kept_is_enough))]
 pub(crate) fn report_of_few(
     alloc: Global,
     labels: &Labels<'_>,

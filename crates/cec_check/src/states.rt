@@ -13,7 +13,6 @@ use hdmi_core::first_line;
 use std::alloc::{AllocError, Global};
 
 // The state line of a device at the end of a run of the plain script up to a time.
-#[tactic(auto, using(crate::proofs::Standing::state_of_run))]
 fn state_at(
     alloc: Global,
     topology: &[u8],

@@ -1,6 +1,7 @@
 use Rattle.std.proofs.Common.{ℕ, List, subst, ◌∙◌}
 use Rattle.cec_run.specs.Emulate.{IsReported}
 use Rattle.cec_check.proofs.Refusals.{IsWant, not_refused_earlier}
+use Rattle.cec_check.proofs.Standing.{state_of_run}
 use Rattle.cec_check.proofs.states.state_at.Goals as goal
 
 pub unreachable-requires-in-Script : goal.unreachable-requires-in-Script
@@ -14,3 +15,10 @@ unreachable-requires-in-Edid c =
     let traced = c.requires.traced in
     let reported = subst (λ (s : List ℕ). IsReported c.args.topology.now s c.in-Err.error) (c.deref.ensures.value ∙ c.in_ok-cut.ensures) c.in-Err.ensures.reported in
     subst IsWant c.in-Edid.is (not_refused_earlier c.args.topology.now c.args.plain.now traced.0 c.args.time traced.1 c.in-Err.error c.requires.early traced.2 reported)
+
+pub returns : goal.returns
+returns c =
+    let ok = c.in-Ok.ensures.ok in
+    state_of_run c.args.topology.now c.args.plain.now c.in_ok-cut.cut.items c.deref.result.now _ _ ok.0 c.in_ok-few.few.items c.deref-2.result.now c.args.device.now c.state_line.result.now
+    c.new-state.result.items c.extend_from_slice.new.self.items _ c.args.time c.in-Ok.field-0 c.in_ok-cut.ensures c.deref.ensures.value c.new-sieve.ensures.empty ok.1 ok.2 c.in_ok-few.ensures
+    c.deref-2.ensures.value c.state_line.ensures c.new-state.ensures.items c.in_ok-extend_from_slice.ensures.items
