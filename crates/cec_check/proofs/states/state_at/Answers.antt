@@ -1,4 +1,4 @@
-use Rattle.std.proofs.Common.{ℕ, List, subst, ◌∙◌}
+use Rattle.std.proofs.Common.{ℕ, List, [], subst, ◌∙◌}
 use Rattle.cec_run.specs.Emulate.{IsReported}
 use Rattle.cec_check.proofs.Refusals.{IsWant, not_refused_earlier}
 use Rattle.cec_check.proofs.Standing.{state_of_run}
@@ -20,5 +20,5 @@ pub returns : goal.returns
 returns c =
     let ok = c.in-Ok.ensures.ok in
     state_of_run c.args.topology.now c.args.plain.now c.in_ok-cut.cut.items c.deref.result.now _ _ ok.0 c.in_ok-few.few.items c.deref-2.result.now c.args.device.now c.state_line.result.now
-    c.new-state.result.items c.extend_from_slice.new.self.items _ c.args.time c.in-Ok.field-0 c.in_ok-cut.ensures c.deref.ensures.value c.new-sieve.ensures.empty ok.1 ok.2 c.in_ok-few.ensures
+    c.new-state.result.items c.extend_from_slice.new.self.items [] c.args.time c.in-Ok.field-0 c.in_ok-cut.ensures c.deref.ensures.value c.new-sieve.ensures.empty ok.1 ok.2 c.in_ok-few.ensures
     c.deref-2.ensures.value c.state_line.ensures c.new-state.ensures.items c.in_ok-extend_from_slice.ensures.items
