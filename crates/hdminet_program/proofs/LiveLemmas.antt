@@ -35,7 +35,7 @@ alone known rest old new d = record {
     answers = record {
       lines = d.over.answers.lines;
       kept = d.over.answers.kept;
-      explained_fault = d.over.answers.explained_fault;
+      reported = d.over.answers.reported;
       text = d.over.answers.text;
       come = d.over.answers.come;
       whole = d.over.answers.whole;
@@ -45,7 +45,7 @@ alone known rest old new d = record {
     };
     ended = d.over.ended;
   };
-  explained_fault = d.explained_fault;
+  reported = d.reported;
   trace = d.trace;
 }
 
@@ -93,7 +93,7 @@ spelled rest old new d = (
         answers = record {
           lines = d.over.answers.lines;
           kept = d.over.answers.kept;
-          explained_fault = d.over.answers.explained_fault;
+          reported = d.over.answers.reported;
           text = d.over.answers.text;
           come = lines_again d.over.answers.lines d.over.answers.whole ∙ sym (append-nil d.over.answers.lines);
           whole = d.over.answers.whole;
@@ -103,7 +103,7 @@ spelled rest old new d = (
         };
         ended = d.over.ended;
       };
-      explained_fault = d.explained_fault;
+      reported = d.reported;
       trace = d.trace;
     },
   ),
@@ -161,7 +161,7 @@ after_more known rest old mid new k d = record {
     put = keeps_appends old mid d.run.so_far (first_reported d.run.first) k d.run.put;
   };
   over = d.over;
-  explained_fault = d.explained_fault;
+  reported = d.reported;
   trace = d.trace;
 }
 

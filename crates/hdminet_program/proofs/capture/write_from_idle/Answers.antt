@@ -4,5 +4,5 @@ use Rattle.hdminet_program.proofs.capture.write_from_idle.Goals as goal
 
 pub returns : goal.returns
 returns g c =
-    let explained_fault = c.in_ok-watch_from_idle.ensures in
-    (capture_text c.args.capture.now explained_fault.0, (explained_fault.0, explained_fault.1, refl), explained_fault.2.0)
+    let reported = c.in_ok-watch_from_idle.ensures in
+    (capture_text c.args.capture.now reported.0, (reported.0, reported.1, refl), reported.2.0)

@@ -10,6 +10,6 @@ use Rattle.hdminet_program.proofs.edid.check_own.Goals as goal
 
 pub returns : goal.returns
 returns g c =
-    let explained_fault = c.in_ok-fails.ensures.answers in
+    let reported = c.in_ok-fails.ensures.answers in
     on_ok c.unless_failed.result (c.in_ok-fails.fails ≡ false) (Shows (Findings Own) c.args.bytes.now (g.W.Sink.contents c.args.out.now) (g.W.Sink.contents c.edid_to_findings.new.out))
-    (λ no. (findings_text (faults_of origins.Display explained_fault.0), (explained_fault.0, explained_fault.1, refl, sym explained_fault.4 ∙ no), explained_fault.2)) c.unless_failed.ensures
+    (λ no. (findings_text (faults_of origins.Display reported.0), (reported.0, reported.1, refl, sym reported.4 ∙ no), reported.2)) c.unless_failed.ensures

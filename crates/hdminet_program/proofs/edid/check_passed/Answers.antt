@@ -8,6 +8,6 @@ use Rattle.hdminet_program.proofs.edid.check_passed.Goals as goal
 
 pub returns : goal.returns
 returns g c =
-    let explained_fault = c.in_ok-fails.ensures.answers in
+    let reported = c.in_ok-fails.ensures.answers in
     on_ok c.unless_failed.result (c.in_ok-fails.fails ≡ false) (ShowsRules c.args.passing c.args.bytes.now (g.W.Sink.contents c.args.out.now) (g.W.Sink.contents c.check_passed_on.new.out))
-    (λ no. (findings_text (faults_of origins.Port explained_fault.0), (explained_fault.0, explained_fault.1, refl, sym explained_fault.4 ∙ no), explained_fault.2)) c.unless_failed.ensures
+    (λ no. (findings_text (faults_of origins.Port reported.0), (reported.0, reported.1, refl, sym reported.4 ∙ no), reported.2)) c.unless_failed.ensures

@@ -4,5 +4,5 @@ use Rattle.hdminet_program.proofs.edid.write_meaning.Goals as goal
 
 pub returns : goal.returns
 returns g c =
-    let explained_fault = c.in_ok-edid_to_meaning.ensures.answers in
-    (meaning_of explained_fault.0, (explained_fault.0, explained_fault.1, refl), explained_fault.2)
+    let reported = c.in_ok-edid_to_meaning.ensures.answers in
+    (meaning_of reported.0, (reported.0, reported.1, refl), reported.2)

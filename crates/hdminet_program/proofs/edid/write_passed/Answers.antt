@@ -4,5 +4,5 @@ use Rattle.hdminet_program.proofs.edid.write_passed.Goals as goal
 
 pub returns : goal.returns
 returns g c =
-    let explained_fault = c.in_ok-write_passed_on.ensures.answers in
-    (form_text c.form_of.result explained_fault.0, (explained_fault.0, explained_fault.1, ap (λ f. form_text f explained_fault.0) c.form_of.ensures), explained_fault.2)
+    let reported = c.in_ok-write_passed_on.ensures.answers in
+    (form_text c.form_of.result reported.0, (reported.0, reported.1, ap (λ f. form_text f reported.0) c.form_of.ensures), reported.2)

@@ -19,6 +19,6 @@ returns-in-NoRange g c =
     let new = g.W.Sink.contents c.write_report.new.out in
     on_ok c.write_report.result (WritesPassed c.args.topology.now c.args.script.now middle new) (WritesTest Report c.args.topology.now c.args.script.now old new)
     (reported c.args.topology.now c.args.script.now old middle new
-    (subst (λ e. IsSweepReported c.args.topology.now c.args.script.now e) c.in-NoRange.is c.in-Err.ensures.explained_fault)
+    (subst (λ e. IsSweepReported c.args.topology.now c.args.script.now e) c.in-NoRange.is c.in-Err.ensures.reported)
     (subst (λ e. IsSweepCut c.args.topology.now c.args.script.now old middle e) c.in-NoRange.is c.in-Err.ensures.cut))
     c.write_report.ensures

@@ -5,6 +5,6 @@ use Rattle.hdminet_program.proofs.live.live.Goals as goal
 pub returns : goal.returns
 returns g c =
     let known = g.R.Read.remaining c.args.input.now in
-    let explained_fault = c.in_ok-session.ensures.session in
-    lives g.W.Sink.contents known explained_fault.0 (held g.W.Sink.contents c.args.out.now) (held g.W.Sink.contents c.flush.new.self) c.session.new.out c.flush.ensures.bytes explained_fault.1
+    let reported = c.in_ok-session.ensures.session in
+    lives g.W.Sink.contents known reported.0 (held g.W.Sink.contents c.args.out.now) (held g.W.Sink.contents c.flush.new.self) c.session.new.out c.flush.ensures.bytes reported.1
     (c.in_ok-session.ensures.handed.handed c.in_ok-flush.ensures.done)

@@ -6,8 +6,8 @@ use Rattle.hdminet_program.proofs.program.write_json.Goals as goal
 
 pub returns : goal.returns
 returns g c =
-    let explained_fault = c.in_ok-write_objects_of.ensures in
+    let reported = c.in_ok-write_objects_of.ensures in
     on_ok c.write_lines-done.result _ (Writes (Json c.args.objects) c.args.signal.now c.args.input.now (g.W.Sink.contents c.args.out.now) (g.W.Sink.contents c.write_objects_of.new.out))
-    (λ lines. objects_done c.args.objects c.args.signal.now c.args.input.now c.bytes.result.now explained_fault.0 _ _ (g.W.Sink.contents c.args.out.now) (g.W.Sink.contents c.write_objects_of.new.out)
-    lines c.new-held.ensures.contents c.bytes.ensures explained_fault.1 explained_fault.2)
+    (λ lines. objects_done c.args.objects c.args.signal.now c.args.input.now c.bytes.result.now reported.0 _ _ (g.W.Sink.contents c.args.out.now) (g.W.Sink.contents c.write_objects_of.new.out)
+    lines c.new-held.ensures.contents c.bytes.ensures reported.1 reported.2)
     c.write_lines-done.ensures
