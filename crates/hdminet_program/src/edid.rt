@@ -286,8 +286,8 @@ pub fn explain_rules(
 pub fn explain_lack(alloc: Global, source: Source, input: &[u8]) -> Result<String, AllocError> {
     let mut text = String::new(alloc);
     if let Ok(bytes) = bytes_for(alloc, source, Recipient::Own, input) {
-        let explained_fault = explain_no_hdmi(alloc, &bytes)?;
-        for line in explained_fault.as_str().lines() {
+        let explanation = explain_no_hdmi(alloc, &bytes)?;
+        for line in explanation.as_str().lines() {
             text.push_str("  ")?;
             text.push_str(line)?;
             text.push_str("\n")?;

@@ -415,10 +415,10 @@ fn explanation_of(
     fault: &ProgramFault,
     input: &[u8],
 ) -> Result<String, AllocError> {
-    let Some(explained_fault) = explained(fault) else {
+    let Some(typed) = explained(fault) else {
         return Ok(String::new(alloc));
     };
-    let mut text = explain(alloc, input_of(choice), explained_fault, input)?;
+    let mut text = explain(alloc, input_of(choice), typed, input)?;
     text.push_str(lack_of(alloc, choice, fault, input)?.as_str())?;
     Ok(text)
 }
