@@ -1,5 +1,5 @@
 -- All turns that are over before an instant: there are such, in one way.
-use Rattle.std.proofs.Common.{◌≡◌, ℕ, zero, suc, ◌<◌, ◌≤◌, List, [], ◌∷◌, ◌++◌, inl, inr, refl, sym, ap, ap₂, ◌∙◌, subst, arith, append_assoc, append-nil}
+use Rattle.std.proofs.Common.{◌≡◌, ℕ, zero, suc, List, [], ◌∷◌, ◌++◌, inl, inr, refl, sym, ap, ap₂, ◌∙◌, subst, arith, append_assoc, append-nil}
 use Rattle.std.proofs.lemmas.Bool.{cases_lt}
 use Rattle.cec_wire.specs.declared.Outcome.{Outcome}
 use Rattle.cec_wire.proofs.OneOutcome.{one_outcome}
@@ -14,7 +14,7 @@ use Rattle.cec_run.specs.declared.run.Turn.{Turn}
 use Rattle.cec_run.specs.declared.run.Turn.TheVariants.{Stop, Apply, Round}
 use Rattle.cec_run.specs.Run.{Config, turn_at, counted_round, round_reported, IsEventTurn, IsRoundTurn, IsTurnBy, IsTurn, Leads}
 use Rattle.cec_run.proofs.Turns.{same_outcome}
-use Rattle.causal_laws.specs.Certain.{IsOverBy, LeadsIf, LeadsBy, IsHeldBy, IsHeld, AllBefore, AllBeforeIsOne}
+use Rattle.causal_laws.specs.Certain.{IsOverBy, LeadsIf, IsHeldBy, IsHeld, AllBefore, AllBeforeIsOne}
 
 -- ---- there are such
 

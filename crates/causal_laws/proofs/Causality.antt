@@ -1,14 +1,12 @@
 -- Why what is reported before an instant depends on what is known before it alone.
-use Rattle.std.proofs.Common.{◌≡◌, ℕ, zero, suc, ◌+◌, ◌<◌, ◌≤◌, List, [], ◌∷◌, ◌++◌, length, Option, Some, None, Result, Ok, Err, refl, sym, ap, ap₂, ◌∙◌, subst, arith, append_assoc}
-use Rattle.std.specs.List.{All}
-use Rattle.std.proofs.lemmas.List.Elements.{All-nil, All-cons, All-head, All-tail}
+use Rattle.std.proofs.Common.{◌≡◌, ℕ, ◌+◌, List, [], ◌∷◌, ◌++◌, Option, Some, None, sym, ap, ◌∙◌, subst}
 use Rattle.cec_wave.specs.declared.Stretch.{Stretch}
 use Rattle.cec_wave.specs.Pulses.{AreSparse}
 use Rattle.hdmi_topo.specs.Node.{Node}
 use Rattle.hdmi_blocks.specs.declared.edid.Edid.{Edid}
 use Rattle.hdmi_blocks.proofs.OneEdid.{one_edid}
 use Rattle.cec_asm.specs.Topology.{Plan}
-use Rattle.cec_asm.specs.Script.{Course, AreFramedEvents, IsScript}
+use Rattle.cec_asm.specs.Script.{Course, AreFramedEvents}
 use Rattle.cec_asm.specs.declared.script.TimedEvent.{TimedEvent}
 use Rattle.cec_asm.proofs.Sound.{scripts_are_sound}
 use Rattle.cec_net.specs.State.{first_net}
@@ -16,12 +14,11 @@ use Rattle.hdmi_blocks.specs.Root.{IsRoot}
 use Rattle.cec_run.specs.declared.run.Reporting.{Reporting}
 use Rattle.cec_run.specs.declared.run.Reporting.TheVariants.{Trace}
 use Rattle.cec_run.specs.declared.run.Totals.{Totals}
-use Rattle.cec_run.specs.Run.{Config, start, IsRunText}
+use Rattle.cec_run.specs.Run.{start, IsRunText}
 use Rattle.cec_run.specs.Emulate.{IsTraceOf}
 use Rattle.cec_run.proofs.HasRun.{runs_have_texts}
 use Rattle.cec_run.proofs.Accepted.{one_plan}
-use Rattle.causal_laws.specs.Certain.{ComesFrom, AllBefore}
-use Rattle.causal_laws.specs.Causal.{BeginsWith, before_reported, Continues, AgreeBefore, RunsAreCausal, TracesAreCausal}
+use Rattle.causal_laws.specs.Causal.{Continues, RunsAreCausal, TracesAreCausal}
 use Rattle.causal_laws.proofs.Apart.{front_sparse}
 use Rattle.causal_laws.proofs.Certainty.{reported_is_front}
 use Rattle.causal_laws.proofs.Before.{has_all_before}

@@ -8,7 +8,7 @@ use Rattle.std.proofs.lemmas.List.Folds.{list_any-append, list_any_none}
 use Rattle.std.proofs.lemmas.List.Elements.{filter-append}
 use Rattle.cec_wave.specs.declared.Stretch.{Stretch}
 use Rattle.cec_wave.specs.Line.{Line as WaveLine, IsWave, line_of, covers, was_low}
-use Rattle.cec_bits.specs.Reading.{End, Read, Known, known_at, reading_of}
+use Rattle.cec_bits.specs.Reading.{known_at, reading_of}
 use Rattle.cec_bits.proofs.Ends.{until_by}
 use Rattle.cec_wire.specs.declared.Seat.{Seat}
 use Rattle.cec_wire.specs.declared.Outcome.{Outcome}
@@ -20,17 +20,15 @@ use Rattle.cec_wire.proofs.Alone.{rounds_are_lone}
 use Rattle.cec_event.specs.declared.event.Event.{Event}
 use Rattle.cec_event.specs.declared.event.Event.TheVariants.{Plug, Unplug, Key, Send, Outside}
 use Rattle.cec_event.specs.declared.event.EventError.{EventError}
-use Rattle.cec_event.specs.Events.{IsFramedEvent}
 use Rattle.cec_net.specs.Start.{sooner, least_start, first_onset}
 use Rattle.cec_net.specs.State.{NetState, next_start, first_net}
 use Rattle.cec_net.specs.Apply.{net_after, applied_unless, event_fault}
-use Rattle.cec_net.specs.Step.{seats_of, devices_after, after_round, IsNextRound}
+use Rattle.cec_net.specs.Step.{seats_of, devices_after, after_round}
 use Rattle.cec_net.specs.Framed.{AreFramed}
 use Rattle.cec_net.proofs.Framed.{framed-started, framed-applied, framed-round, seats_fit}
 use Rattle.cec_net.proofs.Lines.{begun}
 use Rattle.cec_trace.specs.TraceText.{event_line}
 use Rattle.cec_trace.specs.PortText.{port_lines}
-use Rattle.hdmi_blocks.specs.declared.edid.Edid.{Edid}
 use Rattle.hdmi_topo.specs.Node.{Node}
 use Rattle.hdmi_topo.specs.Path.{is_on_wire}
 use Rattle.cec_asm.specs.Script.{AreFramedEvents}
@@ -40,7 +38,7 @@ use Rattle.cec_run.specs.declared.run.Reporting.TheVariants.{Trace, Line}
 use Rattle.cec_run.specs.declared.run.Totals.{Totals}
 use Rattle.cec_run.specs.declared.run.Turn.{Turn}
 use Rattle.cec_run.specs.declared.run.Turn.TheVariants.{Stop, Apply, Round}
-use Rattle.cec_run.specs.Run.{Config, start, turn_at, turn_of, is_by, round_turn, event_turn, first_time, event_text, event_reported, counted_event, start_reported, IsEventTurn, IsRoundTurn, IsTurnBy, IsTurn, IsRunText, IsRunTextFrom, Leads}
+use Rattle.cec_run.specs.Run.{Config, start, turn_at, turn_of, is_by, round_turn, event_turn, first_time, event_reported, counted_event, start_reported, IsEventTurn, IsRoundTurn, IsTurnBy, IsTurn, Leads}
 use Rattle.cec_run.proofs.Advance.{round_begins, event_keeps}
 use Rattle.cec_run.proofs.Turns.{front_of_text}
 use Rattle.causal_laws.specs.Certain.{AreApart, with_pulses, with_more, ComesFrom, IsOverBy, LeadsBy, TurnsAreCertain, TurnsStayCertain, ReportedIsFront}

@@ -5,7 +5,7 @@ use Rattle.hdmi_core.specs.Phys.{phys_of}
 use Rattle.hdmi_core.proofs.KindWords.{word_of_found}
 use Rattle.hdmi_core.specs.Number.{number_of}
 use Rattle.cec_feature.specs.declared.keys.Key.{Key}
-use Rattle.cec_feature.specs.declared.keys.Key.TheVariants.{Play, Stop, Eject, Load, Menu, Power, Watch, Port, Audio, Arc, Volume, Language, Remote}
+use Rattle.cec_feature.specs.declared.keys.Key.TheVariants.{Play, Stop, Eject, Load, Menu, Power, Watch, Port, Audio, Arc, Language, Remote}
 use Rattle.cec_feature.specs.KeyWords.{key_named, key_text, key_words, word_of_key}
 use Rattle.cec_feature.specs.declared.key_word.KeyWord.{KeyWord}
 use Rattle.cec_feature.specs.declared.key_word.KeyWord.TheVariants as the

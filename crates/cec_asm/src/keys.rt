@@ -1,12 +1,12 @@
 //! Words of keys.
-ghost use Rattle.std.specs.Prelude.{◌≡◌, ◌≤◌, ◌<◌, IsTrue, option_map, length};
+ghost use Rattle.std.specs.Prelude.{◌≡◌, ◌≤◌, ◌<◌};
 ghost use Rattle.std.specs.List.{list_all};
 ghost use Rattle.std.specs.Char.{is_ascii_lowercase};
 ghost use Rattle.std.specs.Option.{option_copied};
 ghost use Rattle.cec_feature.specs.KeyWords.{key_named};
 ghost use Rattle.hdmi_core.specs.Number.{number_of};
 ghost use Rattle.hdmi_core.specs.Words.{words_after};
-ghost use Rattle.cec_asm.specs.Keys.{key_alone, switch_of, language_of, destination_of, code_of, control_of, key_or_cause, port_key, values_of, unfit_by, unfit, key_with, remote_by, remote_key, of_one, of_two, of_three, key_of};
+ghost use Rattle.cec_asm.specs.Keys.{key_alone, switch_of, language_of, destination_of, code_of, control_of, key_or_cause, port_key, values_of, unfit, key_with, remote_by, remote_key, of_one, of_two, of_three, key_of};
 
 use crate::fault::{LineFault, at_word, misfit};
 use crate::script::ScriptCause;

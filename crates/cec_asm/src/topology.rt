@@ -1,9 +1,9 @@
 //! Topologies and their texts.
-ghost use Rattle.std.specs.Prelude.{◌≡◌, ℕ, ◌+◌, ◌<◌, ◌≤◌, length, List, [], ◌∷◌, ◌++◌, Result, Ok, Err, Some};
+ghost use Rattle.std.specs.Prelude.{◌≡◌, ◌+◌, ◌<◌, ◌≤◌, length, Result, Ok, Err, Some};
 ghost use Rattle.std.specs.Option.{option_copied};
 ghost use Rattle.hdmi_core.specs.Words.{words_after, one_of, three_of};
 ghost use Rattle.cec_asm.specs.declared.topology.TopologyLineError.TheVariants.{Fault};
-ghost use Rattle.cec_asm.specs.Topology.{Plan, plan_of, at_word, misfit, device_line, plug_line, edid_line, line_read, topology_of, error_at, GivesLine, GivesTopology};
+ghost use Rattle.cec_asm.specs.Topology.{plan_of, at_word, misfit, device_line, plug_line, edid_line, line_read, topology_of, error_at, GivesLine, GivesTopology};
 
 use crate::counting::word_count;
 use hdmi_core::{Kind, first_line, first_word, is_skipped, number_in, one_word, three_words};

@@ -1,8 +1,8 @@
 //! What is remarked of one reading after another.
-ghost use Rattle.std.specs.Prelude.{◌≡◌, ◌+◌, ◌≤◌, length, option_map};
+ghost use Rattle.std.specs.Prelude.{◌≡◌, ◌≤◌, length, option_map};
 ghost use Rattle.std.specs.Option.{option_to_list};
 ghost use Rattle.cec_bits.specs.Reports.{listed_as};
-ghost use Rattle.cec_audit.specs.Audit.{after, after_all, come_to, drive_by, drive_of, falls_until, first_tape, frame_text, is_folded, lows_of, tape_after, reading_misfits, remarks_text, summary_text, tape_of, times_text, line_and_remarks, reported_all};
+ghost use Rattle.cec_audit.specs.Audit.{after, after_all, come_to, drive_of, falls_until, first_tape, frame_text, is_folded, lows_of, tape_after, reading_misfits, remarks_text, summary_text, tape_of, times_text, line_and_remarks, reported_all};
 ghost use Rattle.cec_remarks.specs.Frames.{delivered_frame};
 ghost use Rattle.cec_audit.specs.Lines.{timing_text};
 ghost use Rattle.cec_audit.specs.Progress.{WritesOn};

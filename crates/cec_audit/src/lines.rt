@@ -1,6 +1,6 @@
 //! The lines of remarks.
-ghost use Rattle.std.specs.Prelude.{◌≡◌, ◌+◌, ◌<◌, ◌≤◌, length, codes};
-ghost use Rattle.cec_audit.specs.Lines.{count_text, counts_text, drive_text, drive_word, failure_text, failure_word, if_late, kind_text, late_text, limit_word, misfit_line, misfit_text, misfits_text, moved_text, request_text, series_text, soon_text, spread_text, unknown_text, widths_text};
+ghost use Rattle.std.specs.Prelude.{◌≡◌, ◌+◌, ◌<◌, ◌≤◌, length};
+ghost use Rattle.cec_audit.specs.Lines.{count_text, counts_text, drive_text, drive_word, failure_text, failure_word, if_late, kind_text, late_text, limit_word, misfit_line, misfit_text, misfits_text, moved_text, series_text, soon_text, spread_text, unknown_text, widths_text};
 ghost use Rattle.cec_audit.specs.Progress.{WritesOn};
 
 use crate::progress::Progress;

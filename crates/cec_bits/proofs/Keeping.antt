@@ -7,7 +7,7 @@ use Rattle.cec_wave.specs.Line.{Line, was_low, is_fall, is_rise}
 use Rattle.cec_bits.specs.declared.receiver.ReceiverState.{ReceiverState}
 use Rattle.cec_bits.specs.declared.receiver.ReceiverState.TheVariants.{Rest, StartLow, StartHigh, Unsampled, Sampled}
 use Rattle.cec_bits.specs.Reading.{first_in, next_rise, Slot, known_at, known_slot, reading_of, read_start, last_ending, bit_sampled_at, start_of}
-use Rattle.cec_bits.specs.Phase.{Standing, standing_of, standing_from, stands_from, stands_by, in_reading, at_rest}
+use Rattle.cec_bits.specs.Phase.{Standing, standing_of, standing_from, stands_from, in_reading, at_rest}
 use Rattle.cec_bits.specs.Phase as phase
 use Rattle.cec_bits.specs.Hears.{Hears, hear_in, hears}
 use Rattle.cec_bits.specs.Kept.{running_from, running_of, runs_on, last_fall, kept_in, kept_by, kept_of, kept_before, standing_by, StandingsAreKept, reported_in, reported_at}

@@ -1,6 +1,6 @@
 //! A sender of one frame (the standard's initiator), at the nominal times (CEC 5.2) until it stops: where it loses
 //! arbitration (CEC 9), at a block that is not acknowledged (CEC 6.1), or with the reading.
-ghost use Rattle.std.specs.Prelude.{◌≡◌, ℕ, ◌+◌, ◌-◌, ◌*◌, ◌<◌, ◌≤◌, Bool, false, length, slice_index_or, if◌then◌else◌};
+ghost use Rattle.std.specs.Prelude.{◌≡◌, ℕ, ◌+◌, ◌-◌, ◌<◌, ◌≤◌, Bool, false, length, slice_index_or};
 ghost use Rattle.cec_wave.specs.Bounds.{latest_heard};
 
 mod parts;
@@ -49,7 +49,7 @@ pub struct Sender {
 }
 
 impl Sender {
-    ghost use Rattle.std.specs.Prelude.{◌&&◌, not, true, Option, is_none};
+    ghost use Rattle.std.specs.Prelude.{◌&&◌, true, Option};
     ghost use Rattle.cec_wave.specs.Line.{line_of};
     ghost use Rattle.cec_wave.specs.Sender.{slot_stretches, sender_stretches};
     ghost use Rattle.cec_frame.specs.Bits.{frame_bits};

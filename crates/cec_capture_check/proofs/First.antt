@@ -1,5 +1,5 @@
 -- The first line at fault, where faults are of two kinds.
-use Rattle.std.proofs.Common.{◌≡◌, ℕ, ◌+◌, ◌<◌, ◌≤◌, Bool, true, false, nat_lt, List, [], ◌∷◌, Option, Some, None, ap, refl, ◌∙◌, cond, arith, lt-ltb, le-ltb}
+use Rattle.std.proofs.Common.{◌≡◌, ℕ, ◌+◌, ◌≤◌, Bool, true, false, nat_lt, List, [], ◌∷◌, Option, Some, None, ap, refl, cond, arith, lt-ltb, le-ltb}
 use Rattle.cec_expect.specs.Faults.{fault_or, line_fault as expectation_fault, faults_from as expectations_from}
 use Rattle.cec_expect.specs.declared.fault.LineFault.{LineFault}
 use Rattle.cec_expect.specs.declared.faults.ExpectFault.{ExpectFault}

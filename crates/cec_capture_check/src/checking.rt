@@ -1,5 +1,5 @@
 //! From expectations and a capture to their report.
-ghost use Rattle.std.specs.Prelude.{◌≡◌, ◌↔◌, true, false, IfOk, IfErr, IsTrue};
+ghost use Rattle.std.specs.Prelude.{◌≡◌, ◌↔◌, false, IfOk, IfErr, IsTrue};
 ghost use Rattle.cec_capture_check.specs.Check.{IsCaptureChecked, IsCaptureCut, IsCaptureReported, capture_report, is_write};
 ghost use Rattle.cec_capture_check.specs.Marks.{capture_trace};
 ghost use Rattle.cec_check.specs.Report.{report_as};

@@ -2,8 +2,7 @@
 ghost use Rattle.std.specs.Prelude.{◌≡◌, ◌||◌, IfOk, codes};
 ghost use Rattle.std.specs.Option.{option_copied, option_map};
 ghost use Rattle.hdmi_core.specs.Lines.{lines_of};
-ghost use Rattle.hdmi_core.specs.Number.{number_of};
-ghost use Rattle.hdmi_core.specs.Words.{one_of, words_after};
+ghost use Rattle.hdmi_core.specs.Words.{words_after};
 ghost use Rattle.cec_expect.specs.Fault.{after_label};
 ghost use Rattle.cec_expect.specs.Line.{has_verb};
 ghost use Rattle.cec_capture_check.specs.Lines.{expectation_fault, instant_fault, instant_of, kind_fault, line_fault, named_fault, number_by, time_fault, verb_fault};

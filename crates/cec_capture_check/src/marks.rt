@@ -1,5 +1,5 @@
 //! What is judged of a capture.
-ghost use Rattle.std.specs.Prelude.{◌≡◌, ◌++◌, codes, OnOk};
+ghost use Rattle.std.specs.Prelude.{◌≡◌, ◌++◌, OnOk};
 ghost use Rattle.std.specs.Fmt.{decimal};
 ghost use Rattle.cec_capture_check.specs.Marks.{mark_of, marks};
 

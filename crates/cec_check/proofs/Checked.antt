@@ -1,5 +1,5 @@
 -- The report of a run that is held in memory, which is one.
-use Rattle.std.proofs.Common.{◌≡◌, ℕ, List, [], ◌∷◌, ◌++◌, Some, None, Result, Ok, Err, refl, sym, ap, ◌∙◌, subst, append_assoc, append-nil}
+use Rattle.std.proofs.Common.{◌≡◌, ℕ, List, [], ◌∷◌, ◌++◌, Some, None, Result, Ok, Err, refl, sym, ap, ◌∙◌, subst}
 use Rattle.std.specs.Io.KnownBytes.{Appends}
 use Rattle.hdmi_core.specs.Lines.{lines_of}
 use Rattle.hdmi_core.specs.Words.{words_of}
@@ -12,7 +12,7 @@ use Rattle.cec_run.specs.Emulate.{IsTraceOf}
 use Rattle.cec_run.specs.declared.run.Totals.{Totals}
 use Rattle.cec_run.proofs.Accepted.{texts_have_one_trace}
 use Rattle.cec_judge.specs.Told.{state_line}
-use Rattle.cec_check.specs.States.{AreStates, IsStateFor, IsStateOf, IsTraced}
+use Rattle.cec_check.specs.States.{AreStates, IsStateOf, IsTraced}
 use Rattle.cec_check.specs.Report.{Report, report}
 use Rattle.cec_check.specs.Kept.{kept}
 use Rattle.cec_check.specs.declared.checking.CheckError.TheVariants.{Expect}

@@ -2,7 +2,7 @@
 use Rattle.std.proofs.Common.{◌≡◌, ℕ, ◌+◌, ◌<◌, ◌==◌, Bool, true, false, if◌then◌else◌, List, [], ◌∷◌, map, Option, Some, None, refl, sym, ap, ◌∙◌, arith}
 use Rattle.std.proofs.lemmas.Bool.Decides.{nat_tests}
 use Rattle.hdmi_core.specs.Lines.{lines_of}
-use Rattle.cec_judge.specs.Judged.{Finding, finding_as, findings_from, findings_of, or_more, states_for, verdicts_of}
+use Rattle.cec_judge.specs.Judged.{finding_as, findings_from, findings_of, or_more, states_for, verdicts_of}
 use Rattle.cec_judge.specs.declared.judge.Judged.{Judged}
 use Rattle.cec_judge.specs.declared.judge.Finding.{Finding as FindingRead}
 use Rattle.cec_check.specs.Report.{Report, report, report_by, report_start, report_with_plan, with_findings, with_found, with_line, with_lines, with_refusals}

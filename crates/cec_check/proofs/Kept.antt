@@ -15,7 +15,7 @@ use Rattle.cec_expect.specs.declared.form.Quantity.{Quantity}
 use Rattle.cec_judge.specs.Told.{EventLine, RoundLine, event_at, event_in, refusal_in, round_in}
 use Rattle.cec_judge.specs.Named.{is_labelled, is_named, name_lines, names_line}
 use Rattle.cec_judge.proofs.Naming.{label_names}
-use Rattle.cec_judge.specs.Seen.{end_by, end_seen, ends_seen, first_of, is_seen}
+use Rattle.cec_judge.specs.Seen.{end_by, end_seen, ends_seen, first_of}
 use Rattle.cec_judge.specs.Judged.{Finding, event_instant, finding_as, findings_from, findings_of, form_judged, is_word, noted, or_more, verdicts_of, line_judged, lines_judged, refusal_at, refusal_by, rounds_by, rounds_judged, span_of, states_for}
 use Rattle.cec_judge.specs.declared.seen.Span.{Span}
 use Rattle.cec_judge.specs.declared.judge.Judged.{Judged}

@@ -1,5 +1,5 @@
 -- The state lines of a script, one after another.
-use Rattle.std.proofs.Common.{◌≡◌, ℕ, Bool, true, false, List, [], ◌∷◌, ◌++◌, refl, sym, ap, ◌∙◌, subst, append_assoc, append-nil, Result, Ok, Err}
+use Rattle.std.proofs.Common.{◌≡◌, ℕ, true, false, List, [], ◌∷◌, ◌++◌, refl, sym, ap, ◌∙◌, subst, append_assoc, append-nil, Result, Ok, Err}
 use Rattle.hdmi_core.specs.Words.{words_of}
 use Rattle.cec_expect.specs.Line.{unlabelled_words}
 use Rattle.cec_expect.specs.Form.{Form, form_in}

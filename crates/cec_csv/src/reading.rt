@@ -1,5 +1,5 @@
 //! From a file to the edges of a line.
-ghost use Rattle.std.specs.Prelude.{◌≡◌, ◌+◌, ◌<◌, length};
+ghost use Rattle.std.specs.Prelude.{◌≡◌, ◌+◌, ◌<◌};
 ghost use Rattle.hdmi_core.specs.Lines.{lines_of};
 ghost use Rattle.cec_csv.specs.Csv.{Gives, GivesEdges, PassesLine, first_reader, column_of, edges_in, lines_read, passed_by, took};
 

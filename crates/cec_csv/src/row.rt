@@ -1,5 +1,5 @@
 //! A row: a time and a level.
-ghost use Rattle.std.specs.Prelude.{◌≡◌, ◌+◌, ◌*◌, ◌^◌, ◌<◌, ◌≤◌, length};
+ghost use Rattle.std.specs.Prelude.{◌≡◌, ◌+◌, ◌*◌, ◌<◌};
 ghost use Rattle.cec_csv.specs.Csv.{instant_of, level_of, nanos_of, row_of, signed_time, since, time_of};
 
 use crate::fields::{field_at, field_without_space, first_field, without_return};

@@ -1,5 +1,5 @@
 //! The file of a line.
-ghost use Rattle.std.specs.Prelude.{◌≡◌, ◌+◌, ◌%◌};
+ghost use Rattle.std.specs.Prelude.{◌%◌};
 ghost use Rattle.cec_tally.specs.Adds.{Adds};
 ghost use Rattle.cec_csv.specs.Text.{changes, head, row_text, rows_text, stretch_text};
 

@@ -1,5 +1,5 @@
 -- A device from outside does what it is told, and nothing by itself.
-use Rattle.std.proofs.Common.{◌≡◌, ℕ, ◌==◌, ◌%◌, Bool, true, false, not, ◌&&◌, ◌||◌, if◌then◌else◌, List, [], ◌∷◌, Option, Some, None, refl, sym, ap, subst, ◌∙◌}
+use Rattle.std.proofs.Common.{◌≡◌, ℕ, ◌==◌, ◌%◌, Bool, true, false, not, ◌&&◌, ◌||◌, if◌then◌else◌, List, [], ◌∷◌, Some, None, refl, sym, ap, subst, ◌∙◌}
 use Rattle.hdmi_core.specs.declared.kind.Kind.{Kind}
 use Rattle.hdmi_core.specs.declared.kind.Kind.TheVariants.{Tv, Amp, Player, Recorder, Switch, Combo, Outside}
 use Rattle.hdmi_core.specs.declared.phys.Phys.{Phys}
@@ -15,7 +15,7 @@ use Rattle.cec_device.specs.declared.outside.Act.TheVariants.{Hold, Empty}
 use Rattle.cec_opcode.specs.Table.{decoded_of, may_go, rule_of}
 use Rattle.cec_feature.specs.Effects.{heard_of}
 use Rattle.cec_device.specs.State.{State, holds}
-use Rattle.cec_device.specs.Place.{fresh, is_off, is_on_wire, after_joining, with_reports, start_place, tries, unregistered}
+use Rattle.cec_device.specs.Place.{fresh, is_off, is_on_wire, with_reports, start_place, tries, unregistered}
 use Rattle.cec_device.specs.Effects.{by_decoded, after_frame}
 use Rattle.cec_device.specs.Keys.{after_key, keyed_by}
 use Rattle.cec_device.specs.Outside.{after_act, acted_by, OnlyOutside}

@@ -1,6 +1,6 @@
 //! A device: who it is, and what it has to send.
-ghost use Rattle.std.specs.Prelude.{◌≡◌, ◌≢◌, ◌<◌, ◌≤◌, ◌+◌, ◌*◌, ◌==◌, ◌∷◌, [], length, true, false};
-ghost use Rattle.cec_device.specs.State.{with_queued, speaks, holds, is_held, frame_of, main_of, source, one_more};
+ghost use Rattle.std.specs.Prelude.{◌≡◌, ◌<◌, ◌≤◌, ◌+◌, ◌*◌, ◌==◌, ◌∷◌, [], length, false};
+ghost use Rattle.cec_device.specs.State.{with_queued, speaks, holds, is_held, main_of, source};
 ghost use Rattle.cec_device.specs.Say.{say, say_all};
 
 use crate::free_time::FreeTime;

@@ -3,7 +3,7 @@
 ghost use Rattle.std.specs.Prelude.{◌≡◌, ◌<◌, Some, None, length, MatchResult, IsSome, IsTrue, ◌≤◌, nat_lt};
 ghost use Rattle.std.specs.List.{list_all};
 ghost use Rattle.cec_feature.specs.Kinds.{addresses, second_addresses};
-ghost use Rattle.cec_device.specs.Place.{begins, settles, tries, tries_after, list_of, place_after_fate, class_of_poll, unregistered, polled_at, settled_at, start_place, fresh, with_reports, reported_from, after_joining, after_leaving, after_front, after_failure, frame_sent, front_is_poll, after_sending, poll_sent, after_waiting, submit_fault, after_submission, front_of, ready_of, is_allocating, is_on_wire};
+ghost use Rattle.cec_device.specs.Place.{begins, settles, tries, tries_after, list_of, place_after_fate, class_of_poll, unregistered, polled_at, settled_at, start_place, fresh, with_reports, reported_from, after_joining, after_leaving, after_front, after_failure, frame_sent, front_is_poll, after_sending, poll_sent, after_waiting, submit_fault, after_submission, front_of, is_allocating};
 
 use crate::device::{Device, Queued, SubmitError};
 use crate::free_time::FreeTime;

@@ -1,11 +1,11 @@
 -- Lines that are answered, one after another.
-use Rattle.std.proofs.Common.{◌≡◌, ℕ, ◌+◌, ◌<◌, ◌≤◌, Bool, true, false, List, [], ◌∷◌, ◌++◌, length, length-append, Option, Some, None, is_some, Result, Ok, Err, IsErr, IfErr, refl, sym, ap, subst, ◌∙◌, append_assoc, append-nil, arith}
+use Rattle.std.proofs.Common.{◌≡◌, ℕ, ◌+◌, ◌<◌, Bool, true, false, List, [], ◌∷◌, ◌++◌, length, length-append, Option, Some, None, is_some, Result, Ok, Err, IsErr, IfErr, refl, sym, ap, subst, ◌∙◌, append_assoc, append-nil, arith}
 use Rattle.std.specs.Io.KnownBytes.{Appends, Keeps}
 use Rattle.std.proofs.lemmas.Bool.{false≢true}
 use Rattle.std.proofs.lemmas.List.Elements.{All-append, All-cons, All-nil}
 use Rattle.hdmi_core.proofs.CutShort.{Appends-trans}
 use Rattle.hdmi_core.specs.declared.sink.WriteFault.{WriteFault}
-use Rattle.hdmi_core.specs.Cut.{CutOff, WrittenText}
+use Rattle.hdmi_core.specs.Cut.{WrittenText}
 use Rattle.cec_incoming.specs.Incoming.{IsWhole, Leads}
 use Rattle.cec_session.specs.declared.live.Step.{Step}
 use Rattle.cec_session.specs.declared.live.LiveError.{LiveError}
@@ -17,7 +17,7 @@ use Rattle.cec_session.specs.Whole.{IsLine, AreLines, kept_line, reported_of}
 use Rattle.cec_session.proofs.Answering.{due_one}
 use Rattle.cec_dialogue.specs.declared.error.SessionError.{SessionError}
 use Rattle.cec_dialogue.specs.declared.error.SessionError.TheVariants.{Read, TooLong, NoScriptLine, Topology, Edid, Script, Write, Memory}
-use Rattle.cec_dialogue.specs.Dialogue.{Come, HasAnswered, HasGone, HaveAnswers, HasEnded, IsAnswering, IsCutLine, IsCutShort, IsFirstPut, IsLineAnswered, IsScriptLine, first_reported, is_write}
+use Rattle.cec_dialogue.specs.Dialogue.{HasAnswered, HasGone, HaveAnswers, HasEnded, IsAnswering, IsCutShort, IsFirstPut, IsLineAnswered, IsScriptLine, first_reported, is_write}
 use Rattle.cec_dialogue.proofs.Coming.{come_more, come_none}
 use Rattle.cec_dialogue.proofs.Putting.{all_short, appends_keep, cut_short}
 

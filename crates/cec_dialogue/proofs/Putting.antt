@@ -1,5 +1,5 @@
 -- What is put, and how it is handed on.
-use Rattle.std.proofs.Common.{◌≡◌, ◌↔◌, ℕ, ◌≤◌, Bool, true, false, List, [], ◌++◌, length, take, Option, Some, None, Result, Ok, Err, IsErr, IsTrue, IfErr, OnOk, refl, sym, ap, subst, ◌∙◌, arith}
+use Rattle.std.proofs.Common.{◌≡◌, ◌↔◌, ℕ, Bool, true, false, List, [], length, take, Option, Some, None, Result, Ok, Err, IsErr, IsTrue, IfErr, OnOk, refl, sym, subst, ◌∙◌, arith}
 use Rattle.std.specs.Io.KnownBytes.{Appends, Keeps, append_known}
 use Rattle.std.proofs.Math.Seq.{take_all}
 use Rattle.std.proofs.lemmas.Bool.{false≢true}
@@ -9,7 +9,7 @@ use Rattle.hdmi_core.specs.Buffered.{handed_count, pending}
 use Rattle.hdmi_core.specs.Cut.{CutOff}
 use Rattle.cec_dialogue.specs.declared.error.SessionError.{SessionError}
 use Rattle.cec_dialogue.specs.declared.error.SessionError.TheVariants.{Read, TooLong, NoScriptLine, Topology, Edid, Script, Write, Memory}
-use Rattle.cec_dialogue.specs.Dialogue.{AreHanded, IsCutShort, IsHandedOn, is_write}
+use Rattle.cec_dialogue.specs.Dialogue.{AreHanded, IsCutShort, is_write}
 
 -- what was put to a sink in all
 abbrev pub held : {S : Type 0} → (S → Option (List ℕ)) → Buffered S → Option (List ℕ)

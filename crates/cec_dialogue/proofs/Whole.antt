@@ -1,10 +1,8 @@
 -- A whole session, from its parts.
-use Rattle.std.proofs.Common.{◌≡◌, ℕ, ◌⊎◌, Bool, true, false, List, ◌++◌, Option, Some, None, Result, Ok, Err, inl, inr, length, ◌≤◌, refl, sym, ap, subst, ◌∙◌}
+use Rattle.std.proofs.Common.{◌≡◌, ℕ, true, false, List, ◌++◌, Option, Some, Result, Ok, Err, inl, inr, length, ◌≤◌, refl, sym, subst}
 use Rattle.std.proofs.lemmas.Bool.{false≢true}
-use Rattle.hdmi_blocks.specs.declared.edid.Edid.{Edid as EdidValue}
 use Rattle.cec_net.specs.State.{first_net}
 use Rattle.cec_incoming.specs.Incoming.{text_of_lines}
-use Rattle.cec_asm.specs.Topology.{Plan}
 use Rattle.cec_run.specs.declared.run.Reporting.TheVariants.{Trace}
 use Rattle.cec_run.specs.Run.{IsRunText, start}
 use Rattle.cec_run.specs.Emulate.{IsTraceOf}
@@ -14,7 +12,7 @@ use Rattle.cec_session.proofs.Wholly.{sessions_report_traces}
 use Rattle.cec_session.proofs.Kept.{sessions_report_traces_of}
 use Rattle.cec_dialogue.specs.declared.error.SessionError.{SessionError}
 use Rattle.cec_dialogue.specs.declared.error.SessionError.TheVariants.{Read, TooLong, NoScriptLine, Topology, Edid, Script, Write, Memory}
-use Rattle.cec_dialogue.specs.Dialogue.{HasBegun, HasEnded, HasGone, HasRun, HaveAnswers, IsAnswering, IsBegun, IsCut, IsCutShort, IsFirstPut, IsLeft, IsOpened, IsOpening, IsSession, IsTalk, IsTopologyFault, first_reported, is_write}
+use Rattle.cec_dialogue.specs.Dialogue.{HasBegun, HasRun, HaveAnswers, IsAnswering, IsFirstPut, IsOpened, IsOpening, IsSession, IsTalk, IsTopologyFault, first_reported, is_write}
 
 -- ---- what stands first, and the answers
 

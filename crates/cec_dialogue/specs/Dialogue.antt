@@ -12,7 +12,6 @@ use Rattle.cec_net.specs.State.{first_net}
 use Rattle.cec_run.specs.declared.run.Reporting.TheVariants.{Trace}
 use Rattle.cec_run.specs.Run.{IsRunText, start, start_reported}
 use Rattle.cec_run.specs.Emulate.{IsTraceOf}
-use Rattle.causal_laws.specs.Causal.{before_reported}
 use Rattle.cec_session.specs.declared.live.Step.{Step}
 use Rattle.cec_session.specs.Session.{Session, first_session, IsStep, IsDue}
 use Rattle.cec_session.specs.Whole.{IsLine, AreLines}

@@ -1,7 +1,6 @@
 //! The bytes of a frame in hex, as tools print them.
-ghost use Rattle.std.specs.Prelude.{◌≡◌, ◌<◌, ◌≤◌, ◌++◌, ◌∷◌, [], ◌↔◌, ℕ, List, Ok, Err, length, take, IsTrue, MatchOption, MatchResult};
-ghost use Rattle.arrayvec.specs.ArrayVec.{array_vec_len};
-ghost use Rattle.cec_dis.specs.Bytes.{after_arrow, after_arrow_of, byte_of, bytes_from, frame_in, is_arrow, is_digit, is_mark, is_prefix, cause_of_half, step, value_of, whole_frame};
+ghost use Rattle.std.specs.Prelude.{◌≡◌, ◌<◌, ◌++◌, ◌∷◌, [], ℕ, List, Ok, Err, length, MatchOption, MatchResult};
+ghost use Rattle.cec_dis.specs.Bytes.{after_arrow, byte_of, bytes_from, frame_in, is_arrow, is_digit, is_mark, is_prefix, cause_of_half, step, value_of, whole_frame};
 ghost use Rattle.cec_dis.specs.Kept.{AreBytes, AreKept};
 ghost use Rattle.cec_dis.specs.declared.bytes.HexState.TheVariants.{Between};
 

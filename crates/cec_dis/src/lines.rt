@@ -1,6 +1,5 @@
 //! Frames in hex, one a line, and their texts.
 ghost use Rattle.std.specs.Prelude.{◌≡◌, ◌++◌, codes, Ok, Err, Some, None, Option, MatchResult};
-ghost use Rattle.std.specs.List.{flat_map};
 ghost use Rattle.cec_dis.specs.Lines.{Answers, WritesLines, first_fault, frame_line, line_frame, line_text};
 ghost use Rattle.cec_tally.specs.Adds.{Adds};
 ghost use Rattle.hdmi_core.specs.Lines.{lines_of};

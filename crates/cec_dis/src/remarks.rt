@@ -1,7 +1,7 @@
 //! Words of the standard that the texts of frames leave as bytes.
-ghost use Rattle.std.specs.Prelude.{◌≡◌, ◌≤◌, ℕ, length, map, option_copied};
+ghost use Rattle.std.specs.Prelude.{◌≡◌, map, option_copied};
 ghost use Rattle.cec_opcode.specs.WordSets.{word_in_code, word_of};
-ghost use Rattle.cec_dis.specs.Remark.{first_of, more_names, more_words, operand_remark, place_of, remark};
+ghost use Rattle.cec_dis.specs.Remark.{more_names, more_words, operand_remark, place_of, remark};
 
 use cec_frame::Frame;
 use cec_opcode::NamedByte;

@@ -1,5 +1,5 @@
 //! The head of the dump: the definitions of its wires.
-ghost use Rattle.std.specs.Prelude.{◌≡◌, ◌+◌, ◌++◌, ◌≤◌, length};
+ghost use Rattle.std.specs.Prelude.{◌+◌, ◌++◌, ◌≤◌, length};
 ghost use Rattle.cec_tally.specs.Adds.{Adds};
 ghost use Rattle.cec_wires.specs.Wires.{closing, head, variables};
 ghost use Rattle.cec_driven.specs.Driven.{names_of};

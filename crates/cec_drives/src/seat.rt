@@ -5,7 +5,7 @@ ghost use Rattle.cec_wave.specs.Sender.{sender_stretches};
 ghost use Rattle.cec_wave.specs.Bounds.{latest_instant, latest_heard};
 ghost use Rattle.cec_frame.specs.Bits.{frame_bits};
 ghost use Rattle.cec_bits.specs.Sending.{destination};
-ghost use Rattle.cec_wire.specs.Round.{holds_address, is_held, out_in};
+ghost use Rattle.cec_wire.specs.Round.{holds_address, is_held};
 ghost use Rattle.cec_drives.specs.Stretches.{ack_in, acknowledges_in, break_stretches, breaks_off, cut_after, goes_to, is_short, last_pull, seat_stretches, seat_stretches_by, sent_stretches, slot_fall};
 
 use arrayvec::ArrayVec;

@@ -75,8 +75,7 @@ fn pull_after(sending: &[Seat], begin: u64, t: u64, is_out: bool, pull: Pull) ->
 impl EdgeWire {
     ghost use Rattle.std.specs.Prelude.{IfSome, MatchOption, ℕ, ◌-◌};
     ghost use Rattle.std.specs.Option.{option_to_list};
-    ghost use Rattle.cec_wire.specs.Edges.{IsNextEdge};
-    ghost use Rattle.cec_edges.specs.Wired.{heard_by, is_low_in, pulls_in, EachOf, IsBegun, IsNext, SameRound, EdgeAt, is_silent_in, wake_in, NextEdges, IsRoundOf, Leaves, Grows, Passes, Listens, IsReceiverIn, IsSenderIn, SendsNothing, AreIdle};
+    ghost use Rattle.cec_edges.specs.Wired.{is_low_in, pulls_in, EachOf, IsBegun, IsNext, SameRound, EdgeAt, is_silent_in, wake_in, NextEdges, IsRoundOf, Leaves, Grows, Passes, Listens, IsReceiverIn, IsSenderIn, SendsNothing, AreIdle};
 
     // A round that begins at `start`.
     fn started(seats: &[Seat], start: u64) -> Self

@@ -5,7 +5,6 @@ ghost use Rattle.cec_wave.specs.Bounds.{latest_heard};
 ghost use Rattle.cec_bits.specs.Follows.{WakesFewer};
 ghost use Rattle.cec_bits.specs.Hears.{heard_by, wake_of};
 ghost use Rattle.cec_edges.specs.Listening.{AllHeard, AreBegun, AreSenders, AreStanding, HeardOne, IsIdle, IsLevel, IsReadOnce, IsSenderOf, KeepsSenders, Reaches, ReachesEdge, Ticks, sooner_wake, reports};
-ghost use Rattle.cec_wire.specs.Machine.{AreSentWell, IsSentWell};
 
 use arrayvec::ArrayVec;
 use cec_bits::{Receiver, Sender, Told};

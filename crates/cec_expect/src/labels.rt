@@ -1,7 +1,6 @@
 //! The labels of a script, read once.
-ghost use Rattle.std.specs.Prelude.{◌≡◌, ◌&&◌, if◌then◌else◌, true, List, ℕ, IfOk, OnOk};
+ghost use Rattle.std.specs.Prelude.{◌≡◌, if◌then◌else◌, true, List, ℕ, IfOk, OnOk};
 ghost use Rattle.std.specs.HashMap.{get_by};
-ghost use Rattle.std.specs.Option.{option_copied};
 ghost use Rattle.std.specs.Str.{bytes_eq};
 ghost use Rattle.hdmi_core.specs.Lines.{lines_of};
 ghost use Rattle.cec_expect.specs.Faults.{event_labelled, is_event_line, line_of_label, labelled_from};

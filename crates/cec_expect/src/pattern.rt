@@ -1,6 +1,6 @@
 //! Patterns of what a line says.
-ghost use Rattle.std.specs.Prelude.{◌≡◌, [], ◌∷◌, List, ℕ};
-ghost use Rattle.cec_expect.specs.Fits.{fits, in_word};
+ghost use Rattle.std.specs.Prelude.{◌≡◌, []};
+ghost use Rattle.cec_expect.specs.Fits.{fits};
 
 /// Whether a text begins as the pattern says, up to the end of a word. A `*` stands for any bytes of one word, also none.
 pub fn fits(pattern: &[u8], text: &[u8]) -> bool

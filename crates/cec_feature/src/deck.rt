@@ -1,5 +1,5 @@
 //! Deck Control (CEC 13.7) and Device Menu Control (CEC 13.12): what a deck and its menu do.
-ghost use Rattle.std.specs.Prelude.{◌≡◌, not};
+ghost use Rattle.std.specs.Prelude.{◌≡◌};
 ghost use Rattle.cec_feature.specs.Effect.{does, at_most_one};
 ghost use Rattle.cec_feature.specs.Effects.{deck_control, deck_asked, is_no_media, menu_asked, menu_reported, mode_deck, notice, plays, deck_change, wound};
 

@@ -1,6 +1,6 @@
 //! The words of keys.
 ghost use Rattle.std.specs.Prelude.{◌≡◌};
-ghost use Rattle.cec_feature.specs.KeyWords.{key_named, key_text, key_words};
+ghost use Rattle.cec_feature.specs.KeyWords.{key_named, key_text};
 
 /// The word that a key is, or begins with, in a script.
 #[derive(Clone, Copy, Debug, PartialEq, Eq)]

@@ -1,8 +1,7 @@
 //! What a device says of itself, as messages.
 ghost use Rattle.std.specs.Prelude.{◌≡◌, ◌∷◌, [], if◌then◌else◌};
 ghost use Rattle.cec_opcode.specs.Table.{spelling};
-ghost use Rattle.cec_opcode.specs.ScreenWords.{menu_state_byte};
-ghost use Rattle.cec_opcode.specs.Words.{power_byte, system_audio_byte};
+ghost use Rattle.cec_opcode.specs.Words.{system_audio_byte};
 ghost use Rattle.cec_feature.specs.Kinds.{type_of};
 
 use crate::kinds::is_recorders;

@@ -1,5 +1,4 @@
 //! From a capture in any form to the edges of a line.
-ghost use Rattle.std.specs.Prelude.{◌≡◌};
 ghost use Rattle.cec_csv.specs.Csv.{edges_in as csv_edges};
 ghost use Rattle.cec_mon.specs.EdgeFile.{file_of};
 ghost use Rattle.cec_pin.specs.Pin.{edges_in as pin_edges};

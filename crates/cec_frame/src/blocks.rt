@@ -1,6 +1,6 @@
 //! The frame of a reading.
 ghost use Rattle.std.specs.Prelude.{◌≡◌, ◌+◌, ◌*◌, ◌≤◌, ◌++◌, length};
-ghost use Rattle.cec_frame.specs.Blocks.{bit_value, byte_of, bytes_of, frame_in};
+ghost use Rattle.cec_frame.specs.Blocks.{bit_value, bytes_of, frame_in};
 
 use crate::{Ending, Frame, Reading};
 use arrayvec::ArrayVec;

@@ -1,6 +1,5 @@
 //! The shapes of frames, and what stands for a word of a set.
 ghost use Rattle.std.specs.Prelude.{◌≡◌, ◌≤◌, ◌+◌, ◌∷◌, ◌++◌, codes, length, option_map};
-ghost use Rattle.arrayvec.specs.ArrayVec.{array_vec_len};
 ghost use Rattle.cec_frame_shapes.specs.FrameShape.{frame_shape, operand_label, operands_shape, set_label};
 
 use arrayvec::ArrayVec;

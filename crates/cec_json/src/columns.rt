@@ -1,5 +1,5 @@
 //! The fields of objects, in order: names, and how words are their values.
-ghost use Rattle.std.specs.Prelude.{◌≡◌, map};
+ghost use Rattle.std.specs.Prelude.{map};
 ghost use Rattle.cec_json.specs.Columns.{field, fields, field_lead, column_parts};
 ghost use Rattle.cec_json.specs.Progress.{WritesOn};
 

@@ -1,5 +1,5 @@
 //! The objects of the lines of a text.
-ghost use Rattle.std.specs.Prelude.{◌≡◌, ℕ, List, length};
+ghost use Rattle.std.specs.Prelude.{ℕ, List};
 ghost use Rattle.hdmi_core.specs.Lines.{lines_of};
 ghost use Rattle.cec_json.specs.Object.{AreObjects};
 ghost use Rattle.cec_json.specs.Progress.{WritesText};

@@ -1,6 +1,6 @@
 //! The object of a line.
 ghost use Rattle.std.specs.Prelude.{◌≡◌, ℕ, List, Option};
-ghost use Rattle.cec_json.specs.Object.{AreBytesOf, IsObject, reading_start, body, broken_body, bytes_value, complete_body, complete_fields, end_body, event_body, form_by, form_of, frame_fields, frame_in, IsReported, hex_value, is_broken, names_fields, port_body, reading_type, seats, state_body, type_field};
+ghost use Rattle.cec_json.specs.Object.{AreBytesOf, IsObject, reading_start, body, broken_body, bytes_value, complete_body, complete_fields, end_body, event_body, form_by, form_of, frame_fields, IsReported, hex_value, is_broken, names_fields, port_body, reading_type, seats, state_body, type_field};
 ghost use Rattle.cec_json.specs.Progress.{WritesOn};
 
 use crate::columns::{AT, EVENT, PORT, READING, STATE, write_field, write_fields, write_lead};

@@ -1,6 +1,6 @@
 //! Parts of a line of a trace.
 ghost use Rattle.std.specs.Prelude.{◌≡◌, ◌≤◌, ◌<◌, length};
-ghost use Rattle.cec_json.specs.Parts.{after_byte, after_word, before_byte, before_last, before_seats, after_ending, has_seats, last_space, last_word, losers_in, space_in, reported_in, value_of, winners_in, word};
+ghost use Rattle.cec_json.specs.Parts.{after_byte, after_word, before_byte, before_last, before_seats, after_ending, has_seats, last_space, last_word, losers_in, reported_in, value_of, winners_in, word};
 
 use hdmi_core::{after, before, len_before};
 

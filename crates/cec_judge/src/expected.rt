@@ -1,7 +1,6 @@
 //! The refused events that a script expects, read once.
 ghost use Rattle.std.specs.Prelude.{◌≡◌, ◌||◌, ℕ, IfOk, OnOk, nat_eq};
 ghost use Rattle.std.specs.HashSet.{contains};
-ghost use Rattle.hdmi_core.specs.Lines.{lines_of};
 ghost use Rattle.cec_judge.specs.Judged.{is_number, is_refusal_expected, line_expects};
 
 use cec_expect::{Form, Labels, form_in, unlabelled};

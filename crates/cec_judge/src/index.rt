@@ -1,5 +1,5 @@
 //! The rounds and the events of a trace, read once.
-ghost use Rattle.std.specs.Prelude.{◌≡◌, ℕ, true, length, map, IfOk, OnOk, None};
+ghost use Rattle.std.specs.Prelude.{◌≡◌, ℕ, true, length, map, IfOk, OnOk};
 ghost use Rattle.std.specs.Option.{option_map};
 ghost use Rattle.hdmi_core.specs.Words.{words_of};
 ghost use Rattle.cec_judge.specs.Told.{event_as, event_at, event_in, round_as, rounds_of};

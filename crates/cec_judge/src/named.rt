@@ -1,8 +1,7 @@
 //! The lines of a script that have a label, read once.
 ghost use Rattle.std.specs.Prelude.{◌≡◌, ◌||◌, ℕ, IfOk, OnOk, nat_eq};
 ghost use Rattle.std.specs.HashSet.{contains};
-ghost use Rattle.hdmi_core.specs.Lines.{lines_of};
-ghost use Rattle.cec_judge.specs.Named.{is_labelled, is_named, name_lines, names_line};
+ghost use Rattle.cec_judge.specs.Named.{is_labelled, is_named, names_line};
 
 use cec_expect::unlabelled;
 use hdmi_core::first_line;

@@ -1,5 +1,5 @@
 //! From a capture to the lines of its readings.
-ghost use Rattle.std.specs.Prelude.{◌≡◌, ◌≤◌, ◌||◌, option_map};
+ghost use Rattle.std.specs.Prelude.{◌≡◌, ◌||◌, option_map};
 ghost use Rattle.std.specs.Option.{option_to_list};
 ghost use Rattle.cec_tally.specs.Adds.{Adds};
 ghost use Rattle.cec_bits.specs.Reports.{listed_as};

@@ -44,7 +44,7 @@ pub struct Monitor {
 }
 
 impl Monitor {
-    ghost use Rattle.std.specs.Prelude.{ℕ, Bool, ◌+◌};
+    ghost use Rattle.std.specs.Prelude.{◌+◌};
     ghost use Rattle.cec_wave.specs.Line.{Line};
     ghost use Rattle.cec_mon.specs.Monitor.{HeardBefore, IsStill, FollowsEdge, FollowsEnd, Microsecond, heard_at, after_wake, after_wakes};
 

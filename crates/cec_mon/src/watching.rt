@@ -1,5 +1,5 @@
 //! From an edge file to the lines of its readings.
-ghost use Rattle.std.specs.Prelude.{◌≡◌, ℕ, ◌+◌, ◌<◌, length, MatchResult, option_map, Ok, Err};
+ghost use Rattle.std.specs.Prelude.{◌≡◌, ◌<◌, MatchResult, option_map, Ok, Err};
 ghost use Rattle.cec_bits.specs.Reports.{listed_as};
 ghost use Rattle.cec_mon.specs.EdgeFile.{EdgeFile, file_of};
 ghost use Rattle.cec_mon.specs.Watch.{Answers, WritesFile, reported_text, reported_so};

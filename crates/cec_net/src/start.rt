@@ -1,7 +1,6 @@
 //! When devices start to send: the signal free time (CEC 9.1).
 ghost use Rattle.std.specs.Prelude.{◌≡◌, ◌+◌, ◌≤◌, ◌<◌, All};
 ghost use Rattle.cec_wave.specs.Bounds.{latest_rest, latest_heard};
-ghost use Rattle.cec_device.specs.Place.{ready_of};
 ghost use Rattle.cec_net.specs.Start.{next_turn, start_of, sooner, least_start, first_onset, StartIsLeast};
 ghost use Rattle.cec_net.specs.Sound.{IsReadyBy};
 

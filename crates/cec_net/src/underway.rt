@@ -4,7 +4,7 @@ ghost use Rattle.cec_wave.specs.Pulses.{AreSparse};
 ghost use Rattle.cec_wave.specs.Bounds.{latest_instant};
 ghost use Rattle.cec_wire.specs.Edges.{IsNextEdge};
 ghost use Rattle.cec_wire.specs.Round.{IsRound, IsRoundLine};
-ghost use Rattle.cec_edges.specs.Wired.{IsBegun, is_silent_in, SameRound};
+ghost use Rattle.cec_edges.specs.Wired.{is_silent_in, SameRound};
 ghost use Rattle.cec_net.specs.Underway.{Takes};
 
 use crate::net::{Net, give_up};

@@ -1,5 +1,5 @@
 //! From frames to messages.
-ghost use Rattle.std.specs.Prelude.{◌≡◌, ◌≤◌, ◌+◌, length};
+ghost use Rattle.std.specs.Prelude.{◌≡◌, ◌≤◌, length};
 ghost use Rattle.cec_opcode.specs.Table.{decoding, decoded_of, row_of};
 
 use crate::deck_words::{DeckControlMode, DeckInfo, PlayMode, StatusRequest};

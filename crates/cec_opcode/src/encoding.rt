@@ -1,5 +1,5 @@
 //! From messages to frames.
-ghost use Rattle.std.specs.Prelude.{◌≡◌, ◌≢◌, ℕ, ◌<◌, IfNone, ◌≤◌, ◌+◌, ◌*◌, ◌∷◌, ◌++◌, [], Option, IsTrue, ◌↔◌, length, IfOk, IfSome, MatchResult, option_copied, None, Some};
+ghost use Rattle.std.specs.Prelude.{◌≡◌, ◌≢◌, ℕ, ◌<◌, IfNone, ◌≤◌, ◌+◌, ◌*◌, ◌∷◌, ◌++◌, [], Option, length, IfOk, IfSome, MatchResult, option_copied, None, Some};
 ghost use Rattle.arrayvec.specs.ArrayVec.{array_vec_len};
 ghost use Rattle.cec_opcode.specs.Table.{decoded_of, is_raw_opcode, name_of, rule_of, operands_of, addressing_of, spelling, refusal, meaning, is_own_message};
 

@@ -1,5 +1,5 @@
 //! The sets of words that stand for an operand byte: each word once, with its byte and its name in the code.
-ghost use Rattle.std.specs.Prelude.{◌≡◌, ◌≢◌, ◌≤◌, ◌<◌, ◌↔◌, ℕ, option_copied, length, map, IfSome, IfNone, IsTrue};
+ghost use Rattle.std.specs.Prelude.{◌≡◌, ◌≢◌, ◌≤◌, ◌<◌, ℕ, option_copied, length, map, IfSome, IfNone};
 ghost use Rattle.cec_opcode.specs.Naming.{byte_of};
 ghost use Rattle.cec_opcode.specs.WordSets.{word_in_code, word_of, words_of};
 

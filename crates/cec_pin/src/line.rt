@@ -1,5 +1,5 @@
 //! A line of a file of pin events.
-ghost use Rattle.std.specs.Prelude.{◌≡◌, ◌+◌, ◌*◌, ◌^◌, ◌<◌, ◌≤◌, length};
+ghost use Rattle.std.specs.Prelude.{◌≡◌, ◌+◌, ◌*◌, ◌<◌};
 ghost use Rattle.cec_pin.specs.Pin.{code_of, event_cut, event_of, fraction_of, instant_of, nanos_of, start_in_comment, word_start};
 
 use cec_signal::decimals_in;

@@ -1,5 +1,5 @@
 //! From a file of pin events to the edges of a line.
-ghost use Rattle.std.specs.Prelude.{◌≡◌, ◌+◌, ◌<◌, length};
+ghost use Rattle.std.specs.Prelude.{◌+◌, ◌<◌};
 ghost use Rattle.cec_pin.specs.Pin.{Gives, GivesEdges, PassesLine, edges_in, passed_by, took};
 
 use crate::reader::{Cause, Reader};

@@ -1,5 +1,5 @@
 //! The events of a round.
-ghost use Rattle.std.specs.Prelude.{◌≡◌, ◌+◌, ◌-◌};
+ghost use Rattle.std.specs.Prelude.{◌-◌};
 ghost use Rattle.std.specs.List.{flat_map};
 ghost use Rattle.cec_tally.specs.Adds.{Adds};
 ghost use Rattle.cec_pin.specs.Text.{again, round_text, stretch_text};

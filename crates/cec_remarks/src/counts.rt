@@ -1,6 +1,6 @@
 //! The frames of each initiator.
-ghost use Rattle.std.specs.Prelude.{◌≡◌, ◌+◌, ◌≤◌, length};
-ghost use Rattle.cec_remarks.specs.Counts.{no_count, no_counts, with_frame, with_reading};
+ghost use Rattle.std.specs.Prelude.{◌≡◌, ◌≤◌, length};
+ghost use Rattle.cec_remarks.specs.Counts.{no_counts, with_frame, with_reading};
 
 use crate::header::{HEADER, failed_block, initiator_of, is_delivered};
 use cec_frame::Ending;

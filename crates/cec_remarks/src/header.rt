@@ -1,7 +1,6 @@
 //! The header of a frame, and which of its blocks were taken.
-ghost use Rattle.std.specs.Prelude.{◌≡◌, ℕ, ◌+◌, ◌*◌, ◌<◌, ◌≤◌, length, false, slice_index_or};
+ghost use Rattle.std.specs.Prelude.{◌≡◌, ◌+◌, ◌*◌, ◌<◌, ◌≤◌, length, false, slice_index_or};
 ghost use Rattle.cec_frame.specs.Blocks.{bit_value};
-ghost use Rattle.cec_bits.specs.Sending.{bit_read};
 ghost use Rattle.cec_text.specs.ReadingText.{is_complete};
 ghost use Rattle.cec_remarks.specs.Header.{destination_of, failed_block, initiator_of, is_delivered, is_taken, is_to_all, nibble_at, seeks_address};
 

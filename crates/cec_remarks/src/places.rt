@@ -1,5 +1,5 @@
 //! The physical addresses that devices report.
-ghost use Rattle.std.specs.Prelude.{◌≡◌, ◌<◌, length, None};
+ghost use Rattle.std.specs.Prelude.{◌≡◌, ◌<◌, None};
 ghost use Rattle.cec_remarks.specs.Frames.{sender};
 ghost use Rattle.cec_remarks.specs.Places.{is_place, is_reported, moved_from, no_places, other_than, phys_in, same_phys, unknown_source, with_places};
 

@@ -1,5 +1,5 @@
 -- What a line of a form reports, part by part.
-use Rattle.std.proofs.Common.{◌≡◌, ℕ, Bool, false, true, if◌then◌else◌, List, ◌∷◌, ◌++◌, drop, codes, Option, Result, sym, ap, subst, ◌∙◌}
+use Rattle.std.proofs.Common.{◌≡◌, ℕ, Bool, true, if◌then◌else◌, List, ◌∷◌, ◌++◌, drop, codes, Option, Result, sym, ap, subst, ◌∙◌}
 use Rattle.hdmi_core.specs.declared.sink.WriteFault.{WriteFault}
 use Rattle.hdmi_core.specs.Words.{words_of}
 use Rattle.cec_json.specs.Columns.{field, field_lead}

@@ -1,5 +1,5 @@
 //! The objects of the lines of a report.
-ghost use Rattle.std.specs.Prelude.{◌≡◌, ℕ, List, length};
+ghost use Rattle.std.specs.Prelude.{ℕ, List};
 ghost use Rattle.hdmi_core.specs.Lines.{lines_of};
 ghost use Rattle.cec_json.specs.Progress.{WritesText};
 ghost use Rattle.cec_report_json.specs.Object.{AreReportObjects};

@@ -1,8 +1,8 @@
 //! Stretches of a sweep.
-ghost use Rattle.std.specs.Prelude.{◌≡◌, ◌++◌, [], length};
+ghost use Rattle.std.specs.Prelude.{◌≡◌, ◌++◌, []};
 ghost use Rattle.std.specs.Option.{option_copied};
 ghost use Rattle.hdmi_core.specs.Number.{is_numeral};
-ghost use Rattle.hdmi_core.specs.Words.{words_after, words_of};
+ghost use Rattle.hdmi_core.specs.Words.{words_after};
 ghost use Rattle.cec_json.specs.Progress.{WritesOn};
 ghost use Rattle.cec_report_json.specs.Stretch.{first_instant, is_stretch, last_instant, range_fields, stretch_reported, verdict_value, verdicts, verdicts_value};
 

@@ -1,5 +1,5 @@
 //! Tests of a report.
-ghost use Rattle.std.specs.Prelude.{◌≡◌, length};
+ghost use Rattle.std.specs.Prelude.{◌≡◌};
 ghost use Rattle.cec_json.specs.Progress.{WritesOn};
 ghost use Rattle.cec_json.specs.Values.{code_texts};
 ghost use Rattle.cec_json.specs.declared.values.Code.TheVariants.{Char};

@@ -1,5 +1,5 @@
 //! Windows of expectations, and how many rounds were seen in them.
-ghost use Rattle.std.specs.Prelude.{◌≡◌, []};
+ghost use Rattle.std.specs.Prelude.{◌≡◌};
 ghost use Rattle.cec_json.specs.Progress.{WritesOn};
 ghost use Rattle.cec_report_json.specs.Window.{after_two, no_window_reported, seen_reported, window_reported};
 

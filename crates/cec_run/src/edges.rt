@@ -1,5 +1,5 @@
 //! From the texts of a topology and a script to the edges of their run.
-ghost use Rattle.std.specs.Prelude.{◌≡◌, ℕ, List, ◌↔◌, true, false, IfOk, IfErr, IsTrue};
+ghost use Rattle.std.specs.Prelude.{◌≡◌, ℕ, List, ◌↔◌, false, IfOk, IfErr, IsTrue};
 ghost use Rattle.std.specs.Io.KnownBytes.{Appends};
 ghost use Rattle.cec_run.specs.Emulate.{IsEdgeTraceOf, IsReported, IsEdgeCut, is_write};
 

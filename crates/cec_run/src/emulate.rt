@@ -1,5 +1,5 @@
 //! From the texts of a topology and a script to the trace of their run.
-ghost use Rattle.std.specs.Prelude.{◌≡◌, ℕ, List, ◌↔◌, true, false, IfOk, IfErr, IsTrue, option_map};
+ghost use Rattle.std.specs.Prelude.{◌≡◌, ℕ, List, ◌↔◌, false, IfOk, IfErr, IsTrue, option_map};
 ghost use Rattle.std.specs.Io.KnownBytes.{Appends};
 ghost use Rattle.cec_run.specs.declared.run.Reporting.TheVariants.{Trace};
 ghost use Rattle.cec_run.specs.Emulate.{IsTraceOf, IsReported, IsCut, is_write};

@@ -1,5 +1,5 @@
 //! A run of the network, and what it writes.
-ghost use Rattle.std.specs.Prelude.{◌≡◌, ℕ, ◌+◌, ◌++◌, ◌<◌, ◌≤◌, List, length, true, false, Some, IfOk, IfErr, OnOk, OnErr, All, Bool, Option};
+ghost use Rattle.std.specs.Prelude.{◌≡◌, ℕ, ◌+◌, ◌++◌, ◌<◌, ◌≤◌, List, length, true, Some, IfOk, IfErr, OnOk, OnErr, All, Option};
 ghost use Rattle.std.specs.List.{flat_map};
 ghost use Rattle.std.specs.Io.KnownBytes.{Appends};
 ghost use Rattle.cec_wave.specs.Bounds.{latest_event, latest_instant};

@@ -1,5 +1,5 @@
 -- What the next round of a network gives, where it was run already.
-use Rattle.std.proofs.Common.{◌≡◌, ℕ, ◌≤◌, ◌<◌, Bool, true, false, Option, Some, None, IsSome, IfSome, refl, sym, subst, ◌∙◌}
+use Rattle.std.proofs.Common.{◌≡◌, ℕ, ◌≤◌, Bool, false, Option, Some, None, IsSome, IfSome, refl, sym, subst}
 use Rattle.std.proofs.lemmas.Bool.{false≢true}
 use Rattle.cec_wave.specs.Line.{IsWave}
 use Rattle.cec_wire.specs.Round.{IsRound, close_in}

@@ -1,6 +1,6 @@
 //! The lines of a session that are no lines of a script.
 ghost use Rattle.std.specs.Prelude.{◌≡◌};
-ghost use Rattle.std.specs.Option.{option_copied, option_map};
+ghost use Rattle.std.specs.Option.{option_copied};
 ghost use Rattle.hdmi_core.specs.Words.{one_of, two_of, words_after};
 ghost use Rattle.cec_asm.specs.Script.{time_of};
 ghost use Rattle.cec_session.specs.Command.{command_of, run_words, show_words};

@@ -1,6 +1,5 @@
 //! A network, and the round that comes next on it.
-ghost use Rattle.std.specs.Prelude.{◌≡◌, ◌+◌, ◌≤◌, ◌<◌, [], length, slice_get, true, Some, None, Option, IfOk, IfSome, IsSome, MatchOption, MatchResult};
-ghost use Rattle.hdmi_blocks.specs.declared.edid.Edid.{Edid as EdidValue};
+ghost use Rattle.std.specs.Prelude.{◌≡◌, ◌≤◌, ◌<◌, [], length, slice_get, true, Some, None, Option, IfOk, IfSome, IsSome, MatchOption, MatchResult};
 ghost use Rattle.cec_wave.specs.Line.{IsWave};
 ghost use Rattle.cec_wave.specs.Bounds.{latest_instant};
 ghost use Rattle.cec_wire.specs.declared.Outcome.{Outcome as OutcomeValue};
@@ -9,7 +8,7 @@ ghost use Rattle.cec_net.specs.Added.{pulse_fault, with_pulse};
 ghost use Rattle.cec_net.specs.Apply.{event_fault, net_after};
 ghost use Rattle.cec_net.specs.Progress.{IsProgress};
 ghost use Rattle.cec_net.specs.State.{NetState, first_net, next_start};
-ghost use Rattle.cec_net.specs.Step.{IsNextRound, after_round};
+ghost use Rattle.cec_net.specs.Step.{IsNextRound};
 ghost use Rattle.cec_wire.specs.Round.{close_in};
 ghost use Rattle.hdmi_core.specs.Cut.{WrittenText};
 ghost use Rattle.hdmi_blocks.specs.Root.{HasAddress};

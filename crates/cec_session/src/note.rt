@@ -1,11 +1,11 @@
 //! A line of the script: what it says, and whether it comes too late.
-ghost use Rattle.std.specs.Prelude.{◌≡◌, ℕ, ◌||◌, ◌≤◌, ◌∷◌, [], drop, take, length, nat_lt, if◌then◌else◌, None, Result, Ok, MatchOption};
+ghost use Rattle.std.specs.Prelude.{◌≡◌, ◌||◌, ◌≤◌, [], drop, take, length, nat_lt, if◌then◌else◌, None, Result, Ok, MatchOption};
 ghost use Rattle.std.specs.List.{list_any};
 ghost use Rattle.cec_asm.specs.Script.{IsLineRead, Notes, notes_of};
 ghost use Rattle.cec_asm.specs.declared.fault.LineFault.{LineFault as LineFaultValue};
 ghost use Rattle.causal_laws.specs.Certain.{with_pulses};
 ghost use Rattle.cec_session.specs.Note.{Extends, IsSettled, refused_by};
-ghost use Rattle.cec_session.specs.Session.{Standing, ends_before, refuses_pulse};
+ghost use Rattle.cec_session.specs.Session.{ends_before, refuses_pulse};
 ghost use Rattle.cec_session.specs.declared.answer.Refusal.TheVariants.{Past};
 ghost use Rattle.cec_session.specs.declared.live.Step.TheVariants.{Refuse};
 

@@ -1,5 +1,5 @@
 //! Where a run stands, and its next round.
-ghost use Rattle.std.specs.Prelude.{◌≡◌, ℕ, ◌+◌, ◌++◌, ◌<◌, ◌≤◌, List, drop, length, MatchOption, IfSome, IsSome};
+ghost use Rattle.std.specs.Prelude.{◌≡◌, ℕ, ◌+◌, ◌++◌, ◌<◌, List, drop, length, MatchOption, IfSome, IsSome};
 ghost use Rattle.cec_net.specs.Underway.{OfRound, standing_reported};
 ghost use Rattle.cec_step_text.specs.EdgeText.{edge_line};
 ghost use Rattle.hdmi_core.specs.Cut.{WrittenText};

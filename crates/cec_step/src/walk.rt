@@ -1,5 +1,5 @@
 //! Where a run stands, and how its steps lead on.
-ghost use Rattle.std.specs.Prelude.{◌≡◌, ℕ, ◌++◌, Bool, List, Option, Result, Some, IsSome, length};
+ghost use Rattle.std.specs.Prelude.{◌≡◌, ℕ, Option, Result, Some, IsSome, length};
 ghost use Rattle.hdmi_core.specs.Cut.{WrittenText};
 ghost use Rattle.hdmi_blocks.specs.Root.{HasAddress};
 ghost use Rattle.cec_step.specs.Ready.{IsReady, point_of, run_of};
@@ -75,7 +75,7 @@ fn write_step<S: Sink>(
 }
 
 impl Walk {
-    ghost use Rattle.std.specs.Prelude.{◌||◌, ◌<◌, IfOk, IsTrue, MatchOption, is_some, slice_get};
+    ghost use Rattle.std.specs.Prelude.{◌||◌, ◌<◌, IfOk, IsTrue, MatchOption, is_some};
     ghost use Rattle.std.specs.Option.{option_map};
     ghost use Rattle.cec_asm.specs.Script.{IsScript, course_of};
     ghost use Rattle.hdmi_blocks.specs.declared.edid.Edid.{Edid};
@@ -83,7 +83,7 @@ impl Walk {
     ghost use Rattle.cec_net.specs.State.{first_net};
     ghost use Rattle.cec_step.specs.Over.{OverIf};
     ghost use Rattle.cec_step.specs.Ready.{Brings, IsFound, IsInside};
-    ghost use Rattle.cec_step.specs.Steps.{IsEdgeStep, IsNever, IsNoEdge, IsOver, IsRound, IsRoundStep, IsTaken, IsUntil, IsFirstStep, IsShown, Skips, after_round, begun_at, device_count, in_round, is_write, shown_net};
+    ghost use Rattle.cec_step.specs.Steps.{IsEdgeStep, IsNever, IsNoEdge, IsOver, IsRound, IsTaken, IsUntil, IsFirstStep, IsShown, Skips, after_round, begun_at, device_count, in_round, is_write, shown_net};
 
     // Stands after a round.
     fn stand_after(&mut self, after: &mut Box<Position>)

@@ -1,14 +1,13 @@
 -- Texts of steps (own): lines `edge`, `round`, `until opcode XX`, `until device NAME`, `until break`, `show NAME`. Of a line
 -- that is none, the word at fault is given: its number from 0; where one is missing, the number that it would have. A name is
 -- looked for where the words are as many as they should be.
-use Rattle.std.specs.Prelude.{◌≡◌, ℕ, ◌+◌, ◌-◌, ◌*◌, ◌&&◌, nat_le, if◌then◌else◌, codes, List, [], ◌∷◌, ◌++◌, Option, Some, None, Result, Ok, Err}
+use Rattle.std.specs.Prelude.{◌≡◌, ℕ, ◌+◌, ◌*◌, ◌&&◌, if◌then◌else◌, codes, List, [], ◌∷◌, ◌++◌, Option, Some, None, Result, Ok, Err}
 use Rattle.std.specs.Str.{bytes_eq}
 use Rattle.hdmi_core.specs.Phys.{digit_value, is_hex_digit}
 use Rattle.hdmi_topo.specs.Node.{Node}
 use Rattle.hdmi_topo.specs.Tree.{device_named}
 use Rattle.hdmi_core.specs.Lines.{lines_of, is_skipped}
 use Rattle.hdmi_core.specs.Words.{words_of}
-use Rattle.cec_step_text.specs.declared.break_at.Break.{Break}
 use Rattle.cec_step_text.specs.declared.break_at.Break.TheVariants.{Opcode, Device, AnyBreak}
 use Rattle.cec_step_text.specs.declared.commands.Command.{Command}
 use Rattle.cec_step_text.specs.declared.commands.Command.TheVariants.{Edge, Round, Until, Show}

@@ -1,5 +1,5 @@
 //! The round that is looked for.
-ghost use Rattle.std.specs.Prelude.{◌≡◌, ◌==◌, slice_get, option_map};
+ghost use Rattle.std.specs.Prelude.{◌≡◌, ◌==◌};
 ghost use Rattle.std.specs.List.{list_any};
 ghost use Rattle.cec_frame.specs.Blocks.{frame_in};
 ghost use Rattle.cec_step_text.specs.Stops.{has_opcode, stops};

@@ -1,7 +1,7 @@
 //! Texts of steps.
-ghost use Rattle.std.specs.Prelude.{◌≡◌, ◌+◌, ◌<◌, ◌≤◌, IfOk, IfErr, Ok, length};
+ghost use Rattle.std.specs.Prelude.{◌≡◌, ◌+◌, ◌<◌, IfOk, IfErr, Ok};
 ghost use Rattle.std.specs.Option.{option_copied};
-ghost use Rattle.hdmi_core.specs.Words.{words_after, words_of};
+ghost use Rattle.hdmi_core.specs.Words.{words_after};
 ghost use Rattle.cec_step_text.specs.Commands.{IsFault, byte_of, command_alone, command_of, commands_of, device_after, opcode_by, show_by, until_by, until_of, until_opcode};
 
 use crate::break_at::Break;

@@ -1,5 +1,5 @@
 //! The line of an edge.
-ghost use Rattle.std.specs.Prelude.{◌≡◌, ℕ, ◌≤◌, ◌∷◌, ◌++◌, [], codes, length};
+ghost use Rattle.std.specs.Prelude.{◌≡◌, ◌≤◌, ◌∷◌, ◌++◌, [], codes, length};
 ghost use Rattle.std.specs.List.{flat_map};
 ghost use Rattle.cec_bits.specs.Follows.{standing_by_code};
 ghost use Rattle.hdmi_core.specs.Cut.{WrittenText};

@@ -1,5 +1,5 @@
 //! Parts of a text, one written after another.
-ghost use Rattle.std.specs.Prelude.{◌≡◌, ℕ, Bool, List, ◌++◌, Option, Ok};
+ghost use Rattle.std.specs.Prelude.{ℕ, Bool, List, ◌++◌, Option, Ok};
 ghost use Rattle.hdmi_core.specs.Written.{WrittenLine};
 ghost use Rattle.hdmi_core.specs.Cut.{WrittenText};
 

@@ -1,8 +1,6 @@
 -- A script that is refused at an instant of its series.
-use Rattle.std.proofs.Common.{◌≡◌, ℕ, suc, ◌+◌, ◌-◌, ◌/◌, ◌<◌, ◌≤◌, Bool, List, [], ◌∷◌, ◌++◌, ap, sym, subst, ◌∙◌, arith}
-use Rattle.std.specs.List.{All}
+use Rattle.std.proofs.Common.{◌≡◌, ℕ, suc, ◌+◌, ◌-◌, ◌/◌, ◌<◌, ◌≤◌, Bool, List, [], ◌∷◌, ap, sym, subst, ◌∙◌, arith}
 use Rattle.std.proofs.lemmas.List.Elements.{All-nil}
-use Rattle.cec_check.specs.declared.checking.CheckError.{CheckError}
 use Rattle.cec_sweep.specs.Series.{Series, instants_from, instants_of}
 use Rattle.cec_sweep.specs.Stretches.{StretchesDraft}
 use Rattle.cec_sweep.specs.Sweep.{AreVerdictsAt, IsFirstRefusal, IsRefusalAt, IsSeriesReported}

@@ -1,5 +1,5 @@
 //! Where times stand in the lines of a script.
-ghost use Rattle.std.specs.Prelude.{◌≡◌, ◌||◌, if◌then◌else◌};
+ghost use Rattle.std.specs.Prelude.{◌≡◌, ◌||◌};
 ghost use Rattle.cec_sweep.specs.Places.{after_verb, after_window, is_time, is_time_verb, next_place};
 
 /// What a word of a line is, by the words before it.

@@ -1,6 +1,5 @@
 //! From the texts of a topology and a script with a range to the stretches of its instants.
-ghost use Rattle.std.specs.Prelude.{◌≡◌, ◌↔◌, ℕ, List, true, false, Ok, Some, IfOk, IfErr, IsTrue};
-ghost use Rattle.std.specs.List.{All};
+ghost use Rattle.std.specs.Prelude.{◌≡◌, ◌↔◌, false, Ok, Some, IfOk, IfErr, IsTrue};
 ghost use Rattle.cec_sweep.specs.Script.{range_of, script_at};
 ghost use Rattle.cec_sweep.specs.Stretches.{draft_as};
 ghost use Rattle.cec_sweep.specs.Sweep.{AreVerdictsAt, IsRefusalAt, IsSweepCut, IsSweepReported, IsSwept, IsSweptDraft, IsSeriesReported, is_write};

@@ -1,5 +1,5 @@
 //! The text of a reading.
-ghost use Rattle.std.specs.Prelude.{◌≡◌, ℕ, ◌+◌, ◌-◌, ◌<◌, ◌≤◌, ◌++◌, length, map, codes};
+ghost use Rattle.std.specs.Prelude.{◌≡◌, ◌+◌, ◌-◌, ◌<◌, ◌≤◌, ◌++◌, length, codes};
 ghost use Rattle.hdmi_core.specs.Written.{WrittenLine};
 ghost use Rattle.cec_text.specs.ReadingText.{bit_digit, bits_text, ending_text, is_broadcast, last_bit, reading_line, reading_text_of, reported_frame, reported_text, verdict_by, verdict_text};
 

@@ -1,5 +1,5 @@
 -- The low stretches of a captured line, edge by edge (own: an edge is a fall or a rise in a whole microsecond).
-use Rattle.std.specs.Prelude.{ℕ, ◌-◌, nat_lt, if◌then◌else◌, List, [], ◌∷◌, take, Option, Some, None}
+use Rattle.std.specs.Prelude.{ℕ, nat_lt, if◌then◌else◌, List, [], ◌∷◌, take, Option, Some, None}
 use Rattle.cec_wave.specs.declared.Edge.{Edge}
 use Rattle.cec_timing.specs.declared.low.Low.{Low}
 use Rattle.cec_timing.specs.declared.cursor.Cursor.{Cursor}

@@ -1,6 +1,6 @@
 -- Which widths of a reading are out of their windows (CEC 5.2.1: start bit; 5.2.2: data bits; 7.4: the low drive that
 -- breaks a message, 1.4 to 1.6 nominal bit periods). Widths in microseconds.
-use Rattle.std.specs.Prelude.{ℕ, ◌+◌, ◌-◌, ◌==◌, Bool, true, false, not, nat_lt, nat_le, ◌&&◌, if◌then◌else◌, List, length, slice_index_or, Option, Some, None}
+use Rattle.std.specs.Prelude.{ℕ, ◌-◌, ◌==◌, Bool, true, false, not, nat_lt, nat_le, ◌&&◌, if◌then◌else◌, List, length, slice_index_or, Option, Some, None}
 use Rattle.cec_frame.specs.declared.Ending.{Ending}
 use Rattle.cec_frame.specs.declared.Ending.TheVariants.{Complete, Short, Long}
 use Rattle.cec_timing.specs.declared.low.Low.{Low as LowOf}

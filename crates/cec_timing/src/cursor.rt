@@ -1,6 +1,6 @@
 //! A place among the edges of a capture.
 ghost use Rattle.std.specs.Prelude.{◌≡◌};
-ghost use Rattle.cec_timing.specs.Lows.{EdgePosition, gone_to, place_of, place_at};
+ghost use Rattle.cec_timing.specs.Lows.{gone_to, place_of, place_at};
 
 use cec_wave::Edge;
 

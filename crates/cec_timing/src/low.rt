@@ -1,5 +1,5 @@
 //! The low stretches of a captured line.
-ghost use Rattle.std.specs.Prelude.{◌≡◌, ◌-◌, ◌≤◌, ◌++◌, length, take};
+ghost use Rattle.std.specs.Prelude.{◌≡◌, ◌-◌, ◌++◌, length, take};
 ghost use Rattle.cec_timing.specs.Lows.{first_low, low_at, lows_before, lows_in};
 
 use arrayvec::ArrayVec;

@@ -1,6 +1,6 @@
 //! Which widths are out of their windows.
-ghost use Rattle.std.specs.Prelude.{◌≡◌, ◌+◌, ◌-◌, ◌<◌, ◌≤◌, length};
-ghost use Rattle.cec_timing.specs.Misfits.{drive_by, fits, has_all, is_total, low_by, low_drive, low_misfit, low_window, misfit_of, slot_bit, total_by, total_misfit, total_window};
+ghost use Rattle.std.specs.Prelude.{◌≡◌, ◌-◌, ◌<◌};
+ghost use Rattle.cec_timing.specs.Misfits.{fits, has_all, is_total, low_drive, low_misfit, low_window, misfit_of, slot_bit, total_misfit, total_window};
 
 use crate::low::Low;
 use cec_frame::Ending;

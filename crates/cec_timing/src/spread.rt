@@ -1,6 +1,6 @@
 //! The least, greatest and mean of widths.
-ghost use Rattle.std.specs.Prelude.{◌≡◌, ◌+◌, ◌-◌, ◌<◌, ◌≤◌, length, min};
-ghost use Rattle.cec_timing.specs.Spreads.{no_widths, none, total_to, width_to, with_low, with_slot, with_slots, with_some, with_total, with_width};
+ghost use Rattle.std.specs.Prelude.{◌≡◌, ◌+◌, ◌-◌, ◌<◌, length, min};
+ghost use Rattle.cec_timing.specs.Spreads.{no_widths, total_to, width_to, with_low, with_slot, with_slots, with_some, with_total, with_width};
 
 use crate::low::Low;
 use crate::misfit::{is_total, slot_bit};

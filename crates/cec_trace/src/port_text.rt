@@ -1,5 +1,5 @@
 //! The lines of ports.
-ghost use Rattle.std.specs.Prelude.{◌≡◌, ℕ, ◌+◌, ◌<◌, ◌≤◌, List, length, IsSome, map, slice_index_or, true, false};
+ghost use Rattle.std.specs.Prelude.{◌≡◌, ℕ, ◌+◌, ◌<◌, ◌≤◌, length, IsSome, slice_index_or, false};
 ghost use Rattle.std.specs.List.{flat_map, range_with_len};
 ghost use Rattle.hdmi_blocks.specs.Address.{edid_address};
 ghost use Rattle.hdmi_topo.specs.Path.{is_on_wire};

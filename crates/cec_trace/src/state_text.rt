@@ -1,9 +1,8 @@
 //! The line that reports the state of a device.
-ghost use Rattle.std.specs.Prelude.{◌≡◌, ℕ, ◌<◌, ◌≤◌, ◌∷◌, [], length, Some, None};
-ghost use Rattle.std.specs.List.{flat_map};
-ghost use Rattle.hdmi_core.specs.Piece.{phys_text, dash_or};
+ghost use Rattle.std.specs.Prelude.{◌≡◌, ◌<◌, ◌∷◌, [], Some, None};
+ghost use Rattle.hdmi_core.specs.Piece.{dash_or};
 ghost use Rattle.hdmi_core.specs.Written.{WrittenLine};
-ghost use Rattle.cec_trace.specs.StateText.{address_text, held_text, note_text, outside_line, outside_line_of, phys_on, power_text, state_line, state_line_of, unit_text};
+ghost use Rattle.cec_trace.specs.StateText.{address_text, held_text, note_text, outside_line_of, phys_on, power_text, state_line, state_line_of, unit_text};
 
 use arrayvec::ArrayVec;
 use cec_device::{Device, Note, Port};

@@ -1,6 +1,5 @@
 //! A reader of a dump, word by word.
-ghost use Rattle.std.specs.Prelude.{◌≡◌, ℕ, ◌+◌, ◌<◌, ◌≤◌, false, length, slice_index, Option, None};
-ghost use Rattle.std.specs.Option.{option_map};
+ghost use Rattle.std.specs.Prelude.{◌≡◌, ◌<◌, false, slice_index, Option, None};
 ghost use Rattle.cec_vcd.specs.Dump.{is_high, is_binary, is_other_value, is_mark, vector_value};
 
 use crate::scale::{Count, Scale, counted_word, instant_of, unit_of};
@@ -119,7 +118,7 @@ pub struct Reader<'a> {
 }
 
 impl<'a> Reader<'a> {
-    ghost use Rattle.cec_vcd.specs.Dump.{Takes, first_state, after_name, change, definition, free, in_field, in_section, keyword, after_mark, end_of_definitions, scalar, scale_begun, scale_made, state_of_reader, after_time, took, after_value};
+    ghost use Rattle.cec_vcd.specs.Dump.{Takes, first_state, after_name, change, definition, free, in_field, in_section, keyword, end_of_definitions, scalar, scale_begun, scale_made, state_of_reader, after_time, took, after_value};
     ghost use Rattle.cec_vcd.specs.Scale.{counted_word};
     ghost use Rattle.cec_signal.specs.Track.{last_edge};
 

@@ -1,6 +1,5 @@
 //! From a dump to the edges of a line.
-ghost use Rattle.std.specs.Prelude.{◌≡◌, ℕ, ◌+◌, ◌++◌, ◌<◌, List, length, MatchResult};
-ghost use Rattle.cec_wave.specs.declared.Edge.{Edge as EdgeOf};
+ghost use Rattle.std.specs.Prelude.{◌+◌, ◌<◌};
 ghost use Rattle.cec_vcd.specs.Dump.{edges_in, parts_of, state_of_reader, words_passed};
 ghost use Rattle.cec_vcd.specs.Reading.{Gives, GivesEdges, PassesLine};
 

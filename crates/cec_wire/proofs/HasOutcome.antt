@@ -1,5 +1,5 @@
 -- A round has an outcome: its reading ends, its line is high after that, and what was heard of it by then is all of it.
-use Rattle.std.proofs.Common.{◌≡◌, ℕ, ◌+◌, ◌-◌, ◌<◌, ◌≤◌, Bool, true, false, ◌&&◌, ◌||◌, nat_lt, List, Option, Some, None, is_some, inl, inr, refl, sym, ap, ◌∙◌, subst, arith}
+use Rattle.std.proofs.Common.{◌≡◌, ℕ, ◌+◌, ◌-◌, ◌≤◌, Bool, true, false, ◌&&◌, ◌||◌, nat_lt, List, Option, Some, None, is_some, inl, inr, refl, sym, ap, ◌∙◌, subst, arith}
 use Rattle.std.proofs.Math.Path.{fun_ext}
 use Rattle.std.proofs.lemmas.Bool.{cases_lt}
 use Rattle.cec_wave.specs.declared.Stretch.{Stretch}
@@ -11,9 +11,9 @@ use Rattle.cec_wire.specs.declared.Outcome.{Outcome}
 use Rattle.cec_wire.specs.declared.hearing.Ended.{Ended}
 use Rattle.cec_wire.specs.declared.hearing.Stage.{Stage}
 use Rattle.cec_wire.specs.declared.hearing.Stage.TheVariants.{StartLow, StartHigh, InSlot, Over}
-use Rattle.cec_wire.specs.Round.{IsRound, IsRoundLine, rest_of, survivors_from, losers_from}
+use Rattle.cec_wire.specs.Round.{IsRoundLine, rest_of, survivors_from, losers_from}
 use Rattle.cec_wire.specs.Edges.{Heard, heard_of}
-use Rattle.cec_wire.specs.OneOutcome.{HasOutcome, RoundsHaveOutcomes}
+use Rattle.cec_wire.specs.OneOutcome.{RoundsHaveOutcomes}
 use Rattle.cec_wire.proofs.Bounds.{rounds_are_short}
 use Rattle.cec_wire.proofs.Between.{heard_stands}
 use Rattle.cec_wire.proofs.Exists.{made_line, made_round}

@@ -1,6 +1,6 @@
 //! Followers: who acknowledges a block (the acknowledge bit, CEC 6.1), who answers a fall too early with a low drive (line
 //! error handling, CEC 7.4), and for how long.
-ghost use Rattle.std.specs.Prelude.{◌≡◌, ◌+◌, ◌%◌, ◌==◌, ◌<◌, ◌≤◌, ◌&&◌, not, length, if◌then◌else◌};
+ghost use Rattle.std.specs.Prelude.{◌≡◌, ◌+◌, ◌%◌, ◌==◌, ◌<◌, ◌≤◌, ◌&&◌, length};
 ghost use Rattle.std.specs.List.{list_any};
 ghost use Rattle.cec_wave.specs.Bounds.{latest_heard};
 ghost use Rattle.cec_bits.specs.Sending.{destination};

@@ -1,7 +1,6 @@
 //! What was heard of a round's line, microsecond by microsecond.
-ghost use Rattle.std.specs.Prelude.{◌≡◌, ◌+◌, ◌<◌, ◌≤◌, ◌++◌, ◌&&◌, not, true, length};
+ghost use Rattle.std.specs.Prelude.{◌≡◌, ◌+◌, ◌<◌, ◌≤◌, ◌&&◌};
 ghost use Rattle.cec_wave.specs.Bounds.{latest_begin, latest_heard};
-ghost use Rattle.cec_bits.specs.Reading.{last_ending};
 
 use arrayvec::ArrayVec;
 use cec_bits::ending_of;
@@ -28,7 +27,7 @@ pub enum Stage {
     Over(Ended),
 }
 
-ghost use Rattle.cec_wire.specs.Machine.{after_start_low, after_start_high, after_last_slot, after_other_slot, next_place, samples, bit_reported};
+ghost use Rattle.cec_wire.specs.Machine.{after_start_low, after_start_high, after_last_slot, after_other_slot, next_place, samples};
 
 fn over(ending: Ending, at: u64, until: u64) -> Stage
     ensures { result ≡ Stage.Over (record { ending = ending; at = at; until = until }) }

@@ -1,5 +1,5 @@
 //! The wave of a line, recorded microsecond by microsecond.
-ghost use Rattle.std.specs.Prelude.{◌≡◌, ◌<◌, ◌≤◌, length, None, is_some, []};
+ghost use Rattle.std.specs.Prelude.{◌≡◌, ◌<◌, length, None, is_some, []};
 
 use cec_wave::{Stretch, Wave};
 

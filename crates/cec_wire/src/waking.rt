@@ -4,7 +4,7 @@ ghost use Rattle.cec_wave.specs.Line.{line_of};
 ghost use Rattle.cec_wave.specs.Sender.{sender_stretches};
 ghost use Rattle.cec_wave.specs.Bounds.{latest_begin, latest_heard};
 ghost use Rattle.cec_frame.specs.Bits.{frame_bits};
-ghost use Rattle.cec_wire.specs.Edges.{part_left, sender_part, part_of, next_part, next_due, sooner, if_later, first_end, begin_of, wake_after, sends_low, is_pulling, IsPull, IsTimely};
+ghost use Rattle.cec_wire.specs.Edges.{part_left, sender_part, next_due, sooner, if_later, first_end, begin_of, wake_after, sends_low, is_pulling, IsPull, IsTimely};
 
 use crate::Seat;
 use crate::hearing::Stage;

@@ -1,5 +1,5 @@
 //! What pulls the line, by itself.
-ghost use Rattle.std.specs.Prelude.{◌≡◌, ◌+◌, ◌<◌, ◌≤◌, ◌∷◌, ◌++◌, [], length};
+ghost use Rattle.std.specs.Prelude.{◌≡◌, ◌+◌, ◌<◌, ◌∷◌, ◌++◌, [], length};
 
 use arrayvec::ArrayVec;
 use cec_wave::Stretch;

@@ -1,23 +1,22 @@
 -- The stretches of a follower are what it pulls in acknowledge slots.
-use Rattle.std.proofs.Common.{◌≡◌, ℕ, zero, suc, ◌+◌, ◌-◌, ◌*◌, ◌/◌, ◌%◌, ◌==◌, ◌<◌, ◌≤◌, Bool, true, false, not, ◌&&◌, ◌||◌, nat_lt, nat_le, if◌then◌else◌, List, [], ◌∷◌, ◌++◌, length, length-append, slice_get, slice_index_or, option_map, inl, inr, Option, Some, None, is_none, Result, Ok, Err, refl, arith, ap, ap₂, ◌∙◌, sym, subst}
-use Rattle.std.specs.List.{list_any, enumerate_from, filter_map, flat_map, cons_option, find, range_with_len}
+use Rattle.std.proofs.Common.{◌≡◌, ℕ, zero, suc, ◌+◌, ◌-◌, ◌*◌, ◌/◌, ◌%◌, ◌==◌, ◌<◌, ◌≤◌, Bool, true, false, not, ◌&&◌, ◌||◌, nat_lt, nat_le, if◌then◌else◌, List, [], ◌∷◌, ◌++◌, length, length-append, slice_get, slice_index_or, option_map, inl, inr, Option, Some, None, Result, Ok, Err, refl, arith, ap, ap₂, ◌∙◌, sym, subst}
+use Rattle.std.specs.List.{list_any, enumerate_from, flat_map, range_with_len}
 use Rattle.std.specs.Option.{option_to_list}
 use mathlib.Core.Bool.{beq}
 use Rattle.std.proofs.lemmas.Bool.{cases_lt}
 use Rattle.std.proofs.lemmas.Bool.Decides.{nat_tests}
-use Rattle.cec_wave.specs.declared.Stretch.{Stretch}
 use Rattle.cec_wave.specs.Line.{Line, covers, line_of}
 use Rattle.cec_frame.specs.Bits.{frame_bits}
 use Rattle.cec_bits.specs.declared.After.{After}
 use Rattle.cec_bits.specs.declared.After.TheVariants.{Next, Ends}
-use Rattle.cec_bits.specs.Reading.{Known, Slot, known_at, known_slot, known_slots, reading_of, read_start, read_slots, read_on, after_slot, last_ending, bit_sampled_at, start_of, bits_of}
-use Rattle.cec_bits.specs.Sending.{bit_read, destination, known_bits, is_whole, is_out_by, out_slot}
+use Rattle.cec_bits.specs.Reading.{Known, Slot, known_at, known_slot, known_slots, reading_of, read_start, read_slots, read_on, after_slot, last_ending, bit_sampled_at, start_of}
+use Rattle.cec_bits.specs.Sending.{bit_read, destination, known_bits, is_whole, is_out_by}
 use Rattle.cec_wire.specs.declared.Seat.{Seat}
 use Rattle.cec_wire.specs.declared.Outcome.{Outcome}
-use Rattle.cec_wire.specs.Round.{acknowledges, all_known, is_acknowledged, is_held, is_not_before, out_of, sends_in}
+use Rattle.cec_wire.specs.Round.{acknowledges, all_known, is_acknowledged, is_held, out_of, sends_in}
 use Rattle.cec_wire.specs.Contend.{leaves}
-use Rattle.cec_wire.proofs.Early.{destination_more, leaves_more, or_cases, and_left, and_right}
-use Rattle.cec_wire.proofs.Spans.{AreSpaced, MoreBits, bits_more, reading_spans}
+use Rattle.cec_wire.proofs.Early.{destination_more, leaves_more, and_left, and_right}
+use Rattle.cec_wire.proofs.Spans.{AreSpaced, bits_more, reading_spans}
 use Rattle.cec_drives.specs.Stretches.{ack_by, ack_in, ack_stretches, acknowledges_in, goes_to, slot_fall, stretch}
 use Rattle.drive_laws.proofs.Sent.{FrontReported, all_bits, bits_at, found_before, front_reported, known_after, one_known, spaced_get}
 use Rattle.drive_laws.proofs.Slots.{falls_at}

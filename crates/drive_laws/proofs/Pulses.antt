@@ -1,6 +1,6 @@
 -- The pulses that begin in a round are what pulses pull by the rule of a round.
-use Rattle.std.proofs.Common.{◌≡◌, ℕ, zero, suc, ◌+◌, ◌-◌, ◌<◌, ◌≤◌, Bool, true, false, ◌&&◌, ◌||◌, nat_lt, nat_le, if◌then◌else◌, List, [], ◌∷◌, fold, filter, ◌⊎◌, inl, inr, Option, Some, None, refl, arith, ap, ◌∙◌, sym, subst}
-use Rattle.std.specs.List.{All, list_any}
+use Rattle.std.proofs.Common.{◌≡◌, ℕ, zero, suc, ◌+◌, ◌-◌, ◌<◌, ◌≤◌, Bool, true, false, ◌&&◌, ◌||◌, nat_lt, nat_le, if◌then◌else◌, List, [], ◌∷◌, fold, filter, ◌⊎◌, inl, inr, Option, Some, None, refl, arith, ap, ◌∙◌, sym}
+use Rattle.std.specs.List.{list_any}
 use Rattle.std.proofs.lemmas.Bool.{cases_lt}
 use Rattle.std.proofs.lemmas.Bool.Decides.{nat_tests}
 use Rattle.cec_wave.specs.declared.Stretch.{Stretch}
@@ -11,7 +11,7 @@ use Rattle.cec_wire.specs.declared.Seat.{Seat}
 use Rattle.cec_wire.specs.declared.Outcome.{Outcome}
 use Rattle.cec_wire.specs.Bounds.{begun_within}
 use Rattle.cec_wire.specs.Contend.{AreFrames}
-use Rattle.cec_wire.specs.Round.{is_within, is_pulled, pulse_pulls, rest_of, winning_frames, is_acknowledged, is_broken, IsRound}
+use Rattle.cec_wire.specs.Round.{is_within, pulse_pulls, winning_frames, is_acknowledged, is_broken, IsRound}
 use Rattle.cec_bits.specs.Sending.{sender_pulls}
 use Rattle.cec_wire.proofs.Bounds.{rounds_are_short}
 use Rattle.cec_wire.proofs.Differ.{In, any_in}

@@ -1,8 +1,6 @@
 -- The stretches of a seat are what it pulls by the rule of a round.
-use Rattle.std.proofs.Common.{◌≡◌, ℕ, zero, suc, ◌+◌, ◌-◌, ◌*◌, ◌/◌, ◌%◌, ◌==◌, ◌<◌, ◌≤◌, Bool, true, false, not, ◌&&◌, ◌||◌, nat_lt, nat_le, if◌then◌else◌, min, List, [], ◌∷◌, ◌++◌, length, length-append, slice_get, slice_index_or, option_map, inl, inr, Option, Some, None, is_none, refl, arith, ap, ap₂, ◌∙◌, sym, subst}
-use Rattle.std.specs.List.{list_any, enumerate_from, filter_map, flat_map, cons_option, find, range_with_len}
-use mathlib.Core.Bool.{beq}
-use Rattle.std.proofs.lemmas.Bool.{cases_lt}
+use Rattle.std.proofs.Common.{◌≡◌, ℕ, ◌+◌, ◌-◌, ◌<◌, ◌≤◌, Bool, true, false, not, ◌&&◌, ◌||◌, nat_lt, nat_le, if◌then◌else◌, min, List, [], ◌∷◌, length, Option, Some, None, refl, arith, ap, ap₂, ◌∙◌, sym}
+use Rattle.std.specs.List.{list_any, cons_option}
 use Rattle.std.proofs.lemmas.Bool.Decides.{nat_tests}
 use Rattle.cec_wave.specs.declared.Stretch.{Stretch}
 use Rattle.cec_wave.specs.Line.{Line, covers, line_of}
@@ -10,16 +8,14 @@ use Rattle.cec_wave.specs.Sender.{sender_stretches}
 use Rattle.cec_frame.specs.Bits.{frame_bits}
 use Rattle.cec_frame.specs.declared.Ending.{Ending}
 use Rattle.cec_frame.specs.declared.Ending.TheVariants.{Complete, Short, Silent, BadStart, Long, Open}
-use Rattle.cec_bits.specs.Reading.{Read, End, Known, Slot, known_at, known_slot, known_slots, reading_of, bits_of}
-use Rattle.cec_bits.specs.Sending.{bit_read, destination, known_bits, is_whole, is_out_by, out_slot, sender_pulls}
+use Rattle.cec_bits.specs.Reading.{End, Known, known_at, reading_of, bits_of}
+use Rattle.cec_bits.specs.Sending.{known_bits, out_slot, sender_pulls}
 use Rattle.cec_wire.specs.declared.Seat.{Seat}
 use Rattle.cec_wire.specs.declared.Outcome.{Outcome}
-use Rattle.cec_wire.specs.Round.{acknowledges, all_known, frames_of, is_acknowledged, is_broken, is_held, is_not_before, out_of, sends_in}
-use Rattle.cec_wire.specs.Contend.{leaves}
-use Rattle.cec_wire.proofs.Early.{destination_more, leaves_more, or_cases, and_left, and_right}
-use Rattle.cec_wire.proofs.Spans.{AreSpaced, MoreBits, bits_more, reading_spans}
-use Rattle.cec_drives.specs.Stretches.{ack_by, ack_in, ack_stretches, acknowledges_in, break_stretches, breaks_off, cut_after, goes_to, is_short, last_pull, sample_by, sent_stretches, slot_fall, stretch}
-use Rattle.drive_laws.proofs.Sent.{FrontReported, all_bits, bits_at, found_before, front_reported, known_after, last_by, one_known, out_slot_of, stops}
+use Rattle.cec_wire.specs.Round.{all_known, is_broken, out_of, sends_in}
+use Rattle.cec_wire.proofs.Spans.{reading_spans}
+use Rattle.cec_drives.specs.Stretches.{break_stretches, breaks_off, cut_after, goes_to, is_short, last_pull, sample_by, sent_stretches, slot_fall, stretch}
+use Rattle.drive_laws.proofs.Sent.{all_bits, known_after, last_by, out_slot_of, stops}
 use Rattle.drive_laws.proofs.Slots.{falls_at}
 
 -- what an outcome reports of its reading

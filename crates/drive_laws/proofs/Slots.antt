@@ -1,5 +1,5 @@
 -- The slots of a reading fall where the low stretches after the start bit's begin, up to the reading's end.
-use Rattle.std.proofs.Common.{◌≡◌, ℕ, zero, suc, ◌+◌, ◌-◌, ◌==◌, ◌<◌, ◌≤◌, Bool, true, false, not, ◌&&◌, ◌||◌, nat_lt, nat_le, if◌then◌else◌, List, [], ◌∷◌, ◌++◌, map, slice_get, option_map, inl, inr, Option, Some, None, Result, Ok, Err, refl, arith, ap, ap₂, ◌∙◌, sym, subst}
+use Rattle.std.proofs.Common.{◌≡◌, ℕ, zero, suc, ◌+◌, ◌-◌, ◌==◌, ◌<◌, ◌≤◌, Bool, true, false, ◌||◌, nat_lt, if◌then◌else◌, List, [], ◌∷◌, ◌++◌, slice_get, option_map, inl, inr, Option, Some, None, Result, Ok, Err, refl, arith, ap, ◌∙◌, sym, subst}
 use Rattle.std.specs.List.{list_any}
 use Rattle.std.specs.Option.{option_to_list}
 use Rattle.std.proofs.lemmas.Bool.{cases_lt}
@@ -7,7 +7,7 @@ use Rattle.std.proofs.lemmas.Bool.Decides.{nat_tests}
 use Rattle.cec_wave.specs.declared.Stretch.{Stretch}
 use Rattle.cec_wave.specs.Line.{Line, is_fall, is_rise, line_of, IsWaveFrom}
 use Rattle.cec_frame.specs.declared.Ending.{Ending}
-use Rattle.cec_frame.specs.declared.Ending.TheVariants.{Short, Silent}
+use Rattle.cec_frame.specs.declared.Ending.TheVariants.{Short}
 use Rattle.cec_bits.specs.declared.After.{After}
 use Rattle.cec_bits.specs.declared.After.TheVariants.{Next, Ends}
 use Rattle.cec_bits.specs.Reading.{Slot, reading_of, read_start, read_slots, read_on, start_of, start_rise, start_fall, next_rise, next_fall, after_slot, after_fall, after_last, last_ending, bit_sampled_at}

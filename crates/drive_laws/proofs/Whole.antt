@@ -1,26 +1,22 @@
 -- The line of a round is low exactly where one of its drives is.
-use Rattle.std.proofs.Common.{◌≡◌, ℕ, zero, suc, ◌+◌, ◌-◌, ◌==◌, ◌<◌, ◌≤◌, Bool, true, false, ◌&&◌, ◌||◌, nat_lt, nat_le, if◌then◌else◌, List, [], ◌∷◌, ◌++◌, slice_get, inl, inr, Option, Some, None, refl, arith, ap, ap₂, ◌∙◌, sym, subst}
-use Rattle.std.specs.List.{list_any, cons_option}
+use Rattle.std.proofs.Common.{◌≡◌, ℕ, zero, suc, ◌+◌, ◌-◌, ◌==◌, ◌<◌, ◌≤◌, Bool, true, false, ◌||◌, if◌then◌else◌, List, [], ◌∷◌, ◌++◌, slice_get, inl, inr, Option, Some, None, refl, arith, ap, ap₂, ◌∙◌, sym, subst}
+use Rattle.std.specs.List.{list_any}
 use Rattle.std.proofs.lemmas.Bool.{cases_lt}
 use Rattle.std.proofs.lemmas.Bool.Decides.{nat_tests}
 use Rattle.cec_wave.specs.declared.Stretch.{Stretch}
 use Rattle.cec_wave.specs.Line.{Line, covers, line_of, IsWave}
-use Rattle.cec_wave.specs.Pulses.{AreSparse}
-use Rattle.cec_bits.specs.Reading.{Read, known_at, reading_of, start_of}
-use Rattle.cec_bits.specs.Sending.{sender_pulls}
+use Rattle.cec_bits.specs.Reading.{Read, reading_of, start_of}
 use Rattle.cec_bits.proofs.Waves.{quiet}
 use Rattle.cec_wire.specs.declared.Loser.{Loser}
 use Rattle.cec_wire.specs.declared.Seat.{Seat}
 use Rattle.cec_wire.specs.declared.Outcome.{Outcome}
 use Rattle.cec_wire.specs.Bounds.{begun_within}
-use Rattle.cec_wire.specs.Contend.{AreFrames}
-use Rattle.cec_wire.specs.Lasting.{is_begun}
-use Rattle.cec_wire.specs.Round.{is_acknowledged, is_broken, lost_at, losers_from, out_in, out_of, IsRound}
+use Rattle.cec_wire.specs.Round.{lost_at, losers_from, out_in, out_of}
 use Rattle.cec_wire.proofs.Lasting.{begun_by, contended, low_at_begin}
 use Rattle.cec_wire.proofs.OneOutcome.{covers_own}
 use Rattle.cec_wire.proofs.Still.{high_before}
-use Rattle.cec_drives.specs.Drives.{pulse_line, seat_line}
-use Rattle.cec_drives.specs.Stretches.{ack_stretches, break_stretches, drives_from, drives_of, fall_by, seat_stretches, seat_stretches_by, sent_stretches, slot_fall}
+use Rattle.cec_drives.specs.Drives.{seat_line}
+use Rattle.cec_drives.specs.Stretches.{ack_stretches, break_stretches, drives_from, fall_by, seat_stretches_by, sent_stretches, slot_fall}
 use Rattle.cec_drives.proofs.Driven.{lines_are_driven}
 use Rattle.drive_laws.specs.DriveLaws.{DrivesAreTheLine}
 use Rattle.drive_laws.proofs.Acks.{ack_line, any_append}

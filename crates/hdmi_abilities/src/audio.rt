@@ -1,9 +1,9 @@
 //! What the bytes of an audio data block mean.
-ghost use Rattle.std.specs.Prelude.{◌≡◌, ◌≤◌, ◌+◌, ◌*◌, ◌++◌, length, map, flat_map, codes};
+ghost use Rattle.std.specs.Prelude.{◌≡◌, ◌≤◌, ◌+◌, ◌*◌, ◌++◌, length, flat_map, codes};
 ghost use Rattle.hex.specs.Hex.{encode_lower};
 ghost use Rattle.arrayvec.specs.ArrayVec.{array_vec_len};
-ghost use Rattle.hdmi_meaning.specs.Notes.{own_line, row_in_code};
-ghost use Rattle.hdmi_abilities.specs.Audio.{format_number, extension_number, format_name, extension_name, audio_name, channel_count, channels_text, rate_rows, rates_text, size_rows, sizes_text, bit_rate_text, other_text, has_sizes, third_text, audio_text, audio_meanings};
+ghost use Rattle.hdmi_meaning.specs.Notes.{own_line};
+ghost use Rattle.hdmi_abilities.specs.Audio.{format_number, format_name, extension_name, audio_name, channel_count, channels_text, rates_text, sizes_text, bit_rate_text, other_text, has_sizes, third_text, audio_text, audio_meanings};
 
 use arrayvec::ArrayVec;
 use hdmi_edid::append;

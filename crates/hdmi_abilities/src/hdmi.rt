@@ -2,7 +2,7 @@
 ghost use Rattle.std.specs.Prelude.{◌≡◌, ◌≤◌, ◌<◌, ◌+◌, ◌*◌, ◌++◌, length, drop, map, flat_map};
 ghost use Rattle.arrayvec.specs.ArrayVec.{array_vec_len};
 ghost use Rattle.hdmi_meaning.specs.Notes.{own_line, when, set_words};
-ghost use Rattle.hdmi_abilities.specs.Hdmi.{depth_rows, also_text, depth_text, tmds_text, content_rows, capability_words, capability_meanings, latency_text, named_latency, latency_words, latency_meanings, interlaced_place, video_place, same_code, hdmi_text, image_text, video_words, structure_rows, structure_bits, has_structures, left_meanings, structure_line, structure_meanings, stereo_meanings, code_meanings, flag_part, code_part, stereo_part, video_meanings, after_meanings, presence_of, plain_latencies, interlaced_latencies, video_part, hdmi_meanings};
+ghost use Rattle.hdmi_abilities.specs.Hdmi.{also_text, depth_text, tmds_text, content_rows, capability_words, capability_meanings, latency_text, named_latency, latency_words, latency_meanings, same_code, hdmi_text, image_text, video_words, structure_rows, structure_bits, has_structures, left_meanings, structure_line, structure_meanings, stereo_meanings, code_meanings, flag_part, code_part, stereo_part, video_meanings, after_meanings, plain_latencies, interlaced_latencies, video_part, hdmi_meanings};
 
 use arrayvec::ArrayVec;
 use hdmi_edid::append;

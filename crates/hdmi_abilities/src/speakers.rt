@@ -1,5 +1,5 @@
 //! What the bytes of a speaker allocation data block mean.
-ghost use Rattle.std.specs.Prelude.{◌≡◌, ◌≤◌, ◌<◌, ◌+◌, ◌*◌, ◌++◌, length, flat_map};
+ghost use Rattle.std.specs.Prelude.{◌≡◌, ◌≤◌, ◌+◌, ◌*◌, ◌++◌, length, flat_map};
 ghost use Rattle.arrayvec.specs.ArrayVec.{array_vec_len};
 ghost use Rattle.hdmi_meaning.specs.Notes.{own_line, set_words};
 ghost use Rattle.hdmi_abilities.specs.Speakers.{speaker_rows, speaker_bits, speaker_words, speaker_meanings};

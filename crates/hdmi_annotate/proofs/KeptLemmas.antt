@@ -1,5 +1,5 @@
 -- The lines of the text that do not begin with a space are those of the EDID's text.
-use Rattle.std.proofs.Common.{◌≡◌, ℕ, ◌==◌, Bool, true, false, ◌≤◌, ◌&&◌, not, nat_le, cond, arith, List, [], ◌∷◌, ◌++◌, map, filter, flat_map, ap, refl, sym, ◌∙◌, append_assoc}
+use Rattle.std.proofs.Common.{◌≡◌, ℕ, ◌==◌, Bool, true, false, ◌≤◌, ◌&&◌, not, nat_le, cond, arith, List, [], ◌∷◌, ◌++◌, map, filter, flat_map, ap, refl, ◌∙◌, append_assoc}
 use Rattle.std.proofs.lemmas.Bool.{leb-true}
 use borrow.Author.Tests.{tests}
 use Rattle.hdmi_lines.specs.Text.{word_text, fields_text, line_text}
@@ -12,7 +12,7 @@ use Rattle.hdmi_edtext.specs.Lines.{edid_lines, edid_text}
 use Rattle.hdmi_edtext.proofs.CutTexts.{line_split, one_line_of}
 use Rattle.hdmi_edtext.proofs.Good.{has_no_feed, Good, EachGood, edid_good}
 use Rattle.hdmi_meaning.specs.Notes.{printable, own_line}
-use Rattle.hdmi_annotate.specs.Meanings.{is_plain, plain_text, meanings, line_with_meaning}
+use Rattle.hdmi_annotate.specs.Meanings.{is_plain, plain_text, meanings}
 use Rattle.hdmi_annotate.specs.EdidMeaning.{meaning_of}
 
 -- ---- a line below has no line feed in it

@@ -1,7 +1,7 @@
 //! Writing an EDID's text with what it means.
-ghost use Rattle.std.specs.Prelude.{◌≡◌, ◌≤◌, ◌<◌, ◌+◌, ◌*◌, ◌^◌, length, take, flat_map};
+ghost use Rattle.std.specs.Prelude.{◌<◌, ◌+◌};
 ghost use Rattle.hdmi_core.specs.Written.{WrittenAll};
-ghost use Rattle.hdmi_annotate.specs.Meanings.{line_with_meaning, meaning_text};
+ghost use Rattle.hdmi_annotate.specs.Meanings.{meaning_text};
 
 use crate::meanings::fill_page;
 use arrayvec::ArrayVec;

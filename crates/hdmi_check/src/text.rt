@@ -1,5 +1,5 @@
 //! The lines that report findings.
-ghost use Rattle.std.specs.Prelude.{◌≡◌, ◌≤◌, ◌+◌, ◌*◌, ◌++◌, length, codes};
+ghost use Rattle.std.specs.Prelude.{◌≡◌, ◌≤◌, ◌+◌, ◌*◌, ◌++◌, length};
 ghost use Rattle.arrayvec.specs.ArrayVec.{array_vec_len};
 ghost use Rattle.hdmi_core.specs.Written.{WrittenAll};
 ghost use Rattle.hdmi_check.specs.Text.{rule_severity, timing_severity, severity_of, is_failure, severity_word, rule_name, timing_rule_name, finding_name, finding_text, findings_text, some_failure};

@@ -1,5 +1,4 @@
 //! The forms in which an EDID is written.
-ghost use Rattle.std.specs.Prelude.{◌≡◌};
 ghost use Rattle.hdmi_core.specs.Written.{WrittenAll};
 ghost use Rattle.hdmi_convert.specs.Form.{form_text, hex_line};
 

@@ -1,5 +1,5 @@
 //! A sink that gathers small pieces, and hands them on in large ones.
-ghost use Rattle.std.specs.Prelude.{◌≡◌, ◌^◌, ◌<◌, ◌≤◌, ◌↔◌, ◌||◌, [], ◌++◌, true, false, OnOk, OnErr, IfErr, IsErr, IsTrue, length, drop, take};
+ghost use Rattle.std.specs.Prelude.{◌≡◌, ◌^◌, ◌<◌, ◌≤◌, ◌↔◌, ◌||◌, [], true, false, OnOk, OnErr, IfErr, IsErr, IsTrue, length, drop, take};
 ghost use Rattle.std.specs.Io.KnownBytes.{Appends, Keeps, append_known};
 ghost use Rattle.hdmi_core.specs.Sink.{took_none};
 

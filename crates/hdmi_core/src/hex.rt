@@ -1,6 +1,5 @@
 //! Hex numbers. Each reader takes any text; where the text has hex digits, it finds their value.
-ghost use Rattle.std.specs.Prelude.{◌≡◌, ◌≤◌, ◌+◌, ◌*◌, ◌∷◌, [], ◌++◌, length};
-ghost use Rattle.arrayvec.specs.ArrayVec.{array_vec_len};
+ghost use Rattle.std.specs.Prelude.{◌≡◌, ◌≤◌, ◌+◌, ◌*◌, length};
 ghost use Rattle.hdmi_core.specs.Hex.{hex_at, hex_bytes};
 
 use crate::parts::byte_at;

@@ -1,6 +1,6 @@
 //! The kinds of device that stand on the wire, and their words.
 ghost use Rattle.std.specs.Prelude.{◌≡◌};
-ghost use Rattle.hdmi_core.specs.Kind.{kind_named, kind_word, kinds};
+ghost use Rattle.hdmi_core.specs.Kind.{kind_named, kind_word};
 
 /// What a device is. Its kind decides the logical addresses it may take and what it does with a frame.
 #[derive(Clone, Copy, Debug, PartialEq, Eq)]

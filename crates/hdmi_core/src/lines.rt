@@ -1,5 +1,5 @@
 //! Lines of a text.
-ghost use Rattle.std.specs.Prelude.{◌≡◌, ℕ, ◌+◌, ◌<◌, ◌≤◌, [], ◌∷◌, length, position, MatchOption, IfSome, ◌==◌};
+ghost use Rattle.std.specs.Prelude.{◌≡◌, ◌+◌, ◌<◌, [], ◌∷◌, length, MatchOption, IfSome, ◌==◌};
 ghost use Rattle.hdmi_core.specs.Lines.{is_skipped, lines_of};
 
 use crate::parts::position_of;

@@ -1,7 +1,6 @@
 //! Parts of a text.
 ghost use Rattle.std.specs.Prelude.{◌≡◌, ◌+◌, ◌++◌, ◌<◌, ◌≤◌, ◌==◌, length, slice_index, take, drop, position};
 ghost use Rattle.std.specs.List.{position_or_len};
-ghost use Rattle.arrayvec.specs.ArrayVec.{array_vec_len};
 
 use arrayvec::ArrayVec;
 

@@ -1,10 +1,9 @@
 //! Lines made of parts: each line goes to a sink whole, and takes no memory.
-ghost use Rattle.std.specs.Prelude.{◌≡◌, ℕ, ◌+◌, ◌*◌, ◌^◌, ◌<◌, ◌≤◌, ◌-◌, ◌↔◌, Bool, List, [], ◌∷◌, ◌++◌, length, take, true, false, Some, IsErr, IsTrue, IfErr, IfOk, OnOk};
+ghost use Rattle.std.specs.Prelude.{◌≡◌, ◌+◌, ◌*◌, ◌<◌, ◌-◌, [], ◌∷◌, length, true, false, Some};
 ghost use Rattle.std.specs.Fmt.{decimal};
 ghost use Rattle.std.specs.List.{flat_map};
-ghost use Rattle.hdmi_core.specs.Piece.{dash_or, hex_text, nibble_text, piece_text};
+ghost use Rattle.hdmi_core.specs.Piece.{hex_text, nibble_text, piece_text};
 ghost use Rattle.hdmi_core.specs.Written.{Written, WrittenLine};
-ghost use Rattle.arrayvec.specs.ArrayVec.{array_vec_len};
 
 use crate::phys::Phys;
 use crate::sink::{Sink, WriteFault, put_all};

@@ -1,6 +1,6 @@
 //! A writer that says how many bytes it took, and whether it ever took none.
 
-ghost use Rattle.std.specs.Prelude.{◌≡◌, ◌≢◌, ℕ, Bool, true, false, ◌||◌, ◌&&◌, not, ◌==◌, ◌<◌, ◌≤◌, ◌^◌, ◌↔◌, List, [], ◌++◌, length, take, IsOk, IsErr, OnOk, OnErr, IfErr, IsTrue, Option};
+ghost use Rattle.std.specs.Prelude.{◌≡◌, ℕ, Bool, true, false, ◌||◌, ◌&&◌, ◌==◌, ◌<◌, ◌≤◌, ◌^◌, ◌↔◌, List, length, take, IsErr, OnOk, OnErr, IfErr, IsTrue, Option};
 ghost use Rattle.std.specs.Io.KnownBytes.{Appends};
 ghost use Rattle.hdmi_core.specs.Sink.{took_none};
 

@@ -1,6 +1,6 @@
 -- The audio that an amplifier passes on in place of the television's (own; CTA-861-D, 7.5.2, lays out an
 -- audio data block, of short audio descriptors of three bytes each).
-use Rattle.std.specs.Prelude.{◌≡◌, ℕ, ◌+◌, ◌-◌, ◌==◌, ◌&&◌, Bool, true, false, nat_le, if◌then◌else◌, List, [], ◌∷◌, ◌++◌, length, take, drop, replicate, flat_map, find}
+use Rattle.std.specs.Prelude.{◌≡◌, ℕ, ◌+◌, ◌-◌, ◌&&◌, Bool, true, false, nat_le, if◌then◌else◌, List, [], ◌∷◌, ◌++◌, length, take, drop, replicate, flat_map, find}
 use Rattle.std.specs.List.{before_first}
 use Rattle.hdmi_edid.specs.Bytes.{are_zeros}
 use Rattle.hdmi_edid.specs.Check.{block_with_checksum}

@@ -1,5 +1,5 @@
 //! The audio that an amplifier passes on in place of the television's.
-ghost use Rattle.std.specs.Prelude.{◌≡◌, ◌≤◌, ◌<◌, ◌+◌, ◌-◌, ◌++◌, ◌==◌, ◌↔◌, true, None, Some, length, flat_map, position, find, slice_set, IfSome, IfNone, IfOk, IsErr, IsTrue};
+ghost use Rattle.std.specs.Prelude.{◌≡◌, ◌≤◌, ◌<◌, ◌+◌, ◌-◌, ◌++◌, ◌↔◌, true, None, Some, length, flat_map, position, find, slice_set, IfSome, IfNone, IfOk, IsErr, IsTrue};
 ghost use Rattle.std.specs.List.{before_first};
 ghost use Rattle.hdmi_edid.specs.Bytes.{are_bytes};
 ghost use Rattle.hdmi_edid.specs.Timing.{timing_bytes};

@@ -1,6 +1,6 @@
 //! The physical address in an extension, which stands in its first HDMI block: the vendor specific data block of HDMI (HDMI
 //! VSDB: HDMI 1.4, section 8.3.2).
-ghost use Rattle.std.specs.Prelude.{◌≡◌, ◌↔◌, ◌≤◌, ◌<◌, ◌+◌, ◌-◌, None, Some, IfOk, IsErr, IsTrue, IsSome, OnSome, IfSome, MatchOption, length, flat_map, position, slice_set, take};
+ghost use Rattle.std.specs.Prelude.{◌≡◌, ◌↔◌, ◌≤◌, ◌<◌, ◌+◌, ◌-◌, None, Some, IfOk, IsErr, IsTrue, IsSome, MatchOption, length, flat_map, position, slice_set, take};
 ghost use Rattle.hdmi_cta.specs.Block.{block_bytes};
 ghost use Rattle.hdmi_edid.specs.Check.{block_with_checksum};
 ghost use Rattle.hdmi_cta.specs.Ext.{ext_bytes};

@@ -1,5 +1,5 @@
 //! The bytes of an EDID as a reader on the DDC sees them.
-ghost use Rattle.std.specs.Prelude.{◌≡◌, ◌↔◌, ◌+◌, ◌%◌, Some, IsTrue, IsOk, IfOk, IfErr, OnOk, OnErr, EachIndex, length, slice_index, slice_index_or, ◌*◌};
+ghost use Rattle.std.specs.Prelude.{◌≡◌, ◌↔◌, ◌+◌, ◌%◌, Some, IsTrue, IsOk, IfOk, IfErr, OnOk, OnErr, EachIndex, length, slice_index, ◌*◌};
 ghost use Rattle.hdmi_blocks.specs.Bytes.{edid_bytes};
 
 use crate::error::DdcError;

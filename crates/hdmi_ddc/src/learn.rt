@@ -1,6 +1,5 @@
 //! Physical address discovery: what a device learns of its place from the EDID that it reads (HDMI 1.4, section 8.7.2).
-ghost use Rattle.std.specs.Prelude.{◌≡◌, ◌+◌, ◌*◌, ◌/◌, ◌≤◌, ◌<◌, ◌++◌, true, false, Some, IfOk, IfErr, OnOk, take, drop, replicate, length};
-ghost use Rattle.arrayvec.specs.ArrayVec.{array_vec_len};
+ghost use Rattle.std.specs.Prelude.{◌≡◌, ◌+◌, ◌*◌, ◌/◌, ◌≤◌, ◌<◌, true, false, Some, IfOk, IfErr, take, drop};
 ghost use Rattle.hdmi_core.specs.declared.phys.Phys.{Phys as PhysValue};
 ghost use Rattle.hdmi_blocks.specs.Address.{edid_address};
 ghost use Rattle.hdmi_blocks.specs.Bytes.{edid_bytes};

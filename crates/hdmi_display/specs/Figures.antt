@@ -1,5 +1,5 @@
 -- What the numbers of a base block mean (E-EDID Release A, sections 3.4.4, 3.6.2, 3.6.3, 3.7 and 3.9).
-use Rattle.std.specs.Prelude.{ℕ, ◌+◌, ◌*◌, ◌/◌, ◌%◌, ◌==◌, ◌&&◌, ◌||◌, if◌then◌else◌, List, [], ◌∷◌, ◌++◌, length, slice_index, codes}
+use Rattle.std.specs.Prelude.{ℕ, ◌+◌, ◌*◌, ◌/◌, ◌==◌, ◌&&◌, ◌||◌, if◌then◌else◌, List, [], ◌++◌, slice_index, codes}
 use Rattle.std.specs.Fmt.{decimal}
 use Rattle.hdmi_edid.specs.declared.base.Revision.{Revision}
 use Rattle.hdmi_edid.specs.declared.base.Revision.TheVariants.{Three, Four}

@@ -3,7 +3,7 @@ use Rattle.std.specs.Prelude.{ℕ, ◌+◌, ◌-◌, ◌*◌, ◌/◌, ◌%◌, 
 use Rattle.hex.specs.Hex.{encode_lower}
 use Rattle.hdmi_edid.specs.declared.base.Revision.{Revision}
 use Rattle.hdmi_edid.specs.declared.base.Revision.TheVariants.{Three, Four}
-use Rattle.hdmi_meaning.specs.Notes.{Row, row, below, text_between, hundredths, is_set, set_words, spaced_words}
+use Rattle.hdmi_meaning.specs.Notes.{Row, row, below, text_between, hundredths, is_set, set_words}
 
 -- ---- limits
 

@@ -2,7 +2,7 @@
 ghost use Rattle.std.specs.Prelude.{◌≡◌, ◌≤◌, ◌<◌, ◌+◌, ◌^◌, ◌++◌, length, flat_map};
 ghost use Rattle.arrayvec.specs.ArrayVec.{array_vec_len};
 ghost use Rattle.hdmi_meaning.specs.Notes.{own_line, set_words};
-ghost use Rattle.hdmi_display.specs.Ranges.{least_rate, greatest_rate, field_text, line_text, clock_text, limits_text, gtf_text, new_name, form_name, second_text, cvt_pixels, cvt_head, aspect_rows, preferred_text, blanking_rows, scaling_rows, preferred_rate, cvt_words, cvt_meanings, four_meanings, form_meanings, range_text, range_meanings};
+ghost use Rattle.hdmi_display.specs.Ranges.{least_rate, greatest_rate, field_text, line_text, clock_text, limits_text, gtf_text, new_name, form_name, second_text, cvt_pixels, cvt_head, aspect_rows, preferred_text, blanking_rows, scaling_rows, preferred_rate, cvt_words, cvt_meanings, form_meanings, range_text, range_meanings};
 
 use arrayvec::ArrayVec;
 use hdmi_edid::{Revision, append};

@@ -1,7 +1,6 @@
 //! Digits of a hex dump, and the bytes of their pairs.
-ghost use Rattle.std.specs.Prelude.{◌≡◌, ◌+◌, ◌*◌, ◌^◌, ◌<◌, ◌≤◌, ◌++◌, length, IsSome, Some};
+ghost use Rattle.std.specs.Prelude.{◌≡◌, ◌+◌, ◌*◌, ◌^◌, ◌<◌, length, IsSome, Some};
 ghost use Rattle.std.specs.Option.{option_map};
-ghost use Rattle.arrayvec.specs.ArrayVec.{array_vec_len};
 ghost use Rattle.hdmi_dump.specs.Digits.{byte_of, digit, bytes_with_row, is_blank, is_column, offset_of, pairs};
 
 use arrayvec::ArrayVec;

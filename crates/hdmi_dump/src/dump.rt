@@ -1,5 +1,5 @@
 //! The dump of an EDID in a text.
-ghost use Rattle.std.specs.Prelude.{◌≡◌, ℕ, ◌+◌, ◌^◌, ◌<◌, ◌≤◌, ◌++◌, length, Bool, List, [], MatchOption, true, false, Result, Ok, Err, IfSome, is_some};
+ghost use Rattle.std.specs.Prelude.{◌≡◌, ℕ, ◌+◌, ◌^◌, ◌<◌, ◌≤◌, length, Bool, List, [], MatchOption, true, false, Result, Ok, Err, IfSome, is_some};
 ghost use Rattle.hdmi_core.specs.Lines.{lines_of};
 ghost use Rattle.hdmi_dump.specs.Dump.{Gives, edid_in_dump, dump_at_end, bytes_of_rows, has_dump, left_out, with_repeats, after_line, with_line, with_row};
 ghost use Rattle.hdmi_dump.specs.Rows.{row};

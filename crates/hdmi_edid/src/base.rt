@@ -1,5 +1,5 @@
 //! The base block.
-ghost use Rattle.std.specs.Prelude.{◌≡◌, ◌∷◌, [], slice_index, IsTrue, IfOk, IfErr, OnOk, ◌<◌, ◌≤◌, ◌+◌, ◌^◌, ◌++◌, take, drop, length, MatchResult, Some, None, flat_map, Option};
+ghost use Rattle.std.specs.Prelude.{◌≡◌, ◌∷◌, [], slice_index, IsTrue, IfOk, IfErr, OnOk, ◌<◌, ◌≤◌, ◌+◌, ◌^◌, ◌++◌, length, MatchResult, Some, None, flat_map, Option};
 ghost use Rattle.arrayvec.specs.ArrayVec.{array_vec_len};
 ghost use Rattle.hdmi_edid.specs.Descriptor.{descriptor_bytes};
 ghost use Rattle.hdmi_edid.specs.Standard.{standard_bytes};

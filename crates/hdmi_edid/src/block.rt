@@ -1,5 +1,5 @@
 //! A block of bytes whose last one is a checksum.
-ghost use Rattle.std.specs.Prelude.{◌≡◌, ◌+◌, ◌%◌, length, sum};
+ghost use Rattle.std.specs.Prelude.{◌≡◌, ◌%◌, length, sum};
 ghost use Rattle.hdmi_edid.specs.Check.{block_with_checksum};
 
 use crate::checksum::checksum_of;

@@ -1,5 +1,5 @@
 //! The E-EDID checksum: the sum of a block's bytes (E-EDID Release A, section 3.11).
-ghost use Rattle.std.specs.Prelude.{◌≡◌, ◌+◌, ◌%◌, ◌≤◌, ◌<◌, ◌↔◌, IsTrue, length, sum};
+ghost use Rattle.std.specs.Prelude.{◌≡◌, ◌%◌, ◌↔◌, IsTrue, sum};
 ghost use Rattle.hdmi_edid.specs.Check.{check_of};
 
 /// The last byte of a block that begins with these.

@@ -1,5 +1,5 @@
 //! A descriptor, of 18 bytes.
-ghost use Rattle.std.specs.Prelude.{◌≡◌, ◌∷◌, ◌+◌, IsTrue, false, true, length, MatchOption, slice_index, drop, replicate};
+ghost use Rattle.std.specs.Prelude.{◌≡◌, ◌∷◌, ◌+◌, IsTrue, false, true, length, MatchOption, slice_index, drop};
 ghost use Rattle.hdmi_edid.specs.Bytes.{are_bytes};
 ghost use Rattle.hdmi_edid.specs.Chars.{text_bytes};
 ghost use Rattle.hdmi_edid.specs.Forms.{fits_no_form, has_text, is_labelled};

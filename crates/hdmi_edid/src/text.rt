@@ -1,5 +1,5 @@
 //! A text of at most 13 characters.
-ghost use Rattle.std.specs.Prelude.{◌≡◌, ◌≤◌, ◌==◌, IsTrue, false, true, length, MatchOption, drop};
+ghost use Rattle.std.specs.Prelude.{◌≡◌, ◌==◌, IsTrue, false, true, length, MatchOption};
 ghost use Rattle.std.specs.List.{prefix_len, list_all};
 ghost use Rattle.hdmi_edid.specs.Chars.{is_char, is_text, is_padding, is_text_form, text_bytes};
 

@@ -7,7 +7,6 @@ use Rattle.hdmi_core.specs.Piece.{phys_text}
 use Rattle.hdmi_core.specs.Words.{words_of}
 use Rattle.hdmi_core.specs.declared.phys.Phys.{Phys}
 use Rattle.hdmi_edid.specs.Chroma.{chroma_numbers}
-use Rattle.hdmi_edid.specs.Timing.{timing_numbers}
 use Rattle.hdmi_edid.specs.declared.base.Base.{Base}
 use Rattle.hdmi_edid.specs.declared.chroma.Chroma.{Chroma as Chromaticities}
 use Rattle.hdmi_edid.specs.declared.descriptor.Descriptor.{Descriptor}
@@ -26,10 +25,10 @@ use Rattle.hdmi_lines.specs.Text.{word_text, hex_word, fields_text}
 use Rattle.hdmi_lines.specs.declared.line.Fields.{Fields}
 use Rattle.hdmi_lines.specs.declared.line.Fields.TheVariants.{Nothing, Letters, Numbers, Timed, Bytes, Address, Quoted}
 use Rattle.hdmi_lines.specs.declared.line.Form.{Form}
-use Rattle.hdmi_lines.specs.declared.line.Form.TheVariants.{Empty, Three, One, Two, Eight, Unused, Timing as OfTimed, Hex, Address as OfAddress, Quoted as OfQuoted}
+use Rattle.hdmi_lines.specs.declared.line.Form.TheVariants.{One, Two, Eight, Unused, Timing as OfTimed}
 use Rattle.hdmi_lines.specs.declared.line.Line.{Line}
 use Rattle.hdmi_lines.specs.declared.line.Keyword.{Keyword}
-use Rattle.hdmi_lines.specs.declared.line.Keyword.TheVariants.{Made, Size, Chroma, Standard, Timing, Vendor, Hdmi}
+use Rattle.hdmi_lines.specs.declared.line.Keyword.TheVariants.{Chroma, Vendor, Hdmi}
 use Rattle.hdmi_edtext.specs.Lines.{bytes_line, standard_line, timing_line, descriptor_line, head_lines, base_lines, address_line, payload_line, block_line, tail_line, ext_lines, edid_lines}
 use Rattle.hdmi_edtext.specs.Words.{number_fits, FitsAt}
 use Rattle.hdmi_edtext.proofs.BaseNexts.{byte_fits}

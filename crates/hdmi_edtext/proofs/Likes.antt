@@ -1,13 +1,11 @@
 -- For the first words of a line that are right, an accepted text has such a line that begins with them.
-use Rattle.std.proofs.Common.{◌≡◌, ℕ, zero, suc, ◌+◌, ◌-◌, ◌<◌, ◌≤◌, ◌==◌, Bool, true, false, ◌&&◌, ◌||◌, not, nat_lt, nat_le, cond, List, [], ◌∷◌, ◌++◌, length, map, take, drop, get_or, Some, ap, subst, arith, refl, sym, ◌∙◌, append-nil, take-append-drop}
+use Rattle.std.proofs.Common.{◌≡◌, ℕ, zero, suc, ◌+◌, ◌-◌, ◌<◌, ◌≤◌, ◌==◌, Bool, true, false, ◌&&◌, ◌||◌, not, nat_lt, nat_le, cond, List, [], ◌∷◌, ◌++◌, length, map, take, get_or, Some, ap, subst, arith, refl, sym, ◌∙◌}
 use Rattle.std.specs.Fmt.{decimal}
-use Rattle.std.specs.List.{position_or_len}
 use Rattle.std.proofs.lemmas.Bool.{eqb-true, leb-true, ltb-true}
 use Rattle.std.proofs.lemmas.List.{take-append-le}
 use Rattle.hex.specs.Hex.{encode_lower}
 use Rattle.hdmi_core.specs.Piece.{phys_text}
 use Rattle.hdmi_core.specs.Words.{spaces_unquoted, words_of}
-use Rattle.hdmi_core.specs.declared.phys.Phys.{Phys}
 use Rattle.hdmi_edid.proofs.PartLemmas.{both}
 use Rattle.hdmi_edid.specs.Bytes.{are_bytes}
 use Rattle.hdmi_edid.specs.Chroma.{chroma_numbers}
@@ -20,7 +18,7 @@ use Rattle.hdmi_edid.specs.declared.standard.StandardTiming.{StandardTiming}
 use Rattle.hdmi_edid.specs.declared.timing.Timing.{Timing as DetailedTiming}
 use Rattle.hdmi_cta.specs.declared.block.DataBlock.{DataBlock}
 use Rattle.hdmi_cta.specs.declared.block.BlockKind.TheVariants.{Vendor as OfVendor}
-use Rattle.hdmi_lines.specs.Formed.{form_of, BeginsSpaced}
+use Rattle.hdmi_lines.specs.Formed.{form_of}
 use Rattle.hdmi_lines.specs.Text.{word_text, hex_word, fields_text}
 use Rattle.hdmi_lines.specs.declared.line.Line.{Line}
 use Rattle.hdmi_lines.specs.declared.line.Keyword.{Keyword}
@@ -34,10 +32,10 @@ use Rattle.hdmi_edtext.specs.declared.draft.EdidDraft.{EdidDraft}
 use Rattle.hdmi_edtext.specs.declared.draft.EdidDraft.TheVariants.{Begun, Whole as OfWhole, Opened as OfOpened, Bare as OfBare}
 use Rattle.hdmi_edtext.specs.declared.draft.Opened.{Opened}
 use Rattle.hdmi_edtext.specs.declared.place.NextLine.TheVariants.{AtExt, AtEnd, InBlocks, InTimings}
-use Rattle.hdmi_edtext.proofs.FirstWords.{Agree, is_less, shared, words_front, words_after, first_of, numbers_front, timed_front, address_front}
+use Rattle.hdmi_edtext.proofs.FirstWords.{Agree, is_less, shared, words_front, first_of, numbers_front, timed_front, address_front}
 use Rattle.hdmi_edtext.proofs.Fits.{NumberAt}
 use Rattle.hdmi_edtext.proofs.Good.{EachGood, Good, edid_good, good_at, and, timing_good}
-use Rattle.hdmi_edtext.proofs.Samples.{words_of as field_count, Sample, samples, other_base, standard_next, descriptor_next, more_timing, more_block, empty}
+use Rattle.hdmi_edtext.proofs.Samples.{words_of as field_count, samples, other_base, standard_next, descriptor_next, more_timing, more_block, empty}
 use Rattle.hdmi_edtext.proofs.WordTexts.{front_text, words_are, first_is, alone}
 
 pub record Like (ls : List Line) (w : Keyword) (front : List ℕ) (k : ℕ) : Type 0 where

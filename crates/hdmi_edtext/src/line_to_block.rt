@@ -1,5 +1,5 @@
 //! The data block that a line gives.
-ghost use Rattle.std.specs.Prelude.{◌≡◌, ◌≤◌, ℕ, List, ◌∷◌, length, false, MatchOption};
+ghost use Rattle.std.specs.Prelude.{◌≡◌, ◌≤◌, ℕ, List, length, MatchOption};
 ghost use Rattle.hdmi_cta.specs.declared.block.DataBlock.{DataBlock as BlockValue};
 ghost use Rattle.hdmi_edtext.specs.Lines.{address_line, block_line};
 

@@ -1,5 +1,5 @@
 //! The values that lines report.
-ghost use Rattle.std.specs.Prelude.{◌≡◌, ℕ, ◌+◌, ◌≤◌, ◌<◌, List, [], ◌∷◌, length, IsTrue, MatchOption, MatchBool, Option};
+ghost use Rattle.std.specs.Prelude.{◌≡◌, ℕ, ◌≤◌, ◌<◌, List, [], ◌∷◌, length, IsTrue, MatchOption, MatchBool, Option};
 ghost use Rattle.hdmi_edid.specs.Bytes.{are_bytes};
 ghost use Rattle.hdmi_edid.specs.declared.base.Revision.{Revision as RevisionValue};
 ghost use Rattle.hdmi_edid.specs.declared.chroma.Chroma.{Chroma as ChromaValue};
@@ -12,9 +12,8 @@ ghost use Rattle.hdmi_edid.specs.declared.maker.Maker.{Maker as MakerValue};
 ghost use Rattle.hdmi_edid.specs.declared.standard.StandardTiming.{StandardTiming as StandardValue};
 ghost use Rattle.hdmi_edid.specs.declared.text.Text.{Text as TextValue};
 ghost use Rattle.hdmi_edid.specs.declared.timing.Timing.{Timing as TimingValue};
-ghost use Rattle.hdmi_cta.specs.declared.block.DataBlock.{DataBlock as BlockValue};
 ghost use Rattle.hdmi_cta.specs.declared.block.BlockKind.{BlockKind as KindValue};
-ghost use Rattle.hdmi_edtext.specs.Lines.{letters_line, numbers_line, bytes_line, quoted_line, revision_letters, standard_line, timing_line, descriptor_line, kind_word, block_line};
+ghost use Rattle.hdmi_edtext.specs.Lines.{letters_line, numbers_line, bytes_line, quoted_line, revision_letters, standard_line, timing_line, descriptor_line, kind_word};
 
 use hdmi_cta::BlockKind;
 use hdmi_edid::{

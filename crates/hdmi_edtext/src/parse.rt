@@ -1,6 +1,6 @@
 //! Reading an EDID's text.
 ghost use Rattle.std.specs.Prelude.{◌≡◌, ◌<◌, ◌+◌, [], ◌∷◌, IfOk, IfErr, IfSome, Ok, MatchOption, length, position, ◌==◌};
-ghost use Rattle.hdmi_edtext.specs.Lines.{edid_lines, edid_text};
+ghost use Rattle.hdmi_edtext.specs.Lines.{edid_text};
 ghost use Rattle.hdmi_edtext.specs.Cut.{lines_with_feeds};
 ghost use Rattle.hdmi_blocks.specs.declared.edid.Edid.{Edid as EdidValue};
 ghost use Rattle.hdmi_edtext.specs.Refusal.{IsRefusal, IsFaultAt};

@@ -1,5 +1,5 @@
 //! Which lines may stand somewhere, by their words, and which word of theirs is at fault.
-ghost use Rattle.std.specs.Prelude.{◌≡◌, ◌+◌, ◌-◌, ◌<◌, ◌≤◌, ◌^◌, Some, true, IfSome, MatchOption, length};
+ghost use Rattle.std.specs.Prelude.{◌≡◌, ◌+◌, ◌-◌, ◌<◌, ◌^◌, Some, IfSome, MatchOption, length};
 ghost use Rattle.hdmi_edtext.specs.Refusal.{first_word, word_count, MayStand, IsFieldFault};
 ghost use Rattle.hdmi_lines.specs.Text.{word_text};
 ghost use Rattle.hdmi_lines.specs.declared.line.Keyword.{Keyword as WordValue};

@@ -1,10 +1,10 @@
 //! Each line adds to a draft.
-ghost use Rattle.std.specs.Prelude.{◌≡◌, ◌⊎◌, ◌<◌, ◌≤◌, ◌∷◌, [], ◌++◌, ℕ, List, false, true, MatchOption, length};
+ghost use Rattle.std.specs.Prelude.{◌≡◌, ◌⊎◌, ◌<◌, ◌∷◌, [], ◌++◌, false, true, MatchOption, length};
 ghost use Rattle.arrayvec.specs.ArrayVec.{array_vec_len};
 ghost use Rattle.hdmi_cta.specs.Block.{block_bytes};
 ghost use Rattle.hdmi_cta.specs.declared.raw.RawExt.{RawExt as RawValue};
 ghost use Rattle.hdmi_edtext.specs.Drafts.{whole_lines, draft_lines, Follows, BlockFits, TimingFits, TailFits};
-ghost use Rattle.hdmi_edtext.specs.Lines.{block_line, timing_line, bytes_line, base_lines, ext_lines, edid_lines};
+ghost use Rattle.hdmi_edtext.specs.Lines.{block_line, timing_line, bytes_line, ext_lines, edid_lines};
 ghost use Rattle.hdmi_edtext.specs.Tails.{padded_bytes, fills, ends};
 ghost use Rattle.hdmi_edtext.specs.Words.{place_of};
 ghost use Rattle.hdmi_blocks.specs.declared.edid.Edid.{Edid as EdidValue};

@@ -1,5 +1,5 @@
 //! The lines of an EDID's text.
-ghost use Rattle.std.specs.Prelude.{◌≡◌, ◌≤◌, ◌<◌, ◌+◌, ◌∷◌, [], Option, Some, None, length, take, slice_get, flat_map};
+ghost use Rattle.std.specs.Prelude.{◌≡◌, ◌≤◌, ◌<◌, ◌+◌, Option, Some, None, length, take, slice_get, flat_map};
 ghost use Rattle.hdmi_edtext.specs.Lines.{letters_line, numbers_line, bytes_line, quoted_line, revision_letters, standard_line, timing_line, descriptor_line, head_lines, base_lines, kind_word, block_line, bytes_without_zeros, tail_line, cta_lines, bare_lines, ext_lines, part_lines};
 
 use arrayvec::ArrayVec;

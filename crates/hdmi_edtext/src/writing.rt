@@ -1,8 +1,7 @@
 //! Writing an EDID's text.
-ghost use Rattle.std.specs.Prelude.{◌≡◌, ◌≤◌, ◌<◌, ◌+◌, ◌*◌, ◌^◌, length, take, flat_map};
+ghost use Rattle.std.specs.Prelude.{◌<◌, ◌+◌};
 ghost use Rattle.hdmi_core.specs.Written.{WrittenAll};
-ghost use Rattle.hdmi_edtext.specs.Lines.{part_lines, part_text, edid_text};
-ghost use Rattle.hdmi_lines.specs.Text.{line_text};
+ghost use Rattle.hdmi_edtext.specs.Lines.{part_text, edid_text};
 
 use crate::value_to_lines::line_at;
 use arrayvec::ArrayVec;

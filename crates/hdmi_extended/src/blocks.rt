@@ -1,5 +1,5 @@
 //! What an extended block and a vendor block mean.
-ghost use Rattle.std.specs.Prelude.{◌≡◌, ◌≤◌, ◌+◌, ◌*◌, ◌++◌, length, flat_map};
+ghost use Rattle.std.specs.Prelude.{◌≡◌, ◌≤◌, ◌+◌, ◌++◌, length, flat_map};
 ghost use Rattle.arrayvec.specs.ArrayVec.{array_vec_len};
 ghost use Rattle.hdmi_meaning.specs.Notes.{own_line};
 ghost use Rattle.hdmi_extended.specs.Blocks.{extended_meanings, tagged_meanings, vendor_meanings};

@@ -1,7 +1,7 @@
 //! What video capability, colorimetry and HDR blocks mean.
-ghost use Rattle.std.specs.Prelude.{◌≡◌, ◌≤◌, ◌+◌, ◌*◌, ◌++◌, length, map, flat_map};
+ghost use Rattle.std.specs.Prelude.{◌≡◌, ◌≤◌, ◌+◌, ◌++◌, length, flat_map};
 ghost use Rattle.arrayvec.specs.ArrayVec.{array_vec_len};
-ghost use Rattle.hdmi_meaning.specs.Notes.{own_line, set_words, row_in_code};
+ghost use Rattle.hdmi_meaning.specs.Notes.{own_line, set_words};
 ghost use Rattle.hdmi_extended.specs.Colours.{capability_meanings, capability_words, colour_meanings, colour_rows, content_words, curve_rows, gamut_rows, hdr_meanings, hdr_words, least_words, luminance_words, metadata_rows, range_rows, scan_text, scan_words};
 
 use crate::brightness::luminance;

@@ -1,7 +1,7 @@
 //! What a block of the HDMI Forum means.
-ghost use Rattle.std.specs.Prelude.{◌≡◌, ◌≤◌, ◌<◌, ◌+◌, ◌*◌, ◌++◌, length, map, flat_map};
+ghost use Rattle.std.specs.Prelude.{◌≡◌, ◌≤◌, ◌+◌, ◌*◌, ◌++◌, length, flat_map};
 ghost use Rattle.arrayvec.specs.ArrayVec.{array_vec_len};
-ghost use Rattle.hdmi_meaning.specs.Notes.{own_line, set_words, row_in_code};
+ghost use Rattle.hdmi_meaning.specs.Notes.{own_line, set_words};
 ghost use Rattle.hdmi_extended.specs.Forum.{clock_words, depth_rows, fixed_words, forum_meanings, greatest_words, link_rows, link_words, picture_rows, picture_words, rate_words, stream_rows, vrr_words};
 
 use arrayvec::ArrayVec;

@@ -1,5 +1,5 @@
 //! What the blocks of format preference and of the 4:2:0 capability map mean.
-ghost use Rattle.std.specs.Prelude.{◌≡◌, ◌≤◌, ◌+◌, ◌*◌, ◌++◌, ◌<◌, [], All, codes, length, map, take, flat_map};
+ghost use Rattle.std.specs.Prelude.{◌≡◌, ◌≤◌, ◌+◌, ◌*◌, ◌++◌, ◌<◌, [], All, codes, length, take, flat_map};
 ghost use Rattle.arrayvec.specs.ArrayVec.{array_vec_len};
 ghost use Rattle.hdmi_meaning.specs.Notes.{text_between, own_line};
 ghost use Rattle.hdmi_meaning.specs.Videos.{code_text};

@@ -1,13 +1,13 @@
 //! Reading a line of the text. Each reader takes what may be the spelling of a value, and the line that
 //! was read is spelled again and compared.
-ghost use Rattle.std.specs.Prelude.{◌≡◌, ◌≢◌, ℕ, ◌+◌, ◌<◌, ◌≤◌, ◌^◌, ◌/◌, ◌==◌, List, [], ◌∷◌, ◌++◌, length, drop, take, position, flat_map, IfSome, IsSomeAnd, IsTrue, true, Some};
+ghost use Rattle.std.specs.Prelude.{◌≡◌, ℕ, ◌+◌, ◌<◌, ◌≤◌, ◌^◌, ◌/◌, ◌==◌, List, [], ◌∷◌, ◌++◌, length, position, flat_map, IfSome, IsSomeAnd, true, Some};
 ghost use Rattle.std.specs.Fmt.{decimal};
 ghost use Rattle.hex.specs.Hex.{encode_lower};
-ghost use Rattle.hdmi_core.specs.Piece.{nibble_text, phys_text};
+ghost use Rattle.hdmi_core.specs.Piece.{phys_text};
 ghost use Rattle.hdmi_core.specs.declared.phys.Phys.{Phys as PhysValue};
 ghost use Rattle.hdmi_edid.specs.Bytes.{are_bytes};
 ghost use Rattle.hdmi_lines.specs.Text.{word_text, number_text, hex_word, fields_text, line_text};
-ghost use Rattle.hdmi_lines.specs.Formed.{is_spaceless, BeginsSpaced, are_numbers, form_of, FormedFields, Formed};
+ghost use Rattle.hdmi_lines.specs.Formed.{is_spaceless, BeginsSpaced, are_numbers, FormedFields, Formed};
 ghost use Rattle.hdmi_lines.specs.declared.line.Fields.{Fields as FieldsValue};
 ghost use Rattle.hdmi_lines.specs.declared.line.Line.{Line as LineValue};
 ghost use Rattle.hdmi_lines.specs.declared.line.Keyword.{Keyword as WordValue};

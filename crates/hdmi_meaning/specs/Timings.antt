@@ -1,7 +1,7 @@
 -- What a detailed timing means (E-EDID Release A, section 3.10.2).
-use Rattle.std.specs.Prelude.{ℕ, ◌+◌, ◌*◌, ◌/◌, ◌%◌, ◌==◌, ◌&&◌, not, nat_lt, if◌then◌else◌, List, [], ◌∷◌, ◌++◌, codes}
+use Rattle.std.specs.Prelude.{ℕ, ◌+◌, ◌*◌, ◌/◌, ◌%◌, ◌==◌, ◌&&◌, nat_lt, if◌then◌else◌, List, [], ◌∷◌, ◌++◌, codes}
 use Rattle.std.specs.Fmt.{decimal}
-use Rattle.hdmi_meaning.specs.Notes.{comma, when, hundredths, thousandths, is_set}
+use Rattle.hdmi_meaning.specs.Notes.{when, hundredths, thousandths, is_set}
 use Rattle.hdmi_meaning.specs.Rates.{field, clock, line_pixels, half_lines, picture_lines, field_rate, line_rate}
 
 -- "i" of a picture of two fields

@@ -2,7 +2,7 @@
 ghost use Rattle.std.specs.Prelude.{◌≡◌, ◌≤◌, ◌<◌, ◌+◌, ◌*◌, ◌++◌, length, map, flat_map};
 ghost use Rattle.std.specs.Fmt.{decimal};
 ghost use Rattle.arrayvec.specs.ArrayVec.{array_vec_len};
-ghost use Rattle.hdmi_meaning.specs.Notes.{printable, own_line, comma, below, text_between, plural, counted_text, digit, hundredths, thousandths, rest_words};
+ghost use Rattle.hdmi_meaning.specs.Notes.{printable, own_line, comma, below, text_between, counted_text, digit, hundredths, thousandths, rest_words};
 ghost use Rattle.hex.specs.Hex.{encode_lower};
 
 use arrayvec::ArrayVec;

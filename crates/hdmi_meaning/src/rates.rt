@@ -1,5 +1,5 @@
 //! The rates of a detailed timing.
-ghost use Rattle.std.specs.Prelude.{◌≡◌, ◌+◌, ◌*◌, ◌<◌, ◌≤◌, ◌^◌};
+ghost use Rattle.std.specs.Prelude.{◌≡◌, ◌+◌, ◌*◌, ◌<◌, ◌^◌};
 ghost use Rattle.hdmi_meaning.specs.Rates.{IsNearest, nearest, field, line_pixels, half_lines, picture_lines, field_rate, line_rate};
 
 /// The half lines of a second's fields to a thousandth of the clock's unit: 10,000 pixels, twice, a thousand times.

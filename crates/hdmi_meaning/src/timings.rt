@@ -2,7 +2,7 @@
 ghost use Rattle.std.specs.Prelude.{◌≡◌, ◌≤◌, ◌+◌, ◌++◌, length, flat_map};
 ghost use Rattle.arrayvec.specs.ArrayVec.{array_vec_len};
 ghost use Rattle.hdmi_meaning.specs.Notes.{own_line};
-ghost use Rattle.hdmi_meaning.specs.Timings.{interlace_mark, picture_text, rates_text, clock_text, serrations, analog_lines, horizontal_sign, vertical_sign, separate_text, composite_text, analog_text, sync_text, size_text, border_text, stereo_code, stereo_text, timing_text, timing_meanings};
+ghost use Rattle.hdmi_meaning.specs.Timings.{picture_text, rates_text, clock_text, serrations, analog_lines, horizontal_sign, vertical_sign, separate_text, composite_text, analog_text, sync_text, size_text, border_text, stereo_text, timing_text, timing_meanings};
 
 use crate::bits::is_set;
 use crate::notes::{

@@ -1,5 +1,5 @@
 //! What the rules ask of data blocks.
-ghost use Rattle.std.specs.Prelude.{◌≡◌, ◌≤◌, ◌+◌, length, take};
+ghost use Rattle.std.specs.Prelude.{◌≡◌, ◌≤◌, ◌+◌, take};
 ghost use Rattle.std.specs.List.{list_any};
 ghost use Rattle.hdmi_parts.specs.BlockParts.{is_vga_code, lists_vga, is_video_capability, fixes_rgb_range, is_speakers, is_ill_speakers, is_extended_audio, is_sound, is_multichannel_pcm, lists_multichannel_pcm, has_multichannel_pcm, has_fast_clock, is_hole, is_off_tree, has_wrong_address, has_root_address, is_forum, begins_with_forum, video_place, codes_at, hdmi_codes, is_sought};
 

@@ -1,5 +1,5 @@
 //! What the rules ask of extensions.
-ghost use Rattle.std.specs.Prelude.{◌≡◌, ◌≤◌, ◌*◌, length, nat_lt, sum_by, count_by};
+ghost use Rattle.std.specs.Prelude.{◌≡◌, ◌≤◌, length, nat_lt, count_by};
 ghost use Rattle.std.specs.List.{list_any};
 ghost use Rattle.hdmi_cta.specs.Hdmi.{blocks_of, is_hdmi};
 ghost use Rattle.hdmi_parts.specs.BlockParts.{is_sought};

@@ -1,6 +1,5 @@
 //! The rates of a detailed timing, and the limits that a display has for them.
-ghost use Rattle.std.specs.Prelude.{◌≡◌, ◌<◌, ◌≤◌, ◌^◌};
-ghost use Rattle.std.specs.List.{list_any};
+ghost use Rattle.std.specs.Prelude.{◌≡◌, ◌<◌, ◌^◌};
 ghost use Rattle.hdmi_parts.specs.Limits.{line_pixels, half_lines, is_reversed, limits_rates, is_outside, raised_span, field_span, line_span, has_reversed, has_reversed_limits, is_field_rate_outside, is_line_rate_outside, excludes, is_out_of_range};
 
 use crate::span::Span;

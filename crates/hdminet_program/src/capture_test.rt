@@ -1,5 +1,5 @@
 //! What is reported of a test of a capture: whether it is as its expectations have it.
-ghost use Rattle.std.specs.Prelude.{◌≡◌, OnOk};
+ghost use Rattle.std.specs.Prelude.{OnOk};
 ghost use Rattle.hdminet_program.specs.CaptureTests.{WritesCaptureTest, WritesPassedBy};
 
 use crate::capture::{form_of, without_short};

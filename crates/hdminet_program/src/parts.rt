@@ -1,5 +1,5 @@
 //! The parts of an input, with a line between them.
-ghost use Rattle.std.specs.Prelude.{◌≡◌, IfOk, IfSome};
+ghost use Rattle.std.specs.Prelude.{IfOk, IfSome};
 ghost use Rattle.hdminet_program.specs.Parted.{IsCaptureInput, IsParted, IsRunInput};
 
 use crate::fault::ProgramFault;

@@ -1,5 +1,5 @@
 //! The laws.
-ghost use Rattle.std.specs.Prelude.{ℕ, ◌≡◌, ◌<◌, ◌≤◌, true, Some, length, map, slice_get, count_by};
+ghost use Rattle.std.specs.Prelude.{ℕ, ◌≡◌, ◌<◌, true, Some, length, map, slice_get, count_by};
 ghost use Rattle.hdmi_edid.specs.declared.standard.StandardTiming.{StandardTiming as StandardValue};
 ghost use Rattle.hdmi_meaning.specs.Notes.{is_set, set_lines};
 ghost use Rattle.hdmi_meaning.specs.Formats.{formats, format_of};

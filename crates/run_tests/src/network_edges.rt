@@ -1,5 +1,5 @@
 //! Rounds taken edge by edge, worked out by hand.
-ghost use Rattle.std.specs.Prelude.{◌≡◌, ◌≤◌, ◌<◌, length, IsSome};
+ghost use Rattle.std.specs.Prelude.{◌<◌, IsSome};
 
 use crate::rooms::{LATEST, room, round_before, send};
 use cec_bits::Standing;

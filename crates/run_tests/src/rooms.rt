@@ -1,5 +1,5 @@
 //! Networks of a television and devices in its first ports.
-ghost use Rattle.std.specs.Prelude.{◌≡◌, ◌≤◌, ◌<◌, All};
+ghost use Rattle.std.specs.Prelude.{◌≤◌, ◌<◌, All};
 
 use cec_edges::EdgeWire;
 use cec_frame::Frame;

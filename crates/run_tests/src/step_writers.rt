@@ -1,5 +1,5 @@
 //! Writers that take one byte a call, and that fail: what a step has written then, and where the stepper stands.
-ghost use Rattle.std.specs.Prelude.{◌≡◌, length, IfSome};
+ghost use Rattle.std.specs.Prelude.{length, IfSome};
 ghost use Rattle.cec_asm.specs.Script.{IsScript, course_of};
 
 use cec_asm::{Script, Topology, parse_script, parse_topology};

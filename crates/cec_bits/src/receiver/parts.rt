@@ -1,5 +1,5 @@
 //! What a receiver keeps, in plain numbers.
-ghost use Rattle.std.specs.Prelude.{◌≡◌, ◌≤◌, ◌<◌, length, Some, IsSome, IfSome};
+ghost use Rattle.std.specs.Prelude.{◌≡◌, ◌<◌, Some, IsSome, IfSome};
 ghost use Rattle.cec_bits.specs.Parts.{ArePartsOf, number_of};
 ghost use Rattle.cec_bits.specs.declared.receiver.ReceiverState.{ReceiverState as PlaceValue};
 ghost use Rattle.cec_bits.specs.declared.receiver.Receiver.{Receiver as ReceiverValue};

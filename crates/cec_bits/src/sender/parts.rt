@@ -1,5 +1,5 @@
 //! What a sender keeps, in plain numbers.
-ghost use Rattle.std.specs.Prelude.{◌≡◌, ◌≤◌, ◌<◌, length, Some, IsSome, IfSome};
+ghost use Rattle.std.specs.Prelude.{◌≡◌, ◌<◌, Some, IsSome, IfSome};
 ghost use Rattle.cec_bits.specs.Parts.{ArePartsOfSender, number_of_state, slot_of_state};
 ghost use Rattle.cec_bits.specs.declared.sender.Sender.{Sender as SenderValue};
 ghost use Rattle.cec_bits.specs.declared.sender.SenderState.{SenderState as StateValue};

@@ -1,4 +1,4 @@
-use Rattle.std.proofs.Common.{◌≡◌, ap, ◌∙◌}
+use Rattle.std.proofs.Common.{ap, ◌∙◌}
 use Rattle.hdmi_core.specs.Lines.{lines_of}
 use Rattle.cec_capture_check.specs.Faults.{earlier, kinds_from}
 use Rattle.cec_capture_check.proofs.First.{first_is}

@@ -1,6 +1,5 @@
 use Rattle.std.proofs.Common.{◌≡◌, true, arith}
 use Rattle.std.proofs.lemmas.Grind.{common_steps}
-use Rattle.hdmi_core.specs.Lines.{lines_of}
 use Rattle.cec_check.specs.Kept.{is_kept}
 use Rattle.cec_check.proofs.Keeping.{kept_closed, kept_one}
 use Rattle.cec_check.proofs.sieve.keep_line.Goals as goal

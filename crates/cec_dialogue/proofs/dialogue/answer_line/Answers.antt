@@ -1,5 +1,4 @@
 use Rattle.std.proofs.Common.{Err, refl, sym, subst}
-use Rattle.hdmi_core.specs.declared.buffered.Buffered.{Buffered}
 use Rattle.hdmi_core.specs.Buffered.{handed_count}
 use Rattle.cec_dialogue.specs.declared.error.SessionError.TheVariants.{Memory}
 use Rattle.cec_dialogue.specs.Dialogue.{AreHanded}

@@ -1,4 +1,3 @@
-use Rattle.std.proofs.Common.{Err}
 use Rattle.cec_incoming.specs.Incoming.{to_come}
 use Rattle.cec_dialogue.proofs.Putting.{handed_on, held, is_stuck}
 use Rattle.cec_dialogue.proofs.Whole.{talked_cut, talked_on}

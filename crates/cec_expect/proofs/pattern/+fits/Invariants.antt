@@ -1,5 +1,5 @@
-use Rattle.std.proofs.Common.{◌≡◌, [], ◌∷◌, List, ℕ, ◌+◌, ◌-◌, ◌*◌, ◌<◌, ◌≤◌, length}
-use Rattle.cec_expect.specs.Fits.{fits, in_word}
+use Rattle.std.proofs.Common.{◌+◌, ◌-◌, length}
+use Rattle.cec_expect.specs.Fits.{fits}
 use Rattle.cec_expect.proofs.pattern.+fits.Given as goal
 
 abbrev pub decreases-fits : goal.decreases-fits

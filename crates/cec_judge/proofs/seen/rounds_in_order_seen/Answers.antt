@@ -1,4 +1,4 @@
-use Rattle.std.proofs.Common.{◌≡◌, List, length, map, ap, ◌∙◌, sym, subst, drop, true}
+use Rattle.std.proofs.Common.{◌≡◌, List, length, map, ap, ◌∙◌, sym, subst, true}
 use Rattle.cec_judge.specs.Told.{round_as}
 use Rattle.cec_judge.specs.Seen.{first_of}
 use Rattle.cec_judge.specs.Index.{are_in_order, ends_among}

@@ -1,4 +1,3 @@
-use Rattle.std.proofs.Common.{[]}
 use Rattle.std.proofs.lemmas.List.Elements.{All-nil}
 use Rattle.cec_net.proofs.InRound.{no_wire}
 use Rattle.cec_net.proofs.Soundness.{sound-start}

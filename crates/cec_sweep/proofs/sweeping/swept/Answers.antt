@@ -1,4 +1,4 @@
-use Rattle.std.proofs.Common.{◌≡◌, ◌+◌, ap, arith}
+use Rattle.std.proofs.Common.{◌+◌, ap, arith}
 use Rattle.cec_sweep.specs.Stretches.{StretchesDraft, draft_as}
 use Rattle.cec_sweep.specs.Sweep.{AreVerdictsAt}
 use Rattle.cec_sweep.proofs.Refused.{refused_first, refused_later}

@@ -1,4 +1,4 @@
-use Rattle.std.proofs.Common.{◌≡◌, ◌+◌, ◌<◌, ◌∷◌, [], drop, get_or, ap, subst, arith, sym, ◌∙◌}
+use Rattle.std.proofs.Common.{◌≡◌, ◌+◌, ◌<◌, ◌∷◌, [], drop, ap, subst, arith, sym, ◌∙◌}
 use Rattle.std.specs.Option.{option_copied}
 use Rattle.hdmi_core.specs.Words.{words_of, words_after}
 use Rattle.hdmi_edtext.specs.Refusal.{word_count}
