@@ -23,6 +23,7 @@ use Rattle.cec_asm.specs.Fault.{at_word}
 use Rattle.cec_asm.specs.declared.fault.LineFault.{LineFault}
 use Rattle.cec_asm.specs.declared.script.ScriptCause.TheVariants.{Word, TooMany, End}
 use Rattle.cec_asm.specs.Script.{Notes, time_of, last_time, last_end, notes_with_event, plug_read, plug_words, unplug_read, unplug_words, key_read, key_words, act_read, hold_words, drop_words, send_read, event_words, unless_fault, pulse_read, pulse_words, end_read, end_words, other_words, IsSendRead, IsEventRead, IsWordsRead, IsLineRead}
+use Rattle.cec_wave.specs.Bounds.{most_pulses}
 
 -- ---- what a line adds
 
@@ -33,7 +34,7 @@ pub record IsMore (waiting : ℕ) (old new : Notes) : Type 0 where
   pub pulses_are : new.pulses ≡ old.pulses ++ pulses
   pub few_events : length events ≤ 1
   pub few_pulses : length pulses ≤ 1
-  pub room : waiting + length pulses ≤ max waiting 4096
+  pub room : waiting + length pulses ≤ max waiting most_pulses
 
 with_none : (waiting : ℕ) (notes : Notes) → IsMore waiting notes notes
 with_none waiting notes = record {

@@ -14,7 +14,7 @@ use Rattle.hdmi_topo.specs.Node.{Node}
 use Rattle.hdmi_topo.specs.Tree.{device_named}
 use Rattle.cec_feature.specs.declared.keys.Key.{Key as KeyValue}
 use Rattle.cec_wave.proofs.Sparse.{faultless_are_sparse}
-use Rattle.cec_wave.specs.Bounds.{latest_event}
+use Rattle.cec_wave.specs.Bounds.{latest_event, most_pulses}
 use Rattle.hdmi_core.specs.Lines.{lines_of, is_skipped}
 use Rattle.cec_text.specs.FrameReading.{is_frame}
 use Rattle.cec_text.specs.declared.assembler.AssembleError.{AssembleError}
@@ -118,8 +118,8 @@ first_fault-append before (first ∷ pulses) pulse h g =
     let parts = no_first (stretch_fault before first) (first_fault (Some first.to) pulses) h in
     both_none (stretch_fault before first) (first_fault (Some first.to) (pulses ++ pulse ∷ [])) parts.0 (first_fault-append (Some first.to) pulses pulse parts.1 g)
 
-pub faultless : (pulses : List Stretch) → length pulses ≤ 4096 → first_fault None pulses ≡ None → pulses_fault pulses ≡ None
-faultless pulses h g = let not_many : nat_lt 4096 (length pulses) ≡ false = grind (arith, nat_tests) in rw not_many g
+pub faultless : (pulses : List Stretch) → length pulses ≤ most_pulses → first_fault None pulses ≡ None → pulses_fault pulses ≡ None
+faultless pulses h g = let not_many : nat_lt most_pulses (length pulses) ≡ false = grind (arith, nat_tests) in rw not_many g
 
 one_more : (pulses : List Stretch) (pulse : Stretch) → first_fault None pulses ≡ None → stretch_fault (last_end pulses) pulse ≡ None → first_fault None (pulses ++ pulse ∷ []) ≡ None
 one_more pulses pulse h g = first_fault-append None pulses pulse h (ap (λ e. stretch_fault e pulse) (sym (last_end-end_from pulses)) ∙ g)
@@ -293,7 +293,7 @@ pulsed-keeps : (count : ℕ) (notes : Notes) (waiting : ℕ) (pulse : Stretch) �
 pulsed-keeps count notes waiting pulse s within =
     elim (stretch_fault (last_end notes.pulses) pulse) as (λ o. stretch_fault (last_end notes.pulses) pulse ≡ o → Keeps count (unless_fault o notes waiting pulse)) [
       | Some fault ↦ λ e. keeps_err count _ refl
-      | None ↦ λ e. keeps_if count (nat_le 4096 waiting) _ _ (λ full. keeps_err count _ refl)
+      | None ↦ λ e. keeps_if count (nat_le most_pulses waiting) _ _ (λ full. keeps_err count _ refl)
           (λ room. keeps_if count (is_some notes.end) _ _ (λ ended. keeps_err count _ refl)
           (λ unended. keeps_ok count _ (record {
             schedule = s.schedule;
@@ -358,7 +358,7 @@ line-keeps tree notes waiting line text next s h =
     (λ q. words-keep tree notes waiting line (words_of text) next s q) h
 
 -- what the lines keep at the end is a script
-sound_script : (count : ℕ) (notes : Notes) (line : ℕ) (course : Course) → AreSound count notes → length notes.pulses ≤ 4096 → Ok course ≡ course_at_end notes line notes.end → IsScript count course
+sound_script : (count : ℕ) (notes : Notes) (line : ℕ) (course : Course) → AreSound count notes → length notes.pulses ≤ most_pulses → Ok course ≡ course_at_end notes line notes.end → IsScript count course
 sound_script count notes line course s few h =
     let Is : Course → Type 0 = λ found. IsScript count found in
     elim notes.end as (λ o. notes.end ≡ o → Ok course ≡ course_at_end notes line o → IsScript count course) [
@@ -369,13 +369,13 @@ sound_script count notes line course s few h =
           subst Is same (record { schedule = r.0; framed = s.framed; sparse = (faultless_are_sparse notes.pulses).0 (faultless notes.pulses few s.apart); early = s.early; limit = r.1 }))
     ] refl h
 
-lines-sound : (tree : List Node) (texts : List (List ℕ)) (line : ℕ) (notes : Notes) (course : Course) → AreSound (length tree) notes → length notes.pulses ≤ 4096 → AreLinesRead tree texts line notes (Ok course)
+lines-sound : (tree : List Node) (texts : List (List ℕ)) (line : ℕ) (notes : Notes) (course : Course) → AreSound (length tree) notes → length notes.pulses ≤ most_pulses → AreLinesRead tree texts line notes (Ok course)
     → IsScript (length tree) course
 lines-sound tree [] line notes course s few h = sound_script (length tree) notes line course s few h
 lines-sound tree (text ∷ texts) line notes course s few h = step h.0 h.1 h.2 (λ next n room. lines-sound tree texts (line + 1) next course n room)
   where
     step : (r : Result Notes LineFault) → IsLineRead tree notes (length notes.pulses) line text r → Onward line r (λ next. AreLinesRead tree texts (line + 1) next (Ok course)) (Ok course)
-        → ((next : Notes) → AreSound (length tree) next → length next.pulses ≤ 4096 → AreLinesRead tree texts (line + 1) next (Ok course) → IsScript (length tree) course) → IsScript (length tree) course
+        → ((next : Notes) → AreSound (length tree) next → length next.pulses ≤ most_pulses → AreLinesRead tree texts (line + 1) next (Ok course) → IsScript (length tree) course) → IsScript (length tree) course
     step (Ok next) l k on = on next (line-keeps tree notes (length notes.pulses) line text next s l) (few_pulses tree notes line text next l few) k
     step (Err fault) l k on = cc
 

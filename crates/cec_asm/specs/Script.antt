@@ -7,7 +7,7 @@ use Rattle.cec_wave.specs.declared.Stretch.{Stretch}
 use Rattle.cec_wave.specs.declared.PulsesError.{PulsesError}
 use Rattle.cec_wave.specs.declared.PulsesError.TheVariants as faults
 use Rattle.cec_wave.specs.Pulses.{stretch_fault, AreSparse}
-use Rattle.cec_wave.specs.Bounds.{latest_event}
+use Rattle.cec_wave.specs.Bounds.{latest_event, most_pulses}
 use Rattle.cec_feature.specs.declared.keys.Key.{Key as KeyValue}
 use Rattle.hdmi_topo.specs.Node.{Node}
 use Rattle.hdmi_topo.specs.Tree.{device_named}
@@ -196,7 +196,7 @@ last_end pulses = option_map (λ pulse. pulse.to) (slice_get pulses (length puls
 abbrev pub unless_fault : Option PulsesError → Notes → ℕ → Stretch → Result Notes LineFault
 unless_fault (Some fault) notes waiting pulse = Err (pulse_fault fault)
 unless_fault None notes waiting pulse =
-    if nat_le 4096 waiting then Err (at_word 0 TooMany)
+    if nat_le most_pulses waiting then Err (at_word 0 TooMany)
     else if is_some notes.end then Err (at_word 0 End)
     else Ok (record notes { pulses = notes.pulses ++ pulse ∷ [] })
 

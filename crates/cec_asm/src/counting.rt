@@ -6,7 +6,7 @@ ghost use Rattle.hdmi_core.specs.Words.{words_after};
 use hdmi_core::first_word;
 
 /// How many words are left, or so many where there are more.
-pub fn word_count(rest: Option<&[u8]>, most: u8) -> u8
+pub fn word_count(rest: Option<&[u8]>, most: usize) -> usize
     ensures { result ≡ min (length (words_after (option_copied rest.entry))) most }
 {
     let mut left = rest;

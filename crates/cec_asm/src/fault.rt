@@ -13,26 +13,26 @@ use cec_text::AssembleError;
 #[derive(Clone, Copy, Debug, Drop, PartialEq, Eq)]
 pub struct LineFault {
     pub cause: ScriptCause,
-    pub word: u8,
+    pub word: usize,
 }
 
 /// A word at fault.
-pub fn at_word(word: u8, cause: ScriptCause) -> LineFault
+pub fn at_word(word: usize, cause: ScriptCause) -> LineFault
     ensures { result ≡ at_word word cause }
 {
     LineFault { cause, word }
 }
 
 /// Of words after so many, of which others than so many are left.
-pub fn misfit(before: u8, rest: Option<&[u8]>, wanted: u8) -> LineFault
-    requires few { before + wanted ≤ 255 }
+pub fn misfit(before: usize, rest: Option<&[u8]>, wanted: usize) -> LineFault
+    requires few { before + wanted ≤ 18446744073709551615 }
     ensures { result ≡ misfit before (length (words_after (option_copied rest.entry))) wanted }
 {
     at_word(before + word_count(rest, wanted), ScriptCause::Word)
 }
 
 /// The word of a frame's text from which on it is at fault.
-pub fn frame_word(cause: AssembleError) -> u8
+pub fn frame_word(cause: AssembleError) -> usize
     ensures { result ≡ frame_word cause }
 {
     match cause {

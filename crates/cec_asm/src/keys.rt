@@ -93,7 +93,7 @@ fn control_in(word: &[u8]) -> Option<UserControl>
 }
 
 // How many words stand after a key's first one.
-fn values_of(word: KeyWord) -> u8
+fn values_of(word: KeyWord) -> usize
     ensures value { result ≡ values_of word }
     ensures few { result ≤ 2 }
 {

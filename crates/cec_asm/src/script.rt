@@ -76,7 +76,7 @@ pub enum ScriptError {
     At {
         line: u64,
         cause: ScriptCause,
-        word: u8,
+        word: usize,
     },
     #[error("no memory")]
     Memory,

@@ -72,7 +72,7 @@ pub enum TopologyError {
     At {
         line: u64,
         cause: TopologyCause,
-        word: u8,
+        word: usize,
     },
     #[error("no memory")]
     Memory,
@@ -82,7 +82,7 @@ pub enum TopologyError {
 #[derive(Clone, Copy, Debug, Drop)]
 struct LineFault {
     cause: TopologyCause,
-    word: u8,
+    word: usize,
 }
 
 /// Why a line is not taken.
@@ -92,14 +92,14 @@ enum TopologyLineError {
     Memory,
 }
 
-fn at_word(word: u8, cause: TopologyCause) -> TopologyLineError
+fn at_word(word: usize, cause: TopologyCause) -> TopologyLineError
     ensures { result ≡ Fault (at_word word cause) }
 {
     TopologyLineError::Fault(LineFault { cause, word })
 }
 
 // Of words after the first one, of which others than so many are left.
-fn misfit(rest: Option<&[u8]>, wanted: u8) -> TopologyLineError
+fn misfit(rest: Option<&[u8]>, wanted: usize) -> TopologyLineError
     requires few { wanted ≤ 3 }
     ensures { result ≡ Fault (misfit (length (words_after (option_copied rest.entry))) wanted) }
 {

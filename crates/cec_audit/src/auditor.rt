@@ -8,6 +8,7 @@ ghost use Rattle.cec_audit.specs.Lines.{timing_text};
 ghost use Rattle.cec_audit.specs.Progress.{WritesOn};
 ghost use Rattle.cec_timing.specs.Lows.{place_of};
 ghost use Rattle.cec_timing.specs.Spreads.{no_widths, with_slots};
+ghost use Rattle.cec_wave.specs.Bounds.{most_sent};
 
 use crate::lines::{
     write_counts, write_drive, write_failure, write_late, write_misfits, write_moved, write_series,
@@ -20,8 +21,8 @@ use cec_remarks::{
     Attempts, Before, Counts, Places, Series, Waiting, after_frame, count_reading, delivered_frame,
     is_bad_start, moved_from, no_counts, no_places, note_report, sender, unknown_source,
 };
-use cec_timing::{Cursor, LOWS, Low, Widths, first_low, low_drive, lows_before};
-use cec_wave::Edge;
+use cec_timing::{Cursor, Low, Widths, first_low, low_drive, lows_before};
+use cec_wave::{Edge, MOST_SENT};
 use hdmi_core::{Piece, Sink};
 
 /// What is kept of the readings so far.
@@ -48,7 +49,7 @@ fn falls_until(ending: Ending, at: u64) -> u64
     }
 }
 
-fn lows_of(reading: &Reading, cursor: &Cursor) -> ArrayVec<Low, LOWS>
+fn lows_of(reading: &Reading, cursor: &Cursor) -> ArrayVec<Low, MOST_SENT>
     ensures { result.items ≡ lows_of (listed_as reading.now) (place_of cursor.now) }
 {
     lows_before(cursor.edges(), falls_until(reading.ending, reading.at))
@@ -79,7 +80,7 @@ fn write_reading_misfits<S: Sink>(
     progress: &mut Progress,
     out: &mut S,
 )
-    requires { length lows.now ≤ 161 }
+    requires { length lows.now ≤ most_sent }
     ensures { WritesOn (S.contents out.old) (S.contents out.new) (S.is_stuck out.old) (S.is_stuck out.new)
         (reading_misfits series (listed_as reading.now) lows.now) progress.old.so_far progress.new.so_far }
 {
@@ -91,7 +92,7 @@ fn write_reading_misfits<S: Sink>(
 
 // The widths of one reading.
 fn widths_of(reading: &Reading, lows: &[Low]) -> Widths
-    requires { length lows.now ≤ 161 }
+    requires { length lows.now ≤ most_sent }
     ensures { result ≡ with_slots reading.now.ending reading.now.bits.items 0 lows.now no_widths }
 {
     let mut widths = Widths::new();
@@ -107,7 +108,7 @@ fn write_reading_widths<S: Sink>(
     progress: &mut Progress,
     out: &mut S,
 )
-    requires { length lows.now ≤ 161 }
+    requires { length lows.now ≤ most_sent }
     ensures { WritesOn (S.contents out.old) (S.contents out.new) (S.is_stuck out.old) (S.is_stuck out.new)
         (timing_text timing (with_slots reading.now.ending reading.now.bits.items 0 lows.now no_widths)) progress.old.so_far progress.new.so_far }
 {
@@ -150,7 +151,7 @@ impl<'a> Auditor<'a> {
         out: &mut S,
     )
         requires lows { lows.now ≡ lows_of (listed_as reading.now) (tape_of self.now).place }
-        requires few { length lows.now ≤ 161 }
+        requires few { length lows.now ≤ most_sent }
         ensures { WritesOn (S.contents out.old) (S.contents out.new) (S.is_stuck out.old) (S.is_stuck out.new)
             (times_text (tape_of self.now) (listed_as reading.now)) progress.old.so_far progress.new.so_far }
     {
@@ -192,7 +193,7 @@ impl<'a> Auditor<'a> {
         out: &mut S,
     )
         requires lows { lows.now ≡ lows_of (listed_as reading.now) (tape_of self.now).place }
-        requires few { length lows.now ≤ 161 }
+        requires few { length lows.now ≤ most_sent }
         requires frame { frame.now ≡ delivered_frame (listed_as reading.now) }
         ensures { WritesOn (S.contents out.old) (S.contents out.new) (S.is_stuck out.old) (S.is_stuck out.new)
             (remarks_text timing (tape_of self.now) (listed_as reading.now)) progress.old.so_far progress.new.so_far }
@@ -205,7 +206,7 @@ impl<'a> Auditor<'a> {
     // A reading is kept.
     fn note(&mut self, reading: &Reading, lows: &[Low], frame: &[u8])
         requires lows { lows.now ≡ lows_of (listed_as reading.now) (tape_of self.old).place }
-        requires few { length lows.now ≤ 161 }
+        requires few { length lows.now ≤ most_sent }
         requires frame { frame.now ≡ delivered_frame (listed_as reading.now) }
         ensures { tape_of self.new ≡ tape_after (listed_as reading.now) (tape_of self.old) }
     {

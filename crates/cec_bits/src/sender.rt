@@ -7,22 +7,11 @@ mod parts;
 
 use crate::receiver::Told;
 use cec_frame::Frame;
+use cec_wave::{FIRST_SLOT, LOW_OF_0, LOW_OF_1, SLOT, START_LOW};
 pub use parts::SenderParts;
 
-// Low in the start bit for so long, and the first slot falls so long after the start (CEC 5.2.1).
-const START_LOW: u64 = 3700;
-
-const START: u64 = 4500;
-
-// A slot takes so long; a 1 is low for the first, a 0 for the second (CEC 5.2.2).
-const SLOT: u64 = 2400;
-
-const LOW_OF_1: u64 = 600;
-
-const LOW_OF_0: u64 = 1500;
-
-// A block's acknowledge slot is its tenth (CEC 6.1).
-const BLOCK_SLOTS: usize = 10;
+/// The slots of a block: its acknowledge slot is the last of them (CEC 6.1).
+pub const BLOCK_SLOTS: usize = 10;
 
 /// How far a sender has come.
 #[derive(Clone, Copy, Debug, PartialEq, Eq)]
@@ -113,10 +102,10 @@ impl Sender {
     {
         if t < self.begin {
             false
-        } else if t < self.begin + START {
+        } else if t < self.begin + FIRST_SLOT {
             t < self.begin + START_LOW
         } else {
-            self.is_low_in_slots(t - self.begin - START)
+            self.is_low_in_slots(t - self.begin - FIRST_SLOT)
         }
     }
 
@@ -175,10 +164,10 @@ impl Sender {
             Some(self.begin)
         } else if t < self.begin + START_LOW {
             Some(self.begin + START_LOW)
-        } else if t < self.begin + START {
-            Some(self.begin + START)
+        } else if t < self.begin + FIRST_SLOT {
+            Some(self.begin + FIRST_SLOT)
         } else {
-            self.next_in_slots(self.begin + START, t)
+            self.next_in_slots(self.begin + FIRST_SLOT, t)
         }
     }
 

@@ -13,6 +13,7 @@ use Rattle.cec_session.proofs.Kept.{sessions_report_traces_of}
 use Rattle.cec_dialogue.specs.declared.error.SessionError.{SessionError}
 use Rattle.cec_dialogue.specs.declared.error.SessionError.TheVariants.{Read, TooLong, NoScriptLine, Topology, Edid, Script, Write, Memory}
 use Rattle.cec_dialogue.specs.Dialogue.{HasBegun, HasRun, HaveAnswers, IsAnswering, IsFirstPut, IsOpened, IsOpening, IsSession, IsTalk, IsTopologyFault, first_reported, is_write}
+use Rattle.cec_wave.specs.Bounds.{most_pulses}
 
 -- ---- what stands first, and the answers
 
@@ -33,7 +34,7 @@ talked_cut before after s old new Memory first = absurd first
 -- ---- the trace
 
 trace_of : (topology : List ℕ) (s : Session) (b : HasBegun topology s) (lines kept : List (List ℕ)) (reported text : List ℕ) (t : Session) (end : ℕ) (before after old new : Option (List ℕ)) (a : HaveAnswers before after s old new t)
-    → t.notes.end ≡ Some end → length t.notes.pulses ≤ 4096 → IsTraceOf topology (text_of_lines a.kept) (first_reported s ++ a.reported) t.place.totals
+    → t.notes.end ≡ Some end → length t.notes.pulses ≤ most_pulses → IsTraceOf topology (text_of_lines a.kept) (first_reported s ++ a.reported) t.place.totals
 trace_of topology s b lines kept reported text t end before after old new a ended sparse =
     let are : AreLines a.lines (first_session b.edid b.plan.tree) a.kept a.reported a.text t = subst (λ (s : Session). AreLines a.lines s a.kept a.reported a.text t) b.is a.are in
     subst (λ (s : Session). IsTraceOf topology (text_of_lines a.kept) (first_reported s ++ a.reported) t.place.totals) (sym b.is)

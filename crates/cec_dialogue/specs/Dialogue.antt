@@ -5,7 +5,7 @@ use Rattle.hdmi_core.specs.declared.buffered.Buffered.{Buffered}
 use Rattle.hdmi_core.specs.Buffered.{handed_count, pending}
 use Rattle.hdmi_blocks.specs.declared.edid.Edid.{Edid as EdidValue}
 use Rattle.hdmi_core.specs.Lines.{lines_of}
-use Rattle.cec_incoming.specs.Incoming.{IsWhole, Leads, text_of_lines}
+use Rattle.cec_incoming.specs.Incoming.{IsWhole, Leads, text_of_lines, longest_line}
 use Rattle.cec_asm.specs.Topology.{topology_of, Plan}
 use Rattle.hdmi_blocks.specs.Root.{IsRoot, IsNoRoot}
 use Rattle.cec_net.specs.State.{first_net}
@@ -19,6 +19,7 @@ use Rattle.cec_dialogue.specs.declared.error.ScriptEnd.{ScriptEnd}
 use Rattle.cec_dialogue.specs.declared.error.ScriptEnd.TheVariants as ends
 use Rattle.cec_dialogue.specs.declared.error.SessionError.{SessionError}
 use Rattle.cec_dialogue.specs.declared.error.SessionError.TheVariants.{Read, TooLong, NoScriptLine, Topology, Edid, Script, Write, Memory}
+use Rattle.cec_wave.specs.Bounds.{most_pulses}
 
 -- ---- the input
 
@@ -71,7 +72,7 @@ IsTopologyLine before after line (Err (Write count)) = ⊥
 -- why a line is the last that is looked at: the input has ended, or more than 4,096 bytes have come before the line's end
 abbrev pub IsScriptEnd : Option (List ℕ) → Option (List ℕ) → ScriptEnd → Type 0
 IsScriptEnd before after ends.End = IsAtEnd before
-IsScriptEnd before after ends.TooLong = (front : List ℕ) × IsWhole front × (4096 < length front) × Consumes before after front
+IsScriptEnd before after ends.TooLong = (front : List ℕ) × IsWhole front × (longest_line < length front) × Consumes before after front
 
 abbrev pub IsScriptLine : Option (List ℕ) → Option (List ℕ) → List ℕ → ℕ → Result Unit SessionError → Type 0
 IsScriptLine before after line number (Ok done) = IsWhole line × Leads before after line
@@ -245,7 +246,7 @@ pub record IsDone (before after old new : Option (List ℕ)) : Type 0 where
   pub run : HasRun before after old new
   pub over : HasEnded run.mid after run.first run.so_far new
   pub reported : IsRunText (Trace run.begins.edid) over.end (start (first_net run.begins.plan.tree over.last.notes.pulses) over.last.notes.events) (first_reported run.first ++ over.answers.reported) over.last.place.totals
-  pub trace : length over.last.notes.pulses ≤ 4096 → IsTraceOf run.topology (text_of_lines over.answers.kept) (first_reported run.first ++ over.answers.reported) over.last.place.totals
+  pub trace : length over.last.notes.pulses ≤ most_pulses → IsTraceOf run.topology (text_of_lines over.answers.kept) (first_reported run.first ++ over.answers.reported) over.last.place.totals
 
 -- what is put where a session stops
 abbrev pub IsStopped : Option (List ℕ) → Option (List ℕ) → Option (List ℕ) → Option (List ℕ) → ℕ → ScriptEnd → Type 0

@@ -9,7 +9,7 @@ ghost use Rattle.cec_dialogue.specs.declared.error.SessionError.TheVariants.{Wri
 use crate::error::{ScriptEnd, SessionError};
 use crate::opening::{begin, topology_text};
 use arrayvec::ArrayVec;
-use cec_incoming::{LineFault, Lines};
+use cec_incoming::{LONGEST_LINE, LineFault, Lines};
 use cec_session::{Live, LiveError};
 use hdmi_core::{Buffered, Sink};
 use std::alloc::Global;
@@ -43,7 +43,7 @@ fn put_first<S: Sink>(live: &Live, out: &mut Buffered<S>) -> Result<(), SessionE
 fn next_line<R: Read>(
     lines: &mut Lines,
     input: &mut R,
-    line: &mut ArrayVec<u8, 4096>,
+    line: &mut ArrayVec<u8, LONGEST_LINE>,
     number: u64,
 ) -> Result<(), SessionError>
     ensures { IsScriptLine (to_come lines.old (R.remaining input.old)) (to_come lines.new (R.remaining input.new)) line.new.items number result }
@@ -91,7 +91,7 @@ fn answer<R: Read, S: Sink>(
     live: &mut Live,
     lines: &mut Lines,
     input: &mut R,
-    line: &mut ArrayVec<u8, 4096>,
+    line: &mut ArrayVec<u8, LONGEST_LINE>,
     out: &mut Buffered<S>,
 ) -> Result<(), SessionError>
     ensures answered { IsAnswering (to_come lines.old (R.remaining input.old)) (to_come lines.new (R.remaining input.new)) live.old
@@ -118,7 +118,7 @@ fn talk<R: Read, S: Sink>(
     live: &mut Live,
     lines: &mut Lines,
     input: &mut R,
-    line: &mut ArrayVec<u8, 4096>,
+    line: &mut ArrayVec<u8, LONGEST_LINE>,
     out: &mut Buffered<S>,
 ) -> Result<(), SessionError>
     ensures talked { IsTalk (to_come lines.old (R.remaining input.old)) (to_come lines.new (R.remaining input.new)) live.old

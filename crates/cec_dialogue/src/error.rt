@@ -17,7 +17,7 @@ pub enum SessionError {
     Topology {
         line: u64,
         cause: TopologyCause,
-        word: u8,
+        word: usize,
     },
     /// The topology's bytes of an EDID are refused.
     #[error("edid: {0}")]

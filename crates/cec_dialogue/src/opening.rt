@@ -8,7 +8,7 @@ ghost use Rattle.cec_dialogue.specs.Dialogue.{IsBegun, IsOpening, IsTopologyLine
 use crate::error::SessionError;
 use arrayvec::ArrayVec;
 use cec_asm::{TopologyError, parse_topology};
-use cec_incoming::{LineFault, Lines};
+use cec_incoming::{LONGEST_LINE, LineFault, Lines};
 use cec_session::Live;
 use hdmi_blocks::root_of;
 use std::alloc::{AllocError, Global};
@@ -36,7 +36,7 @@ fn add_line(text: &mut Vec<u8>, line: &[u8]) -> Result<(), AllocError>
 fn next_line<R: Read>(
     lines: &mut Lines,
     input: &mut R,
-    line: &mut ArrayVec<u8, 4096>,
+    line: &mut ArrayVec<u8, LONGEST_LINE>,
 ) -> Result<(), SessionError>
     ensures { IsTopologyLine (to_come lines.old (R.remaining input.old)) (to_come lines.new (R.remaining input.new)) line.new.items result }
 {
@@ -58,7 +58,7 @@ pub(crate) fn topology_text<R: Read>(
     alloc: Global,
     lines: &mut Lines,
     input: &mut R,
-    line: &mut ArrayVec<u8, 4096>,
+    line: &mut ArrayVec<u8, LONGEST_LINE>,
 ) -> Result<Vec<u8>, SessionError>
     ensures { IsOpening (to_come lines.old (R.remaining input.old)) (to_come lines.new (R.remaining input.new)) (result_map_both (λ text. text.items) (λ error. error) result) }
 {

@@ -3,7 +3,7 @@ use Rattle.std.proofs.Common.{◌≡◌, ℕ, ◌≤◌, List, length, arith, sy
 use Rattle.cec_wave.specs.declared.Stretch.{Stretch}
 use Rattle.cec_wave.specs.Line.{IsWave}
 use Rattle.cec_wave.specs.Pulses.{AreSparse}
-use Rattle.cec_wave.specs.Bounds.{latest_instant, latest_heard}
+use Rattle.cec_wave.specs.Bounds.{latest_instant, latest_heard, most_stretches}
 use Rattle.cec_wire.specs.declared.Outcome.{Outcome}
 use Rattle.cec_wire.specs.Bounds.{begun_within}
 use Rattle.cec_wire.proofs.Bounds.{rounds_are_short}
@@ -13,7 +13,7 @@ use Rattle.cec_net.specs.Progress.{IsProgress}
 use Rattle.cec_net.proofs.Rounds.{short_round}
 
 pub record Bounds (begin : ℕ) (pulses : List Stretch) (o : Outcome) : Type 0 where
-  pub few : length (begun_within begin o.rest pulses) ≤ 192
+  pub few : length (begun_within begin o.rest pulses) ≤ most_stretches
   pub at : o.reading.at ≤ latest_heard
   pub later : begin ≤ o.rest
   pub rest : o.rest ≤ latest_heard
@@ -26,7 +26,7 @@ bounds net new begin pulses o same sparse wave soon next progress =
     let few = rounds_are_short.few (seats_of net begin) begin net.pulses o own wave next.round in
     let rest : new.rest ≡ o.rest = ap (λ (n : NetState). n.rest) next.after_is in
     record {
-      few = subst (λ ps. length (begun_within begin o.rest ps) ≤ 192) (sym same) (omega (arith, few));
+      few = subst (λ ps. length (begun_within begin o.rest ps) ≤ most_stretches) (sym same) (omega (arith, few));
       at = omega (arith, short.at);
       later = omega (arith, progress.low, rest);
       rest = omega (arith, short.rest);

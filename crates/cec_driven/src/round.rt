@@ -1,6 +1,6 @@
 //! One round, and who drives its line.
 ghost use Rattle.std.specs.Prelude.{◌≡◌, ◌+◌, ◌<◌, ◌≤◌, length, Some};
-ghost use Rattle.cec_wave.specs.Bounds.{latest_heard, latest_instant};
+ghost use Rattle.cec_wave.specs.Bounds.{latest_heard, latest_instant, most_stretches};
 ghost use Rattle.cec_tally.specs.Adds.{Adds};
 ghost use Rattle.cec_wire.specs.Bounds.{begun_within};
 ghost use Rattle.cec_net.specs.State.{next_start};
@@ -26,7 +26,7 @@ fn write_round<S: Sink>(
     outcome: &Outcome,
 ) -> Result<(), WriteFault>
     requires seats { length seats.now ≤ 15 }
-    requires pulses { length (begun_within begin outcome.now.rest pulses.now) ≤ 192 }
+    requires pulses { length (begun_within begin outcome.now.rest pulses.now) ≤ most_stretches }
     requires begin { begin ≤ latest_instant }
     requires early { outcome.now.reading.at ≤ latest_heard }
     requires rest { (begin ≤ outcome.now.rest) × (outcome.now.rest ≤ latest_heard) }

@@ -4,8 +4,9 @@ use Rattle.std.specs.List.{flat_map, range_with_len}
 use Rattle.cec_wave.specs.Sender.{sender_stretches, slot_stretches}
 use Rattle.cec_frame.specs.Bits.{frame_bits}
 use Rattle.cec_frame.proofs.Slots.{length-frame_bits}
+use Rattle.cec_wave.specs.Bounds.{most_sent, most_slots}
 
-pub frame_room : (f : List ℕ) → length f ≤ 16 → length (frame_bits f) ≤ 160
+pub frame_room : (f : List ℕ) → length f ≤ 16 → length (frame_bits f) ≤ most_slots
 frame_room f few = omega (arith, length-frame_bits f)
 
 -- one bit more
@@ -27,7 +28,7 @@ length-slots : (fall : ℕ) (bits : List Bool) → length (slot_stretches fall b
 length-slots fall [] = refl
 length-slots fall (b ∷ bits) = ap suc (length-slots (fall + 2400) bits)
 
-pub sent_room : (begin : ℕ) (bits : List Bool) → length bits ≤ 160 → length (sender_stretches begin bits) ≤ 161
+pub sent_room : (begin : ℕ) (bits : List Bool) → length bits ≤ most_slots → length (sender_stretches begin bits) ≤ most_sent
 sent_room begin bits few = omega (arith, length-slots (begin + 4500) bits)
 
 -- the first of so many numbers

@@ -1,6 +1,6 @@
 //! The drives of a round: of each seat, and of the pulses.
 ghost use Rattle.std.specs.Prelude.{◌≡◌, ◌+◌, ◌<◌, ◌≤◌, ◌++◌, length};
-ghost use Rattle.cec_wave.specs.Bounds.{latest_instant, latest_heard};
+ghost use Rattle.cec_wave.specs.Bounds.{latest_instant, latest_heard, most_stretches};
 ghost use Rattle.cec_wire.specs.Bounds.{begun_within};
 ghost use Rattle.cec_drives.specs.Stretches.{drives_from, drives_of};
 
@@ -15,7 +15,7 @@ pub const MOST_DRIVES: usize = 16;
 
 // Adds the pulses that begin from one instant to another.
 fn push_begun(drive: &mut Drive, pulses: &[Stretch], begin: u64, end: u64)
-    requires { length drive.old + length (begun_within begin end pulses.now) ≤ 192 }
+    requires { length drive.old + length (begun_within begin end pulses.now) ≤ most_stretches }
     ensures { drive.new ≡ drive.old ++ begun_within begin end pulses.now }
 {
     let Some((pulse, others)) = pulses.split_first() else {
@@ -30,7 +30,7 @@ fn push_begun(drive: &mut Drive, pulses: &[Stretch], begin: u64, end: u64)
 }
 
 fn begun_drive(pulses: &[Stretch], begin: u64, end: u64) -> Drive
-    requires { length (begun_within begin end pulses.now) ≤ 192 }
+    requires { length (begun_within begin end pulses.now) ≤ most_stretches }
     ensures { result ≡ begun_within begin end pulses.now }
 {
     let mut drive = Drive::new();
@@ -69,7 +69,7 @@ pub fn drives_of(
     outcome: &Outcome,
 ) -> ArrayVec<Drive, MOST_DRIVES>
     requires seats { length seats.now ≤ 15 }
-    requires pulses { length (begun_within begin outcome.now.rest pulses.now) ≤ 192 }
+    requires pulses { length (begun_within begin outcome.now.rest pulses.now) ≤ most_stretches }
     requires begin { begin ≤ latest_instant }
     requires early { outcome.now.reading.at ≤ latest_heard }
     ensures drives { result.items ≡ drives_of seats.now begin pulses.now outcome.now }

@@ -2,32 +2,23 @@
 ghost use Rattle.std.specs.Prelude.{◌≡◌, [], ◌&&◌, ◌+◌, ◌*◌, ◌<◌, ◌≤◌, ◌++◌, nat_le, length, IfSome};
 ghost use Rattle.std.specs.List.{flat_map, range_with_len};
 ghost use Rattle.cec_wave.specs.Sender.{sender_stretches};
-ghost use Rattle.cec_wave.specs.Bounds.{latest_instant, latest_heard};
+ghost use Rattle.cec_wave.specs.Bounds.{latest_instant, latest_heard, most_sent, most_stretches};
 ghost use Rattle.cec_frame.specs.Bits.{frame_bits};
 ghost use Rattle.cec_bits.specs.Sending.{destination};
 ghost use Rattle.cec_wire.specs.Round.{holds_address, is_held};
 ghost use Rattle.cec_drives.specs.Stretches.{ack_in, acknowledges_in, break_stretches, breaks_off, cut_after, goes_to, is_short, last_pull, seat_stretches, seat_stretches_by, sent_stretches, slot_fall};
 
 use arrayvec::ArrayVec;
+use cec_bits::{BLOCK_SLOTS, SAMPLE};
 use cec_frame::{Addr, Ending, Frame};
 use cec_wave::{Stretch, lay};
-use cec_wire::{Outcome, Seat};
+use cec_wire::{ACK_PULL, Outcome, SHORT_PULL, Seat};
 use cec_wires::Drive;
 
-// The tenth slot of each block is its acknowledge slot, and a frame has at most 16 blocks (CEC 6).
-const SLOTS_OF_BLOCK: usize = 10;
-
+// A frame has at most 16 blocks, the first of eight bits of addresses (CEC 6).
 const BLOCKS: usize = 16;
 
 const HEADER_BITS: usize = 8;
-
-// From a slot's fall to its sample, how long it is acknowledged, and how long a fall too early is followed by a pull, in
-// microseconds.
-const SAMPLE: u64 = 1050;
-
-const ACK_PULL: u64 = 1500;
-
-const SHORT_PULL: u64 = 3600;
 
 // ---- the slots
 
@@ -61,7 +52,7 @@ fn last_pull(outcome: &Outcome, out: Option<usize>) -> u64
 
 // Adds stretches up to the end of a microsecond.
 fn push_until(drive: &mut Drive, stretches: &[Stretch], last: u64)
-    requires room { length drive.old + length stretches.now ≤ 161 }
+    requires room { length drive.old + length stretches.now ≤ most_sent }
     requires early { last < 3000000001051 }
     ensures stretches { drive.new ≡ drive.old ++ cut_after last stretches.now }
     ensures room { length drive.new ≤ length drive.old + length stretches.now }
@@ -107,7 +98,7 @@ fn push_sent(drive: &mut Drive, frame: &Frame, begin: u64, last: u64)
     requires begin { begin ≤ latest_instant }
     requires early { last < 3000000001051 }
     ensures stretches { drive.new ≡ cut_after last (sender_stretches begin (frame_bits frame.now)) }
-    ensures room { length drive.new ≤ 161 }
+    ensures room { length drive.new ≤ most_sent }
 {
     let bits = bits_of(frame);
     let wave = lay(bits.as_slice(), begin);
@@ -119,7 +110,7 @@ fn sent(sends: &Option<Frame>, begin: u64, outcome: &Outcome, out: Option<usize>
     requires begin { begin ≤ latest_instant }
     requires early { outcome.now.reading.at ≤ latest_heard }
     ensures stretches { result ≡ sent_stretches begin outcome.now out sends.now }
-    ensures room { length result ≤ 161 }
+    ensures room { length result ≤ most_sent }
 {
     let mut drive = Drive::new();
     if let Some(frame) = sends {
@@ -184,13 +175,13 @@ fn acknowledges(outcome: &Outcome, seat: &Seat, out: Option<usize>, slot: usize)
 
 // Adds the pull in the tenth slot of a block, where the seat acknowledges it.
 fn push_ack(drive: &mut Drive, outcome: &Outcome, seat: &Seat, out: Option<usize>, block: usize)
-    requires room { length drive.old < 192 }
+    requires room { length drive.old < most_stretches }
     requires block { block ≤ 16 }
     requires early { outcome.now.reading.at ≤ latest_heard }
     ensures stretches { drive.new ≡ drive.old ++ ack_in outcome.now seat.now out block }
     ensures room { length drive.new ≤ length drive.old + 1 }
 {
-    let slot = SLOTS_OF_BLOCK * block;
+    let slot = BLOCK_SLOTS * block;
     if !acknowledges(outcome, seat, out, slot) {
         return;
     }
@@ -209,7 +200,7 @@ fn push_acks(
     block: usize,
     count: usize,
 )
-    requires room { length drive.old + count ≤ 192 }
+    requires room { length drive.old + count ≤ most_stretches }
     requires blocks { block + count ≤ 17 }
     requires early { outcome.now.reading.at ≤ latest_heard }
     ensures stretches { drive.new ≡ drive.old ++ flat_map (ack_in outcome.now seat.now out) (range_with_len block count) }
@@ -241,7 +232,7 @@ fn breaks_off(outcome: &Outcome, seat: &Seat, out: Option<usize>) -> bool
 
 // Adds the low drive of a seat after a fall too early, where it does not send (CEC 7.4).
 fn push_break(drive: &mut Drive, outcome: &Outcome, seat: &Seat, out: Option<usize>)
-    requires room { length drive.old < 192 }
+    requires room { length drive.old < most_stretches }
     requires early { outcome.now.reading.at ≤ latest_heard }
     ensures { drive.new ≡ drive.old ++ break_stretches outcome.now seat.now out }
 {

@@ -6,7 +6,7 @@ use Rattle.std.proofs.lemmas.Bool.Decides.{nat_tests}
 use Rattle.cec_wave.specs.declared.Stretch.{Stretch}
 use Rattle.cec_wave.specs.Line.{Line, was_low}
 use Rattle.cec_wave.specs.Pulses.{AreSparse}
-use Rattle.cec_wave.specs.Bounds.{latest_begin}
+use Rattle.cec_wave.specs.Bounds.{latest_begin, most_stretches}
 use Rattle.cec_wire.specs.declared.Seat.{Seat}
 use Rattle.cec_wire.specs.declared.hearing.Stage.{Stage}
 use Rattle.cec_wire.specs.declared.hearing.Stage.TheVariants.{StartLow, StartHigh, InSlot, Over}
@@ -58,7 +58,7 @@ timely_in seats begin pulses t h w = timely_at seats (line_in seats begin pulses
 pub space_in : (seats : List Seat) (begin : ℕ) (pulses : List Stretch) (t : ℕ) (h : Heard) (falls : Bool) → IsHeard seats begin pulses t h → samples h.place t falls ≡ true → length h.bits < 160
 space_in seats begin pulses t h falls w e = has_space seats (line_in seats begin pulses) begin t h.bits h.held h.place falls (stands_in seats begin pulses t h w).stands e
 
-pub room_in : (seats : List Seat) (begin : ℕ) (pulses : List Stretch) (t : ℕ) (h : Heard) → IsHeard seats begin pulses t h → length h.wave < 192
+pub room_in : (seats : List Seat) (begin : ℕ) (pulses : List Stretch) (t : ℕ) (h : Heard) → IsHeard seats begin pulses t h → length h.wave < most_stretches
 room_in seats begin pulses t h w =
     has_room seats begin (pulses ++ []) (line_in seats begin pulses) t h.wave h.since (are_frames seats w.sent) (are_short seats w.sent) (line_sparse pulses w.sparse) (made_round seats begin (pulses ++ [])) (stands_in seats begin pulses t h w).records
 

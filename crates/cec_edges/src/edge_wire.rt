@@ -1,7 +1,7 @@
 //! A line that goes from edge to edge.
 ghost use Rattle.std.specs.Prelude.{◌≡◌, ◌+◌, ◌<◌, ◌≤◌, ◌++◌, ◌&&◌, not, true, false, length, [], All, take, slice_get, IfSome};
 ghost use Rattle.std.specs.List.{list_any};
-ghost use Rattle.cec_wave.specs.Bounds.{latest_begin, latest_heard};
+ghost use Rattle.cec_wave.specs.Bounds.{latest_begin, latest_heard, most_stretches};
 ghost use Rattle.cec_wire.specs.Edges.{sends_low, sends_on, sending_by, is_pulling, IsPull, IsTimely};
 ghost use Rattle.cec_wire.specs.Machine.{next_place, bit_reported, held_after, wave_after, low_since, samples, sends_until, AreSentWell, IsEarly, IsReady};
 
@@ -306,7 +306,7 @@ impl EdgeWire {
         requires early { IsEarly self.old.place }
         requires time { self.old.time ≤ latest_heard }
         requires bits { samples self.old.place self.old.time (is_low && not was) ≡ true → length self.old.bits.items < 160 }
-        requires room { length self.old.recorder.wave < 192 }
+        requires room { length self.old.recorder.wave < most_stretches }
         requires ready { IsReady self.old.recorder.wave self.old.recorder.low_since self.old.time }
         ensures place { self.new.place ≡ next_place self.old.begin self.old.bits.items self.old.place self.old.time (is_low && not was) (not is_low && was) }
         ensures bits { self.new.bits.items ≡ self.old.bits.items ++ bit_reported self.old.place self.old.time (is_low && not was) is_low }

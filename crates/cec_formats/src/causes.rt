@@ -44,7 +44,7 @@ pub enum Cause {
 pub struct CaptureFault {
     pub line: u64,
     pub cause: Cause,
-    pub word: Option<u8>,
+    pub word: Option<usize>,
 }
 
 /// Why a capture is not read.
@@ -66,7 +66,7 @@ fn at(line: u64, cause: Cause) -> CaptureError
     })
 }
 
-fn at_word(line: u64, cause: Cause, word: u8) -> CaptureError
+fn at_word(line: u64, cause: Cause, word: usize) -> CaptureError
     ensures { result ≡ CaptureError.Fault (at_word line cause word) }
 {
     CaptureError::Fault(CaptureFault {

@@ -1,6 +1,7 @@
 //! The frame of a reading.
 ghost use Rattle.std.specs.Prelude.{◌≡◌, ◌+◌, ◌*◌, ◌≤◌, ◌++◌, length};
 ghost use Rattle.cec_frame.specs.Blocks.{bit_value, bytes_of, frame_in};
+ghost use Rattle.cec_frame.specs.Bits.{most_bits};
 
 use crate::{Ending, Frame, Reading};
 use arrayvec::ArrayVec;
@@ -14,7 +15,7 @@ fn bit_value(weight: u8, bit: bool) -> u8
 
 // The bytes of the blocks that were read.
 fn push_bytes(bits: &[bool], bytes: &mut ArrayVec<u8, 16>)
-    requires { length bits.now + 10 * length bytes.old.items ≤ 160 }
+    requires { length bits.now + 10 * length bytes.old.items ≤ most_bits }
     ensures { bytes.new.items ≡ bytes.old.items ++ bytes_of bits.now }
 {
     let [a, b, c, d, e, f, g, h, _last, _ack, bits @ ..] = bits else {

@@ -8,7 +8,7 @@ use Rattle.std.proofs.lemmas.List.Elements.{All-append, All-cons, All-head, All-
 use Rattle.std.proofs.lemmas.List.Sums.{split_at_first, passes_at_first}
 use Rattle.std.proofs.lemmas.List.Splits.{slice_split_at, length-slice_split}
 use Rattle.hdmi_core.specs.Lines.{lines_of, without_empty_end}
-use Rattle.cec_incoming.specs.Incoming.{IsFilled, IsNext, IsPiece, IsWhole, Leads, text_of_lines}
+use Rattle.cec_incoming.specs.Incoming.{IsFilled, IsNext, IsPiece, IsWhole, Leads, text_of_lines, longest_line}
 use Rattle.cec_incoming.specs.declared.incoming.Piece.TheVariants.{Nothing, Part, End, Over}
 
 -- ---- what is left
@@ -142,7 +142,7 @@ end_is old mid line left new after rest whole come filled piece =
     (subst (λ (l : List ℕ). Leads old (prepend_known new rest) l) (sym piece.3) leads, subst (λ (l : List ℕ). IsWhole l) (sym piece.3) is)
 
 pub over_is : (old mid : Option (List ℕ)) (line left new after : List ℕ) (rest : Option (List ℕ)) → IsWhole line → Consumes old mid line
-    → IsFilled mid (prepend_known left rest) left (Ok tt) → IsPiece left new line after Over → (front : List ℕ) × IsWhole front × (4096 < length front) × Consumes old (prepend_known new rest) front
+    → IsFilled mid (prepend_known left rest) left (Ok tt) → IsPiece left new line after Over → (front : List ℕ) × IsWhole front × (longest_line < length front) × Consumes old (prepend_known new rest) front
 over_is old mid line left new after rest whole come filled piece =
     let at = piece.0 in
     let so = still old mid (prepend_known left rest) line come filled.0 in (
@@ -167,7 +167,7 @@ no_end_before (x ∷ xs) (suc n) low =
     ] refl low
 
 pub part_of : (left new line after : List ℕ) (count : ℕ) → count ≡ position_or_len (λ b. b == 10) left → 0 < length left → count ≡ length left → new ≡ drop count left → after ≡ line ++ take count left
-    → length line + length (take count left) ≤ 4096 → IsPiece left new line after Part
+    → length line + length (take count left) ≤ longest_line → IsPiece left new line after Part
 part_of left new line after count first some all rest more fits = (
   take count left,
   no_end_before left count (omega (arith, first)),
@@ -189,7 +189,7 @@ end_of left new line after count first inside rest more =
       more,
     )
 
-pub over_of : (left new line after : List ℕ) (count room : ℕ) → count ≡ position_or_len (λ b. b == 10) left → count ≤ length left → room + length line ≡ 4096 → room < count → new ≡ drop (room + 1) left
+pub over_of : (left new line after : List ℕ) (count room : ℕ) → count ≡ position_or_len (λ b. b == 10) left → count ≤ length left → room + length line ≡ longest_line → room < count → new ≡ drop (room + 1) left
     → IsPiece left new line after Over
 over_of left new line after count room first within full over rest = (
   take (room + 1) left,

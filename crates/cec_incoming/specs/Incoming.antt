@@ -9,6 +9,10 @@ use Rattle.cec_incoming.specs.declared.incoming.LineFault.TheVariants.{Read, Too
 use Rattle.cec_incoming.specs.declared.incoming.Piece.{Piece}
 use Rattle.cec_incoming.specs.declared.incoming.Piece.TheVariants.{Nothing, Part, End, Over}
 
+-- the most bytes of a line, without its end
+abbrev pub longest_line : ℕ
+longest_line = 4096
+
 -- what was read and is not handed out
 abbrev pub bytes_left : Lines → List ℕ
 bytes_left lines = drop lines.handed (take lines.given lines.pending)
@@ -35,7 +39,7 @@ Leads (Some before) (Some after) line = lines_of before ≡ line ∷ lines_of af
 abbrev pub IsNext : Option (List ℕ) → Option (List ℕ) → List ℕ → Result Bool LineFault → Type 0
 IsNext old new line (Ok true) = Leads old new line
 IsNext old new line (Ok false) = IsAtEnd old
-IsNext old new line (Err TooLong) = (front : List ℕ) × IsWhole front × (4096 < length front) × Consumes old new front
+IsNext old new line (Err TooLong) = (front : List ℕ) × IsWhole front × (longest_line < length front) × Consumes old new front
 IsNext old new line (Err Read) = Unit {0}
 
 -- ---- pieces
@@ -48,6 +52,6 @@ IsFilled old new pending (Err fault) = Unit {0}
 -- what was left, what is left then, and the line before and after a piece of it was handed out
 abbrev pub IsPiece : List ℕ → List ℕ → List ℕ → List ℕ → Piece → Type 0
 IsPiece old new line after Nothing = (old ≡ []) × (new ≡ []) × (after ≡ line)
-IsPiece old new line after Part = (piece : List ℕ) × IsWhole piece × (0 < length piece) × (length line + length piece ≤ 4096) × (old ≡ piece ++ new) × (after ≡ line ++ piece)
+IsPiece old new line after Part = (piece : List ℕ) × IsWhole piece × (0 < length piece) × (length line + length piece ≤ longest_line) × (old ≡ piece ++ new) × (after ≡ line ++ piece)
 IsPiece old new line after End = (piece : List ℕ) × IsWhole piece × (old ≡ piece ++ 10 ∷ new) × (after ≡ line ++ piece)
-IsPiece old new line after Over = (piece : List ℕ) × IsWhole piece × (4096 < length line + length piece) × (old ≡ piece ++ new)
+IsPiece old new line after Over = (piece : List ℕ) × IsWhole piece × (longest_line < length line + length piece) × (old ≡ piece ++ new)

@@ -1,11 +1,17 @@
 //! Lines as they come.
 ghost use Rattle.std.specs.Prelude.{◌≡◌, ◌+◌, ◌≤◌, [], ◌++◌, drop, length, OnOk};
-ghost use Rattle.cec_incoming.specs.Incoming.{IsFilled, IsNext, IsPiece, IsWhole, bytes_left, to_come};
+ghost use Rattle.cec_incoming.specs.Incoming.{IsFilled, IsNext, IsPiece, IsWhole, bytes_left, to_come, longest_line};
 
 use arrayvec::ArrayVec;
 use hdmi_core::{after, before, len_before};
 use std::io::Read;
 use thiserror::Error;
+
+/// The most bytes of a line, without its end.
+pub const LONGEST_LINE: usize = 4096;
+
+// So many bytes are read at a time, at most.
+const READ: usize = 4096;
 
 /// Why no line could be read.
 #[derive(Clone, Copy, Debug, Drop, PartialEq, Eq, Error)]
@@ -34,7 +40,7 @@ enum Piece {
 #[derive(Drop)]
 pub struct Lines {
     /// What the last read gave stands first.
-    pending: [u8; 4096],
+    pending: [u8; READ],
     /// How many bytes it gave.
     given: usize,
     /// How many of these bytes were handed out.
@@ -42,8 +48,8 @@ pub struct Lines {
 }
 
 // Adds bytes to a line that has room for them.
-fn add(line: &mut ArrayVec<u8, 4096>, bytes: &[u8])
-    requires { length line.old.items + length bytes.now ≤ 4096 }
+fn add(line: &mut ArrayVec<u8, LONGEST_LINE>, bytes: &[u8])
+    requires { length line.old.items + length bytes.now ≤ longest_line }
     ensures { line.new.items ≡ line.old.items ++ bytes.now }
 {
     let _ = line.try_extend_from_slice(bytes);
@@ -55,7 +61,7 @@ impl Lines {
         ensures { bytes_left result ≡ [] }
     {
         Lines {
-            pending: [0; 4096],
+            pending: [0; READ],
             given: 0,
             handed: 0,
         }
@@ -101,7 +107,7 @@ impl Lines {
     }
 
     // Hands out what is left of the line, as far as it was read.
-    fn piece(&mut self, line: &mut ArrayVec<u8, 4096>) -> Piece
+    fn piece(&mut self, line: &mut ArrayVec<u8, LONGEST_LINE>) -> Piece
         ensures { IsPiece (bytes_left self.old) (bytes_left self.new) line.old.items line.new.items result }
     {
         let left = self.left();
@@ -132,7 +138,7 @@ impl Lines {
     pub fn next<R: Read>(
         &mut self,
         input: &mut R,
-        line: &mut ArrayVec<u8, 4096>,
+        line: &mut ArrayVec<u8, LONGEST_LINE>,
     ) -> Result<bool, LineFault>
         ensures whole { OnOk result (IsWhole line.new.items) }
         ensures next { IsNext (to_come self.old (R.remaining input.old)) (to_come self.new (R.remaining input.new)) line.new.items result }

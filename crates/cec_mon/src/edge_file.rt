@@ -22,9 +22,9 @@ pub enum EdgeLine {
 #[derive(Clone, Copy, Debug, PartialEq, Eq)]
 pub enum EdgeFault {
     /// It is ill-formed, or stands after the end, or the end is missing.
-    Line { line: u64, word: u8 },
+    Line { line: u64, word: usize },
     /// It is out of turn, or its time goes back.
-    Order { line: u64, word: u8 },
+    Order { line: u64, word: usize },
 }
 
 fn time_of(word: &[u8]) -> Option<u64>
@@ -36,7 +36,7 @@ fn time_of(word: &[u8]) -> Option<u64>
     }
 }
 
-fn edge_line_at(at: u64, mark: &[u8]) -> Result<EdgeLine, u8>
+fn edge_line_at(at: u64, mark: &[u8]) -> Result<EdgeLine, usize>
     ensures { result ≡ edge_line_at at mark.now }
 {
     if mark == b"0".as_slice() {
@@ -51,7 +51,7 @@ fn edge_line_at(at: u64, mark: &[u8]) -> Result<EdgeLine, u8>
 }
 
 // What two words say, where none is left after them.
-fn line_alone(line: Result<EdgeLine, u8>, rest: Option<&[u8]>) -> Result<EdgeLine, u8>
+fn line_alone(line: Result<EdgeLine, usize>, rest: Option<&[u8]>) -> Result<EdgeLine, usize>
     ensures { result ≡ line_alone line (words_after (option_copied rest.entry)) }
 {
     match line {
@@ -67,7 +67,7 @@ fn line_alone(line: Result<EdgeLine, u8>, rest: Option<&[u8]>) -> Result<EdgeLin
 }
 
 // The words after a time.
-fn marked_by(at: Option<u64>, rest: Option<&[u8]>) -> Result<EdgeLine, u8>
+fn marked_by(at: Option<u64>, rest: Option<&[u8]>) -> Result<EdgeLine, usize>
     ensures { result ≡ marked_by at (words_after (option_copied rest.entry)) }
 {
     let Some(at) = at else {
@@ -81,7 +81,7 @@ fn marked_by(at: Option<u64>, rest: Option<&[u8]>) -> Result<EdgeLine, u8>
 }
 
 // What a line says, or the number of its word at fault.
-fn line_in(line: &[u8]) -> Result<EdgeLine, u8>
+fn line_in(line: &[u8]) -> Result<EdgeLine, usize>
     ensures { result ≡ edge_line_of line.now }
 {
     let (time, rest) = first_word(line);
@@ -89,7 +89,7 @@ fn line_in(line: &[u8]) -> Result<EdgeLine, u8>
 }
 
 // The word at fault of a line that stands after the end.
-fn word_past(line: &[u8]) -> u8
+fn word_past(line: &[u8]) -> usize
     ensures { result ≡ word_past (edge_line_of line.now) }
 {
     match line_in(line) {
@@ -139,7 +139,7 @@ impl<'a> EdgeLines<'a> {
     }
 
     // The word at fault of an edge that is not in turn.
-    fn word_out_of_turn(&self, edge: Edge) -> u8
+    fn word_out_of_turn(&self, edge: Edge) -> usize
         ensures { result ≡ word_out_of_turn self.now.is_low edge }
     {
         if self.turns(edge) { 0 } else { 1 }

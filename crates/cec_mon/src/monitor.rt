@@ -3,6 +3,7 @@ ghost use Rattle.std.specs.Prelude.{◌≡◌, ◌≤◌, ◌<◌, length, IfSom
 ghost use Rattle.cec_wave.specs.Bounds.{latest_instant};
 ghost use Rattle.cec_bits.specs.Hears.{heard_by};
 ghost use Rattle.cec_bits.specs.Reports.{ended_of, listed_as};
+ghost use Rattle.cec_frame.specs.Bits.{most_bits};
 
 use cec_bits::{Receiver, Told};
 use cec_frame::Reading;
@@ -10,7 +11,7 @@ use cec_wave::Edge;
 
 // The reading that ran, where instant `t` told that it ended.
 fn ended_of(reported: Told, t: u64, running: Option<Reading>) -> Option<Reading>
-    requires room { IfSome running (λ reading. length reading.bits.items < 160) }
+    requires room { IfSome running (λ reading. length reading.bits.items < most_bits) }
     ensures { option_map listed_as result ≡ ended_of reported t (option_map listed_as running) }
 {
     let Some(reading) = running else {

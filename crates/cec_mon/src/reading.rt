@@ -16,10 +16,10 @@ pub enum EdgeError {
     /// end. Without an end it is the line after the last. The word at fault counts from 0; where it is missing, it has the
     /// number that it would have.
     #[error("line {line}: line")]
-    Line { line: u64, word: u8 },
+    Line { line: u64, word: usize },
     /// The first line at fault is an edge out of turn, or its time goes back.
     #[error("line {line}: order")]
-    Order { line: u64, word: u8 },
+    Order { line: u64, word: usize },
     #[error("no memory")]
     Memory,
 }

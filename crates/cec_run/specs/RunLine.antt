@@ -22,6 +22,7 @@ use Rattle.cec_trace.specs.EdgeText.{edge_lines}
 use Rattle.cec_trace.specs.TraceText.{end_line}
 use Rattle.cec_run.specs.declared.run.Totals.{Totals}
 use Rattle.cec_run.specs.Run.{Config, start, turn_at, IsTurnBy, Leads, IsRunText}
+use Rattle.cec_wave.specs.Bounds.{most_pulses}
 
 -- the rounds of a turn: one, or none
 abbrev pub rounds_by : (reporting : Reporting) (turn : Turn) (c : Config) (text : List ℕ) (d : Config) → IsTurnBy reporting turn c text d → List Outcome
@@ -71,4 +72,4 @@ EdgesAreTheLine = (tree : List Node) (pulses : List Stretch) (events : List Time
 -- and one more for each of 4,096 pulses.
 abbrev pub RunsAreShort : Type 0
 RunsAreShort = (reporting : Reporting) (tree : List Node) (pulses : List Stretch) (events : List TimedEvent) (end : ℕ) (text : List ℕ) (totals : Totals)
-    → AreSparse pulses → AreFramedEvents events → IsRunText reporting end (start (first_net tree pulses) events) text totals → totals.rounds ≤ end / 7200 + 4096
+    → AreSparse pulses → AreFramedEvents events → IsRunText reporting end (start (first_net tree pulses) events) text totals → totals.rounds ≤ end / 7200 + most_pulses

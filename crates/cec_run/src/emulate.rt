@@ -22,14 +22,14 @@ pub enum EmulateError {
     Topology {
         line: u64,
         cause: TopologyCause,
-        word: u8,
+        word: usize,
     },
     /// The same of the script.
     #[error("script line {line}: {cause}")]
     Script {
         line: u64,
         cause: ScriptCause,
-        word: u8,
+        word: usize,
     },
     /// The topology's bytes of an EDID are refused.
     #[error("edid: {0}")]

@@ -19,6 +19,7 @@ use Rattle.cec_session.specs.Whole.{kept_line, IsLine, AreLines, SessionsReportT
 use Rattle.cec_session.proofs.Extends.{line_extends}
 use Rattle.cec_session.proofs.Noting.{taken}
 use Rattle.cec_session.proofs.Wholly.{sessions_report_traces}
+use Rattle.cec_wave.specs.Bounds.{most_pulses}
 
 -- ---- what a line leaves
 
@@ -136,14 +137,14 @@ lines_add (line ∷ lines) kept n s t reported text (mid, own, others, first, se
     omega (arith, here, there)
 
 lines_read : (tree : List Node) (lines kept : List (List ℕ)) (n : ℕ) (s t : Session) (reported text : List ℕ) (read : Result Course ScriptFault) → AreLines lines s kept reported text t → s.tree ≡ tree → s.lines ≡ n
-    → n + length lines ≤ 18446744073709551615 → length t.notes.pulses ≤ 4096 → ((m : ℕ) → AreLinesRead tree [] m t.notes read) → AreLinesRead tree kept (n + 1) s.notes read
+    → n + length lines ≤ 18446744073709551615 → length t.notes.pulses ≤ most_pulses → ((m : ℕ) → AreLinesRead tree [] m t.notes read) → AreLinesRead tree kept (n + 1) s.notes read
 lines_read tree [] kept n s t reported text read (nothing, none, empty, same) at number few sparse last =
     subst (λ (kept : List (List ℕ)). AreLinesRead tree kept (n + 1) s.notes read) (sym nothing)
     (subst (λ (notes : Notes). AreLinesRead tree [] (n + 1) notes read) (ap (λ (t : Session). t.notes) same) (last (n + 1)))
 lines_read tree (line ∷ lines) kept n s t reported text read (mid, own, others, first, second, more, rest, is, after, kept_is, reported_is, text_is) at number few sparse last =
     let r = line_reads s mid line own first second is (omega (arith, number, few)) in
     let there = lines_read tree lines others (n + 1) mid t more rest read after (r.tree ∙ at) (r.lines ∙ ap (λ k. k + 1) number) (omega (arith, few)) sparse last in
-    let most : length mid.notes.pulses ≤ 4096 = (let more = lines_add lines others (n + 1) mid t more rest after (r.lines ∙ ap (λ k. k + 1) number) (omega (arith, few)) in omega (arith, more, sparse)) in
+    let most : length mid.notes.pulses ≤ most_pulses = (let more = lines_add lines others (n + 1) mid t more rest after (r.lines ∙ ap (λ k. k + 1) number) (omega (arith, few)) in omega (arith, more, sparse)) in
     let here : IsLineRead tree s.notes (length s.notes.pulses) (n + 1) own (Ok mid.notes) =
     subst (λ (tree : List Node). IsLineRead tree s.notes (length s.notes.pulses) (n + 1) own (Ok mid.notes)) at
     (subst (λ (k : ℕ). IsLineRead s.tree s.notes (length s.notes.pulses) (k + 1) own (Ok mid.notes)) number

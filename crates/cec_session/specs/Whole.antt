@@ -20,6 +20,7 @@ use Rattle.cec_session.specs.declared.live.Step.{Step}
 use Rattle.cec_session.specs.declared.live.Step.TheVariants.{Refuse, Idle, Show, Go, Finish}
 use Rattle.cec_session.specs.Command.{command_of}
 use Rattle.cec_session.specs.Session.{Session, first_session, IsStep, IsDue}
+use Rattle.cec_wave.specs.Bounds.{most_pulses}
 
 -- what is due of a step without its answer: lines of the trace
 abbrev pub reported_of : (step : Step) (s : Session) (text : List ℕ) (t : Session) → IsDue step s text t → List ℕ
@@ -83,6 +84,6 @@ SessionsReportTraces = (edid : Option Edid) (tree : List Node) (lines kept : Lis
 -- has let go count no more.
 abbrev pub SessionsReportTracesOf : Type 0
 SessionsReportTracesOf = (topology : List ℕ) (plan : Plan) (edid : Option Edid) (lines kept : List (List ℕ)) (reported text : List ℕ) (t : Session) (end : ℕ)
-    → topology_of topology ≡ Ok plan → IsRoot plan.edid edid → All IsWhole lines → length lines ≤ 18446744073709551615 → length t.notes.pulses ≤ 4096
+    → topology_of topology ≡ Ok plan → IsRoot plan.edid edid → All IsWhole lines → length lines ≤ 18446744073709551615 → length t.notes.pulses ≤ most_pulses
     → AreLines lines (first_session edid plan.tree) kept reported text t → t.notes.end ≡ Some end
     → IsTraceOf topology (text_of_lines kept) (before_reported (Trace edid) plan.tree [] reported) t.place.totals

@@ -23,7 +23,7 @@ pub enum StepRunError {
     /// The first line of the steps at fault, counted from 1, and the word at fault, counted from 0; where a word is missing,
     /// the number that it would have.
     #[error("steps line {line}")]
-    Steps { line: u64, word: u8 },
+    Steps { line: u64, word: usize },
 }
 
 // Writes that the run has no such step any more.

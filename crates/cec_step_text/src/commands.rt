@@ -27,7 +27,7 @@ pub enum Command {
 pub enum CommandsError {
     /// The first line at fault, counted from 1, and the word at fault, counted from 0; where a word is missing, the number that
     /// it would have.
-    At { line: u64, word: u8 },
+    At { line: u64, word: usize },
     Memory,
 }
 
@@ -56,7 +56,7 @@ fn byte_of(word: &[u8]) -> Option<u8>
 }
 
 // A step that so many words say, where none is left after them.
-fn command_alone(count: u8, rest: Option<&[u8]>, command: Command) -> Result<Command, u8>
+fn command_alone(count: usize, rest: Option<&[u8]>, command: Command) -> Result<Command, usize>
     ensures { result ≡ command_alone count (words_after (option_copied rest.entry)) command }
 {
     match rest {
@@ -68,7 +68,7 @@ fn command_alone(count: u8, rest: Option<&[u8]>, command: Command) -> Result<Com
     }
 }
 
-fn opcode_by(opcode: Option<u8>, rest: Option<&[u8]>) -> Result<Command, u8>
+fn opcode_by(opcode: Option<u8>, rest: Option<&[u8]>) -> Result<Command, usize>
     ensures { result ≡ opcode_by opcode (words_after (option_copied rest.entry)) }
 {
     match opcode {
@@ -78,7 +78,7 @@ fn opcode_by(opcode: Option<u8>, rest: Option<&[u8]>) -> Result<Command, u8>
 }
 
 // The words after `until opcode`.
-fn until_opcode(rest: Option<&[u8]>) -> Result<Command, u8>
+fn until_opcode(rest: Option<&[u8]>) -> Result<Command, usize>
     ensures { result ≡ until_opcode (words_after (option_copied rest.entry)) }
 {
     let Some(rest) = rest else {
@@ -89,7 +89,7 @@ fn until_opcode(rest: Option<&[u8]>) -> Result<Command, u8>
 }
 
 // The device that the one word after so many names.
-fn device_after(tree: &Tree<15>, count: u8, rest: Option<&[u8]>) -> Result<usize, u8>
+fn device_after(tree: &Tree<15>, count: usize, rest: Option<&[u8]>) -> Result<usize, usize>
     requires few { count < 255 }
     ensures { result ≡ device_after tree.now count (words_after (option_copied rest.entry)) }
 {
@@ -110,7 +110,7 @@ fn device_after(tree: &Tree<15>, count: u8, rest: Option<&[u8]>) -> Result<usize
 }
 
 // The words after `until device`.
-fn until_device(tree: &Tree<15>, rest: Option<&[u8]>) -> Result<Command, u8>
+fn until_device(tree: &Tree<15>, rest: Option<&[u8]>) -> Result<Command, usize>
     ensures { result ≡ until_by (device_after tree.now 2 (words_after (option_copied rest.entry))) }
 {
     match device_after(tree, 2, rest) {
@@ -120,7 +120,7 @@ fn until_device(tree: &Tree<15>, rest: Option<&[u8]>) -> Result<Command, u8>
 }
 
 // The words after `until`.
-fn until_of(tree: &Tree<15>, rest: Option<&[u8]>) -> Result<Command, u8>
+fn until_of(tree: &Tree<15>, rest: Option<&[u8]>) -> Result<Command, usize>
     ensures { result ≡ until_of tree.now (words_after (option_copied rest.entry)) }
 {
     let Some(rest) = rest else {
@@ -139,7 +139,7 @@ fn until_of(tree: &Tree<15>, rest: Option<&[u8]>) -> Result<Command, u8>
 }
 
 // The words after `show`.
-fn shown_of(tree: &Tree<15>, rest: Option<&[u8]>) -> Result<Command, u8>
+fn shown_of(tree: &Tree<15>, rest: Option<&[u8]>) -> Result<Command, usize>
     ensures { result ≡ show_by (device_after tree.now 1 (words_after (option_copied rest.entry))) }
 {
     match device_after(tree, 1, rest) {
@@ -149,7 +149,7 @@ fn shown_of(tree: &Tree<15>, rest: Option<&[u8]>) -> Result<Command, u8>
 }
 
 // The step of a line, or the number of its word at fault.
-fn command_of(tree: &Tree<15>, line: &[u8]) -> Result<Command, u8>
+fn command_of(tree: &Tree<15>, line: &[u8]) -> Result<Command, usize>
     ensures { result ≡ command_of tree.now line.now }
 {
     let (verb, rest) = first_word(line);

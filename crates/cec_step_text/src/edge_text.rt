@@ -6,16 +6,15 @@ ghost use Rattle.hdmi_core.specs.Cut.{WrittenText};
 ghost use Rattle.cec_tally.specs.Adds.{Adds};
 ghost use Rattle.cec_text.specs.ReadingText.{bit_digit, bits_text};
 ghost use Rattle.cec_step_text.specs.EdgeText.{device_text, edge_line, level_text, name_text, slot_text, standing_text};
+ghost use Rattle.cec_frame.specs.Bits.{most_bits};
 
 use arrayvec::ArrayVec;
 use cec_bits::Standing;
 use cec_device::Device;
+use cec_frame::MOST_BITS;
 use cec_tally::add_line;
 use cec_wave::Edge;
 use hdmi_core::{Piece, Sink, WriteFault, counted};
-
-/// The bits of a frame of sixteen blocks: as many are written at once.
-const MOST_BITS: usize = 160;
 
 // Writes the instant of an edge, and the level that the line then has.
 fn write_level<S: Sink>(out: &mut S, written: &mut u128, edge: Edge) -> Result<(), WriteFault>
@@ -56,7 +55,7 @@ fn digit_of(bit: bool) -> u8
 
 // Bits as digits, or `-` for none.
 fn digits_of(bits: &[bool]) -> ArrayVec<u8, MOST_BITS>
-    requires { length bits.now ≤ MOST_BITS }
+    requires { length bits.now ≤ most_bits }
     ensures { result.items ≡ bits_text bits.now }
 {
     let mut digits = ArrayVec::new();
@@ -71,7 +70,7 @@ fn digits_of(bits: &[bool]) -> ArrayVec<u8, MOST_BITS>
 }
 
 fn write_row<S: Sink>(out: &mut S, written: &mut u128, bits: &[bool]) -> Result<(), WriteFault>
-    requires { length bits.now ≤ MOST_BITS }
+    requires { length bits.now ≤ most_bits }
     ensures { Adds (S.contents out.old) (S.contents out.new) (S.is_stuck out.old) (S.is_stuck out.new) written.old written.new (bits_text bits.now) result }
 {
     add_line(out, written, &[Piece::Bytes(&digits_of(bits))])

@@ -81,9 +81,9 @@ front_of a b p q w v xs ys fault result is same cut = handed_on a b p q w v (xs 
 pub from_nothing : (a b : Option (List ℕ)) (xs : List ℕ) (fault : WriteFault) → AddsFront a b 0 xs fault → CutOff a b xs fault
 from_nothing a b xs fault cut = (cut.0, cut.1, omega (arith, cut.2), cut.3)
 
--- a text that was added to nothing
-pub all_of : (a b : Option (List ℕ)) (p q : Bool) (v : ℕ) (xs : List ℕ) → v < 340282366920938463463374607431768211456 → Adds a b p q 0 v xs (Ok tt) → WrittenText a b p q xs (Ok v)
-all_of a b p q v xs small added = (omega (arith, small, added.0), added.1, added.2)
+-- a text that was added to nothing, and its count
+pub counted_all : (a b : Option (List ℕ)) (p q : Bool) (n m : ℕ) (xs : List ℕ) → AddsAll a b p q 0 n xs → m ≡ reported_count (0 + n) → WrittenText a b p q xs (Ok m)
+counted_all a b p q n m xs added count = (omega (arith, count, added.0), added.1, added.2)
 
 pub cut_of : (a b : Option (List ℕ)) (p q : Bool) (v : ℕ) (xs : List ℕ) (fault : WriteFault) (result : Result ℕ WriteFault) → IsErr result → IsErrAnd result (λ e. e ≡ fault)
     → Adds a b p q 0 v xs (Err fault) → WrittenText a b p q xs result

@@ -2,10 +2,11 @@
 ghost use Rattle.std.specs.Prelude.{◌≡◌, ◌+◌, ◌-◌, ◌<◌, ◌≤◌, ◌++◌, length, codes};
 ghost use Rattle.hdmi_core.specs.Written.{WrittenLine};
 ghost use Rattle.cec_text.specs.ReadingText.{bit_digit, bits_text, ending_text, is_broadcast, last_bit, reading_line, reading_text_of, reported_frame, reported_text, verdict_by, verdict_text};
+ghost use Rattle.cec_frame.specs.Bits.{most_bits};
 
 use crate::spelling::frame_text;
 use arrayvec::ArrayVec;
-use cec_frame::{Addr, Ending, Frame, Reading};
+use cec_frame::{Addr, Ending, Frame, MOST_BITS, Reading};
 use hdmi_core::{Piece, Sink, WriteFault, write_line};
 
 /// How a reading ended, between spaces.
@@ -40,8 +41,8 @@ fn bit_digit(bit: bool) -> u8
 }
 
 // The bits as digits, or `-` for none.
-fn bits_text(bits: &[bool]) -> ArrayVec<u8, 160>
-    requires { length bits.now ≤ 160 }
+fn bits_text(bits: &[bool]) -> ArrayVec<u8, MOST_BITS>
+    requires { length bits.now ≤ most_bits }
     ensures { result.items ≡ bits_text bits.now }
 {
     let mut text = ArrayVec::new();
@@ -56,7 +57,7 @@ fn bits_text(bits: &[bool]) -> ArrayVec<u8, 160>
 }
 
 // What a complete reading shows of its frame.
-fn frame_bytes(frame: &Option<Frame>) -> ArrayVec<u8, 160>
+fn frame_bytes(frame: &Option<Frame>) -> ArrayVec<u8, MOST_BITS>
     ensures { result.items ≡ reported_frame frame.now }
 {
     let mut text = ArrayVec::new();
@@ -85,7 +86,7 @@ fn last_bit(bits: &[bool]) -> bool
 }
 
 /// What a reading told: the text of its frame where it is complete, else its bits, or `-` for none.
-pub fn reading_reported(reading: &Reading) -> ArrayVec<u8, 160>
+pub fn reading_reported(reading: &Reading) -> ArrayVec<u8, MOST_BITS>
     ensures { result.items ≡ reported_text reading.now }
 {
     if reading.ending == Ending::Complete {

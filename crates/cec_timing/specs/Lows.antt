@@ -3,6 +3,7 @@ use Rattle.std.specs.Prelude.{ℕ, nat_lt, if◌then◌else◌, List, [], ◌∷
 use Rattle.cec_wave.specs.declared.Edge.{Edge}
 use Rattle.cec_timing.specs.declared.low.Low.{Low}
 use Rattle.cec_timing.specs.declared.cursor.Cursor.{Cursor}
+use Rattle.cec_wave.specs.Bounds.{most_sent}
 
 -- ---- a place among edges
 
@@ -43,4 +44,4 @@ first_low (f ∷ es) = Some (low_at f.at es)
 
 -- of a reading: the start bit and 160 slots at most (CEC 6)
 abbrev pub lows_before : ℕ → List Edge → List Low
-lows_before until edges = take 161 (lows_in until edges)
+lows_before until edges = take most_sent (lows_in until edges)

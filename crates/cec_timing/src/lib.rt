@@ -8,6 +8,6 @@ mod misfit;
 mod spread;
 
 pub use cursor::Cursor;
-pub use low::{LOWS, Low, first_low, lows_before};
+pub use low::{Low, first_low, lows_before};
 pub use misfit::{DRIVE, Kind, Misfit, Window, low_drive, low_misfit, total_misfit};
 pub use spread::{Spread, Widths};

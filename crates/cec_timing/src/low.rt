@@ -1,12 +1,10 @@
 //! The low stretches of a captured line.
 ghost use Rattle.std.specs.Prelude.{◌≡◌, ◌-◌, ◌++◌, length, take};
 ghost use Rattle.cec_timing.specs.Lows.{first_low, low_at, lows_before, lows_in};
+ghost use Rattle.cec_wave.specs.Bounds.{most_sent};
 
 use arrayvec::ArrayVec;
-use cec_wave::Edge;
-
-/// The most low stretches of a reading: the start bit's and those of 160 slots (CEC 6).
-pub const LOWS: usize = 161;
+use cec_wave::{Edge, MOST_SENT};
 
 /// A low stretch of a captured line, from its fall on. Instants are in microseconds.
 #[derive(Clone, Copy, Debug, Default, PartialEq, Eq)]
@@ -51,8 +49,8 @@ pub fn first_low(edges: &[Edge]) -> Option<Low>
     }
 }
 
-fn push_lows(edges: &[Edge], until: u64, lows: &mut ArrayVec<Low, LOWS>)
-    ensures { lows.new.items ≡ lows.old.items ++ take (161 - length lows.old.items) (lows_in until edges.now) }
+fn push_lows(edges: &[Edge], until: u64, lows: &mut ArrayVec<Low, MOST_SENT>)
+    ensures { lows.new.items ≡ lows.old.items ++ take (most_sent - length lows.old.items) (lows_in until edges.now) }
 {
     let [fall, after @ ..] = edges else {
         return;
@@ -67,7 +65,7 @@ fn push_lows(edges: &[Edge], until: u64, lows: &mut ArrayVec<Low, LOWS>)
 }
 
 /// The low stretches that fall before an instant, of edges that begin with a fall: at most 161 of them.
-pub fn lows_before(edges: &[Edge], until: u64) -> ArrayVec<Low, LOWS>
+pub fn lows_before(edges: &[Edge], until: u64) -> ArrayVec<Low, MOST_SENT>
     ensures { result.items ≡ lows_before until edges.now }
 {
     let mut lows = ArrayVec::new();

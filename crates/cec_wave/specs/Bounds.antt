@@ -1,4 +1,4 @@
--- The bounds of times, in microseconds (own).
+-- The bounds of times, in microseconds, and of counts (own, but where a clause is named).
 use Rattle.std.specs.Prelude.{ℕ}
 
 -- the latest time of a script: of an event, of a pulse and of its end
@@ -19,3 +19,19 @@ latest_rest = 2500000000000
 -- the latest instant that receivers and senders are told of
 abbrev pub latest_heard : ℕ
 latest_heard = 3000000000000
+
+-- the most pulses of a script, and those of a session that wait
+abbrev pub most_pulses : ℕ
+most_pulses = 4096
+
+-- the most slots of a message after its start bit: ten for each of 16 blocks (CEC 6)
+abbrev pub most_slots : ℕ
+most_slots = 160
+
+-- the most low stretches of a sender: the start bit's, and those of its slots
+abbrev pub most_sent : ℕ
+most_sent = 161
+
+-- the most low stretches of a round's line
+abbrev pub most_stretches : ℕ
+most_stretches = 192

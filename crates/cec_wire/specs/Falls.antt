@@ -8,6 +8,7 @@ use Rattle.cec_bits.specs.Reading.{reading_of}
 use Rattle.cec_wire.specs.declared.Seat.{Seat}
 use Rattle.cec_wire.specs.Round.{frames_of, IsRoundLine}
 use Rattle.cec_wire.specs.Contend.{IsContendersLine, IsPulledBelow}
+use Rattle.cec_wave.specs.Bounds.{most_slots}
 
 -- a frame has at most 16 blocks (CEC 6, frame description)
 abbrev pub AreShortFrames : List Seat → Type 0
@@ -15,7 +16,7 @@ AreShortFrames seats = All (λ f. length f ≤ 16) (frames_of seats)
 
 -- one of a sender's at most 160 slots begins at t (CEC 5.2, bit timing)
 abbrev pub IsSlotBegin : ℕ → ℕ → Type 0
-IsSlotBegin begin t = (k : ℕ) × (k < 160) × (t ≡ begin + 4500 + 2400 * k)
+IsSlotBegin begin t = (k : ℕ) × (k < most_slots) × (t ≡ begin + 4500 + 2400 * k)
 
 -- one of these pulses begins at t, while the reading goes on (own)
 abbrev pub IsPulseBegin : ℕ → ℕ → List Stretch → ℕ → Type 0

@@ -11,7 +11,7 @@ use crate::{Loser, Outcome, Seat};
 use arrayvec::ArrayVec;
 use cec_bits::copied_bits;
 use cec_frame::{Ending, Fate, Reading};
-use cec_wave::{Stretch, Wave};
+use cec_wave::{MOST_STRETCHES, Stretch, Wave};
 
 const ACK_EVERY: usize = 10;
 
@@ -101,7 +101,7 @@ pub fn outcome_of(
     begin: u64,
     bits: &[bool],
     ended: Ended,
-    wave: &Wave<192>,
+    wave: &Wave<MOST_STRETCHES>,
 ) -> Outcome
     requires few { length seats.now ≤ 15 }
     requires bits { length bits.now ≤ 160 }

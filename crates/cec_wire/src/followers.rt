@@ -13,9 +13,11 @@ use crate::hearing::Stage;
 use crate::senders::sends;
 use cec_frame::{Addr, Ending};
 
-const ACK_PULL: u64 = 1500;
+/// A follower that acknowledges a block pulls for so long from the fall of its tenth slot (CEC 6.1), in microseconds.
+pub const ACK_PULL: u64 = 1500;
 
-const SHORT_PULL: u64 = 3600;
+/// A low drive takes so long from a fall too early (CEC 7.4), in microseconds.
+pub const SHORT_PULL: u64 = 3600;
 
 // A unit at this address, if it has settled, holds an address below 15.
 fn is_at(held: &Option<Addr>, address: u8) -> bool

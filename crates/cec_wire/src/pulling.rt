@@ -9,17 +9,7 @@ ghost use Rattle.cec_wire.specs.Machine.{takes_pulse, taken_until, sends_until, 
 use crate::Seat;
 use crate::hearing::Stage;
 use cec_frame::Frame;
-use cec_wave::Stretch;
-
-pub(crate) const START_LOW: u64 = 3700;
-
-pub(crate) const FIRST_SLOT: u64 = 4500;
-
-pub(crate) const SLOT: u64 = 2400;
-
-const LOW_OF_1: u64 = 600;
-
-const LOW_OF_0: u64 = 1500;
+use cec_wave::{FIRST_SLOT, LOW_OF_0, LOW_OF_1, SLOT, START_LOW, Stretch};
 
 // How long a sender pulls for a bit.
 pub(crate) fn low_of(bit: bool) -> u64

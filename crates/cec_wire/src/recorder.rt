@@ -1,12 +1,13 @@
 //! The wave of a line, recorded microsecond by microsecond.
 ghost use Rattle.std.specs.Prelude.{◌≡◌, ◌<◌, length, None, is_some, []};
+ghost use Rattle.cec_wave.specs.Bounds.{most_stretches};
 
-use cec_wave::{Stretch, Wave};
+use cec_wave::{MOST_STRETCHES, Stretch, Wave};
 
 /// The stretches that are over, and since when the line is low now.
 #[derive(Debug, Drop)]
 pub struct Recorder {
-    pub wave: Wave<192>,
+    pub wave: Wave<MOST_STRETCHES>,
     pub low_since: Option<u64>,
 }
 
@@ -52,7 +53,7 @@ impl Recorder {
 
     /// The line is low, or high, in microsecond `t`, the next one.
     pub fn hear(&mut self, t: u64, is_low: bool)
-        requires room { length self.old.wave < 192 }
+        requires room { length self.old.wave < most_stretches }
         requires ready { IsReady self.old.wave self.old.low_since t }
         ensures wave { self.new.wave ≡ wave_after self.old.wave self.old.low_since t is_low }
         ensures since { self.new.low_since ≡ low_since self.old.low_since t is_low }

@@ -8,10 +8,10 @@ ghost use Rattle.cec_wire.specs.Edges.{part_left, sender_part, next_due, sooner,
 
 use crate::Seat;
 use crate::hearing::Stage;
-use crate::pulling::{FIRST_SLOT, SLOT, START_LOW, low_of};
+use crate::pulling::low_of;
 use crate::senders::sent_bit;
 use cec_frame::Frame;
-use cec_wave::Stretch;
+use cec_wave::{FIRST_SLOT, SLOT, START_LOW, Stretch};
 
 // A part of what a sender does: whether it pulls, and until when that lasts.
 #[derive(Clone, Copy)]

@@ -1,13 +1,10 @@
 //! What pulls the line, by itself.
 ghost use Rattle.std.specs.Prelude.{◌≡◌, ◌+◌, ◌<◌, ◌∷◌, ◌++◌, [], length};
+ghost use Rattle.cec_wave.specs.Bounds.{most_stretches};
 
 use arrayvec::ArrayVec;
-use cec_wave::Stretch;
+use cec_wave::{MOST_STRETCHES, Stretch};
 use std::marker::Model;
-
-/// The most low stretches of a drive. A sender pulls 161 times at most (CEC 6: 160 slots, and the start bit), acknowledges
-/// 16 blocks and breaks one message.
-pub const MOST_STRETCHES: usize = 192;
 
 /// Where a device, or the pulses, pull the line low. As a value it is the list of its stretches.
 #[derive(Debug, Drop)]
@@ -42,7 +39,7 @@ impl Drive {
 
     /// Adds a stretch.
     pub fn push(&mut self, from: u64, to: u64)
-        requires { length self.old < 192 }
+        requires { length self.old < most_stretches }
         ensures { self.new ≡ self.old ++ record { from = from; to = to } ∷ [] }
     {
         self.stretches.push(Stretch { from, to });

@@ -45,13 +45,13 @@ pub enum Fault {
     Topology {
         line: u64,
         cause: TopologyCause,
-        word: u8,
+        word: usize,
     },
     /// A line of a script. Words are those of the line without its label.
     Script {
         line: u64,
         cause: ScriptCause,
-        word: u8,
+        word: usize,
     },
     /// A line with a label or an expectation, of a script or of a capture. Words are those of the line with its label.
     Expectation {
@@ -68,7 +68,7 @@ pub enum Fault {
     /// A line that is no step.
     Steps {
         line: u64,
-        word: u8,
+        word: usize,
     },
     /// A line that is no frame's text.
     Frame {
@@ -84,7 +84,7 @@ pub enum Fault {
     Capture {
         line: u64,
         cause: Cause,
-        word: Option<u8>,
+        word: Option<usize>,
     },
     /// The bytes of an EDID, of the input or of a topology's line `edid`.
     Edid(EdidError),

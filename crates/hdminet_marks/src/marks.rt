@@ -91,10 +91,10 @@ fn in_expectation(cause: ExpectCause, word: usize) -> Option<Mark> {
 }
 
 // A line of a capture. In each form it begins with its time.
-fn in_capture(cause: Cause, word: Option<u8>, line: &str) -> Option<Mark> {
+fn in_capture(cause: Cause, word: Option<usize>, line: &str) -> Option<Mark> {
     match cause {
-        Cause::Line => in_line(line, usize::from(word?)),
-        Cause::Order => one(usize::from(word.unwrap_or(0))),
+        Cause::Line => in_line(line, word?),
+        Cause::Order => one(word.unwrap_or(0)),
         Cause::Word | Cause::Scale | Cause::Signal | Cause::Time | Cause::Late | Cause::End => None,
     }
 }
@@ -110,14 +110,14 @@ fn in_text(line: &str, word: usize) -> Option<Mark> {
 /// The words at fault of a fault's line, as it is shown.
 pub fn marked(what: Input, fault: Fault, line: &str) -> Option<Mark> {
     match fault {
-        Fault::Topology { word, .. } => one(usize::from(word)),
+        Fault::Topology { word, .. } => one(word),
         Fault::Script { cause, word, .. } => after_label(
             label_words(what, line),
-            in_script(cause, usize::from(word)),
+            in_script(cause, word),
         ),
         Fault::Expectation { cause, word, .. } => in_expectation(cause, word),
         Fault::Range { word, .. } => one(word),
-        Fault::Steps { word, .. } => one(usize::from(word)),
+        Fault::Steps { word, .. } => one(word),
         Fault::Frame { cause, .. } => in_frame(cause),
         Fault::Capture { cause, word, .. } => in_capture(cause, word, line),
         Fault::Edid(_) | Fault::NoHdmiBlock => from(1),

@@ -209,7 +209,7 @@ pub fn add_right_forms(
         Fault::Topology { cause, .. } => add_topology(draft, cause, line),
         Fault::Script { cause, word, .. } => {
             let line = plain(what, line);
-            return add_script(draft, what, place, cause, line, usize::from(word));
+            return add_script(draft, what, place, cause, line, word);
         }
         Fault::Expectation { cause, .. } => add_expectation(draft, what, cause, line),
         Fault::Steps { .. } => add_forms(draft, STEPS, line),

@@ -59,7 +59,7 @@ pub enum ProgramFault {
     #[error(transparent)]
     Session(#[from] SessionError),
     #[error("steps line {line}")]
-    Steps { line: u64, word: u8 },
+    Steps { line: u64, word: usize },
     #[error(transparent)]
     Frames(#[from] FrameLinesError),
     #[error(transparent)]

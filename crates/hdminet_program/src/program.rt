@@ -39,6 +39,9 @@ use std::io::Read;
 /// The longest input, in bytes.
 const LIMIT: usize = 1_048_576;
 
+// So many bytes are read at a time, at most.
+const READ: usize = 4096;
+
 /// The longest capture whose form is given, in bytes.
 const CAPTURE_LIMIT: usize = 67_108_864;
 
@@ -83,7 +86,7 @@ fn read_input<R: Read>(alloc: Global, limit: usize, input: &mut R) -> Result<Vec
     ensures { IfOk result (λ bytes. IsAllOf (R.remaining input.old) bytes.items) }
 {
     let mut bytes = Vec::new(alloc);
-    let mut buffer = [0u8; 4096];
+    let mut buffer = [0; READ];
     'reads: while bytes.len() <= limit {
         match input.read(&mut buffer) {
             Ok(0) => return Ok(bytes),

@@ -9,6 +9,7 @@ use Rattle.hdminet_room.specs.declared.answer.Answer.{Answer}
 use Rattle.hdminet_room.specs.declared.code.Code.TheVariants.{Absent, State}
 use Rattle.hdminet_wire.specs.Heard.{ending_in, ending_number}
 use Rattle.hdminet_wire.specs.declared.readings.ReadingParts.{ReadingParts}
+use Rattle.cec_frame.specs.Bits.{most_bits}
 
 pub record AreReadingParts (reading : Listed) (parts : ReadingParts) : Type 0 where
   pub begin : parts.begin ≡ reading.begin
@@ -28,7 +29,7 @@ reading_of parts ending = record { begin = parts.begin; at = parts.at; ending = 
 
 -- the reading of these numbers, of which some are none
 abbrev pub reading_in : ReadingParts → Option Reading
-reading_in parts = if nat_le parts.count 160 then option_map (reading_of parts) (ending_in parts.ending) else None
+reading_in parts = if nat_le parts.count most_bits then option_map (reading_of parts) (ending_in parts.ending) else None
 
 -- a frame's bytes are put into the room, or there is none
 abbrev pub IsFrameAnswer : Option (List ℕ) → List ℕ → List ℕ → Answer → Type 0

@@ -2,15 +2,13 @@
 ghost use Rattle.std.specs.Prelude.{◌≡◌, ◌<◌, length, option_map, IfSome};
 ghost use Rattle.cec_bits.specs.Reports.{ended_of, listed_as};
 ghost use Rattle.hdminet_wire.specs.Readings.{AreReadingParts, IsFrameAnswer, IsReadingFrame, IsReadingPut, reading_in};
+ghost use Rattle.cec_frame.specs.Bits.{most_bits};
 
 use crate::heard::{ending_in, ending_number};
 use arrayvec::ArrayVec;
 use cec_bits::Told;
-use cec_frame::{Frame, Reading};
+use cec_frame::{Frame, MOST_BITS, Reading};
 use hdminet_room::{Answer, Code, put, refused};
-
-/// The slots of the longest frame: ten for each of 16 blocks (CEC 6).
-const SLOTS: usize = 160;
 
 /// A reading of the line, in plain numbers.
 #[repr(C)]
@@ -25,13 +23,13 @@ pub struct ReadingParts {
     /// How many bits were sampled.
     pub count: u8,
     /// The bits, from slot 1 on.
-    pub bits: [bool; SLOTS],
+    pub bits: [bool; MOST_BITS],
 }
 
 fn parts_of(reading: &Reading) -> ReadingParts
     ensures { AreReadingParts (listed_as reading.now) result }
 {
-    let mut bits = [false; SLOTS];
+    let mut bits = [false; MOST_BITS];
     let sampled = reading.bits.as_slice();
     bits[..sampled.len()].copy_from_slice(sampled);
     ReadingParts {
@@ -55,7 +53,7 @@ pub(crate) fn put_reading(reading: Option<Reading>, place: &mut ReadingParts)
 
 /// The reading that ran, where instant `t` told that it ended.
 pub(crate) fn ended_of(reported: Told, t: u64, running: Option<Reading>) -> Option<Reading>
-    requires room { IfSome running (λ reading. length reading.bits.items < 160) }
+    requires room { IfSome running (λ reading. length reading.bits.items < most_bits) }
     ensures { option_map listed_as result ≡ ended_of reported t (option_map listed_as running) }
 {
     let Some(reading) = running else {
@@ -86,7 +84,7 @@ pub(crate) fn reading_in(parts: &ReadingParts) -> Option<Reading>
     ensures { result ≡ reading_in parts.now }
 {
     let count = usize::from(parts.count);
-    if count > SLOTS {
+    if count > MOST_BITS {
         return None;
     }
     let ending = ending_in(parts.ending)?;

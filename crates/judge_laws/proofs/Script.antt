@@ -26,6 +26,7 @@ use Rattle.cec_asm.specs.declared.fault.LineFault.{LineFault}
 use Rattle.cec_asm.specs.declared.script.ScriptCause.TheVariants as causes
 use Rattle.cec_asm.specs.declared.script.TimedEvent.{TimedEvent}
 use Rattle.cec_asm.specs.Script.{AreLinesRead, Course, IsEventRead, IsLineRead, IsScriptRead, IsSendRead, IsWordsRead, Notes, Onward, end_read, end_words, course_at_end, event_words, key_read, key_words, act_read, hold_words, drop_words, last_end, last_time, no_notes, other_words, plug_read, plug_words, pulse_read, pulse_words, notes_with_event, send_read, time_of, unless_fault, unplug_read, unplug_words}
+use Rattle.cec_wave.specs.Bounds.{most_pulses}
 
 -- no event stands below this line
 abbrev pub AreBy : ℕ → List TimedEvent → Type 0
@@ -143,7 +144,7 @@ fits_pulsed : (fault : Option PulsesError) (notes : Notes) (line : ℕ) (pulse :
 unfolding Fits
 fits_pulsed (Some fault) notes line pulse h = tt
 fits_pulsed None notes line pulse h =
-    fits_if line (nat_le 4096 (length notes.pulses)) (Err (at_word 0 causes.TooMany)) _ tt (fits_if line (is_some notes.end) (Err (at_word 0 causes.End)) (Ok (record notes { pulses = notes.pulses ++ pulse ∷ [] })) tt h)
+    fits_if line (nat_le most_pulses (length notes.pulses)) (Err (at_word 0 causes.TooMany)) _ tt (fits_if line (is_some notes.end) (Err (at_word 0 causes.End)) (Ok (record notes { pulses = notes.pulses ++ pulse ∷ [] })) tt h)
 
 fits_pulse : (notes : Notes) (line : ℕ) (time width : Option ℕ) → AreBy line notes.events → Fits line (pulse_read notes (length notes.pulses) time width)
 unfolding Fits

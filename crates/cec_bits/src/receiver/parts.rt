@@ -4,8 +4,8 @@ ghost use Rattle.cec_bits.specs.Parts.{ArePartsOf, number_of};
 ghost use Rattle.cec_bits.specs.declared.receiver.ReceiverState.{ReceiverState as PlaceValue};
 ghost use Rattle.cec_bits.specs.declared.receiver.Receiver.{Receiver as ReceiverValue};
 
-use crate::reading::SLOTS;
 use crate::receiver::{Receiver, ReceiverState, copied_bits};
+use cec_frame::MOST_BITS;
 use cec_wave::LATEST_HEARD;
 
 /// What a receiver keeps, in plain numbers, for callers in other languages.
@@ -25,7 +25,7 @@ pub struct ReceiverParts {
     /// The last fall, in microseconds, or 0.
     pub fall: u64,
     /// The bits sampled so far, from slot 1 on.
-    pub bits: [bool; SLOTS],
+    pub bits: [bool; MOST_BITS],
 }
 
 fn number_of_place(place: ReceiverState) -> u8
@@ -59,7 +59,7 @@ impl Receiver {
     pub fn parts(&self) -> ReceiverParts
         ensures { ArePartsOf self.now result }
     {
-        let mut bits = [false; SLOTS];
+        let mut bits = [false; MOST_BITS];
         let sampled = self.bits.as_slice();
         bits[..sampled.len()].copy_from_slice(sampled);
         ReceiverParts {
@@ -78,7 +78,7 @@ impl Receiver {
         ensures found { IfSome result (λ receiver. ArePartsOf receiver parts.now) }
         ensures there { (receiver : ReceiverValue) → ArePartsOf receiver parts.now → IsSome result }
     {
-        if usize::from(parts.count) >= SLOTS
+        if usize::from(parts.count) >= MOST_BITS
             || parts.begin > LATEST_HEARD
             || parts.fall > LATEST_HEARD
         {

@@ -1,5 +1,4 @@
-use Rattle.cec_tally.proofs.Adding.{cut_of}
-use Rattle.cec_trace.proofs.Ports.{counted_all}
+use Rattle.cec_tally.proofs.Adding.{counted_all, cut_of}
 use Rattle.cec_run.proofs.run.apply_event.Goals as goal
 
 pub returns-clause-text : goal.returns-clause-text

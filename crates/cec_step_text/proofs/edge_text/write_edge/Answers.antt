@@ -1,15 +1,9 @@
-use Rattle.std.proofs.Common.{◌≡◌, ℕ, ◌+◌, ◌++◌, Bool, List, Option, Ok, Err, arith, codes}
+use Rattle.std.proofs.Common.{◌+◌, ◌++◌, Err, codes}
 use Rattle.std.specs.List.{flat_map}
-use Rattle.hdmi_core.specs.Cut.{WrittenText, reported_count}
 use Rattle.cec_bits.specs.Follows.{standing_by_code}
-use Rattle.cec_tally.specs.Adds.{AddsAll}
-use Rattle.cec_tally.proofs.Adding.{both, cut_of, front, then}
+use Rattle.cec_tally.proofs.Adding.{both, counted_all, cut_of, front, then}
 use Rattle.cec_step_text.specs.EdgeText.{device_text, level_text}
 use Rattle.cec_step_text.proofs.edge_text.write_edge.Goals as goal
-
--- what was added to nothing, and is counted
-counted_all : (a b : Option (List ℕ)) (p q : Bool) (n m : ℕ) (xs : List ℕ) → AddsAll a b p q 0 n xs → m ≡ reported_count (0 + n) → WrittenText a b p q xs (Ok m)
-counted_all a b p q n m xs added count = (omega (arith, count, added.0), added.1, added.2)
 
 pub returns : goal.returns
 returns g c =

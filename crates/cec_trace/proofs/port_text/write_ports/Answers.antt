@@ -1,5 +1,4 @@
-use Rattle.cec_tally.proofs.Adding.{cut_of}
-use Rattle.cec_trace.proofs.Ports.{counted_all}
+use Rattle.cec_tally.proofs.Adding.{counted_all, cut_of}
 use Rattle.cec_trace.proofs.port_text.write_ports.Goals as goal
 
 pub returns : goal.returns

@@ -1,6 +1,6 @@
 use Rattle.std.proofs.Common.{◌≡◌, ◌+◌, ◌<◌, ◌≤◌, ◌∙◌, ◌++◌, List, ℕ, ap, arith, drop, length, subst, sym, take}
 use Rattle.std.proofs.lemmas.List.{length-take}
-use Rattle.cec_incoming.specs.Incoming.{IsPiece, bytes_left}
+use Rattle.cec_incoming.specs.Incoming.{IsPiece, bytes_left, longest_line}
 use Rattle.cec_incoming.specs.declared.incoming.Piece.TheVariants.{Part, End, Over}
 use Rattle.cec_incoming.proofs.Coming.{end_of, over_of, part_of}
 use Rattle.cec_incoming.proofs.incoming.Lines.piece.Goals as goal
@@ -27,7 +27,7 @@ returns-then-count-all c =
     let some : 0 < length left = omega (arith, c.if-all-eq0.false) in
     let rest : new ≡ drop count left = c.hand_out-then-count-all.ensures ∙ ap (λ (l : List ℕ). drop count l) (sym c.left-left.ensures) in
     let more = c.add.ensures ∙ ap (λ (l : List ℕ). line ++ l) c.before-2.ensures in
-    let fits : length line + length (take count left) ≤ 4096 = omega (arith, length-take count left, c.remaining_capacity-room.ensures, c.if-count-room.false) in
+    let fits : length line + length (take count left) ≤ longest_line = omega (arith, length-take count left, c.remaining_capacity-room.ensures, c.if-count-room.false) in
     subst (λ (l : List ℕ). IsPiece l new line after Part) c.left-left.ensures
     (part_of left new line after count c.len_before-count.ensures.value some c.if-count-all.true rest more fits)
 
