@@ -20,13 +20,12 @@ pub fn at_word(word: usize, cause: ExpectCause) -> LineFault
     LineFault { cause, word }
 }
 
-/// The same word of a line with its label before it.
+/// The same word of a line with its label before it, which takes two words.
 pub fn after_label(label: Option<&[u8]>, fault: LineFault) -> LineFault
-    requires near { IsNear fault }
-    ensures { result ≡ after_label (option_copied label.entry) fault }
+    ensures { IsNear fault → result ≡ after_label (option_copied label.entry) fault }
 {
     match label {
         None => fault,
-        Some(_) => at_word(2 + fault.word, fault.cause),
+        Some(_) => at_word(fault.word.saturating_add(2), fault.cause),
     }
 }

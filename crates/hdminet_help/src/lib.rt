@@ -10,4 +10,4 @@ mod script_words;
 
 pub use draft::Draft;
 pub use frames::{add_name, add_shape, frame_forms};
-pub use script_words::{add_keys_of, add_set, run_words};
+pub use script_words::{add_key_lines, add_keys_of, add_set, run_words, taken_by};

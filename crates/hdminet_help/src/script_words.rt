@@ -117,6 +117,46 @@ pub fn add_keys_of(draft: &mut Draft, kind: Kind, after: &str) {
     let _ = add_forms(draft, kind, other_keys().as_slice(), before);
 }
 
+// The lines of those keys that a word begins, and what stands before the next one.
+fn add_lines<'a>(
+    draft: &mut Draft,
+    verb: &str,
+    word: &str,
+    keys: &[(&str, Key)],
+    first: &'a str,
+) -> &'a str {
+    let mut before = first;
+    for (takes, key) in keys {
+        if key.word().text() == word {
+            draft.add(before);
+            draft.add(verb);
+            draft.add(" NAME ");
+            draft.add(word);
+            draft.add(takes);
+            before = "`, `at T ";
+        }
+    }
+    before
+}
+
+/// The lines of the keys that a word begins, where they are pressed or released, as the verb has it.
+pub fn add_key_lines(draft: &mut Draft, verb: &str, word: &str) {
+    let first = "  a line here reads `at T ";
+    let before = add_lines(draft, verb, word, plain_keys().as_slice(), first);
+    let _ = add_lines(draft, verb, word, other_keys().as_slice(), before);
+    draft.add("`\n");
+}
+
+/// What stands after the word of a key: ` N` after `port`. Of a word with some forms it is the first one's.
+pub fn taken_by(word: &str) -> Option<&'static str> {
+    for (takes, key) in other_keys() {
+        if key.word().text() == word {
+            return Some(takes);
+        }
+    }
+    None
+}
+
 /// The words of a set, after a label, in lines of some columns.
 pub fn add_set(draft: &mut Draft, label: &str, set: WordSet) {
     list_set(draft, label, label.len(), set);

@@ -2,29 +2,8 @@
 use crate::forms::add_missing;
 use cec_opcode::WordSet;
 use hdmi_core::Kind;
-use hdminet_help::{Draft, add_keys_of, add_set};
+use hdminet_help::{Draft, add_key_lines, add_keys_of, add_set, taken_by};
 use hdminet_marks::{Place, is_value, is_word, kind_of, word_at, word_count};
-
-/// The forms of keys.
-const KEY_FORMS: &[&str] = &[
-    "play",
-    "stop",
-    "eject",
-    "load",
-    "menu",
-    "power",
-    "volume-up",
-    "volume-down",
-    "mute",
-    "port N",
-    "watch PA",
-    "language LLL",
-    "audio on",
-    "audio off",
-    "arc on",
-    "arc off",
-    "remote D CODE",
-];
 
 /// The number of a key's first word, after `at T press NAME`.
 const KEY: usize = 4;
@@ -32,26 +11,6 @@ const KEY: usize = 4;
 /// Whether a word of a line, by its number, is one of a key.
 pub fn is_of_key(line: &str, word: usize) -> bool {
     word >= KEY && (is_word(line, 2, "press") || is_word(line, 2, "release"))
-}
-
-// Whether the form of a key begins with this word.
-fn begins_with(form: &str, key: &str) -> bool {
-    match form.split(' ').next() {
-        Some(word) => word == key,
-        None => false,
-    }
-}
-
-// The forms of the key that a word begins, as a line has them.
-fn add_forms(draft: &mut Draft, verb: &str, key: &str) {
-    let mut before = "  a line here reads `at T ";
-    for form in KEY_FORMS {
-        if begins_with(form, key) {
-            draft.add_all(&[before, verb, " NAME ", form]);
-            before = "`, `at T ";
-        }
-    }
-    draft.add("`\n");
 }
 
 // The keys that a device of a kind has. Returns whether there is such a kind.
@@ -92,12 +51,8 @@ fn add_value(draft: &mut Draft, key: &str, word: usize) -> bool {
 // The word that a line lacks at its end, whose key begins with a word and takes values.
 fn lacking(line: &str, key: &str) -> Option<&'static str> {
     let count = word_count(line).saturating_sub(KEY);
-    for form in KEY_FORMS {
-        if begins_with(form, key) {
-            return form.split(' ').nth(count).filter(|word| is_value(word));
-        }
-    }
-    None
+    let taken = taken_by(key)?;
+    taken.split(' ').nth(count).filter(|word| is_value(word))
 }
 
 // What would be right in place of the values of a key. Returns whether more would be of no use.
@@ -105,7 +60,7 @@ fn add_values(draft: &mut Draft, line: &str, word: usize) -> bool {
     let (Some(verb), Some(key)) = (word_at(line, 2), word_at(line, KEY)) else {
         return false;
     };
-    add_forms(draft, verb, key);
+    add_key_lines(draft, verb, key);
     if word >= word_count(line) {
         add_missing(draft, lacking(line, key));
         return true;
