@@ -1,5 +1,5 @@
 -- The turns that a session reports (this profile's own).
-use Rattle.std.specs.Prelude.{◌≡◌, ℕ, ◌+◌, ◌<◌, ◌≤◌, Bool, true, false, List, length, Option, Some, None, Result, Ok, Err}
+use Rattle.std.specs.Prelude.{◌≡◌, ℕ, ◌+◌, ◌<◌, ◌≤◌, Bool, true, false, List, length, Option, Some, None, Result, Ok, Err, IsSome}
 use Rattle.cec_wave.specs.Line.{IsWave}
 use Rattle.cec_wave.specs.Bounds.{latest_instant}
 use Rattle.cec_wire.specs.declared.Outcome.{Outcome}
@@ -15,7 +15,7 @@ use Rattle.cec_run.specs.declared.run.Turn.TheVariants.{Stop}
 use Rattle.cec_run.specs.Run.{Config, turn_at, RoundWritten}
 use Rattle.causal_laws.specs.Certain.{IsOverBy, LeadsIf, IsHeld}
 
--- What a turn has to be to be told: while more lines may come, over before the horizon; once the script has ended, each is.
+-- What a turn has to be to be reported: while more lines may come, over before the horizon; once the script has ended, each is.
 abbrev pub IsReported : Bool → ℕ → Turn → Config → Type 0
 IsReported false until turn after = IsOverBy until turn after
 IsReported true until turn after = Unit {0}
@@ -33,22 +33,27 @@ pub record Goes (edid : Option Edid) (ended : Bool) (until : ℕ) (c : Config) (
 
 -- ---- a round
 
--- the next round closes at an instant or later, so it is not told yet
+-- the next round closes at an instant or later, so it is not reported yet
 abbrev pub IsLate : Bool → ℕ → ℕ → NetState → Type 0
 IsLate true until begin net = ⊥
 IsLate false until begin net = (outcome : Outcome) × (after : NetState) × IsWave outcome.wave × IsNextRound net begin outcome after × (until ≤ after.close)
 
--- what the next round gives, where it was run
+-- what the next round gives
 abbrev pub IsForeseen : NetState → Option Outcome → Type 0
 IsForeseen net None = Unit {0}
 IsForeseen net (Some o) = IsWave o.wave × ((begin : ℕ) → next_start net ≡ Some begin → IsNextRound net begin o (after_round net begin o) × IsProgress net begin (after_round net begin o))
 
--- or it is told
+-- what is kept is that, where it is known
+abbrev pub IsKept : Bool → NetState → Option Outcome → Type 0
+IsKept true net next = IsForeseen net next × IsSome next
+IsKept false net next = Unit {0}
+
+-- or it is reported
 abbrev pub IsSoon : Bool → ℕ → NetState → Type 0
 IsSoon true until after = Unit {0}
 IsSoon false until after = after.close < until
 
--- the next round is not told yet, and nothing changed; or it was run, and its line written
+-- the next round is not reported yet, and nothing changed; or it was run, and its line written
 abbrev pub IsRoundTaken : Option Edid → Bool → ℕ → ℕ → NetState → NetState → Totals → Totals → Option (List ℕ) → Option (List ℕ) → Bool → Bool → Result (Option ℕ) WriteFault → Type 0
 IsRoundTaken edid ended until begin s t a b old new was is (Ok None) = (t ≡ s) × (b ≡ a) × (new ≡ old) × (is ≡ was) × IsLate ended until begin s
 IsRoundTaken edid ended until begin s t a b old new was is (Ok (Some count)) = RoundWritten (Trace edid) s t a b old new was is (Ok count) × IsSoon ended until t

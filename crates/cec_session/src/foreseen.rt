@@ -12,14 +12,19 @@ ghost use Rattle.cec_net.specs.Step.{IsNextRound};
 ghost use Rattle.cec_wire.specs.Round.{close_in};
 ghost use Rattle.hdmi_core.specs.Cut.{WrittenText};
 ghost use Rattle.hdmi_blocks.specs.Root.{HasAddress};
-ghost use Rattle.cec_run.specs.Run.{counted_event, event_text, turn_of};
-ghost use Rattle.cec_session.specs.Turns.{IsForeseen, IsLate, IsSoon};
+ghost use Rattle.cec_text.specs.ReadingText.{is_complete};
+ghost use Rattle.cec_run.specs.declared.run.Reporting.TheVariants.{Trace};
+ghost use Rattle.cec_run.specs.Run.{RoundWritten, counted_event, counted_round, event_text, turn_of};
+ghost use Rattle.cec_session.specs.Turns.{IsForeseen, IsKept, IsRoundTaken};
 
 use cec_asm::TimedEvent;
 use cec_device::Device;
 use cec_edges::EdgeWire;
+use cec_frame::Ending;
 use cec_net::{Net, PulseError};
 use cec_run::{Totals, Turn, apply_event, next_turn};
+use cec_step_text::whole;
+use cec_trace::write_round;
 use cec_wave::Stretch;
 use cec_wire::Outcome;
 use hdmi_blocks::Edid;
@@ -28,24 +33,26 @@ use hdmi_topo::Tree;
 use std::alloc::{AllocError, Global};
 use std::marker::Model;
 
-/// A network, and what its next round gives, once that was looked for. So a round that is not told yet is run once, and not
+/// A network, and what its next round gives, once that was looked for. So a round that is not reported yet is run once, and not
 /// again with each line that comes. As a value it is the network.
 #[derive(Drop)]
 pub(crate) struct Foreseen {
     net: Box<Net<EdgeWire>>,
-    /// What the next round gives, where it was run.
+    /// What the next round gives, where it is known; else what an earlier one gave. An outcome is large, so it is not cleared.
     next: Option<Outcome>,
+    /// Whether the next round was run, and nothing has changed since.
+    is_known: bool,
 }
 
 impl Model for Foreseen {
     ghost use Rattle.cec_net.specs.State.{NetState};
-    ghost use Rattle.cec_session.specs.Turns.{IsForeseen};
+    ghost use Rattle.cec_session.specs.Turns.{IsKept};
 
     ghost Value = { NetState };
 
     ghost view = { λ f. f.net.value };
 
-    ghost invariant = { λ f. IsForeseen f.net.value f.next };
+    ghost invariant = { λ f. IsKept f.is_known f.net.value f.next };
 }
 
 // Runs the next round, which begins at `begin`. Returns its close. An outcome is large: room for it is made here, and not where
@@ -65,20 +72,70 @@ fn run_ahead(net: &mut Net<EdgeWire>, begin: u64, next: &mut Option<Outcome>) ->
     close
 }
 
-// Runs the next round, which begins at `begin`, where it was not run yet. Returns its close.
-fn foresee(net: &mut Net<EdgeWire>, begin: u64, next: &mut Option<Outcome>) -> u64
+// Runs the next round, which begins at `begin`, where it is not known. Returns its close.
+fn foresee(
+    net: &mut Net<EdgeWire>,
+    begin: u64,
+    next: &mut Option<Outcome>,
+    is_known: &mut bool,
+) -> u64
     requires early { net.old.close ≤ latest_instant }
     requires begins { next_start net.old ≡ Some begin }
-    requires known { IsForeseen net.old next.old }
+    requires kept { IsKept is_known.old net.old next.old }
     ensures same { net.new ≡ net.old }
-    ensures known { IsForeseen net.old next.new }
+    ensures known { is_known.new ≡ true }
+    ensures kept { IsForeseen net.old next.new }
     ensures some { IsSome next.new }
     ensures close { IfSome next.new (λ o. result ≡ close_in o) }
 {
-    if let Some(outcome) = &*next {
-        return outcome.close();
+    if *is_known {
+        if let Some(outcome) = &*next {
+            return outcome.close();
+        }
     }
+    *is_known = true;
     run_ahead(net, begin, next)
+}
+
+// The counts after a round.
+fn counted_round(totals: Totals, ending: Ending) -> Totals
+    requires room { totals.rounds < 18446744073709551615 }
+    requires less { totals.complete ≤ totals.rounds }
+    ensures { result ≡ counted_round (is_complete ending) totals }
+{
+    match ending {
+        Ending::Complete => Totals {
+            rounds: totals.rounds + 1,
+            complete: totals.complete + 1,
+            refused: totals.refused,
+        },
+        _ => Totals {
+            rounds: totals.rounds + 1,
+            complete: totals.complete,
+            refused: totals.refused,
+        },
+    }
+}
+
+// Ends the next round, which begins at `begin`, with what it gives, and writes its line.
+fn end_round<S: Sink>(
+    out: &mut S,
+    net: &mut Net<EdgeWire>,
+    totals: &mut Totals,
+    begin: u64,
+    outcome: &Outcome,
+) -> Result<u128, WriteFault>
+    requires early { net.old.close ≤ latest_instant }
+    requires begins { next_start net.old ≡ Some begin }
+    requires known { IsForeseen net.old (Some outcome.now) }
+    requires room { totals.old.rounds < 18446744073709551615 }
+    requires less { totals.old.complete ≤ totals.old.rounds }
+    ensures written { (edid : Option EdidValue) → RoundWritten (Trace edid) net.old net.new totals.old totals.new (S.contents out.old) (S.contents out.new) (S.is_stuck out.old) (S.is_stuck out.new) result }
+    ensures close { net.new.close ≡ close_in outcome.now }
+{
+    net.end(begin, outcome);
+    *totals = counted_round(*totals, outcome.reading.ending);
+    whole(write_round(out, net.devices(), outcome))
 }
 
 impl Foreseen {
@@ -92,7 +149,11 @@ impl Foreseen {
         ensures { IfOk result (λ net. net ≡ first_net tree []) }
     {
         let net = Net::on_heap(alloc, tree, &[])?;
-        Ok(Foreseen { net, next: None })
+        Ok(Foreseen {
+            net,
+            next: None,
+            is_known: false,
+        })
     }
 
     /// The tree of the devices.
@@ -141,7 +202,7 @@ impl Foreseen {
             (λ _. (pulse_fault self.old pulse ≡ None) × (self.new ≡ with_pulse self.old pulse))
             (λ error. (pulse_fault self.old pulse ≡ Some error) × (self.new ≡ self.old)) }
     {
-        self.next = None;
+        self.is_known = false;
         self.net.add_pulse(pulse)
     }
 
@@ -163,7 +224,7 @@ impl Foreseen {
         ensures text { WrittenText (S.contents out.old) (S.contents out.new) (S.is_stuck out.old) (S.is_stuck out.new)
             (event_text edid.now at event.now self.old) result }
     {
-        self.next = None;
+        self.is_known = false;
         apply_event(out, &mut self.net, edid, totals, at, event)
     }
 
@@ -174,41 +235,40 @@ impl Foreseen {
         ensures same { self.new ≡ self.old }
         ensures close { (outcome : OutcomeValue) × (after : NetState) × IsWave outcome.wave × IsNextRound self.old begin outcome after × IsProgress self.old begin after × (result ≡ after.close) }
     {
-        foresee(&mut self.net, begin, &mut self.next)
+        foresee(&mut self.net, begin, &mut self.next, &mut self.is_known)
     }
 
-    /// Whether the next round, which begins at `begin`, closes at `until` or later, and the script has not ended.
-    pub fn is_late(&mut self, begin: u64, until: u64, ended: bool) -> bool
+    /// Runs the next round, which begins at `begin`, where it closes before `until` or the script has ended, and writes its
+    /// line. None, and nothing changes, where it closes then or later.
+    ///
+    /// # Errors
+    ///
+    /// A `put` took none. Its count says how much of the line was written.
+    pub fn take_round<S: Sink>(
+        &mut self,
+        out: &mut S,
+        totals: &mut Totals,
+        begin: u64,
+        until: u64,
+        ended: bool,
+    ) -> Result<Option<u128>, WriteFault>
+        requires starts { next_start self.old ≡ Some begin }
         requires early { self.old.close ≤ latest_instant }
-        requires begins { next_start self.old ≡ Some begin }
-        ensures same { self.new ≡ self.old }
-        ensures late { result ≡ true → IsLate ended until begin self.old }
+        requires room { totals.old.rounds < 18446744073709551615 }
+        requires less { totals.old.complete ≤ totals.old.rounds }
+        ensures { (edid : Option EdidValue) → IsRoundTaken edid ended until begin self.old self.new totals.old totals.new (S.contents out.old) (S.contents out.new) (S.is_stuck out.old) (S.is_stuck out.new) result }
     {
-        if ended {
-            return false;
-        }
-        self.next_close(begin) >= until
-    }
-
-    /// Runs the next round, which begins at `begin`, where it closes before `until` or the script has ended. None, and nothing
-    /// changes, where it closes then or later.
-    pub fn round_by(&mut self, begin: u64, until: u64, ended: bool) -> Option<Outcome>
-        requires early { self.old.close ≤ latest_instant }
-        requires begins { next_start self.old ≡ Some begin }
-        ensures step { MatchOption result
-            ((self.new ≡ self.old) × IsLate ended until begin self.old)
-            (λ outcome. IsNextRound self.old begin outcome self.new × IsSoon ended until self.new) }
-        ensures progress { IfSome result (λ _. IsProgress self.old begin self.new) }
-        ensures wave { IfSome result (λ outcome. IsWave outcome.wave) }
-    {
-        let close = foresee(&mut self.net, begin, &mut self.next);
+        let close = foresee(&mut self.net, begin, &mut self.next, &mut self.is_known);
         if !ended && close >= until {
-            return None;
+            return Ok(None);
         }
-        let Some(outcome) = self.next.take() else {
+        let Some(outcome) = &self.next else {
             unreachable!();
         };
-        self.net.end(begin, &outcome);
-        Some(outcome)
+        self.is_known = false;
+        match end_round(out, &mut self.net, totals, begin, outcome) {
+            Ok(count) => Ok(Some(count)),
+            Err(fault) => Err(fault),
+        }
     }
 }

@@ -21,61 +21,12 @@ ghost use Rattle.cec_session.specs.Turns.{Goes, IsRoundTaken, IsWithin, Keeps};
 use crate::foreseen::Foreseen;
 use cec_asm::TimedEvent;
 use cec_device::Device;
-use cec_frame::Ending;
 use cec_run::{Totals, Turn, first_time};
 use cec_step_text::{whole, with_rest};
-use cec_trace::{write_end, write_round, write_state};
+use cec_trace::{write_end, write_state};
 use cec_wave::LATEST_EVENT;
 use hdmi_blocks::Edid;
 use hdmi_core::{Sink, WriteFault, counted, cut_at};
-
-fn counted_round(totals: Totals, ending: Ending) -> Totals
-    requires room { totals.rounds < 18446744073709551615 }
-    requires less { totals.complete ≤ totals.rounds }
-    ensures { result ≡ counted_round (is_complete ending) totals }
-{
-    match ending {
-        Ending::Complete => Totals {
-            rounds: totals.rounds + 1,
-            complete: totals.complete + 1,
-            refused: totals.refused,
-        },
-        _ => Totals {
-            rounds: totals.rounds + 1,
-            complete: totals.complete,
-            refused: totals.refused,
-        },
-    }
-}
-
-// Runs the next round, which begins at `begin`, as `round_by`, and writes its line. None where it closes too late.
-fn take_round<S: Sink>(
-    out: &mut S,
-    net: &mut Foreseen,
-    totals: &mut Totals,
-    begin: u64,
-    until: u64,
-    ended: bool,
-) -> Result<Option<u128>, WriteFault>
-    requires starts { next_start net.old ≡ Some begin }
-    requires early { net.old.close ≤ latest_instant }
-    requires room { totals.old.rounds < 18446744073709551615 }
-    requires less { totals.old.complete ≤ totals.old.rounds }
-    ensures { (edid : Option EdidValue) → IsRoundTaken edid ended until begin net.old net.new totals.old totals.new (S.contents out.old) (S.contents out.new) (S.is_stuck out.old) (S.is_stuck out.new) result }
-{
-    // An outcome is large: room for it is made only where the round is told.
-    if net.is_late(begin, until, ended) {
-        return Ok(None);
-    }
-    let Some(outcome) = net.round_by(begin, until, ended) else {
-        return Ok(None);
-    };
-    *totals = counted_round(*totals, outcome.reading.ending);
-    match whole(write_round(out, net.devices(), &outcome)) {
-        Ok(count) => Ok(Some(count)),
-        Err(fault) => Err(fault),
-    }
-}
 
 /// Goes on with a run while its turns are reported: those that are over before `until` where the script has not ended, and else
 /// all that begin before it. Writes what the trace has of them, and counts the events that are applied.
@@ -129,7 +80,7 @@ pub(crate) fn go_on<S: Sink>(
                     Err(fault) => return Err(cut_at(written, fault)),
                 }
             }
-            Turn::Round(begin) => match take_round(out, net, totals, begin, until, ended) {
+            Turn::Round(begin) => match net.take_round(out, totals, begin, until, ended) {
                 Ok(taken) => match taken {
                     Some(count) => written = counted(written, count),
                     None => break,

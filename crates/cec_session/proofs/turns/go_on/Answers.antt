@@ -67,27 +67,27 @@ turns-preserved-in-Ok g c =
 
 pub turns-smaller : goal.turns-smaller
 turns-smaller g c =
-    let w = (some_taken c.args.edid.now c.args.ended c.args.until c.in-Round.begin c.turns.net c.take_round.new.net c.turns.totals c.take_round.new.totals (g.S.Sink.contents c.turns.out) (g.S.Sink.contents c.take_round.new.out)
+    let w = (some_taken c.args.edid.now c.args.ended c.args.until c.in-Round.begin c.turns.net c.take_round.new.self c.turns.totals c.take_round.new.totals (g.S.Sink.contents c.turns.out) (g.S.Sink.contents c.take_round.new.out)
     (g.S.Sink.is_stuck c.turns.out) (g.S.Sink.is_stuck c.take_round.new.out) c.in-Ok-take_round.taken c.in-Some-taken.count c.in-Some-taken.is (c.in-Ok-take_round.ensures c.args.edid.now)).0 in
     let turn : turn_of c.args.until c.turns.net (first_time c.turns.rest.now) ≡ Round c.in-Round.begin = rw (← c.first_time.ensures) (sym c.in-Round.ensures) in
     let begins = round_begins c.args.until c.turns.net (first_time c.turns.rest.now) c.in-Round.begin turn in
     let same : w.begin ≡ c.in-Round.begin = same_begin (sym w.begins ∙ begins.0) in
-    let brought = round_brings (Trace c.args.edid.now) c.args.until w.begin c.turns.net c.take_round.new.net c.turns.totals c.take_round.new.totals w.text w.progress (omega (arith, begins.1, same)) w.turn in
-    smaller (length c.turns.rest.now) c.turns.net.rest c.take_round.new.net.rest brought.sooner (omega (arith, brought.before, c.requires.early))
+    let brought = round_brings (Trace c.args.edid.now) c.args.until w.begin c.turns.net c.take_round.new.self c.turns.totals c.take_round.new.totals w.text w.progress (omega (arith, begins.1, same)) w.turn in
+    smaller (length c.turns.rest.now) c.turns.net.rest c.take_round.new.self.rest brought.sooner (omega (arith, brought.before, c.requires.early))
 
 pub turns-preserved : goal.turns-preserved
 turns-preserved g c =
-    let taken = some_taken c.args.edid.now c.args.ended c.args.until c.in-Round.begin c.turns.net c.take_round.new.net c.turns.totals c.take_round.new.totals (g.S.Sink.contents c.turns.out) (g.S.Sink.contents c.take_round.new.out)
+    let taken = some_taken c.args.edid.now c.args.ended c.args.until c.in-Round.begin c.turns.net c.take_round.new.self c.turns.totals c.take_round.new.totals (g.S.Sink.contents c.turns.out) (g.S.Sink.contents c.take_round.new.out)
     (g.S.Sink.is_stuck c.turns.out) (g.S.Sink.is_stuck c.take_round.new.out) c.in-Ok-take_round.taken c.in-Some-taken.count c.in-Some-taken.is (c.in-Ok-take_round.ensures c.args.edid.now) in
     let w = taken.0 in
     let turn : turn_of c.args.until c.turns.net (first_time c.turns.rest.now) ≡ Round c.in-Round.begin = rw (← c.first_time.ensures) (sym c.in-Round.ensures) in
     let begins = round_begins c.args.until c.turns.net (first_time c.turns.rest.now) c.in-Round.begin turn in
     let same : w.begin ≡ c.in-Round.begin = same_begin (sym w.begins ∙ begins.0) in
-    let brought = round_brings (Trace c.args.edid.now) c.args.until w.begin c.turns.net c.take_round.new.net c.turns.totals c.take_round.new.totals w.text w.progress (omega (arith, begins.1, same)) w.turn in
+    let brought = round_brings (Trace c.args.edid.now) c.args.until w.begin c.turns.net c.take_round.new.self c.turns.totals c.take_round.new.totals w.text w.progress (omega (arith, begins.1, same)) w.turn in
     let line = w.written in
     let counts = counts_brought c.turns.totals c.take_round.new.totals _ w.turn.totals in
     record {
-      reported = after_round c.args.edid.now c.args.ended c.args.until w.begin c.in-Round.begin c.turns.net c.take_round.new.net c.turns.rest.now c.turns.totals c.take_round.new.totals w.text
+      reported = after_round c.args.edid.now c.args.ended c.args.until w.begin c.in-Round.begin c.turns.net c.take_round.new.self c.turns.rest.now c.turns.totals c.take_round.new.totals w.text
           (record { net = c.args.net.now; events = c.args.events.now; totals = c.args.totals.now }) _ _ _ c.turns.written c.in-Some-taken.count c.counted-written-in-Some-taken.result
           turn same w.turn taken.1 c.turns.invariant.reported line.0 line.1 c.counted-written-in-Some-taken.ensures;
       flag = line.2 ∙ c.turns.invariant.flag;
@@ -109,7 +109,7 @@ returns-in-Err-take_round-clause-cut g c =
     let turn : turn_of c.args.until c.turns.net (first_time c.turns.rest.now) ≡ Round c.in-Round.begin = rw (← c.first_time.ensures) (sym c.in-Round.ensures) in
     let begins = round_begins c.args.until c.turns.net (first_time c.turns.rest.now) c.in-Round.begin turn in
     let same : w.begin ≡ c.in-Round.begin = same_begin (sym w.begins ∙ begins.0) in
-    cut_round c.args.edid.now c.args.ended c.args.until w.begin c.in-Round.begin c.turns.net c.take_round.new.net c.turns.rest.now c.turns.totals c.take_round.new.totals w.text
+    cut_round c.args.edid.now c.args.ended c.args.until w.begin c.in-Round.begin c.turns.net c.take_round.new.self c.turns.rest.now c.turns.totals c.take_round.new.totals w.text
     (record { net = c.args.net.now; events = c.args.events.now; totals = c.args.totals.now }) _ _ _ c.turns.written c.in-Err-take_round.fault c.cut_at-in-Err-take_round.result
     turn same w.turn taken.1 c.turns.invariant.reported w.written.0 c.cut_at-in-Err-take_round.ensures
 
@@ -123,7 +123,7 @@ returns-in-Err-take_round-clause-within g c =
     let turn : turn_of c.args.until c.turns.net (first_time c.turns.rest.now) ≡ Round c.in-Round.begin = rw (← c.first_time.ensures) (sym c.in-Round.ensures) in
     let begins = round_begins c.args.until c.turns.net (first_time c.turns.rest.now) c.in-Round.begin turn in
     let same : w.begin ≡ c.in-Round.begin = same_begin (sym w.begins ∙ begins.0) in
-    let brought = round_brings (Trace c.args.edid.now) c.args.until w.begin c.turns.net c.take_round.new.net c.turns.totals c.take_round.new.totals w.text w.progress (omega (arith, begins.1, same)) w.turn in
+    let brought = round_brings (Trace c.args.edid.now) c.args.until w.begin c.turns.net c.take_round.new.self c.turns.totals c.take_round.new.totals w.text w.progress (omega (arith, begins.1, same)) w.turn in
     let counts = counts_brought c.turns.totals c.take_round.new.totals _ w.turn.totals in
     record {
       closed = omega (arith, brought.close, c.requires.early);
@@ -139,7 +139,7 @@ returns-in-Err-take_round-clause-keeps g c =
     let turn : turn_of c.args.until c.turns.net (first_time c.turns.rest.now) ≡ Round c.in-Round.begin = rw (← c.first_time.ensures) (sym c.in-Round.ensures) in
     let begins = round_begins c.args.until c.turns.net (first_time c.turns.rest.now) c.in-Round.begin turn in
     let same : w.begin ≡ c.in-Round.begin = same_begin (sym w.begins ∙ begins.0) in
-    let brought = round_brings (Trace c.args.edid.now) c.args.until w.begin c.turns.net c.take_round.new.net c.turns.totals c.take_round.new.totals w.text w.progress (omega (arith, begins.1, same)) w.turn in
+    let brought = round_brings (Trace c.args.edid.now) c.args.until w.begin c.turns.net c.take_round.new.self c.turns.totals c.take_round.new.totals w.text w.progress (omega (arith, begins.1, same)) w.turn in
     let counts = counts_brought c.turns.totals c.take_round.new.totals _ w.turn.totals in
     let left : length c.turns.rest.now ≡ length (drop c.turns.applied c.args.events.now) = ap length c.turns.invariant.rest in
     record {
@@ -149,15 +149,15 @@ returns-in-Err-take_round-clause-keeps g c =
 
 pub returns-in-None-clause-ok : goal.returns-in-None-clause-ok
 returns-in-None-clause-ok g c =
-    let none = none_taken c.args.edid.now c.args.ended c.args.until c.in-Round.begin c.turns.net c.take_round.new.net c.turns.totals c.take_round.new.totals (g.S.Sink.contents c.turns.out) (g.S.Sink.contents c.take_round.new.out)
+    let none = none_taken c.args.edid.now c.args.ended c.args.until c.in-Round.begin c.turns.net c.take_round.new.self c.turns.totals c.take_round.new.totals (g.S.Sink.contents c.turns.out) (g.S.Sink.contents c.take_round.new.out)
     (g.S.Sink.is_stuck c.turns.out) (g.S.Sink.is_stuck c.take_round.new.out) c.in-Ok-take_round.taken c.in-None.is (c.in-Ok-take_round.ensures c.args.edid.now) in
     let turn : turn_of c.args.until c.turns.net (first_time c.turns.rest.now) ≡ Round c.in-Round.begin = rw (← c.first_time.ensures) (sym c.in-Round.ensures) in
-    late_goes c.args.edid.now c.args.ended c.args.until c.in-Round.begin (record { net = c.args.net.now; events = c.args.events.now; totals = c.args.totals.now }) c.turns.net c.take_round.new.net c.turns.rest.now
+    late_goes c.args.edid.now c.args.ended c.args.until c.in-Round.begin (record { net = c.args.net.now; events = c.args.events.now; totals = c.args.totals.now }) c.turns.net c.take_round.new.self c.turns.rest.now
     (drop c.turns.applied c.args.events.now) c.turns.totals c.take_round.new.totals _ _ _ c.turns.written turn (none.0, none.1, none.2, none.4) c.turns.invariant.rest c.turns.invariant.reported
 
 pub returns-in-None-clause-within : goal.returns-in-None-clause-within
 returns-in-None-clause-within g c =
-    let none = none_taken c.args.edid.now c.args.ended c.args.until c.in-Round.begin c.turns.net c.take_round.new.net c.turns.totals c.take_round.new.totals (g.S.Sink.contents c.turns.out) (g.S.Sink.contents c.take_round.new.out)
+    let none = none_taken c.args.edid.now c.args.ended c.args.until c.in-Round.begin c.turns.net c.take_round.new.self c.turns.totals c.take_round.new.totals (g.S.Sink.contents c.turns.out) (g.S.Sink.contents c.take_round.new.out)
     (g.S.Sink.is_stuck c.turns.out) (g.S.Sink.is_stuck c.take_round.new.out) c.in-Ok-take_round.taken c.in-None.is (c.in-Ok-take_round.ensures c.args.edid.now) in
     record {
       closed = rw none.0 c.turns.invariant.closed;
@@ -168,7 +168,7 @@ returns-in-None-clause-within g c =
 
 pub returns-in-None-clause-keeps : goal.returns-in-None-clause-keeps
 returns-in-None-clause-keeps g c =
-    let none = none_taken c.args.edid.now c.args.ended c.args.until c.in-Round.begin c.turns.net c.take_round.new.net c.turns.totals c.take_round.new.totals (g.S.Sink.contents c.turns.out) (g.S.Sink.contents c.take_round.new.out)
+    let none = none_taken c.args.edid.now c.args.ended c.args.until c.in-Round.begin c.turns.net c.take_round.new.self c.turns.totals c.take_round.new.totals (g.S.Sink.contents c.turns.out) (g.S.Sink.contents c.take_round.new.out)
     (g.S.Sink.is_stuck c.turns.out) (g.S.Sink.is_stuck c.take_round.new.out) c.in-Ok-take_round.taken c.in-None.is (c.in-Ok-take_round.ensures c.args.edid.now) in
     record {
       tree = rw none.0 c.turns.invariant.tree;
@@ -177,6 +177,6 @@ returns-in-None-clause-keeps g c =
 
 pub returns-in-None-clause-same : goal.returns-in-None-clause-same
 returns-in-None-clause-same g c =
-    let none = none_taken c.args.edid.now c.args.ended c.args.until c.in-Round.begin c.turns.net c.take_round.new.net c.turns.totals c.take_round.new.totals (g.S.Sink.contents c.turns.out) (g.S.Sink.contents c.take_round.new.out)
+    let none = none_taken c.args.edid.now c.args.ended c.args.until c.in-Round.begin c.turns.net c.take_round.new.self c.turns.totals c.take_round.new.totals (g.S.Sink.contents c.turns.out) (g.S.Sink.contents c.take_round.new.out)
     (g.S.Sink.is_stuck c.turns.out) (g.S.Sink.is_stuck c.take_round.new.out) c.in-Ok-take_round.taken c.in-None.is (c.in-Ok-take_round.ensures c.args.edid.now) in
     none.3 ∙ c.turns.invariant.flag
