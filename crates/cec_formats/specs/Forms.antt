@@ -6,7 +6,7 @@ use Rattle.std.specs.Str.{bytes_eq}
 use Rattle.hdmi_core.specs.Lines.{lines_of}
 use Rattle.hdmi_core.specs.Number.{number_of}
 use Rattle.cec_formats.specs.declared.form.Form.{Form}
-use Rattle.cec_formats.specs.declared.form.Form.TheVariants.{Edges, Vcd, Csv}
+use Rattle.cec_formats.specs.declared.form.Form.TheVariants.{Edges, Vcd, Csv, Pin}
 
 -- whether there is a comma, and before it no number; a remark has no names
 abbrev pub comma_in : List ℕ → ℕ

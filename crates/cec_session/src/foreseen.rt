@@ -1,5 +1,5 @@
 //! A network, and the round that comes next on it.
-ghost use Rattle.std.specs.Prelude.{◌≡◌, ◌≤◌, ◌<◌, [], length, slice_get, true, Some, None, Option, IfOk, IfSome, IsSome, MatchOption, MatchResult};
+ghost use Rattle.std.specs.Prelude.{◌≡◌, ◌≤◌, ◌<◌, [], length, slice_get, true, Some, None, Option, IfOk, IfSome, IsSome, MatchResult};
 ghost use Rattle.cec_wave.specs.Line.{IsWave};
 ghost use Rattle.cec_wave.specs.Bounds.{latest_instant};
 ghost use Rattle.cec_wire.specs.declared.Outcome.{Outcome as OutcomeValue};
@@ -16,6 +16,7 @@ ghost use Rattle.cec_text.specs.ReadingText.{is_complete};
 ghost use Rattle.cec_run.specs.declared.run.Reporting.TheVariants.{Trace};
 ghost use Rattle.cec_run.specs.Run.{RoundWritten, counted_event, counted_round, event_text, turn_of};
 ghost use Rattle.cec_session.specs.Turns.{IsForeseen, IsKept, IsRoundTaken};
+ghost use Rattle.hdmi_blocks.specs.declared.edid.Edid.{Edid as EdidValue};
 
 use cec_asm::TimedEvent;
 use cec_device::Device;

@@ -2,21 +2,19 @@
 ghost use Rattle.std.specs.Prelude.{◌≡◌, ℕ, ◌+◌, ◌++◌, ◌<◌, ◌≤◌, List, drop, length, true, Option, Some, None, IfOk, IfErr, OnOk, OnErr};
 ghost use Rattle.std.specs.List.{flat_map};
 ghost use Rattle.std.specs.Io.KnownBytes.{Appends};
-ghost use Rattle.hdmi_blocks.specs.declared.edid.Edid.{Edid as EdidValue};
 ghost use Rattle.cec_wave.specs.Line.{IsWave};
 ghost use Rattle.cec_wave.specs.Bounds.{latest_event, latest_instant};
 ghost use Rattle.cec_wire.specs.declared.Outcome.{Outcome as OutcomeValue};
 ghost use Rattle.cec_asm.specs.Script.{IsSchedule, within_limit};
 ghost use Rattle.cec_net.specs.State.{NetState, next_start};
 ghost use Rattle.cec_net.specs.Step.{IsNextRound};
-ghost use Rattle.cec_text.specs.ReadingText.{is_complete};
 ghost use Rattle.hdmi_blocks.specs.Root.{HasAddress};
 ghost use Rattle.cec_trace.specs.StateText.{state_line};
 ghost use Rattle.cec_trace.specs.TraceText.{end_line};
 ghost use Rattle.hdmi_core.specs.Cut.{CutOff, WrittenText, reported_count};
-ghost use Rattle.cec_run.specs.Run.{Config, counted_round, turn_of};
+ghost use Rattle.cec_run.specs.Run.{Config, turn_of};
 ghost use Rattle.cec_session.specs.Session.{IsSoonestBy};
-ghost use Rattle.cec_session.specs.Turns.{Goes, IsRoundTaken, IsWithin, Keeps};
+ghost use Rattle.cec_session.specs.Turns.{Goes, IsWithin, Keeps};
 
 use crate::foreseen::Foreseen;
 use cec_asm::TimedEvent;

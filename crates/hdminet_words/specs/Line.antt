@@ -1,5 +1,5 @@
 -- What a command line asks for (own).
-use Rattle.std.specs.Prelude.{ℕ, List, [], ◌∷◌, Option, Some, None, if◌then◌else◌, false, codes, option_and_then}
+use Rattle.std.specs.Prelude.{ℕ, List, [], ◌∷◌, Option, Some, None, if◌then◌else◌, false, codes, option_and_then, true}
 use Rattle.std.specs.Str.{bytes_eq}
 use Rattle.hdminet_words.specs.CheckFlags.{check_asked, check_flags}
 use Rattle.hdminet_words.specs.EdidFlags.{edid_asked, edid_flags}

@@ -1,6 +1,6 @@
 -- The flags of `mon` (own).
-use Rattle.std.specs.Prelude.{ℕ, List, [], ◌∷◌, Bool, Option, Some, None, if◌then◌else◌, true, false, codes, not, ◌&&◌, ◌||◌, is_some, unwrap_or, option_and_then, take}
-use Rattle.std.specs.Option.{option_map}
+use Rattle.std.specs.Prelude.{ℕ, List, [], ◌∷◌, Bool, Option, Some, None, if◌then◌else◌, true, false, codes, not, ◌&&◌, ◌||◌, is_some, unwrap_or, option_and_then, take, drop, is_none}
+use Rattle.std.specs.Option.{option_map, option_or}
 use Rattle.std.specs.Str.{bytes_eq}
 use Rattle.hdmi_core.specs.Number.{number_of}
 use Rattle.hdminet_words.specs.declared.choice.Asked.{Asked}
@@ -10,7 +10,7 @@ use Rattle.hdminet_words.specs.declared.choice.Objects.TheVariants as objects
 use Rattle.hdminet_words.specs.declared.choice.Form.{Form}
 use Rattle.hdminet_words.specs.declared.choice.Form.TheVariants.{Edges, Vcd, Pin, Csv}
 use Rattle.hdminet_words.specs.declared.choice.Report.{Report}
-use Rattle.hdminet_words.specs.declared.choice.Report.TheVariants.{Timing, Audit}
+use Rattle.hdminet_words.specs.declared.choice.Report.TheVariants.{Timing, Audit, FromIdle, Readings}
 use Rattle.hdminet_words.specs.declared.mon_flags.MonFlags.{MonFlags}
 use Rattle.hdminet_words.specs.declared.mon_flags.MonValue.{MonValue}
 use Rattle.hdminet_words.specs.declared.mon_flags.MonValue.TheVariants.{From, Signal, Glitch}
