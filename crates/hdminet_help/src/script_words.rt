@@ -117,6 +117,11 @@ pub fn add_keys_of(draft: &mut Draft, kind: Kind, after: &str) {
     let _ = add_forms(draft, kind, other_keys().as_slice(), before);
 }
 
+// What stands between two lines.
+fn between() -> &'static str {
+    "`, `at T "
+}
+
 // The lines of those keys that a word begins, and what stands before the next one.
 fn add_lines<'a>(
     draft: &mut Draft,
@@ -133,7 +138,7 @@ fn add_lines<'a>(
             draft.add(" NAME ");
             draft.add(word);
             draft.add(takes);
-            before = "`, `at T ";
+            before = between();
         }
     }
     before
