@@ -117,38 +117,41 @@ pub fn add_keys_of(draft: &mut Draft, kind: Kind, after: &str) {
     let _ = add_forms(draft, kind, other_keys().as_slice(), before);
 }
 
-// What stands between two lines.
-fn between() -> &'static str {
-    "`, `at T "
+// What stands before a line.
+fn before_line(is_first: bool) -> &'static str {
+    if is_first {
+        "  a line here reads `at T "
+    } else {
+        "`, `at T "
+    }
 }
 
-// The lines of those keys that a word begins, and what stands before the next one.
-fn add_lines<'a>(
+// The lines of those keys that a word begins. Returns whether the next one is the first.
+fn add_lines(
     draft: &mut Draft,
     verb: &str,
     word: &str,
     keys: &[(&str, Key)],
-    first: &'a str,
-) -> &'a str {
-    let mut before = first;
+    is_first: bool,
+) -> bool {
+    let mut is_first = is_first;
     for (takes, key) in keys {
         if key.word().text() == word {
-            draft.add(before);
+            draft.add(before_line(is_first));
             draft.add(verb);
             draft.add(" NAME ");
             draft.add(word);
             draft.add(takes);
-            before = between();
+            is_first = false;
         }
     }
-    before
+    is_first
 }
 
 /// The lines of the keys that a word begins, where they are pressed or released, as the verb has it.
 pub fn add_key_lines(draft: &mut Draft, verb: &str, word: &str) {
-    let first = "  a line here reads `at T ";
-    let before = add_lines(draft, verb, word, plain_keys().as_slice(), first);
-    let _ = add_lines(draft, verb, word, other_keys().as_slice(), before);
+    let is_first = add_lines(draft, verb, word, plain_keys().as_slice(), true);
+    let _ = add_lines(draft, verb, word, other_keys().as_slice(), is_first);
     draft.add("`\n");
 }
 
