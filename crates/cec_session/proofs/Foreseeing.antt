@@ -33,3 +33,7 @@ pub late_by : (ended : Bool) (until begin close : ℕ) (net : NetState) → ende
     → ((outcome : Outcome) × (after : NetState) × IsWave outcome.wave × IsNextRound net begin outcome after × IsProgress net begin after × (close ≡ after.close)) → IsLate ended until begin net
 late_by ended until begin close net goes_on late k =
     subst (λ (b : Bool). IsLate b until begin net) (sym goes_on) (k.0, k.1, k.2, k.3, subst (λ (n : ℕ). until ≤ n) k.5 late)
+
+-- what is kept is what the next round gives
+pub known_outcome : (net at : NetState) (next : Option Outcome) (o : Outcome) → at ≡ net → next ≡ Some o → IsForeseen net next → IsForeseen at (Some o)
+known_outcome net at next o same is h = subst (λ (n : NetState). IsForeseen n (Some o)) (sym same) (subst (λ (x : Option Outcome). IsForeseen net x) is h)
