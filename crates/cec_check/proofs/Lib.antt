@@ -3,7 +3,7 @@ pub mod Found
 pub mod Stated
 pub mod Checked
 pub mod EachLine
-pub mod Plain
+pub mod PlainRead
 pub mod Cuts
 pub mod Refusals
 pub mod Shown

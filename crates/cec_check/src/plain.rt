@@ -24,7 +24,7 @@ impl ScriptSource for PlainLines<'_> {
 }
 
 // Reads a script as `parse_script` reads its plain script.
-#[tactic(auto, using(crate::proofs::Plain::line_refused, crate::proofs::Plain::end_lacks, crate::proofs::Plain::course_read))]
+#[tactic(auto, using(crate::proofs::PlainRead::line_refused, crate::proofs::PlainRead::end_lacks, crate::proofs::PlainRead::course_read))]
 fn parse_plain(alloc: Global, topology: &Topology, script: &[u8]) -> Result<Script, ScriptError>
     ensures gives { GivesScript topology.now.tree (plain_script script.now) result }
     ensures script { IfOk result (λ read. IsScript (length topology.now.tree) (course_of read)) }

@@ -2,7 +2,7 @@ use Rattle.std.proofs.Common.{◌+◌, ◌≤◌, length}
 use Rattle.hdmi_core.specs.Lines.{lines_of}
 use Rattle.cec_asm.specs.Script.{notes_of}
 use Rattle.cec_asm.proofs.Sound.{AreSound}
-use Rattle.cec_check.proofs.Plain.{Leads}
+use Rattle.cec_check.proofs.PlainRead.{Leads}
 use Rattle.cec_check.proofs.plain.parse_plain.Given as goal
 
 -- what the lines that are left give after those so far, the plain script gives; the draft is sound, and its pulses are few
