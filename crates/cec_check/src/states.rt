@@ -9,7 +9,7 @@ ghost use Rattle.cec_check.specs.States.{AreStates, IsStateAt, IsStateRead, IsTr
 
 use crate::sieve::{Patterns, Sieve};
 use cec_expect::{Form, cut_script, form_in, plain_script, unlabelled};
-use cec_judge::state_line;
+use cec_judge::{is_of_state, state_line};
 use cec_run::emulate::{EmulateError, emulate};
 use hdmi_core::first_line;
 use std::alloc::{AllocError, Global};
@@ -68,21 +68,6 @@ fn state_for(
 }
 
 // Whether a line of a script speaks of a state.
-fn is_of_state(line: &[u8]) -> bool
-    ensures { result ≡ is_of_state line.now }
-{
-    match form_in(unlabelled(line).rest) {
-        Err(_) => false,
-        Ok(form) => match form {
-            Form::State { .. } => true,
-            Form::Other => false,
-            Form::Rounds { .. } => false,
-            Form::Refused { .. } => false,
-        },
-    }
-}
-
-// Whether any line of a script does.
 fn has_state(script: &[u8]) -> bool
     ensures { result ≡ list_any is_of_state (lines_of script.now) }
 {
