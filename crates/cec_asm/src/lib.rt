@@ -16,6 +16,7 @@ pub use course::Script;
 pub use fault::LineFault;
 pub use laws::{keys_begin_with_their_words, one_script, scripts_are_sound};
 pub use script::{
-    ScriptCause, ScriptDraft, ScriptError, ScriptLineError, TimedEvent, parse_script, take_line,
+    ScriptCause, ScriptDraft, ScriptError, ScriptLineError, TimedEvent, error_at, parse_script,
+    take_line,
 };
 pub use topology::{Topology, TopologyCause, TopologyError, parse_topology};

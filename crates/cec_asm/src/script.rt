@@ -563,7 +563,8 @@ pub fn take_line(
     }
 }
 
-fn error_at(line: u64, error: ScriptLineError) -> ScriptError
+/// The error of a line that is not taken.
+pub fn error_at(line: u64, error: ScriptLineError) -> ScriptError
     ensures { result ≡ error_at line error }
 {
     match error {

@@ -1,5 +1,5 @@
 -- The report of a run that is held in memory, which is one.
-use Rattle.std.proofs.Common.{◌≡◌, ℕ, List, [], ◌∷◌, ◌++◌, Some, None, Result, Ok, Err, refl, sym, ap, ◌∙◌, subst}
+use Rattle.std.proofs.Common.{◌≡◌, ℕ, List, [], ◌∷◌, ◌++◌, Some, None, Result, Ok, Err, refl, sym, ap, ◌∙◌}
 use Rattle.std.specs.Io.KnownBytes.{Appends}
 use Rattle.hdmi_core.specs.Lines.{lines_of}
 use Rattle.hdmi_core.specs.Words.{words_of}
@@ -19,22 +19,18 @@ use Rattle.cec_check.specs.declared.checking.CheckError.TheVariants.{Expect}
 use Rattle.cec_expect.specs.declared.faults.ExpectFault.{ExpectFault}
 use Rattle.cec_check.specs.Check.{AreKept, IsReportOf, IsVerdictReported, TalliesCountVerdicts, tally_of}
 
-pub reported : (topology script plain held bytes text : List ℕ) (totals : Totals) (states : List (List ℕ)) (r : Report) → plain ≡ plain_script script → held ≡ []
-    → IsTraceOf topology plain text totals → Appends (Some held) (Some bytes) text → first_fault topology script ≡ None → AreStates topology plain (lines_of script) states
-    → r ≡ report script bytes states → IsReportOf topology script r
-reported topology script plain held bytes text totals states r is empty trace written accepted are made = record {
+pub reported : (topology script held bytes text : List ℕ) (totals : Totals) (states : List (List ℕ)) (r : Report) → held ≡ []
+    → IsTraceOf topology (plain_script script) text totals → Appends (Some held) (Some bytes) text → first_fault topology script ≡ None
+    → AreStates topology (plain_script script) (lines_of script) states → r ≡ report script bytes states → IsReportOf topology script r
+reported topology script held bytes text totals states r empty trace written accepted are made = record {
   trace = text;
   totals = totals;
-  run = subst (λ p. IsTraceOf topology p text totals) is trace;
+  run = trace;
   accepted = accepted;
   states = states;
-  states_are = subst (λ p. AreStates topology p (lines_of script) states) is are;
+  states_are = are;
   report_is = made ∙ ap (λ b. report script b states) (written ∙ ap (λ h. h ++ text) empty);
 }
-
-pub run_of_plain : (topology script plain text : List ℕ) (totals : Totals) → plain ≡ plain_script script → IsTraceOf topology plain text totals
-    → IsTraceOf topology (plain_script script) text totals
-run_of_plain topology script plain text totals is trace = subst (λ p. IsTraceOf topology p text totals) is trace
 
 -- one report of equal traces and states
 pub reports : (script t u : List ℕ) (xs ys : List (List ℕ)) → t ≡ u → xs ≡ ys → report script t xs ≡ report script u ys
@@ -72,12 +68,12 @@ tallies_count_verdicts topology script old new tally verdicts (r, is, counted, w
 
 -- ---- what is kept of a run
 
-pub kept_of_run : (topology script plain old new text few : List ℕ) (totals : Totals) → plain ≡ plain_script script → old ≡ [] → IsTraceOf topology plain text totals
+pub kept_of_run : (topology script old new text few : List ℕ) (totals : Totals) → old ≡ [] → IsTraceOf topology (plain_script script) text totals
     → Appends (Some old) (Some new) text → lines_of few ≡ kept script (lines_of new) → AreKept topology script few
-kept_of_run topology script plain old new text few totals is empty trace written are = record {
+kept_of_run topology script old new text few totals empty trace written are = record {
   trace = text;
   totals = totals;
-  run = subst (λ p. IsTraceOf topology p text totals) is trace;
+  run = trace;
   lines_are = are ∙ ap (λ t. kept script (lines_of t)) (written ∙ ap (λ h. h ++ text) empty);
 }
 
@@ -94,8 +90,8 @@ reported_few topology script few states r run accepted are made = record {
   report_is = made run.trace run.lines_are;
 }
 
-pub traced_of : (topology script plain few : List ℕ) → AreKept topology script few → plain ≡ plain_script script → IsTraced topology plain
-traced_of topology script plain few run is = (run.trace, run.totals, subst (λ p. IsTraceOf topology p run.trace run.totals) (sym is) run.run)
+pub traced_of : (topology script few : List ℕ) → AreKept topology script few → IsTraced topology (plain_script script)
+traced_of topology script few run = (run.trace, run.totals, run.run)
 
 pub faulty : (topology script named few : List ℕ) (fault : ExpectFault) → AreKept topology script few → named ≡ script → first_fault topology named ≡ Some fault
     → IsVerdictReported topology script (Expect fault)
@@ -106,7 +102,3 @@ faulty topology script named few fault run same is = record {
 
 pub faultless : (topology script named : List ℕ) → named ≡ script → first_fault topology named ≡ None → first_fault topology script ≡ None
 faultless topology script named same is = ap (first_fault topology) (sym same) ∙ is
-
-pub states_of_plain : (topology script plain : List ℕ) (states : List (List ℕ)) → plain ≡ plain_script script → AreStates topology plain (lines_of script) states
-    → AreStates topology (plain_script script) (lines_of script) states
-states_of_plain topology script plain states is are = subst (λ p. AreStates topology p (lines_of script) states) is are

@@ -1,9 +1,8 @@
 -- A plain script that ends earlier says the same events before then, the same pulses, and that end.
-use Rattle.std.proofs.Common.{◌≡◌, ℕ, suc, ◌+◌, ◌-◌, ◌^◌, ◌<◌, ◌≤◌, ◌==◌, ◌&&◌, Bool, true, false, cond, codes, if◌then◌else◌, List, [], ◌∷◌, ◌++◌, length, min, map, filter, nat_lt, nat_le, slice_get, Option, Some, None, is_some, option_map, Result, Ok, Err, All, refl, sym, ap, subst, ◌∙◌, arith, append_assoc, append-nil}
+use Rattle.std.proofs.Common.{◌≡◌, ℕ, suc, ◌+◌, ◌-◌, ◌^◌, ◌<◌, ◌≤◌, ◌==◌, ◌&&◌, Bool, true, false, cond, codes, if◌then◌else◌, List, [], ◌∷◌, ◌++◌, length, min, map, filter, nat_lt, nat_le, slice_get, Option, Some, None, is_some, option_map, Result, Ok, Err, All, refl, sym, ap, subst, ◌∙◌, arith, append-nil}
 use Rattle.std.specs.Str.{bytes_eq}
 use Rattle.std.specs.Fmt.{decimal}
 use Rattle.std.specs.Option.{option_map_or}
-use Rattle.std.specs.List.{flat_map, slice_split, onto_first}
 use Rattle.std.proofs.lemmas.Bool.Decides.{nat_tests}
 use Rattle.std.proofs.lemmas.Slice.Eq.{bytes_eq-Decides}
 use Rattle.std.specs.Char.{digit_value}
@@ -17,11 +16,11 @@ use Rattle.cec_wave.specs.Pulses.{stretch_fault}
 use Rattle.cec_wave.specs.Bounds.{latest_event}
 use Rattle.cec_feature.specs.declared.keys.Key.{Key as KeyValue}
 use Rattle.cec_text.specs.declared.assembler.AssembleError.{AssembleError}
-use Rattle.hdmi_core.specs.Lines.{lines_of, is_skipped, without_empty_end}
+use Rattle.hdmi_core.specs.Lines.{lines_of, is_skipped}
 use Rattle.hdmi_core.specs.Number.{number_of}
 use Rattle.hdmi_core.specs.Words.{words_of, one_of, two_of, three_of}
 use Rattle.cec_signal.proofs.Numbers.{number_again, some_length}
-use Rattle.cec_signal.proofs.Texts.{Lacks, line_before, more_lack, none_lack, number_lacks, number_plain}
+use Rattle.cec_signal.proofs.Texts.{Lacks, more_lack, none_lack, number_lacks, number_plain}
 use Rattle.cec_event.specs.declared.event.Event.{Event}
 use Rattle.cec_event.specs.declared.event.Event.TheVariants.{Plug, Unplug, Key, Send, Outside}
 use Rattle.cec_asm.specs.Keys.{key_of}
@@ -35,6 +34,7 @@ use Rattle.cec_asm.specs.declared.script.ScriptCause.TheVariants.{Word, Order, T
 use Rattle.cec_asm.specs.Script.{Course, Notes, ScriptFault, within_limit, time_of, last_time, last_end, notes_with_event, plug_read, plug_words, unplug_read, unplug_words, key_read, key_words, act_read, hold_words, drop_words, send_read, event_words, unless_fault, pulse_read, pulse_words, end_read, end_words, other_words, course_at_end, no_notes, IsSendRead, IsEventRead, IsWordsRead, IsLineRead, Onward, AreLinesRead}
 use Rattle.cec_expect.specs.Line.{cut_line, cut_script, has_verb, is_before, is_event, is_sooner}
 use Rattle.cec_check.specs.Cuts.{CutsAreRead, cut_course, is_early}
+use Rattle.cec_check.proofs.EachLine.{lines_each}
 
 -- ---- what the lines so far say of a script that ends earlier
 
@@ -516,28 +516,6 @@ lines_go tree time (text ∷ texts) line notes course low order h = step h.0 h.1
 
 -- ---- the lines of the text
 
-abbrev Lacking : List (List ℕ) → Type 0
-Lacking [] = Unit {0}
-Lacking (line ∷ lines) = Lacks (λ c. c == 10) line × Lacking lines
-
-parts_lack : (text : List ℕ) → Lacking (slice_split (λ b. b == 10) text)
-parts_lack [] = (none_lack (λ c. c == 10), tt)
-parts_lack (c ∷ cs) = by (c == 10) refl (slice_split (λ b. b == 10) cs) (parts_lack cs)
-  where
-    by : (b : Bool) → (c == 10) ≡ b → (parts : List (List ℕ)) → Lacking parts → Lacking (cond b ([] ∷ parts) (onto_first c parts))
-    by true e parts h = (none_lack (λ c. c == 10), h)
-    by false e [] h = (more_lack (λ c. c == 10) c [] e (none_lack (λ c. c == 10)), tt)
-    by false e (part ∷ parts) h = (more_lack (λ c. c == 10) c part e h.0, h.1)
-
-ends_lack : (parts : List (List ℕ)) → Lacking parts → Lacking (without_empty_end parts)
-ends_lack [] h = tt
-ends_lack (part ∷ []) h = by (length part == 0)
-  where
-    by : (b : Bool) → Lacking (if b then [] else part ∷ [])
-    by true = tt
-    by false = h
-ends_lack (part ∷ next ∷ parts) h = (h.0, ends_lack (next ∷ parts) h.1)
-
 cut_lacks : (time : ℕ) (line : List ℕ) → time ≤ latest_event → Lacks (λ c. c == 10) line → Lacks (λ c. c == 10) (cut_line time line)
 cut_lacks time line low h = by (is_skipped line) (is_event (words_of line)) (is_before time (words_of line)) (has_verb (codes "end") (words_of line))
   where
@@ -552,18 +530,11 @@ cut_lacks time line low h = by (is_skipped line) (is_event (words_of line)) (is_
     by false false b true = last
     by false false b false = h
 
-cut_lines : (time : ℕ) (lines : List (List ℕ)) → time ≤ latest_event → Lacking lines → lines_of (flat_map (λ line. cut_line time line ++ 10 ∷ []) lines) ≡ map (cut_line time) lines
-cut_lines time [] low h = refl
-cut_lines time (line ∷ lines) low h =
-    ap lines_of (append_assoc (cut_line time line) (10 ∷ []) (flat_map (λ line. cut_line time line ++ 10 ∷ []) lines))
-    ∙ line_before (cut_line time line) (flat_map (λ line. cut_line time line ++ 10 ∷ []) lines) (cut_lacks time line low h.0)
-    ∙ ap (λ ls. cut_line time line ∷ ls) (cut_lines time lines low h.1)
-
 -- ---- all
 
 pub cuts_are_read : CutsAreRead
 cuts_are_read tree time script course low h =
     let lines : lines_of (cut_script time script) ≡ map (cut_line time) (lines_of script) =
-    cut_lines time (lines_of script) low (ends_lack (slice_split (λ b. b == 10) script) (parts_lack script)) in
+    lines_each (cut_line time) script (λ line h. cut_lacks time line low h) in
     subst (λ ls. AreLinesRead tree ls 1 no_notes (Ok (cut_course time course))) (sym lines)
     (lines_go tree time (lines_of script) 1 no_notes course low (All-nil (λ (e : TimedEvent). e.at ≤ last_time [])) h)

@@ -2,6 +2,8 @@ pub mod Standing
 pub mod Found
 pub mod Stated
 pub mod Checked
+pub mod EachLine
+pub mod PlainRead
 pub mod Cuts
 pub mod Refusals
 pub mod Shown

@@ -1,5 +1,6 @@
 -- The state lines of a script, one after another.
-use Rattle.std.proofs.Common.{◌≡◌, ℕ, true, false, List, [], ◌∷◌, ◌++◌, refl, sym, ap, ◌∙◌, subst, append_assoc, append-nil, Result, Ok, Err}
+use Rattle.std.proofs.Common.{◌≡◌, ℕ, ◌||◌, Bool, true, false, List, [], ◌∷◌, ◌++◌, refl, sym, ap, ◌∙◌, subst, append_assoc, append-nil, Result, Ok, Err}
+use Rattle.std.specs.List.{list_any}
 use Rattle.hdmi_core.specs.Words.{words_of}
 use Rattle.cec_expect.specs.Line.{unlabelled_words}
 use Rattle.cec_expect.specs.Form.{Form, form_in}
@@ -40,3 +41,13 @@ one_more topology plain all lines rest line state found new split some is made b
 pub no_more : (topology plain : List ℕ) (all lines found : List (List ℕ)) → lines ≡ [] → Lead topology plain all lines found → AreStates topology plain all (states_for all found)
 no_more topology plain all lines found none before =
     subst (λ xs. AreStates topology plain all (states_for all xs)) (append-nil found) (before [] (subst (λ ls. AreStates topology plain ls (states_for ls [])) (sym none) refl))
+
+-- no line speaks of one
+pub stateless : (topology plain : List ℕ) (lines : List (List ℕ)) → list_any is_of_state lines ≡ false → AreStates topology plain lines (states_for lines [])
+stateless topology plain [] none = refl
+stateless topology plain (line ∷ lines) none = by (is_of_state line) refl none (stateless topology plain lines)
+  where
+    by : (b : Bool) → is_of_state line ≡ b → (b || list_any is_of_state lines) ≡ false → (list_any is_of_state lines ≡ false → AreStates topology plain lines (states_for lines []))
+        → IsStateFor topology plain line (first_state b []) × AreStates topology plain lines (states_for lines (later_states b []))
+    by true e h later = absurd (false≢true (sym h))
+    by false e h later = (no_state topology plain (form_in (unlabelled_words (words_of line))) e, later h)

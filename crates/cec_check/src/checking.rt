@@ -9,11 +9,12 @@ ghost use Rattle.cec_check.specs.Check.{AreKept, AreVerdictsOf, IsCheckCut, IsCh
 ghost use Rattle.cec_check.specs.Report.{report_as};
 
 use crate::held::Held;
+use crate::plain::PlainLines;
 use crate::report::{ReportDraft, report_of_few, whole_report};
 use crate::sieve::{Patterns, Sieve};
 use crate::states::all_states;
-use cec_expect::{ExpectFault, Labels, fault_among, plain_script};
-use cec_run::emulate::{EmulateError, emulate};
+use cec_expect::{ExpectFault, Labels, fault_among};
+use cec_run::emulate::{EmulateError, emulate_from};
 use hdmi_core::{Sink, put_all};
 use std::alloc::Global;
 use thiserror::Error;
@@ -74,17 +75,15 @@ fn report_by_trace(
     alloc: Global,
     topology: &[u8],
     script: &[u8],
-    plain: &[u8],
     states: &[Vec<u8>],
 ) -> Result<ReportDraft, CheckError>
-    requires plain { plain.now ≡ plain_script script.now }
     requires accepted { first_fault topology.now script.now ≡ None }
     requires states { AreStates topology.now (plain_script script.now) (lines_of script.now) (states_for (lines_of script.now) (map (λ state. state.items) states.now)) }
     ensures ok { IfOk result (λ draft. IsReportOf topology.now script.now (report_as draft)) }
     ensures reported { IfErr result (IsVerdictReported topology.now script.now) }
 {
     let mut trace = Held::new(alloc);
-    match emulate(alloc, topology, plain, &mut trace) {
+    match emulate_from(alloc, topology, &PlainLines { script }, &mut trace) {
         Ok(_) => {}
         Err(EmulateError::Write(_)) => return Err(CheckError::Memory),
         Err(error) => return Err(CheckError::Emulate(error)),
@@ -97,13 +96,7 @@ fn report_by_trace(
 
 // The lines of the trace of a script's run that its report needs.
 #[tactic(auto, using(crate::proofs::Checked::kept_of_run))]
-fn few_of(
-    alloc: Global,
-    topology: &[u8],
-    script: &[u8],
-    plain: &[u8],
-) -> Result<Vec<u8>, CheckError>
-    requires plain { plain.now ≡ plain_script script.now }
+fn few_of(alloc: Global, topology: &[u8], script: &[u8]) -> Result<Vec<u8>, CheckError>
     ensures ok { IfOk result (λ few. AreKept topology.now script.now few.items) }
     ensures reported { IfErr result (IsVerdictReported topology.now script.now) }
 {
@@ -111,7 +104,7 @@ fn few_of(
         return Err(CheckError::Memory);
     };
     let mut sieve = Sieve::new(alloc, patterns);
-    match emulate(alloc, topology, plain, &mut sieve) {
+    match emulate_from(alloc, topology, &PlainLines { script }, &mut sieve) {
         Ok(_) => {}
         Err(EmulateError::Write(_)) => return Err(CheckError::Memory),
         Err(error) => return Err(CheckError::Emulate(error)),
@@ -124,15 +117,12 @@ fn few_of(
 
 // The report of a script. The run is made again where a test failed whose window no round meets: then the first rounds in the
 // window are shown.
-#[tactic(auto, using(crate::proofs::Checked::traced_of, crate::proofs::Checked::faulty, crate::proofs::Checked::faultless, crate::proofs::Checked::states_of_plain, crate::proofs::Checked::reported_few))]
+#[tactic(auto, using(crate::proofs::Checked::traced_of, crate::proofs::Checked::faulty, crate::proofs::Checked::faultless, crate::proofs::Checked::reported_few))]
 fn report_of(alloc: Global, topology: &[u8], script: &[u8]) -> Result<ReportDraft, CheckError>
     ensures ok { IfOk result (λ draft. IsReportOf topology.now script.now (report_as draft)) }
     ensures reported { IfErr result (IsVerdictReported topology.now script.now) }
 {
-    let Ok(plain) = plain_script(alloc, script) else {
-        return Err(CheckError::Memory);
-    };
-    let few = match few_of(alloc, topology, script, &plain) {
+    let few = match few_of(alloc, topology, script) {
         Ok(few) => few,
         Err(error) => return Err(error),
     };
@@ -143,7 +133,7 @@ fn report_of(alloc: Global, topology: &[u8], script: &[u8]) -> Result<ReportDraf
         Some(fault) => return Err(CheckError::Expect(fault)),
         None => {}
     }
-    let Ok(states) = all_states(alloc, topology, &plain, script) else {
+    let Ok(states) = all_states(alloc, topology, script) else {
         return Err(CheckError::Memory);
     };
     let Ok(report) = report_of_few(alloc, &labels, &few, &states) else {
@@ -151,7 +141,7 @@ fn report_of(alloc: Global, topology: &[u8], script: &[u8]) -> Result<ReportDraf
     };
     match report {
         Some(report) => Ok(report),
-        None => report_by_trace(alloc, topology, script, &plain, &states),
+        None => report_by_trace(alloc, topology, script, &states),
     }
 }
 

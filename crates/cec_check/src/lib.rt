@@ -4,6 +4,7 @@
 mod checking;
 mod held;
 mod laws;
+mod plain;
 mod report;
 mod sieve;
 mod states;

@@ -1,13 +1,15 @@
 //! The state lines that the lines of a script speak of.
-ghost use Rattle.std.specs.Prelude.{◌≤◌, map, option_map, IfOk};
+ghost use Rattle.std.specs.Prelude.{◌≡◌, ◌≤◌, map, option_map, IfOk};
+ghost use Rattle.std.specs.List.{list_any};
 ghost use Rattle.cec_wave.specs.Bounds.{latest_event};
 ghost use Rattle.hdmi_core.specs.Lines.{lines_of};
-ghost use Rattle.cec_judge.specs.Judged.{states_for};
+ghost use Rattle.cec_expect.specs.Line.{plain_script};
+ghost use Rattle.cec_judge.specs.Judged.{is_of_state, states_for};
 ghost use Rattle.cec_check.specs.States.{AreStates, IsStateAt, IsStateRead, IsTraced};
 
 use crate::sieve::{Patterns, Sieve};
-use cec_expect::{Form, cut_script, form_in, unlabelled};
-use cec_judge::state_line;
+use cec_expect::{Form, cut_script, form_in, plain_script, unlabelled};
+use cec_judge::{is_of_state, state_line};
 use cec_run::emulate::{EmulateError, emulate};
 use hdmi_core::first_line;
 use std::alloc::{AllocError, Global};
@@ -65,13 +67,23 @@ fn state_for(
     }
 }
 
-/// The state lines of the lines of a script that speak of one, in order, by a run for each.
-///
-/// # Errors
-///
-/// Want of memory.
+// Whether a line of a script speaks of a state.
+fn has_state(script: &[u8]) -> bool
+    ensures { result ≡ list_any is_of_state (lines_of script.now) }
+{
+    let mut rest = script;
+    'lines: while let Some((line, after)) = first_line(rest) {
+        if is_of_state(line) {
+            return true;
+        }
+        rest = after;
+    }
+    false
+}
+
+// The state lines of the lines of a script that speak of one, in order, by a run for each.
 #[tactic(auto, using(crate::proofs::Stated::none_more, crate::proofs::Stated::one_more, crate::proofs::Stated::no_more))]
-pub(crate) fn all_states(
+fn states_of(
     alloc: Global,
     topology: &[u8],
     plain: &[u8],
@@ -90,4 +102,26 @@ pub(crate) fn all_states(
         rest = after;
     }
     Ok(states)
+}
+
+/// The state lines of the lines of a script that speak of one, in order, by a run of its plain script for each. Only where one does
+/// is the plain script made.
+///
+/// # Errors
+///
+/// Want of memory.
+#[tactic(auto, using(crate::proofs::Stated::stateless))]
+pub(crate) fn all_states(
+    alloc: Global,
+    topology: &[u8],
+    script: &[u8],
+) -> Result<Vec<Vec<u8>>, AllocError>
+    requires traced { IsTraced topology.now (plain_script script.now) }
+    ensures { IfOk result (λ states. AreStates topology.now (plain_script script.now) (lines_of script.now) (states_for (lines_of script.now) (map (λ state. state.items) states.items))) }
+{
+    if !has_state(script) {
+        return Ok(Vec::new(alloc));
+    }
+    let plain = plain_script(alloc, script)?;
+    states_of(alloc, topology, &plain, script)
 }

@@ -37,12 +37,16 @@ is_expectation words = has_verb (codes "expect") words
 abbrev pub is_event : List (List ℕ) → Bool
 is_event words = has_verb (codes "at") words
 
--- what is left of a line in a script without expectations
+-- what is left of these words in a script without expectations
 abbrev pub plain_words : List (List ℕ) → List ℕ
 plain_words words = if is_expectation words then [] else text_of words
 
+-- what is left of a line in a script without labels and expectations
+abbrev pub plain_part : List ℕ → List ℕ
+plain_part line = plain_words (unlabelled_words (words_of line))
+
 abbrev pub plain_line : List ℕ → List ℕ
-plain_line line = plain_words (unlabelled_words (words_of line)) ++ 10 ∷ []
+plain_line line = plain_part line ++ 10 ∷ []
 
 -- The script without labels and expectations, line for line: the line of an expectation is empty.
 abbrev pub plain_script : List ℕ → List ℕ

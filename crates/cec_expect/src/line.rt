@@ -3,7 +3,7 @@ ghost use Rattle.std.specs.Prelude.{◌≡◌, ◌++◌, [], codes, if◌then◌
 ghost use Rattle.std.specs.Fmt.{decimal};
 ghost use Rattle.std.specs.Option.{option_copied};
 ghost use Rattle.hdmi_core.specs.Words.{words_after, words_of};
-ghost use Rattle.cec_expect.specs.Line.{unlabelled_words, cut_line, cut_script, has_verb, is_before, label_in, plain_line, plain_script, plain_words};
+ghost use Rattle.cec_expect.specs.Line.{unlabelled_words, cut_line, cut_script, has_verb, is_before, label_in, plain_line, plain_part, plain_script, plain_words};
 
 use hdmi_core::{first_line, first_word, is_skipped, number_in};
 use std::alloc::{AllocError, Global};
@@ -54,7 +54,7 @@ pub(crate) fn has_verb(verb: &[u8], rest: Option<&[u8]>) -> bool
     }
 }
 
-// What is left of a line in a script without expectations.
+// What is left of these words in a script without expectations.
 fn plain_words(rest: Option<&[u8]>) -> &[u8]
     ensures { result.now ≡ plain_words (words_after (option_copied rest.entry)) }
 {
@@ -67,10 +67,17 @@ fn plain_words(rest: Option<&[u8]>) -> &[u8]
     }
 }
 
+/// What is left of a line in a script without labels and expectations: nothing of an expectation.
+pub fn plain_part(line: &[u8]) -> &[u8]
+    ensures { result.now ≡ plain_part line.now }
+{
+    plain_words(unlabelled(line).rest)
+}
+
 fn push_plain(text: &mut Vec<u8>, line: &[u8]) -> Result<(), AllocError>
     ensures { OnOk result (text.new.items ≡ text.old.items ++ plain_line line.now) }
 {
-    text.extend_from_slice(plain_words(unlabelled(line).rest))?;
+    text.extend_from_slice(plain_part(line))?;
     text.push(b'\n')?;
     Ok(())
 }

@@ -5,9 +5,8 @@ ghost use Rattle.cec_run.specs.declared.run.Reporting.TheVariants.{Trace};
 ghost use Rattle.cec_run.specs.Emulate.{IsTraceOf, IsReported, IsCut, is_write};
 
 use crate::run::{Reporting, Totals, run, started_net};
-use cec_asm::{
-    ScriptCause, ScriptError, TopologyCause, TopologyError, parse_script, parse_topology,
-};
+use crate::source::{ScriptSource, ScriptText};
+use cec_asm::{ScriptCause, ScriptError, TopologyCause, TopologyError, parse_topology};
 use hdmi_blocks::{Edid, EdidCause, RootError, root_on_heap};
 use hdmi_core::Sink;
 use std::alloc::{AllocError, Global};
@@ -113,8 +112,6 @@ fn trace_with(alloc: Global, edid: Option<Box<Edid>>) -> Result<Box<Reporting>, 
 /// The first line of the topology, and then of the script, that is at fault, and its cause; then the cause for
 /// which the topology's EDID is refused; want of memory: then nothing was written. A failed write: then the front
 /// of the trace was written, as long as it reports.
-// The network is large: where this stood inside its caller, the caller's frame would hold one for each kind of run.
-#[inline(never)]
 pub fn emulate<S: Sink>(
     alloc: Global,
     topology: &[u8],
@@ -126,8 +123,29 @@ pub fn emulate<S: Sink>(
     ensures write { S.is_stuck out.old ≡ false → (IsTrue (is_write result) ↔ IsTrue (S.is_stuck out.new)) }
     ensures cut { IfErr result (IsCut topology.now script.now (S.contents out.old) (S.contents out.new)) }
 {
+    emulate_from(alloc, topology, &ScriptText { text: script }, out)
+}
+
+/// [`emulate`] of the text that a source has.
+///
+/// # Errors
+///
+/// Those of [`emulate`].
+// The network is large: where this stood inside its caller, the caller's frame would hold one for each kind of run.
+#[inline(never)]
+pub fn emulate_from<T: ScriptSource, S: Sink>(
+    alloc: Global,
+    topology: &[u8],
+    script: &T,
+    out: &mut S,
+) -> Result<Totals, EmulateError>
+    ensures ok { IfOk result (λ totals. (text : List ℕ) × IsTraceOf topology.now (T.text script.now) text totals × Appends (S.contents out.old) (S.contents out.new) text) }
+    ensures reported { IfErr result (IsReported topology.now (T.text script.now)) }
+    ensures write { S.is_stuck out.old ≡ false → (IsTrue (is_write result) ↔ IsTrue (S.is_stuck out.new)) }
+    ensures cut { IfErr result (IsCut topology.now (T.text script.now) (S.contents out.old) (S.contents out.new)) }
+{
     let topology = parse_topology(alloc, topology)?;
-    let script = parse_script(alloc, &topology, script)?;
+    let script = script.parse(alloc, &topology)?;
     let edid = root_on_heap(alloc, &topology.edid)?;
     let Ok(reporting) = trace_with(alloc, edid) else {
         return Err(EmulateError::Memory);

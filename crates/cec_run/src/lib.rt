@@ -6,6 +6,7 @@ pub mod emulate;
 mod laws;
 pub mod line;
 mod run;
+mod source;
 
 pub use laws::{
     edges_are_the_line, lines_are_of_the_rounds, one_run, one_run_text, one_trace, runs_are_read,
@@ -13,3 +14,4 @@ pub use laws::{
     texts_have_one_trace, texts_have_traces, traces_have_parts,
 };
 pub use run::{Totals, Turn, apply_event, first_time, next_turn};
+pub use source::ScriptSource;

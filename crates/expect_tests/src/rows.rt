@@ -218,6 +218,7 @@ not ok 15 - line 18: expect none within 5 of on short
 pub(crate) const REFUSALS: &str = "\
 device tv tv 4|expect|end 10 => script line 1: word
 device tv tv 4|expect from 2 to 1 short|at 5 press p1 play|end 10 => script line 2: name
+device tv tv 4|label a|expect from 0 to 9 short|# press|label b at 5 press tv play|label c at 7 press p1 play|end 10 => script line 5: name
 device tv x 4|expect|end 10 => topology line 1: word
 device tv tv 4|expect from 1 to 2 short => script line 2: end
 device tv tv 4|expect state 1 amp on|end 10 => script line 1: name";

@@ -1,7 +1,7 @@
 use Rattle.std.proofs.Common.{length, map}
 use Rattle.hdmi_core.specs.Lines.{lines_of}
 use Rattle.cec_check.proofs.Stated.{Lead}
-use Rattle.cec_check.proofs.states.all_states.Given as goal
+use Rattle.cec_check.proofs.states.states_of.Given as goal
 
 -- with the states of the lines that are left these are those of all lines
 abbrev pub invariant-lines : goal.invariant-lines
