@@ -8,3 +8,5 @@ pub mod Shown
 pub mod Kept
 pub mod Sifted
 pub mod Keeping
+pub mod Timing
+pub mod Watching

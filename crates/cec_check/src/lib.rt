@@ -7,6 +7,8 @@ mod laws;
 mod report;
 mod sieve;
 mod states;
+mod times;
+mod watch;
 
 pub use checking::{CheckError, Tally, check, tally_of, verdicts};
 pub use held::Held;
