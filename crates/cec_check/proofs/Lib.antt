@@ -10,3 +10,4 @@ pub mod Sifted
 pub mod Keeping
 pub mod Timing
 pub mod Watching
+pub mod Grouping

@@ -1,5 +1,5 @@
 -- What is looked for, and its patterns.
-use Rattle.std.proofs.Common.{◌≡◌, ℕ, ◌&&◌, ◌||◌, Bool, true, false, List, [], ◌∷◌, ◌++◌, refl, sym, ap, ◌∙◌}
+use Rattle.std.proofs.Common.{◌≡◌, ℕ, ◌&&◌, ◌||◌, Bool, true, false, List, [], ◌∷◌, ◌++◌, Option, Some, None, is_none, refl, sym, ap, ◌∙◌}
 use Rattle.std.specs.List.{list_any}
 use Rattle.std.specs.Str.{bytes_eq}
 use Rattle.std.proofs.lemmas.Bool.{false≢true}
@@ -7,7 +7,9 @@ use Rattle.std.proofs.lemmas.Slice.Eq.{bytes_eq-Decides}
 use denote.Ref.{Bor}
 use Rattle.cec_expect.specs.Fits.{fits}
 use Rattle.cec_judge.specs.Told.{RoundLine}
+use Rattle.cec_judge.specs.declared.seen.Span.{Span}
 use Rattle.cec_check.specs.Kept.{Watch, is_met, is_within}
+use Rattle.cec_check.specs.Groups.{is_known_met, is_known_within, is_sought}
 
 any_more : {X : Type 0} (p : X → Bool) (xs : List X) (x : X) → list_any p (xs ++ x ∷ []) ≡ (list_any p xs || p x)
 any_more p [] x = or_none (p x)
@@ -59,6 +61,13 @@ added old new text pattern reported same made =
     ap (list_any (λ (text : Bor (List ℕ)). fits text.now reported)) made ∙ any_more (λ text. fits text.now reported) old text
     ∙ ap (λ b. list_any (λ (text : Bor (List ℕ)). fits text.now reported) old || b) (ap (λ t. fits t reported) same)
 
+-- one that is not sought
+pub not_sought : (a b c : Bool) → b ≡ false → a ≡ (a || (b && c))
+not_sought a b c h = or_not a ∙ ap (λ d. a || (d && c)) (sym h)
+
+pub sought : (new a b c : Bool) → b ≡ true → new ≡ (a || c) → new ≡ (a || (b && c))
+sought new a b c h made = made ∙ ap (λ d. a || (d && c)) (sym h)
+
 or_assoc : (a b c : Bool) → ((a || b) || c) ≡ (a || (b || c))
 or_assoc true b c = refl
 or_assoc false b c = refl
@@ -69,6 +78,8 @@ one_more a new first rest goal made before = ap (λ b. b || rest) made ∙ or_as
 
 pub no_more : (a goal : Bool) → (a || false) ≡ goal → a ≡ goal
 no_more a goal before = or_not a ∙ before
+
+-- ---- rounds
 
 left_of : (a b : Bool) → (a || b) ≡ false → a ≡ false
 left_of true b h = h
@@ -86,9 +97,30 @@ neither : (a b : Bool) → a ≡ false → b ≡ false → (a || b) ≡ false
 neither a b h k = ap (λ c. c || b) h ∙ k
 
 -- a round that meets no pattern
-pub none_met : (watches : List Watch) (r : RoundLine) → list_any (λ watch. fits watch.pattern r.reported) watches ≡ false → list_any (is_met r) watches ≡ false
+pub none_met : (watches : List Watch) (r : RoundLine) → list_any (λ watch. is_sought false watch && fits watch.pattern r.reported) watches ≡ false → list_any (is_met r) watches ≡ false
 none_met [] r h = refl
 none_met (w ∷ watches) r h =
     neither (is_met r w) (list_any (is_met r) watches)
-    (and_not (is_within w.span r) (fits w.pattern r.reported) (left_of (fits w.pattern r.reported) (list_any (λ (watch : Watch). fits watch.pattern r.reported) watches) h))
-    (none_met watches r (right_of (fits w.pattern r.reported) (list_any (λ (watch : Watch). fits watch.pattern r.reported) watches) h))
+    (and_not (is_within w.span r) (fits w.pattern r.reported) (left_of (fits w.pattern r.reported) (list_any (λ (watch : Watch). is_sought false watch && fits watch.pattern r.reported) watches) h))
+    (none_met watches r (right_of (fits w.pattern r.reported) (list_any (λ (watch : Watch). is_sought false watch && fits watch.pattern r.reported) watches) h))
+
+mixed : (a b c d : Bool) → ((a || b) || (c || d)) ≡ ((a || c) || (b || d))
+mixed true b c d = refl
+mixed false true true d = refl
+mixed false true false d = refl
+mixed false false c d = refl
+
+-- a span is known or not
+either : (o : Option Span) (r : RoundLine) (b : Bool) → ((is_none o && b) || (is_known_within o r && b)) ≡ (is_within o r && b)
+either None r b = sym (or_not b)
+either (Some span) r b = refl
+
+-- a round that is looked for: by a pattern alone, or in a known span
+pub met_so : (watches : List Watch) (r : RoundLine)
+    → (list_any (λ watch. is_sought true watch && fits watch.pattern r.reported) watches || list_any (is_known_met r) watches) ≡ list_any (is_met r) watches
+met_so [] r = refl
+met_so (w ∷ watches) r =
+    mixed (is_sought true w && fits w.pattern r.reported) (list_any (λ (watch : Watch). is_sought true watch && fits watch.pattern r.reported) watches)
+    (is_known_met r w) (list_any (is_known_met r) watches)
+    ∙ ap (λ b. b || (list_any (λ (watch : Watch). is_sought true watch && fits watch.pattern r.reported) watches || list_any (is_known_met r) watches)) (either w.span r (fits w.pattern r.reported))
+    ∙ ap (λ b. is_met r w || b) (met_so watches r)

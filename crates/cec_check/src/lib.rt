@@ -2,6 +2,7 @@
 #![tactic(auto)]
 
 mod checking;
+mod group;
 mod held;
 mod laws;
 mod report;

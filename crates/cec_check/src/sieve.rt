@@ -1,6 +1,6 @@
 //! A sink that keeps the lines of a trace that a report needs.
-ghost use Rattle.std.specs.Prelude.{◌≡◌, codes, ◌++◌, ◌∷◌, ◌||◌, [], List, ℕ, true, false, map, Some, IfOk, IfSome, OnOk, ◌↔◌, IsTrue};
-ghost use Rattle.std.specs.List.{list_any};
+ghost use Rattle.std.specs.Prelude.{◌≡◌, codes, ◌++◌, ◌∷◌, ◌&&◌, ◌||◌, [], List, ℕ, true, false, map, Some, IfOk, IfSome, OnOk, ◌↔◌, IsTrue};
+ghost use Rattle.std.specs.List.{flat_map, list_any};
 ghost use Rattle.std.specs.Option.{option_map};
 ghost use Rattle.hdmi_core.specs.Lines.{lines_of};
 ghost use Rattle.hdmi_core.specs.Words.{words_of};
@@ -8,28 +8,33 @@ ghost use Rattle.cec_expect.specs.Fits.{fits};
 ghost use Rattle.cec_expect.specs.Line.{has_verb};
 ghost use Rattle.cec_judge.specs.Told.{event_as, event_in, round_as};
 ghost use Rattle.cec_check.specs.Kept.{are_timed, is_event_kept, is_kept, is_met, kept, watch_as, watches_of};
+ghost use Rattle.cec_check.specs.Groups.{is_sought};
 ghost use Rattle.cec_check.specs.Sieve.{IsClosed, IsLine};
 
+use crate::group::{Group, groups_of, is_any_met};
 use crate::times::Times;
-use crate::watch::{Watch, all_watches, fits_any, is_any_met, patterns_of};
+use crate::watch::{all_watches, fits_any, patterns_of};
 use boxcar::tag::{Names, Tag};
 use cec_expect::Labels;
 use cec_judge::{EventLine, NamedLines, RoundLine, event_in, refusal_in, round_in};
 use hdmi_core::{Sink, first_line, first_word};
 use std::alloc::{AllocError, Global};
 
-/// What a script needs to be kept: what its expectations look for, the lines of its labels, and their times.
+/// What a script needs to be kept: the lines of its labels, the times of those that are events, and what its expectations look for: in
+/// groups, and the patterns of all, and of those whose span is not known.
 #[derive(Drop)]
 pub(crate) struct Patterns<'a> {
     pub script: &'a [u8],
     named: NamedLines<'a>,
     times: Times<'a>,
-    watches: Vec<Watch<'a>>,
+    groups: Vec<Group<'a>>,
     texts: Vec<&'a [u8]>,
+    timeless: Vec<&'a [u8]>,
     ghost named_are: { named.script.now ≡ script.now },
     ghost times_are: { times.script.now ≡ script.now },
-    ghost watches_are: { map watch_as watches.items ≡ watches_of script.now },
-    ghost texts_are: { (reported : List ℕ) → list_any (λ text. fits text.now reported) texts.items ≡ list_any (λ watch. fits watch.pattern reported) (map watch_as watches.items) },
+    ghost groups_are: { flat_map (λ group. map watch_as group.watches.items) groups.items ≡ watches_of script.now },
+    ghost texts_are: { (reported : List ℕ) → list_any (λ text. fits text.now reported) texts.items ≡ list_any (λ watch. is_sought false watch && fits watch.pattern reported) (watches_of script.now) },
+    ghost timeless_are: { (reported : List ℕ) → list_any (λ text. fits text.now reported) timeless.items ≡ list_any (λ watch. is_sought true watch && fits watch.pattern reported) (watches_of script.now) },
 }
 
 fn is_same(left: &[u8], right: &[u8]) -> bool
@@ -55,13 +60,16 @@ impl<'a> Patterns<'a> {
         let times = Times::new(alloc, script)?;
         let labels = Labels::new(alloc, script)?;
         let watches = all_watches(alloc, &labels, &times)?;
-        let texts = patterns_of(alloc, &watches)?;
+        let groups = groups_of(alloc, &watches)?;
+        let texts = patterns_of(alloc, false, &watches)?;
+        let timeless = patterns_of(alloc, true, &watches)?;
         Ok(Patterns {
             script,
             named,
             times,
-            watches,
+            groups,
             texts,
+            timeless,
         })
     }
 
@@ -76,11 +84,12 @@ impl<'a> Patterns<'a> {
     }
 
     // Whether a round is what an expectation looks for. Most rounds have none of the patterns.
-    #[tactic(auto, using(crate::proofs::Watching::none_met))]
+    #[tactic(auto, using(crate::proofs::Watching::none_met, crate::proofs::Watching::met_so))]
     fn need_round(&self, round: &RoundLine) -> bool
         ensures { result ≡ list_any (is_met (round_as round.now)) (watches_of self.now.script.now) }
     {
-        fits_any(&self.texts, round.reported) && is_any_met(&self.watches, round)
+        fits_any(&self.texts, round.reported)
+            && (fits_any(&self.timeless, round.reported) || is_any_met(&self.groups, round))
     }
 
     // Whether a line is needed, which has this event.

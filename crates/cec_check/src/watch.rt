@@ -1,16 +1,16 @@
 //! What the expectations of rounds of a script look for, and when, as far as that is known before its run.
-ghost use Rattle.std.specs.Prelude.{◌≡◌, ℕ, List, map, IfOk, OnOk, ◌||◌};
+ghost use Rattle.std.specs.Prelude.{◌≡◌, ◌&&◌, ◌||◌, ℕ, List, map, IfOk, OnOk};
 ghost use Rattle.std.specs.List.{list_any};
 ghost use Rattle.std.specs.Option.{option_map};
 ghost use Rattle.std.specs.Str.{bytes_eq};
 ghost use Rattle.cec_expect.specs.Fits.{fits};
 ghost use Rattle.cec_expect.specs.Form.{window_of};
-ghost use Rattle.cec_judge.specs.Told.{round_as};
-ghost use Rattle.cec_check.specs.Kept.{is_met, is_within, known_from, known_span, time_at, watch_as, watch_of, watches_by};
+ghost use Rattle.cec_check.specs.Groups.{is_sought};
+ghost use Rattle.cec_check.specs.Kept.{known_from, known_span, time_at, watch_as, watch_of, watches_by};
 
 use crate::times::{LONGEST_WAIT, Times};
 use cec_expect::{Form, Labels, Window, fits, form_in, unlabelled};
-use cec_judge::{RoundLine, Span};
+use cec_judge::Span;
 use hdmi_core::first_line;
 use std::alloc::{AllocError, Global};
 
@@ -89,35 +89,6 @@ pub(crate) fn all_watches<'a>(
     Ok(watches)
 }
 
-fn is_within(span: Option<Span>, round: &RoundLine) -> bool
-    ensures { result ≡ is_within span (round_as round.now) }
-{
-    match span {
-        None => true,
-        Some(span) => span.from <= round.begin && round.at <= span.to,
-    }
-}
-
-fn is_met(watch: &Watch, round: &RoundLine) -> bool
-    ensures { result ≡ is_met (round_as round.now) (watch_as watch.now) }
-{
-    is_within(watch.span, round) && fits(watch.pattern, round.reported)
-}
-
-/// Whether a round is what one of these looks for, as far as is known.
-pub(crate) fn is_any_met(watches: &[Watch<'_>], round: &RoundLine) -> bool
-    ensures { result ≡ list_any (is_met (round_as round.now)) (map watch_as watches.now) }
-{
-    let mut rest = watches;
-    'watches: while let [watch, others @ ..] = rest {
-        if is_met(watch, round) {
-            return true;
-        }
-        rest = others;
-    }
-    false
-}
-
 // Whether a pattern stands among others.
 fn has(texts: &[&[u8]], pattern: &[u8]) -> bool
     ensures { result ≡ list_any (λ text. bytes_eq text.now pattern.now) texts.now }
@@ -145,7 +116,29 @@ fn add_pattern<'a>(texts: &mut Vec<&'a [u8]>, pattern: &'a [u8]) -> Result<(), A
     Ok(())
 }
 
-/// The patterns of what is looked for, each once.
+fn is_sought(timeless: bool, watch: &Watch) -> bool
+    ensures { result ≡ is_sought timeless (watch_as watch.now) }
+{
+    !timeless || watch.span.is_none()
+}
+
+// Adds the pattern of what is looked for, where it is sought.
+#[tactic(auto, using(crate::proofs::Watching::not_sought, crate::proofs::Watching::sought))]
+fn add_sought<'a>(
+    texts: &mut Vec<&'a [u8]>,
+    timeless: bool,
+    watch: &Watch<'a>,
+) -> Result<(), AllocError>
+    ensures { OnOk result ((reported : List ℕ) → list_any (λ text. fits text.now reported) texts.new.items
+        ≡ (list_any (λ text. fits text.now reported) texts.old.items || (is_sought timeless (watch_as watch.now) && fits watch.now.pattern.now reported))) }
+{
+    if !is_sought(timeless, watch) {
+        return Ok(());
+    }
+    add_pattern(texts, watch.pattern)
+}
+
+/// The patterns of what is looked for, each once, or of that alone whose span is not known.
 ///
 /// # Errors
 ///
@@ -153,14 +146,16 @@ fn add_pattern<'a>(texts: &mut Vec<&'a [u8]>, pattern: &'a [u8]) -> Result<(), A
 #[tactic(auto, using(crate::proofs::Watching::one_more, crate::proofs::Watching::no_more))]
 pub(crate) fn patterns_of<'a>(
     alloc: Global,
+    timeless: bool,
     watches: &[Watch<'a>],
 ) -> Result<Vec<&'a [u8]>, AllocError>
-    ensures { IfOk result (λ texts. (reported : List ℕ) → list_any (λ text. fits text.now reported) texts.items ≡ list_any (λ watch. fits watch.pattern reported) (map watch_as watches.now)) }
+    ensures { IfOk result (λ texts. (reported : List ℕ) → list_any (λ text. fits text.now reported) texts.items
+        ≡ list_any (λ watch. is_sought timeless watch && fits watch.pattern reported) (map watch_as watches.now)) }
 {
     let mut texts = Vec::new(alloc);
     let mut rest = watches;
     'watches: while let [watch, others @ ..] = rest {
-        add_pattern(&mut texts, watch.pattern)?;
+        add_sought(&mut texts, timeless, watch)?;
         rest = others;
     }
     Ok(texts)
