@@ -1,5 +1,5 @@
 -- The report of a run that is held in memory, which is one.
-use Rattle.std.proofs.Common.{◌≡◌, ℕ, List, [], ◌∷◌, ◌++◌, Some, None, Result, Ok, Err, refl, sym, ap, ◌∙◌}
+use Rattle.std.proofs.Common.{◌≡◌, ℕ, true, List, [], ◌∷◌, ◌++◌, Some, None, Result, Ok, Err, refl, sym, ap, ◌∙◌}
 use Rattle.std.specs.Io.KnownBytes.{Appends}
 use Rattle.hdmi_core.specs.Lines.{lines_of}
 use Rattle.hdmi_core.specs.Words.{words_of}
@@ -14,7 +14,7 @@ use Rattle.cec_run.proofs.Accepted.{texts_have_one_trace}
 use Rattle.cec_judge.specs.Told.{state_line}
 use Rattle.cec_check.specs.States.{AreStates, IsStateOf, IsTraced}
 use Rattle.cec_check.specs.Report.{Report, report}
-use Rattle.cec_check.specs.Kept.{kept}
+use Rattle.cec_check.specs.Kept.{are_timed, kept}
 use Rattle.cec_check.specs.declared.checking.CheckError.TheVariants.{Expect}
 use Rattle.cec_expect.specs.declared.faults.ExpectFault.{ExpectFault}
 use Rattle.cec_check.specs.Check.{AreKept, IsReportOf, IsVerdictReported, TalliesCountVerdicts, tally_of}
@@ -69,16 +69,20 @@ tallies_count_verdicts topology script old new tally verdicts (r, is, counted, w
 -- ---- what is kept of a run
 
 pub kept_of_run : (topology script old new text few : List ℕ) (totals : Totals) → old ≡ [] → IsTraceOf topology (plain_script script) text totals
-    → Appends (Some old) (Some new) text → lines_of few ≡ kept script (lines_of new) → AreKept topology script few
-kept_of_run topology script old new text few totals empty trace written are = record {
+    → Appends (Some old) (Some new) text → lines_of few ≡ kept script (lines_of new) → are_timed script (lines_of new) ≡ true → AreKept topology script few
+kept_of_run topology script old new text few totals empty trace written are timed = record {
   trace = text;
   totals = totals;
   run = trace;
   lines_are = are ∙ ap (λ t. kept script (lines_of t)) (written ∙ ap (λ h. h ++ text) empty);
+  timed = sym (ap (λ t. are_timed script (lines_of t)) (written ∙ ap (λ h. h ++ text) empty)) ∙ timed;
 }
 
+pub traced_by : (topology script text : List ℕ) (totals : Totals) → IsTraceOf topology (plain_script script) text totals → IsTraced topology (plain_script script)
+traced_by topology script text totals trace = (text, totals, trace)
+
 pub reported_few : (topology script few : List ℕ) (states : List (List ℕ)) (r : Report) → AreKept topology script few → first_fault topology script ≡ None
-    → AreStates topology (plain_script script) (lines_of script) states → ((trace : List ℕ) → lines_of few ≡ kept script (lines_of trace) → r ≡ report script trace states)
+    → AreStates topology (plain_script script) (lines_of script) states → ((trace : List ℕ) → lines_of few ≡ kept script (lines_of trace) → are_timed script (lines_of trace) ≡ true → r ≡ report script trace states)
     → IsReportOf topology script r
 reported_few topology script few states r run accepted are made = record {
   trace = run.trace;
@@ -87,16 +91,13 @@ reported_few topology script few states r run accepted are made = record {
   accepted = accepted;
   states = states;
   states_are = are;
-  report_is = made run.trace run.lines_are;
+  report_is = made run.trace run.lines_are run.timed;
 }
 
-pub traced_of : (topology script few : List ℕ) → AreKept topology script few → IsTraced topology (plain_script script)
-traced_of topology script few run = (run.trace, run.totals, run.run)
-
-pub faulty : (topology script named few : List ℕ) (fault : ExpectFault) → AreKept topology script few → named ≡ script → first_fault topology named ≡ Some fault
+pub faulty : (topology script named : List ℕ) (fault : ExpectFault) → IsTraced topology (plain_script script) → named ≡ script → first_fault topology named ≡ Some fault
     → IsVerdictReported topology script (Expect fault)
-faulty topology script named few fault run same is = record {
-  reported = (run.trace, run.totals, run.run, ap (first_fault topology) (sym same) ∙ is);
+faulty topology script named fault run same is = record {
+  reported = (run.0, run.1, run.2, ap (first_fault topology) (sym same) ∙ is);
   unwritten = refl;
 }
 

@@ -1,27 +1,31 @@
 -- The report by the lines that are needed of a trace is that by the trace.
-use Rattle.std.proofs.Common.{◌≡◌, ℕ, ◌+◌, ◌==◌, ◌&&◌, ◌||◌, nat_le, Bool, true, false, cond, if◌then◌else◌, codes, List, [], ◌∷◌, ◌++◌, length, map, take, filter, Option, Some, None, is_some, Result, Ok, Err, refl, sym, ap, ◌∙◌, arith}
-use Rattle.std.specs.List.{cons_option, filter_map, find, flat_map, list_any}
+use Rattle.std.proofs.Common.{◌≡◌, ℕ, ◌+◌, ◌-◌, ◌^◌, ◌≤◌, ◌==◌, ◌&&◌, ◌||◌, nat_le, min, Bool, true, false, cond, if◌then◌else◌, codes, List, [], ◌∷◌, ◌++◌, length, map, take, filter, Option, Some, None, is_some, Result, Ok, Err, refl, sym, ap, ◌∙◌, arith}
+use Rattle.std.specs.List.{cons_option, filter_map, find, flat_map, list_all, list_any}
+use Rattle.std.specs.Str.{bytes_eq}
 use Rattle.std.proofs.lemmas.Bool.{false≢true}
 use Rattle.std.proofs.lemmas.Bool.Decides.{nat_tests}
+use Rattle.std.proofs.lemmas.Grind.{common_steps}
+use Rattle.std.proofs.lemmas.Slice.Eq.{bytes_eq-Decides}
 use Rattle.hdmi_core.specs.Lines.{lines_of}
 use Rattle.hdmi_core.specs.Words.{words_of}
 use Rattle.cec_expect.specs.Fits.{fits}
 use Rattle.cec_expect.specs.Line.{unlabelled_words}
-use Rattle.cec_expect.specs.Form.{Form, form_in}
+use Rattle.cec_expect.specs.Form.{Form, Window, expectation_in, form_in}
 use Rattle.cec_expect.specs.Form.Form.{Other, Rounds, State, Refused}
-use Rattle.cec_expect.specs.Faults.{event_labelled}
+use Rattle.cec_expect.specs.Form.Window.{Within, From}
+use Rattle.cec_expect.specs.Faults.{event_labelled, line_of_label}
 use Rattle.cec_expect.specs.declared.fault.LineFault.{LineFault}
 use Rattle.cec_expect.specs.declared.form.Quantity.{Quantity}
 use Rattle.cec_judge.specs.Told.{EventLine, RoundLine, event_at, event_in, refusal_in, round_in}
 use Rattle.cec_judge.specs.Named.{is_labelled, is_named, name_lines, names_line}
 use Rattle.cec_judge.proofs.Naming.{label_names}
-use Rattle.cec_judge.specs.Seen.{end_by, end_seen, ends_seen, first_of}
-use Rattle.cec_judge.specs.Judged.{Finding, event_instant, finding_as, findings_from, findings_of, form_judged, is_word, noted, or_more, verdicts_of, line_judged, lines_judged, refusal_at, refusal_by, rounds_by, rounds_judged, span_of, states_for}
+use Rattle.cec_judge.specs.Seen.{end_by, end_seen, ends_seen, first_of, is_seen}
+use Rattle.cec_judge.specs.Judged.{Finding, event_instant, finding_as, findings_from, findings_of, form_judged, instant_at, is_word, noted, or_more, verdicts_of, line_judged, lines_judged, refusal_at, refusal_by, rounds_by, rounds_judged, span_from, span_of, states_for}
 use Rattle.cec_judge.specs.declared.seen.Span.{Span}
 use Rattle.cec_judge.specs.declared.judge.Judged.{Judged}
 use Rattle.cec_judge.specs.declared.judge.Finding.{Finding as FindingRead}
 use Rattle.cec_check.specs.Report.{Report, report_start, report_with_plan, form_remarks, report, seen_line, shown_line, shown_text, span_remarks, report_by, with_event, with_found, with_line, with_lines, with_refusals, with_remarks, with_test, with_word}
-use Rattle.cec_check.specs.Kept.{has_failed, is_event_kept, is_kept, is_unmet, kept, is_other_kept, meets, meets_pattern, pattern_by}
+use Rattle.cec_check.specs.Kept.{Watch, are_timed, has_failed, is_at, is_event_kept, is_kept, is_line_timed, is_met, is_other_kept, is_timed, is_unmet, kept, known_from, known_span, labelled_time, longest_wait, time_at, time_in, times_from, watch_by, watch_of, watches_of}
 use Rattle.cec_check.proofs.Found.{report_again}
 
 -- ---- lists without some of their elements
@@ -62,7 +66,7 @@ nothing_there None h = refl
 nothing_there (Some x) h = absurd (false≢true (sym h))
 
 event_left : (script line : List ℕ) → is_kept script line ≡ false → is_event_kept script (event_in (words_of line)) ≡ false
-event_left script line h = left_of (is_event_kept script (event_in (words_of line))) (is_other_kept (lines_of script) (words_of line) (round_in (words_of line))) h
+event_left script line h = left_of (is_event_kept script (event_in (words_of line))) (is_other_kept (watches_of script) (words_of line) (round_in (words_of line))) h
 
 -- the event of a line with this number
 abbrev of_line : ℕ → EventLine → Bool
@@ -74,6 +78,14 @@ event_of number (Some e) = if e.line == number then Some e else None
 
 same : (a b : ℕ) → (a == b) ≡ true → a ≡ b
 same a b h = grind (arith, nat_tests)
+
+left_and : (a b : Bool) → (a && b) ≡ true → a ≡ true
+left_and true b h = refl
+left_and false b h = h
+
+right_and : (a b : Bool) → (a && b) ≡ true → b ≡ true
+right_and true b h = h
+right_and false b h = absurd (false≢true h)
 
 -- it is of no line with a label
 no_named : (script : List ℕ) (number : ℕ) (o : Option EventLine) → is_named script number ≡ true → is_event_kept script o ≡ false → event_of number o ≡ None
@@ -113,42 +125,41 @@ kept_event script number named (line ∷ lines) = by (is_kept script line) refl 
         ∙ sym (ap (λ (o : Option EventLine). first_some o (found lines)) (no_named script number (event_in (words_of line)) named (event_left script line e)))
         ∙ sym (find_given number (event_in (words_of line)) (filter_map (λ text. event_in (words_of text)) lines))
 
--- what meets a pattern meets one of these lines
-abbrev Covers : List (List ℕ) → List ℕ → Type 0
-Covers all pattern = (reported : List ℕ) → fits pattern reported ≡ true → list_any (meets reported) all ≡ true
+-- a round that is seen is what one of these looks for
+abbrev SpanCovered : List Watch → List ℕ → Option Span → Type 0
+SpanCovered all pattern None = Unit {0}
+SpanCovered all pattern (Some span) = (r : RoundLine) → is_seen span pattern r ≡ true → list_any (is_met r) all ≡ true
 
-last_false : (a b c : Bool) → c ≡ false → (a && b && c) ≡ false
-last_false true true c h = h
-last_false true false c h = refl
-last_false false b c h = refl
-
-unseen : (all words : List (List ℕ)) (span : Span) (pattern : List ℕ) → Covers all pattern → (o : Option RoundLine) → is_other_kept all words o ≡ false → end_by span pattern o ≡ None
+unseen : (all : List Watch) (words : List (List ℕ)) (span : Span) (pattern : List ℕ) → SpanCovered all pattern (Some span) → (o : Option RoundLine) → is_other_kept all words o ≡ false
+    → end_by span pattern o ≡ None
 unseen all words span pattern covers None h = refl
-unseen all words span pattern covers (Some r) h = by (fits pattern r.reported) refl
+unseen all words span pattern covers (Some r) h = by (is_seen span pattern r) refl
   where
-    by : (b : Bool) → fits pattern r.reported ≡ b → end_by span pattern (Some r) ≡ None
-    by true e = absurd (false≢true (sym h ∙ covers r.reported e))
-    by false e = ap (λ b. if b then Some r.at else None) (last_false (nat_le span.from r.begin) (nat_le r.at span.to) (fits pattern r.reported) e)
+    by : (b : Bool) → is_seen span pattern r ≡ b → (if b then Some r.at else None) ≡ None
+    by true e = absurd (false≢true (sym h ∙ covers r e))
+    by false e = refl
 
-not_seen : (script : List ℕ) (span : Span) (pattern : List ℕ) → Covers (lines_of script) pattern → (line : List ℕ) → is_kept script line ≡ false → end_seen span pattern line ≡ None
+not_seen : (script : List ℕ) (span : Span) (pattern : List ℕ) → SpanCovered (watches_of script) pattern (Some span) → (line : List ℕ) → is_kept script line ≡ false → end_seen span pattern line ≡ None
 not_seen script span pattern covers line h =
-    unseen (lines_of script) (words_of line) span pattern covers (round_in (words_of line))
-    (right_of (is_event_kept script (event_in (words_of line))) (is_other_kept (lines_of script) (words_of line) (round_in (words_of line))) h)
+    unseen (watches_of script) (words_of line) span pattern covers (round_in (words_of line))
+    (right_of (is_event_kept script (event_in (words_of line))) (is_other_kept (watches_of script) (words_of line) (round_in (words_of line))) h)
 
 -- ---- lines of a script
 
-abbrev FormCovered : List (List ℕ) → Result Form LineFault → Type 0
-FormCovered all (Err cause) = Unit {0}
-FormCovered all (Ok Other) = Unit {0}
-FormCovered all (Ok (Rounds quantity window pattern)) = Covers all pattern
-FormCovered all (Ok (State time device words)) = Unit {0}
-FormCovered all (Ok (Refused name word)) = Unit {0}
+-- what an expectation looks for is looked for, and its line has no time
+abbrev FormCovered : List ℕ → ℕ → Result Form LineFault → Type 0
+FormCovered script number (Err cause) = Unit {0}
+FormCovered script number (Ok Other) = Unit {0}
+FormCovered script number (Ok (Rounds quantity window pattern)) =
+    ((r : RoundLine) → is_met r (record { span = known_span script (time_at script) window; pattern = pattern }) ≡ true → list_any (is_met r) (watches_of script) ≡ true) × (time_at script number ≡ None)
+FormCovered script number (Ok (State time device words)) = Unit {0}
+FormCovered script number (Ok (Refused name word)) = Unit {0}
 
 -- of a script, these lines of it, of which the first has this number
 abbrev AreCovered : List ℕ → ℕ → List (List ℕ) → Type 0
 AreCovered script number [] = Unit {0}
 AreCovered script number (line ∷ lines) =
-    FormCovered (lines_of script) (form_in (unlabelled_words (words_of line))) × (is_labelled line ≡ true → is_named script number ≡ true) × AreCovered script (number + 1) lines
+    FormCovered script number (form_in (unlabelled_words (words_of line))) × (is_labelled line ≡ true → is_named script number ≡ true) × AreCovered script (number + 1) lines
 
 or_so : (a : Bool) → (a || true) ≡ true
 or_so true = refl
@@ -161,23 +172,150 @@ or_first : (a b : Bool) → a ≡ true → (a || b) ≡ true
 or_first true b h = refl
 or_first false b h = absurd (false≢true h)
 
-covered : (script : List ℕ) (number : ℕ) (lines : List (List ℕ)) → ((reported : List ℕ) → list_any (meets reported) lines ≡ true → list_any (meets reported) (lines_of script) ≡ true)
-    → ((other : ℕ) → name_lines number lines other ≡ true → is_named script other ≡ true) → AreCovered script number lines
-covered script number [] h names = tt
-covered script number (line ∷ lines) h names = (
+-- an expectation has no time
+no_time : (words : List (List ℕ)) (quantity : Quantity) (window : Window) (pattern : List ℕ) → form_in words ≡ Ok (Rounds quantity window pattern) → time_in words ≡ None
+no_time [] quantity window pattern h = refl
+no_time (verb ∷ []) quantity window pattern h = refl
+no_time (verb ∷ time ∷ words) quantity window pattern h = by (bytes_eq verb (codes "expect")) refl h
+  where
+    by : (b : Bool) → bytes_eq verb (codes "expect") ≡ b → (if b then expectation_in (time ∷ words) else Ok Other) ≡ Ok (Rounds quantity window pattern) → time_in (verb ∷ time ∷ words) ≡ None
+    by true e k = ap (λ (word : List ℕ). time_in (word ∷ time ∷ words)) ((bytes_eq-Decides verb (codes "expect")).0 e)
+    by false e k = cc
+
+no_labelled_time : (line : List ℕ) (quantity : Quantity) (window : Window) (pattern : List ℕ) → form_in (unlabelled_words (words_of line)) ≡ Ok (Rounds quantity window pattern) → labelled_time line ≡ None
+no_labelled_time line quantity window pattern h = by (is_labelled line)
+  where
+    by : (b : Bool) → (if b then time_in (unlabelled_words (words_of line)) else None) ≡ None
+    by true = no_time (unlabelled_words (words_of line)) quantity window pattern h
+    by false = refl
+
+later : (m n : ℕ) → m + 1 ≤ n → (m == n) ≡ false
+later m n h = grind (arith, nat_tests)
+
+covered : (script : List ℕ) (number : ℕ) (lines : List (List ℕ))
+    → ((r : RoundLine) → list_any (is_met r) (filter_map (watch_of script (time_at script)) lines) ≡ true → list_any (is_met r) (watches_of script) ≡ true)
+    → ((other : ℕ) → name_lines number lines other ≡ true → is_named script other ≡ true) → ((other : ℕ) → number ≤ other → time_at script other ≡ times_from number lines other)
+    → AreCovered script number lines
+covered script number [] h names times = tt
+covered script number (line ∷ lines) h names times = (
   first (form_in (unlabelled_words (words_of line))) refl,
   λ labelled. names number (or_first (names_line number line number) (name_lines (number + 1) lines number) (ap (λ b. b && (number == number)) labelled ∙ itself number)),
-  covered script (number + 1) lines (λ reported k. h reported (ap (λ b. meets reported line || b) k ∙ or_so (meets reported line)))
-      (λ other k. names other (ap (λ b. names_line number line other || b) k ∙ or_so (names_line number line other))),
+  covered script (number + 1) lines (λ r k. h r (more r (watch_of script (time_at script) line) k)) (λ other k. names other (ap (λ b. names_line number line other || b) k ∙ or_so (names_line number line other)))
+      (λ other k. times other (omega (arith, k)) ∙ ap (λ (b : Bool). if b then labelled_time line else times_from (number + 1) lines other) (later number other k)),
 )
   where
-    first : (f : Result Form LineFault) → form_in (unlabelled_words (words_of line)) ≡ f → FormCovered (lines_of script) f
+    watched : List Watch
+    watched = filter_map (watch_of script (time_at script)) lines
+
+    more : (r : RoundLine) (o : Option Watch) → list_any (is_met r) watched ≡ true → list_any (is_met r) (cons_option o watched) ≡ true
+    more r None k = k
+    more r (Some w) k = ap (λ b. is_met r w || b) k ∙ or_so (is_met r w)
+
+    first : (f : Result Form LineFault) → form_in (unlabelled_words (words_of line)) ≡ f → FormCovered script number f
     first (Err cause) e = tt
     first (Ok Other) e = tt
-    first (Ok (Rounds quantity window pattern)) e =
-        λ reported k. h reported (ap (λ (g : Result Form LineFault). meets_pattern reported (pattern_by g) || list_any (meets reported) lines) e ∙ ap (λ b. b || list_any (meets reported) lines) k)
+    first (Ok (Rounds quantity window pattern)) e = (
+      λ r k. h r (ap (λ (g : Result Form LineFault). list_any (is_met r) (cons_option (watch_by script (time_at script) g) watched)) e ∙ ap (λ b. b || list_any (is_met r) watched) k),
+      times number (omega arith) ∙ ap (λ (b : Bool). if b then labelled_time line else times_from (number + 1) lines number) (itself number)
+          ∙ no_labelled_time line quantity window pattern e,
+    )
     first (Ok (State time device words)) e = tt
     first (Ok (Refused name word)) e = tt
+
+-- ---- the instants of lines
+
+-- an instant is that of the script, or later by a wait
+abbrev IsNear : ℕ → ℕ → Type 0
+IsNear time at = (time ≤ at) × (at ≤ time + longest_wait)
+
+abbrev AreNear : List ℕ → (ℕ → Option ℕ) → Type 0
+AreNear script at = (number instant time : ℕ) → at number ≡ Some instant → time_at script number ≡ Some time → IsNear time instant
+
+value : (m n : ℕ) → Some m ≡ Some n → m ≡ n
+value m n h = cc
+
+-- with the instant of one line more
+near_more : (script : List ℕ) (at : ℕ → Option ℕ) (number : ℕ) (o : Option ℕ) → AreNear script at
+    → ((instant time : ℕ) → o ≡ Some instant → time_at script number ≡ Some time → IsNear time instant) → AreNear script (noted at number o)
+near_more script at number None near own = λ line instant time h k. near line instant time h k
+near_more script at number (Some own_instant) near own = λ line instant time h k. by line instant time (number == line) refl h k
+  where
+    by : (line instant time : ℕ) (b : Bool) → (number == line) ≡ b → (if b then Some own_instant else at line) ≡ Some instant → time_at script line ≡ Some time → IsNear time instant
+    by line instant time true e h k = own instant time h (ap (time_at script) (same number line e) ∙ k)
+    by line instant time false e h k = near line instant time h k
+
+near_by : (at time : ℕ) → (nat_le time at && nat_le at (time + longest_wait)) ≡ true → IsNear time at
+near_by at time h = (grind (arith, nat_tests), grind (arith, nat_tests))
+
+-- the event of a line is near its time, where all are
+found_near : (script : List ℕ) (number instant time : ℕ) → time_at script number ≡ Some time → (lines : List (List ℕ)) → list_all (is_line_timed script) lines ≡ true
+    → event_instant (find (of_line number) (filter_map (λ line. event_in (words_of line)) lines)) ≡ Some instant → IsNear time instant
+found_near script number instant time is [] all h = cc
+found_near script number instant time is (line ∷ lines) all h =
+    by (event_in (words_of line)) (left_and (is_line_timed script line) (list_all (is_line_timed script) lines) all) h
+    (λ k. found_near script number instant time is lines (right_and (is_line_timed script line) (list_all (is_line_timed script) lines) all) k)
+  where
+    others : Option EventLine
+    others = find (of_line number) (filter_map (λ text. event_in (words_of text)) lines)
+
+    here : (e : EventLine) (b : Bool) → (e.line == number) ≡ b → is_at e.at (time_at script e.line) ≡ true → event_instant (cond b (Some e) others) ≡ Some instant
+        → (event_instant others ≡ Some instant → IsNear time instant) → IsNear time instant
+    here e true k timed found more =
+        near_by instant time
+        (ap (λ n. nat_le time n && nat_le n (time + longest_wait)) (sym (value e.at instant found))
+        ∙ sym (ap (is_at e.at) (ap (time_at script) (same e.line number k) ∙ is)) ∙ timed)
+    here e false k timed found more = more found
+
+    by : (o : Option EventLine) → is_timed script o ≡ true → event_instant (find (of_line number) (cons_option o (filter_map (λ text. event_in (words_of text)) lines))) ≡ Some instant
+        → (event_instant others ≡ Some instant → IsNear time instant) → IsNear time instant
+    by None timed found more = more found
+    by (Some e) timed found more = here e (e.line == number) refl timed found more
+
+-- ---- the span that is judged lies in the one that is known
+
+joined : (a b c : Bool) → (a && b && c) ≡ true → ((a && b) && c) ≡ true
+joined true true c h = h
+joined true false c h = h
+joined false b c h = h
+
+shorter : (a b most : ℕ) → a ≤ b → min a most ≤ min b most
+shorter a b most h = grind (arith, nat_tests)
+
+wider : (small large : Span) (pattern : List ℕ) (r : RoundLine) → large.from ≤ small.from → small.to ≤ large.to → is_seen small pattern r ≡ true
+    → is_met r (record { span = Some large; pattern = pattern }) ≡ true
+wider small large pattern r from to seen = grind (arith, common_steps)
+
+last_and : (a b c : Bool) → (a && b && c) ≡ true → c ≡ true
+last_and true true c h = h
+last_and true false c h = absurd (false≢true h)
+last_and false b c h = absurd (false≢true h)
+
+module _ (script : List ℕ) (at : ℕ → Option ℕ) (near : AreNear script at) where
+  -- a window from a label on
+  label_covered : (duration : ℕ) (pattern : List ℕ) (o : Option ℕ)
+      → ((r : RoundLine) → is_met r (record { span = known_from duration (instant_at (time_at script) o); pattern = pattern }) ≡ true → list_any (is_met r) (watches_of script) ≡ true)
+      → SpanCovered (watches_of script) pattern (span_from duration (instant_at at o))
+  label_covered duration pattern None covers = tt
+  label_covered duration pattern (Some line) covers = by (at line) refl
+    where
+      met : (instant : ℕ) → at line ≡ Some instant → (r : RoundLine) → is_seen (record { from = instant; to = min (instant + duration) (2 ^ 64 - 1) }) pattern r ≡ true
+          → (o : Option ℕ) → time_at script line ≡ o → is_met r (record { span = known_from duration o; pattern = pattern }) ≡ true
+      met instant e r seen None k = last_and (nat_le instant r.begin) (nat_le r.at (min (instant + duration) (2 ^ 64 - 1))) (fits pattern r.reported) seen
+      met instant e r seen (Some time) k =
+          let is = near line instant time e k in
+          wider (record { from = instant; to = min (instant + duration) (2 ^ 64 - 1) }) (record { from = time; to = min (time + duration + longest_wait) (2 ^ 64 - 1) }) pattern r
+          is.0 (shorter (instant + duration) (time + duration + longest_wait) (2 ^ 64 - 1) (omega (arith, is.1))) seen
+
+      by : (o : Option ℕ) → at line ≡ o → SpanCovered (watches_of script) pattern (span_from duration o)
+      by None e = tt
+      by (Some instant) e = λ r seen. covers r (met instant e r seen (time_at script line) refl)
+
+  window_covered : (window : Window) (pattern : List ℕ)
+      → ((r : RoundLine) → is_met r (record { span = known_span script (time_at script) window; pattern = pattern }) ≡ true → list_any (is_met r) (watches_of script) ≡ true)
+      → SpanCovered (watches_of script) pattern (span_of script at window)
+  window_covered (Within duration name) pattern covers = label_covered duration pattern (line_of_label script name) covers
+  window_covered (From from to) pattern covers =
+      λ r seen. covers r (joined (nat_le from r.begin) (nat_le r.at to) (fits pattern r.reported) seen)
 
 -- ---- what is found
 
@@ -194,16 +332,16 @@ met_by number state j None e more h = (ap (λ o. has_failed o && is_some j.span 
 met_by number state j (Some holds) e more h =
     (left_of (is_unmet j) (list_any (λ (f : Finding). is_unmet f.judged) more) h, right_of (is_unmet j) (list_any (λ (f : Finding). is_unmet f.judged) more) h)
 
-module _ (script few trace : List ℕ) (are : lines_of few ≡ filter (is_kept script) (lines_of trace)) where
+module _ (script few trace : List ℕ) (are : lines_of few ≡ filter (is_kept script) (lines_of trace)) (timed : are_timed script (lines_of trace) ≡ true) where
   same_event : (number : ℕ) → is_named script number ≡ true → event_at few number ≡ event_at trace number
   same_event number named = ap (λ (ls : List (List ℕ)). find (of_line number) (filter_map (λ line. event_in (words_of line)) ls)) are ∙ kept_event script number named (lines_of trace)
 
-  same_ends : (span : Span) (pattern : List ℕ) → Covers (lines_of script) pattern → ends_seen few span pattern ≡ ends_seen trace span pattern
+  same_ends : (span : Span) (pattern : List ℕ) → SpanCovered (watches_of script) pattern (Some span) → ends_seen few span pattern ≡ ends_seen trace span pattern
   same_ends span pattern covers = ap (filter_map (end_seen span pattern)) are ∙ kept_given (is_kept script) (end_seen span pattern) (not_seen script span pattern covers) (lines_of trace)
 
-  rounds_same : (quantity : Quantity) (pattern : List ℕ) → Covers (lines_of script) pattern → (o : Option Span) → rounds_judged few quantity pattern o ≡ rounds_judged trace quantity pattern o
-  rounds_same quantity pattern covers None = refl
-  rounds_same quantity pattern covers (Some span) = ap (λ (ends : List ℕ). rounds_by quantity span (length ends) (first_of ends)) (same_ends span pattern covers)
+  rounds_same : (quantity : Quantity) (pattern : List ℕ) (o : Option Span) → SpanCovered (watches_of script) pattern o → rounds_judged few quantity pattern o ≡ rounds_judged trace quantity pattern o
+  rounds_same quantity pattern None covers = refl
+  rounds_same quantity pattern (Some span) covers = ap (λ (ends : List ℕ). rounds_by quantity span (length ends) (first_of ends)) (same_ends span pattern covers)
 
   refusals_same : (name : List ℕ) → refusal_at few (event_labelled script name) ≡ refusal_at trace (event_labelled script name)
   refusals_same name = by (event_labelled script name) refl
@@ -212,62 +350,96 @@ module _ (script few trace : List ℕ) (are : lines_of few ≡ filter (is_kept s
       by None e = refl
       by (Some line) e = ap refusal_by (same_event line (label_names true 1 (lines_of script) name line e))
 
-  form_same : (state : List ℕ) (at : ℕ → Option ℕ) (number : ℕ) (named : Bool) (f : Result Form LineFault) → FormCovered (lines_of script) f → (named ≡ true → is_named script number ≡ true)
-      → form_judged script few state at number named f ≡ form_judged script trace state at number named f
-  form_same state at number named (Err cause) c names = refl
-  form_same state at number true (Ok Other) c names = ap (λ (o : Option EventLine). of_event (event_instant o)) (same_event number (names refl))
-  form_same state at number false (Ok Other) c names = refl
-  form_same state at number named (Ok (Rounds quantity window pattern)) c names = rounds_same quantity pattern c (span_of script at window)
-  form_same state at number named (Ok (State time device words)) c names = refl
-  form_same state at number named (Ok (Refused name word)) c names = ap (of_refusal word) (refusals_same name)
+  form_same : (state : List ℕ) (at : ℕ → Option ℕ) → AreNear script at → (number : ℕ) (named : Bool) (f : Result Form LineFault) → FormCovered script number f
+      → (named ≡ true → is_named script number ≡ true) → form_judged script few state at number named f ≡ form_judged script trace state at number named f
+  form_same state at near number named (Err cause) c names = refl
+  form_same state at near number true (Ok Other) c names = ap (λ (o : Option EventLine). of_event (event_instant o)) (same_event number (names refl))
+  form_same state at near number false (Ok Other) c names = refl
+  form_same state at near number named (Ok (Rounds quantity window pattern)) c names = rounds_same quantity pattern (span_of script at window) (window_covered script at near window pattern c.0)
+  form_same state at near number named (Ok (State time device words)) c names = refl
+  form_same state at near number named (Ok (Refused name word)) c names = ap (of_refusal word) (refusals_same name)
 
-  lines_same : (at : ℕ → Option ℕ) (number : ℕ) (lines states : List (List ℕ)) → AreCovered script number lines → lines_judged script few at number lines states ≡ lines_judged script trace at number lines states
-  lines_same at number [] states c = refl
-  lines_same at number (line ∷ lines) [] c = refl
-  lines_same at number (line ∷ lines) (state ∷ states) c =
-      ap (λ (j : Judged). j ∷ lines_judged script few (noted at number j.at) (number + 1) lines states) (form_same state at number (is_labelled line) (form_in (unlabelled_words (words_of line))) c.0 c.1)
+  -- the instant of a line is near its time
+  form_near : (state : List ℕ) (at : ℕ → Option ℕ) (number : ℕ) (named : Bool) (f : Result Form LineFault) → FormCovered script number f
+      → (instant time : ℕ) → (form_judged script trace state at number named f).at ≡ Some instant → time_at script number ≡ Some time → IsNear time instant
+  form_near state at number named (Err cause) c instant time h k = cc
+  form_near state at number true (Ok Other) c instant time h k = found_near script number instant time k (lines_of trace) timed h
+  form_near state at number false (Ok Other) c instant time h k = cc
+  form_near state at number named (Ok (Rounds quantity window pattern)) c instant time h k = none (sym c.1 ∙ k)
+    where
+      none : None ≡ Some time → IsNear time instant
+      none e = cc
+  form_near state at number named (Ok (State time_of_state device words)) c instant time h k = cc
+  form_near state at number named (Ok (Refused name word)) c instant time h k = cc
+
+  next_near : (state : List ℕ) (at : ℕ → Option ℕ) (number : ℕ) (line : List ℕ) → AreNear script at → FormCovered script number (form_in (unlabelled_words (words_of line)))
+      → AreNear script (noted at number (line_judged script trace state at number line).at)
+  next_near state at number line near c =
+      near_more script at number (line_judged script trace state at number line).at near (form_near state at number (is_labelled line) (form_in (unlabelled_words (words_of line))) c)
+
+  lines_same : (at : ℕ → Option ℕ) (number : ℕ) (lines states : List (List ℕ)) → AreNear script at → AreCovered script number lines
+      → lines_judged script few at number lines states ≡ lines_judged script trace at number lines states
+  lines_same at number [] states near c = refl
+  lines_same at number (line ∷ lines) [] near c = refl
+  lines_same at number (line ∷ lines) (state ∷ states) near c =
+      ap (λ (j : Judged). j ∷ lines_judged script few (noted at number j.at) (number + 1) lines states) (form_same state at near number (is_labelled line) (form_in (unlabelled_words (words_of line))) c.0 c.1)
       ∙ ap (λ (js : List Judged). line_judged script trace state at number line ∷ js)
-      (lines_same (noted at number (line_judged script trace state at number line).at) (number + 1) lines states c.2)
+      (lines_same (noted at number (line_judged script trace state at number line).at) (number + 1) lines states (next_near state at number line near c.0) c.2)
 
   -- ---- what is shown
 
-  shown_same : (span : Span) (pattern : List ℕ) → Covers (lines_of script) pattern → shown_text few span pattern ≡ shown_text trace span pattern
+  shown_same : (span : Span) (pattern : List ℕ) → SpanCovered (watches_of script) pattern (Some span) → shown_text few span pattern ≡ shown_text trace span pattern
   shown_same span pattern covers =
       ap (λ (ls : List (List ℕ)). flat_map shown_line (take 8 ls))
       (ap (filter (λ line. is_some (end_seen span pattern line))) are
       ∙ kept_passes (is_kept script) (λ line. is_some (end_seen span pattern line)) (λ line h. ap is_some (not_seen script span pattern covers line h)) (lines_of trace))
 
-  span_same : (pattern : List ℕ) (count : ℕ) → Covers (lines_of script) pattern → (o : Option Span) → (is_some o && (count == 0)) ≡ false → span_remarks few pattern count o ≡ span_remarks trace pattern count o
-  span_same pattern count covers None h = refl
-  span_same pattern count covers (Some span) h =
+  seen_same : (pattern : List ℕ) (count : ℕ) (span : Span) → SpanCovered (watches_of script) pattern (Some span) → (count == 0) ≡ false → span_remarks few pattern count (Some span) ≡ span_remarks trace pattern count (Some span)
+  seen_same pattern count span covers h =
       ap (λ t. seen_line count span ++ t)
       (ap (λ b. shown_text few span (if b then codes "*" else pattern)) h ∙ shown_same span pattern covers ∙ sym (ap (λ b. shown_text trace span (if b then codes "*" else pattern)) h))
 
-  remarks_same : (state : List ℕ) (j : Judged) (f : Result Form LineFault) → FormCovered (lines_of script) f → (is_some j.span && (j.count == 0)) ≡ false → form_remarks few state j f ≡ form_remarks trace state j f
-  remarks_same state j (Err cause) c h = refl
-  remarks_same state j (Ok Other) c h = refl
-  remarks_same state j (Ok (Rounds quantity window pattern)) c h = span_same pattern j.count c j.span h
-  remarks_same state j (Ok (State time device words)) c h = refl
-  remarks_same state j (Ok (Refused name word)) c h = refl
+  span_same : (quantity : Quantity) (pattern : List ℕ) (o : Option Span) → SpanCovered (watches_of script) pattern o
+      → (is_some (rounds_judged trace quantity pattern o).span && ((rounds_judged trace quantity pattern o).count == 0)) ≡ false
+      → span_remarks few pattern (rounds_judged trace quantity pattern o).count (rounds_judged trace quantity pattern o).span
+      ≡ span_remarks trace pattern (rounds_judged trace quantity pattern o).count (rounds_judged trace quantity pattern o).span
+  span_same quantity pattern None covers h = refl
+  span_same quantity pattern (Some span) covers h = seen_same pattern (length (ends_seen trace span pattern)) span covers h
 
-  line_same : (state : List ℕ) (r : Report) (number : ℕ) (line : List ℕ) (j : Judged) → FormCovered (lines_of script) (form_in (unlabelled_words (words_of line))) → is_unmet j ≡ false
-      → with_line few state r number line j ≡ with_line trace state r number line j
-  line_same state r number line j c h = by j.holds h
+  remarks_same : (state : List ℕ) (at : ℕ → Option ℕ) → AreNear script at → (number : ℕ) (named : Bool) (f : Result Form LineFault) → FormCovered script number f
+      → (is_some (form_judged script trace state at number named f).span && ((form_judged script trace state at number named f).count == 0)) ≡ false
+      → form_remarks few state (form_judged script trace state at number named f) f ≡ form_remarks trace state (form_judged script trace state at number named f) f
+  remarks_same state at near number named (Err cause) c h = refl
+  remarks_same state at near number named (Ok Other) c h = refl
+  remarks_same state at near number named (Ok (Rounds quantity window pattern)) c h = span_same quantity pattern (span_of script at window) (window_covered script at near window pattern c.0) h
+  remarks_same state at near number named (Ok (State time device words)) c h = refl
+  remarks_same state at near number named (Ok (Refused name word)) c h = refl
+
+  line_same : (state : List ℕ) (r : Report) (at : ℕ → Option ℕ) (number : ℕ) (line : List ℕ) → AreNear script at → FormCovered script number (form_in (unlabelled_words (words_of line)))
+      → is_unmet (line_judged script trace state at number line) ≡ false
+      → with_line few state r number line (line_judged script trace state at number line) ≡ with_line trace state r number line (line_judged script trace state at number line)
+  line_same state r at number line near c h = by j.holds h
     where
+      j : Judged
+      j = line_judged script trace state at number line
+
       by : (o : Option Bool) → (has_failed o && is_some j.span && (j.count == 0)) ≡ false → with_found few state r number line j o ≡ with_found trace state r number line j o
       by None k = refl
       by (Some true) k = refl
-      by (Some false) k = ap (with_remarks (with_test r false number [] line) false) (remarks_same state j (form_in (unlabelled_words (words_of line))) c k)
+      by (Some false) k =
+          ap (with_remarks (with_test r false number [] line) false) (remarks_same state at near number (is_labelled line) (form_in (unlabelled_words (words_of line))) c k)
 
-  tests_same : (r : Report) (number : ℕ) (lines states : List (List ℕ)) (js : List Judged) → AreCovered script number lines → list_any (λ f. is_unmet f.judged) (findings_from number states js) ≡ false
-      → with_lines few r number lines states js ≡ with_lines trace r number lines states js
-  tests_same r number [] states js c h = refl
-  tests_same r number (line ∷ lines) [] js c h = refl
-  tests_same r number (line ∷ lines) (state ∷ states) [] c h = refl
-  tests_same r number (line ∷ lines) (state ∷ states) (j ∷ js) c h =
+  tests_same : (r : Report) (at : ℕ → Option ℕ) (number : ℕ) (lines states : List (List ℕ)) → AreNear script at → AreCovered script number lines
+      → list_any (λ f. is_unmet f.judged) (findings_from number states (lines_judged script trace at number lines states)) ≡ false
+      → with_lines few r number lines states (lines_judged script trace at number lines states) ≡ with_lines trace r number lines states (lines_judged script trace at number lines states)
+  tests_same r at number [] states near c h = refl
+  tests_same r at number (line ∷ lines) [] near c h = refl
+  tests_same r at number (line ∷ lines) (state ∷ states) near c h =
+      let j : Judged = line_judged script trace state at number line in
+      let js : List Judged = lines_judged script trace (noted at number j.at) (number + 1) lines states in
       let met = met_by number state j j.holds refl (findings_from (number + 1) states js) h in
-      ap (λ (q : Report). with_lines few q (number + 1) lines states js) (line_same state r number line j c.0 met.0)
-      ∙ tests_same (with_line trace state r number line j) (number + 1) lines states js c.2 met.1
+      ap (λ (q : Report). with_lines few q (number + 1) lines states js) (line_same state r at number line near c.0 met.0)
+      ∙ tests_same (with_line trace state r number line j) (noted at number j.at) (number + 1) lines states (next_near state at number line near c.0) c.2 met.1
 
 -- ---- refused events
 
@@ -290,15 +462,21 @@ events_same script r (line ∷ lines) =
 
 -- ---- all
 
+no_instant : (script : List ℕ) → AreNear script (λ line. None)
+no_instant script number instant time h k = cc
+
 enough : (script few trace : List ℕ) (states : List (List ℕ)) (found : List Finding) (r : Report) → found ≡ findings_of script few states
-    → list_any (λ f. is_unmet f.judged) found ≡ false → r ≡ report_by script few found → lines_of few ≡ kept script (lines_of trace) → r ≡ report script trace states
-enough script few trace states found r is h made are =
+    → list_any (λ f. is_unmet f.judged) found ≡ false → r ≡ report_by script few found → lines_of few ≡ kept script (lines_of trace) → are_timed script (lines_of trace) ≡ true
+    → r ≡ report script trace states
+enough script few trace states found r is h made are timed =
     let all = lines_of script in
-    let c = covered script 1 all (λ reported k. k) (λ other k. k) in
-    let js : verdicts_of script few states ≡ verdicts_of script trace states = lines_same script few trace are (λ line. None) 1 all states c in
-    let met : list_any (λ f. is_unmet f.judged) (findings_of script few states) ≡ false = ap (list_any (λ (f : Finding). is_unmet f.judged)) (sym is) ∙ h in
+    let near = no_instant script in
+    let c = covered script 1 all (λ r k. k) (λ other k. k) (λ other k. refl) in
+    let js : verdicts_of script few states ≡ verdicts_of script trace states = lines_same script few trace are timed (λ line. None) 1 all states near c in
+    let met : list_any (λ f. is_unmet f.judged) (findings_of script trace states) ≡ false =
+    ap (λ (vs : List Judged). list_any (λ (f : Finding). is_unmet f.judged) (findings_from 1 states vs)) (sym js) ∙ ap (list_any (λ (f : Finding). is_unmet f.judged)) (sym is) ∙ h in
     let tests : with_lines few report_start 1 all states (verdicts_of script few states) ≡ with_lines trace report_start 1 all states (verdicts_of script trace states) =
-    tests_same script few trace are report_start 1 all states (verdicts_of script few states) c met ∙ ap (with_lines trace report_start 1 all states) js in
+    ap (with_lines few report_start 1 all states) js ∙ tests_same script few trace are timed report_start (λ line. None) 1 all states near c met in
     made ∙ ap (report_by script few) is ∙ report_again script few states (verdicts_of script few states)
     ∙ ap (λ (ls : List (List ℕ)). report_with_plan (with_refusals script (with_lines few report_start 1 all states (verdicts_of script few states)) ls)) are
     ∙ ap report_with_plan (events_same script (with_lines few report_start 1 all states (verdicts_of script few states)) (lines_of trace))
@@ -307,8 +485,9 @@ enough script few trace states found r is h made are =
 -- what is found is lent twice
 pub kept_is_enough : (script few trace : List ℕ) (states : List (List ℕ)) (found looked lent : List FindingRead) (r : Report)
     → map finding_as found ≡ findings_of script few (states_for (lines_of script) states) → looked ≡ found → list_any (λ f. is_unmet f.judged) (map finding_as looked) ≡ false
-    → lent ≡ found → r ≡ report_by script few (map finding_as lent) → lines_of few ≡ kept script (lines_of trace) → r ≡ report script trace (states_for (lines_of script) states)
-kept_is_enough script few trace states found looked lent r is first h second made are =
+    → lent ≡ found → r ≡ report_by script few (map finding_as lent) → lines_of few ≡ kept script (lines_of trace) → are_timed script (lines_of trace) ≡ true
+    → r ≡ report script trace (states_for (lines_of script) states)
+kept_is_enough script few trace states found looked lent r is first h second made are timed =
     enough script few trace (states_for (lines_of script) states) (map finding_as found) r is
     (ap (λ (fs : List FindingRead). list_any (λ (f : Finding). is_unmet f.judged) (map finding_as fs)) (sym first) ∙ h)
-    (made ∙ ap (λ (fs : List FindingRead). report_by script few (map finding_as fs)) second) are
+    (made ∙ ap (λ (fs : List FindingRead). report_by script few (map finding_as fs)) second) are timed

@@ -10,3 +10,6 @@ pub mod Shown
 pub mod Kept
 pub mod Sifted
 pub mod Keeping
+pub mod Timing
+pub mod Watching
+pub mod Grouping

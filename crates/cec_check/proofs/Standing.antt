@@ -11,7 +11,7 @@ use Rattle.cec_expect.specs.Line.{cut_script}
 use Rattle.cec_run.specs.Emulate.{IsTraceOf}
 use Rattle.cec_run.specs.declared.run.Totals.{Totals}
 use Rattle.cec_judge.specs.Told.{event_in, is_state_of, round_by, round_in, state_among, state_line, reported_in}
-use Rattle.cec_check.specs.Kept.{is_event_kept, is_kept, is_other_kept, kept}
+use Rattle.cec_check.specs.Kept.{Watch, is_event_kept, is_kept, is_other_kept, kept, watches_of}
 use Rattle.cec_check.specs.States.{IsStateAt}
 
 left_of : (a b : Bool) → (a && b) ≡ true → a ≡ true
@@ -25,18 +25,18 @@ right_so false b h = h
 no_number : number_of (codes "state") ≡ None
 no_number = refl
 
-state_other : (lines : List (List ℕ)) (name : List ℕ) (words : List (List ℕ)) → is_state_of name words ≡ true → is_other_kept lines words (round_in words) ≡ true
-state_other lines name [] h = absurd (false≢true h)
-state_other lines name (verb ∷ []) h = absurd (false≢true h)
-state_other lines name (verb ∷ device ∷ words) h =
+state_other : (watches : List Watch) (name : List ℕ) (words : List (List ℕ)) → is_state_of name words ≡ true → is_other_kept watches words (round_in words) ≡ true
+state_other watches name [] h = absurd (false≢true h)
+state_other watches name (verb ∷ []) h = absurd (false≢true h)
+state_other watches name (verb ∷ device ∷ words) h =
     let is = left_of (bytes_eq verb (codes "state")) (bytes_eq device name) h in
     let none : number_of verb ≡ None = ap number_of ((bytes_eq-Decides verb (codes "state")).0 is) ∙ no_number in
-    ap (λ (o : Option ℕ). is_other_kept lines (verb ∷ device ∷ words) (round_by o (number_of device) (reported_in words))) none ∙ is
+    ap (λ (o : Option ℕ). is_other_kept watches (verb ∷ device ∷ words) (round_by o (number_of device) (reported_in words))) none ∙ is
 
 state_needed : (script name line : List ℕ) → is_state_of name (words_of line) ≡ true → is_kept script line ≡ true
 state_needed script name line h =
-    right_so (is_event_kept script (event_in (words_of line))) (is_other_kept (lines_of script) (words_of line) (round_in (words_of line)))
-    (state_other (lines_of script) name (words_of line) h)
+    right_so (is_event_kept script (event_in (words_of line))) (is_other_kept (watches_of script) (words_of line) (round_in (words_of line)))
+    (state_other (watches_of script) name (words_of line) h)
 
 pub state_kept : (script name : List ℕ) (lines : List (List ℕ)) → state_among name (kept script lines) ≡ state_among name lines
 state_kept script name [] = refl

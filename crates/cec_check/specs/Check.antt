@@ -7,7 +7,7 @@ use Rattle.cec_expect.specs.Faults.{first_fault}
 use Rattle.cec_run.specs.Emulate.{IsTraceOf, IsReported}
 use Rattle.cec_run.specs.declared.run.Totals.{Totals}
 use Rattle.cec_check.specs.States.{AreStates}
-use Rattle.cec_check.specs.Kept.{kept}
+use Rattle.cec_check.specs.Kept.{are_timed, kept}
 use Rattle.cec_check.specs.Report.{Report, report}
 use Rattle.cec_check.specs.declared.checking.Tally.{Tally}
 use Rattle.cec_check.specs.declared.checking.CheckError.{CheckError}
@@ -27,12 +27,13 @@ pub record IsReportOf (topology script : List ℕ) (r : Report) : Type 0 where
   pub states_are : AreStates topology (plain_script script) (lines_of script) states
   pub report_is : r ≡ report script trace states
 
--- the lines of the plain script's run that a script needs
+-- the lines of the plain script's run that a script needs, in which labelled events were applied about when the script has them
 pub record AreKept (topology script few : List ℕ) : Type 0 where
   pub trace : List ℕ
   pub totals : Totals
   pub run : IsTraceOf topology (plain_script script) trace totals
   pub lines_are : lines_of few ≡ kept script (lines_of trace)
+  pub timed : are_timed script (lines_of trace) ≡ true
 
 -- the report is written
 abbrev pub IsChecked : List ℕ → List ℕ → Option (List ℕ) → Option (List ℕ) → Tally → Type 0

@@ -1,6 +1,7 @@
 pub mod Report
 pub mod States
 pub mod Kept
+pub mod Groups
 pub mod Sieve
 pub mod Cuts
 pub mod Check

@@ -1,10 +1,10 @@
 //! From the texts of a topology and a script with expectations to their report.
-ghost use Rattle.std.specs.Prelude.{◌≡◌, ◌↔◌, not, false, length, filter, map, None, IfOk, IfErr, IsTrue};
+ghost use Rattle.std.specs.Prelude.{◌≡◌, ◌↔◌, not, false, length, filter, map, None, IfOk, IfErr, IfSome, IsTrue, OnOk};
 ghost use Rattle.hdmi_core.specs.Lines.{lines_of};
 ghost use Rattle.cec_expect.specs.Line.{plain_script};
 ghost use Rattle.cec_expect.specs.Faults.{first_fault};
 ghost use Rattle.cec_judge.specs.Judged.{states_for};
-ghost use Rattle.cec_check.specs.States.{AreStates};
+ghost use Rattle.cec_check.specs.States.{AreStates, IsTraced};
 ghost use Rattle.cec_check.specs.Check.{AreKept, AreVerdictsOf, IsCheckCut, IsCheckReported, IsChecked, IsReportOf, IsVerdictReported, is_write, tally_of};
 ghost use Rattle.cec_check.specs.Report.{report_as};
 
@@ -94,10 +94,11 @@ fn report_by_trace(
     }
 }
 
-// The lines of the trace of a script's run that its report needs.
-#[tactic(auto, using(crate::proofs::Checked::kept_of_run))]
-fn few_of(alloc: Global, topology: &[u8], script: &[u8]) -> Result<Vec<u8>, CheckError>
-    ensures ok { IfOk result (λ few. AreKept topology.now script.now few.items) }
+// The lines of the trace of a script's run that its report needs, where these are enough as far as the run shows.
+#[tactic(auto, using(crate::proofs::Checked::traced_by, crate::proofs::Checked::kept_of_run))]
+fn few_of(alloc: Global, topology: &[u8], script: &[u8]) -> Result<Option<Vec<u8>>, CheckError>
+    ensures traced { OnOk result (IsTraced topology.now (plain_script script.now)) }
+    ensures kept { IfOk result (λ few. IfSome few (λ few. AreKept topology.now script.now few.items)) }
     ensures reported { IfErr result (IsVerdictReported topology.now script.now) }
 {
     let Ok(patterns) = Patterns::new(alloc, script) else {
@@ -115,9 +116,36 @@ fn few_of(alloc: Global, topology: &[u8], script: &[u8]) -> Result<Vec<u8>, Chec
     }
 }
 
-// The report of a script. The run is made again where a test failed whose window no round meets: then the first rounds in the
-// window are shown.
-#[tactic(auto, using(crate::proofs::Checked::traced_of, crate::proofs::Checked::faulty, crate::proofs::Checked::faultless, crate::proofs::Checked::reported_few))]
+// The report of a script whose labels these are, by the lines that it needs of its trace. The run is made again where these are not
+// enough, or where a test failed whose window no round meets: then the first rounds in the window are shown.
+#[tactic(auto, using(crate::proofs::Checked::reported_few))]
+fn report_by_few(
+    alloc: Global,
+    topology: &[u8],
+    labels: &Labels<'_>,
+    few: Option<Vec<u8>>,
+    states: &[Vec<u8>],
+) -> Result<ReportDraft, CheckError>
+    requires kept { IfSome few (λ few. AreKept topology.now labels.now.script.now few.items) }
+    requires accepted { first_fault topology.now labels.now.script.now ≡ None }
+    requires states { AreStates topology.now (plain_script labels.now.script.now) (lines_of labels.now.script.now) (states_for (lines_of labels.now.script.now) (map (λ state. state.items) states.now)) }
+    ensures ok { IfOk result (λ draft. IsReportOf topology.now labels.now.script.now (report_as draft)) }
+    ensures reported { IfErr result (IsVerdictReported topology.now labels.now.script.now) }
+{
+    let Some(few) = few else {
+        return report_by_trace(alloc, topology, labels.script, states);
+    };
+    let Ok(report) = report_of_few(alloc, labels, &few, states) else {
+        return Err(CheckError::Memory);
+    };
+    match report {
+        Some(report) => Ok(report),
+        None => report_by_trace(alloc, topology, labels.script, states),
+    }
+}
+
+// The report of a script.
+#[tactic(auto, using(crate::proofs::Checked::faulty, crate::proofs::Checked::faultless))]
 fn report_of(alloc: Global, topology: &[u8], script: &[u8]) -> Result<ReportDraft, CheckError>
     ensures ok { IfOk result (λ draft. IsReportOf topology.now script.now (report_as draft)) }
     ensures reported { IfErr result (IsVerdictReported topology.now script.now) }
@@ -136,19 +164,13 @@ fn report_of(alloc: Global, topology: &[u8], script: &[u8]) -> Result<ReportDraf
     let Ok(states) = all_states(alloc, topology, script) else {
         return Err(CheckError::Memory);
     };
-    let Ok(report) = report_of_few(alloc, &labels, &few, &states) else {
-        return Err(CheckError::Memory);
-    };
-    match report {
-        Some(report) => Ok(report),
-        None => report_by_trace(alloc, topology, script, &states),
-    }
+    report_by_few(alloc, topology, &labels, few, &states)
 }
 
 /// Runs a script without its labels and expectations on a topology, and writes the report of whether the run is as they have
 /// it, as the Test Anything Protocol has it: a line for each expectation, in order, and one for each refused event that none
-/// expects. Of the trace the lines of events that have a label or are refused, and of rounds that meet a pattern, are held in memory;
-/// all of it only where a test failed whose window no round meets.
+/// expects. Of the trace the lines of events that have a label or are refused, and of rounds that meet an expectation, are held in
+/// memory, by a wider window where it hangs from a label; all of it only where a test failed whose window no round meets.
 ///
 /// # Errors
 ///

@@ -2,12 +2,15 @@
 #![tactic(auto)]
 
 mod checking;
+mod group;
 mod held;
 mod laws;
 mod plain;
 mod report;
 mod sieve;
 mod states;
+mod times;
+mod watch;
 
 pub use checking::{CheckError, Tally, check, tally_of, verdicts};
 pub use held::Held;

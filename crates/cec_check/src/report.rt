@@ -1,12 +1,12 @@
 //! The report of a script's expectations, by the trace of its run.
-ghost use Rattle.std.specs.Prelude.{◌≡◌, ◌++◌, ◌==◌, codes, if◌then◌else◌, ℕ, List, OnOk, IfOk, IfSome, Some, map};
+ghost use Rattle.std.specs.Prelude.{◌≡◌, true, ◌++◌, ◌==◌, codes, if◌then◌else◌, ℕ, List, OnOk, IfOk, IfSome, Some, map};
 ghost use Rattle.std.specs.List.{flat_map, list_any};
 ghost use Rattle.std.specs.Option.{option_map};
 ghost use Rattle.hdmi_core.specs.Piece.{piece_text};
 ghost use Rattle.hdmi_core.specs.Lines.{lines_of};
 ghost use Rattle.cec_judge.specs.Judged.{finding_as, states_for};
 ghost use Rattle.cec_judge.specs.Told.{event_as};
-ghost use Rattle.cec_check.specs.Kept.{is_unmet, kept};
+ghost use Rattle.cec_check.specs.Kept.{are_timed, is_unmet, kept};
 ghost use Rattle.cec_check.specs.Report.{report_start, report_with_plan, escaped_text, escaped_byte, remarks, report, report_as, report_by, shown_text, shown_line, span_remarks, verdict_word, with_event, with_findings, with_line, with_refusals, with_test, with_word};
 
 use crate::held::Held;
@@ -368,7 +368,7 @@ pub(crate) fn report_of_few(
     few: &[u8],
     states: &[Vec<u8>],
 ) -> Result<Option<ReportDraft>, AllocError>
-    ensures { IfOk result (λ made. IfSome made (λ draft. (trace : List ℕ) → lines_of few.now ≡ kept labels.now.script.now (lines_of trace)
+    ensures { IfOk result (λ made. IfSome made (λ draft. (trace : List ℕ) → lines_of few.now ≡ kept labels.now.script.now (lines_of trace) → are_timed labels.now.script.now (lines_of trace) ≡ true
         → report_as draft ≡ report labels.now.script.now trace (states_for (lines_of labels.now.script.now) (map (λ state. state.items) states.now)))) }
 {
     let found = all_judged(alloc, labels, few, states)?;

@@ -1,94 +1,46 @@
 //! A sink that keeps the lines of a trace that a report needs.
-ghost use Rattle.std.specs.Prelude.{◌≡◌, codes, ◌++◌, ◌∷◌, ◌||◌, [], List, ℕ, ◌↔◌, IsTrue, true, false, Some, IfOk, OnOk};
-ghost use Rattle.std.specs.List.{list_any};
-ghost use Rattle.std.specs.Option.{option_copied, option_map};
-ghost use Rattle.std.specs.Str.{bytes_eq};
+ghost use Rattle.std.specs.Prelude.{◌≡◌, codes, ◌++◌, ◌∷◌, ◌&&◌, ◌||◌, [], List, ℕ, true, false, map, Some, IfOk, IfSome, OnOk, ◌↔◌, IsTrue};
+ghost use Rattle.std.specs.List.{flat_map, list_any};
+ghost use Rattle.std.specs.Option.{option_map};
 ghost use Rattle.hdmi_core.specs.Lines.{lines_of};
 ghost use Rattle.hdmi_core.specs.Words.{words_of};
 ghost use Rattle.cec_expect.specs.Fits.{fits};
 ghost use Rattle.cec_expect.specs.Line.{has_verb};
-ghost use Rattle.cec_judge.specs.Told.{event_as};
-ghost use Rattle.cec_check.specs.Kept.{is_event_kept, is_kept, kept, meets, pattern_of};
+ghost use Rattle.cec_judge.specs.Told.{event_as, event_in, round_as};
+ghost use Rattle.cec_check.specs.Kept.{are_timed, is_event_kept, is_kept, is_met, kept, watch_as, watches_of};
+ghost use Rattle.cec_check.specs.Groups.{is_sought};
 ghost use Rattle.cec_check.specs.Sieve.{IsClosed, IsLine};
 
+use crate::group::{Group, groups_of, is_any_met};
+use crate::times::Times;
+use crate::watch::{all_watches, fits_any, patterns_of};
 use boxcar::tag::{Names, Tag};
-use cec_expect::{Form, fits, form_in, unlabelled};
-use cec_judge::{EventLine, NamedLines, event_in, refusal_in, round_in};
+use cec_expect::Labels;
+use cec_judge::{EventLine, NamedLines, RoundLine, event_in, refusal_in, round_in};
 use hdmi_core::{Sink, first_line, first_word};
 use std::alloc::{AllocError, Global};
 
-/// The patterns of a script's expectations, and the lines of its labels.
+/// What a script needs to be kept: the lines of its labels, the times of those that are events, and what its expectations look for: in
+/// groups, and the patterns of all, and of those whose span is not known.
 #[derive(Drop)]
 pub(crate) struct Patterns<'a> {
     pub script: &'a [u8],
     named: NamedLines<'a>,
+    times: Times<'a>,
+    groups: Vec<Group<'a>>,
     texts: Vec<&'a [u8]>,
+    timeless: Vec<&'a [u8]>,
     ghost named_are: { named.script.now ≡ script.now },
-    ghost are: { (reported : List ℕ) → list_any (λ text. fits text.now reported) texts.items ≡ list_any (meets reported) (lines_of script.now) },
-}
-
-fn pattern_of(line: &[u8]) -> Option<&[u8]>
-    ensures { option_copied result ≡ pattern_of line.now }
-{
-    match form_in(unlabelled(line).rest) {
-        Err(_) => None,
-        Ok(form) => match form {
-            Form::Other => None,
-            Form::Rounds { pattern, .. } => Some(pattern),
-            Form::State { .. } => None,
-            Form::Refused { .. } => None,
-        },
-    }
+    ghost times_are: { times.script.now ≡ script.now },
+    ghost groups_are: { flat_map (λ group. map watch_as group.watches.items) groups.items ≡ watches_of script.now },
+    ghost texts_are: { (reported : List ℕ) → list_any (λ text. fits text.now reported) texts.items ≡ list_any (λ watch. is_sought false watch && fits watch.pattern reported) (watches_of script.now) },
+    ghost timeless_are: { (reported : List ℕ) → list_any (λ text. fits text.now reported) timeless.items ≡ list_any (λ watch. is_sought true watch && fits watch.pattern reported) (watches_of script.now) },
 }
 
 fn is_same(left: &[u8], right: &[u8]) -> bool
     ensures { IsTrue result ↔ (left.now ≡ right.now) }
 {
     left == right
-}
-
-// Whether a pattern stands among others.
-fn has(texts: &[&[u8]], pattern: &[u8]) -> bool
-    ensures { result ≡ list_any (λ text. bytes_eq text.now pattern.now) texts.now }
-{
-    let mut rest = texts;
-    'patterns: while let [text, others @ ..] = rest {
-        if *text == pattern {
-            return true;
-        }
-        rest = others;
-    }
-    false
-}
-
-// Adds the pattern of a line, where it has one that is new.
-#[tactic(auto, using(crate::proofs::Keeping::none_added, crate::proofs::Keeping::had_already, crate::proofs::Keeping::added))]
-fn add_pattern<'a>(texts: &mut Vec<&'a [u8]>, line: &'a [u8]) -> Result<(), AllocError>
-    ensures { OnOk result ((reported : List ℕ) → list_any (λ text. fits text.now reported) texts.new.items
-        ≡ (list_any (λ text. fits text.now reported) texts.old.items || meets reported line.now)) }
-{
-    let Some(pattern) = pattern_of(line) else {
-        return Ok(());
-    };
-    if has(texts.as_slice(), pattern) {
-        return Ok(());
-    }
-    texts.push(pattern)?;
-    Ok(())
-}
-
-// Whether a pattern is met.
-fn fits_any(texts: &[&[u8]], reported: &[u8]) -> bool
-    ensures { result ≡ list_any (λ text. fits text.now reported.now) texts.now }
-{
-    let mut rest = texts;
-    'patterns: while let [text, others @ ..] = rest {
-        if fits(text, reported) {
-            return true;
-        }
-        rest = others;
-    }
-    false
 }
 
 // Whether the first word of a line is that of a state.
@@ -100,22 +52,24 @@ fn reports_state(line: &[u8]) -> bool
 }
 
 impl<'a> Patterns<'a> {
-    /// Reads the patterns of a script.
-    #[tactic(auto, using(crate::proofs::Keeping::one_more, crate::proofs::Keeping::no_more))]
+    /// Reads what a script needs.
     pub(crate) fn new(alloc: Global, script: &'a [u8]) -> Result<Self, AllocError>
         ensures { IfOk result (λ patterns. patterns.script.now ≡ script.now) }
     {
         let named = NamedLines::new(alloc, script)?;
-        let mut texts = Vec::new(alloc);
-        let mut rest = script;
-        'lines: while let Some((line, after)) = first_line(rest) {
-            add_pattern(&mut texts, line)?;
-            rest = after;
-        }
+        let times = Times::new(alloc, script)?;
+        let labels = Labels::new(alloc, script)?;
+        let watches = all_watches(alloc, &labels, &times)?;
+        let groups = groups_of(alloc, &watches)?;
+        let texts = patterns_of(alloc, false, &watches)?;
+        let timeless = patterns_of(alloc, true, &watches)?;
         Ok(Patterns {
             script,
             named,
+            times,
+            groups,
             texts,
+            timeless,
         })
     }
 
@@ -129,15 +83,26 @@ impl<'a> Patterns<'a> {
         }
     }
 
-    fn need(&self, line: &[u8]) -> bool
+    // Whether a round is what an expectation looks for. Most rounds have none of the patterns.
+    #[tactic(auto, using(crate::proofs::Watching::none_met, crate::proofs::Watching::met_so))]
+    fn need_round(&self, round: &RoundLine) -> bool
+        ensures { result ≡ list_any (is_met (round_as round.now)) (watches_of self.now.script.now) }
+    {
+        fits_any(&self.texts, round.reported)
+            && (fits_any(&self.timeless, round.reported) || is_any_met(&self.groups, round))
+    }
+
+    // Whether a line is needed, which has this event.
+    fn need(&self, line: &[u8], event: Option<EventLine<'_>>) -> bool
+        requires { option_map event_as event ≡ event_in (words_of line.now) }
         ensures { result ≡ is_kept self.now.script.now line.now }
     {
-        if self.need_event(event_in(line)) {
+        if self.need_event(event) {
             return true;
         }
         match round_in(line) {
             None => reports_state(line),
-            Some(round) => fits_any(&self.texts, round.reported),
+            Some(round) => self.need_round(&round),
         }
     }
 }
@@ -150,34 +115,46 @@ fn push_line(few: &mut Vec<u8>, line: &[u8]) -> Result<(), AllocError>
     Ok(())
 }
 
-// Appends a line, where a script needs it.
+// Appends a line, where a script needs it. It has this event.
 #[tactic(auto, using(crate::proofs::Keeping::kept_none, crate::proofs::Keeping::kept_one, crate::proofs::Keeping::kept_closed))]
-fn keep_line(patterns: &Patterns<'_>, few: &mut Vec<u8>, line: &[u8]) -> Result<(), AllocError>
+fn keep_line(
+    patterns: &Patterns<'_>,
+    few: &mut Vec<u8>,
+    line: &[u8],
+    event: Option<EventLine<'_>>,
+) -> Result<(), AllocError>
+    requires event { option_map event_as event ≡ event_in (words_of line.now) }
     requires closed { IsClosed few.old.items }
     requires plain { IsLine line.now }
     ensures lines { OnOk result (lines_of few.new.items ≡ lines_of few.old.items ++ kept patterns.now.script.now (line.now ∷ [])) }
     ensures closed { OnOk result (IsClosed few.new.items) }
 {
-    if !patterns.need(line) {
+    if !patterns.need(line, event) {
         return Ok(());
     }
     push_line(few, line)?;
     Ok(())
 }
 
-// Appends the lines of a text that a script needs.
+// Appends the lines of a text that a script needs, and says whether its events were applied about when the script has them. Where
+// one was not, nothing is said of the lines.
 #[tactic(auto, using(crate::proofs::Keeping::keep_on, crate::proofs::Keeping::keep_end, crate::proofs::Sifted::line_plain))]
-fn keep_lines(patterns: &Patterns<'_>, few: &mut Vec<u8>, text: &[u8]) -> Result<(), AllocError>
+fn keep_lines(patterns: &Patterns<'_>, few: &mut Vec<u8>, text: &[u8]) -> Result<bool, AllocError>
     requires { IsClosed few.old.items }
-    ensures lines { OnOk result (lines_of few.new.items ≡ lines_of few.old.items ++ kept patterns.now.script.now (lines_of text.now)) }
-    ensures closed { OnOk result (IsClosed few.new.items) }
+    ensures lines { IfOk result (λ timed. timed ≡ true → lines_of few.new.items ≡ lines_of few.old.items ++ kept patterns.now.script.now (lines_of text.now)) }
+    ensures closed { IfOk result (λ timed. timed ≡ true → IsClosed few.new.items) }
+    ensures timed { IfOk result (λ timed. timed ≡ true → are_timed patterns.now.script.now (lines_of text.now) ≡ true) }
 {
     let mut rest = text;
     'lines: while let Some((line, after)) = first_line(rest) {
-        keep_line(patterns, few, line)?;
+        let event = event_in(line);
+        if !patterns.times.have(event) {
+            return Ok(false);
+        }
+        keep_line(patterns, few, line, event)?;
         rest = after;
     }
-    Ok(())
+    Ok(true)
 }
 
 #[tactic(auto, using(crate::proofs::Sifted::closed_after))]
@@ -204,17 +181,20 @@ fn with_bytes(before: &Tag, bytes: &[u8]) -> Tag
 }
 
 /// What was put, of which the lines that a script needs are kept, and the line that has not ended. `passed`, the text of the lines
-/// that have, is there for clauses alone. Where memory runs out nothing more is kept.
+/// that have, is there for clauses alone. Where memory runs out nothing more is kept, nor after a labelled event that was not applied
+/// about when the script has it: what is looked for is then not known.
 #[derive(Drop)]
 pub(crate) struct Sieve<'a> {
     pub patterns: Patterns<'a>,
     pub line: Vec<u8>,
     few: Vec<u8>,
     lost: bool,
+    late: bool,
     pub passed: Tag,
     ghost passed_closed: { lost ≡ false → IsClosed passed.numbers },
     ghost few_closed: { lost ≡ false → IsClosed few.items },
     ghost few_are: { lost ≡ false → lines_of few.items ≡ kept patterns.script.now (lines_of passed.numbers) },
+    ghost timed: { lost ≡ false → are_timed patterns.script.now (lines_of passed.numbers) ≡ true },
 }
 
 impl<'a> Sieve<'a> {
@@ -227,12 +207,13 @@ impl<'a> Sieve<'a> {
             line: Vec::new(alloc),
             few: Vec::new(alloc),
             lost: false,
+            late: false,
             passed: Tag::empty(),
         }
     }
 
     // Keeps what is needed of the lines that have ended.
-    #[tactic(auto, using(crate::proofs::Keeping::sift_lines))]
+    #[tactic(auto, using(crate::proofs::Keeping::sift_lines, crate::proofs::Keeping::all_timed))]
     fn pass(&mut self)
         requires { (front : List ℕ) → IsClosed (front ++ self.old.line.items) }
         ensures text { self.new.passed.numbers ++ self.new.line.items ≡ self.old.passed.numbers ++ self.old.line.items }
@@ -242,9 +223,15 @@ impl<'a> Sieve<'a> {
             return;
         }
         match keep_lines(&self.patterns, &mut self.few, &self.line) {
-            Ok(()) => {
-                self.passed = with_bytes(&self.passed, &self.line);
-                self.line.clear();
+            Ok(timed) => {
+                if timed {
+                    self.passed = with_bytes(&self.passed, &self.line);
+                    self.line.clear();
+                } else {
+                    self.lost = true;
+                    self.late = true;
+                    self.lose(&[]);
+                }
             }
             Err(_) => {
                 self.lost = true;
@@ -263,28 +250,37 @@ impl<'a> Sieve<'a> {
         self.line.clear();
     }
 
-    /// The lines that a script needs, which has to be that of the patterns.
+    /// The lines that a script needs, which has to be that of the patterns. `None` where a labelled event was not applied about when
+    /// the script has it.
     ///
     /// # Errors
     ///
     /// Want of memory, also while they were put.
-    #[tactic(auto, using(crate::proofs::Keeping::sift_lines))]
-    pub(crate) fn few(self, script: &[u8]) -> Result<Vec<u8>, AllocError>
-        ensures { IfOk result (λ few. lines_of few.items ≡ kept script.now (lines_of (self.entry.passed.numbers ++ self.entry.line.items))) }
+    #[tactic(auto, using(crate::proofs::Keeping::sift_lines, crate::proofs::Keeping::all_timed))]
+    pub(crate) fn few(self, script: &[u8]) -> Result<Option<Vec<u8>>, AllocError>
+        ensures lines { IfOk result (λ few. IfSome few (λ few. lines_of few.items ≡ kept script.now (lines_of (self.entry.passed.numbers ++ self.entry.line.items)))) }
+        ensures timed { IfOk result (λ few. IfSome few (λ few. are_timed script.now (lines_of (self.entry.passed.numbers ++ self.entry.line.items)) ≡ true)) }
     {
         let Sieve {
             patterns,
             line,
             mut few,
             lost,
+            late,
             passed: _passed,
         } = self;
+        if late {
+            return Ok(None);
+        }
         // What a run ensures of its sink is what was put alone.
         if lost || !is_same(patterns.script, script) {
             return Err(AllocError);
         }
-        keep_lines(&patterns, &mut few, &line)?;
-        Ok(few)
+        if keep_lines(&patterns, &mut few, &line)? {
+            Ok(Some(few))
+        } else {
+            Ok(None)
+        }
     }
 }
 

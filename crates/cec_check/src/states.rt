@@ -38,7 +38,10 @@ fn state_at(
             EmulateError::Memory => return Err(AllocError),
         },
     }
-    let few = sieve.few(&[])?;
+    // Without a label no event is late.
+    let Some(few) = sieve.few(&[])? else {
+        return Err(AllocError);
+    };
     let mut state = Vec::new(alloc);
     state.extend_from_slice(state_line(&few, device))?;
     Ok(state)

@@ -1,6 +1,7 @@
 //! Each row through the public calls.
 use crate::rows::{
-    CUTS, FAULTS, PATTERNS, PLAIN, REFUSALS, REPORT, SCRIPT, STATES, STATES_REPORT, TOPOLOGY,
+    CUTS, FAULTS, LABELS, LABELS_REPORT, PATTERNS, PLAIN, REFUSALS, REPORT, SCRIPT, STATES,
+    STATES_REPORT, TOPOLOGY, WINDOWS, WINDOWS_REPORT,
 };
 use cec_check::{CheckError, Tally, check, verdicts};
 use cec_expect::{cut_script, first_fault, fits, plain_script};
@@ -107,6 +108,20 @@ fn expectations_are_reported(rt: HostRuntime) {
     let (text, counts) = report_of(&rt, TOPOLOGY, SCRIPT);
     holds(&rt, counts.as_str() == "6 of 10", "counts");
     holds(&rt, text.as_str() == REPORT, "report");
+}
+
+#[test]
+fn rounds_outside_a_window_do_not_count(rt: HostRuntime) {
+    let (text, counts) = report_of(&rt, TOPOLOGY, WINDOWS);
+    holds(&rt, counts.as_str() == "1 of 4", "counts");
+    holds(&rt, text.as_str() == WINDOWS_REPORT, "report");
+}
+
+#[test]
+fn windows_hang_from_what_comes(rt: HostRuntime) {
+    let (text, counts) = report_of(&rt, TOPOLOGY, LABELS);
+    holds(&rt, counts.as_str() == "1 of 6", "counts");
+    holds(&rt, text.as_str() == LABELS_REPORT, "report");
 }
 
 #[test]

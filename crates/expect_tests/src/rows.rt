@@ -164,6 +164,52 @@ not ok 10 - line 9: refused not-for-kind
 1..10
 ";
 
+/// The same two rounds, by windows that have one of them, or end a microsecond too early for it.
+pub(crate) const WINDOWS: &str = "\
+label film at 1000000 press p1 play
+expect none within 167549 of film 4>f active-source
+expect once within 167550 of film 4>f active-source
+expect none from 1000001 to 1167550 4>*
+expect once from 1000000 to 1167549 4>*
+end 2000000
+";
+
+pub(crate) const WINDOWS_REPORT: &str = "\
+TAP version 13
+ok 1 - line 2: expect none within 167549 of film 4>f active-source
+ok 2 - line 3: expect once within 167550 of film 4>f active-source
+not ok 3 - line 4: expect none from 1000001 to 1167550 4>*
+# seen 1 from 1000001 to 1167550
+# 1068400 1167550 complete 4>f active-source 1.0.0.0 ok by p1 out -
+ok 4 - line 5: expect once from 1000000 to 1167549 4>*
+1..4
+";
+
+/// An event that waits for the close of the first round, and labels on expectations, of which the last has no instant.
+pub(crate) const LABELS: &str = "\
+label film at 1000000 press p1 play
+label slip at 1010000 press tv eject
+expect refused slip not-for-kind
+expect within 116400 of slip 4>f active-source
+label on expect within 51150 of film 4>0 image-view-on
+expect once within 116400 of on 4>f active-source
+label late expect none within 116399 of on 4>f active-source
+expect none within 5 of late short
+end 2000000
+";
+
+pub(crate) const LABELS_REPORT: &str = "\
+TAP version 13
+ok 1 - line 3: expect refused slip not-for-kind
+ok 2 - line 4: expect within 116400 of slip 4>f active-source
+ok 3 - line 5: label on expect within 51150 of film 4>0 image-view-on
+ok 4 - line 6: expect once within 116400 of on 4>f active-source
+ok 5 - line 7: label late expect none within 116399 of on 4>f active-source
+not ok 6 - line 8: expect none within 5 of late short
+# no instant
+1..6
+";
+
 /// Before its first poll at 12,000 the television has no address; the round that says the active source begins at 1,068,400. A
 /// player off the wire has what a new one has.
 pub(crate) const STATES: &str = "\

@@ -1,5 +1,7 @@
-use Rattle.std.proofs.Common.{ℕ, List, [], subst, ◌∙◌}
+use Rattle.std.proofs.Common.{◌≡◌, ℕ, List, [], ◌++◌, subst, ◌∙◌, rules}
+use Rattle.hdmi_core.specs.Lines.{lines_of}
 use Rattle.cec_run.specs.Emulate.{IsReported}
+use Rattle.cec_check.specs.Kept.{kept}
 use Rattle.cec_check.proofs.Refusals.{IsWant, not_refused_earlier}
 use Rattle.cec_check.proofs.Standing.{state_of_run}
 use Rattle.cec_check.proofs.states.state_at.Goals as goal
@@ -19,6 +21,7 @@ unreachable-requires-in-Edid c =
 pub returns : goal.returns
 returns c =
     let ok = c.in-Ok.ensures.ok in
-    state_of_run c.args.topology.now c.args.plain.now c.in_ok-cut.cut.items c.deref.result.now _ _ ok.0 c.in_ok-few.few.items c.deref-2.result.now c.args.device.now c.state_line.result.now
-    c.new-state.result.items c.extend_from_slice.new.self.items [] c.args.time c.in-Ok.field-0 c.in_ok-cut.ensures c.deref.ensures.value c.new-sieve.ensures.empty ok.1 ok.2 c.in_ok-few.ensures
+    let few : lines_of c.in-Some.few.items ≡ kept [] (lines_of (c.emulate.new.out.passed.numbers ++ c.emulate.new.out.line.items)) = search rules in
+    state_of_run c.args.topology.now c.args.plain.now c.in_ok-cut.cut.items c.deref.result.now _ _ ok.0 c.in-Some.few.items c.deref-2.result.now c.args.device.now c.state_line.result.now
+    c.new-state.result.items c.extend_from_slice.new.self.items [] c.args.time c.in-Ok.field-0 c.in_ok-cut.ensures c.deref.ensures.value c.new-sieve.ensures.empty ok.1 ok.2 few
     c.deref-2.ensures.value c.state_line.ensures c.new-state.ensures.items c.in_ok-extend_from_slice.ensures.items

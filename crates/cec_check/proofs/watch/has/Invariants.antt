@@ -1,7 +1,7 @@
 use Rattle.std.proofs.Common.{◌≡◌, length}
 use Rattle.std.specs.List.{list_any}
 use Rattle.std.specs.Str.{bytes_eq}
-use Rattle.cec_check.proofs.sieve.has.Given as goal
+use Rattle.cec_check.proofs.watch.has.Given as goal
 
 -- none before is the pattern
 abbrev pub invariant-patterns : goal.invariant-patterns

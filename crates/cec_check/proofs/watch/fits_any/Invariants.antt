@@ -1,7 +1,7 @@
 use Rattle.std.proofs.Common.{◌≡◌, length}
 use Rattle.std.specs.List.{list_any}
 use Rattle.cec_expect.specs.Fits.{fits}
-use Rattle.cec_check.proofs.sieve.fits_any.Given as goal
+use Rattle.cec_check.proofs.watch.fits_any.Given as goal
 
 -- none before is met
 abbrev pub invariant-patterns : goal.invariant-patterns
