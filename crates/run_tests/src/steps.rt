@@ -131,7 +131,7 @@ fn refusal(alloc: Global, script: &str, steps: &str) -> Result<(), StepRunError>
 // Of these steps the fourth line is at fault, at the word of the row.
 fn is_at_fault(rt: &(impl Abort + AllocGlobal), row: &str) -> bool {
     let (want, line) = row.split_once(' ').expect(rt, "a row");
-    let want = want.parse::<u8>().expect(rt, "a number");
+    let want = want.parse::<usize>().expect(rt, "a number");
     let steps = format!(in rt.alloc(); "\n# steps\nround\n{line}\nedges\n").expect(rt, "steps");
     match refusal(rt.alloc(), "end 400000\n", steps.as_str()) {
         Err(StepRunError::Steps { line: 4, word }) => word == want,
