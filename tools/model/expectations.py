@@ -15,7 +15,7 @@ def is_expectation(line):
 
 
 def parted(line):
-    """(label or None, what stands behind it or None); the whole line where it has none"""
+    """(label or None, what stands after it or None); the whole line where it has none"""
     words = line.split(b' ', 2)
     if words[0] != b'label':
         return None, line
@@ -94,7 +94,7 @@ def expectations(script, names, end):
             continue
         label, body = parted(line)
         causes = []
-        if label is not None and not body:
+        if label is not None and body is None:
             causes.append('word')
         if label is not None and (label == b'' or label in labels):
             causes.append('label')
