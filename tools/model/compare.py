@@ -709,10 +709,13 @@ REFUSALS = ['port-range', 'port-taken', 'not-loose', 'loop', 'not-plugged', 'off
 
 def gen_expect(r):
     """a run with labels and expectations of its rounds, many at the border of what holds; a part with a line at fault"""
-    args, text = r.choice([gen_run, gen_feat, gen_feat, gen_wire, gen_wire])(r)
+    trace = []
+    while len(trace) < 2:
+        # A run that is refused has no trace.
+        args, text = r.choice([gen_run, gen_feat, gen_feat, gen_wire, gen_wire])(r)
+        trace = model(['run'], text.encode())[1].decode('latin1').split('\n')
     topology, script = text.split('\nscript\n')
     lines = script.split('\n')[:-1]
-    trace = model(['run'], text.encode())[1].decode('latin1').split('\n')
     rounds = [l for l in trace if re.match(r'\d+ \d+ ', l)] or ['0 27150 complete 0>0 nack by tv out -']
     events = {l.split(' ')[2]: l.split(' ') for l in trace if ' event ' in l}
     end = int(trace[-2].split(' ')[0])

@@ -124,7 +124,7 @@ def fits(pattern, text):
 
 
 def told(line):
-    """what a round says: what stands behind its times, without the word complete"""
+    """what a round says: what stands after its times, without the word complete"""
     rest = line.split(b' ', 2)[2]
     return rest[9:] if rest.startswith(b'complete ') else rest
 
@@ -149,7 +149,7 @@ class Judge:
         return None if instant is None else (instant, instant + it.span)
 
     def judge(self, it):
-        """(whether it holds, the lines behind a failure)"""
+        """(whether it holds, the lines below a failure)"""
         if it.kind == 'refused':
             found = self.events.get(self.labels[it.of])
             return found is not None and found[1] == it.word, []
