@@ -1,7 +1,8 @@
 #!/usr/bin/env bash
 # library.sh DIR [PROGRAM]: tests what tools/library has installed under DIR, over C and Python, and with PROGRAM, the
 # program as it is built, that traces, edges, readings, reports and texts are the program's. The last line is
-# 'library: N passed, M failed'. With no DIR it tests what needs no library: the headers, and that the C files compile.
+# 'library: N passed, M failed'. With no DIR it tests what needs no library: the headers, that the C files compile, and what
+# tools/library asks of rt and installs, with a stand-in for the toolchain that takes the words of one kit or of another.
 #
 # $CC is the C compiler, cc where there is none. $HDMINET_RUN is what stands before a program that it has built, as
 # 'qemu-aarch64 -L /usr/aarch64-linux-gnu' for CC=aarch64-linux-gnu-gcc; nothing is called from Python then.
@@ -31,6 +32,112 @@ line "headers, exports and Python" "$top/tools/library-matches"
 has_pins() { echo 'struct gpio_v2_line_event event;' | $cc -include linux/gpio.h -fsyntax-only -x c - 2> /dev/null; }
 for file in "$top"/examples/c/*.c "$top"/tests/library*.c "$top"/tools/library*.c; do
   [[ $file == *gpio.c ]] && ! has_pins || line "$(basename "$file") compiles" compiles "$file"
+done
+
+# A checkout with the two crates of exports, and one below them.
+make_checkout() {
+  local here=$room/checkout crate
+  mkdir -p "$here/tools" "$here/crates/low_tests/src" "$here/crates/hdminet_command/src"
+  cp "$top/tools/library" "$top"/tools/*.bash "$here/tools" && cp -R "$top/include" "$top/python" "$here" || return 1
+  # (a line of its own compares the headers with the crates)
+  printf '#!/bin/sh\n' > "$here/tools/library-matches"
+  chmod +x "$here/tools/library-matches"
+  echo 'Handles allowed: none.' > "$here/HANDLES"
+  printf 'low: arrayvec\nlow_tests: low\nhdminet_wire staticlib: low\nhdminet_c staticlib: hdminet_wire low\nhdminet_command: low\n' > "$here/crates.txt"
+  echo '    .version("1.0.0")' > "$here/crates/hdminet_command/src/choice.rt"
+  for crate in low hdminet_wire hdminet_c; do
+    mkdir -p "$here/crates/$crate/src" "$here/crates/$crate/must-fail"
+    echo law > "$here/crates/$crate/src/lib.rt"
+  done
+}
+
+# A stand-in for the toolchain: `rt ci` proves whatever it is given, or nothing where there is a file $BROKEN, and its compiler
+# makes an archive with one function. It notes what rt is asked. The words that the kit $KIT lacks are refused as rt does, with its
+# usage and status 2; where there is a file $REFUSING all are.
+make_kit() {
+  local kit=$room/kit
+  mkdir -p "$kit/bin" "$kit/c" "$kit/toolchain/bin" "$room/tmp"
+  cat > "$kit/bin/rt" << 'RT'
+#!/usr/bin/env bash
+case $1 in
+  version) echo "kit 1 of this test" && exit ;;
+  doc) echo "$(dirname "$(dirname "$0")")/START-HERE.md" && exit ;;
+esac
+echo "$*" >> "$CALLS"
+case $KIT:$* in
+  13b:ci | 13f:ci | 13f:ci\ --anew) [ ! -f "$REFUSING" ] ;;
+  *) false ;;
+esac || { cat "$USAGE" >&2; exit 2; }
+[ -d .git ] && [ -f HANDLES ] && ! ls -d crates/*/{out,must-fail,wrong-bodies} 2> /dev/null &&
+  [ "$(ls crates | tr '\n' ' ')" = "hdminet_c hdminet_wire low " ] && [ "$(sed 's/[ :].*//' crates.txt | sort)" = "$(ls crates)" ] || exit 2
+if [ -f "$BROKEN" ]; then
+  printf 'rt: cec_wave NOT PROVED\n0 passed, 1 failed\n'
+  exit 1
+fi
+[ "$KIT" = 13b ] || kept='; done in this run: 1 of the proofs'
+echo "rt: ok; handles allowed: none$kept"
+RT
+  cat > "$kit/bin/rattle" << 'RATTLE'
+#!/usr/bin/env bash
+while [ $# -gt 0 ]; do
+  case $1 in
+    --crate-name) crate=$2 ;;
+    --target) target=$2 ;;
+    -o) made=$2 ;;
+  esac
+  shift
+done
+echo "int $crate(void) { return 0; }" > "$crate.c"
+$STUB_CC -fPIC -c -o "$crate.o" "$crate.c" && ar rcs "$made" "$crate.o" && echo "logic=proved functions=1 target=$target sum=0"
+RATTLE
+  printf '#!/bin/sh\nexec ar "$@"\n' > "$kit/toolchain/bin/llvm-ar"
+  chmod +x "$kit"/bin/* "$kit/toolchain/bin/llvm-ar"
+  echo 'int heap(void) { return 0; }' > "$room/heap.c"
+  $cc -fPIC -c -o "$room/heap.o" "$room/heap.c" && ar rcs "$kit/c/liblibc_c.a" "$room/heap.o"
+}
+
+# Runs tools/library with that stand-in, and with these words before its folder.
+ask_library() {
+  rm -rf "$room/installed" "$CALLS"
+  PATH="$room/kit/bin:$PATH" TMPDIR="$room/tmp" "$room/checkout/tools/library" "$@" "$room/installed" > "$room/said" 2> "$room/said.err"
+}
+
+# Whether it installs a library, asks rt for no more than this, and says this of the proofs.
+installs() {
+  local asked=$1 proofs=$2
+  shift 2
+  ask_library "$@" && [ "$(cat "$CALLS")" = "$asked" ] &&
+    [ "$(head -n 1 "$room/said")" = "library: rt ci over 3 crates: $proofs" ] &&
+    cmp "$top/include/hdminet.h" "$room/installed/include/hdminet.h" && [ -s "$room/installed/lib/libhdminet_wire.a" ] &&
+    [ -s "$room/installed/lib/libhdminet.a" ] && [ -s "$room/installed/lib/libhdminet.so" ] && [ -z "$(ls -A "$room/tmp")" ]
+}
+
+# Whether it stops with these lines on standard error, and installs nothing.
+stops() {
+  local said=$1
+  shift
+  ! ask_library "$@" && [ "$(cat "$room/said.err")" = "$said" ] && [ ! -e "$room/installed/lib" ] && [ -z "$(ls -A "$room/tmp")" ]
+}
+
+export CALLS="$room/calls" BROKEN="$room/broken" REFUSING="$room/refusing" STUB_CC="$cc" USAGE="$top/tests/rt-usage.txt" KIT
+line "a checkout and a stand-in for the toolchain" eval 'make_checkout && make_kit'
+for KIT in 13b 13f; do
+  proofs=passed anew=$'ci --anew\nci'
+  [ $KIT = 13b ] || { proofs='done in this run: 1 of the proofs' && anew='ci --anew'; }
+  line "tools/library with the words of kit $KIT" installs ci "$proofs"
+  line "tools/library --anew with the words of kit $KIT" installs "$anew" "$proofs" --anew
+  touch "$BROKEN"
+  for flag in "" --anew; do
+    line "tools/library $flag where a crate is not proved, with the words of kit $KIT" \
+      stops $'rt: cec_wave NOT PROVED\n0 passed, 1 failed\nlibrary: the crates were not proved' $flag
+  done
+  rm "$BROKEN"
+  touch "$REFUSING"
+  for flag in "" --anew; do
+    line "tools/library $flag where rt refuses its arguments, with the words of kit $KIT" \
+      stops "library: rt refused its own arguments: rt ci. No proof failed: this kit, kit 1 of this test, takes other ones" $flag
+  done
+  rm "$REFUSING"
 done
 
 # Links a program with libhdminet_wire.a, or with libhdminet.a.

@@ -1,16 +1,35 @@
 #!/usr/bin/env bash
-# Tests the start script with a stand-in for rt, in a checkout of its own. The last line is 'start script: N passed, M failed'.
+# start-script.sh [KIT]: tests the start script and tools/release with a stand-in for rt, in a checkout of its own. KIT is the
+# kit of the toolchain whose words the stand-in takes, 13b or 13f; with none all is tested with each of them. The last line is
+# 'start script: N passed, M failed'.
 set -u
 top=$(cd "$(dirname "${BASH_SOURCE[0]}")/.." && pwd)
 room=$(mktemp -d)
 trap 'rm -rf "$room"' EXIT
 passed=0
 failed=0
+if [ $# = 0 ]; then
+  "$top/tests/start-script.sh" 13b > "$room/13b" &
+  "$top/tests/start-script.sh" 13f > "$room/13f"
+  wait
+  for kit in 13b 13f; do
+    grep -v '^start script: [0-9]* passed' "$room/$kit"
+    counts=$(sed -n 's/^start script: \([0-9]*\) passed, \([0-9]*\) failed$/\1 \2/p' "$room/$kit")
+    # (a run that came to no end has failed)
+    read -r well badly <<< "${counts:-0 1}"
+    passed=$((passed + well))
+    failed=$((failed + badly))
+  done
+  echo "start script: $passed passed, $failed failed"
+  [ "$failed" = 0 ]
+  exit
+fi
 
 # A stand-in for rt. It refuses sources that have the word 'broken', notes its calls, and links a program that prints its
 # sources and its arguments. It takes as many seconds as the file $SLOW says. `rt ci` runs at the top of a repository that has
-# nothing of an earlier run, with --anew or without, and links the same program, or another one where there is a file $OTHER. `rt all test` runs where
-# a developer's checks have left work.
+# nothing of an earlier run, and links the same program, or another one where there is a file $OTHER. `rt all test` runs where
+# a developer's checks have left work. The words that the kit $KIT lacks are refused as rt does, with its usage and status 2;
+# where there is a file $REFUSING all are.
 mkdir -p "$room/bin"
 cat > "$room/bin/rt" << 'RT'
 #!/usr/bin/env bash
@@ -19,6 +38,15 @@ if [ "$*" = version ]; then
   exit
 fi
 echo "$*" >> "$CALLS"
+refuse() {
+  cat "$USAGE" >&2
+  exit 2
+}
+[ ! -f "$REFUSING" ] || refuse
+case $KIT:$* in
+  13b:ci | 13f:ci | 13f:ci\ --anew | *:all\ test*) ;;
+  *) refuse ;;
+esac
 prove() {
   echo "== $1"
   if grep -q broken "$crates/$1"/src/*; then
@@ -34,13 +62,13 @@ link() {
   chmod +x "$crates/hdminet/out/hdminet"
 }
 sleep "$(cat "$SLOW" 2> /dev/null || echo 0)"
-if [ "$*" = ci ] || [ "$*" = "ci --anew" ]; then
+if [ "$1" = ci ]; then
   crates=$PWD/crates
   [ -d .git ] && [ -f HANDLES ] && [ -f crates/hdminet/stdin ] && ! ls -d crates/*/{out,must-fail,wrong-bodies} 2> /dev/null || exit 1
   [ "$(cut -d: -f1 crates.txt | sort | tr '\n' ' ')" = "hdminet low " ] && [ "$(ls crates | tr '\n' ' ')" = "hdminet low " ] || exit 1
   if grep -q unreadable "$crates"/low/src/*; then
-    echo "error: nothing can be read"
-    exit 1
+    printf 'rt: nothing can be read\n0 passed, 1 failed\n'
+    exit 2
   fi
   for crate in low hdminet; do
     if ! prove "$crate"; then
@@ -66,16 +94,24 @@ link ""
 printf '== summary\nlow: ok\nhdminet: ok\n'
 RT
 chmod +x "$room/bin/rt"
-export CALLS="$room/calls" OTHER="$room/other" SLOW="$room/slow" TMPDIR="$room/tmp"
+export CALLS="$room/calls" OTHER="$room/other" SLOW="$room/slow" REFUSING="$room/refusing" TMPDIR="$room/tmp"
+# The usage of rt in a kit without --anew.
+export KIT=$1 USAGE="$top/tests/rt-usage.txt"
+# What is asked of rt for a proof from nothing.
+case $KIT in
+  13b) anew=$'ci --anew\nci' ;;
+  13f) anew='ci --anew' ;;
+  *) echo "start script: no kit $KIT" >&2 && exit 2 ;;
+esac
 mkdir "$TMPDIR"
 PATH="$room/bin:$PATH"
 
 # A new checkout of a program that prints 'one', a crate below it, and a crate of tests.
 checkout() {
-  rm -rf "$room/checkout" "$CALLS" "$OTHER" "$SLOW"
+  rm -rf "$room/checkout" "$CALLS" "$OTHER" "$SLOW" "$REFUSING"
   mkdir -p "$room/checkout/crates/low/src" "$room/checkout/crates/hdminet/src" "$room/checkout/crates/low_tests/src" "$room/checkout/tools"
   cp "$top/hdminet" "$room/checkout/hdminet"
-  cp "$top/tools/release" "$top/tools/sources.bash" "$room/checkout/tools"
+  cp "$top/tools/release" "$top/tools/sources.bash" "$top/tools/kit.bash" "$room/checkout/tools"
   printf '# a comment\nlow: arrayvec\nlow_tests: low\nhdminet: low arrayvec\n' > "$room/checkout/crates.txt"
   echo 'Handles allowed: none.' > "$room/checkout/HANDLES"
   echo law > "$room/checkout/crates/low/src/lib.rt"
@@ -111,7 +147,7 @@ check() {
     passed=$((passed + 1))
   else
     failed=$((failed + 1))
-    echo "start script: failed: $name (status $status)"
+    echo "start script: kit $KIT: failed: $name (status $status)"
     sed 's/^/  out: /' "$room/out"
     sed 's/^/  err: /' "$room/err"
   fi
@@ -122,6 +158,12 @@ wrote() { [ "$status" = 0 ] && [ "$(cat "$room/out")" = "$1" ]; }
 refused() { [ "$status" = 2 ] && [ ! -s "$room/out" ] && grep -qF -- "$1" "$room/err"; }
 says() { grep -qF -- "$1" "$room/err"; }
 lines_of_err() { [ "$(grep -c . "$room/err")" = "$1" ]; }
+# Refused since rt takes none of these words, and nothing of its usage is shown.
+refused_by_rt() {
+  refused "hdminet: not built, since rt refused its own arguments: rt $1" &&
+    says "hdminet: No proof failed: this kit, kit 1 of this test, takes other ones. Its usage is in the log" &&
+    [ "$(grep -vc '^hdminet: ' "$room/err")" = 0 ]
+}
 
 checkout
 start "$room/checkout/hdminet" run x
@@ -160,7 +202,7 @@ check "a broken source is refused again" refused "error: the sources of hdminet 
 check "the old program is gone" [ ! -e "$room/checkout/crates/hdminet/out/hdminet" ]
 echo unreadable > "$room/checkout/crates/low/src/other.rt"
 start "$room/checkout/hdminet"
-check "what fails before any proof is refused" refused "error: nothing can be read"
+check "what fails before any proof is refused" refused "rt: nothing can be read"
 check "and it says that nothing was built" says "hdminet: not built. The log ends with:"
 echo law > "$room/checkout/crates/low/src/other.rt"
 source_is three
@@ -329,13 +371,13 @@ start "$room/checkout/hdminet" --prove
 check "--prove gives the released program" [ "$status" = 0 ]
 check "and says so" says "hdminet: it is the released program to the byte: SHA-256 $(sha256sum < "$room/checkout/release/hdminet" | cut -d' ' -f1)"
 check "and tells each crate" says "crate 2 of 2 is proved: hdminet (6 functions so far"
-check "it proves from nothing" [ "$(cat "$CALLS")" = "ci --anew" ]
+check "it proves from nothing" [ "$(cat "$CALLS")" = "$anew" ]
 check "and leaves nothing of that" [ -z "$(ls -A "$TMPDIR")" ]
 start "$room/checkout/hdminet" x
 check "what it built starts" wrote "one x"
 check "and says nothing" lines_of_err 0
 start "$room/second-link" --prove
-check "--prove proves again what is built" [ "$(cat "$CALLS")" = "$(printf 'ci --anew\nci --anew')" ]
+check "--prove proves again what is built" [ "$(cat "$CALLS")" = "$anew"$'\n'"$anew" ]
 check "through a link too" [ "$status" = 0 ]
 
 echo ' of another kit' > "$OTHER"
@@ -354,7 +396,10 @@ sed -i 's/kit 1/kit 0/' "$room/checkout/release/built-of"
 start "$room/checkout/hdminet" --prove
 check "--prove names another toolchain" says "hdminet: the released program was built by another toolchain, kit 0 of this test"
 start "$room/checkout/tools/release" --check
-check "a check of the release takes another toolchain" wrote "release: it was built by another toolchain, kit 0 of this test"
+check "a check of the release finds another program of another toolchain" [ "$status" = 1 ]
+check "and names that" grep -q ', and was built by another toolchain, kit 0 of this test$' "$room/out"
+start "$room/checkout/tools/release" --check "$room/checkout/release/hdminet"
+check "and takes the same one of another toolchain" wrote "release: its program is the one that was built"
 rm "$OTHER"
 
 source_is broken
@@ -388,6 +433,20 @@ check "a check finds a wrong sum" [ "$status" = 1 ]
 source_is two
 start "$room/checkout/tools/release"
 check "no release is made of an older program" [ "$status" = 2 ]
+
+checkout
+touch "$REFUSING"
+start "$room/checkout/hdminet" x
+check "a first start says that rt refused its arguments" refused_by_rt ci
+start "$room/checkout/hdminet" --prove
+check "so does --prove" refused_by_rt ci
+check "and leaves nothing of that" [ -z "$(ls -A "$TMPDIR")" ]
+mkdir -p "$room/checkout/crates/low/out/incremental"
+start "$room/checkout/hdminet" x
+check "so does a start over a developer's checks" refused_by_rt "all test --jobs"
+rm "$REFUSING"
+start "$room/checkout/hdminet" x
+check "once rt takes them it is built" wrote "one x"
 
 echo "start script: $passed passed, $failed failed"
 [ "$failed" = 0 ]
