@@ -843,7 +843,7 @@ def gen_odd(r):
 
 def gen_json(r):
     """lines of runs, of captures and of reports as objects"""
-    a, d = r.choice([gen_run, gen_feat, gen_wire, gen_mon] + ([gen_expect] if os.environ.get('MODEL_EXPECT') else []))(r)
+    a, d = r.choice([gen_run, gen_feat, gen_wire, gen_mon, gen_expect])(r)
     return [w for w in a if w != '--edges'] + ['--json'], d
 
 
@@ -852,7 +852,7 @@ def small_run(r):
     return a, t
 
 
-ODD = [gen_run, small_run, small_run, gen_asm, gen_edidcmd, gen_edtext] + ([] if os.environ.get('MODEL_NO_MON') else [gen_mon]) + ([] if os.environ.get('MODEL_NO_STEP') else [gen_step]) + ([gen_expect] if os.environ.get('MODEL_EXPECT') else [])
+ODD = [gen_run, small_run, small_run, gen_asm, gen_edidcmd, gen_edtext, gen_mon, gen_step, gen_expect]
 GEN = dict(ops=gen_ops, amp=gen_amp, run=gen_run, feat=gen_feat, wire=gen_wire, edges=gen_edges, mon=gen_mon, step=gen_step, asm=gen_asm, edid=gen_edidcmd, edtext=gen_edtext, check=gen_check, ways=gen_ways, expect=gen_expect, sweep=gen_sweep, json=gen_json, odd=gen_odd)
 
 
