@@ -1,5 +1,5 @@
 #!/usr/bin/env python3
-"""tests/live.py [PROGRAM]: drives `hdminet live` as a co-process, which no test of the gate can. PROGRAM is
+"""tests/live.py [PROGRAM]: drives `hdminet live` as a co-process, which no test of `rt ci` can. PROGRAM is
 crates/hdminet/out/hdminet, which ./hdminet builds, where none is given. The last line is 'live: N passed, M failed'."""
 import os
 import random
