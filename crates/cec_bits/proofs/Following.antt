@@ -1,337 +1,80 @@
--- Between two wakes nothing is heard, so a receiver that skips to the next edge or wake keeps what the line's readings say.
-use Rattle.std.proofs.Common.{◌≡◌, ◌≢◌, ℕ, zero, suc, ◌+◌, ◌-◌, ◌==◌, ◌<◌, ◌≤◌, Bool, true, false, not, ◌&&◌, nat_lt, if◌then◌else◌, List, Option, Some, None, refl, arith, ap, ◌∙◌, sym, subst}
-use Rattle.std.proofs.lemmas.Bool.Decides.{nat_tests}
+-- A receiver that skips to the next edge or wake keeps what the line's readings say, by the standard's windows.
+use Rattle.std.proofs.Common.{◌≡◌, ℕ, ◌<◌, ◌≤◌, Bool, false, List, Some}
 use Rattle.cec_wave.specs.Line.{Line, was_low}
 use Rattle.cec_frame.specs.declared.Ending.{Ending}
-use Rattle.cec_frame.specs.declared.Ending.TheVariants.{Short, Silent, BadStart}
 use Rattle.cec_bits.specs.declared.receiver.ReceiverState.{ReceiverState}
-use Rattle.cec_bits.specs.declared.receiver.ReceiverState.TheVariants.{Rest, StartLow, StartHigh, Unsampled, Sampled}
 use Rattle.cec_bits.specs.declared.receiver.Told.{Told}
 use Rattle.cec_bits.specs.declared.receiver.Told.TheVariants.{Nothing, Ended}
-use Rattle.cec_bits.specs.Reading.{last_ending}
-use Rattle.cec_bits.specs.Hears.{Hears, Heard, reported_so, rest, starts, sample_as, hear_at, hear_in, hears, wake_of, wakes_left}
+use Rattle.cec_bits.specs.Hears.{Hears, reported_so, rest, hear_in, hears, wake_of, wakes_left}
 use Rattle.cec_bits.specs.Phase.{Standing, standing_of}
 use Rattle.cec_bits.specs.Kept.{kept_of, kept_before, reported_at, standing_by}
 use Rattle.cec_bits.specs.Follows.{IsNextReported}
-use Rattle.cec_bits.proofs.Keeping.{kept_heard, before_heard, reported_heard, standings_are_kept}
-use Rattle.cec_bits.proofs.Stood.{StandsIn, stands_at, was_now}
-
--- ---- a microsecond without an edge, before the wake
-
-no_fall : (b : Bool) → (b && not b) ≡ false
-no_fall true = refl
-no_fall false = refl
-
-no_rise : (b : Bool) → (not b && b) ≡ false
-no_rise true = refl
-no_rise false = refl
-
-abbrev pub hears_by : ReceiverState → ℕ → ℕ → List Bool → Hears
-hears_by place begin fall bits = record { place = place; begin = begin; fall = fall; bits = bits }
-
-still_at : (low : Line) (n : ℕ) (b : Bool) (place : ReceiverState) (begin fall : ℕ) (bits : List Bool) → StandsIn low n place begin fall bits → ((w : ℕ) → wake_of (hears_by place begin fall bits) ≡ Some w → n < w)
-    → hear_at place n false false b (hears_by place begin fall bits) ≡ reported_so (hears_by place begin fall bits) Nothing
-unfolding StandsIn
-still_at low n b Rest begin fall bits s w = sym (rw (s.no_begin, s.no_fall, s.no_bits) refl)
-still_at low n b StartLow begin fall bits s w =
-    ap (λ c. if c then reported_so (starts n false) (Ended BadStart) else reported_so (hears_by StartLow begin fall bits) Nothing)
-    (let l = w (begin + 3901) refl in let x : nat_lt (begin + 3900) n ≡ false = grind (arith, nat_tests) in x)
-still_at low n b StartHigh begin fall bits s w =
-    ap (λ c. if c then reported_so (starts n false) (Ended BadStart) else reported_so (hears_by StartHigh begin fall bits) Nothing)
-    (let l = w (begin + 4701) refl in let x : nat_lt (begin + 4700) n ≡ false = grind (arith, nat_tests) in x)
-still_at low n b Unsampled begin fall bits s w =
-    ap (λ c. if c then sample_as (last_ending bits) (not b) (hears_by Unsampled begin fall bits) else reported_so (hears_by Unsampled begin fall bits) Nothing)
-    (let l = w (fall + 1050) refl in let x : (n == fall + 1050) ≡ false = grind (arith, nat_tests) in x)
-still_at low n b Sampled begin fall bits s w =
-    ap (λ c. if c then reported_so (starts n false) (Ended Silent) else reported_so (hears_by Sampled begin fall bits) Nothing)
-    (let l = w (fall + 2751) refl in let x : nat_lt (fall + 2750) n ≡ false = grind (arith, nat_tests) in x)
+use Rattle.cec_bits.proofs.Stood.{StandsIn}
+use Rattle.cec_bits.specs.Windows.{standard}
+use Rattle.cec_bits.proofs.Standard.{standard_are}
+use Rattle.cec_bits.proofs.FollowingBy as by
+use Rattle.cec_bits.specs.Reading.{read_slots}
+use Rattle.cec_bits.specs.Kept.{running_from}
+use Rattle.cec_bits.specs.Phase.{standing_from}
+pub use Rattle.cec_bits.proofs.FollowingBy.{hears_by}
 
 pub heard_same : (low : Line) (n : ℕ) (b : Bool) → ((w : ℕ) → wake_of (hears low n) ≡ Some w → n < w) → hear_in n b b (hears low n) ≡ reported_so (hears low n) Nothing
-heard_same low n b w =
-    ap (λ c. hear_at h.place n c (not b && b) b h) (no_fall b) ∙ ap (λ c. hear_at h.place n false c b h) (no_rise b)
-    ∙ still_at low n b h.place h.begin h.fall h.bits (stands_at low n) w
-  where
-    h : Hears
-    h = hears low n
-
--- ---- from one tick to the next
-
-was_calm : (low : Line) (n m : ℕ) (b : Bool) → was_low low n ≡ b → ((u : ℕ) → n ≤ u → u < n + m → low u ≡ b) → was_low low (n + m) ≡ b
-was_calm low n zero b w q = ap (was_low low) (let x : n + zero ≡ n = omega arith in x) ∙ w
-was_calm low n (suc m) b w q = ap (was_low low) (let x : n + suc m ≡ n + m + 1 = omega arith in x) ∙ was_now low (n + m) ∙ q (n + m) (omega arith) (omega arith)
-
-calm : (low : Line) (n m : ℕ) (b : Bool) → was_low low n ≡ b → ((u : ℕ) → n ≤ u → u < n + m → low u ≡ b) → ((w : ℕ) → wake_of (hears low n) ≡ Some w → n + m ≤ w) → hears low (n + m) ≡ hears low n
-unfolding hears
-calm low n zero b w q k = ap (hears low) (let x : n + zero ≡ n = omega arith in x)
-calm low n (suc m) b w q k =
-    let before : hears low (n + m) ≡ hears low n = calm low n m b w (λ u a c. q u a (omega arith)) (λ v e. let x = k v e in omega (arith, x)) in
-    ap (hears low) (let x : n + suc m ≡ suc (n + m) = omega arith in x)
-    ∙ ap (λ c. (hear_in (n + m) c (low (n + m)) (hears low (n + m))).state) (was_calm low n m b w (λ u a c. q u a (omega arith)))
-    ∙ ap (λ c. (hear_in (n + m) b c (hears low (n + m))).state) (q (n + m) (omega arith) (omega arith))
-    ∙ ap (λ (h : Heard). h.state) (heard_same low (n + m) b (λ v e. let x = k v (sym (ap wake_of before) ∙ e) in omega (arith, x)))
-    ∙ before
+unfolding read_slots running_from standing_from hears StandsIn
+heard_same = by.heard_same standard standard_are
 
 pub calm_to : (low : Line) (n t : ℕ) (b : Bool) → n ≤ t → was_low low n ≡ b → ((u : ℕ) → n ≤ u → u < t → low u ≡ b) → ((w : ℕ) → wake_of (hears low n) ≡ Some w → t ≤ w)
     → (hears low t ≡ hears low n) × (was_low low t ≡ b)
-calm_to low n t b l w q k =
-    let e : n + (t - n) ≡ t = omega arith in (
-      ap (hears low) (sym e) ∙ calm low n (t - n) b w (λ u a c. q u a (omega (arith, c, l))) (λ v f. let x = k v f in omega (arith, x, l)),
-      ap (was_low low) (sym e) ∙ was_calm low n (t - n) b w (λ u a c. q u a (omega (arith, c, l))),
-    )
+unfolding read_slots running_from standing_from hears StandsIn
+calm_to = by.calm_to standard standard_are
 
 -- what a tick leads to on a line that goes on as it was told
 pub follows_so : (h new : Hears) (was is_low : Bool) (t : ℕ) (reported : Told) → reported_so new reported ≡ hear_in t was is_low h
     → (low : Line) (before : ℕ) → h ≡ kept_before low before → was ≡ was_low low before → before ≤ t → ((u : ℕ) → before ≤ u → u < t → low u ≡ was) → low t ≡ is_low
     → ((w : ℕ) → wake_of h ≡ Some w → t ≤ w) → (new ≡ kept_of low t) × (reported ≡ reported_at low t)
-unfolding hears
-follows_so h new was is_low t reported e low before keeps level from quiet edge wake =
-    let is : h ≡ hears low before = keeps ∙ before_heard low before in
-    let c = calm_to low before t was from (sym level) quiet (λ w f. wake w (ap wake_of is ∙ f)) in
-    let heard : hear_in t (was_low low t) (low t) (hears low t) ≡ reported_so new reported =
-    ap (λ b. hear_in t b (low t) (hears low t)) c.1 ∙ ap (λ b. hear_in t was b (hears low t)) edge ∙ ap (hear_in t was is_low) (c.0 ∙ sym is) ∙ sym e in
-    (sym (kept_heard low t ∙ ap (λ (x : Heard). x.state) heard), sym (reported_heard low t ∙ ap (λ (x : Heard). x.reported) heard))
-
--- before it nothing is reported
-reported_calm : (low : Line) (n t : ℕ) (b : Bool) → was_low low n ≡ b → n ≤ t → ((u : ℕ) → n ≤ u → u ≤ t → low u ≡ b) → ((w : ℕ) → wake_of (hears low n) ≡ Some w → t < w) → reported_at low t ≡ Nothing
-reported_calm low n t b w l q k =
-    let c = calm_to low n t b l w (λ u a d. q u a (omega arith)) (λ v e. let x = k v e in omega (arith, x)) in
-    reported_heard low t
-    ∙ ap (λ x. (hear_in t x (low t) (hears low t)).reported) c.1 ∙ ap (λ x. (hear_in t b x (hears low t)).reported) (q t l (omega arith))
-    ∙ ap (λ (x : Heard). x.reported) (heard_same low t b (λ v e. k v (ap wake_of (sym c.0) ∙ e)))
+unfolding read_slots running_from standing_from hears StandsIn
+follows_so = by.follows_so standard standard_are
 
 pub once_so : (h : Hears) (was : Bool) (t : ℕ) (low : Line) (before : ℕ) → h ≡ kept_before low before → was ≡ was_low low before → ((u : ℕ) → before ≤ u → u < t → low u ≡ was)
     → ((w : ℕ) → wake_of h ≡ Some w → t ≤ w) → (u : ℕ) → before ≤ u → u < t → reported_at low u ≡ Nothing
-once_so h was t low before keeps level quiet wake u a b =
-    reported_calm low before u was (sym level) a (λ v c d. quiet v c (omega arith)) (λ w e. let x = wake w (ap wake_of (keeps ∙ before_heard low before) ∙ e) in omega (arith, x))
+unfolding read_slots running_from standing_from hears StandsIn
+once_so = by.once_so standard standard_are
 
 -- who stood on a line stands on it later, where it goes on without an edge up to the wake
 pub stood_calm : (h : Hears) (was : Bool) (low : Line) (before t : ℕ) → h ≡ kept_before low before → was ≡ was_low low before → before ≤ t → ((u : ℕ) → before ≤ u → u < t → low u ≡ was)
     → ((w : ℕ) → wake_of h ≡ Some w → t ≤ w) → (h ≡ kept_before low t) × (was ≡ was_low low t)
-stood_calm h was low before t keeps level from quiet wake =
-    let is : h ≡ hears low before = keeps ∙ before_heard low before in
-    let c = calm_to low before t was from (sym level) quiet (λ w f. wake w (ap wake_of is ∙ f)) in
-    (is ∙ sym c.0 ∙ sym (before_heard low t), sym c.1)
-
--- ---- how many wakes are left
-
-fewer_at : (t : ℕ) (b : Bool) (place : ReceiverState) (begin fall : ℕ) (bits : List Bool) → wake_of (hears_by place begin fall bits) ≡ Some t
-    → wakes_left (hear_at place t false false b (hears_by place begin fall bits)).state.place < wakes_left place
-fewer_at t b Rest begin fall bits e = cc
-fewer_at t b StartLow begin fall bits e =
-    let is : begin + 3901 ≡ t = cc in
-    let x : nat_lt (begin + 3900) t ≡ true = grind (arith, nat_tests) in
-    let y : wakes_left (hear_at StartLow t false false b (hears_by StartLow begin fall bits)).state.place ≡ 0 =
-    ap (λ c. wakes_left (if c then reported_so (starts t false) (Ended BadStart) else reported_so (hears_by StartLow begin fall bits) Nothing).state.place) x in omega (arith, y)
-fewer_at t b StartHigh begin fall bits e =
-    let is : begin + 4701 ≡ t = cc in
-    let x : nat_lt (begin + 4700) t ≡ true = grind (arith, nat_tests) in
-    let y : wakes_left (hear_at StartHigh t false false b (hears_by StartHigh begin fall bits)).state.place ≡ 0 =
-    ap (λ c. wakes_left (if c then reported_so (starts t false) (Ended BadStart) else reported_so (hears_by StartHigh begin fall bits) Nothing).state.place) x in omega (arith, y)
-fewer_at t b Unsampled begin fall bits e =
-    let is : fall + 1050 ≡ t = cc in
-    let x : (t == fall + 1050) ≡ true = grind (arith, nat_tests) in
-    let y : wakes_left (hear_at Unsampled t false false b (hears_by Unsampled begin fall bits)).state.place ≡ wakes_left (sample_as (last_ending bits) (not b) (hears_by Unsampled begin fall bits)).state.place =
-    ap (λ c. wakes_left (if c then sample_as (last_ending bits) (not b) (hears_by Unsampled begin fall bits) else reported_so (hears_by Unsampled begin fall bits) Nothing).state.place) x in
-    let z = by_last (last_ending bits) in omega (arith, y, z)
-  where
-    by_last : (last : Option Ending) → wakes_left (sample_as last (not b) (hears_by Unsampled begin fall bits)).state.place < 2
-    by_last None = omega arith
-    by_last (Some x) = omega arith
-fewer_at t b Sampled begin fall bits e =
-    let is : fall + 2751 ≡ t = cc in
-    let x : nat_lt (fall + 2750) t ≡ true = grind (arith, nat_tests) in
-    let y : wakes_left (hear_at Sampled t false false b (hears_by Sampled begin fall bits)).state.place ≡ 0 =
-    ap (λ c. wakes_left (if c then reported_so (starts t false) (Ended Silent) else reported_so (hears_by Sampled begin fall bits) Nothing).state.place) x in omega (arith, y)
+unfolding read_slots running_from standing_from hears StandsIn
+stood_calm = by.stood_calm standard standard_are
 
 pub fewer_so : (h new : Hears) (was is_low : Bool) (t : ℕ) (reported : Told) → reported_so new reported ≡ hear_in t was is_low h → wake_of h ≡ Some t → is_low ≡ was → wakes_left new.place < wakes_left h.place
-fewer_so h new was is_low t reported e wake level =
-    let made : reported_so new reported ≡ hear_at h.place t false false was h =
-    e ∙ ap (λ c. hear_in t was c h) level
-    ∙ ap (λ c. hear_at h.place t c (not was && was) was h) (no_fall was) ∙ ap (λ c. hear_at h.place t false c was h) (no_rise was) in
-    subst (λ (x : Heard). wakes_left x.state.place < wakes_left h.place) (sym made) (fewer_at t was h.place h.begin h.fall h.bits wake)
-
--- ---- a second tick at one instant
-
--- an ending that a microsecond without an edge reports
-late_at : (n : ℕ) (b now : Bool) (ending : Ending) (place : ReceiverState) (begin fall : ℕ) (bits : List Bool) → (hear_at place n false false b (hears_by place begin fall bits)).reported ≡ Ended ending
-    → (falls rises : Bool) → (hear_at place n false false b (hears_by place begin fall bits)).state ≡ rest
-    × ((hear_at place n falls rises now (hears_by place begin fall bits)).state ≡ starts n falls)
-late_at n b now ending Rest begin fall bits e falls rises = let x : Nothing ≡ Ended ending = e in cc
-late_at n b now ending StartLow begin fall bits e falls rises = by_late (nat_lt (begin + 3900) n) refl e
-  where
-    by_late : (c : Bool) → nat_lt (begin + 3900) n ≡ c → (if c then reported_so (starts n false) (Ended BadStart) else reported_so (hears_by StartLow begin fall bits) Nothing).reported ≡ Ended ending
-        → ((if c then reported_so (starts n false) (Ended BadStart) else reported_so (hears_by StartLow begin fall bits) Nothing).state ≡ rest)
-        × ((if c then reported_so (starts n falls) (Ended BadStart)
-        else if rises then (if nat_lt n (begin + 3500) then reported_so rest (Ended BadStart) else reported_so (hears_by StartHigh begin fall bits) Nothing) else reported_so (hears_by StartLow begin fall bits) Nothing).state ≡ starts n falls)
-    by_late true k f = (refl, refl)
-    by_late false k f = let x : Nothing ≡ Ended ending = f in cc
-late_at n b now ending StartHigh begin fall bits e falls rises = by_late (nat_lt (begin + 4700) n) refl e
-  where
-    by_late : (c : Bool) → nat_lt (begin + 4700) n ≡ c → (if c then reported_so (starts n false) (Ended BadStart) else reported_so (hears_by StartHigh begin fall bits) Nothing).reported ≡ Ended ending
-        → ((if c then reported_so (starts n false) (Ended BadStart) else reported_so (hears_by StartHigh begin fall bits) Nothing).state ≡ rest)
-        × ((if c then reported_so (starts n falls) (Ended BadStart)
-        else if falls then (if nat_lt n (begin + 4300) then reported_so rest (Ended BadStart) else reported_so (hears_by Unsampled begin n bits) Nothing) else reported_so (hears_by StartHigh begin fall bits) Nothing).state ≡ starts n falls)
-    by_late true k f = (refl, refl)
-    by_late false k f = let x : Nothing ≡ Ended ending = f in cc
-late_at n b now ending Unsampled begin fall bits e falls rises = absurd (by_time (n == fall + 1050) e)
-  where
-    by_last : (last : Option Ending) → (sample_as last (not b) (hears_by Unsampled begin fall bits)).reported ≡ Ended ending → ⊥
-    by_last None k = cc
-    by_last (Some x) k = cc
-
-    by_time : (c : Bool) → (if c then sample_as (last_ending bits) (not b) (hears_by Unsampled begin fall bits) else reported_so (hears_by Unsampled begin fall bits) Nothing).reported ≡ Ended ending → ⊥
-    by_time true k = by_last (last_ending bits) k
-    by_time false k = cc
-late_at n b now ending Sampled begin fall bits e falls rises = by_late (nat_lt (fall + 2750) n) refl e
-  where
-    by_late : (c : Bool) → nat_lt (fall + 2750) n ≡ c → (if c then reported_so (starts n false) (Ended Silent) else reported_so (hears_by Sampled begin fall bits) Nothing).reported ≡ Ended ending
-        → ((if c then reported_so (starts n false) (Ended Silent) else reported_so (hears_by Sampled begin fall bits) Nothing).state ≡ rest)
-        × ((if c then reported_so (starts n falls) (Ended Silent)
-        else if falls then (if nat_lt n (fall + 2050) then reported_so rest (Ended Short) else reported_so (hears_by Unsampled begin n bits) Nothing) else reported_so (hears_by Sampled begin fall bits) Nothing).state ≡ starts n falls)
-    by_late true k f = (refl, refl)
-    by_late false k f = let x : Nothing ≡ Ended ending = f in cc
-
-was_alike : (low other : Line) (n : ℕ) → ((u : ℕ) → u < n → other u ≡ low u) → was_low other n ≡ was_low low n
-was_alike low other zero q = let x : nat_lt 0 zero ≡ false = grind (arith, nat_tests) in rw x refl
-was_alike low other (suc n) q = ap (λ b. nat_lt 0 (suc n) && b) (q (suc n - 1) (omega arith))
-
--- what is heard before n goes by the line before n
-hears_alike : (low other : Line) (n : ℕ) → ((u : ℕ) → u < n → other u ≡ low u) → hears other n ≡ hears low n
-unfolding hears
-hears_alike low other zero q = refl
-hears_alike low other (suc n) q =
-    ap (λ c. (hear_in n c (other n) (hears other n)).state) (was_alike low other n (λ u l. q u (omega arith)))
-    ∙ ap (λ c. (hear_in n (was_low low n) c (hears other n)).state) (q n (omega arith))
-    ∙ ap (λ h. (hear_in n (was_low low n) (low n) h).state) (hears_alike low other n (λ u l. q u (omega arith)))
+unfolding read_slots running_from standing_from hears StandsIn
+fewer_so = by.fewer_so standard standard_are
 
 pub again_so : (h new : Hears) (was is_low : Bool) (t : ℕ) (reported : Told) → reported_so new reported ≡ hear_in t was is_low h
     → (low other : Line) (ending : Ending) → h ≡ kept_of low t → was ≡ low t → low t ≡ was_low low t → reported_at low t ≡ Ended ending
     → ((u : ℕ) → u < t → other u ≡ low u) → other t ≡ is_low → (new ≡ kept_of other t) × (reported ≡ Nothing)
-unfolding hears
-again_so h new was is_low t reported e low other ending keeps level same ended alike edge =
-    (ap (λ (x : Heard). x.state) made ∙ sym there, ap (λ (x : Heard). x.reported) made)
-  where
-    g : Hears
-    g = hears low t
+unfolding read_slots running_from standing_from hears StandsIn
+again_so = by.again_so standard standard_are
 
-    b : Bool
-    b = was_low low t
-
-    plain : hear_in t (was_low low t) (low t) (hears low t) ≡ hear_at (hears low t).place t false false (was_low low t) (hears low t)
-    plain = ap (λ c. hear_in t (was_low low t) c (hears low t)) same
-        ∙ ap (λ c. hear_at (hears low t).place t c (not (was_low low t) && was_low low t) (was_low low t) (hears low t)) (no_fall (was_low low t))
-        ∙ ap (λ c. hear_at (hears low t).place t false c (was_low low t) (hears low t)) (no_rise (was_low low t))
-
-    late : ((hear_at (hears low t).place t false false (was_low low t) (hears low t)).state ≡ rest)
-        × ((hear_at (hears low t).place t (is_low && not (was_low low t)) (not is_low && was_low low t) is_low (hears low t)).state ≡ starts t (is_low && not (was_low low t)))
-    late = late_at t (was_low low t) is_low ending (hears low t).place (hears low t).begin (hears low t).fall (hears low t).bits
-        (ap (λ (x : Heard). x.reported) (sym plain) ∙ sym (reported_heard low t) ∙ ended) (is_low && not (was_low low t)) (not is_low && was_low low t)
-
-    resting : h ≡ rest
-    resting = keeps ∙ kept_heard low t ∙ ap (λ (x : Heard). x.state) plain ∙ late.0
-
-    made : reported_so new reported ≡ reported_so (starts t (is_low && not (was_low low t))) Nothing
-    made = e ∙ ap (hear_in t was is_low) resting ∙ ap (λ c. reported_so (starts t (is_low && not c)) Nothing) (level ∙ same)
-
-    there : kept_of other t ≡ starts t (is_low && not (was_low low t))
-    there = kept_heard other t
-        ∙ ap (λ c. (hear_in t c (other t) (hears other t)).state) (was_alike low other t alike)
-        ∙ ap (λ c. (hear_in t (was_low low t) c (hears other t)).state) edge
-        ∙ ap (λ k. (hear_in t (was_low low t) is_low k).state) (hears_alike low other t alike)
-        ∙ late.1
-
--- ---- the wake
-
-reported_quiet : (low : Line) (n t : ℕ) (b : Bool) → was_low low n ≡ b → n ≤ t → ((u : ℕ) → n ≤ u → low u ≡ b) → ((w : ℕ) → wake_of (hears low n) ≡ Some w → t ≤ w)
-    → reported_at low t ≡ (hear_at (hears low n).place t false false b (hears low n)).reported
-reported_quiet low n t b w l q k =
-    let c = calm_to low n t b l w (λ u a d. q u a) k in
-    reported_heard low t
-    ∙ ap (λ x. (hear_in t x (low t) (hears low t)).reported) c.1 ∙ ap (λ x. (hear_in t b x (hears low t)).reported) (q t l) ∙ ap (λ h. (hear_in t b b h).reported) c.0
-    ∙ ap (λ x. (hear_at (hears low n).place t x (not b && b) b (hears low n)).reported) (no_fall b)
-    ∙ ap (λ x. (hear_at (hears low n).place t false x b (hears low n)).reported) (no_rise b)
-
-reported_before : (low : Line) (n t : ℕ) (b : Bool) → was_low low n ≡ b → n ≤ t → ((u : ℕ) → n ≤ u → low u ≡ b) → ((w : ℕ) → wake_of (hears low n) ≡ Some w → t < w) → reported_at low t ≡ Nothing
-reported_before low n t b w l q k =
-    let c = calm_to low n t b l w (λ u a d. q u a) (λ v e. let x = k v e in omega (arith, x)) in
-    reported_heard low t
-    ∙ ap (λ x. (hear_in t x (low t) (hears low t)).reported) c.1 ∙ ap (λ x. (hear_in t b x (hears low t)).reported) (q t l)
-    ∙ ap (λ (x : Heard). x.reported) (heard_same low t b (λ v e. k v (ap wake_of (sym c.0) ∙ e)))
-
--- the wake reports something, and is not past
-pub record WakesNow (n : ℕ) (b : Bool) (place : ReceiverState) (begin fall : ℕ) (bits : List Bool) (w : ℕ) : Type 0 where
-  pub from : n ≤ w
-  pub reports : (hear_at place w false false b (hears_by place begin fall bits)).reported ≢ Nothing
+abbrev pub WakesNow : ℕ → Bool → ReceiverState → ℕ → ℕ → List Bool → ℕ → Type 0
+WakesNow = by.WakesNow standard standard_are
 
 pub wakes_now : (low : Line) (n : ℕ) (b : Bool) (place : ReceiverState) (begin fall : ℕ) (bits : List Bool) → StandsIn low n place begin fall bits → (w : ℕ) → wake_of (hears_by place begin fall bits) ≡ Some w → WakesNow n b place begin fall bits w
-unfolding StandsIn
-wakes_now low n b Rest begin fall bits s w e = cc
-wakes_now low n b StartLow begin fall bits s w e =
-    let is : begin + 3901 ≡ w = cc in
-    record {
-      from = omega (arith, s.early, is);
-      reports = λ k. let x : nat_lt (begin + 3900) w ≡ true = grind (arith, nat_tests) in
-          let y : Ended BadStart ≡ Nothing = sym (ap (λ c. (if c then reported_so (starts w false) (Ended BadStart) else reported_so (hears_by StartLow begin fall bits) Nothing).reported) x) ∙ k in cc;
-    }
-wakes_now low n b StartHigh begin fall bits s w e =
-    let is : begin + 4701 ≡ w = cc in
-    record {
-      from = omega (arith, s.early, is);
-      reports = λ k. let x : nat_lt (begin + 4700) w ≡ true = grind (arith, nat_tests) in
-          let y : Ended BadStart ≡ Nothing = sym (ap (λ c. (if c then reported_so (starts w false) (Ended BadStart) else reported_so (hears_by StartHigh begin fall bits) Nothing).reported) x) ∙ k in cc;
-    }
-wakes_now low n b Unsampled begin fall bits s w e =
-    let is : fall + 1050 ≡ w = cc in
-    record {
-      from = omega (arith, s.early, is);
-      reports = λ k. let x : (w == fall + 1050) ≡ true = grind (arith, nat_tests) in
-          by_last (last_ending bits) (sym (ap (λ c. (if c then sample_as (last_ending bits) (not b) (hears_by Unsampled begin fall bits) else reported_so (hears_by Unsampled begin fall bits) Nothing).reported) x) ∙ k);
-    }
-  where
-    by_last : (last : Option Ending) → (sample_as last (not b) (hears_by Unsampled begin fall bits)).reported ≡ Nothing → ⊥
-    by_last None k = cc
-    by_last (Some x) k = cc
-wakes_now low n b Sampled begin fall bits s w e =
-    let is : fall + 2751 ≡ w = cc in
-    record {
-      from = omega (arith, s.early, is);
-      reports = λ k. let x : nat_lt (fall + 2750) w ≡ true = grind (arith, nat_tests) in
-          let y : Ended Silent ≡ Nothing = sym (ap (λ c. (if c then reported_so (starts w false) (Ended Silent) else reported_so (hears_by Sampled begin fall bits) Nothing).reported) x) ∙ k in cc;
-    }
+unfolding read_slots running_from standing_from hears StandsIn
+wakes_now = by.wakes_now standard standard_are
 
 -- a wake is not past
 pub wake_late : (h : Hears) (low : Line) (n w : ℕ) → h ≡ kept_before low n → wake_of h ≡ Some w → n ≤ w
-wake_late h low n w keeps e =
-    (wakes_now low n false (hears low n).place (hears low n).begin (hears low n).fall (hears low n).bits (stands_at low n) w (ap wake_of (sym (keeps ∙ before_heard low n)) ∙ e)).from
+unfolding read_slots running_from standing_from hears StandsIn
+wake_late = by.wake_late standard standard_are
 
 pub wakes_so : (h : Hears) (was : Bool) (low : Line) (t : ℕ) → h ≡ kept_before low t → was ≡ was_low low t → ((u : ℕ) → t ≤ u → low u ≡ was) → IsNextReported low t (wake_of h)
-wakes_so h was low t keeps level quiet = by_wake (wake_of h) refl
-  where
-    is : h ≡ hears low t
-    is = keeps ∙ before_heard low t
-
-    by_wake : (o : Option ℕ) → wake_of h ≡ o → IsNextReported low t o
-    by_wake None e = λ u l. reported_before low t u was (sym level) l quiet (λ w k. let x : None ≡ Some w = sym e ∙ ap wake_of is ∙ k in cc)
-    by_wake (Some w) e =
-        let s = wakes_now low t was (hears low t).place (hears low t).begin (hears low t).fall (hears low t).bits (stands_at low t) w (ap wake_of (sym is) ∙ e) in
-        let only : (v : ℕ) → wake_of (hears low t) ≡ Some v → w ≡ v = λ v k. let x : Some w ≡ Some v = sym e ∙ ap wake_of is ∙ k in cc in (
-          s.from,
-          λ k. s.reports (sym (reported_quiet low t w was (sym level) s.from quiet (λ v f. let x = only v f in omega (arith, x))) ∙ k),
-          λ u a b. reported_before low t u was (sym level) a quiet (λ v f. let x = only v f in omega (arith, x, b)),
-        )
-
--- ---- the line that is never low
-
-hears_empty : (n : ℕ) → hears (λ u. false) n ≡ rest
-unfolding hears
-hears_empty zero = refl
-hears_empty (suc n) = ap (λ h. (hear_in n (was_low (λ u. false) n) false h).state) (hears_empty n)
+unfolding read_slots running_from standing_from hears StandsIn
+wakes_so = by.wakes_so standard standard_are
 
 pub empty_kept : (t : ℕ) → rest ≡ kept_of (λ u. false) t
-empty_kept t = sym (kept_heard (λ u. false) t ∙ hears_empty (suc t))
-
--- ---- where a receiver stands
+unfolding read_slots running_from standing_from hears StandsIn
+empty_kept = by.empty_kept standard standard_are
 
 pub stands_so : (h : Hears) (is_low : Bool) (shown : Standing) → shown ≡ standing_by h is_low → (low : Line) (t : ℕ) → h ≡ kept_of low t → is_low ≡ low t → shown ≡ standing_of low t
-stands_so h is_low shown e low t keeps level =
-    e ∙ ap (λ k. standing_by k is_low) keeps ∙ ap (standing_by (kept_of low t)) level ∙ standings_are_kept low t
+unfolding read_slots running_from standing_from hears StandsIn
+stands_so = by.stands_so standard standard_are

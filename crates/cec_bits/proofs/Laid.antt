@@ -6,7 +6,7 @@ use Rattle.cec_wave.specs.Line.{line_of, covers}
 use Rattle.cec_wave.specs.Sender.{slot_stretches, sender_stretches}
 use Rattle.cec_frame.specs.Bits.{block_bits, frame_bits}
 use Rattle.cec_bits.specs.Sends.{low_of}
-use Rattle.cec_bits.specs.Sending.{IsNextChange}
+use Rattle.cec_bits.specs.Sending.{IsNextChange, Lasts}
 
 -- ---- in the slots
 
@@ -197,6 +197,14 @@ change_last_high pull last t o l h k c = λ u g.
       | inl lt ↦ beyond pull last u lt ∙ sym (within pull last t l ∙ h)
       | inr ge ↦ within pull last u ge ∙ calm_to_last pull last t o k c u g ge ∙ sym (within pull last t l)
     ]
+
+-- ---- how long a pull lasts
+
+pub lasts_until : (pull : ℕ → Bool) (t change : ℕ) → IsNextChange pull t (Some change) → Lasts pull t change
+lasts_until pull t change c = c.2
+
+pub lasts_on : (pull : ℕ → Bool) (t until : ℕ) → IsNextChange pull t None → Lasts pull t until
+lasts_on pull t until c u g h = c u g
 
 -- ---- a frame has slots
 

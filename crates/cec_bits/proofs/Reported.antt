@@ -135,7 +135,7 @@ all_bits low e t l = by_start (start_of low e) l
 past_from : (low : Line) (t : ℕ) (keep : Listed → Bool) (n from : ℕ) (es : List ℕ) (to : ℕ) (xs : List Listed) → ((e : ℕ) → (reading_of low e).at ≤ t → keep (reading_from low t e) ≡ true)
     → t + 1 ≤ n + from → ArePast low (t + 1) from es to → ((m : ℕ) → t + 1 ≤ m + to → filter keep (readings_from low t m to) ≡ xs)
     → filter keep (readings_from low t n from) ≡ map (reading_from low t) es ++ xs
-unfolding readings_from
+unfolding readings_from read_slots
 past_from low t keep n from [] to xs k l h rest = subst (λ f. filter keep (readings_from low t n f) ≡ xs) h (rest n (omega (arith, l, h)))
 past_from low t keep zero from (e ∷ es) to xs k l h rest = absurd (omega (arith, h.0.after, h.1, l))
 past_from low t keep (suc n) from (e ∷ es) to xs k l h rest =
@@ -191,6 +191,7 @@ all_past low t es to xs over h =
 
 -- what was reported of them stays
 same_past : (low : Line) (t from : ℕ) (es : List ℕ) (to : ℕ) → ArePast low (t + 1) from es to → map (reading_from low (t + 1)) es ≡ map (reading_from low t) es
+unfolding read_slots
 same_past low t from [] to h = refl
 same_past low t from (e ∷ es) to h =
     ap (λ (x : Listed). x ∷ map (reading_from low (t + 1)) es) (same_reported low t (t + 1) e (omega arith) (omega (arith, h.2)))
@@ -225,6 +226,7 @@ begun_in low n Unsampled begin fall bits s e = s.slot.begun
 begun_in low n Sampled begin fall bits s e = s.slot.begun
 
 runs : (low : Line) (n : ℕ) (place : ReceiverState) (begin fall : ℕ) (bits : List Bool) → StandsIn low n place begin fall bits → runs_in place begin ≡ Some begin → Runs low n begin bits
+unfolding read_slots
 runs low n place begin fall bits s e =
     let k = running_knows low n place begin fall bits begin s e in
     let over : nat_lt (reading_of low begin).at n ≡ false = k.over_is in
@@ -296,6 +298,7 @@ rest_next low t begin fall bits s =
 
 -- where one runs that goes on
 going_next : (low : Line) (t begin : ℕ) (bits : List Bool) → Runs low (t + 1) begin bits → t + 1 < (reading_of low begin).at → ended_by low (t + 1) ≡ ended_by low t
+unfolding read_slots
 going_next low t begin bits r late =
     ended_past low (t + 1) r.begun.past r.begun.from (past_later low (t + 1) 0 r.begun.past r.begun.from r.begun.over)
     (λ e f l. subst (λ x. t + 1 < (reading_of low x).at) (one_fall low r.begun.from begin e r.begun.first f) late)
@@ -317,6 +320,7 @@ ending_next low t begin bits all r at is =
 -- by what was reported
 reported_next : (low : Line) (t begin : ℕ) (bits : List Bool) (reported : Told) → Runs low (t + 1) begin bits → reported ≡ reported_in low (t + 1) (Some begin) → KnowsEnd low (t + 1) begin bits reported
     → ended_by low (t + 1) ≡ ended_by low t ++ option_to_list (ended_of reported (t + 1) (Some (ends_with begin (t + 1) Open bits)))
+unfolding read_slots
 reported_next low t begin bits reported r is knows = by_time ((reading_of low begin).at == t + 1) refl (sample_in (t + 1) 1 (known_at (t + 1 + 1) (reading_of low begin)).slots) reported is knows
   where
     none : (x : Told) → ended_of x (t + 1) (Some (ends_with begin (t + 1) Open bits)) ≡ None → (reading_of low begin).at ≢ t + 1
@@ -362,6 +366,7 @@ place_next low t Sampled begin fall bits reported s e k = reported_next low t be
 
 reported_now : (low : Line) (t : ℕ) → ended_by low (t + 1) ≡ ended_by low t
     ++ option_to_list (ended_of (hear_in (t + 1) (was_low low (t + 1)) (low (t + 1)) (hears low (suc t))).reported (t + 1) (running_by (hears low (suc t)) (t + 1)))
+unfolding read_slots
 reported_now low t =
     let s = step low (t + 1) (hears low (suc t)).place (hears low (suc t)).begin (hears low (suc t)).fall (hears low (suc t)).bits (heard_now low t) in
     place_next low t (hears low (suc t)).place (hears low (suc t)).begin (hears low (suc t)).fall (hears low (suc t)).bits

@@ -17,7 +17,7 @@ use Rattle.cec_bits.specs.declared.receiver.Told.{Told}
 use Rattle.cec_bits.specs.declared.receiver.Told.TheVariants.{Nothing, Bit, Last, Ended}
 use Rattle.cec_bits.specs.declared.sender.SenderState.{SenderState}
 use Rattle.cec_bits.specs.declared.sender.SenderState.TheVariants.{Sending, Out, Stopped}
-use Rattle.cec_bits.specs.Reading.{Known, known_at, reading_of, last_ending}
+use Rattle.cec_bits.specs.Reading.{Known, known_at, read_slots, reading_of, last_ending}
 use Rattle.cec_bits.specs.Hears.{Hears, Heard, reported_so, rest, starts, sample_as, hear_at, hear_in, hears}
 use Rattle.cec_bits.specs.Kept.{running_of, reported_at}
 use Rattle.cec_bits.specs.Sends.{sent_in, takes_all, is_out_there, after_reported}
@@ -179,13 +179,13 @@ out_last bits sent v h =
 
 -- ---- what a microsecond leads to, while the reading runs
 
-abbrev GoesBy : ℕ → List Bool → Hears → Told → Type 0
+abbrev pub GoesBy : ℕ → List Bool → Hears → Told → Type 0
 GoesBy begin bits h Nothing = (runs_in h.place h.begin ≡ Some begin) × (h.bits ≡ bits)
 GoesBy begin bits h (Bit slot value) = (runs_in h.place h.begin ≡ Some begin) × (h.bits ≡ bits ++ value ∷ []) × (slot ≡ length bits + 1)
 GoesBy begin bits h (Last value ending) = Unit {0}
 GoesBy begin bits h (Ended ending) = Unit {0}
 
-goes_by : (n : ℕ) (place : ReceiverState) (begin fall : ℕ) (bits : List Bool) (falls rises is_low : Bool) (b : ℕ) → runs_in place begin ≡ Some b
+pub goes_by : (n : ℕ) (place : ReceiverState) (begin fall : ℕ) (bits : List Bool) (falls rises is_low : Bool) (b : ℕ) → runs_in place begin ≡ Some b
     → GoesBy begin bits (hear_at place n falls rises is_low (record { place = place; begin = begin; fall = fall; bits = bits })).state (hear_at place n falls rises is_low (record { place = place; begin = begin; fall = fall; bits = bits })).reported
 goes_by n Rest begin fall bits falls rises is_low b e = cc
 goes_by n StartLow begin fall bits falls rises is_low b e = by_tests (nat_lt (begin + 3900) n) rises (nat_lt n (begin + 3500))
@@ -239,6 +239,7 @@ goes_by n Sampled begin fall bits falls rises is_low b e = by_tests (nat_lt (fal
 -- ---- the state, by what is known
 
 state_known : (low : Line) (n begin : ℕ) (bits : List Bool) (whole over : Bool) (sent : List Bool) → Knows low n begin bits whole over → state_before low begin sent n ≡ state_by (out_by bits whole sent) over
+unfolding read_slots
 state_known low n begin bits whole over sent k =
     ap (λ (bs : List Bool). state_by (out_by bs (is_whole (known_at n (reading_of low begin)).ended) sent) (nat_lt (reading_of low begin).at n)) k.bits_are
     ∙ ap (λ w. state_by (out_by bits w sent) (nat_lt (reading_of low begin).at n)) k.whole_is
@@ -313,6 +314,7 @@ knows_of low n h b bs s r q =
 report_at : (low : Line) (n : ℕ) (place : ReceiverState) (begin fall : ℕ) (bits : List Bool) (b : ℕ) (sent : List Bool) → StandsIn low n place begin fall bits → 1 ≤ n → runs_in place begin ≡ Some b
     → (o : Heard) → hear_in n (was_low low n) (low n) (record { place = place; begin = begin; fall = fall; bits = bits }) ≡ o
     → state_before low b sent (n + 1) ≡ after_reported sent (state_before low b sent n) o.reported
+unfolding StandsIn
 report_at low n place begin fall bits b sent s l e o is =
     let same : begin ≡ b = begin_is place begin b e in
     let t = step low n place begin fall bits s in

@@ -6,7 +6,8 @@ use Rattle.cec_bits.specs.declared.receiver.Told.{Told}
 use Rattle.cec_bits.specs.declared.receiver.Told.TheVariants.{Nothing, Ended}
 use Rattle.cec_bits.specs.declared.receiver.Receiver.{Receiver}
 use Rattle.cec_bits.specs.Hears.{heard_by, wake_of, wakes_left}
-use Rattle.cec_bits.specs.Kept.{kept_of, kept_before, reported_at}
+use Rattle.cec_bits.specs.Kept.{kept_of, kept_before, reported_at, reported_with_at}
+use Rattle.cec_bits.specs.declared.times.Windows.{Windows}
 use Rattle.cec_bits.specs.Phase.{Standing, standing_of}
 use Rattle.cec_bits.specs.Phase as phase
 use Rattle.cec_bits.specs.declared.receiver.Standing as code
@@ -53,6 +54,10 @@ WakesFewer old t new = wake_of (heard_by old) ≡ Some t → old.is_low ≡ old.
 abbrev pub IsNextReported : Line → ℕ → Option ℕ → Type 0
 IsNextReported low t None = (u : ℕ) → t ≤ u → reported_at low u ≡ Nothing
 IsNextReported low t (Some w) = (t ≤ w) × (reported_at low w ≢ Nothing) × ((u : ℕ) → t ≤ u → u < w → reported_at low u ≡ Nothing)
+
+abbrev pub IsNextReportedBy : Windows → Line → ℕ → Option ℕ → Type 0
+IsNextReportedBy w low t None = (u : ℕ) → t ≤ u → reported_with_at w low u ≡ Nothing
+IsNextReportedBy w low t (Some wake) = (t ≤ wake) × (reported_with_at w low wake ≢ Nothing) × ((u : ℕ) → t ≤ u → u < wake → reported_with_at w low u ≡ Nothing)
 
 -- It wakes at that instant of each line that it stood on before t and that has no edge from then on.
 abbrev pub WakesSo : Receiver → Option ℕ → Type 0

@@ -10,6 +10,8 @@ use Rattle.cec_bits.specs.declared.receiver.Told.{Told}
 use Rattle.cec_bits.specs.declared.receiver.Told.TheVariants.{Nothing, Bit, Last, Ended}
 use Rattle.cec_bits.specs.declared.receiver.Receiver.{Receiver}
 use Rattle.cec_bits.specs.Reading.{last_ending}
+use Rattle.cec_bits.specs.declared.times.Windows.{Windows}
+use Rattle.cec_bits.specs.Windows.{standard, sample_at}
 
 -- what is kept: where the reading that runs has come, its fall, the fall of its slot, and the bits sampled so far
 pub record Hears : Type 0 where
@@ -37,21 +39,21 @@ pub record Heard : Type 0 where
 abbrev pub reported_so : Hears → Told → Heard
 reported_so h reported = record { state = h; reported = reported }
 
--- the start bit: its rise is due 3,500 to 3,900 after its fall (CEC 5.2.1; window own)
-abbrev pub hear_start_low : ℕ → Bool → Bool → Hears → Heard
-hear_start_low t falls rises h =
-    if nat_lt (h.begin + 3900) t then reported_so (starts t falls) (Ended BadStart)
-    else if rises then (if nat_lt t (h.begin + 3500) then reported_so rest (Ended BadStart) else reported_so (record h { place = StartHigh }) Nothing)
+-- the start bit: its rise is due in its window after the fall (CEC 5.2.1; window own)
+abbrev pub hear_start_low_by : Windows → ℕ → Bool → Bool → Hears → Heard
+hear_start_low_by w t falls rises h =
+    if nat_lt (h.begin + w.start_low.most) t then reported_so (starts t falls) (Ended BadStart)
+    else if rises then (if nat_lt t (h.begin + w.start_low.least) then reported_so rest (Ended BadStart) else reported_so (record h { place = StartHigh }) Nothing)
     else reported_so h Nothing
 
--- the first slot's fall is due 4,300 to 4,700 after the start bit's (CEC 5.2.1; window own)
-abbrev pub hear_start_high : ℕ → Bool → Hears → Heard
-hear_start_high t falls h =
-    if nat_lt (h.begin + 4700) t then reported_so (starts t falls) (Ended BadStart)
-    else if falls then (if nat_lt t (h.begin + 4300) then reported_so rest (Ended BadStart) else reported_so (record h { place = Unsampled; fall = t }) Nothing)
+-- the first slot's fall is due in its window after the start bit's (CEC 5.2.1; window own)
+abbrev pub hear_start_high_by : Windows → ℕ → Bool → Hears → Heard
+hear_start_high_by w t falls h =
+    if nat_lt (h.begin + w.start_total.most) t then reported_so (starts t falls) (Ended BadStart)
+    else if falls then (if nat_lt t (h.begin + w.start_total.least) then reported_so rest (Ended BadStart) else reported_so (record h { place = Unsampled; fall = t }) Nothing)
     else reported_so h Nothing
 
--- the bit is sampled 1,050 after the slot's fall; in a last slot that ends the reading
+-- the bit is sampled so long after the slot's fall; in a last slot that ends the reading
 abbrev pub sample_as : Option Ending → Bool → Hears → Heard
 sample_as None value h = reported_so (record h { place = Sampled; bits = h.bits ++ value ∷ [] }) (Bit (length h.bits + 1) value)
 sample_as (Some ending) value h = reported_so rest (Last value ending)
@@ -60,42 +62,42 @@ sample_as (Some ending) value h = reported_so rest (Last value ending)
 abbrev pub hear_unsampled : ℕ → Bool → Bool → Hears → Heard
 hear_unsampled t falls is_low h =
     if falls then reported_so rest (Ended Short)
-    else if t == h.fall + 1050 then sample_as (last_ending h.bits) (not is_low) h
+    else if t == h.fall + sample_at then sample_as (last_ending h.bits) (not is_low) h
     else reported_so h Nothing
 
--- the next slot's fall is due 2,050 to 2,750 after this one's
-abbrev pub hear_sampled : ℕ → Bool → Hears → Heard
-hear_sampled t falls h =
-    if nat_lt (h.fall + 2750) t then reported_so (starts t falls) (Ended Silent)
-    else if falls then (if nat_lt t (h.fall + 2050) then reported_so rest (Ended Short) else reported_so (record h { place = Unsampled; fall = t }) Nothing)
+-- the next slot's fall is due in its window after this one's
+abbrev pub hear_sampled_by : Windows → ℕ → Bool → Hears → Heard
+hear_sampled_by w t falls h =
+    if nat_lt (h.fall + w.bit_total.most) t then reported_so (starts t falls) (Ended Silent)
+    else if falls then (if nat_lt t (h.fall + w.bit_total.least) then reported_so rest (Ended Short) else reported_so (record h { place = Unsampled; fall = t }) Nothing)
     else reported_so h Nothing
 
-abbrev pub hear_at : ReceiverState → ℕ → Bool → Bool → Bool → Hears → Heard
-hear_at Rest t falls rises is_low h = reported_so (starts t falls) Nothing
-hear_at StartLow t falls rises is_low h = hear_start_low t falls rises h
-hear_at StartHigh t falls rises is_low h = hear_start_high t falls h
-hear_at Unsampled t falls rises is_low h = hear_unsampled t falls is_low h
-hear_at Sampled t falls rises is_low h = hear_sampled t falls h
+abbrev pub hear_at_by : Windows → ReceiverState → ℕ → Bool → Bool → Bool → Hears → Heard
+hear_at_by w Rest t falls rises is_low h = reported_so (starts t falls) Nothing
+hear_at_by w StartLow t falls rises is_low h = hear_start_low_by w t falls rises h
+hear_at_by w StartHigh t falls rises is_low h = hear_start_high_by w t falls h
+hear_at_by w Unsampled t falls rises is_low h = hear_unsampled t falls is_low h
+hear_at_by w Sampled t falls rises is_low h = hear_sampled_by w t falls h
 
 -- with microsecond t, in which the line is low or not, and was low or not just before
-abbrev pub hear_in : ℕ → Bool → Bool → Hears → Heard
-hear_in t was is_low h = hear_at h.place t (is_low && not was) (not is_low && was) is_low h
+abbrev pub hear_in_by : Windows → ℕ → Bool → Bool → Hears → Heard
+hear_in_by w t was is_low h = hear_at_by w h.place t (is_low && not was) (not is_low && was) is_low h
 
 -- of a line, in its first so many microseconds
-unfoldable pub hears : Line → ℕ → Hears
-hears low zero = rest
-hears low (suc n) = (hear_in n (was_low low n) (low n) (hears low n)).state
+unfoldable pub hears_with : Windows → Line → ℕ → Hears
+hears_with w low zero = rest
+hears_with w low (suc n) = (hear_in_by w n (was_low low n) (low n) (hears_with w low n)).state
 
 -- the next instant that adds something, where no edge comes first
-abbrev pub wake_of : Hears → Option ℕ
-wake_of h = wake_at h.place h.begin h.fall
+abbrev pub wake_of_by : Windows → Hears → Option ℕ
+wake_of_by w h = wake_at h.place h.begin h.fall
   where
     wake_at : ReceiverState → ℕ → ℕ → Option ℕ
     wake_at Rest begin fall = None
-    wake_at StartLow begin fall = Some (begin + 3901)
-    wake_at StartHigh begin fall = Some (begin + 4701)
-    wake_at Unsampled begin fall = Some (fall + 1050)
-    wake_at Sampled begin fall = Some (fall + 2751)
+    wake_at StartLow begin fall = Some (begin + (w.start_low.most + 1))
+    wake_at StartHigh begin fall = Some (begin + (w.start_total.most + 1))
+    wake_at Unsampled begin fall = Some (fall + sample_at)
+    wake_at Sampled begin fall = Some (fall + (w.bit_total.most + 1))
 
 -- how many wakes there can be before the next edge
 abbrev pub wakes_left : ReceiverState → ℕ
@@ -104,3 +106,27 @@ wakes_left StartLow = 1
 wakes_left StartHigh = 1
 wakes_left Unsampled = 2
 wakes_left Sampled = 1
+
+-- ---- the same by the standard's windows
+
+abbrev pub hear_start_low : ℕ → Bool → Bool → Hears → Heard
+hear_start_low = hear_start_low_by standard
+
+abbrev pub hear_start_high : ℕ → Bool → Hears → Heard
+hear_start_high = hear_start_high_by standard
+
+abbrev pub hear_sampled : ℕ → Bool → Hears → Heard
+hear_sampled = hear_sampled_by standard
+
+abbrev pub hear_at : ReceiverState → ℕ → Bool → Bool → Bool → Hears → Heard
+hear_at = hear_at_by standard
+
+abbrev pub hear_in : ℕ → Bool → Bool → Hears → Heard
+hear_in = hear_in_by standard
+
+unfoldable pub hears : Line → ℕ → Hears
+unfolding hears_with
+hears low n = hears_with standard low n
+
+abbrev pub wake_of : Hears → Option ℕ
+wake_of = wake_of_by standard

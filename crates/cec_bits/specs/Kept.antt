@@ -7,24 +7,26 @@ use Rattle.cec_bits.specs.declared.receiver.ReceiverState.{ReceiverState}
 use Rattle.cec_bits.specs.declared.receiver.ReceiverState.TheVariants.{Rest, StartLow, StartHigh, Unsampled, Sampled}
 use Rattle.cec_bits.specs.declared.receiver.Told.{Told}
 use Rattle.cec_bits.specs.declared.receiver.Told.TheVariants.{Nothing, Bit, Last, Ended}
-use Rattle.cec_bits.specs.Reading.{first_in, Slot, known_at, reading_of}
-use Rattle.cec_bits.specs.Phase.{Standing, at_rest, standing_of}
+use Rattle.cec_bits.specs.Reading.{first_in, Slot, known_at, read_slots, reading_by, reading_of}
+use Rattle.cec_bits.specs.declared.times.Windows.{Windows}
+use Rattle.cec_bits.specs.Windows.{standard, sample_at}
+use Rattle.cec_bits.specs.Phase.{Standing, at_rest, standing_with, standing_of}
 use Rattle.cec_bits.specs.Phase as phase
 use Rattle.cec_bits.specs.Hears.{Hears, rest}
 
 -- ---- the reading that runs at t: it has begun, and has not ended by t
 
-abbrev pub runs_on : Line → ℕ → Option ℕ → (ℕ → Option ℕ) → Option ℕ
-runs_on low t None later = None
-runs_on low t (Some e) later = if nat_lt t (reading_of low e).at then Some e else later ((reading_of low e).until + 1)
+abbrev pub runs_on_by : Windows → Line → ℕ → Option ℕ → (ℕ → Option ℕ) → Option ℕ
+runs_on_by w low t None later = None
+runs_on_by w low t (Some e) later = if nat_lt t (reading_by w low e).at then Some e else later ((reading_by w low e).until + 1)
 
 -- its fall, where readings begin at `from` or later, over at most `readings` of them
-unfoldable pub running_from : Line → ℕ → ℕ → ℕ → Option ℕ
-running_from low t zero from = None
-running_from low t (suc readings) from = runs_on low t (first_in (is_fall low) from (t + 1 - from)) (running_from low t readings)
+unfoldable pub running_from_by : Windows → Line → ℕ → ℕ → ℕ → Option ℕ
+running_from_by w low t zero from = None
+running_from_by w low t (suc readings) from = runs_on_by w low t (first_in (is_fall low) from (t + 1 - from)) (running_from_by w low t readings)
 
-abbrev pub running_of : Line → ℕ → Option ℕ
-running_of low t = running_from low t (t + 1) 0
+abbrev pub running_by : Windows → Line → ℕ → Option ℕ
+running_by w low t = running_from_by w low t (t + 1) 0
 
 -- ---- what is kept by the end of microsecond t
 
@@ -43,17 +45,17 @@ kept_in low t e (s ∷ ss) = record {
   bits = filter_map (λ x. x.bit) (s ∷ ss);
 }
 
-abbrev pub kept_by : Line → ℕ → Option ℕ → Hears
-kept_by low t None = rest
-kept_by low t (Some e) = kept_in low t e (known_at (t + 1) (reading_of low e)).slots
+abbrev pub kept_since : Windows → Line → ℕ → Option ℕ → Hears
+kept_since w low t None = rest
+kept_since w low t (Some e) = kept_in low t e (known_at (t + 1) (reading_by w low e)).slots
 
-abbrev pub kept_of : Line → ℕ → Hears
-kept_of low t = kept_by low t (running_of low t)
+abbrev pub kept_with : Windows → Line → ℕ → Hears
+kept_with w low t = kept_since w low t (running_by w low t)
 
 -- before a microsecond: by the end of the one before
-abbrev pub kept_before : Line → ℕ → Hears
-kept_before low zero = rest
-kept_before low (suc t) = kept_of low t
+abbrev pub kept_with_before : Windows → Line → ℕ → Hears
+kept_with_before w low zero = rest
+kept_with_before w low (suc t) = kept_with w low t
 
 -- where one who keeps this stands
 abbrev pub standing_by : Hears → Bool → Standing
@@ -67,8 +69,8 @@ standing_by h is_low = stands h.place
     stands Sampled = phase.InSlot (length h.bits) h.bits
 
 -- That is the standing of the line's readings.
-abbrev pub StandingsAreKept : Type 0
-StandingsAreKept = (low : ℕ → Bool) (t : ℕ) → standing_by (kept_of low t) (low t) ≡ standing_of low t
+abbrev pub StandingsAreKeptBy : Windows → Type 0
+StandingsAreKeptBy w = (low : ℕ → Bool) (t : ℕ) → standing_by (kept_with w low t) (low t) ≡ standing_with w low t
 
 -- ---- what instant t adds to the reading that ran before it: a sample, an ending, or both
 
@@ -83,7 +85,7 @@ sample_of n (Some value) = Some (record { slot = n; value = value })
 
 abbrev pub sample_in : ℕ → ℕ → List Slot → Option Sample
 sample_in t n [] = None
-sample_in t n (s ∷ ss) = if s.fall + 1050 == t then sample_of n s.bit else sample_in t (n + 1) ss
+sample_in t n (s ∷ ss) = if s.fall + sample_at == t then sample_of n s.bit else sample_in t (n + 1) ss
 
 abbrev pub reported_with : Option Sample → Bool → Ending → Told
 reported_with None true ending = Ended ending
@@ -91,11 +93,47 @@ reported_with None false ending = Nothing
 reported_with (Some s) true ending = Last s.value ending
 reported_with (Some s) false ending = Bit s.slot s.value
 
+abbrev pub reported_since : Windows → Line → ℕ → Option ℕ → Told
+reported_since w low t None = Nothing
+reported_since w low t (Some e) = reported_with (sample_in t 1 (known_at (t + 1) (reading_by w low e)).slots) ((reading_by w low e).at == t) (reading_by w low e).ending
+
+-- at 0 nothing has been read
+abbrev pub reported_with_at : Windows → Line → ℕ → Told
+reported_with_at w low zero = Nothing
+reported_with_at w low (suc t) = reported_since w low (suc t) (running_by w low t)
+
+-- ---- the same by the standard's windows
+
+abbrev pub runs_on : Line → ℕ → Option ℕ → (ℕ → Option ℕ) → Option ℕ
+runs_on low t None later = None
+runs_on low t (Some e) later = if nat_lt t (reading_of low e).at then Some e else later ((reading_of low e).until + 1)
+
+unfoldable pub running_from : Line → ℕ → ℕ → ℕ → Option ℕ
+unfolding running_from_by read_slots
+running_from low t readings from = running_from_by standard low t readings from
+
+abbrev pub running_of : Line → ℕ → Option ℕ
+running_of low t = running_from low t (t + 1) 0
+
+abbrev pub kept_by : Line → ℕ → Option ℕ → Hears
+kept_by low t None = rest
+kept_by low t (Some e) = kept_in low t e (known_at (t + 1) (reading_of low e)).slots
+
+abbrev pub kept_of : Line → ℕ → Hears
+kept_of low t = kept_by low t (running_of low t)
+
+abbrev pub kept_before : Line → ℕ → Hears
+kept_before low zero = rest
+kept_before low (suc t) = kept_of low t
+
+-- That is the standing of the line's readings.
+abbrev pub StandingsAreKept : Type 0
+StandingsAreKept = (low : ℕ → Bool) (t : ℕ) → standing_by (kept_of low t) (low t) ≡ standing_of low t
+
 abbrev pub reported_in : Line → ℕ → Option ℕ → Told
 reported_in low t None = Nothing
 reported_in low t (Some e) = reported_with (sample_in t 1 (known_at (t + 1) (reading_of low e)).slots) ((reading_of low e).at == t) (reading_of low e).ending
 
--- at 0 nothing has been read
 abbrev pub reported_at : Line → ℕ → Told
 reported_at low zero = Nothing
 reported_at low (suc t) = reported_in low (suc t) (running_of low t)

@@ -134,3 +134,7 @@ ShowsState s state = (low : ℕ → Bool) (t : ℕ) → SenderStood s low t → 
 abbrev pub IsNextChange : (ℕ → Bool) → ℕ → Option ℕ → Type 0
 IsNextChange pull t None = (u : ℕ) → t ≤ u → pull u ≡ pull t
 IsNextChange pull t (Some change) = (t < change) × (pull change ≡ not (pull t)) × ((u : ℕ) → t ≤ u → u < change → pull u ≡ pull t)
+
+-- a pull is what it is at t up to that instant
+abbrev pub Lasts : (ℕ → Bool) → ℕ → ℕ → Type 0
+Lasts pull t until = (u : ℕ) → t ≤ u → u < until → pull u ≡ pull t

@@ -4,6 +4,7 @@ ghost use Rattle.cec_bits.specs.Ended.{EndOneByOne};
 ghost use Rattle.cec_bits.specs.Kept.{StandingsAreKept};
 ghost use Rattle.cec_bits.specs.Reports.{EndingsAreReported, RunningIsKept};
 ghost use Rattle.cec_bits.specs.Readings.{HasList, ListsAreCausal, OneList, PartsAreRead, ReadingsAreOwn};
+ghost use Rattle.cec_bits.specs.Wider.{BitsAreLevels, MarginsAreAlike, ReadsByStandard, WholeAreAlike};
 
 /// What is read before an instant depends on the line before that instant alone.
 pub fn readings_are_causal()
@@ -50,4 +51,17 @@ pub fn readings_are_reported()
 /// A line made of parts in order is read part by part: its readings are theirs, in order, each once.
 pub fn parts_are_read()
     ensures { PartsAreRead }
+{}
+
+/// A reading with all its blocks is the same by wider windows: a line that the standard's windows read so is read alike
+/// with every margin.
+pub fn wider_windows_read_alike()
+    ensures whole { WholeAreAlike }
+    ensures margins { MarginsAreAlike }
+    ensures standard { ReadsByStandard }
+{}
+
+/// By whatever windows, the bits of a reading are the line's levels at the samples.
+pub fn bits_are_levels()
+    ensures { BitsAreLevels }
 {}

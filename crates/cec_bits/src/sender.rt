@@ -24,6 +24,13 @@ pub enum SenderState {
     Stopped,
 }
 
+/// What a sender does from an instant on: whether it pulls the line low, and an instant up to which that stays so.
+#[derive(Clone, Copy, Debug, PartialEq, Eq)]
+pub struct SenderPull {
+    pub is_low: bool,
+    pub until: u64,
+}
+
 /// A sender of one frame. It goes by what a receiver reports of the reading that it began.
 #[derive(Debug, Drop)]
 pub struct Sender {
@@ -42,7 +49,7 @@ impl Sender {
     ghost use Rattle.cec_wave.specs.Line.{line_of};
     ghost use Rattle.cec_wave.specs.Sender.{slot_stretches, sender_stretches};
     ghost use Rattle.cec_frame.specs.Bits.{frame_bits};
-    ghost use Rattle.cec_bits.specs.Sending.{SenderStood, Hears, StopsAt, PullsSo, ShowsState, IsNextChange, pull_of, stopped_pull, may_pull};
+    ghost use Rattle.cec_bits.specs.Sending.{SenderStood, Hears, StopsAt, PullsSo, ShowsState, IsNextChange, Lasts, pull_of, stopped_pull, may_pull};
     ghost use Rattle.cec_bits.specs.Sends.{low_of, takes_all, is_out_there, after_reported};
 
     /// The same sender again.
@@ -200,6 +207,24 @@ impl Sender {
             SenderState::Sending => self.next_laid(t),
             SenderState::Out(_) => self.next_stopped(t),
             SenderState::Stopped => self.next_stopped(t),
+        }
+    }
+
+    /// What it does at `t`, and until when, if it hears nothing more.
+    #[tactic(auto, using(crate::proofs::Laid::lasts_until, crate::proofs::Laid::lasts_on))]
+    pub fn pull_at(&self, t: u64) -> SenderPull
+        requires early { t ≤ latest_heard }
+        ensures low { result.is_low ≡ pull_of self.now t }
+        ensures later { t < result.until }
+        ensures lasts { Lasts (pull_of self.now) t result.until }
+    {
+        let is_low = self.is_pulling(t);
+        match self.next_change(t) {
+            Some(until) => SenderPull { is_low, until },
+            None => SenderPull {
+                is_low,
+                until: t + FIRST_SLOT,
+            },
         }
     }
 

@@ -12,24 +12,74 @@
 //!                                  0    1,050               |
 //!                                  0                 2,050 to 2,750
 //! ```
+ghost use Rattle.std.specs.Prelude.{◌≡◌, ◌+◌, ◌<◌, ◌≤◌, ◌^◌};
+ghost use Rattle.cec_bits.specs.Windows.{AreWindows, most_margin, wider, wider_span};
 
-/// The rise of a start bit comes no sooner.
-pub const START_RISE_LEAST: u64 = 3500;
+/// The least and the most that a width may be, in microseconds.
+#[derive(Clone, Copy, Debug, PartialEq, Eq)]
+pub struct Span {
+    pub least: u64,
+    pub most: u64,
+}
 
-/// The rise of a start bit comes no later.
-pub const START_RISE_GREATEST: u64 = 3900;
+/// The windows by which a line is read.
+#[derive(Clone, Copy, Debug, PartialEq, Eq)]
+pub struct Windows {
+    /// How long a start bit is low.
+    pub start_low: Span,
+    /// From a start bit's fall to the first slot's.
+    pub start_total: Span,
+    /// From a slot's fall to the next one's.
+    pub bit_total: Span,
+}
 
-/// The fall of the first slot comes no sooner after that of the start bit.
-pub const START_FALL_LEAST: u64 = 4300;
-
-/// The fall of the first slot comes no later after that of the start bit.
-pub const START_FALL_GREATEST: u64 = 4700;
-
-/// A slot is sampled then.
+/// A slot is sampled so long after its fall.
 pub const SAMPLE: u64 = 1050;
 
-/// The next slot's fall comes no sooner.
-pub const NEXT_FALL_LEAST: u64 = 2050;
+/// The windows by which the devices read.
+pub const STANDARD: Windows = Windows {
+    start_low: Span {
+        least: 3500,
+        most: 3900,
+    },
+    start_total: Span {
+        least: 4300,
+        most: 4700,
+    },
+    bit_total: Span {
+        least: 2050,
+        most: 2750,
+    },
+};
 
-/// The next slot's fall comes no later.
-pub const NEXT_FALL_GREATEST: u64 = 2750;
+/// The most by which windows are made wider, at either side.
+pub const MOST_MARGIN: u64 = 300;
+
+impl Windows {
+    /// The standard's windows, `margin` wider at either side.
+    #[tactic(auto, using(crate::proofs::Standard::wider_are))]
+    pub fn wider(margin: u64) -> Windows
+        requires few { margin ≤ most_margin }
+        ensures wider { result ≡ wider margin }
+        ensures are { AreWindows result }
+    {
+        Windows {
+            start_low: STANDARD.start_low.wider(margin),
+            start_total: STANDARD.start_total.wider(margin),
+            bit_total: STANDARD.bit_total.wider(margin),
+        }
+    }
+}
+
+impl Span {
+    fn wider(self, margin: u64) -> Span
+        requires few { margin ≤ self.least }
+        requires small { self.most + margin < 2 ^ 64 }
+        ensures { result ≡ wider_span margin self }
+    {
+        Span {
+            least: self.least - margin,
+            most: self.most + margin,
+        }
+    }
+}
