@@ -1,0 +1,352 @@
+// One model of all texts: lanes, rows in order of time, rounds, tests, the wave. Nothing here draws.
+// What the program does not write is inferred here, and docs/picture.md lists it: addresses over time, who receives, attempts.
+
+import { asList, asText, kindOf, lowerBound, readAudit, readDump, readEdges, readObjects, readRoom, smoothed } from './texts.js';
+import { addressName } from './words.js';
+
+/* The logical addresses that each kind polls, by unit (docs/behaviour.md). A combo has two units. */
+const POLLS = { __proto__: null, tv: ['0e'], amp: ['5'], player: ['48b'], recorder: ['129'], combo: ['129', '48b'] };
+/* Idle time from which on it is folded, and an attempt is a new frame, in microseconds. */
+const FOLDED_IDLE = 250000;
+const SHORTEST_FOLD = 50000;
+const ATTEMPT_WITHIN = 200000;
+const MOST_ATTEMPTS = 6;
+
+export const isWave = text => ['dump', 'edges'].includes(kindOf(text));
+
+/* The model of some texts: each is { name, text }, and the first may say by which wire and glitch a capture was read. */
+export function build(texts) {
+  const model = {
+    title: '', objects: [], tests: [], stretches: [], meanings: [], faults: [], lanes: [], rows: [], rounds: [], states: [],
+    ports: [], events: [], wave: null, room: null, audit: null, findings: [], isCapture: false, end: 1,
+  };
+  const waves = [];
+  for (const one of texts) {
+    const kind = kindOf(one.text);
+    if (kind === 'objects') readObjects(one.text, model);
+    else if (kind === 'dump' || kind === 'edges') waves.push(one);
+    else if (kind === 'room') model.room = readRoom(one.text);
+    else if (kind === 'audit') model.audit = readAudit(one.text);
+    else if (kind === 'meaning') model.meanings.push(one);
+    else if (kind === 'findings') model.findings.push(...one.text.split('\n').filter(Boolean));
+    else if (kind === 'plain') model.faults.push(`${one.name}: a plain text of the program; give the flag --json`);
+    else if (kind === 'empty') model.faults.push(`${one.name}: empty`);
+    else model.faults.push(`${one.name}: neither objects of hdminet nor a dump, an edge file or a room`);
+    if (kind !== 'empty' && kind !== 'unknown') model.title = model.title || one.name;
+  }
+  const ends = model.objects.filter(o => o.type === 'end').length;
+  if (ends > 1) model.faults.push('several runs in one page: their rounds are mixed');
+  model.isCapture = !model.objects.some(o => o.type === 'round') && model.objects.some(o => o.type === 'reading');
+  addLanes(model);
+  addRows(model);
+  model.rounds.sort((a, b) => a.begin - b.begin);
+  model.end = Math.max(...model.rows.slice(-3).map(row => row.until || row.at), 1);
+  addTests(model);
+  model.events = model.rows.filter(row => row.type === 'event');
+  compareWithStates(model);
+  for (const one of waves) addWave(model, one, texts[0]);
+  return model;
+}
+
+/* Adds a wave, which is the longest of the texts to read. */
+export function addWave(model, { name, text }, { signal, glitch } = {}) {
+  const wave = kindOf(text) === 'dump' ? readDump(text, signal) : readEdges(text);
+  if (!wave) {
+    model.faults.push(`${name}: a dump without a wire or a time scale`);
+    return;
+  }
+  if (Number(glitch) > 0) wave.line.changes = smoothed(wave.line.changes, Number(glitch));
+  model.wave = wave;
+  model.end = Math.max(model.end, wave.end);
+}
+
+/* What was inferred, against what the program says at the end: a disagreement is a note. */
+function compareWithStates(model) {
+  for (const state of model.states) {
+    const lane = model.lanes[model.laneOf.get(state.device)];
+    const said = state.logical.filter(Boolean).join('+');
+    if (!lane || lane.shown === said || !(model.room || state.physical)) continue;
+    const inferred = lane.shown || 'none';
+    const fault = `the chart infers the logical address ${inferred} of the rounds, its state says ${said || 'none'}`;
+    model.faults.push(`${state.device}: ${fault}`);
+  }
+}
+
+/* A lane a device. A capture knows no devices: there it is one for each address that sends or acknowledges. */
+function addLanes(model) {
+  model.laneOf = new Map();
+  const add = (name, kind) => {
+    if (model.laneOf.has(name)) return;
+    model.laneOf.set(name, model.lanes.length);
+    model.lanes.push({ name, kind, history: [], shown: '', physical: '', osdName: '' });
+  };
+  model.states = model.objects.filter(o => o.type === 'state');
+  if (model.isCapture) {
+    const seen = new Set(model.objects.map(senderOf).filter(Boolean));
+    for (const o of model.objects) if (/^[0-9a-e]$/.test(o.destination || '') && o.verdict === 'ack') seen.add(o.destination);
+    for (const address of [...seen].sort()) add(address, addressName(address));
+    return;
+  }
+  for (const state of model.states) add(state.device, state.kind);
+  if (model.room) for (const device of model.room.devices) add(device.name, device.kind);
+  for (const o of model.objects) {
+    for (const name of asList(o.by)) add(name, '');
+    for (const loser of asList(o.out)) add(loser.device, '');
+  }
+}
+
+const fromBits = bits => parseInt(bits, 2).toString(16);
+export const senderOf = o => o.initiator || (o.bits && o.bits.length >= 4 ? fromBits(o.bits.slice(0, 4)) : '');
+
+/* A lane's addresses at an instant: { at, logical, isJoined, physical }, or null before the first. */
+export function deviceAt(lane, instant) {
+  const i = lowerBound(lane.history, instant + 1, entry => entry.at);
+  return i > 0 ? lane.history[i - 1] : null;
+}
+
+/* Who is joined to the television, and where: the tree of the room's text, which the events plug and unplug. */
+class Tree {
+  constructor(room) {
+    this.parents = new Map(room.plugs.map(([child, parent, port]) => [child, [parent, port]]));
+    this.kinds = new Map(room.devices.map(({ name, kind }) => [name, kind]));
+  }
+  portsTo(device) {
+    const ports = [];
+    for (let depth = 0; depth < 16; depth++) {
+      if (this.kinds.get(device) === 'tv') return ports;
+      const up = this.parents.get(device);
+      if (!up) return null;
+      ports.unshift(up[1]);
+      device = up[0];
+    }
+    return null;
+  }
+  isJoined(device) {
+    return this.portsTo(device) !== null;
+  }
+  physicalOf(device) {
+    const ports = this.portsTo(device);
+    if (ports === null) return '';
+    return ports.length > 4 ? 'f.f.f.f' : [0, 1, 2, 3].map(i => (Number(ports[i]) || 0).toString(16)).join('.');
+  }
+}
+
+/* Who holds which addresses, while the rows are gone through. */
+class Holders {
+  constructor(model) {
+    this.model = model;
+    this.tree = model.room && !model.isCapture ? new Tree(model.room) : null;
+    this.held = model.lanes.map(lane => this.atFirst(lane)); // by lane, and there by unit
+    model.lanes.forEach((_, lane) => this.note(null, lane));
+  }
+  /* What a device holds that has just come on the wire. All others poll. */
+  atFirst({ name, kind }) {
+    if (this.tree && !this.tree.isJoined(name)) return [];
+    if (kind === 'outside' || kind === 'switch') return ['f'];
+    return this.tree && this.tree.physicalOf(name) === 'f.f.f.f' ? (POLLS[kind] || ['']).map(() => 'f') : [];
+  }
+  /* Writes a lane's addresses down, where a row has changed them. */
+  note(row, index) {
+    const { model, tree } = this;
+    const lane = model.lanes[index];
+    const logical = model.isCapture ? lane.name : this.held[index].filter(Boolean).join('+');
+    const isJoined = !tree || tree.isJoined(lane.name);
+    const physical = tree ? tree.physicalOf(lane.name) : lane.physical;
+    const last = lane.history[lane.history.length - 1];
+    if (last && last.logical === logical && last.isJoined === isJoined && last.physical === physical) return;
+    lane.history.push({ at: row ? (row.until ?? row.at) : -1, logical, isJoined, physical });
+    const shown = isJoined ? logical : '';
+    if (row && !model.isCapture && lane.shown !== shown) row.changes.push({ lane: index, text: shown || '–', was: lane.shown });
+    lane.shown = shown;
+    lane.physical = physical;
+  }
+  /* What a round tells of its sender. */
+  hear(row, index) {
+    const { model, held } = this;
+    const lane = model.lanes[index];
+    const { initiator, destination, verdict, bytes } = row.o;
+    const polls = POLLS[lane.kind] || [];
+    const unit = polls.findIndex(addresses => addresses.includes(initiator));
+    if (!model.isCapture && bytes.length === 2 && initiator === destination && unit >= 0) {
+      const addresses = polls[unit];
+      if (held[index][unit] && initiator === addresses[0]) held[index] = []; // it starts anew
+      if (verdict === 'nack') held[index][unit] = initiator;
+      else if (initiator === addresses[addresses.length - 1]) held[index][unit] = 'f';
+    }
+    if (/^..84....../.test(bytes) && verdict) lane.physical = [...bytes.slice(4, 8)].join('.');
+    if (model.isCapture && /^..47/.test(bytes)) lane.osdName = asciiOf(bytes.slice(4));
+    this.note(row, index);
+  }
+  /* What an event that was taken changes. */
+  apply(row, [verb, name, parent, port]) {
+    const { model, tree, held } = this;
+    const index = model.laneOf.get(name);
+    if (verb === 'hold' && index !== undefined) {
+      held[index] = parent === '-' ? ['f'] : asText(parent).split('+');
+      this.note(row, index);
+    }
+    if (!tree || (verb !== 'plug' && verb !== 'unplug')) return;
+    const places = () => model.lanes.map(lane => (tree.isJoined(lane.name) ? tree.physicalOf(lane.name) : null));
+    const before = places();
+    if (verb === 'plug') tree.parents.set(name, [parent, port]);
+    else tree.parents.delete(name);
+    places().forEach((place, lane) => {
+      if (place === before[lane]) return;
+      held[lane] = this.atFirst(model.lanes[lane]);
+      this.note(row, lane);
+    });
+  }
+}
+
+export const asciiOf = hex => (asText(hex).match(/../g) || []).map(byte => String.fromCharCode(parseInt(byte, 16))).join('');
+
+/* Rows of the chart: rounds, events, EDIDs, folded idle time. */
+function addRows(model) {
+  const holders = new Holders(model);
+  const lastOf = new Map(); // a sender's last round, for attempts
+  let close = 0;
+  let ports = null;
+  for (const o of model.objects) {
+    const at = o.begin ?? o.at;
+    if (o.type === 'state' || at === null || at === undefined) continue;
+    if (at - close > FOLDED_IDLE && model.rows.length > 0) {
+      model.rows.push({ type: 'gap', at: close, until: at, cls: 'idle', text: '', changes: [] });
+    }
+    if (o.type === 'port') {
+      model.ports.push(o);
+      if (!ports || ports.at !== at) {
+        ports = { type: 'ports', at, o, ports: [], cls: 'idle', text: '', changes: [] };
+        model.rows.push(ports);
+      }
+      ports.ports.push(o);
+      continue;
+    }
+    ports = null;
+    const row = { type: o.type === 'reading' ? 'round' : o.type, at, until: o.close, o, text: '', changes: [], tests: [] };
+    model.rows.push(row);
+    if (row.type === 'round') {
+      o.row = row;
+      model.rounds.push(o);
+      describeRound(model, row, holders, lastOf);
+      close = Math.max(close, o.close);
+    } else if (row.type === 'event') {
+      describeEvent(model, row, holders);
+      close = Math.max(close, at);
+    } else {
+      row.cls = 'idle';
+      close = at;
+    }
+  }
+  model.rows.forEach((row, index) => {
+    row.index = index;
+    const { line = '', bytes = '' } = row.o || {};
+    row.find = [line.slice(0, 300), row.text, row.cls, bytes].join(' ').toLowerCase();
+  });
+}
+
+/* A sender stops where a block was not taken: the round is then silent after whole blocks, and the last bit says so. */
+function stoppedBy(o, destination) {
+  const isWhole = o.ending === 'silent' && o.bits.length > 0 && o.bits.length % 10 === 0;
+  const isBroadcast = destination === 'f';
+  return isWhole && o.bits.endsWith(isBroadcast ? '0' : '1') ? (isBroadcast ? 'refused' : 'nack') : null;
+}
+
+function describeRound(model, row, holders, lastOf) {
+  const { o } = row;
+  const laneOf = name => model.laneOf.get(name);
+  const isPoll = o.bytes.length === 2 && o.initiator === o.destination;
+  row.destination = o.destination || (o.bits.length >= 8 ? fromBits(o.bits.slice(4, 8)) : '');
+  const stopped = stoppedBy(o, row.destination);
+  const latest = o.out.reduce((most, { slot }) => Math.max(most, slot), 0);
+  const stayed = o.by.length > 0 || !stopped ? o.by : o.out.filter(({ slot }) => slot === latest).map(({ device }) => device);
+  const senders = model.isCapture ? [senderOf(o)] : stayed;
+  row.from = senders.map(laneOf).filter(lane => lane !== undefined);
+  row.losers = o.out
+    .filter(({ device }) => !senders.includes(device))
+    .map(({ device, slot }) => ({ lane: laneOf(device), slot }))
+    .filter(({ lane }) => lane !== undefined);
+  row.text = textOf(o, isPoll, stopped);
+  const broken = o.ending === 'joined' ? 'idle' : 'broken';
+  row.cls = stopped || (o.ending !== 'complete' ? broken : isPoll ? 'poll' : o.verdict);
+  row.verdict = o.ending !== 'complete' ? o.ending : !isPoll ? o.verdict : o.verdict === 'nack' ? 'free' : 'taken';
+  const ofAudit = model.audit && model.audit.remarks.get(model.isCapture ? o.line : o.line.replace(/ by .*/, ''));
+  row.remarks = ofAudit || [];
+  row.to = (o.ending === 'complete' || stopped) && !isPoll ? receiversOf(model, row, holders) : [];
+  countAttempt(row, lastOf);
+  for (const lane of row.from) holders.hear(row, lane);
+}
+
+function textOf(o, isPoll, stopped) {
+  if (o.ending === 'complete') return o.frame.slice(4) || `poll ${o.initiator}${isPoll ? '' : ` to ${o.destination}`}`;
+  if (stopped) return `block ${o.bits.length / 10} ${stopped === 'nack' ? 'not acknowledged' : 'refused'}`;
+  if (o.ending === 'joined') return 'read before the line was first idle';
+  return `${o.ending}${o.bits ? ` after ${o.bits}` : ''}`;
+}
+
+/* Who receives: all others that are joined, or the holders of the address. */
+function receiversOf(model, row, holders) {
+  const isReceiver = lane => {
+    if (row.destination === 'f') return model.isCapture || model.lanes[lane].history.at(-1).isJoined;
+    return model.isCapture ? model.lanes[lane].name === row.destination : holders.held[lane].includes(row.destination);
+  };
+  return model.lanes.map((_, lane) => lane).filter(lane => !row.from.includes(lane) && isReceiver(lane));
+}
+
+/* An attempt is the same frame of the same sender, soon after one that failed. */
+function countAttempt(row, lastOf) {
+  const sender = String(row.from);
+  const last = sender && lastOf.get(sender);
+  const isAgain = last && row.at - last.until < ATTEMPT_WITHIN && last.attempt < MOST_ATTEMPTS &&
+    ['nack', 'refused', 'broken'].includes(last.cls) && (last.o.bytes === row.o.bytes || !last.o.bytes || !row.o.bytes);
+  lastOf.set(sender, row);
+  row.attempt = isAgain ? last.attempt + 1 : 1;
+  row.first = isAgain ? last.first : row;
+  row.first.attempts = row.attempt;
+}
+
+function describeEvent(model, row, holders) {
+  const { o } = row;
+  const line = model.room && model.room.script.get(o.scriptLine);
+  row.text = line ? line.replace(/^at \S+ /, '') : `line ${o.scriptLine} of the script`;
+  row.cls = 'event';
+  row.verdict = o.verdict === 'ok' ? '' : `refused ${o.cause}`;
+  const words = row.text.split(' ');
+  row.lane = line ? model.laneOf.get(words[1]) : undefined;
+  if (line && o.verdict === 'ok') holders.apply(row, words);
+}
+
+/* Which rows the tests speak of. A failure stands in the chart too, where its window ends. */
+function addTests(model) {
+  if (model.tests.length === 0) return;
+  const byLine = new Map(model.rows.filter(row => row.o).map(row => [row.o.line, row]));
+  const eventOf = new Map(model.rows.filter(row => row.type === 'event').map(row => [row.o.scriptLine, row]));
+  for (const test of model.tests) {
+    test.rows = test.seen.map(o => byLine.get(o.line.replace(/^# /, ''))).filter(Boolean);
+    for (const row of test.rows) if (row.tests) row.tests.push(test);
+    test.state = test.seen.find(o => o.type === 'state') || null;
+    test.event = (test.refused && eventOf.get(test.scriptLine)) || null;
+    test.at = test.window && test.window.to !== null ? test.window.to : test.event ? test.event.at : null;
+  }
+  for (const test of model.tests) if (!test.holds && test.at !== null && !test.event) insertFailure(model, test);
+  model.rows = model.rows.filter(row => row.type !== 'gap' || row.until - row.at > SHORTEST_FOLD);
+  model.rows.forEach((row, index) => {
+    row.index = index;
+  });
+}
+
+function insertFailure(model, test) {
+  const { rows } = model;
+  const said = test.text || `refused ${test.refused}`;
+  const failure = {
+    type: 'test', at: test.at, test, cls: 'failed', verdict: 'failed', changes: [],
+    text: `not ok ${test.test}  ${said}`, find: `not ok ${said} failed`.toLowerCase(),
+  };
+  let i = rows.findIndex(row => row.type !== 'ports' && row.type !== 'gap' && row.at > test.at);
+  if (i < 0) i = rows.length;
+  const gap = i > 0 && rows[i - 1].type === 'gap' ? rows[i - 1] : null;
+  if (gap && gap.at < test.at && test.at < gap.until) { // it stands in the middle of the idle time
+    rows.splice(i, 0, { ...gap, at: test.at });
+    gap.until = test.at;
+  }
+  rows.splice(i, 0, failure);
+}

@@ -1,0 +1,446 @@
+// The side panel: what is selected, what to look at, the report, the rows as a table, the devices at the end, who sent what,
+// EDIDs and notes.
+
+import { whyStopped } from './chart.js';
+import { counted, duration, html, link, seconds, svg, table } from './elements.js';
+import { asciiOf, senderOf } from './model.js';
+import { acknowledgersOf, blockOf, freeBefore, isWithin, lowWindow, partOf, slotsOf, WINDOWS } from './slots.js';
+import { asText } from './texts.js';
+import { addressName, CAUSES, meaningOf, opcodeName, partyName } from './words.js';
+
+const MOST_LISTED = 500;
+const PAGE_OF_TABLE = 200;
+
+/* The tabs: when each is there, and what it draws. */
+export const PANELS = {
+  selected: { name: 'Selected', isThere: () => true, draw: drawSelected },
+  look: { name: 'To look at', isThere: model => model.rows.length > 0, draw: drawToLookAt },
+  report: { name: 'Report', isThere: model => model.tests.length > 0 || model.stretches.length > 0, draw: drawReport },
+  table: { name: 'Table', isThere: model => model.rows.length > 0, draw: drawTable },
+  devices: { name: 'At the end', isThere: model => model.states.length > 0, draw: drawDevices },
+  talk: { name: 'Who sent what', isThere: model => model.rounds.length > 0, draw: drawTalk },
+  edids: { name: 'EDIDs', isThere: model => model.ports.length > 0 || model.meanings.length > 0, draw: drawEdids },
+  notes: { name: 'Notes', isThere: model => model.faults.length > 0 || hasAudit(model), draw: drawNotes },
+};
+const hasAudit = model => Boolean(model.audit && model.audit.ofAll.length > 0);
+
+const dim = text => html('p', { class: 'dim' }, text);
+const bad = text => html('span', { class: 'bad' }, text);
+
+function drawSelected(app, model) {
+  const row = app.selected;
+  if (!row) return [dim('Select a row of the chart, or a frame of the wave.')];
+  return SELECTED[row.type](app, model, row);
+}
+const SELECTED = {
+  round: drawRound,
+  event: drawEvent,
+  gap: (app, model, row) => [html('p', {}, `Nothing for ${duration(row.until - row.at)}, from ${row.at} to ${row.until} µs.`)],
+  ports: (app, model, row) => [
+    html('h2', {}, 'EDIDs passed on'),
+    table(row.ports.map(p => [`${p.device} ${p.port}`, `${p.edid.length / 2} bytes, address ${physicalIn(p.edid)}`])),
+    html('p', {}, link('All EDIDs', () => app.openPanel('edids'))),
+  ],
+  end: (app, model, row) => [html('p', {}, `The run ends at ${row.at} µs.`)],
+  test: (app, model, row) => [testButton(app, row.test), testDetails(app, row.test)],
+};
+
+function drawRound(app, model, row) {
+  const round = row.o;
+  const links = [
+    link('Copy the line', () => app.copy(round.line)), '   ',
+    round.bytes && [link('Copy the bytes', () => app.copy(round.bytes)), '   '],
+    model.wave && link('See its wave', () => app.wave.showRound(round)),
+  ];
+  return [
+    html('h2', {}, round.ending === 'complete' ? round.frame : `${round.ending} ${round.bits}`),
+    html('p', {}, html('span', { class: `tag ${row.cls}` }, row.verdict), ' ', meaningOf(round, model)),
+    table(partiesAndTimes(model, row)),
+    round.bytes && blocks(model, round),
+    widths(model, round),
+    row.remarks.length > 0 && [html('h3', {}, 'Remarks of the audit'), list(row.remarks)],
+    row.tests.length > 0 && [html('h3', {}, 'Tests'), row.tests.map(test => testButton(app, test))],
+    html('h3', {}, 'Line'), html('pre', {}, round.line), html('p', {}, links),
+  ];
+}
+const list = texts => html('ul', {}, texts.map(text => html('li', {}, text)));
+
+function partiesAndTimes(model, row) {
+  const round = row.o;
+  const name = lane => partyName(model, lane, round.begin);
+  const both = lanes => lanes.map(name).join(' and ');
+  const unknown = model.isCapture && senderOf(round) ? `address ${senderOf(round)}` : '–';
+  const nobody = `address ${row.destination}, which nobody here holds`;
+  const before = model.rounds[model.rounds.indexOf(round) - 1];
+  const attempts = row.folded ? `1 to ${row.folded.length}, folded (Enter unfolds)` : String(row.attempt);
+  return [
+    ['From', row.from.length > 0 ? both(row.from) : unknown],
+    row.destination && ['To', row.destination === 'f' ? 'all' : row.to.length > 0 ? both(row.to) : nobody],
+    row.losers.length > 0 && ['Out', row.losers.map(loser => whyStopped(model, loser)).join('; ')],
+    (row.attempt > 1 || row.folded) && ['Attempt', attempts],
+    ['Begin', `${round.begin} µs`],
+    ['Close', `${round.close} µs, ${round.close - round.begin} later`],
+    before && ['Before', `${round.begin - before.close} µs since the close of the round above`],
+  ].filter(Boolean);
+}
+
+/* The blocks of a complete round, with who acknowledged each. */
+function blocks(model, round) {
+  const bytes = round.bytes.match(/../g);
+  const acknowledgers = acknowledgersOf(model, round);
+  const isBroadcast = round.destination === 'f';
+  const isOfText = /^..(47|64|67|32)/.test(round.bytes);
+  const meaning = (byte, i) => {
+    if (i === 0) return `${addressName(byte[0])} to ${isBroadcast ? 'all' : addressName(byte[1])}`;
+    if (i === 1) return opcodeName(byte) || 'no name';
+    const code = parseInt(byte, 16);
+    return isOfText && code >= 0x20 && code < 0x7f ? `'${String.fromCharCode(code)}'` : '';
+  };
+  const taken = i => {
+    if (!acknowledgers || acknowledgers[i].length === 0) return '';
+    return `${isBroadcast ? 'refused' : 'acknowledged'} by ${acknowledgers[i].join(', ')}`;
+  };
+  const names = ['header', 'opcode'];
+  const rows = bytes.map((byte, i) => [names[i] || `operand ${i - 1}`, html('code', {}, byte), meaning(byte, i), taken(i)]);
+  const isByPulse = acknowledgers && acknowledgers.some(who => who.length === 1 && who[0] === 'a pulse');
+  const pulse = isByPulse && html('p', { class: 'bad' }, 'A pulse from outside alone pulled an acknowledge slot.');
+  return [html('h3', {}, 'Blocks'), table(rows), pulse];
+}
+
+/* Which widths of a round are in the windows of CEC 5.2, and each slot as a table. */
+function widths(model, round) {
+  const slots = slotsOf(model, round);
+  if (!slots) {
+    if (!model.wave || round.ending === 'joined') return null;
+    return dim('The wave is not the line that this was read of: another run, or pulses that --glitch left out.');
+  }
+  const kinds = [
+    ['start low', WINDOWS.startLow], ['start total', WINDOWS.startTotal], ['0 low', WINDOWS.zero],
+    ['1 low', WINDOWS.one], ['bit total', WINDOWS.total],
+  ].map(([name, window]) => ({ name, window, seen: [] }));
+  const faults = [];
+  slots.forEach((slot, i) => {
+    const put = ({ name, window, seen }, width) => {
+      seen.push(width);
+      const where = i === 0 ? 'start' : `slot ${i} block ${blockOf(i)} ${partOf(i)}`;
+      if (!isWithin(width, window)) faults.push(`${where}: ${name} ${width}`);
+    };
+    put(kinds[i === 0 ? 0 : slot.bit ? 3 : 2], slot.low);
+    if (slots[i + 1]) put(kinds[i === 0 ? 1 : 4], slot.total);
+  });
+  const rows = kinds.filter(kind => kind.seen.length > 0).map(({ name, window, seen }) => {
+    const isIn = seen.every(width => isWithin(width, window));
+    return [name, `${Math.min(...seen)}..${Math.max(...seen)}`, window.join('..'), isIn ? 'in' : bad('out')];
+  });
+  const free = freeBefore(model, round);
+  const asked = free >= 7200 ? ' (7200 to send again, 12000 for a new initiator, 16800 for the last one)' : '';
+  return [
+    html('h3', {}, 'Widths, in µs'),
+    table(rows, ['', 'seen', 'allowed', '']),
+    free !== null && html('p', {}, `The line was high for ${free} µs before${asked}.`),
+    faults.length > 0 && html('ul', { class: 'bad' }, faults.slice(0, 12).map(fault => html('li', {}, fault))),
+    html('details', {}, html('summary', {}, `All ${slots.length} slots`), slotTable(slots)),
+  ];
+}
+function slotTable(slots) {
+  const rows = slots.map(({ bit, low, total }, i) => [
+    i === 0 ? 'start' : `block ${blockOf(i)} ${partOf(i)}`, i === 0 ? '' : bit,
+    isWithin(low, lowWindow(i, bit)) ? low : bad(String(low)), slots[i + 1] ? total : '',
+  ]);
+  return table(rows, ['slot', 'bit', 'low', 'total']);
+}
+
+function drawEvent(app, model, row) {
+  const { o } = row;
+  const answer = o.verdict === 'ok' ? 'was applied' : bad(`was refused: ${CAUSES[o.cause] || o.cause}`);
+  return [
+    html('h2', {}, row.text),
+    html('p', {}, html('span', { class: 'tag event' }, 'event'), ' ', answer, ` at ${o.at} µs.`),
+    html('p', {}, `Line ${o.scriptLine} of the script.`),
+    !model.room && dim('Give the page the room\'s text too, to see what the line says.'),
+    html('h3', {}, 'Line'), html('pre', {}, o.line),
+  ];
+}
+
+/* What is not as it should be, in order of time: the short way into a long run. What is the same is listed once. */
+function drawToLookAt(app, model) {
+  const found = new Map();
+  for (const row of model.rows) {
+    for (const [what, cls] of oddities(model, row)) {
+      if (found.has(what)) found.get(what).rows.push(row);
+      else found.set(what, { what, cls, rows: [row], next: 0 });
+    }
+  }
+  const all = [...found.values()];
+  const goTo = one => {
+    const row = one.rows[one.next];
+    one.next = (one.next + 1) % one.rows.length;
+    app.select(row, { keepsPanel: true });
+  };
+  const cut = all.length > MOST_LISTED ? `; the first ${MOST_LISTED}` : '';
+  const how = 'A click goes to it, a further one to the next of its kind.';
+  const head = `${counted(all.length, 'thing')}, in order of time${cut}. ${how}`;
+  const line = one => html(
+    'tr', {},
+    html('td', { class: 'mono dim' }, seconds(one.rows[0].at)),
+    html('td', {}, html('button', { class: `link ${one.cls}`, style: 'color:var(--c)', click: () => goTo(one) }, one.what)),
+    html('td', { class: 'number' }, one.rows.length > 1 ? `×${one.rows.length}` : ''),
+  );
+  return [
+    dim(all.length > 0 ? head : 'Nothing was refused, lost or broken.'),
+    html('table', {}, all.slice(0, MOST_LISTED).map(line)),
+  ];
+}
+function oddities(model, row) {
+  const names = lanes => lanes.map(lane => model.lanes[lane].name).join(', ');
+  const odd = [];
+  if (row.type === 'event' && row.o.verdict !== 'ok') odd.push([`${row.text}: ${row.verdict}`, 'event']);
+  if (row.type === 'test') odd.push([row.text, 'failed']);
+  for (const { lane, text, was } of row.changes) {
+    const { name, kind } = model.lanes[lane];
+    if (text === '–') odd.push([`${name} loses the address ${was}: ${row.text}`, 'broken']);
+    if (text === 'f' && kind !== 'switch' && row.type === 'round') odd.push([`${name} settles without an address`, 'broken']);
+  }
+  if (row.type !== 'round') return odd;
+  const { o } = row;
+  if (row.cls === 'broken') {
+    odd.push([`${row.text}${row.from.length > 0 ? ` of ${names(row.from)}` : ''}`, 'broken']);
+  } else if (row.cls === 'nack' && row.first === row) {
+    const what = o.frame || `${names(row.from)} to ${row.destination}`;
+    odd.push([`${what}: not acknowledged${row.attempts > 1 ? `, ${row.attempts} attempts` : ''}`, 'nack']);
+  } else if (row.cls === 'refused') {
+    odd.push([`${o.frame || row.text}: refused`, 'refused']);
+  } else if (o.bytes.slice(2, 4) === '00') {
+    odd.push([o.frame, 'nack']);
+  }
+  if (row.verdict === 'taken') {
+    const whose = row.from.length > 0 ? `: not for ${model.lanes[row.from[0]].name}` : '';
+    odd.push([`address ${o.initiator} is taken${whose}`, 'poll']);
+  }
+  if (row.losers.length > 0 && row.cls !== 'broken') {
+    odd.push([row.losers.map(loser => whyStopped(model, loser)).join('; '), 'poll']);
+  }
+  if (row.remarks.length > 0) {
+    const others = row.remarks.length > 1 ? ` and ${row.remarks.length - 1} more` : '';
+    odd.push([row.remarks[0] + others, 'broken']);
+  }
+  return odd;
+}
+
+function testButton(app, test) {
+  const text = html('span', { class: 'mono' }, test.text || `line ${test.scriptLine} was refused: ${test.refused}`);
+  const attributes = {
+    class: `test${test.holds ? '' : ' fails'}`, 'aria-pressed': String(app.banded === test), click: () => app.showTest(test),
+    'aria-label': `test ${test.test} ${test.holds ? 'holds' : 'fails'}: ${test.text || test.refused}`,
+  };
+  return html('button', attributes, `${test.holds ? '✓' : '✗'} ${test.test}  `, text);
+}
+function testDetails(app, test) {
+  const { window, state } = test;
+  const seen = window && window.from !== null
+    ? `${window.seen} seen from ${window.from} to ${window.to} µs.`
+    : 'There is no instant to look from: what it names did not happen.';
+  const rowLink = row => link(`${seconds(row.at)}  ${row.o.frame || row.text} ${row.verdict}`, () => app.select(row));
+  return [
+    html('p', {}, window ? seen : state ? 'What the state says:' : ''),
+    test.rows.length > 0 && html('ul', {}, test.rows.map(row => html('li', {}, rowLink(row)))),
+    state && html('pre', {}, state.line.replace(/^# /, '')),
+  ];
+}
+/* The report, failures first. */
+function drawReport(app, model) {
+  const { tests, stretches } = model;
+  const failed = tests.filter(test => !test.holds);
+  const all = counted(tests.length, 'test');
+  const count = failed.length > 0 ? bad(`${failed.length} of ${all} failed.`) : `${all}, none failed.`;
+  const ordered = [...failed, ...tests.filter(test => test.holds)];
+  const alone = 'A report alone. Add  ./hdminet check --plain < x.test | ./hdminet run --json  to see its rounds.';
+  return [
+    tests.length > 0 && html('p', {}, count),
+    ordered.map(test => [testButton(app, test), app.banded === test && testDetails(app, test)]),
+    tests.length > 0 && model.rounds.length === 0 && dim(alone),
+    stretches.length > 0 && drawSweep(model, 370),
+  ];
+}
+
+/* A sweep: a bar for each test over the range of instants. */
+export function drawSweep(model, width) {
+  const { stretches, room } = model;
+  const from = stretches[0].from;
+  const to = stretches[stretches.length - 1].to;
+  const x = instant => ((instant - from) / (to - from || 1)) * (width - 3);
+  const tests = Array.from({ length: stretches[0].holds.length }, (_, i) => i);
+  const verdict = holds => (holds ? 'holds' : 'fails');
+  const bar = test => svg('svg', { width, height: 26, role: 'img', 'aria-label': `test ${test + 1}` }, stretches.map(stretch => {
+    const holds = stretch.holds[test];
+    const place = { x: x(stretch.from), y: 2, width: Math.max(x(stretch.to) - x(stretch.from), 3), height: 20 };
+    const title = svg('title', {}, `${verdict(holds)} from ${stretch.from} to ${stretch.to}`);
+    return svg('rect', { ...place, style: `fill:var(--${holds ? 'ack' : 'broken'})` }, title);
+  }));
+  const expectation = test => (room && room.expectations[test] ? `  ${room.expectations[test]}` : '');
+  const mark = holds => (holds ? '✓ holds' : bad('✗ fails'));
+  return [
+    html('h3', {}, `Sweep, ${from} to ${to} µs`),
+    tests.map(test => [html('div', { class: 'mono' }, `test ${test + 1}${expectation(test)}`), bar(test)]),
+    table(
+      stretches.map(stretch => [`${stretch.from}..${stretch.to}`, ...stretch.holds.map(mark)]),
+      ['instants', ...tests.map(test => `test ${test + 1}`)],
+    ),
+  ];
+}
+
+/* The rows of the chart as a table, for a screen reader too: a page of them, from the one that is selected on. */
+function drawTable(app, model) {
+  const { shown } = app.chart;
+  const at = app.selected && shown[app.selected.place] === app.selected ? app.selected.place : 0;
+  const from = app.tableFrom ?? Math.max(at - (at % PAGE_OF_TABLE), 0);
+  const to = Math.min(from + PAGE_OF_TABLE, shown.length);
+  const names = lanes => lanes.map(lane => model.lanes[lane].osdName || model.lanes[lane].name).join(', ');
+  const receivers = row => (row.destination === 'f' ? 'all' : names(row.to || []) || row.destination || '');
+  const what = row => {
+    if (row.type === 'gap') return `idle ${duration(row.until - row.at)}`;
+    if (row.type === 'ports') return 'EDIDs passed on';
+    if (row.type === 'end') return 'end';
+    const losers = (row.losers || []).map(loser => `; ${whyStopped(model, loser)}`).join('');
+    const attempt = row.folded ? `; attempts 1 to ${row.folded.length}` : row.attempt > 1 ? `; attempt ${row.attempt}` : '';
+    return row.text + losers + attempt;
+  };
+  const addresses = row => row.changes.map(({ lane, text }) => `${model.lanes[lane].name} ${text}`).join(', ');
+  const line = row => [
+    seconds(row.at), names(row.from || []), row.type === 'round' ? receivers(row) : '', link(what(row), () => app.select(row)),
+    row.verdict || '', addresses(row), (row.remarks || []).join('; '),
+  ];
+  const page = first => app.openTable(first);
+  return [
+    html('p', {}, `Rows ${Math.min(from + 1, to)} to ${to} of ${shown.length}. `,
+      from > 0 && link('Rows before', () => page(Math.max(from - PAGE_OF_TABLE, 0))), ' ',
+      to < shown.length && link('Rows after', () => page(to))),
+    table(shown.slice(from, to).map(line), ['seconds', 'from', 'to', 'what', 'verdict', 'address from here on', 'remarks']),
+  ];
+}
+
+const DECKS = {
+  __proto__: null, 11: 'play', 14: 'still', 17: 'fast forward', 18: 'fast reverse', 19: 'no medium', '1a': 'stop',
+  '1b': 'skip forward', '1c': 'skip reverse',
+};
+function drawDevices(app, model) {
+  const shown = (key, value) => {
+    if (value === null || value === undefined) return '–';
+    if (key === 'deck') return DECKS[value] || value;
+    if (key === 'menu_language' || key === 'osd_text') return asciiOf(value);
+    if (typeof value === 'boolean') return value ? 'on' : 'off';
+    if (Array.isArray(value)) return value.map(one => one ?? '–').join('+');
+    if (typeof value === 'object') {
+      const opcode = asText(value.opcode);
+      return `${opcodeName(opcode) || opcode} from ${asText(value.initiator)}`;
+    }
+    return value;
+  };
+  const keys = Object.keys(model.states[0].fields).filter(key => !['line', 'type', 'device', 'kind'].includes(key));
+  const line = key => [
+    html('span', { class: 'dim' }, key.replace(/_/g, ' ')), ...model.states.map(state => asText(shown(key, state.fields[key]))),
+  ];
+  return [
+    dim('Each device\'s record at the end. – is none.'),
+    html('div', { class: 'wide' }, table(['kind', ...keys].map(line), ['', ...model.states.map(state => state.device)])),
+  ];
+}
+
+function drawTalk(app, model) {
+  const counts = new Map();
+  for (const round of model.rounds) {
+    const who = round.row.from.map(lane => model.lanes[lane].name).join(' ') || '?';
+    const broken = round.row.cls === 'broken' ? round.ending : round.row.text;
+    const frame = round.bytes.length === 2 ? 'poll' : round.frame.split(' ')[1] || '?';
+    const what = round.ending !== 'complete' ? broken : frame;
+    const key = `${who}\n${what}`;
+    if (!counts.has(key)) counts.set(key, { who, what, rounds: 0, taken: 0 });
+    const count = counts.get(key);
+    count.rounds += 1;
+    if (round.verdict === 'ack' || round.verdict === 'ok') count.taken += 1;
+  }
+  const sorted = [...counts.values()].sort((a, b) => (a.who < b.who ? -1 : a.who > b.who ? 1 : b.rounds - a.rounds));
+  const search = ({ who, what }) => {
+    if (what === 'poll') return `poll ${who}`;
+    return model.isCapture ? `${what} ${who}>` : `${what} by ${who}`;
+  };
+  const line = (count, i) => [
+    i > 0 && sorted[i - 1].who === count.who ? '' : count.who, link(count.what, () => app.searchFor(search(count))), count.rounds,
+    count.taken,
+  ];
+  return [
+    dim('Taken: acknowledged, or not refused. A free address is a poll that nobody took.'),
+    table(sorted.map(line), ['sender', 'what', 'rounds', 'taken']),
+  ];
+}
+
+/* The physical address in an EDID in hex: what follows the registration of HDMI's vendor block. */
+function physicalIn(edid) {
+  const i = edid.indexOf('030c00');
+  return i < 0 ? 'none' : [...edid.slice(i + 6, i + 10)].join('.');
+}
+function drawEdids(app, model) {
+  const first = model.ports[0];
+  const bytesOf = (line, k) => line.match(/../g).map((byte, j) => {
+    const at = (k * 16 + j) * 2;
+    return [first.edid.slice(at, at + 2) === byte ? byte : bad(byte), ' '];
+  });
+  const port = ({ device, port: number, at, edid }) => html(
+    'details', {},
+    html('summary', {}, `${device} port ${number}, ${duration(at)}: ${physicalIn(edid)}`),
+    html('pre', {}, (edid.match(/(..){1,16}/g) || []).map((line, k) => [bytesOf(line, k), '\n'])),
+  );
+  const meant = line => [line.startsWith(' ') ? html('span', { class: 'dim' }, line) : line, '\n'];
+  const meaning = ({ name, text }) => [html('h3', {}, name), html('pre', {}, text.split('\n').map(meant))];
+  return [
+    model.findings.length > 0 && [html('h3', {}, 'Rules that it breaks'), list(model.findings)],
+    model.ports.map(port), model.ports.length > 1 && dim('Red: bytes that the first one has otherwise.'),
+    model.meanings.map(meaning),
+  ];
+}
+
+function drawNotes(app, model) {
+  const { faults, audit } = model;
+  const others = faults.length > 50 ? [`and ${faults.length - 50} more`] : [];
+  return [
+    faults.length > 0 && [html('h3', {}, 'Of the data'), list([...faults.slice(0, 50), ...others])],
+    hasAudit(model) && [html('h3', {}, 'Audit of all readings'), html('pre', {}, audit.ofAll.join('\n'))],
+  ];
+}
+
+export const COMMANDS = `./hdminet run --json < x.net > x.jsonl                        the rounds, events and states
+./hdminet run --edges --as vcd --drives < x.net > x.vcd       the wave, and who pulls
+x.net                                                         what the events say, and plugs
+./hdminet check --json < x.test > report.jsonl                a report of tests
+./hdminet mon --json --from-start < capture.vcd > x.jsonl     a capture: also capture.vcd itself
+./hdminet mon --audit < capture.vcd > audit.txt               and what the audit remarks
+./hdminet edid --meaning < tv.edid > tv.meaning               an EDID`;
+
+export function help() {
+  const marks = [
+    ['→', 'a frame that was acknowledged (green)'],
+    ['↔', 'a frame to all that nobody refused (blue); dots are those who hear it'],
+    ['× at an end', 'nobody acknowledged (orange), or somebody refused it (violet)'],
+    ['○', 'the address is held by nobody here'],
+    ['zigzag', 'a round that broke off (red), and where'],
+    ['loop', 'a poll: free, nobody took it; or taken'],
+    ['round label', 'the logical address that a device has from here on'],
+    ['red × out @n', 'a device that stopped at slot n; up to 4 it lost the arbitration'],
+    ['◆ ◇', 'an event of the script; ◇ was refused'],
+    ['dashed lifeline', 'no logical address, or not joined to the television'],
+    ['⚠ n', 'remarks of the audit'],
+  ];
+  const keys = [
+    ['↑ ↓ PgUp PgDn Home End', 'rows of the chart'],
+    ['Enter', 'unfold attempts, or show the wave of the round'],
+    ['n N', 'next and previous row that is nack, refused or broken, or a failed test'],
+    ['/', 'search; Escape clears'],
+    ['w c', 'to the wave, to the chart; Tab to all parts'],
+    ['+ - ← → 0 f', 'in the wave: zoom, pan, all, the selected round'],
+    [', . < >', 'in the wave: cursor A and B to the edge before, after'],
+    ['o e m t ?', 'open, SVG, Mermaid, light or dark, this'],
+  ];
+  return [
+    html('h2', {}, 'Marks'), table(marks), html('h2', {}, 'Keys'), table(keys), html('h2', {}, 'Data'), html('pre', {}, COMMANDS),
+  ];
+}

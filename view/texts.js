@@ -1,0 +1,281 @@
+// The texts that the program writes and reads, from characters to plain values. Nothing here draws, and nothing trusts its
+// input: each field is brought to its type in one place, and a line that is none of the program's is counted and named.
+
+/* What a text is, by its first line: files may come in any order. */
+export function kindOf(text) {
+  const first = /^\s*(.*)/.exec(text)[1];
+  if (/^\s*\{/.test(first)) return 'objects';
+  if (/^(\$|META )/.test(first)) return 'dump';
+  if (/^edid 1\.\d/.test(first)) return 'meaning';
+  if (/^(warn|fail) [a-z-]+/.test(first)) return 'findings';
+  if (/^TAP version|^\d+ event \d|^\d+ port \w/.test(first)) return 'plain';
+  if (/^\d+ \d+ (complete|short|silent|bad-start|long|open|joined) /.test(first)) {
+    return /\n {2}\S/.test(text) ? 'audit' : 'plain';
+  }
+  if (/^script$/m.test(text)) return 'room';
+  if (/^\d+ (0|1|end)$/.test(first) || (first.startsWith('#') && /^\d+ [01]$/m.test(text))) return 'edges';
+  return text.trim() === '' ? 'empty' : 'unknown';
+}
+
+export const asText = value => (value === null || value === undefined ? '' : String(value));
+const asNumber = value => (typeof value === 'number' && Number.isFinite(value) ? value : null);
+export const asList = value => (Array.isArray(value) ? value : []);
+
+/* Objects of JSON, one a line (docs/formats.md, "Objects of JSON"), put into a model. */
+export function readObjects(text, model) {
+  let inReport = false; // below a test stand the rounds that it saw, up to the object `trace`
+  let test = null;
+  text.split('\n').forEach((line, index) => {
+    if (line.trim() === '') return;
+    let parsed = null;
+    try {
+      parsed = JSON.parse(line);
+    } catch {
+      // named below
+    }
+    const object = parsed && typeof parsed === 'object' && cleaned(parsed);
+    if (!object) {
+      model.faults.push(`line ${index + 1} is no object of the program: ${line.slice(0, 60)}`);
+    } else if (object.type === 'version') {
+      inReport = true;
+    } else if (object.type === 'trace') {
+      inReport = false;
+    } else if (object.type === 'test') {
+      test = object;
+      model.tests.push(test);
+    } else if (object.type === 'window' && test) {
+      test.window = object;
+    } else if (object.type === 'stretch') {
+      model.stretches.push(object);
+    } else if (inReport && test && object.type !== 'plan') {
+      test.seen.push(object);
+    } else {
+      model.objects.push(object);
+    }
+  });
+}
+
+/* An object with each field of its type, or null where it is none of the program's. */
+function cleaned(o) {
+  const c = { type: asText(o.type), line: asText(o.line) };
+  switch (c.type) {
+    case 'round':
+    case 'reading':
+      Object.assign(c, {
+        begin: asNumber(o.begin),
+        close: asNumber(o.close),
+        ending: asText(o.ending),
+        frame: asText(o.frame),
+        initiator: asText(o.initiator),
+        destination: asText(o.destination),
+        bytes: /^([0-9a-f]{2})+$/.test(asText(o.bytes)) ? asText(o.bytes) : '',
+        verdict: asText(o.verdict),
+        bits: asText(o.bits),
+        by: asList(o.by).map(asText),
+        out: asList(o.out).map(x => ({ device: asText(x && x.device), slot: asNumber(x && x.slot) })),
+      });
+      return c.begin === null || c.close === null ? null : c;
+    case 'event':
+      Object.assign(c, {
+        at: asNumber(o.at),
+        scriptLine: asNumber(o.script_line),
+        verdict: asText(o.verdict),
+        cause: asText(o.cause),
+      });
+      return c.at === null ? null : c;
+    case 'port':
+      Object.assign(c, { at: asNumber(o.at), device: asText(o.device), port: asNumber(o.port), edid: asText(o.edid) });
+      return c.at === null ? null : c;
+    case 'state':
+      return Object.assign(c, {
+        device: asText(o.device),
+        kind: asText(o.kind),
+        logical: asList(o.logical_addresses),
+        physical: asText(o.physical_address),
+        fields: o,
+      });
+    case 'end':
+      return Object.assign(c, { at: asNumber(o.at) });
+    case 'test':
+      return Object.assign(c, {
+        test: asNumber(o.test),
+        scriptLine: asNumber(o.script_line),
+        holds: o.holds === true,
+        text: asText(o.expectation),
+        refused: asText(o.refused),
+        window: null,
+        seen: [],
+      });
+    case 'window':
+      return Object.assign(c, { from: asNumber(o.from), to: asNumber(o.to), seen: asNumber(o.seen) });
+    case 'stretch':
+      return Object.assign(c, { from: asNumber(o.from), to: asNumber(o.to), holds: asList(o.holds) });
+    case 'version':
+    case 'trace':
+    case 'plan':
+    case 'other':
+      return c;
+    default:
+      return null;
+  }
+}
+
+/* A wire is its name and the instants of its changes: it is high before the first, and each changes its level. So the level at an
+   instant is whether the count of changes up to it is even. */
+const wire = (name, scope) => ({ name, scope, changes: [], high: true });
+
+/* Notes a level at an instant. Of several in one microsecond the last counts. */
+function note(wire, at, high) {
+  if (high === wire.high) return;
+  const { changes } = wire;
+  if (changes.length > 0 && changes[changes.length - 1] === at) changes.pop();
+  else changes.push(at);
+  wire.high = high;
+}
+
+const UNITS = { __proto__: null, s: 1e6, ms: 1e3, us: 1, ns: 1e-3, ps: 1e-6, fs: 1e-9 }; // microseconds
+
+/* The definitions of a Value Change Dump: its wires of one bit by identifier, and its unit in microseconds. */
+function readDefinitions(text) {
+  const words = text.split(/\s+/).filter(Boolean);
+  const found = { byId: new Map(), wires: [], unit: 1 };
+  const scopes = [];
+  let at = 0;
+  const body = () => {
+    const from = ++at;
+    while (at < words.length && words[at] !== '$end') at++;
+    return words.slice(from, at);
+  };
+  for (; at < words.length; at++) {
+    if (words[at] === '$timescale') {
+      const scale = /^(1|10|100)(s|ms|us|ns|ps|fs)$/.exec(body().join(''));
+      if (!scale) return null;
+      found.unit = Number(scale[1]) * UNITS[scale[2]];
+    } else if (words[at] === '$scope') {
+      scopes.push(body()[1]);
+    } else if (words[at] === '$upscope') {
+      body();
+      scopes.pop();
+    } else if (words[at] === '$var') {
+      const [, size, id, name] = body();
+      if (size !== '1') continue;
+      const one = wire(name, scopes[scopes.length - 1]);
+      found.wires.push(one);
+      found.byId.set(id, one);
+    } else if (words[at].startsWith('$')) {
+      body();
+    }
+  }
+  return found.wires.length > 0 ? found : null;
+}
+
+/* A Value Change Dump, as `run --edges --as vcd --drives`, sigrok and GTKWave write it. The changes are read word by word, by
+   hand, since a long run has some millions of them. */
+export function readDump(text, signal) {
+  const start = text.indexOf('$enddefinitions');
+  const found = start < 0 ? null : readDefinitions(text.slice(0, start));
+  if (!found) return null;
+  const { byId, wires, unit } = found;
+  const short = []; // the wires whose identifier is one character, by its code
+  for (const [id, one] of byId) if (id.length === 1 && id.charCodeAt(0) < 128) short[id.charCodeAt(0)] = one;
+  let now = 0;
+  let at = text.indexOf('$end', start + 5) + 4;
+  const word = () => {
+    const from = at;
+    while (at < text.length && text.charCodeAt(at) > 32) at++;
+    return text.slice(from, at);
+  };
+  const passBlanks = () => {
+    while (at < text.length && text.charCodeAt(at) <= 32) at++;
+  };
+  for (passBlanks(); at < text.length; passBlanks()) {
+    const code = text.charCodeAt(at++);
+    if (code === 35) { // #
+      now = Math.ceil(word() * unit - 1e-9);
+    } else if ((code === 48 || code === 49) && short[text.charCodeAt(at)] && !(text.charCodeAt(at + 1) > 32)) {
+      note(short[text.charCodeAt(at++)], now, code === 49);
+    } else if ('01xXzZbBrRsS'.includes(String.fromCharCode(code))) {
+      const value = '01xXzZ'.includes(String.fromCharCode(code)) ? String.fromCharCode(code) : word(); // `0!`, or `b0 !`
+      passBlanks();
+      const one = byId.get(word());
+      if (one) note(one, now, value !== '0');
+    } else {
+      const command = word();
+      if (code === 36 && !/^(dump(vars|all|on|off)|end)$/.test(command)) { // a comment is passed over up to its end
+        const end = text.indexOf('$end', at);
+        at = end < 0 ? text.length : end + 4;
+      }
+    }
+  }
+  return {
+    line: wires.find(w => w.name === signal) || wires[0],
+    devices: wires.filter(w => w.scope === 'devices'),
+    pulses: wires.find(w => w.name === 'pulses' && w.scope !== 'devices') || null,
+    end: Number.isFinite(now) ? now : 0,
+  };
+}
+
+/* An edge file: `T 0`, `T 1`, `T end`. */
+export function readEdges(text) {
+  const line = wire('CEC', '');
+  let end = 0;
+  for (const [, at, level] of text.matchAll(/^(\d+) (0|1|end)$/gm)) {
+    end = Number(at);
+    if (level !== 'end') note(line, end, level === '1');
+  }
+  return { line, devices: [], pulses: null, end };
+}
+
+/* Leaves out pulses and gaps that are shorter, as `mon --glitch` does: from the left on, of two changes that are closer both. */
+export function smoothed(changes, shortest) {
+  const kept = [];
+  for (let i = 0; i < changes.length; ) {
+    if (i + 1 < changes.length && changes[i + 1] - changes[i] < shortest) i += 2;
+    else kept.push(changes[i++]);
+  }
+  return kept;
+}
+
+/* A room's own text: its devices, its plugs, and the lines of its script by number. */
+export function readRoom(text) {
+  const lines = text.split('\n');
+  const at = lines.indexOf('script');
+  const room = { devices: [], plugs: [], script: new Map(), expectations: [] };
+  for (const line of lines.slice(0, at)) {
+    const words = line.split(' ');
+    if (words[0] === 'device') room.devices.push({ name: asText(words[1]), kind: asText(words[2]) });
+    if (words[0] === 'plug') room.plugs.push(words.slice(1, 4));
+  }
+  lines.slice(at + 1).forEach((whole, index) => {
+    const line = whole.replace(/^label \S+ /, '');
+    room.script.set(index + 1, line);
+    if (line.startsWith('expect ')) room.expectations.push(line);
+  });
+  return room;
+}
+
+/* What `mon --audit` remarks: by the line of the reading, and of all readings. */
+export function readAudit(text) {
+  const remarks = new Map();
+  const ofAll = [];
+  let reading = null;
+  for (const line of text.split('\n')) {
+    if (!line.startsWith('  ')) remarks.set((reading = line), []);
+    else if (line === '  all readings') reading = '';
+    else if (reading) remarks.get(reading).push(line.trim());
+    else ofAll.push(line.trim());
+  }
+  return { remarks, ofAll };
+}
+
+/* The first index of a sorted list whose value is at least `least`. */
+export function lowerBound(list, least, valueOf = value => value) {
+  let low = 0;
+  let high = list.length;
+  while (low < high) {
+    const middle = (low + high) >> 1;
+    if (valueOf(list[middle]) < least) low = middle + 1;
+    else high = middle;
+  }
+  return low;
+}

@@ -1,0 +1,519 @@
+// The page: data in, selection, search, keys. Its parts are linked: what is selected in one is shown in all.
+
+import { asMermaid, Chart } from './chart.js';
+import { byId, counted, html } from './elements.js';
+import { addWave, build, isWave } from './model.js';
+import { COMMANDS, drawSweep, help, PANELS } from './panels.js';
+import { acknowledgersOf, slotsOf } from './slots.js';
+import { asText, kindOf, lowerBound, readDump } from './texts.js';
+import { meaningOf } from './words.js';
+import { Wave, wavesHeight } from './wave.js';
+
+const CHIPS = ['ack', 'ok', 'nack', 'refused', 'broken', 'poll', 'event'];
+const FAILED = ['nack', 'refused', 'broken', 'failed'];
+/* What is drawn last on the strip, so that it is never hidden. */
+const RANKS = { __proto__: null, event: 2, nack: 3, refused: 4, broken: 5, failed: 5 };
+const COLOURS = ['ink', 'bg', 'dim', 'rule', 'low', 'ack', 'ok', 'nack', 'refused', 'broken', 'poll', 'event'];
+const STRIP = 34;
+const MOST_EXPORTED = 5000; // rows
+const LATER = 1 << 20; // a wave of so many characters is read after the first picture
+const isFailed = row => FAILED.includes(row.cls) || (row.type === 'event' && row.o.verdict !== 'ok');
+
+class App {
+  constructor() {
+    Object.assign(this, {
+      model: build([]), texts: [], isWaiting: false, selected: null, banded: null, hidden: new Set(), unfolded: new Set(),
+      panel: 'selected', tableFrom: null, colours: {}, exportedText: '',
+    });
+    this.chart = new Chart(this, byId('chart'), byId('heads'), byId('space'));
+    this.wave = new Wave(this, byId('line'), byId('reading'));
+  }
+
+  /* Takes texts in the place of those that are there, or beside them. A long wave is added after the first picture. */
+  async load(texts, isMore = false) {
+    this.texts = isMore ? [...this.texts, ...texts] : texts;
+    const loaded = this.texts;
+    const later = loaded.filter(({ text }) => text.length > LATER && isWave(text));
+    this.isWaiting = later.length > 0;
+    this.show(loaded.filter(one => !later.includes(one)));
+    if (later.length > 0) await this.loadWaves(async () => later);
+  }
+  /* Adds waves once the page was drawn. */
+  async loadWaves(read) {
+    const loaded = this.texts;
+    this.isWaiting = true;
+    this.wave.drawSoon();
+    await new Promise(painted => requestAnimationFrame(() => setTimeout(painted)));
+    const waves = await read();
+    if (loaded !== this.texts) return; // others were loaded meanwhile
+    for (const one of waves) if (!loaded.includes(one)) loaded.push(one);
+    for (const one of waves) addWave(this.model, one, loaded[0]);
+    this.isWaiting = false;
+    this.showWave();
+    this.drawStrip(true);
+    this.drawPanel();
+  }
+  show(texts) {
+    this.selected = this.banded = this.tableFrom = null;
+    this.unfolded.clear();
+    try {
+      this.model = build(texts);
+    } catch (fault) {
+      this.model = build([]);
+      this.model.faults.push(`this data cannot be read: ${fault.message}`);
+    }
+    const { model } = this;
+    byId('title').textContent = model.title || 'hdminet';
+    document.title = model.title ? `${model.title} · hdminet` : 'hdminet';
+    byId('counts').textContent = this.countsText();
+    this.panel = this.firstPanel();
+    const isEmpty = model.rounds.length === 0 && !model.wave && !this.isWaiting;
+    for (const id of ['wave', 'wave-bar', 'strip']) byId(id).hidden = isEmpty;
+    this.filter();
+    this.showWave();
+    const failure = model.tests.find(test => !test.holds);
+    if (failure) this.showTest(failure);
+    else this.drawPanel();
+  }
+  countsText() {
+    const { rounds, tests, faults } = this.model;
+    if (rounds.length === 0 && tests.length === 0) return '';
+    const failed = tests.filter(test => !test.holds).length;
+    const all = counted(tests.length, 'test');
+    return [
+      counted(rounds.length, 'round'), tests.length > 0 && (failed > 0 ? `${failed} of ${all} failed` : `${all}, none failed`),
+      faults.length > 0 && counted(faults.length, 'note'),
+    ].filter(Boolean).join(', ');
+  }
+  firstPanel() {
+    const { tests, stretches, faults, rows, meanings } = this.model;
+    if (tests.length > 0 || stretches.length > 0) return 'report';
+    if (faults.length > 0 && rows.length === 0) return 'notes';
+    return rows.length > 0 ? 'look' : meanings.length > 0 ? 'edids' : 'selected';
+  }
+  /* The wave as high as its wires ask for, at what is selected or at the first rounds. */
+  showWave() {
+    const { model, wave, selected } = this;
+    const height = model.wave ? Math.min(wavesHeight(wave.wires.length), innerHeight * 0.42) : 118;
+    byId('wave').style.height = `${height}px`;
+    wave.cursors = [null, null];
+    const first = model.rounds[0];
+    if (selected && selected.type === 'round') wave.showRound(selected.o);
+    else if (first && model.wave) wave.see(first.begin - 5000, first.begin + 400000);
+    else wave.showAll();
+  }
+  async loadFiles(files) {
+    const texts = await Promise.all([...files].map(async file => ({ name: file.name, text: await file.text() })));
+    if (texts.length > 0) await this.loadGiven(texts);
+  }
+  /* Objects are a new run; anything else is added to what is there. */
+  loadGiven(texts) {
+    return this.load(texts, this.texts.length > 0 && texts.every(({ text }) => kindOf(text) !== 'objects'));
+  }
+  loadPasted(text) {
+    if (text.trim()) this.loadGiven([{ name: 'pasted', text }]);
+  }
+
+  /* Which rows are shown: those that have all words of the search, whose chip is on; attempts that failed alike are folded. */
+  filter() {
+    const words = byId('search').value.toLowerCase().split(/\s+/).filter(Boolean);
+    const rows = [];
+    for (const row of this.model.rows) {
+      row.folded = row.into = null;
+      if (this.hidden.has(row.cls) && row.type !== 'test') continue;
+      const isFound = row.type !== 'gap' && row.type !== 'end' && words.every(word => row.find.includes(word));
+      if (words.length > 0 && !isFound) continue;
+      const last = rows[rows.length - 1];
+      if (words.length === 0 && last && this.isFoldedInto(row, last)) {
+        last.folded = last.folded || [last];
+        last.folded.push(row);
+        row.into = last;
+      } else {
+        rows.push(row);
+      }
+    }
+    this.chart.show(rows);
+    if (this.selected) this.chart.reveal(this.selected);
+    this.drawStrip(true);
+    if (this.panel === 'table') this.openTable(null);
+  }
+  isFoldedInto(row, last) {
+    if (row.type !== 'round' || last.type !== 'round' || this.unfolded.has(row.first)) return false;
+    return row.first === last.first && row.cls === last.cls && (row.cls === 'nack' || row.cls === 'refused');
+  }
+  searchFor(text) {
+    byId('search').value = text;
+    this.filter();
+  }
+
+  select(row, { keepsWave = false, keepsPanel = false } = {}) {
+    if (row.into) {
+      this.unfolded.add(row.first);
+      this.filter();
+    }
+    if (this.chart.shown[row.place] !== row) {
+      byId('search').value = '';
+      this.hidden.clear();
+      this.filter();
+    }
+    this.selected = row;
+    if (!keepsPanel && !(this.panel === 'report' && this.banded)) this.panel = 'selected';
+    this.chart.drawn = null;
+    this.chart.reveal(row);
+    this.chart.draw();
+    byId('chart').setAttribute('aria-activedescendant', `row${row.index}`);
+    if (!keepsWave && this.model.wave) {
+      if (row.type === 'round') this.wave.showRound(row.o);
+      else this.wave.see(row.at - 60000, (row.until ?? row.at) + 60000);
+    }
+    this.wave.drawSoon();
+    if (!keepsPanel) this.drawPanel();
+  }
+  /* Unfolds or folds attempts, or shows the wave of a round. */
+  toggle(row) {
+    const { first } = row;
+    if (row.folded || this.unfolded.has(first)) {
+      if (!this.unfolded.delete(first)) this.unfolded.add(first);
+      this.filter();
+      this.chart.draw();
+    } else if (row.type === 'round') {
+      this.wave.showRound(row.o);
+    }
+  }
+  /* Marks the window of a test, and selects what was seen. */
+  showTest(test) {
+    this.banded = test;
+    this.panel = 'report';
+    const { rows } = this.model;
+    const { window } = test;
+    const isWindow = window && window.from !== null;
+    const seen = test.rows[0] || test.event || rows.find(one => one.test === test);
+    const row = seen || rows.find(one => isWindow && one.at >= window.from);
+    if (row) this.select(row);
+    else this.drawPanel();
+    if (isWindow && this.model.wave) this.wave.see(window.from - 20000, window.to + 20000);
+  }
+  isBanded(row) {
+    const test = this.banded;
+    if (!test) return false;
+    const { window } = test;
+    const isWindow = window && window.from !== null && row.type === 'round';
+    return row === test.event || test.rows.includes(row) || (isWindow && row.at >= window.from && row.until <= window.to);
+  }
+  openPanel(name) {
+    this.panel = name;
+    this.tableFrom = null;
+    this.drawPanel();
+  }
+  openTable(from) {
+    this.tableFrom = from;
+    this.drawPanel();
+  }
+
+  /* Draws what is neither chart nor wave. */
+  drawPanel() {
+    const { model } = this;
+    const focused = document.activeElement && document.activeElement.closest('#tabs, #chips') ? document.activeElement.id : '';
+    const tab = ([name, panel]) => html('button', {
+      id: `tab-${name}`, role: 'tab', 'aria-selected': String(name === this.panel), 'aria-controls': 'panel',
+      click: () => this.openPanel(name),
+    }, panel.name);
+    byId('tabs').replaceChildren(...Object.entries(PANELS).filter(([, panel]) => panel.isThere(model)).map(tab));
+    const isEmpty = [model.rows, model.faults, model.tests, model.stretches, model.meanings].every(list => list.length === 0);
+    const content = isEmpty ? [html('p', { class: 'dim' }, 'No data yet.')] : PANELS[this.panel].draw(this, model);
+    byId('panel').replaceChildren(html('div', {}, content));
+    const counts = new Map();
+    for (const { cls } of model.rows) counts.set(cls, (counts.get(cls) || 0) + 1);
+    const chip = cls => html('button', {
+      id: `chip-${cls}`, class: `chip ${cls}`, 'aria-pressed': String(!this.hidden.has(cls)), click: () => this.toggleChip(cls),
+    }, `${cls} ${counts.get(cls)}`);
+    byId('chips').replaceChildren(...CHIPS.filter(cls => counts.get(cls)).map(chip));
+    if (focused && byId(focused)) byId(focused).focus();
+  }
+  toggleChip(cls) {
+    if (!this.hidden.delete(cls)) this.hidden.add(cls);
+    this.filter();
+    this.drawPanel();
+  }
+  /* What stands where no row is shown. */
+  whatElse() {
+    const { rows, stretches, tests, meanings } = this.model;
+    if (rows.length > 0) return html('p', { class: 'empty dim' }, 'No row meets the search.');
+    if (stretches.length > 0) return html('div', { class: 'empty' }, drawSweep(this.model, 700));
+    if (tests.length > 0 || meanings.length > 0) return html('p', { class: 'empty dim' }, 'No rounds: the data is at the right.');
+    return html(
+      'div', { class: 'empty' },
+      html('h2', {}, 'Look at a run, a capture or a report of hdminet'),
+      html('p', {}, 'Drop files here, press ', html('kbd', {}, 'o'), ' to open or paste, or make a page with its data in it:'),
+      html('pre', {}, 'tools/look x.net\ntools/look x.test\ntools/look capture.vcd'),
+      html('p', {}, 'Files that it reads, several at a time:'), html('pre', {}, COMMANDS),
+    );
+  }
+
+  /* The whole run in one strip. The rows in sight and the wave's part are marked. */
+  drawStrip(isChanged) {
+    const canvas = byId('strip');
+    const { chart, model, colours, wave } = this;
+    const width = canvas.clientWidth;
+    const scale = devicePixelRatio || 1;
+    if (!width || !chart) return;
+    const x = instant => (instant / model.end) * width;
+    const pixels = Math.max(Math.round(width * scale), 1);
+    if (isChanged || !this.strip || this.strip.width !== pixels) this.strip = this.wholeStrip(pixels, scale, x);
+    const pen = canvas.getContext('2d');
+    canvas.width = this.strip.width;
+    canvas.height = this.strip.height;
+    pen.drawImage(this.strip, 0, 0);
+    pen.scale(scale, scale);
+    const [first, last] = chart.sight().map(i => chart.shown[i]);
+    if (first) {
+      pen.fillStyle = colours.ink;
+      pen.globalAlpha = 0.12;
+      pen.fillRect(x(first.at), 0, Math.max(x(last.until ?? last.at) - x(first.at), 3), STRIP);
+      pen.globalAlpha = 1;
+    }
+    if (!model.wave) return;
+    const from = x(Math.max(wave.from, 0));
+    pen.fillStyle = colours.ok;
+    pen.fillRect(from, STRIP - 5, Math.max(x(wave.to) - from, 3), 4);
+  }
+  wholeStrip(pixels, scale, x) {
+    const strip = new OffscreenCanvas(pixels, Math.round(STRIP * scale));
+    const pen = strip.getContext('2d');
+    pen.scale(scale, scale);
+    for (const rank of [0, 2, 3, 4, 5]) {
+      for (const row of this.chart.shown) {
+        if ((RANKS[row.cls] || 0) !== rank || row.type === 'gap' || row.type === 'end') continue;
+        pen.fillStyle = this.colours[row.cls] || this.colours.dim;
+        if (row.type === 'event') pen.fillRect(x(row.at) - 1, 0, 2, 8);
+        else if (row.type === 'test') pen.fillRect(x(row.at) - 1, 0, 3, STRIP);
+        else pen.fillRect(x(row.at), 11, Math.max(x(row.until ?? row.at) - x(row.at), 1), 14);
+      }
+    }
+    return strip;
+  }
+  selectAt(part) {
+    const { shown } = this.chart;
+    const row = shown[Math.min(lowerBound(shown, part * this.model.end, one => one.at), shown.length - 1)];
+    if (row) this.select(row);
+  }
+
+  setTheme(name) {
+    const root = document.documentElement;
+    root.dataset.theme = name || (root.dataset.theme === 'dark' ? 'light' : 'dark');
+    const style = getComputedStyle(root);
+    for (const colour of COLOURS) this.colours[colour] = style.getPropertyValue(`--${colour}`).trim();
+    this.colours.idle = this.colours.dim;
+    this.colours.failed = this.colours.broken;
+    this.drawStrip(true);
+    this.wave.drawSoon();
+  }
+
+  tooMany() {
+    const { length } = this.chart.shown;
+    if (length > MOST_EXPORTED) this.say(`${length} rows are too many for a picture: search first, up to ${MOST_EXPORTED}.`);
+    return length > MOST_EXPORTED;
+  }
+  /* The rows shown as one SVG, in the colours of the page. */
+  exportSvg() {
+    if (this.tooMany()) return;
+    const rules = [...document.styleSheets].flatMap(sheet => [...sheet.cssRules]).map(rule => rule.cssText);
+    const isDark = document.documentElement.dataset.theme === 'dark';
+    const colours = rules.find(rule => rule.startsWith(isDark ? ':root[data-theme' : ':root {')).replace(/^[^{]*/, 'svg ');
+    const ofChart = rules.filter(rule => rule.includes('chart') && !rule.startsWith('#'));
+    const before = [this.selected, this.banded];
+    this.selected = this.banded = null;
+    const picture = this.chart.exported([colours, 'text { font-family: monospace }', ...ofChart].join('\n'));
+    [this.selected, this.banded] = before;
+    this.exportedText = new XMLSerializer().serializeToString(picture);
+    const url = URL.createObjectURL(new Blob([this.exportedText], { type: 'image/svg+xml' }));
+    html('a', { href: url, download: `${(this.model.title || 'chart').replace(/\W+/g, '-')}.svg` }).click();
+    setTimeout(() => URL.revokeObjectURL(url), 1000);
+    this.say(`${this.chart.shown.length} rows as SVG, ${Math.ceil(this.exportedText.length / 1024)} KiB`);
+  }
+  copyMermaid() {
+    if (this.tooMany()) return;
+    this.exportedText = asMermaid(this.model, this.chart.shown);
+    this.copy(this.exportedText);
+  }
+  copy(text) {
+    const failed = () => this.showDialog(html('p', {}, 'Copy this:'), html('pre', {}, text));
+    if (navigator.clipboard) navigator.clipboard.writeText(text).then(() => this.say('copied'), failed);
+    else failed();
+  }
+  say(text) {
+    const status = byId('status');
+    status.textContent = text;
+    status.classList.add('on');
+    clearTimeout(this.quiet);
+    this.quiet = setTimeout(() => status.classList.remove('on'), 2500);
+  }
+  showDialog(...content) {
+    const close = html('button', { class: 'close', click: () => byId('dialog').close() }, 'Close');
+    byId('dialog').replaceChildren(html('div', {}, close, content));
+    byId('dialog').showModal();
+  }
+  showHelp() {
+    this.showDialog(help());
+  }
+  showOpen() {
+    const area = html('textarea', { placeholder: 'or paste here', 'aria-label': 'Pasted data' });
+    const see = () => {
+      byId('dialog').close();
+      this.loadPasted(area.value);
+    };
+    this.showDialog(
+      html('h2', {}, 'Open'),
+      html('p', {}, html('button', { click: () => byId('file').click() }, 'Choose files ..'),
+        ' several at a time: objects of the run, its dump, its room'),
+      area, html('p', {}, html('button', { click: see }, 'See what is pasted')), html('pre', {}, COMMANDS),
+    );
+  }
+
+  /* Keys of the page. Those of the wave are its own. */
+  key(event) {
+    const { target } = event;
+    if (target.id === 'search' && event.key === 'Escape') {
+      this.searchFor('');
+      byId('chart').focus();
+      return;
+    }
+    if (target.id === 'search' && event.key === 'Enter') {
+      byId('chart').focus();
+      if (this.chart.shown[0]) this.select(this.chart.shown[0]);
+      return;
+    }
+    const isTyping = /INPUT|TEXTAREA/.test(target.tagName);
+    if (isTyping || event.ctrlKey || event.metaKey || event.altKey || byId('dialog').open) return;
+    const isOfChart = /^(BODY|SECTION)$/.test(target.tagName);
+    const keys = { ...this.pageKeys(), ...(isOfChart ? this.chartKeys() : {}) };
+    if (!Object.hasOwn(keys, event.key)) return;
+    keys[event.key]();
+    event.preventDefault();
+  }
+  pageKeys() {
+    return {
+      '/': () => byId('search').focus(),
+      '?': () => this.showHelp(),
+      o: () => this.showOpen(),
+      e: () => this.exportSvg(),
+      m: () => this.copyMermaid(),
+      t: () => this.setTheme(),
+      w: () => byId('line').focus(),
+      c: () => byId('chart').focus(),
+      n: () => this.goToFailed(1),
+      N: () => this.goToFailed(-1),
+    };
+  }
+  chartKeys() {
+    const page = Math.max(Math.floor(byId('chart').clientHeight / 36), 1);
+    return {
+      ArrowDown: () => this.goTo(this.place + 1),
+      ArrowUp: () => this.goTo(this.place - 1),
+      PageDown: () => this.goTo(this.place + page),
+      PageUp: () => this.goTo(this.place - page),
+      Home: () => this.goTo(0),
+      End: () => this.goTo(this.chart.shown.length - 1),
+      Enter: () => this.selected && this.toggle(this.selected),
+    };
+  }
+  /* The place of the selected row among those that are shown. */
+  get place() {
+    return this.selected && this.chart.shown[this.selected.place] === this.selected ? this.selected.place : -1;
+  }
+  goTo(place) {
+    const { shown } = this.chart;
+    if (shown.length > 0) this.select(shown[Math.min(Math.max(place, 0), shown.length - 1)]);
+  }
+  goToFailed(way) {
+    const { shown } = this.chart;
+    for (let i = this.place + way; i >= 0 && i < shown.length; i += way) {
+      if (!isFailed(shown[i])) continue;
+      this.goTo(i);
+      return;
+    }
+    this.say('no further one');
+  }
+}
+
+/* A bar between two parts, moved by the mouse or by arrow keys. */
+function makeBar(bar, isVertical, size, resize) {
+  const place = event => (isVertical ? event.clientX : event.clientY);
+  const set = value => resize(Math.max(value, 60));
+  bar.addEventListener('pointerdown', down => {
+    bar.setPointerCapture(down.pointerId);
+    const before = size();
+    bar.onpointermove = event => set(before + place(down) - place(event));
+  });
+  bar.addEventListener('pointerup', () => {
+    bar.onpointermove = null;
+  });
+  bar.addEventListener('keydown', event => {
+    const way = { ArrowLeft: 20, ArrowUp: 20, ArrowRight: -20, ArrowDown: -20 }[event.key];
+    if (!way) return;
+    set(size() + way);
+    event.preventDefault();
+    event.stopPropagation();
+  });
+}
+
+/* The text of a part that tools/page put in: base64 of zlib. */
+async function inflated({ deflated }) {
+  const packed = atob(deflated);
+  const bytes = new Uint8Array(packed.length);
+  for (let i = 0; i < packed.length; i++) bytes[i] = packed.charCodeAt(i);
+  return new Response(new Blob([bytes]).stream().pipeThrough(new DecompressionStream('deflate'))).text();
+}
+async function loadEmbedded(app) {
+  const parts = JSON.parse(byId('data').textContent) || [];
+  const readOne = async part => ({ ...part, name: asText(part.name), text: await inflated(part) });
+  const read = wanted => Promise.all(wanted.map(readOne));
+  const waves = parts.filter(part => part.wave && part.size > LATER);
+  app.isWaiting = waves.length > 0;
+  await app.load(await read(parts.filter(part => !waves.includes(part))));
+  app.isWaiting = waves.length > 0;
+  requestAnimationFrame(() => performance.mark('first picture'));
+  if (waves.length > 0) await app.loadWaves(() => read(waves));
+  performance.mark('loaded');
+}
+
+function listen(app) {
+  const onClick = (id, act) => byId(id).addEventListener('click', act);
+  onClick('open', () => app.showOpen());
+  onClick('export', () => app.exportSvg());
+  onClick('mermaid', () => app.copyMermaid());
+  onClick('theme', () => app.setTheme());
+  onClick('help', () => app.showHelp());
+  onClick('strip', event => app.selectAt(event.offsetX / event.target.clientWidth));
+  byId('search').addEventListener('input', () => app.filter());
+  byId('file').addEventListener('change', event => {
+    byId('dialog').close();
+    app.loadFiles(event.target.files);
+    event.target.value = '';
+  });
+  document.addEventListener('keydown', event => app.key(event));
+  document.addEventListener('paste', event => {
+    if (!/INPUT|TEXTAREA/.test(event.target.tagName)) app.loadPasted(event.clipboardData.getData('text'));
+  });
+  for (const kind of ['dragenter', 'dragover', 'dragleave', 'drop']) {
+    document.addEventListener(kind, event => {
+      event.preventDefault();
+      byId('drop').hidden = kind === 'drop' || (kind === 'dragleave' && !event.relatedTarget);
+      if (kind === 'drop') app.loadFiles(event.dataTransfer.files);
+    });
+  }
+  const side = document.querySelector('aside');
+  makeBar(byId('side-bar'), true, () => side.offsetWidth, width => {
+    side.style.width = `${width}px`;
+  });
+  makeBar(byId('wave-bar'), false, () => byId('wave').offsetHeight, height => {
+    byId('wave').style.height = `${height}px`;
+  });
+}
+
+const app = new App();
+app.setTheme(matchMedia('(prefers-color-scheme: dark)').matches ? 'dark' : 'light');
+listen(app);
+loadEmbedded(app).catch(fault => app.say(`the data of this page cannot be read: ${fault.message}`));
+/* For the console of the browser, and for tests. */
+window.hdminet = { app, PANELS, acknowledgersOf, kindOf, meaningOf, readDump, slotsOf };
