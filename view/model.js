@@ -109,6 +109,28 @@ class Tree {
   constructor(room) {
     this.parents = new Map(room.plugs.map(([child, parent, port]) => [child, [parent, port]]));
     this.kinds = new Map(room.devices.map(({ name, kind }) => [name, kind]));
+    this.places = new Map(); // what was asked since the last change
+  }
+  plug(child, parent, port) {
+    this.parents.set(child, [parent, port]);
+    this.places.clear();
+  }
+  unplug(child) {
+    this.parents.delete(child);
+    this.places.clear();
+  }
+  isJoined(device) {
+    return this.physicalOf(device) !== '';
+  }
+  /* The physical address of a device, or nothing where it is not joined to the television. */
+  physicalOf(device) {
+    if (!this.places.has(device)) this.places.set(device, this.placeOf(device));
+    return this.places.get(device);
+  }
+  placeOf(device) {
+    const ports = this.portsTo(device);
+    if (ports === null) return '';
+    return ports.length > 4 ? 'f.f.f.f' : [0, 1, 2, 3].map(i => (Number(ports[i]) || 0).toString(16)).join('.');
   }
   portsTo(device) {
     const ports = [];
@@ -120,14 +142,6 @@ class Tree {
       device = up[0];
     }
     return null;
-  }
-  isJoined(device) {
-    return this.portsTo(device) !== null;
-  }
-  physicalOf(device) {
-    const ports = this.portsTo(device);
-    if (ports === null) return '';
-    return ports.length > 4 ? 'f.f.f.f' : [0, 1, 2, 3].map(i => (Number(ports[i]) || 0).toString(16)).join('.');
   }
 }
 
@@ -186,10 +200,10 @@ class Holders {
       this.note(row, index);
     }
     if (!tree || (verb !== 'plug' && verb !== 'unplug')) return;
-    const places = () => model.lanes.map(lane => (tree.isJoined(lane.name) ? tree.physicalOf(lane.name) : null));
+    const places = () => model.lanes.map(lane => tree.physicalOf(lane.name));
     const before = places();
-    if (verb === 'plug') tree.parents.set(name, [parent, port]);
-    else tree.parents.delete(name);
+    if (verb === 'plug') tree.plug(name, parent, port);
+    else tree.unplug(name);
     places().forEach((place, lane) => {
       if (place === before[lane]) return;
       held[lane] = this.atFirst(model.lanes[lane]);
@@ -239,9 +253,16 @@ function addRows(model) {
   }
   model.rows.forEach((row, index) => {
     row.index = index;
+  });
+}
+
+/* What a search looks at in a row. */
+export function findIn(row) {
+  if (row.find === undefined) {
     const { line = '', bytes = '' } = row.o || {};
     row.find = [line.slice(0, 300), row.text, row.cls, bytes].join(' ').toLowerCase();
-  });
+  }
+  return row.find;
 }
 
 /* A sender stops where a block was not taken: the round is then silent after whole blocks, and the last bit says so. */
@@ -339,7 +360,7 @@ function insertFailure(model, test) {
   const said = test.text || `refused ${test.refused}`;
   const failure = {
     type: 'test', at: test.at, test, cls: 'failed', verdict: 'failed', changes: [],
-    text: `not ok ${test.test}  ${said}`, find: `not ok ${said} failed`.toLowerCase(),
+    text: `not ok ${test.test}  ${said}`,
   };
   let i = rows.findIndex(row => row.type !== 'ports' && row.type !== 'gap' && row.at > test.at);
   if (i < 0) i = rows.length;

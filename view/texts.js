@@ -57,67 +57,64 @@ export function readObjects(text, model) {
 
 /* An object with each field of its type, or null where it is none of the program's. */
 function cleaned(o) {
-  const c = { type: asText(o.type), line: asText(o.line) };
-  switch (c.type) {
+  const type = asText(o.type);
+  const line = asText(o.line);
+  switch (type) {
     case 'round':
     case 'reading':
-      Object.assign(c, {
-        begin: asNumber(o.begin),
-        close: asNumber(o.close),
-        ending: asText(o.ending),
-        frame: asText(o.frame),
-        initiator: asText(o.initiator),
-        destination: asText(o.destination),
-        bytes: /^([0-9a-f]{2})+$/.test(asText(o.bytes)) ? asText(o.bytes) : '',
-        verdict: asText(o.verdict),
-        bits: asText(o.bits),
-        by: asList(o.by).map(asText),
-        out: asList(o.out).map(x => ({ device: asText(x && x.device), slot: asNumber(x && x.slot) })),
-      });
-      return c.begin === null || c.close === null ? null : c;
-    case 'event':
-      Object.assign(c, {
-        at: asNumber(o.at),
-        scriptLine: asNumber(o.script_line),
-        verdict: asText(o.verdict),
-        cause: asText(o.cause),
-      });
-      return c.at === null ? null : c;
-    case 'port':
-      Object.assign(c, { at: asNumber(o.at), device: asText(o.device), port: asNumber(o.port), edid: asText(o.edid) });
-      return c.at === null ? null : c;
-    case 'state':
-      return Object.assign(c, {
-        device: asText(o.device),
-        kind: asText(o.kind),
-        logical: asList(o.logical_addresses),
-        physical: asText(o.physical_address),
-        fields: o,
-      });
+      return cleanedRound(type, line, o);
+    case 'event': {
+      const at = asNumber(o.at);
+      const scriptLine = asNumber(o.script_line);
+      return at === null ? null : { type, line, at, scriptLine, verdict: asText(o.verdict), cause: asText(o.cause) };
+    }
+    case 'port': {
+      const at = asNumber(o.at);
+      return at === null ? null : { type, line, at, device: asText(o.device), port: asNumber(o.port), edid: asText(o.edid) };
+    }
+    case 'state': {
+      const [logical, physical] = [asList(o.logical_addresses), asText(o.physical_address)];
+      return { type, line, device: asText(o.device), kind: asText(o.kind), logical, physical, fields: o };
+    }
     case 'end':
-      return Object.assign(c, { at: asNumber(o.at) });
-    case 'test':
-      return Object.assign(c, {
-        test: asNumber(o.test),
-        scriptLine: asNumber(o.script_line),
-        holds: o.holds === true,
-        text: asText(o.expectation),
-        refused: asText(o.refused),
-        window: null,
-        seen: [],
-      });
+      return { type, line, at: asNumber(o.at) };
+    case 'test': {
+      const [text, refused] = [asText(o.expectation), asText(o.refused)];
+      const [test, scriptLine] = [asNumber(o.test), asNumber(o.script_line)];
+      return { type, line, test, scriptLine, holds: o.holds === true, text, refused, window: null, seen: [] };
+    }
     case 'window':
-      return Object.assign(c, { from: asNumber(o.from), to: asNumber(o.to), seen: asNumber(o.seen) });
+      return { type, line, from: asNumber(o.from), to: asNumber(o.to), seen: asNumber(o.seen) };
     case 'stretch':
-      return Object.assign(c, { from: asNumber(o.from), to: asNumber(o.to), holds: asList(o.holds) });
+      return { type, line, from: asNumber(o.from), to: asNumber(o.to), holds: asList(o.holds) };
     case 'version':
     case 'trace':
     case 'plan':
     case 'other':
-      return c;
+      return { type, line };
     default:
       return null;
   }
+}
+
+function cleanedRound(type, line, o) {
+  const begin = asNumber(o.begin);
+  const close = asNumber(o.close);
+  const bytes = asText(o.bytes);
+  if (begin === null || close === null) return null;
+  return {
+    type, line, begin, close,
+    ending: asText(o.ending),
+    frame: asText(o.frame),
+    initiator: asText(o.initiator),
+    destination: asText(o.destination),
+    bytes: /^([0-9a-f]{2})+$/.test(bytes) ? bytes : '',
+    verdict: asText(o.verdict),
+    bits: asText(o.bits),
+    by: asList(o.by).map(asText),
+    out: asList(o.out).map(x => ({ device: asText(x && x.device), slot: asNumber(x && x.slot) })),
+    row: null, slots: null, slotsOf: null,
+  };
 }
 
 /* A wire is its name and the instants of its changes: it is high before the first, and each changes its level. So the level at an

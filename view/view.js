@@ -2,7 +2,7 @@
 
 import { asMermaid, Chart } from './chart.js';
 import { byId, counted, html } from './elements.js';
-import { addWave, build, isWave } from './model.js';
+import { addWave, build, findIn, isWave } from './model.js';
 import { COMMANDS, drawSweep, help, PANELS } from './panels.js';
 import { acknowledgersOf, slotsOf } from './slots.js';
 import { asText, kindOf, lowerBound, readDump } from './texts.js';
@@ -121,7 +121,7 @@ class App {
     for (const row of this.model.rows) {
       row.folded = row.into = null;
       if (this.hidden.has(row.cls) && row.type !== 'test') continue;
-      const isFound = row.type !== 'gap' && row.type !== 'end' && words.every(word => row.find.includes(word));
+      const isFound = row.type !== 'gap' && row.type !== 'end' && words.every(word => findIn(row).includes(word));
       if (words.length > 0 && !isFound) continue;
       const last = rows[rows.length - 1];
       if (words.length === 0 && last && this.isFoldedInto(row, last)) {

@@ -1,0 +1,719 @@
+#!/usr/bin/env python3
+"""page.py BROWSER ROOM: the tests of tests/page.sh. ROOM is a folder for what they make; HDMINET names the program."""
+import json
+import os
+import random
+import re
+import signal
+import subprocess
+import sys
+import time
+
+from browser import Browser
+
+TOP = os.path.dirname(os.path.dirname(os.path.realpath(__file__)))
+EXAMPLES = os.path.join(TOP, "examples")
+PROGRAM = os.environ["HDMINET"]
+BROWSER, ROOM = sys.argv[1:3]
+
+# A lost arbitration, six attempts, a refused event, a device that loses its address, and a pulse that is no start bit.
+RETRIES = """device tv tv 4
+device amp amp 2
+device p1 player 0
+device p2 player 0
+device dut outside 0
+plug amp tv 1
+plug p1 amp 1
+plug p2 amp 2
+plug dut tv 3
+script
+at 2000000 send tv 0>3 give-osd-name
+at 3000000 press p1 play
+at 3000000 press p2 play
+at 4000000 unplug amp
+at 4500000 plug amp tv 2
+at 6000000 hold dut 1
+at 6000000 send dut 1>f active-source 3.0.0.0
+at 6000000 send dut 1>5 give-audio-status
+at 6500000 send tv 0>1 give-osd-name
+at 6700000 send tv 0>4 record-on :0102
+pulse 7006500 700
+at 7000000 send p1 4>0 image-view-on
+at 7000000 send p2 8>0 image-view-on
+at 7500000 press p1 volume-up
+pulse 8000000 700
+end 9000000
+"""
+
+# What the tests ask of the page, in the page: what is drawn of a row, by the names of the lanes that the marks stand at.
+HELPERS = r"""
+window.testing = {
+  app: hdminet.app,
+  rowOf(text, nth = 0) {
+    return this.app.model.rows.filter(row => (row.o ? row.o.line : row.text || '').includes(text))[nth];
+  },
+  laneAt(x) {
+    const { chart, model } = this.app;
+    const i = model.lanes.findIndex((_, lane) => Math.abs(chart.laneX(lane) - x) < 0.6);
+    return i < 0 ? 'open' : model.lanes[i].name;
+  },
+  drawn(text, nth = 0) {
+    const { app } = this;
+    const row = this.rowOf(text, nth);
+    if (!row) throw new Error(`no row ${text}`);
+    if (row.into) app.toggle(row);
+    app.chart.box.scrollTop = app.chart.tops[row.place];
+    app.chart.draw();
+    const group = document.getElementById(`row${row.index}`);
+    const all = (selector, of) => [...group.querySelectorAll(selector)].map(of);
+    const box = group.querySelector('.hit').getBoundingClientRect();
+    const top = document.elementFromPoint(box.x + 300, box.y + box.height / 2);
+    const arrows = all('path.arrow', path => {
+      const [, from, to] = /^M(\S+) \S+?H?(?:H(\S+))?$/.exec(path.getAttribute('d').replace(/l.*|h.*|a.*/, '')) || [];
+      return { from: this.laneAt(Number(from)), to: to === undefined ? '' : this.laneAt(Number(to)) };
+    });
+    const style = selector => getComputedStyle(group.querySelector(selector) || group);
+    return {
+      cls: [...group.classList].filter(name => !['row', 'banded'].includes(name)).join(' '),
+      arrows, colour: style('.arrow').stroke, isDashed: style('.arrow').strokeDasharray !== 'none',
+      senders: all('circle.solid[r="3.4"]', dot => this.laneAt(Number(dot.getAttribute('cx')))),
+      hearers: all('circle.solid[r="2.6"]', dot => this.laneAt(Number(dot.getAttribute('cx')))),
+      crosses: all('.cross', () => 1).length, circles: all('circle.hollow', () => 1).length,
+      losers: all('.lost', path => this.laneAt(Number(/^M(\S+)/.exec(path.getAttribute('d'))[1]) + 4)),
+      outs: all('.warn', one => one.textContent).filter(text => text.startsWith('out')),
+      verdict: all('.verdict', one => one.textContent).join(), label: all('.label', one => one.textContent).join(),
+      notes: all('.note', one => one.textContent).join(), claims: all('.claim + text', one => one.textContent).join(),
+      isVisible: Boolean(top && top.closest(`#row${row.index}`)),
+    };
+  },
+  /* Whether a wire of the wave is drawn low at an instant: by the pixels of the canvas. */
+  isLow(wire, instant) {
+    const { wave, chart } = this.app;
+    wave.scroll = 0;
+    wave.draw();
+    const top = 20 + 46 + wire * 24;
+    const scale = devicePixelRatio || 1;
+    const pen = wave.canvas.getContext('2d');
+    const ink = y => {
+      const pixels = pen.getImageData(Math.round(wave.x(instant) * scale), Math.round(y * scale) - 1, 1, 3).data;
+      return [3, 7, 11].some(i => pixels[i] > 90);
+    };
+    const [high, low] = [ink(top + 5), ink(top + 20)];
+    return high === low ? (wire > 0 && high ? true : `high ${high} low ${low}`) : low;
+  },
+  panel() {
+    return document.getElementById('panel').textContent;
+  },
+};
+true
+"""
+
+
+class Tests:
+    def __init__(self):
+        self.passed = 0
+        self.failed = 0
+
+    def same(self, what, got, wanted):
+        self.holds(what, got == wanted, f"got {got!r}, wanted {wanted!r}")
+
+    def holds(self, what, is_so, why=""):
+        if is_so:
+            self.passed += 1
+        else:
+            self.failed += 1
+            print(f"not ok: {what}: {why}"[:1500])
+
+
+def program(data, *flags):
+    done = subprocess.run([PROGRAM, *flags], input=data.encode(), capture_output=True, check=False)
+    return done.stdout.decode()
+
+
+def example(name):
+    with open(os.path.join(EXAMPLES, name), encoding="utf-8") as file:
+        return file.read()
+
+
+def written(name, text):
+    path = os.path.join(ROOM, name)
+    with open(path, "w", encoding="utf-8") as file:
+        file.write(text)
+    return path
+
+
+def page_of(path, *flags):
+    """The page of a file, as tools/page makes it."""
+    page = os.path.join(ROOM, f"{os.path.basename(path)}.html")
+    subprocess.run([os.path.join(TOP, "tools/page"), path, "-o", page, *flags], check=True)
+    return page
+
+
+def show(b, path, *flags):
+    b.open(page_of(path, *flags))
+    b.js(HELPERS)
+
+
+def drawn(b, text, nth=0):
+    return b.js(f"testing.drawn({json.dumps(text)}, {nth})")
+
+
+def load(b, *texts):
+    parts = json.dumps([{"name": f"text {i}", "text": text} for i, text in enumerate(texts)])
+    b.js(f"(async () => {{ await hdminet.app.load({parts}); }})()")
+
+
+def verdicts_are_drawn(t, b):
+    """A frame of each verdict: who sent it, where its arrow ends, its colour, its word."""
+    show(b, os.path.join(EXAMPLES, "living-room-evening.net"))
+    style = "getComputedStyle(document.documentElement).getPropertyValue('--%s').trim()"
+    colour = {name: b.js(style % name) for name in ("ack", "ok", "refused", "broken", "poll", "nack")}
+    as_rgb = {name: f"rgb({int(c[1:3], 16)}, {int(c[3:5], 16)}, {int(c[5:7], 16)})" for name, c in colour.items()}
+
+    ack = drawn(b, "4>0 image-view-on ack")
+    t.same("ack: the arrow", ack["arrows"], [{"from": "p1", "to": "tv"}])
+    t.same("ack: what it says", [ack["cls"], ack["colour"], ack["verdict"], ack["label"], ack["isVisible"]],
+           ["ack", as_rgb["ack"], "ack", "image-view-on", True])
+    ok = drawn(b, "5>f report-physical-address 1.0.0.0")
+    t.same("ok: from the amplifier to all that are joined", [ok["arrows"], ok["senders"], ok["hearers"]],
+           [[{"from": "tv", "to": "rec"}], ["amp"], ["p1", "sw"]])
+    t.same("ok: what it says", [ok["cls"], ok["colour"], ok["verdict"]], ["ok", as_rgb["ok"], "ok"])
+    refused = drawn(b, "0>f request-active-source refused")
+    t.same("refused", [refused["cls"], refused["colour"], refused["verdict"], refused["crosses"]],
+           ["refused", as_rgb["refused"], "refused", 1])
+    short = drawn(b, " short 0")
+    t.same("short", [short["cls"], short["colour"], short["verdict"], short["label"], short["isDashed"], short["senders"]],
+           ["broken", as_rgb["broken"], "short", "short after 0", True, ["p1"]])
+    free = drawn(b, "0>0 nack by tv")
+    t.same("a poll that nobody took", [free["cls"], free["verdict"], free["claims"]], ["poll", "free", "0"])
+    t.same("its loser in the arbitration", [free["losers"], free["outs"]], [["sw"], ["out @1"]])
+    taken = drawn(b, "4>4 ack by p2")
+    t.same("a poll that was taken", [taken["cls"], taken["verdict"], taken["label"]], ["poll", "taken", "poll 4"])
+    t.same("no note of a disagreement", b.js("testing.app.model.faults"), [])
+
+    show(b, written("retries.net", RETRIES))
+    nack = drawn(b, "by - out tv@10")
+    t.same("nack: nobody holds the address", [nack["cls"], nack["colour"], nack["senders"], nack["crosses"], nack["circles"]],
+           ["nack", as_rgb["nack"], ["tv"], 1, 1])
+    bad = drawn(b, " bad-start ")
+    t.same("a bad start begins at the border", [bad["cls"], bad["verdict"], bad["senders"]], ["broken", "bad-start", ["open"]])
+
+
+def retries_are_folded(t, b):
+    """Attempts of one frame that failed alike are one row, which unfolds."""
+    show(b, written("retries.net", RETRIES))
+    first = "testing.app.model.rows.find(row => row.cls === 'nack')"
+    attempts = b.js(f"{first}.attempts")
+    t.same("a frame that nobody takes is tried again five times (CEC 7.1)", attempts, 6)
+    folded = drawn(b, b.js(f"{first}.o.line"))
+    t.same("the folded row", [folded["verdict"], folded["notes"], folded["circles"]],
+           [f"silent ×{attempts}", f"▸ attempts 1–{attempts}", 1])
+    before = b.js("testing.app.chart.shown.length")
+    b.js(f"testing.app.toggle({first})")
+    t.same("unfolded rows", b.js("testing.app.chart.shown.length") - before, attempts - 1)
+    second = b.js(f"testing.app.model.rows.filter(row => row.first === {first})[1].o.line")
+    t.same("the second attempt", drawn(b, second)["notes"], "attempt 2")
+    refused = drawn(b, "event 14 refused")
+    t.same("a refused event", [refused["label"], refused["cls"]], ["press p1 volume-up", "event"])
+    lost = drawn(b, "event 4 ok")
+    t.same("lost addresses", [lost["label"], lost["claims"]], ["unplug amp", "–,–,–"])
+    t.holds("and what to look at says so",
+            "p1 loses the address 4: unplug amp" in b.js("testing.app.openPanel('look'), testing.panel()"))
+    race = drawn(b, "4>0 image-view-on ack by p1 out p2@1")
+    t.same("a lost arbitration", [race["senders"], race["losers"], race["outs"]], [["p1"], ["p2"], ["out @1"]])
+
+
+def wave_is_drawn(t, b):
+    """The levels of the line and of each device, by pixels; bits, acknowledgers and cursors."""
+    show(b, os.path.join(EXAMPLES, "first-path.net"))
+    b.js("testing.app.select(testing.rowOf('4>0 image-view-on'))")
+    b.settle()
+    # CEC 5.2: a start bit is low for 3,700 of 4,500; block 0 ends with an ACK at slot 10, of 2,400 each
+    begin = 1000000
+    ack = begin + 4500 + 9 * 2400
+    wires = ["CEC", "tv", "p1"]
+    t.same("the wires", b.js("testing.app.wave.wires.map(wire => wire.name)"), [*wires, "pulses"])
+    for wire, instant, wanted in [("CEC", begin - 600, False), ("CEC", begin + 1500, True), ("CEC", begin + 4100, False),
+                                  ("CEC", ack + 1000, True), ("tv", ack + 1000, True), ("p1", ack + 1000, False),
+                                  ("tv", begin + 1500, False), ("p1", begin + 1500, True)]:
+        t.same(f"{wire} at {instant}", b.js(f"testing.isLow({wires.index(wire)}, {instant})"), wanted)
+    t.same("who acknowledged", b.js("hdminet.acknowledgersOf(testing.app.model, testing.rowOf('4>0 image-view-on').o)"),
+           [["tv"], ["tv"]])
+    t.holds("the panel says so", "acknowledged by tv" in b.js("testing.panel()"), b.js("testing.panel()"))
+    b.js("document.getElementById('line').focus()")
+    for key in ("f", ".", ">", ">"):
+        b.key(key)
+    b.settle()
+    t.same("cursors stand on edges",
+           b.js("testing.app.wave.cursors.every(at => testing.app.model.wave.line.changes.includes(at))"), True)
+    t.same("their distance is read",
+           bool(re.search(r"A \d+   B \d+   B−A \d+ µs", b.js("document.getElementById('reading').textContent"))), True)
+
+
+def capture_is_drawn(t, b):
+    """A capture with faults: what the audit remarks, and what is not read as a frame."""
+    show(b, os.path.join(EXAMPLES, "capture.sigrok.vcd"))
+    bad = drawn(b, " bad-start ")
+    t.same("a bad start", [bad["cls"], bad["label"]], ["broken", "bad-start"])
+    t.holds("its remark", "⚠ 1" in bad["verdict"], bad["verdict"])
+    b.js("testing.app.select(testing.rowOf(' bad-start '))")
+    t.holds("the remark in words", "start low 400 not 3500..3900" in b.js("testing.panel()"), b.js("testing.panel()"))
+    broadcast = drawn(b, "0>f report-physical-address 0.0.0.0 tv ok")
+    t.same("a lane is an address", [broadcast["cls"], broadcast["senders"]], ["ok", ["0"]])
+    # Chatter and slow bits: the run's line, each 40th rise late by 300, and spikes of 18 that --glitch leaves out
+    edges = [line.split() for line in program(RETRIES, "run", "--edges").splitlines()]
+    lines = ["$timescale 1 us $end", "$var wire 1 ! CEC $end", "$enddefinitions $end", "#0", "1!"]
+    for i, (at, level) in enumerate(edges):
+        late = 300 if level == "1" and i % 40 == 21 else 0
+        if level != "end":
+            lines += [f"#{int(at) + late}", f"{level}!"]
+            if level == "1" and i % 60 == 31:
+                lines += [f"#{int(at) + late + 12}", "0!", f"#{int(at) + late + 30}", "1!"]
+        else:
+            lines.append(f"#{at}")
+    show(b, written("faulty.vcd", "\n".join(lines) + "\n"), "--glitch", "50")
+    t.holds("remarks of widths", b.js("testing.app.model.rows.filter(row => (row.remarks || []).length > 0).length") > 5)
+    t.same("bits of all readings", b.js(
+        "testing.app.model.rounds.filter(o => o.ending === 'complete' && !hdminet.slotsOf(testing.app.model, o)).length"), 0)
+    out = "testing.app.model.rounds.find(o => o.row.remarks.some(text => / low \\d+ not /.test(text)))"
+    b.js(f"testing.app.select({out}.row)")
+    t.holds("a width out of its window is marked", b.js("document.querySelectorAll('#panel .bad').length") > 0)
+
+
+def failures_are_drawn(t, b):
+    """A failing test: in the report, in the chart where its window ends, and the window's rows are marked."""
+    show(b, os.path.join(EXAMPLES, "wrong-film.test"))
+    t.same("the counts", b.js("document.getElementById('counts').textContent"), "6 rounds, 2 of 3 tests failed")
+    failure = drawn(b, "not ok 2")
+    t.same("the failure in the chart", [failure["cls"], failure["verdict"], failure["isVisible"]], ["failed", "✗ failed", True])
+    t.same("the failures come first",
+           b.js("[...document.querySelectorAll('#panel .test')].map(one => one.textContent[0]).join('')"), "✗✗✓")
+    t.same("what was seen is selected", b.js("testing.app.selected.o.frame"), "4>f active-source 1.0.0.0")
+    t.same("the window is marked", b.js("document.querySelectorAll('.row.banded').length"), 2)
+    show(b, os.path.join(EXAMPLES, "race.sweep"))
+    t.same("a sweep is a bar for each test", b.js("document.querySelectorAll('#space svg').length"), 2)
+    t.same("and four stretches in each", b.js("document.querySelectorAll('#space svg rect').length"), 8)
+
+
+def keys_reach_all(t, b):
+    """The page by keys alone: each control has a name and is reached."""
+    show(b, written("retries.net", RETRIES))
+    selected = "testing.app.selected && `${testing.app.selected.type} ${testing.app.selected.index}`"
+    b.js("document.getElementById('chart').focus()")
+    for keys, wanted in [(["ArrowDown"], "round 0"), (["ArrowDown", "ArrowDown"], "round 2"), (["ArrowUp"], "round 1"),
+                         (["Home"], "round 0")]:
+        for key in keys:
+            b.key(key)
+        t.same(f"{keys}", b.js(selected), wanted)
+    t.same("a reader is told of the row", b.js("document.getElementById('chart').getAttribute('aria-activedescendant')"), "row0")
+    b.key("n")
+    t.same("n: the next that failed", b.js("testing.app.selected.cls"), "nack")
+    b.key("/")
+    for key in "feature":
+        b.key(key)
+    t.same("the search",
+           b.js("testing.app.chart.shown.every(row => row.find.includes('feature')) && testing.app.chart.shown.length > 0"),
+           True)
+    b.key("Enter")
+    t.same("Enter goes to the first hit", b.js("document.activeElement.id"), "chart")
+    b.key("/")
+    b.key("Escape")
+    t.same("Escape clears the search", b.js("document.getElementById('search').value"), "")
+    b.key("w")
+    width = b.js("testing.app.wave.to - testing.app.wave.from")
+    b.key("+")
+    t.same("+ zooms", round(b.js("testing.app.wave.to - testing.app.wave.from") / width, 3), 0.6)
+    b.key("c")
+    b.key("?")
+    t.same("? opens the help", b.js("document.getElementById('dialog').open"), True)
+    b.key("Escape")
+    b.key("t")
+    t.same("t: the other theme", b.js("document.documentElement.dataset.theme"), "dark")
+    b.key("t")
+    nameless = ("[...document.querySelectorAll('button,input,[tabindex]')].filter(e => !(e.textContent.trim() || e.title ||"
+                " e.getAttribute('aria-label'))).map(e => e.outerHTML.slice(0, 80))")
+    t.same("controls without a name", b.js(nameless), [])
+    reached = set()
+    b.js("document.activeElement.blur()")
+    for _ in range(40):
+        b.key("Tab")
+        reached.add(b.js("document.activeElement.id"))
+    t.holds("Tab reaches all", {"search", "open", "export", "theme", "help", "chart", "panel", "line", "tab-table"} <= reached,
+            sorted(reached))
+    b.js("testing.app.openPanel('table')")
+    rows = b.js("[...document.querySelectorAll('#panel tr')].slice(1).map(tr => [...tr.cells].map(cell => cell.textContent))")
+    t.same("the table has each row", len(rows), b.js("testing.app.chart.shown.length"))
+    t.holds("the table says who sent what to whom",
+            any(row[1:5] == ["tv", "dut", "give-osd-name", "ack"] for row in rows), [row for row in rows if "give-osd" in row[3]])
+    b.js("testing.app.exportSvg()")
+    text = b.js("testing.app.exportedText")
+    parsed = f"new DOMParser().parseFromString({json.dumps(text)}, 'image/svg+xml')"
+    is_whole = b.js(f"{parsed}.querySelectorAll('parsererror').length === 0")
+    t.same("the exported SVG is well formed", [text[:4], is_whole], ["<svg", True])
+    b.js("testing.app.copyMermaid()")
+    t.holds("Mermaid", "L0->>L4: give-osd-name ack" in b.js("testing.app.exportedText"),
+            b.js("testing.app.exportedText.slice(0, 600)"))
+
+
+MARKUP = '<img src=x onerror="window.hit=1">'
+
+
+def hostile_inputs():
+    """Inputs that no program of ours wrote: name, texts."""
+    def line(**fields):
+        return json.dumps(fields)
+    complete = {"type": "round", "begin": 12000, "close": 39150, "ending": "complete", "initiator": "4", "destination": "0",
+                "bytes": "4004", "verdict": "ack"}
+    named = line(**complete, line=f"1 2 complete 4>0 x ack by {MARKUP}",
+                 frame=f"4>0 {MARKUP}</script><script>window.hit=1</script>", by=[MARKUP],
+                 out=[{"device": '"><svg onload=window.hit=1>', "slot": 1}])
+    state = line(line=MARKUP, type="state", device=MARKUP, kind=MARKUP, logical_addresses=[MARKUP], physical_address=MARKUP,
+                 osd_text=MARKUP.encode().hex())
+    yield "names", ["\n".join([named, state, line(line="end", type="end", at=99999)])]
+    yield "empty", [""]
+    yield "blank", ["\n\n  \n"]
+    yield "no text of ours", ["hello\nworld\n"]
+    yield "half a line", [named[:80]]
+    yield "broken lines", ["\n".join([named, '{"type":', "[1,2]", "null", "5", line(type="round"),
+                                      line(type="round", begin="x", close=None),
+                                      line(type="event", at=5, script_line={}, verdict=[], cause=None)])]
+    yield "wrong types", ["\n".join([
+        line(type="round", begin=1, close=2, ending=None, frame=5, initiator=[], destination={}, bytes=12, verdict=True, by="x",
+             out={"device": 1}, bits=7),
+        line(type="state", device=None, logical_addresses=5, kind={}), line(type="test", test="a", holds="yes", expectation=5),
+        line(type="window"), line(type="stretch", holds=3)])]
+    yield "huge times", ["\n".join([line(**{**complete, "begin": -1e300, "close": 1e300}, by=["a"], out=[]),
+                                    line(type="round", line="a", begin=1e15, close=1, ending="short", bits="0", by=[], out=[])])]
+    yield "a plain trace", ["12000 39150 complete 0>0 nack by tv out -\n"]
+    yield "a dump", ["$timescale 1 us $end\n$var wire 1 ! CEC $end\n$enddefinitions $end\n"
+                     "#x\n0!\n#-5\n#99999999999999999999999\n1!\nzzz\n"]
+    yield "no dump", ["$enddefinitions"]
+    yield "no scale", ["$timescale 7 parsecs $end $enddefinitions $end"]
+    yield "names of JavaScript", ["\n".join([
+        line(**{**complete, "verdict": "constructor"}, line="__proto__", by=["__proto__", "constructor"], out=[]),
+        line(type="state", device="__proto__", kind="constructor", logical_addresses=["toString"])])]
+    yield "a room", ["device <b> tv 4\nplug x y\nplug\nscript\nat\nlabel\n"]
+    yield "control characters", ["\0\1\2" * 1000]
+    yield "a long line", ['{"type":"round","line":"' + "a" * 1000000 + '"}']
+    yield "edges out of order", ["5 1\n5 1\n3 0\n9 0\n9 0\n1 end\n"]
+    random.seed(1)
+    room = example("living-room-evening.net")
+    objects = program(room, "run", "--json")
+    dump = program(room, "run", "--edges", "--as", "vcd", "--drives")
+
+    def mutant(text):
+        characters = list(text)
+        for _ in range(random.randint(1, 30)):
+            at = random.randrange(len(characters))
+            kind = random.random()
+            if kind < 0.4:
+                characters[at] = random.choice('0123456789{}[]":,<>abcfxyz -\n')
+            elif kind < 0.7:
+                del characters[at:at + random.randint(1, 200)]
+            else:
+                characters[at:at] = characters[random.randrange(len(characters)):][:random.randint(1, 200)]
+        return "".join(characters)
+
+    for number in range(8):
+        yield f"mutant {number}", [mutant(objects), mutant(dump)] if number % 3 else [mutant(objects), dump, mutant(room)]
+
+
+def hostile_inputs_are_harmless(t, b):
+    """Nothing of an input is run or fetched, and nothing throws: each tab and many rows are drawn of each."""
+    bare = os.path.join(ROOM, "bare.html")
+    subprocess.run([os.path.join(TOP, "tools/page"), "--bare", "-o", bare], check=True)
+    b.open(bare)
+    b.js(HELPERS)
+    t.holds("the bare page says what it takes", "Drop files here" in b.js("document.body.textContent"))
+    b.js("window.thrown = []; window.addEventListener('error', event => thrown.push(`${event.message}`)); true")
+    for name, texts in hostile_inputs():
+        load(b, *texts)
+        found = b.js("""(() => { const { app, PANELS } = hdminet;
+          thrown.length = 0;
+          try {
+            app.wave.draw();
+            for (const name of Object.keys(PANELS)) if (PANELS[name].isThere(app.model)) app.openPanel(name);
+            for (const row of app.model.rows.filter((_, i) => i % 4 === 0).slice(0, 8)) {
+              if (app.chart.shown.includes(row)) app.select(row);
+              app.wave.draw();
+            }
+            app.exportSvg(); app.copyMermaid(); app.setTheme();
+          } catch (fault) { thrown.push(fault.stack); }
+          if (document.getElementById('dialog').open) document.getElementById('dialog').close();
+          return { thrown, hit: window.hit || 0, images: document.querySelectorAll('#space img, #panel img, #heads img').length };
+        })()""")
+        t.same(f"hostile: {name}", found, {"thrown": [], "hit": 0, "images": 0})
+    load(b, "")
+    t.holds("an empty file is named", "empty" in b.js("document.getElementById('panel').textContent"))
+    load(b, dict(hostile_inputs())["broken lines"][0])
+    t.holds("broken lines are named", "is no object of the program" in b.js("testing.app.openPanel('notes'), testing.panel()"))
+    t.same("nothing is fetched or wrong", b.faults(), [])
+    # The same through tools/page: its data has no way out of its element.
+    objects = dict(hostile_inputs())["names"][0]
+    evil = os.path.join(ROOM, "evil.html")
+    title = "</script><img src=x onerror=window.hit=1>"
+    subprocess.run([os.path.join(TOP, "tools/page"), "--title", title, "-o", evil], input=objects.encode(), check=True)
+    b.open(evil)
+    t.same("a hostile title and names in a page",
+           b.js("[window.hit || 0, document.title.startsWith('</script>'), hdminet.app.model.rows.length]"), [0, True, 2])
+    ran = b.js("(() => { const [one, script] = ['div', 'script'].map(name => document.createElement(name));"
+               f" one.innerHTML = {json.dumps(MARKUP)}; script.textContent = 'window.hit = 1'; document.body.append(one, script);"
+               " return new Promise(done => setTimeout(() => done(window.hit || 0), 200)); })()")
+    t.same("the page's policy runs no script but its own", ran, 0)
+    b.open(bare)
+    b.js(HELPERS)
+
+
+def inferences_are_the_programs(t, b):
+    """What the page infers is what the program says: bits, who acknowledged, addresses and places, of random rooms."""
+    random.seed(11)
+    rooms = rounds = 0
+    faults = []
+    while rooms < 15:
+        room = random_room()
+        objects = program(room, "run", "--json")
+        if not objects:
+            continue
+        rooms += 1
+        load(b, objects, program(room, "run", "--edges", "--as", "vcd", "--drives"), room)
+        found = b.js(INFERENCES)
+        rounds += found["rounds"]
+        faults += [f"room {rooms}: {fault}" for fault in found["faults"]]
+    t.same(f"{rooms} random rooms", faults, [])
+    t.holds("they have rounds", rounds > 100, rounds)
+
+
+INFERENCES = r"""(() => {
+  const { app: { model }, slotsOf, acknowledgersOf } = hdminet;
+  const faults = [...model.faults];
+  for (const round of model.rounds) {
+    const slots = slotsOf(model, round);
+    if (!slots) { faults.push(`no slots: ${round.line}`); continue; }
+    const bits = slots.slice(1).map(slot => slot.bit).join('');
+    const isCut = round.ending !== 'complete' && round.ending !== 'bad-start';
+    const isFront = bits.startsWith(round.bits) && bits.length - round.bits.length <= 1;
+    if (isCut && !isFront) faults.push(`bits ${bits}: ${round.line}`);
+    const acknowledgers = acknowledgersOf(model, round);
+    if (!acknowledgers) continue;
+    const last = acknowledgers[acknowledgers.length - 1];
+    const isTaken = round.verdict === 'ack' || round.verdict === 'refused';
+    if ((last.length > 0) !== isTaken) faults.push(`${JSON.stringify(acknowledgers)}: ${round.line}`);
+    const holders = round.row.to.map(lane => model.lanes[lane].name);
+    const others = last.filter(name => name !== 'a pulse' && !round.by.includes(name) && !holders.includes(name));
+    if (round.row.cls === 'ack' && others.length > 0) faults.push(`holders ${holders}, acknowledged by ${last}: ${round.line}`);
+  }
+  for (const state of model.states) {
+    const lane = model.lanes[model.laneOf.get(state.device)];
+    const last = lane.history[lane.history.length - 1];
+    if (last.isJoined !== Boolean(state.physical)) faults.push(`joined: ${lane.name}`);
+    if (last.isJoined && last.physical !== state.physical) faults.push(`${lane.name} at ${last.physical}: ${state.line}`);
+  }
+  return { faults: faults.slice(0, 5), rounds: model.rounds.length };
+})()"""
+
+
+def random_room():
+    kinds = ["amp", "player", "player", "recorder", "switch", "combo", "outside"]
+    frames = ["give-osd-name", "give-physical-address", "give-device-power-status", "image-view-on", "standby",
+              "request-active-source", "active-source 1.0.0.0", "menu-request query", "give-deck-status on", "op-e5 :",
+              "get-menu-language", 'set-osd-string hold "x"', "routing-change 1.0.0.0 2.0.0.0"]
+    keys = ["play", "stop", "power", "menu", "eject", "volume-up", "audio on", "arc on", "port 2"]
+    names = ["tv"]
+    lines = ["device tv tv 4"]
+    free = [("tv", port) for port in range(1, 5)]
+    plugs = []
+    for number in range(random.randint(1, 9)):
+        kind, ports = random.choice(kinds), random.choice([0, 1, 1, 3])
+        name = f"{kind[:2]}{number}"
+        names.append(name)
+        lines.append(f"device {name} {kind} {ports}")
+        if free and random.random() < 0.85:
+            place = free.pop(random.randrange(len(free)))
+            plugs.append(f"plug {name} {place[0]} {place[1]}")
+        free += [(name, port) for port in range(1, ports + 1)]
+    lines += [*plugs, "script"]
+    now = random.choice([0, 100000, 2000000])
+    next_pulse = 0
+    for _ in range(random.randint(2, 30)):
+        now += random.choice([0, 0, 1000, 60000, 300000, 1000000])
+        name, chance = random.choice(names), random.random()
+        if chance < 0.4:
+            initiator, destination = random.choice("0123456789abcdef"), random.choice("0123456789abcdef")
+            lines.append(f"at {now} send {name} {initiator}>{destination} {random.choice(frames)}")
+        elif chance < 0.55:
+            lines.append(f"at {now} press {name} {random.choice(keys)}")
+        elif chance < 0.65:
+            lines.append(f"at {now} unplug {name}")
+        elif chance < 0.75:
+            lines.append(f"at {now} plug {name} {random.choice(names)} {random.randint(1, 4)}")
+        elif chance < 0.85:
+            lines.append(f"at {now} hold {name} {random.choice(['-', '1', '4+1', 'b', 'e', '0+5'])}")
+        elif now + 500000 > next_pulse:
+            width = random.randint(1, 9000)
+            at = max(next_pulse, now + random.randint(0, 300000))
+            lines.append(f"pulse {at} {width}")
+            next_pulse = at + width + 25000
+    return "\n".join(lines) + f"\nend {max(now, next_pulse) + 3000000}\n"
+
+
+def dumps_are_read(t, b):
+    """Dumps in the forms of other tools: the changes of the wire, worked out by hand (docs/captures.md)."""
+    head = ("$timescale 1 us $end\n$var wire 1 ! CEC $end\n$var wire 8 # bus $end\n$var real 1 r temperature $end\n"
+            "$enddefinitions $end\n")
+    for name, text, changes in [
+            ("plain", head + "#0\n1!\n#100\n0!\n#3800\n1!\n#9000\n", [100, 3800]),
+            ("nanoseconds, rounded up", head.replace("1 us", "1 ns") + "#0 1! #100001 0! #3800000 1! #9000000\n", [101, 3800]),
+            ("tens of nanoseconds", head.replace("1 us", "10ns") + "#0 1! #10001 0! #380000 1! #900000", [101, 3800]),
+            ("one line", head + "#0 1! #100 0! #3800 1! #9000", [100, 3800]),
+            ("a space before the name", head + "#0 1 ! #100 0 ! #3800 z ! #9000", [100, 3800]),
+            ("vectors, reals and strings", head + "#0 b1 ! #100 b0 ! b10101 # r1.5 r sabc r #3800 b1 ! #9000", [100, 3800]),
+            ("several in a microsecond", head + "#0 1! #100 0! 1! #200 0! #200 1! #300 0! #3800 x! #9000", [300, 3800]),
+            ("a comment", head + "$dumpvars 1! $end #100 0! $comment #5 0! $end #3800 1! #9000", [100, 3800]),
+            ("low at first", head + "#0 0! #3700 1! #9000", [0, 3700]),
+            ("a level that comes again", head + "#0 1! #100 1! #200 0! #300 0! #3900 1! #3950 1! #9000", [200, 3900])]:
+        t.same(f"dump: {name}", b.js(f"hdminet.readDump({json.dumps(text)}).line.changes"), changes)
+
+
+def files_may_be_dropped(t, b):
+    """Objects, then a dump, a room and an EDID, one after the other, by drop and by paste."""
+    b.js("(async () => { await hdminet.app.load([]); })()")
+    room = example("first-path.net")
+
+    def drop(name, text):
+        file = f"new File([{json.dumps(text)}], {json.dumps(name)})"
+        b.js(f"(async () => {{ const data = new DataTransfer(); data.items.add({file});"
+             "document.dispatchEvent(new DragEvent('drop', { dataTransfer: data, bubbles: true, cancelable: true }));"
+             "await new Promise(done => setTimeout(done, 100)); })()")
+        for _ in range(100):
+            if b.js(f"testing.app.texts.some(one => one.name === {json.dumps(name)})"):
+                break
+            time.sleep(0.05)
+    there = "(m => [m.rounds.length, !!m.wave, !!m.room, m.meanings.length, m.faults.length])(testing.app.model)"
+    with open(os.path.join(EXAMPLES, "lg-oled55b6v.edid"), "rb") as file:
+        meaning = subprocess.run([PROGRAM, "edid", "--meaning"], stdin=file, capture_output=True, check=True).stdout.decode()
+    for name, text, wanted in [("x.jsonl", program(room, "run", "--json"), [6, False, False, 0, 0]),
+                               ("x.vcd", program(room, "run", "--edges", "--as", "vcd", "--drives"), [6, True, False, 0, 0]),
+                               ("x.net", room, [6, True, True, 0, 0]), ("x.meaning", meaning, [6, True, True, 1, 0])]:
+        drop(name, text)
+        t.same(f"dropped: {name}", b.js(there), wanted)
+    objects = json.dumps(program(example("four-players.net"), "run", "--json"))
+    b.js(f"(() => {{ const data = new DataTransfer(); data.setData('text', {objects});"
+         " document.dispatchEvent(new ClipboardEvent('paste', { clipboardData: data, bubbles: true })); })()")
+    t.same("pasted objects are a new run", b.js("testing.app.model.states.length"), 5)
+
+
+def pages_are_made(t, b):
+    """tools/page and tools/look: no page where the file is refused, one that opens where it is not, and no network."""
+    missing = os.path.join(ROOM, "missing.html")
+    refused = written("refused.net", "device tv tv 4\nscript\nat x press tv play\nend 10\n")
+    done = subprocess.run([os.path.join(TOP, "tools/page"), refused, "-o", missing], capture_output=True, check=False)
+    t.same("a refused room", [done.returncode, os.path.exists(missing), b"script line 1" in done.stderr], [1, False, True])
+    out = os.path.join(ROOM, "looked.html")
+    opened = os.path.join(ROOM, "opened")
+    opener = written("opener", f'#!/bin/sh\nprintf %s "$1" > {opened}\n')
+    os.chmod(opener, 0o755)
+    for name, count in [("denon-avr-x2300w.edid", 0), ("capture.pin", 4), ("capture.edges", 4)]:
+        subprocess.run([os.path.join(TOP, "tools/look"), os.path.join(EXAMPLES, name), "-o", out], check=True,
+                       stdout=subprocess.DEVNULL, env={**os.environ, "HDMINET_OPEN": opener})
+        with open(opened, encoding="utf-8") as file:
+            t.same(f"look opens {name}", file.read(), out)
+        b.open(out)
+        t.same(f"its rounds: {name}", [b.js("hdminet.app.model.rounds.length"), b.faults()], [count, []])
+    size = os.path.getsize(os.path.join(ROOM, "bare.html"))
+    t.holds("the page without data is below 300 KB", size < 300000, size)
+    capture = written("capture.test", example("capture.expect") + "capture\n" + example("capture.pin"))
+    show(b, capture)
+    t.same("expectations of a capture",
+           b.js("testing.app.model.tests.length > 0 && testing.app.model.tests.every(test => test.holds)"), True)
+
+
+def long_runs_are_fast(t, b):
+    """20,000 rounds: the first picture within 2 s, a step of zoom within 50 ms. These are the limits of a machine on which an
+    empty page and some work in it take 300 ms; a slower one, or one with other work, has as much more time."""
+    lines = ["device tv tv 4", "device amp amp 3", "device p1 player 0", "plug amp tv 1", "plug p1 amp 1", "script"]
+    frames = ["0>4 give-osd-name", "0>5 give-audio-status", "0>4 give-device-power-status"]
+    for number in range(10000):
+        lines.append(f"at {4000000 + 400000 * number} send tv {frames[number % 3]}")
+    page = page_of(written("long.net", "\n".join(lines) + f"\nend {4000000 + 400000 * 10001}\n"))
+    bare = os.path.join(ROOM, "bare.html")
+
+    def first_picture(path):
+        b.open(path)
+        return b.js("performance.getEntriesByName('first picture')[0].startTime")
+
+    zoom = """(() => { const { app: { wave } } = hdminet; const times = [];
+      wave.showAll(); wave.draw();
+      for (let step = 0; step < 12; step++) {
+        const from = performance.now();
+        wave.zoom(0.6); wave.draw(); wave.canvas.getContext('2d').getImageData(200, 100, 1, 1);
+        times.push(performance.now() - from);
+      }
+      return times.sort((a, b) => a - b)[6]; })()"""
+    # What reading a run is made of: texts to objects, and the collection of what is not needed any more
+    work = """(() => { const from = performance.now();
+      const text = JSON.stringify(Array.from({ length: 2000 }, (_, i) => ({ line: `${i}`, i })));
+      let length = 0;
+      for (let i = 0; i < 120; i++) length += JSON.parse(text).map(one => ({ ...one, more: one.line + length })).length;
+      return performance.now() - from; })()"""
+    best = None
+    for _ in range(3):
+        empty = first_picture(bare) + b.js(work)
+        picture = first_picture(page)
+        slower = max(empty / 300, 1)
+        step = b.js(zoom)
+        times = f"{picture:.0f} ms and {step:.1f} ms, an empty page with some work {empty:.0f} ms"
+        found = (picture / (2000 * slower), step / (50 * slower), times)
+        best = found if best is None or max(found[:2]) < max(best[:2]) else best
+        if max(best[:2]) < 1:
+            break
+    rounds = b.js("hdminet.app.model.rounds.length")
+    t.holds("20,000 rounds", rounds >= 20000, rounds)
+    t.holds("the first picture of 20,000 rounds", best[0] < 1, best[2])
+    t.holds("a step of zoom in 20,000 rounds", best[1] < 1, best[2])
+    t.holds("the document has few nodes", b.js("document.querySelectorAll('*').length") < 3000)
+    t.same("the wave is there", b.js("!!hdminet.app.model.wave && hdminet.app.model.faults.length === 0"), True)
+    print(f"page: {rounds} rounds: the first picture and a step of zoom took {best[2]}")
+
+
+def sources_are_plain(t, _):
+    """No markup is made of a string, nothing is fetched, and no line is longer than 130 columns."""
+    folder = os.path.join(TOP, "view")
+    for name in sorted(os.listdir(folder)):
+        with open(os.path.join(folder, name), encoding="utf-8") as file:
+            text = file.read()
+        forbidden = (r"innerHTML|outerHTML|insertAdjacentHTML|document\.write|\beval\b|new Function|fetch\(|XMLHttpRequest"
+                     r"|https?://(?!www\.w3\.org/)")
+        t.same(f"{name}: what makes markup or asks a network", re.findall(forbidden, text), [])
+        t.same(f"{name}: lines that are too long", [line for line in text.splitlines() if len(line) > 130], [])
+
+
+ALL = [sources_are_plain, verdicts_are_drawn, retries_are_folded, wave_is_drawn, capture_is_drawn, failures_are_drawn,
+       keys_reach_all, hostile_inputs_are_harmless, inferences_are_the_programs, dumps_are_read, files_may_be_dropped,
+       pages_are_made, long_runs_are_fast]
+
+
+def main():
+    signal.signal(signal.SIGTERM, lambda *_: sys.exit(1))
+    tests = Tests()
+    wanted = sys.argv[3:]
+    browser = Browser(BROWSER)
+    try:
+        for one in ALL:
+            if wanted and one.__name__ not in wanted:
+                continue
+            began = time.monotonic()
+            try:
+                one(tests, browser)
+                if one is not hostile_inputs_are_harmless:
+                    tests.same(f"{one.__name__}: faults of the page", browser.faults(), [])
+            except Exception as fault:  # a test that breaks off has failed, and the next ones go on
+                tests.holds(one.__name__, False, f"{type(fault).__name__}: {fault}")
+            if os.environ.get("HDMINET_TIMES"):
+                print(f"{one.__name__}: {time.monotonic() - began:.1f} s")
+    finally:
+        browser.close()
+    print(f"page: {tests.passed} passed, {tests.failed} failed")
+    sys.exit(1 if tests.failed else 0)
+
+
+main()

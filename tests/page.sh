@@ -1,0 +1,34 @@
+#!/usr/bin/env bash
+# page.sh [PROGRAM [TEST..]]: tests the page (view/, tools/page, tools/look) in a real browser: Debian's chromium, headless. Where it is not
+# there it is installed by apt-get; where that can't be, or python3 is not there, this says so and leaves the tests out. PROGRAM
+# is the one whose output is shown: crates/hdminet/out/hdminet where it is built, else the released one. The last line is
+# 'page: N passed, M failed'. Nothing is left behind but the installed browser, and nothing is asked of a network.
+set -u
+top=$(cd "$(dirname "${BASH_SOURCE[0]}")/.." && pwd)
+
+leave_out() { echo "page: left out: $*"; exit 0; }
+
+find_browser() { command -v chromium || command -v chromium-browser || command -v google-chrome; }
+
+# Debian's chromium, where this user may install it.
+install_browser() {
+  [ "$(id -u)" = 0 ] && command -v apt-get > /dev/null || return 1
+  echo "page: installs chromium" >&2
+  local install=(timeout 600 apt-get install -qq -y --no-install-recommends chromium)
+  export DEBIAN_FRONTEND=noninteractive
+  "${install[@]}" > /dev/null 2>&1 || { timeout 300 apt-get update -qq > /dev/null 2>&1 && "${install[@]}" > /dev/null 2>&1; }
+}
+
+program=${1:-}
+if [ -z "$program" ]; then
+  program=$top/crates/hdminet/out/hdminet
+  [ -x "$program" ] || program=$top/release/hdminet
+fi
+[ -x "$program" ] || leave_out "there is no program at $program"
+command -v python3 > /dev/null || leave_out "there is no python3"
+browser=$(find_browser) || { install_browser && browser=$(find_browser); } ||
+  leave_out "there is no chromium, and it can't be installed here"
+
+room=$(mktemp -d)
+trap 'rm -rf "$room"' EXIT
+TMPDIR=$room HDMINET=$program PYTHONDONTWRITEBYTECODE=1 timeout 900 python3 "$top/tests/page.py" "$browser" "$room" "${@:2}"
