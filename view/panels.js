@@ -48,8 +48,8 @@ const SELECTED = {
 function drawRound(app, model, row) {
   const round = row.o;
   const links = [
-    link('Copy the line', () => app.copy(round.line)), '   ',
-    round.bytes && [link('Copy the bytes', () => app.copy(round.bytes)), '   '],
+    link('Copy the line', () => app.copy(round.line)),
+    round.bytes && link('Copy the bytes', () => app.copy(round.bytes)),
     model.wave && link('See its wave', () => app.wave.showRound(round)),
   ];
   return [
@@ -139,7 +139,7 @@ function widths(model, round) {
     table(rows, ['', 'seen', 'allowed', '']),
     free !== null && html('p', {}, `The line was high for ${free} µs before${asked}.`),
     faults.length > 0 && html('ul', { class: 'bad' }, faults.slice(0, 12).map(fault => html('li', {}, fault))),
-    html('details', {}, html('summary', {}, `All ${slots.length} slots`), slotTable(slots)),
+    html('details', {}, html('summary', {}, 'Each slot'), slotTable(slots)),
   ];
 }
 function slotTable(slots) {

@@ -218,6 +218,7 @@ export class Wave {
       pen.fillText(this.app.isWaiting ? 'The wave is being read ..' : NO_WAVE, NAMES, this.height - 10);
     }
     this.output.textContent = this.reading() || LEGEND;
+    this.app.drawStrip(false);
   }
   /* Draws in the part of the canvas that is right of x and below y. */
   within(x, y, draw) {
