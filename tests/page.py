@@ -15,6 +15,7 @@ TOP = os.path.dirname(os.path.dirname(os.path.realpath(__file__)))
 EXAMPLES = os.path.join(TOP, "examples")
 PROGRAM = os.environ["HDMINET"]
 BROWSER, ROOM = sys.argv[1:3]
+BARE = os.path.join(ROOM, "bare.html")
 
 # A lost arbitration, six attempts, a refused event, a device that loses its address, and a pulse that is no start bit.
 RETRIES = """device tv tv 4
@@ -78,6 +79,7 @@ window.testing = {
       arrows, colour: style('.arrow').stroke, isDashed: style('.arrow').strokeDasharray !== 'none',
       senders: all('circle.solid[r="3.4"]', dot => this.laneAt(Number(dot.getAttribute('cx')))),
       hearers: all('circle.solid[r="2.6"]', dot => this.laneAt(Number(dot.getAttribute('cx')))),
+      heads: all('path.solid', path => this.laneAt(Number(/^M(\S+)/.exec(path.getAttribute('d'))[1]))),
       crosses: all('.cross', () => 1).length, circles: all('circle.hollow', () => 1).length,
       losers: all('.lost', path => this.laneAt(Number(/^M(\S+)/.exec(path.getAttribute('d'))[1]) + 4)),
       outs: all('.warn', one => one.textContent).filter(text => text.startsWith('out')),
@@ -171,12 +173,12 @@ def verdicts_are_drawn(t, b):
     as_rgb = {name: f"rgb({int(c[1:3], 16)}, {int(c[3:5], 16)}, {int(c[5:7], 16)})" for name, c in colour.items()}
 
     ack = drawn(b, "4>0 image-view-on ack")
-    t.same("ack: the arrow", ack["arrows"], [{"from": "p1", "to": "tv"}])
+    t.same("ack: the arrow", [ack["senders"], ack["arrows"], ack["heads"]], [["p1"], [{"from": "p1", "to": "tv"}], ["tv"]])
     t.same("ack: what it says", [ack["cls"], ack["colour"], ack["verdict"], ack["label"], ack["isVisible"]],
            ["ack", as_rgb["ack"], "ack", "image-view-on", True])
     ok = drawn(b, "5>f report-physical-address 1.0.0.0")
-    t.same("ok: from the amplifier to all that are joined", [ok["arrows"], ok["senders"], ok["hearers"]],
-           [[{"from": "tv", "to": "rec"}], ["amp"], ["p1", "sw"]])
+    t.same("ok: from the amplifier to all that are joined", [ok["arrows"], ok["senders"], ok["hearers"], ok["heads"]],
+           [[{"from": "tv", "to": "rec"}], ["amp"], ["p1", "sw"], ["tv", "rec"]])
     t.same("ok: what it says", [ok["cls"], ok["colour"], ok["verdict"]], ["ok", as_rgb["ok"], "ok"])
     refused = drawn(b, "0>f request-active-source refused")
     t.same("refused", [refused["cls"], refused["colour"], refused["verdict"], refused["crosses"]],
@@ -197,6 +199,27 @@ def verdicts_are_drawn(t, b):
            ["nack", as_rgb["nack"], ["tv"], 1, 1])
     bad = drawn(b, " bad-start ")
     t.same("a bad start begins at the border", [bad["cls"], bad["verdict"], bad["senders"]], ["broken", "bad-start", ["open"]])
+
+
+def colours_differ(t, b):
+    """In both themes each verdict has a colour of its own, which can be read on the page: a contrast of 4.5 (WCAG 2, 1.4.3)."""
+    b.open(BARE)
+
+    def luminance(colour):
+        parts = [int(colour[i:i + 2], 16) / 255 for i in (1, 3, 5)]
+        red, green, blue = [part / 12.92 if part <= 0.04045 else ((part + 0.055) / 1.055) ** 2.4 for part in parts]
+        return 0.2126 * red + 0.7152 * green + 0.0722 * blue
+
+    for theme in ("light", "dark"):
+        b.js(f"hdminet.app.setTheme('{theme}')")
+        colours = b.js("hdminet.app.colours")
+        verdicts = [colours[name] for name in ("ack", "ok", "nack", "refused", "broken", "poll", "event")]
+        t.same(f"{theme}: colours of their own", len(set(verdicts)), len(verdicts))
+        for colour in [*verdicts, colours["ink"], colours["dim"]]:
+            dark, light = sorted([luminance(colour), luminance(colours["bg"])])
+            contrast = (light + 0.05) / (dark + 0.05)
+            t.holds(f"{theme}: {colour} on {colours['bg']}", contrast >= 4.5, f"{contrast:.2f}")
+    b.js("hdminet.app.setTheme('light')")
 
 
 def retries_are_folded(t, b):
@@ -228,6 +251,8 @@ def wave_is_drawn(t, b):
     show(b, os.path.join(EXAMPLES, "first-path.net"))
     b.js("testing.app.select(testing.rowOf('4>0 image-view-on'))")
     b.settle()
+    t.same("the wave shows what is selected", b.js("[testing.app.wave.from < 1000000, testing.app.wave.to > 1051150]"),
+           [True, True])
     # CEC 5.2: a start bit is low for 3,700 of 4,500; block 0 ends with an ACK at slot 10, of 2,400 each
     begin = 1000000
     ack = begin + 4500 + 9 * 2400
@@ -420,9 +445,7 @@ def hostile_inputs():
 
 def hostile_inputs_are_harmless(t, b):
     """Nothing of an input is run or fetched, and nothing throws: each tab and many rows are drawn of each."""
-    bare = os.path.join(ROOM, "bare.html")
-    subprocess.run([os.path.join(TOP, "tools/page"), "--bare", "-o", bare], check=True)
-    b.open(bare)
+    b.open(BARE)
     b.js(HELPERS)
     t.holds("the bare page says what it takes", "Drop files here" in b.js("document.body.textContent"))
     b.js("window.thrown = []; window.addEventListener('error', event => thrown.push(`${event.message}`)); true")
@@ -460,12 +483,13 @@ def hostile_inputs_are_harmless(t, b):
                f" one.innerHTML = {json.dumps(MARKUP)}; script.textContent = 'window.hit = 1'; document.body.append(one, script);"
                " return new Promise(done => setTimeout(() => done(window.hit || 0), 200)); })()")
     t.same("the page's policy runs no script but its own", ran, 0)
-    b.open(bare)
+    b.open(BARE)
     b.js(HELPERS)
 
 
 def inferences_are_the_programs(t, b):
     """What the page infers is what the program says: bits, who acknowledged, addresses and places, of random rooms."""
+    b.open(BARE)
     random.seed(11)
     rooms = rounds = 0
     faults = []
@@ -558,6 +582,7 @@ def random_room():
 
 def dumps_are_read(t, b):
     """Dumps in the forms of other tools: the changes of the wire, worked out by hand (docs/captures.md)."""
+    b.open(BARE)
     head = ("$timescale 1 us $end\n$var wire 1 ! CEC $end\n$var wire 8 # bus $end\n$var real 1 r temperature $end\n"
             "$enddefinitions $end\n")
     for name, text, changes in [
@@ -576,7 +601,8 @@ def dumps_are_read(t, b):
 
 def files_may_be_dropped(t, b):
     """Objects, then a dump, a room and an EDID, one after the other, by drop and by paste."""
-    b.js("(async () => { await hdminet.app.load([]); })()")
+    b.open(BARE)
+    b.js(HELPERS)
     room = example("first-path.net")
 
     def drop(name, text):
@@ -608,6 +634,10 @@ def pages_are_made(t, b):
     refused = written("refused.net", "device tv tv 4\nscript\nat x press tv play\nend 10\n")
     done = subprocess.run([os.path.join(TOP, "tools/page"), refused, "-o", missing], capture_output=True, check=False)
     t.same("a refused room", [done.returncode, os.path.exists(missing), b"script line 1" in done.stderr], [1, False, True])
+    done = subprocess.run([os.path.join(TOP, "tools/page"), os.path.join(EXAMPLES, "first-path.trace"), "-o", missing],
+                          capture_output=True, check=False)
+    t.same("a trace is nothing to look at", [done.returncode, os.path.exists(missing), b"is no room" in done.stderr],
+           [1, False, True])
     out = os.path.join(ROOM, "looked.html")
     opened = os.path.join(ROOM, "opened")
     opener = written("opener", f'#!/bin/sh\nprintf %s "$1" > {opened}\n')
@@ -619,7 +649,7 @@ def pages_are_made(t, b):
             t.same(f"look opens {name}", file.read(), out)
         b.open(out)
         t.same(f"its rounds: {name}", [b.js("hdminet.app.model.rounds.length"), b.faults()], [count, []])
-    size = os.path.getsize(os.path.join(ROOM, "bare.html"))
+    size = os.path.getsize(BARE)
     t.holds("the page without data is below 300 KB", size < 300000, size)
     capture = written("capture.test", example("capture.expect") + "capture\n" + example("capture.pin"))
     show(b, capture)
@@ -635,7 +665,6 @@ def long_runs_are_fast(t, b):
     for number in range(10000):
         lines.append(f"at {4000000 + 400000 * number} send tv {frames[number % 3]}")
     page = page_of(written("long.net", "\n".join(lines) + f"\nend {4000000 + 400000 * 10001}\n"))
-    bare = os.path.join(ROOM, "bare.html")
 
     def first_picture(path):
         b.open(path)
@@ -657,7 +686,7 @@ def long_runs_are_fast(t, b):
       return performance.now() - from; })()"""
     best = None
     for _ in range(3):
-        empty = first_picture(bare) + b.js(work)
+        empty = first_picture(BARE) + b.js(work)
         picture = first_picture(page)
         slower = max(empty / 300, 1)
         step = b.js(zoom)
@@ -687,15 +716,16 @@ def sources_are_plain(t, _):
         t.same(f"{name}: lines that are too long", [line for line in text.splitlines() if len(line) > 130], [])
 
 
-ALL = [sources_are_plain, verdicts_are_drawn, retries_are_folded, wave_is_drawn, capture_is_drawn, failures_are_drawn,
-       keys_reach_all, hostile_inputs_are_harmless, inferences_are_the_programs, dumps_are_read, files_may_be_dropped,
-       pages_are_made, long_runs_are_fast]
+ALL = [sources_are_plain, verdicts_are_drawn, colours_differ, retries_are_folded, wave_is_drawn, capture_is_drawn,
+       failures_are_drawn, keys_reach_all, hostile_inputs_are_harmless, inferences_are_the_programs, dumps_are_read,
+       files_may_be_dropped, pages_are_made, long_runs_are_fast]
 
 
 def main():
     signal.signal(signal.SIGTERM, lambda *_: sys.exit(1))
     tests = Tests()
     wanted = sys.argv[3:]
+    subprocess.run([os.path.join(TOP, "tools/page"), "--bare", "-o", BARE], check=True)
     browser = Browser(BROWSER)
     try:
         for one in ALL:

@@ -58,7 +58,7 @@ export class Chart {
   /* Places lanes: all in sight where they are few, else at their least distance. */
   measure() {
     const lanes = Math.max(this.app.model.lanes.length, 1);
-    const least = lanes > 8 ? 64 : 86;
+    const least = lanes > 8 ? 72 : 86;
     this.seen = this.box.clientWidth;
     this.distance = Math.min(Math.max((this.seen - LEFT - RIGHT) / lanes, least), 320);
     this.scrolled = this.box.scrollLeft;
@@ -138,7 +138,7 @@ export class Chart {
       const then = deviceAt(lane, at) || {};
       const x = this.laneX(i);
       const line = (y, cls, text) => svg('text', { x, y, class: cls, 'text-anchor': 'middle' }, fitting(text));
-      const addresses = then.isJoined === false ? 'not joined' : `${then.logical || '–'}  ${then.physical || '–'}`;
+      const addresses = then.isJoined === false ? 'not joined' : `${then.logical || '–'} ${then.physical || '–'}`;
       return svg(
         'g', { class: 'row', click: () => this.app.searchFor(isCapture ? `${lane.name}>` : lane.name) },
         svg('title', {}, `${lane.name}, ${lane.kind}: search for it`),

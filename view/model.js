@@ -11,6 +11,7 @@ const FOLDED_IDLE = 250000;
 const SHORTEST_FOLD = 50000;
 const ATTEMPT_WITHIN = 200000;
 const MOST_ATTEMPTS = 6;
+const VERDICTS = ['ack', 'ok', 'nack', 'refused'];
 
 export const isWave = text => ['dump', 'edges'].includes(kindOf(text));
 
@@ -288,7 +289,8 @@ function describeRound(model, row, holders, lastOf) {
     .filter(({ lane }) => lane !== undefined);
   row.text = textOf(o, isPoll, stopped);
   const broken = o.ending === 'joined' ? 'idle' : 'broken';
-  row.cls = stopped || (o.ending !== 'complete' ? broken : isPoll ? 'poll' : o.verdict);
+  const ofVerdict = VERDICTS.includes(o.verdict) ? o.verdict : 'idle';
+  row.cls = stopped || (o.ending !== 'complete' ? broken : isPoll ? 'poll' : ofVerdict);
   row.verdict = o.ending !== 'complete' ? o.ending : !isPoll ? o.verdict : o.verdict === 'nack' ? 'free' : 'taken';
   const ofAudit = model.audit && model.audit.remarks.get(model.isCapture ? o.line : o.line.replace(/ by .*/, ''));
   row.remarks = ofAudit || [];

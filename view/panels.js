@@ -315,7 +315,8 @@ function drawTable(app, model) {
     html('p', {}, `Rows ${Math.min(from + 1, to)} to ${to} of ${shown.length}. `,
       from > 0 && link('Rows before', () => page(Math.max(from - PAGE_OF_TABLE, 0))), ' ',
       to < shown.length && link('Rows after', () => page(to))),
-    table(shown.slice(from, to).map(line), ['seconds', 'from', 'to', 'what', 'verdict', 'address from here on', 'remarks']),
+    html('div', { class: 'wide grid' },
+      table(shown.slice(from, to).map(line), ['seconds', 'from', 'to', 'what', 'verdict', 'address from here on', 'remarks'])),
   ];
 }
 

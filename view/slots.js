@@ -15,6 +15,7 @@ export const isWithin = (width, window) => width >= window[0] && width <= window
 /* How long after its fall a bit is read. */
 const SAMPLE = 1050;
 export const SLOT = 2400;
+const MOST_SLOTS = 1 + 16 * 10; // of a frame of sixteen blocks
 const PARTS = ['bit 1', 'bit 2', 'bit 3', 'bit 4', 'bit 5', 'bit 6', 'bit 7', 'bit 8', 'EOM', 'ACK'];
 export const blockOf = slot => Math.ceil(slot / 10);
 export const partOf = slot => PARTS[(slot - 1) % 10];
@@ -38,6 +39,7 @@ function readSlots(wave, round) {
   const slots = [];
   const end = round.close + (round.ending === 'bad-start' ? 1 : 0);
   for (; i < changes.length && changes[i] < end; i += 2) {
+    if (slots.length > MOST_SLOTS) return null;
     const low = (changes[i + 1] ?? wave.end) - changes[i];
     const total = (changes[i + 2] ?? Infinity) - changes[i];
     slots.push({ at: changes[i], low, total, bit: low > SAMPLE ? 0 : 1 });

@@ -22,8 +22,8 @@ const isFailed = row => FAILED.includes(row.cls) || (row.type === 'event' && row
 class App {
   constructor() {
     Object.assign(this, {
-      model: build([]), texts: [], isWaiting: false, selected: null, banded: null, hidden: new Set(), unfolded: new Set(),
-      panel: 'selected', tableFrom: null, colours: {}, exportedText: '',
+      model: build([]), texts: [], isReading: true, isWaiting: false, selected: null, banded: null, hidden: new Set(),
+      unfolded: new Set(), panel: 'selected', tableFrom: null, colours: {}, exportedText: '',
     });
     this.chart = new Chart(this, byId('chart'), byId('heads'), byId('space'));
     this.wave = new Wave(this, byId('line'), byId('reading'));
@@ -54,6 +54,7 @@ class App {
     this.drawPanel();
   }
   show(texts) {
+    this.isReading = false;
     this.selected = this.banded = this.tableFrom = null;
     this.unfolded.clear();
     try {
@@ -239,6 +240,7 @@ class App {
   whatElse() {
     const { rows, stretches, tests, meanings } = this.model;
     if (rows.length > 0) return html('p', { class: 'empty dim' }, 'No row meets the search.');
+    if (this.isReading) return html('p', { class: 'empty dim' }, 'The data is being read ..');
     if (stretches.length > 0) return html('div', { class: 'empty' }, drawSweep(this.model, 700));
     if (tests.length > 0 || meanings.length > 0) return html('p', { class: 'empty dim' }, 'No rounds: the data is at the right.');
     return html(
@@ -514,6 +516,9 @@ function listen(app) {
 const app = new App();
 app.setTheme(matchMedia('(prefers-color-scheme: dark)').matches ? 'dark' : 'light');
 listen(app);
-loadEmbedded(app).catch(fault => app.say(`the data of this page cannot be read: ${fault.message}`));
+loadEmbedded(app).catch(fault => {
+  app.show([]);
+  app.say(`the data of this page cannot be read: ${fault.message}`);
+});
 /* For the console of the browser, and for tests. */
 window.hdminet = { app, PANELS, acknowledgersOf, kindOf, meaningOf, readDump, slotsOf };
