@@ -315,6 +315,12 @@ def failures_are_drawn(t, b):
            b.js("[...document.querySelectorAll('#panel .test')].map(one => one.textContent[0]).join('')"), "✗✗✓")
     t.same("what was seen is selected", b.js("testing.app.selected.o.frame"), "4>f active-source 1.0.0.0")
     t.same("the window is marked", b.js("document.querySelectorAll('.row.banded').length"), 2)
+    pixel = b.js("(() => { const strip = document.getElementById('strip'); const { model, colours } = testing.app;"
+                 " const x = Math.round(1200000 / model.end * strip.width);"
+                 " const pixel = [...strip.getContext('2d').getImageData(x, 5, 1, 1).data].slice(0, 3);"
+                 " return [pixel.map(part => part.toString(16).padStart(2, '0')).join(''), colours.failed.slice(1)]; })()")
+    near = all(abs(int(pixel[0][i:i + 2], 16) - int(pixel[1][i:i + 2], 16)) < 40 for i in (0, 2, 4))
+    t.holds("the failure is in the strip", near, pixel)
     show(b, os.path.join(EXAMPLES, "race.sweep"))
     t.same("a sweep is a bar for each test", b.js("document.querySelectorAll('#space svg').length"), 2)
     t.same("and four stretches in each", b.js("document.querySelectorAll('#space svg rect').length"), 8)
@@ -355,8 +361,9 @@ def keys_reach_all(t, b):
     b.key("t")
     t.same("t: the other theme", b.js("document.documentElement.dataset.theme"), "dark")
     b.key("t")
-    nameless = ("[...document.querySelectorAll('button,input,[tabindex]')].filter(e => !(e.textContent.trim() || e.title ||"
-                " e.getAttribute('aria-label'))).map(e => e.outerHTML.slice(0, 80))")
+    nameless = ("[...document.querySelectorAll('button,input,[tabindex]')]"
+                ".filter(e => !(/[a-z]/i.test(e.textContent) || e.title || e.getAttribute('aria-label')))"
+                ".map(e => e.id || e.className)")
     t.same("controls without a name", b.js(nameless), [])
     reached = set()
     b.js("document.activeElement.blur()")
@@ -378,6 +385,44 @@ def keys_reach_all(t, b):
     b.js("testing.app.copyMermaid()")
     t.holds("Mermaid", "L0->>L4: give-osd-name ack" in b.js("testing.app.exportedText"),
             b.js("testing.app.exportedText.slice(0, 600)"))
+
+
+def mouse_works(t, b):
+    """Rows and frames are selected by a click, cursors stand on edges, the wheel zooms at the mouse, and bars are moved."""
+    show(b, os.path.join(EXAMPLES, "first-path.net"))
+    hit = b.js("(box => [box.x + 300, box.y + 10])(document.querySelectorAll('#space .row.ok .hit')[1].getBoundingClientRect())")
+    b.click(*hit)
+    t.same("a click selects a row", b.js("testing.app.selected.o.frame"), "4>f report-physical-address 1.0.0.0 playback")
+    b.settle()
+    left, top = b.js("(box => [box.x, box.y])(document.getElementById('line').getBoundingClientRect())")
+
+    def x_of(instant):
+        return left + b.js(f"testing.app.wave.x({instant})")
+    # The report begins at 224,105 (docs of the trace in README); its start bit is low for 3,700 (CEC 5.2)
+    b.mouse("mouseMoved", x_of(226000), top + 80)
+    b.settle()
+    reading = b.js("document.getElementById('reading').textContent")
+    t.holds("what is under the mouse is read", "CEC low 3700 µs" in reading and "start bit, low 3700 of 3500..3900" in reading
+            and "pulled by p1" in reading, reading)
+    b.click(x_of(224105) + 3, top + 80)
+    b.click(x_of(227805) - 3, top + 80, modifiers=8)
+    t.same("cursors on the nearest edges", b.js("testing.app.wave.cursors"), [224105, 227805])
+    width = b.js("testing.app.wave.to - testing.app.wave.from")
+    under = b.js(f"testing.app.wave.timeAt({x_of(260000) - left})")
+    b.mouse("mouseWheel", x_of(260000), top + 80, deltaX=0, deltaY=-240)
+    b.settle()
+    t.holds("the wheel zooms", b.js("testing.app.wave.to - testing.app.wave.from") < width * 0.8)
+    t.holds("at the mouse", abs(b.js(f"testing.app.wave.x({under})") + left - x_of(260000)) < 2)
+    b.js("testing.app.wave.showAll()")
+    b.settle()
+    b.click(x_of(1020000), top + 30)
+    t.same("a click on a frame selects it", b.js("testing.app.selected.o.frame"), "4>0 image-view-on")
+    before = b.js("document.querySelector('aside').offsetWidth")
+    bar = b.js("(box => [box.x + 2, box.y + 100])(document.getElementById('side-bar').getBoundingClientRect())")
+    b.mouse("mousePressed", *bar, button="left", clickCount=1)
+    b.mouse("mouseMoved", bar[0] - 120, bar[1], button="left")
+    b.mouse("mouseReleased", bar[0] - 120, bar[1], button="left", clickCount=1)
+    t.same("the bar makes the panel wider", b.js("document.querySelector('aside').offsetWidth") - before, 120)
 
 
 MARKUP = '<img src=x onerror="window.hit=1">'
@@ -717,7 +762,7 @@ def sources_are_plain(t, _):
 
 
 ALL = [sources_are_plain, verdicts_are_drawn, colours_differ, retries_are_folded, wave_is_drawn, capture_is_drawn,
-       failures_are_drawn, keys_reach_all, hostile_inputs_are_harmless, inferences_are_the_programs, dumps_are_read,
+       failures_are_drawn, keys_reach_all, mouse_works, hostile_inputs_are_harmless, inferences_are_the_programs, dumps_are_read,
        files_may_be_dropped, pages_are_made, long_runs_are_fast]
 
 

@@ -1,8 +1,8 @@
 #!/usr/bin/env bash
-# page.sh [PROGRAM [TEST..]]: tests the page (view/, tools/page, tools/look) in a real browser: Debian's chromium, headless. Where it is not
-# there it is installed by apt-get; where that can't be, or python3 is not there, this says so and leaves the tests out. PROGRAM
-# is the one whose output is shown: crates/hdminet/out/hdminet where it is built, else the released one. The last line is
-# 'page: N passed, M failed'. Nothing is left behind but the installed browser, and nothing is asked of a network.
+# page.sh [PROGRAM [TEST..]]: tests the page (view/, tools/page, tools/look) in a real browser: Debian's chromium, headless.
+# Where it is not there it is installed by apt-get; where that can't be, or python3 is not there, this says so and leaves the
+# tests out. PROGRAM is the one whose output is shown: crates/hdminet/out/hdminet where it is built, else the released one. The
+# last line is 'page: N passed, M failed'. Nothing is left behind but the installed browser, and nothing is asked of a network.
 set -u
 top=$(cd "$(dirname "${BASH_SOURCE[0]}")/.." && pwd)
 
@@ -14,9 +14,12 @@ find_browser() { command -v chromium || command -v chromium-browser || command -
 install_browser() {
   [ "$(id -u)" = 0 ] && command -v apt-get > /dev/null || return 1
   echo "page: installs chromium" >&2
-  local install=(timeout 600 apt-get install -qq -y --no-install-recommends chromium)
+  # Where there is no way to a mirror, it ends soon.
+  local patience=(-qq -o Acquire::Retries=1 -o Acquire::http::Timeout=20 -o Acquire::https::Timeout=20 -o DPkg::Lock::Timeout=120)
+  local install=(timeout 400 apt-get "${patience[@]}" install -y --no-install-recommends chromium)
   export DEBIAN_FRONTEND=noninteractive
-  "${install[@]}" > /dev/null 2>&1 || { timeout 300 apt-get update -qq > /dev/null 2>&1 && "${install[@]}" > /dev/null 2>&1; }
+  "${install[@]}" > /dev/null 2>&1 ||
+    { timeout 200 apt-get "${patience[@]}" update > /dev/null 2>&1 && "${install[@]}" > /dev/null 2>&1; }
 }
 
 program=${1:-}

@@ -441,7 +441,13 @@ class App {
 /* A bar between two parts, moved by the mouse or by arrow keys. */
 function makeBar(bar, isVertical, size, resize) {
   const place = event => (isVertical ? event.clientX : event.clientY);
-  const set = value => resize(Math.max(value, 60));
+  const tell = value => bar.setAttribute('aria-valuenow', String(Math.round(value)));
+  const set = value => {
+    resize(Math.max(value, 60));
+    tell(Math.max(value, 60));
+  };
+  bar.setAttribute('aria-valuemin', '60');
+  tell(size());
   bar.addEventListener('pointerdown', down => {
     bar.setPointerCapture(down.pointerId);
     const before = size();
