@@ -10,41 +10,13 @@ import sys
 import time
 
 from browser import Browser
+from page_inputs import hostile_inputs, long_room, MARKUP, random_room, RETRIES
 
 TOP = os.path.dirname(os.path.dirname(os.path.realpath(__file__)))
 EXAMPLES = os.path.join(TOP, "examples")
 PROGRAM = os.environ["HDMINET"]
 BROWSER, ROOM = sys.argv[1:3]
 BARE = os.path.join(ROOM, "bare.html")
-
-# A lost arbitration, six attempts, a refused event, a device that loses its address, and a pulse that is no start bit.
-RETRIES = """device tv tv 4
-device amp amp 2
-device p1 player 0
-device p2 player 0
-device dut outside 0
-plug amp tv 1
-plug p1 amp 1
-plug p2 amp 2
-plug dut tv 3
-script
-at 2000000 send tv 0>3 give-osd-name
-at 3000000 press p1 play
-at 3000000 press p2 play
-at 4000000 unplug amp
-at 4500000 plug amp tv 2
-at 6000000 hold dut 1
-at 6000000 send dut 1>f active-source 3.0.0.0
-at 6000000 send dut 1>5 give-audio-status
-at 6500000 send tv 0>1 give-osd-name
-at 6700000 send tv 0>4 record-on :0102
-pulse 7006500 700
-at 7000000 send p1 4>0 image-view-on
-at 7000000 send p2 8>0 image-view-on
-at 7500000 press p1 volume-up
-pulse 8000000 700
-end 9000000
-"""
 
 # What the tests ask of the page, in the page: what is drawn of a row, by the names of the lanes that the marks stand at.
 HELPERS = r"""
@@ -425,76 +397,14 @@ def mouse_works(t, b):
     t.same("the bar makes the panel wider", b.js("document.querySelector('aside').offsetWidth") - before, 120)
 
 
-MARKUP = '<img src=x onerror="window.hit=1">'
-
-
-def hostile_inputs():
-    """Inputs that no program of ours wrote: name, texts."""
-    def line(**fields):
-        return json.dumps(fields)
-    complete = {"type": "round", "begin": 12000, "close": 39150, "ending": "complete", "initiator": "4", "destination": "0",
-                "bytes": "4004", "verdict": "ack"}
-    named = line(**complete, line=f"1 2 complete 4>0 x ack by {MARKUP}",
-                 frame=f"4>0 {MARKUP}</script><script>window.hit=1</script>", by=[MARKUP],
-                 out=[{"device": '"><svg onload=window.hit=1>', "slot": 1}])
-    state = line(line=MARKUP, type="state", device=MARKUP, kind=MARKUP, logical_addresses=[MARKUP], physical_address=MARKUP,
-                 osd_text=MARKUP.encode().hex())
-    yield "names", ["\n".join([named, state, line(line="end", type="end", at=99999)])]
-    yield "empty", [""]
-    yield "blank", ["\n\n  \n"]
-    yield "no text of ours", ["hello\nworld\n"]
-    yield "half a line", [named[:80]]
-    yield "broken lines", ["\n".join([named, '{"type":', "[1,2]", "null", "5", line(type="round"),
-                                      line(type="round", begin="x", close=None),
-                                      line(type="event", at=5, script_line={}, verdict=[], cause=None)])]
-    yield "wrong types", ["\n".join([
-        line(type="round", begin=1, close=2, ending=None, frame=5, initiator=[], destination={}, bytes=12, verdict=True, by="x",
-             out={"device": 1}, bits=7),
-        line(type="state", device=None, logical_addresses=5, kind={}), line(type="test", test="a", holds="yes", expectation=5),
-        line(type="window"), line(type="stretch", holds=3)])]
-    yield "huge times", ["\n".join([line(**{**complete, "begin": -1e300, "close": 1e300}, by=["a"], out=[]),
-                                    line(type="round", line="a", begin=1e15, close=1, ending="short", bits="0", by=[], out=[])])]
-    yield "a plain trace", ["12000 39150 complete 0>0 nack by tv out -\n"]
-    yield "a dump", ["$timescale 1 us $end\n$var wire 1 ! CEC $end\n$enddefinitions $end\n"
-                     "#x\n0!\n#-5\n#99999999999999999999999\n1!\nzzz\n"]
-    yield "no dump", ["$enddefinitions"]
-    yield "no scale", ["$timescale 7 parsecs $end $enddefinitions $end"]
-    yield "names of JavaScript", ["\n".join([
-        line(**{**complete, "verdict": "constructor"}, line="__proto__", by=["__proto__", "constructor"], out=[]),
-        line(type="state", device="__proto__", kind="constructor", logical_addresses=["toString"])])]
-    yield "a room", ["device <b> tv 4\nplug x y\nplug\nscript\nat\nlabel\n"]
-    yield "control characters", ["\0\1\2" * 1000]
-    yield "a long line", ['{"type":"round","line":"' + "a" * 1000000 + '"}']
-    yield "edges out of order", ["5 1\n5 1\n3 0\n9 0\n9 0\n1 end\n"]
-    random.seed(1)
-    room = example("living-room-evening.net")
-    objects = program(room, "run", "--json")
-    dump = program(room, "run", "--edges", "--as", "vcd", "--drives")
-
-    def mutant(text):
-        characters = list(text)
-        for _ in range(random.randint(1, 30)):
-            at = random.randrange(len(characters))
-            kind = random.random()
-            if kind < 0.4:
-                characters[at] = random.choice('0123456789{}[]":,<>abcfxyz -\n')
-            elif kind < 0.7:
-                del characters[at:at + random.randint(1, 200)]
-            else:
-                characters[at:at] = characters[random.randrange(len(characters)):][:random.randint(1, 200)]
-        return "".join(characters)
-
-    for number in range(8):
-        yield f"mutant {number}", [mutant(objects), mutant(dump)] if number % 3 else [mutant(objects), dump, mutant(room)]
-
-
 def hostile_inputs_are_harmless(t, b):
     """Nothing of an input is run or fetched, and nothing throws: each tab and many rows are drawn of each."""
     b.open(BARE)
     b.js(HELPERS)
     t.holds("the bare page says what it takes", "Drop files here" in b.js("document.body.textContent"))
     b.js("window.thrown = []; window.addEventListener('error', event => thrown.push(`${event.message}`)); true")
-    for name, texts in hostile_inputs():
+    inputs = dict(hostile_inputs(program, example("living-room-evening.net")))
+    for name, texts in inputs.items():
         load(b, *texts)
         found = b.js("""(() => { const { app, PANELS } = hdminet;
           thrown.length = 0;
@@ -513,11 +423,11 @@ def hostile_inputs_are_harmless(t, b):
         t.same(f"hostile: {name}", found, {"thrown": [], "hit": 0, "images": 0})
     load(b, "")
     t.holds("an empty file is named", "empty" in b.js("document.getElementById('panel').textContent"))
-    load(b, dict(hostile_inputs())["broken lines"][0])
+    load(b, inputs["broken lines"][0])
     t.holds("broken lines are named", "is no object of the program" in b.js("testing.app.openPanel('notes'), testing.panel()"))
     t.same("nothing is fetched or wrong", b.faults(), [])
     # The same through tools/page: its data has no way out of its element.
-    objects = dict(hostile_inputs())["names"][0]
+    objects = inputs["names"][0]
     evil = os.path.join(ROOM, "evil.html")
     title = "</script><img src=x onerror=window.hit=1>"
     subprocess.run([os.path.join(TOP, "tools/page"), "--title", title, "-o", evil], input=objects.encode(), check=True)
@@ -579,50 +489,6 @@ INFERENCES = r"""(() => {
   }
   return { faults: faults.slice(0, 5), rounds: model.rounds.length };
 })()"""
-
-
-def random_room():
-    kinds = ["amp", "player", "player", "recorder", "switch", "combo", "outside"]
-    frames = ["give-osd-name", "give-physical-address", "give-device-power-status", "image-view-on", "standby",
-              "request-active-source", "active-source 1.0.0.0", "menu-request query", "give-deck-status on", "op-e5 :",
-              "get-menu-language", 'set-osd-string hold "x"', "routing-change 1.0.0.0 2.0.0.0"]
-    keys = ["play", "stop", "power", "menu", "eject", "volume-up", "audio on", "arc on", "port 2"]
-    names = ["tv"]
-    lines = ["device tv tv 4"]
-    free = [("tv", port) for port in range(1, 5)]
-    plugs = []
-    for number in range(random.randint(1, 9)):
-        kind, ports = random.choice(kinds), random.choice([0, 1, 1, 3])
-        name = f"{kind[:2]}{number}"
-        names.append(name)
-        lines.append(f"device {name} {kind} {ports}")
-        if free and random.random() < 0.85:
-            place = free.pop(random.randrange(len(free)))
-            plugs.append(f"plug {name} {place[0]} {place[1]}")
-        free += [(name, port) for port in range(1, ports + 1)]
-    lines += [*plugs, "script"]
-    now = random.choice([0, 100000, 2000000])
-    next_pulse = 0
-    for _ in range(random.randint(2, 30)):
-        now += random.choice([0, 0, 1000, 60000, 300000, 1000000])
-        name, chance = random.choice(names), random.random()
-        if chance < 0.4:
-            initiator, destination = random.choice("0123456789abcdef"), random.choice("0123456789abcdef")
-            lines.append(f"at {now} send {name} {initiator}>{destination} {random.choice(frames)}")
-        elif chance < 0.55:
-            lines.append(f"at {now} press {name} {random.choice(keys)}")
-        elif chance < 0.65:
-            lines.append(f"at {now} unplug {name}")
-        elif chance < 0.75:
-            lines.append(f"at {now} plug {name} {random.choice(names)} {random.randint(1, 4)}")
-        elif chance < 0.85:
-            lines.append(f"at {now} hold {name} {random.choice(['-', '1', '4+1', 'b', 'e', '0+5'])}")
-        elif now + 500000 > next_pulse:
-            width = random.randint(1, 9000)
-            at = max(next_pulse, now + random.randint(0, 300000))
-            lines.append(f"pulse {at} {width}")
-            next_pulse = at + width + 25000
-    return "\n".join(lines) + f"\nend {max(now, next_pulse) + 3000000}\n"
 
 
 def dumps_are_read(t, b):
@@ -705,11 +571,7 @@ def pages_are_made(t, b):
 def long_runs_are_fast(t, b):
     """20,000 rounds: the first picture within 2 s, a step of zoom within 50 ms. These are the limits of a machine on which an
     empty page and some work in it take 300 ms; a slower one, or one with other work, has as much more time."""
-    lines = ["device tv tv 4", "device amp amp 3", "device p1 player 0", "plug amp tv 1", "plug p1 amp 1", "script"]
-    frames = ["0>4 give-osd-name", "0>5 give-audio-status", "0>4 give-device-power-status"]
-    for number in range(10000):
-        lines.append(f"at {4000000 + 400000 * number} send tv {frames[number % 3]}")
-    page = page_of(written("long.net", "\n".join(lines) + f"\nend {4000000 + 400000 * 10001}\n"))
+    page = page_of(written("long.net", long_room()))
 
     def first_picture(path):
         b.open(path)
