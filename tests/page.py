@@ -72,8 +72,9 @@ window.testing = {
       const pixels = pen.getImageData(Math.round(wave.x(instant) * scale), Math.round(y * scale) - 1, 1, 3).data;
       return [3, 7, 11].some(i => pixels[i] > 90);
     };
-    const [high, low] = [ink(top + 5), ink(top + 20)];
-    return high === low ? (wire > 0 && high ? true : `high ${high} low ${low}`) : low;
+    const [high, middle, low] = [ink(top + 5), ink(top + 12), ink(top + 20)];
+    if (wire > 0) return high && middle && low ? true : high && !middle && !low ? false : `${[high, middle, low]}`; // low is filled
+    return high === low ? `${[high, low]}` : low;
   },
   panel() {
     return document.getElementById('panel').textContent;
@@ -380,11 +381,12 @@ def mouse_works(t, b):
     b.click(x_of(227805) - 3, top + 80, modifiers=8)
     t.same("cursors on the nearest edges", b.js("testing.app.wave.cursors"), [224105, 227805])
     width = b.js("testing.app.wave.to - testing.app.wave.from")
-    under = b.js(f"testing.app.wave.timeAt({x_of(260000) - left})")
-    b.mouse("mouseWheel", x_of(260000), top + 80, deltaX=0, deltaY=-240)
+    at = round(x_of(240000))
+    under = b.js(f"testing.app.wave.timeAt({at - left})")
+    b.mouse("mouseWheel", at, top + 80, deltaX=0, deltaY=-240)
     b.settle()
     t.holds("the wheel zooms", b.js("testing.app.wave.to - testing.app.wave.from") < width * 0.8)
-    t.holds("at the mouse", abs(b.js(f"testing.app.wave.x({under})") + left - x_of(260000)) < 2)
+    t.holds("at the mouse", abs(x_of(under) - at) < 2, f"{x_of(under)} and {at}")
     b.js("testing.app.wave.showAll()")
     b.settle()
     b.click(x_of(1020000), top + 30)
