@@ -73,8 +73,9 @@ window.testing = {
       return [3, 7, 11].some(i => pixels[i] > 90);
     };
     const [high, middle, low] = [ink(top + 5), ink(top + 12), ink(top + 20)];
-    if (wire > 0) return high && middle && low ? true : high && !middle && !low ? false : `${[high, middle, low]}`; // low is filled
-    return high === low ? `${[high, low]}` : low;
+    const found = `${[high, middle, low]}`;
+    if (wire > 0) return { 'true,true,true': true, 'true,false,false': false }[found] ?? found; // what is low is filled
+    return high === low ? found : low;
   },
   panel() {
     return document.getElementById('panel').textContent;
@@ -275,7 +276,8 @@ def capture_is_drawn(t, b):
         "testing.app.model.rounds.filter(o => o.ending === 'complete' && !hdminet.slotsOf(testing.app.model, o)).length"), 0)
     out = "testing.app.model.rounds.find(o => o.row.remarks.some(text => / low \\d+ not /.test(text)))"
     b.js(f"testing.app.select({out}.row)")
-    t.holds("a width out of its window is marked", b.js("document.querySelectorAll('#panel .bad').length") > 0)
+    marked = b.js("[...document.querySelectorAll('#panel td .bad')].map(one => one.textContent)")
+    t.holds("a width out of its window is marked", "out" in marked, marked)
 
 
 def failures_are_drawn(t, b):
