@@ -249,6 +249,25 @@ def wave_is_drawn(t, b):
            bool(re.search(r"A \d+   B \d+   B−A \d+ µs", b.js("document.getElementById('reading').textContent"))), True)
 
 
+def other_lines_are_noticed(t, b):
+    """A wave that is not the line of the rounds has no bits; a state that is not what is inferred is a note."""
+    b.open(BARE)
+    b.js(HELPERS)
+    room = example("first-path.net")
+    objects = program(room, "run", "--json")
+    dump = program(room, "run", "--edges", "--as", "vcd", "--drives")
+    slots = "testing.app.model.rounds.filter(round => hdminet.slotsOf(testing.app.model, round)).length"
+    load(b, objects, dump, room)
+    t.same("the same run", [b.js(slots), b.js("testing.app.model.faults")], [6, []])
+    load(b, objects.replace('"bytes":"4004"', '"bytes":"400d"'), dump, room)
+    t.same("another byte", b.js(slots), 5)
+    b.js("testing.app.select(testing.rowOf('4>0 image-view-on'))")
+    t.holds("which the panel says", "not the line that this was read of" in b.js("testing.panel()"), b.js("testing.panel()"))
+    load(b, objects.replace('"logical_addresses":["4"]', '"logical_addresses":["8"]'), dump, room)
+    t.holds("another address at the end", any("p1" in fault and "8" in fault for fault in b.js("testing.app.model.faults")),
+            b.js("testing.app.model.faults"))
+
+
 def capture_is_drawn(t, b):
     """A capture with faults: what the audit remarks, and what is not read as a frame."""
     show(b, os.path.join(EXAMPLES, "capture.sigrok.vcd"))
@@ -259,6 +278,16 @@ def capture_is_drawn(t, b):
     t.holds("the remark in words", "start low 400 not 3500..3900" in b.js("testing.panel()"), b.js("testing.panel()"))
     broadcast = drawn(b, "0>f report-physical-address 0.0.0.0 tv ok")
     t.same("a lane is an address", [broadcast["cls"], broadcast["senders"]], ["ok", ["0"]])
+    # What a run has not: readings that go on at the end, that begin before the line was idle, and that are too long
+    def reading(at, ending, bits):
+        return json.dumps({"line": f"{at} {at + 9000} {ending} {bits}", "type": "reading", "begin": at, "close": at + 9000,
+                           "ending": ending, "bits": bits})
+    load(b,
+         "\n".join([reading(0, "joined", ""), reading(60000, "open", "0100"), reading(120000, "long", "01000000" + "0" * 151)]))
+    joined, still, long = drawn(b, " joined "), drawn(b, " open "), drawn(b, " long ")
+    t.same("joined", [joined["cls"], joined["label"]], ["idle", "read before the line was first idle"])
+    t.same("open", [still["cls"], still["verdict"], still["senders"]], ["broken", "open", ["4"]])
+    t.same("long", [long["cls"], long["verdict"]], ["broken", "long"])
     # Chatter and slow bits: the run's line, each 40th rise late by 300, and spikes of 18 that --glitch leaves out
     edges = [line.split() for line in program(RETRIES, "run", "--edges").splitlines()]
     lines = ["$timescale 1 us $end", "$var wire 1 ! CEC $end", "$enddefinitions $end", "#0", "1!"]
@@ -508,7 +537,7 @@ def dumps_are_read(t, b):
             ("a space before the name", head + "#0 1 ! #100 0 ! #3800 z ! #9000", [100, 3800]),
             ("vectors, reals and strings", head + "#0 b1 ! #100 b0 ! b10101 # r1.5 r sabc r #3800 b1 ! #9000", [100, 3800]),
             ("several in a microsecond", head + "#0 1! #100 0! 1! #200 0! #200 1! #300 0! #3800 x! #9000", [300, 3800]),
-            ("a comment", head + "$dumpvars 1! $end #100 0! $comment #5 0! $end #3800 1! #9000", [100, 3800]),
+            ("a comment", head + "$dumpvars 1! $end #100 0! $comment #5 1! $end #3800 1! #9000", [100, 3800]),
             ("low at first", head + "#0 0! #3700 1! #9000", [0, 3700]),
             ("a level that comes again", head + "#0 1! #100 1! #200 0! #300 0! #3900 1! #3950 1! #9000", [200, 3900])]:
         t.same(f"dump: {name}", b.js(f"hdminet.readDump({json.dumps(text)}).line.changes"), changes)
@@ -572,6 +601,18 @@ def pages_are_made(t, b):
            b.js("testing.app.model.tests.length > 0 && testing.app.model.tests.every(test => test.holds)"), True)
 
 
+def examples_have_pages(t, b):
+    """A page of each example: nothing is noted, and nothing is wrong in the browser."""
+    folder = os.path.join(ROOM, "examples")
+    done = subprocess.run([os.path.join(TOP, "tools/example-pages"), folder], stdout=subprocess.DEVNULL, check=False)
+    pages = sorted(os.listdir(folder))
+    t.same("pages of examples", [done.returncode, len(pages) >= 20], [0, True])
+    for name in pages:
+        b.open(os.path.join(folder, name))
+        shown = b.js("(m => m.rounds.length + m.tests.length + m.stretches.length + m.meanings.length)(hdminet.app.model)")
+        t.same(name, [shown > 0, b.js("hdminet.app.model.faults"), b.faults()], [True, [], []])
+
+
 def long_runs_are_fast(t, b):
     """20,000 rounds: the first picture within 2 s, a step of zoom within 50 ms. These are the limits of a machine on which an
     empty page and some work in it take 300 ms; a slower one, or one with other work, has as much more time."""
@@ -627,9 +668,10 @@ def sources_are_plain(t, _):
         t.same(f"{name}: lines that are too long", [line for line in text.splitlines() if len(line) > 130], [])
 
 
-ALL = [sources_are_plain, verdicts_are_drawn, colours_differ, retries_are_folded, wave_is_drawn, capture_is_drawn,
-       failures_are_drawn, keys_reach_all, mouse_works, hostile_inputs_are_harmless, inferences_are_the_programs, dumps_are_read,
-       files_may_be_dropped, pages_are_made, long_runs_are_fast]
+ALL = [sources_are_plain, verdicts_are_drawn, colours_differ, retries_are_folded, wave_is_drawn, other_lines_are_noticed,
+       capture_is_drawn, failures_are_drawn, keys_reach_all, mouse_works, hostile_inputs_are_harmless,
+       inferences_are_the_programs, dumps_are_read, files_may_be_dropped, pages_are_made, examples_have_pages,
+       long_runs_are_fast]
 
 
 def main():
