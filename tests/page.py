@@ -106,9 +106,13 @@ def program(data, *flags):
     return done.stdout.decode()
 
 
-def example(name):
-    with open(os.path.join(EXAMPLES, name), encoding="utf-8") as file:
+def read(path):
+    with open(path, encoding="utf-8") as file:
         return file.read()
+
+
+def example(name):
+    return read(os.path.join(EXAMPLES, name))
 
 
 def written(name, text):
@@ -589,8 +593,7 @@ def pages_are_made(t, b):
     for name, count in [("denon-avr-x2300w.edid", 0), ("capture.pin", 4), ("capture.edges", 4)]:
         subprocess.run([os.path.join(TOP, "tools/look"), os.path.join(EXAMPLES, name), "-o", out], check=True,
                        stdout=subprocess.DEVNULL, env={**os.environ, "HDMINET_OPEN": opener})
-        with open(opened, encoding="utf-8") as file:
-            t.same(f"look opens {name}", file.read(), out)
+        t.same(f"look opens {name}", read(opened), out)
         b.open(out)
         t.same(f"its rounds: {name}", [b.js("hdminet.app.model.rounds.length"), b.faults()], [count, []])
     size = os.path.getsize(BARE)
@@ -660,12 +663,21 @@ def sources_are_plain(t, _):
     """No markup is made of a string, nothing is fetched, and no line is longer than 130 columns."""
     folder = os.path.join(TOP, "view")
     for name in sorted(os.listdir(folder)):
-        with open(os.path.join(folder, name), encoding="utf-8") as file:
-            text = file.read()
+        text = read(os.path.join(folder, name))
         forbidden = (r"innerHTML|outerHTML|insertAdjacentHTML|document\.write|\beval\b|new Function|fetch\(|XMLHttpRequest"
                      r"|https?://(?!www\.w3\.org/)")
         t.same(f"{name}: what makes markup or asks a network", re.findall(forbidden, text), [])
         t.same(f"{name}: lines that are too long", [line for line in text.splitlines() if len(line) > 130], [])
+    texts = {name: read(os.path.join(folder, name)) for name in os.listdir(folder) if name.endswith(".js")}
+    exported = {(name, word) for name, text in texts.items()
+                for word in re.findall(r"^export (?:async )?(?:function|const|class) (\w+)", text, re.M)}
+    imported = set()
+    for name, text in texts.items():
+        for words, source in re.findall(r"^import \{ (.*) \} from '\./(\w+\.js)';$", text, re.M):
+            imported |= {(source, word) for word in words.split(", ")}
+            unused = [word for word in words.split(", ") if len(re.findall(rf"\b{word}\b", text)) < 2]
+            t.same(f"{name}: imports that nothing uses", unused, [])
+    t.same("what modules export is what others import", sorted(exported ^ imported), [])
 
 
 ALL = [sources_are_plain, verdicts_are_drawn, colours_differ, retries_are_folded, wave_is_drawn, other_lines_are_noticed,

@@ -1,6 +1,6 @@
 // The chart: time runs down, and a lifeline stands for each device. Only the rows in sight are in the document.
 
-import { counted, duration, html, seconds, shortened, svg } from './elements.js';
+import { duration, seconds, shortened, svg } from './elements.js';
 import { deviceAt } from './model.js';
 import { blockOf } from './slots.js';
 import { lowerBound } from './texts.js';
@@ -125,7 +125,7 @@ export class Chart {
     const top = this.tops[from];
     const height = Math.max(this.tops[to + 1] - top, 1);
     const all = svg('svg', { class: 'chart', width: this.width, height, role: 'presentation' });
-    for (let i = from; i <= to; i++) all.append(this.rowPicture(this.shown[i], this.tops[i] - top));
+    for (let i = from; i <= to; i++) all.append(new RowPicture(this, this.shown[i], this.tops[i] - top).draw());
     return all;
   }
 
@@ -149,10 +149,6 @@ export class Chart {
     });
     const unit = svg('text', { x: 8, y: 30, class: 'time' }, 'seconds');
     return svg('svg', { class: 'chart', width: this.width, height: HEADS }, unit, heads);
-  }
-
-  rowPicture(row, top) {
-    return new RowPicture(this, row, top).draw();
   }
 
   /* The rows shown, as one SVG that stands by itself, with the rules of its style. */

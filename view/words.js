@@ -2,7 +2,7 @@
 
 import { deviceAt } from './model.js';
 
-export const ADDRESSES = [
+const ADDRESSES = [
   'TV', 'Recording 1', 'Recording 2', 'Tuner 1', 'Playback 1', 'Audio System', 'Tuner 2', 'Tuner 3', 'Playback 2', 'Recording 3',
   'Tuner 4', 'Playback 3', 'Reserved c', 'Reserved d', 'Specific Use', 'unregistered',
 ];
@@ -10,7 +10,7 @@ export const addressName = digit => ADDRESSES[parseInt(digit, 16)];
 
 /* CODE NAME | what the sender says. {0} is the word of the first operand, {pa0} a physical address and who is there, {op0} the
    name of an opcode, {*} all operands; what stands in {?0: } is said only where there is an operand. */
-export const OPCODES = new Map(`
+const OPCODES = new Map(`
 00 feature-abort|Refuses {op0}: {1}.
 04 image-view-on|Turn on and show a picture: mine comes next.
 0d text-view-on|Turn on, show a picture, and take away texts and menus.
