@@ -609,7 +609,7 @@ def examples_have_pages(t, b):
     folder = os.path.join(ROOM, "examples")
     done = subprocess.run([os.path.join(TOP, "tools/example-pages"), folder], stdout=subprocess.DEVNULL, check=False)
     pages = sorted(os.listdir(folder))
-    t.same("pages of examples", [done.returncode, len(pages) >= 20], [0, True])
+    t.same("pages of examples", [done.returncode, len(pages) >= 22], [0, True])
     for name in pages:
         b.open(os.path.join(folder, name))
         shown = b.js("(m => m.rounds.length + m.tests.length + m.stretches.length + m.meanings.length)(hdminet.app.model)")
