@@ -33,5 +33,18 @@ browser=$(find_browser) || { install_browser && browser=$(find_browser); } ||
   leave_out "there is no chromium, and it can't be installed here"
 
 room=$(mktemp -d)
-trap 'rm -rf "$room"' EXIT
-TMPDIR=$room HDMINET=$program PYTHONDONTWRITEBYTECODE=1 timeout 900 python3 "$top/tests/page.py" "$browser" "$room" "${@:2}"
+tests=
+# Where this is stopped, the tests are too, and they end their browser.
+stop() {
+  [ -z "$tests" ] || { kill "$tests" 2> /dev/null; wait "$tests"; }
+  rm -rf "$room"
+}
+trap stop EXIT
+trap 'exit 130' INT
+trap 'exit 143' TERM
+TMPDIR=$room HDMINET=$program PYTHONDONTWRITEBYTECODE=1 timeout 900 python3 "$top/tests/page.py" "$browser" "$room" "${@:2}" &
+tests=$!
+wait "$tests"
+status=$?
+tests=
+exit $status
