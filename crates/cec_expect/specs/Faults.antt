@@ -1,5 +1,5 @@
 -- Labels of a script, and its first line at fault (own). Lines count from 1. A label is a word that is not empty, stands on one
--- line alone, and above those that name it; of a refusal it is an event's. A window does not end before it begins. The device of
+-- line alone, before an event, a pulse or an expectation, and above those that name it; of a refusal it is an event's. A window does not end before it begins. The device of
 -- a state is one of the topology, and its time is not past the end.
 use Rattle.std.specs.Prelude.{ℕ, ◌+◌, ◌==◌, nat_lt, ◌&&◌, not, codes, Bool, true, false, if◌then◌else◌, length, List, [], ◌∷◌, Option, Some, None, Result, Ok, Err}
 use Rattle.std.specs.Str.{bytes_eq}
@@ -8,13 +8,13 @@ use Rattle.std.specs.Option.{option_map}
 use Rattle.hdmi_core.specs.Lines.{lines_of}
 use Rattle.hdmi_core.specs.Words.{words_of}
 use Rattle.hdmi_core.specs.Number.{number_of}
-use Rattle.cec_expect.specs.Line.{label_in, unlabelled_words, is_event}
+use Rattle.cec_expect.specs.Line.{label_in, unlabelled_words, is_event, is_labelable}
 use Rattle.cec_expect.specs.Fault.{after_label, at_word}
 use Rattle.cec_expect.specs.Form.{Form, Window, form_in, in_window}
 use Rattle.cec_expect.specs.Form.Form.{Other, Rounds, State, Refused}
 use Rattle.cec_expect.specs.Form.Window.{Within, From}
 use Rattle.cec_expect.specs.declared.fault.LineFault.{LineFault}
-use Rattle.cec_expect.specs.declared.form.ExpectCause.TheVariants.{Name, Label, Order}
+use Rattle.cec_expect.specs.declared.form.ExpectCause.TheVariants.{Word, Name, Label, Order}
 use Rattle.cec_expect.specs.declared.form.Quantity.{Quantity}
 use Rattle.cec_expect.specs.declared.faults.ExpectFault.{ExpectFault}
 
@@ -109,9 +109,14 @@ fault_by topology script number label (Ok form) =
     else if is_own_label script number label then option_map (after_label label) (form_fault script number form)
     else Some (at_word 1 Label)
 
+-- what a line says without its label, which stands before no other line
+abbrev pub labelled_form : Option (List ℕ) → List (List ℕ) → Result Form LineFault
+labelled_form None words = form_in words
+labelled_form (Some name) words = if is_labelable words then form_in words else Err (at_word 0 Word)
+
 -- why a line is refused, and its word at fault
 abbrev pub line_fault : List ℕ → List ℕ → ℕ → List ℕ → Option LineFault
-line_fault topology script number line = fault_by topology script number (label_in (words_of line)) (form_in (unlabelled_words (words_of line)))
+line_fault topology script number line = fault_by topology script number (label_in (words_of line)) (labelled_form (label_in (words_of line)) (unlabelled_words (words_of line)))
 
 abbrev pub fault_or : ℕ → Option LineFault → Option ExpectFault → Option ExpectFault
 fault_or number None next = next

@@ -1,6 +1,6 @@
 -- What the line of an expectation says (own): `expect HOW WINDOW PATTERN`, `expect state T DEVICE WORD..` or `expect refused NAME
 -- WORD`, where HOW is nothing, `none` or `once`, and WINDOW is `within D of NAME` or `from T to U`. Times are in microseconds.
-use Rattle.std.specs.Prelude.{◌≡◌, ℕ, ◌+◌, ◌≤◌, ◌==◌, nat_lt, nat_le, ◌&&◌, Bool, if◌then◌else◌, codes, length, filter, List, [], ◌∷◌, Option, Some, None, Result, Ok, Err}
+use Rattle.std.specs.Prelude.{◌≡◌, ℕ, ◌+◌, ◌-◌, ◌^◌, ◌≤◌, ◌==◌, nat_lt, nat_le, ◌&&◌, ◌||◌, not, Bool, if◌then◌else◌, codes, length, filter, slice_index, List, [], ◌∷◌, Option, Some, None, Result, Ok, Err}
 use Rattle.std.specs.Str.{bytes_eq}
 use Rattle.cec_wave.specs.Bounds.{latest_event}
 use Rattle.hdmi_core.specs.Number.{number_of}
@@ -41,14 +41,29 @@ form_as (forms.Rounds quantity window pattern) = Rounds quantity (window_of wind
 form_as (forms.State time device words) = State time device.now (words_of words.now)
 form_as (forms.Refused label word) = Refused label.now word.now
 
+-- ---- numbers
+
+-- a number up to 2 ^ 64 - 1, by its digits: those of a larger one read as that number, which has one numeral
+abbrev pub exact_by : List ℕ → Option ℕ → Option ℕ
+exact_by word None = None
+exact_by word (Some n) = if (n == 2 ^ 64 - 1) && not (bytes_eq word (codes "18446744073709551615")) then None else Some n
+
+abbrev pub exact_number : List ℕ → Option ℕ
+exact_number word = exact_by word (number_of word)
+
 -- ---- patterns
 
--- 1 to 160 bytes with at most four `*`: a pattern is followed byte by byte, and each `*` in one word multiplies the ways
+-- a space at an end
+abbrev pub is_open_ended : List ℕ → Bool
+is_open_ended text = (slice_index text 0 == 32) || (slice_index text (length text - 1) == 32)
+
+-- 1 to 160 bytes with at most four `*`, of which neither the first nor the last is a space: a pattern is followed byte by byte, and
+-- each `*` in one word multiplies the ways
 abbrev pub stars : List ℕ → ℕ
 stars text = length (filter (λ b. b == 42) text)
 
 abbrev pub is_pattern : List ℕ → Bool
-is_pattern text = nat_lt 0 (length text) && nat_le (length text) 160 && nat_le (stars text) 4
+is_pattern text = nat_lt 0 (length text) && nat_le (length text) 160 && nat_le (stars text) 4 && not (is_open_ended text)
 
 -- ---- expectations of rounds
 
@@ -94,7 +109,7 @@ within quantity (Some duration) parts = Ok (Rounds quantity (Within duration par
 
 abbrev pub within_by : Quantity → Result Parts LineFault → Result Form LineFault
 within_by quantity (Err fault) = Err fault
-within_by quantity (Ok parts) = within quantity (number_of parts.first) parts
+within_by quantity (Ok parts) = within quantity (exact_number parts.first) parts
 
 abbrev pub rounds_between : Quantity → Option ℕ → Option ℕ → Parts → Result Form LineFault
 rounds_between quantity None to parts = Err (in_window quantity 1 Number)
@@ -103,7 +118,7 @@ rounds_between quantity (Some from) (Some to) parts = Ok (Rounds quantity (From 
 
 abbrev pub between_by : Quantity → Result Parts LineFault → Result Form LineFault
 between_by quantity (Err fault) = Err fault
-between_by quantity (Ok parts) = rounds_between quantity (number_of parts.first) (number_of parts.second) parts
+between_by quantity (Ok parts) = rounds_between quantity (exact_number parts.first) (exact_number parts.second) parts
 
 -- `within D of NAME PATTERN` or `from T to U PATTERN`
 abbrev pub rounds_in : Quantity → List (List ℕ) → Result Form LineFault

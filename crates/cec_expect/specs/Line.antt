@@ -1,5 +1,5 @@
 -- Lines of a script with labels and expectations (own): `label NAME` may stand before a line.
-use Rattle.std.specs.Prelude.{ℕ, nat_lt, Bool, false, if◌then◌else◌, codes, List, [], ◌∷◌, ◌++◌, Option, Some, None}
+use Rattle.std.specs.Prelude.{ℕ, nat_lt, ◌||◌, Bool, false, if◌then◌else◌, codes, List, [], ◌∷◌, ◌++◌, Option, Some, None}
 use Rattle.std.specs.Str.{bytes_eq}
 use Rattle.std.specs.Fmt.{decimal}
 use Rattle.std.specs.List.{flat_map}
@@ -36,6 +36,20 @@ is_expectation words = has_verb (codes "expect") words
 -- `at ..`
 abbrev pub is_event : List (List ℕ) → Bool
 is_event words = has_verb (codes "at") words
+
+-- `pulse ..`
+abbrev pub is_pulse : List (List ℕ) → Bool
+is_pulse words = has_verb (codes "pulse") words
+
+-- what a label may stand before: an expectation, an event or a pulse
+abbrev pub is_labelable : List (List ℕ) → Bool
+is_labelable words = is_expectation words || is_event words || is_pulse words
+
+-- `pulse T D`: its onset
+abbrev pub onset_in : List (List ℕ) → Option ℕ
+onset_in [] = None
+onset_in (verb ∷ []) = None
+onset_in (verb ∷ time ∷ words) = if bytes_eq verb (codes "pulse") then number_of time else None
 
 -- what is left of these words in a script without expectations
 abbrev pub plain_words : List (List ℕ) → List ℕ

@@ -1,16 +1,16 @@
 //! The first line of a script at fault.
-ghost use Rattle.std.specs.Prelude.{◌≡◌, IfOk, IfSome};
+ghost use Rattle.std.specs.Prelude.{◌≡◌, IfErr, IfOk, IfSome};
 ghost use Rattle.std.specs.Option.{option_copied, option_map};
 ghost use Rattle.hdmi_core.specs.Words.{words_after, words_of};
 ghost use Rattle.cec_expect.specs.Fault.{IsNear, after_label};
-ghost use Rattle.cec_expect.specs.Form.{form_as, window_of};
+ghost use Rattle.cec_expect.specs.Form.{IsForm, form_as, window_of};
 ghost use Rattle.cec_expect.specs.Line.{unlabelled_words};
-ghost use Rattle.cec_expect.specs.Faults.{declared_in, end_in, ends_before, first_fault, form_fault, is_above, is_declared, is_line, is_named, is_own_label, is_past, is_strange, line_fault, window_fault};
+ghost use Rattle.cec_expect.specs.Faults.{declared_in, end_in, ends_before, first_fault, form_fault, is_above, is_declared, is_line, is_named, is_own_label, is_past, is_strange, labelled_form, line_fault, window_fault};
 
 use crate::fault::{LineFault, after_label, at_word};
 use crate::form::{ExpectCause, Form, Quantity, Window, form_in, in_window};
 use crate::labels::Labels;
-use crate::line::unlabelled;
+use crate::line::{is_labelable, unlabelled};
 use hdmi_core::{first_line, first_word, number_in};
 use std::alloc::{AllocError, Global};
 use thiserror::Error;
@@ -199,11 +199,22 @@ fn any_after_label(label: Option<&[u8]>, fault: Option<LineFault>) -> Option<Lin
     }
 }
 
+// What a line says without its label, which stands before no other line than an expectation, an event or a pulse.
+fn labelled_form<'a>(label: Option<&[u8]>, rest: Option<&'a [u8]>) -> Result<Form<'a>, LineFault>
+    ensures is { IsForm (labelled_form (option_copied label.entry) (words_after (option_copied rest.entry))) result }
+    ensures near { IfErr result IsNear }
+{
+    if label.is_some() && !is_labelable(rest) {
+        return Err(at_word(0, ExpectCause::Word));
+    }
+    form_in(rest)
+}
+
 fn line_fault(topology: &[u8], labels: &Labels<'_>, number: u64, line: &[u8]) -> Option<LineFault>
     ensures { result ≡ line_fault topology.now labels.now.script.now number line.now }
 {
     let line = unlabelled(line);
-    match form_in(line.rest) {
+    match labelled_form(line.label, line.rest) {
         Err(fault) => Some(after_label(line.label, fault)),
         Ok(form) => {
             if is_strange(topology, form) {

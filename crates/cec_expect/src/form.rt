@@ -4,23 +4,24 @@ ghost use Rattle.std.specs.Option.{option_copied};
 ghost use Rattle.hdmi_core.specs.Words.{words_after, words_of};
 ghost use Rattle.hdmi_core.specs.Number.{number_of};
 ghost use Rattle.cec_expect.specs.Fault.{IsNear};
-ghost use Rattle.cec_expect.specs.Form.{AreParts, IsEarly, IsForm, between_by, empty_from, expectation_in, form_in, in_window, is_pattern, parts_as, parts_in, pattern_by, pattern_in, refused_in, rounds_between, rounds_in, second_in, stars, state_at_time, state_in, window_word, within, within_by};
+ghost use Rattle.cec_expect.specs.Form.{AreParts, IsEarly, IsForm, between_by, empty_from, exact_number, expectation_in, form_in, in_window, is_open_ended, is_pattern, parts_as, parts_in, pattern_by, pattern_in, refused_in, rounds_between, rounds_in, second_in, stars, state_at_time, state_in, window_word, within, within_by};
 
 use crate::fault::{LineFault, at_word};
 use cec_wave::LATEST_EVENT;
-use hdmi_core::{first_word, number_in};
+use hdmi_core::{byte_at, first_word, number_in};
 use thiserror::Error;
 
 /// Why the line of a label or an expectation is refused: the first of these that applies.
 #[derive(Clone, Copy, Debug, Drop, PartialEq, Eq, Error)]
 pub enum ExpectCause {
-    /// No such expectation; a word that is missing or too many; an empty word of a state; nothing after a label.
+    /// No such expectation; a word that is missing or too many; an empty word of a state; after a label nothing, or a line that is
+    /// no event, no pulse and no expectation.
     #[error("word")]
     Word,
-    /// A pattern of no bytes or of more than 160, or with more than four `*`.
+    /// A pattern of no bytes or of more than 160, with more than four `*`, or with a space at an end.
     #[error("word")]
     Pattern,
-    /// No number, or a state's time past 1,000,000,000,000.
+    /// No number, one past 18,446,744,073,709,551,615, or a state's time past 1,000,000,000,000.
     #[error("number")]
     Number,
     /// A device that the topology does not declare.
@@ -33,6 +34,12 @@ pub enum ExpectCause {
     #[error("order")]
     Order,
 }
+
+/// The most bytes of a pattern.
+const PATTERN_MOST: usize = 160;
+
+/// The most `*` of a pattern.
+const STARS_MOST: usize = 4;
 
 /// How often a round is expected.
 #[derive(Clone, Copy, Debug, PartialEq, Eq)]
@@ -115,10 +122,32 @@ fn stars(text: &[u8]) -> usize
     }
 }
 
+// Whether a text has a space at an end.
+fn is_open_ended(text: &[u8]) -> bool
+    ensures { result ≡ is_open_ended text.now }
+{
+    byte_at(text, 0) == b' ' || byte_at(text, text.len().saturating_sub(1)) == b' '
+}
+
 fn is_pattern(text: &[u8]) -> bool
     ensures { result ≡ is_pattern text.now }
 {
-    !text.is_empty() && text.len() <= 160 && stars(text) <= 4
+    !text.is_empty()
+        && text.len() <= PATTERN_MOST
+        && stars(text) <= STARS_MOST
+        && !is_open_ended(text)
+}
+
+/// A number in digits without leading zeros, at most 18,446,744,073,709,551,615.
+pub fn exact_number(word: &[u8]) -> Option<u64>
+    ensures { result ≡ exact_number word.now }
+{
+    let number = number_in(word)?;
+    if number == u64::MAX && word != b"18446744073709551615".as_slice() {
+        None
+    } else {
+        Some(number)
+    }
 }
 
 fn pattern_by<'a>(
@@ -196,11 +225,11 @@ fn parts_in<'a>(
 }
 
 fn within<'a>(quantity: Quantity, parts: &Parts<'a>) -> Result<Form<'a>, LineFault>
-    ensures is { IsForm (within quantity (number_of parts.now.first.now) (parts_as parts.now)) result }
+    ensures is { IsForm (within quantity (exact_number parts.now.first.now) (parts_as parts.now)) result }
     ensures early { IfOk result IsEarly }
     ensures near { IfErr result IsNear }
 {
-    let Some(duration) = number_in(parts.first) else {
+    let Some(duration) = exact_number(parts.first) else {
         return Err(in_window(quantity, 1, ExpectCause::Number));
     };
     Ok(Form::Rounds {
@@ -214,14 +243,14 @@ fn within<'a>(quantity: Quantity, parts: &Parts<'a>) -> Result<Form<'a>, LineFau
 }
 
 fn rounds_between<'a>(quantity: Quantity, parts: &Parts<'a>) -> Result<Form<'a>, LineFault>
-    ensures is { IsForm (rounds_between quantity (number_of parts.now.first.now) (number_of parts.now.second.now) (parts_as parts.now)) result }
+    ensures is { IsForm (rounds_between quantity (exact_number parts.now.first.now) (exact_number parts.now.second.now) (parts_as parts.now)) result }
     ensures early { IfOk result IsEarly }
     ensures near { IfErr result IsNear }
 {
-    let Some(from) = number_in(parts.first) else {
+    let Some(from) = exact_number(parts.first) else {
         return Err(in_window(quantity, 1, ExpectCause::Number));
     };
-    let Some(to) = number_in(parts.second) else {
+    let Some(to) = exact_number(parts.second) else {
         return Err(in_window(quantity, 3, ExpectCause::Number));
     };
     Ok(Form::Rounds {

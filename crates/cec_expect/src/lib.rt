@@ -10,7 +10,7 @@ mod pattern;
 
 pub use fault::{LineFault, after_label, at_word};
 pub use faults::{ExpectFault, fault_among, first_fault};
-pub use form::{ExpectCause, Form, Quantity, Window, form_in};
+pub use form::{ExpectCause, Form, Quantity, Window, exact_number, form_in};
 pub use labels::Labels;
-pub use line::{Labelled, cut_script, plain_part, plain_script, unlabelled};
+pub use line::{Labelled, cut_script, onset_in, plain_part, plain_script, unlabelled};
 pub use pattern::fits;

@@ -3,7 +3,7 @@ ghost use Rattle.std.specs.Prelude.{◌≡◌, ◌++◌, [], codes, if◌then◌
 ghost use Rattle.std.specs.Fmt.{decimal};
 ghost use Rattle.std.specs.Option.{option_copied};
 ghost use Rattle.hdmi_core.specs.Words.{words_after, words_of};
-ghost use Rattle.cec_expect.specs.Line.{unlabelled_words, cut_line, cut_script, has_verb, is_before, label_in, plain_line, plain_part, plain_script, plain_words};
+ghost use Rattle.cec_expect.specs.Line.{unlabelled_words, cut_line, cut_script, has_verb, is_before, is_labelable, label_in, onset_in, plain_line, plain_part, plain_script, plain_words};
 
 use hdmi_core::{first_line, first_word, is_skipped, number_in};
 use std::alloc::{AllocError, Global};
@@ -51,6 +51,26 @@ pub(crate) fn has_verb(verb: &[u8], rest: Option<&[u8]>) -> bool
             let (word, _others) = first_word(rest);
             word == verb
         }
+    }
+}
+
+/// Whether a label may stand before these words: those of an expectation, an event or a pulse.
+pub(crate) fn is_labelable(rest: Option<&[u8]>) -> bool
+    ensures { result ≡ is_labelable (words_after (option_copied rest.entry)) }
+{
+    has_verb(b"expect", rest) || has_verb(b"at", rest) || has_verb(b"pulse", rest)
+}
+
+/// The onset of a pulse, by its line without a label.
+pub fn onset_in(rest: Option<&[u8]>) -> Option<u64>
+    ensures { result ≡ onset_in (words_after (option_copied rest.entry)) }
+{
+    let (verb, rest) = first_word(rest?);
+    let (time, _others) = first_word(rest?);
+    if verb == b"pulse".as_slice() {
+        number_in(time)
+    } else {
+        None
     }
 }
 

@@ -5,3 +5,4 @@ pub mod Indexed
 pub mod Expecting
 pub mod Ordered
 pub mod Judging
+pub mod Lined

@@ -5,7 +5,7 @@ use Rattle.std.specs.Str.{bytes_eq}
 use Rattle.std.specs.List.{list_all, list_any}
 use Rattle.hdmi_core.specs.Lines.{lines_of}
 use Rattle.hdmi_core.specs.Words.{words_of}
-use Rattle.cec_expect.specs.Line.{unlabelled_words}
+use Rattle.cec_expect.specs.Line.{onset_in, unlabelled_words}
 use Rattle.cec_expect.specs.Form.{Form, Window, form_in}
 use Rattle.cec_expect.specs.Form.Form.{Other, Rounds, State, Refused}
 use Rattle.cec_expect.specs.Form.Window.{Within, From}
@@ -98,24 +98,30 @@ abbrev pub event_instant : Option EventLine → Option ℕ
 event_instant None = None
 event_instant (Some e) = Some e.at
 
--- the instant of an event is that of its line in the trace; nothing is to hold of it
-abbrev pub other_judged : List ℕ → ℕ → Judged
-other_judged trace number = record { holds = None; at = event_instant (event_at trace number); span = None; count = 0 }
+-- nothing is to hold of it; the instant of a pulse is its onset
+abbrev pub of_instant : Option ℕ → Judged
+of_instant at = record { holds = None; at = at; span = None; count = 0 }
+
+-- and that of an event the one of its line in the trace
+abbrev pub other_judged : List ℕ → ℕ → Option ℕ → Judged
+other_judged trace number None = of_instant (event_instant (event_at trace number))
+other_judged trace number (Some onset) = of_instant (Some onset)
 
 -- nothing is found of a line that expects nothing, where no label names it
 abbrev pub nothing : Judged
 nothing = record { holds = None; at = None; span = None; count = 0 }
 
-abbrev pub form_judged : List ℕ → List ℕ → List ℕ → (ℕ → Option ℕ) → ℕ → Bool → Result Form LineFault → Judged
-form_judged script trace state at number named (Err cause) = failure
-form_judged script trace state at number named (Ok Other) = if named then other_judged trace number else nothing
-form_judged script trace state at number named (Ok (Rounds quantity window pattern)) = rounds_judged trace quantity pattern (span_of script at window)
-form_judged script trace state at number named (Ok (State time device words)) = state_judged state words
-form_judged script trace state at number named (Ok (Refused name word)) = refused_judged script trace name word
+-- of a line that may have a label and be a pulse
+abbrev pub form_judged : List ℕ → List ℕ → List ℕ → (ℕ → Option ℕ) → ℕ → Bool → Option ℕ → Result Form LineFault → Judged
+form_judged script trace state at number named onset (Err cause) = failure
+form_judged script trace state at number named onset (Ok Other) = if named then other_judged trace number onset else nothing
+form_judged script trace state at number named onset (Ok (Rounds quantity window pattern)) = rounds_judged trace quantity pattern (span_of script at window)
+form_judged script trace state at number named onset (Ok (State time device words)) = state_judged state words
+form_judged script trace state at number named onset (Ok (Refused name word)) = refused_judged script trace name word
 
 -- a line of this number, by the instants of the lines above and the state line that it speaks of
 abbrev pub line_judged : List ℕ → List ℕ → List ℕ → (ℕ → Option ℕ) → ℕ → List ℕ → Judged
-line_judged script trace state at number line = form_judged script trace state at number (is_labelled line) (form_in (unlabelled_words (words_of line)))
+line_judged script trace state at number line = form_judged script trace state at number (is_labelled line) (onset_in (unlabelled_words (words_of line))) (form_in (unlabelled_words (words_of line)))
 
 -- with the instant of one line more, where it has one
 abbrev pub noted : (ℕ → Option ℕ) → ℕ → Option ℕ → ℕ → Option ℕ

@@ -1,11 +1,11 @@
 //! The rounds and the events of a trace, read once.
-ghost use Rattle.std.specs.Prelude.{◌≡◌, ℕ, true, length, map, IfOk, OnOk};
+ghost use Rattle.std.specs.Prelude.{◌≡◌, ℕ, true, length, map, List, IfOk, OnOk};
 ghost use Rattle.std.specs.Option.{option_map};
 ghost use Rattle.hdmi_core.specs.Words.{words_of};
 ghost use Rattle.cec_judge.specs.Told.{event_as, event_at, event_in, round_as, rounds_of};
 ghost use Rattle.cec_judge.specs.Seen.{ends_seen, first_of};
 ghost use Rattle.cec_judge.specs.Named.{is_named};
-ghost use Rattle.cec_judge.specs.Index.{are_in_order, entry, event_of, event_on, or_event};
+ghost use Rattle.cec_judge.specs.Index.{are_in_order, entry, event_of, event_on, lines_among, lines_seen, or_event};
 
 use crate::named::NamedLines;
 use crate::reported::{EventLine, RoundLine, event_at, event_in, round_in};
@@ -28,9 +28,13 @@ pub(crate) struct Index<'a> {
     ghost events_are: { (number : ℕ) → is_named named.script.now number ≡ true → entry events number ≡ event_at trace.now number },
 }
 
-// The rounds of a trace, in order.
-fn all_rounds<'a>(alloc: Global, trace: &'a [u8]) -> Result<Vec<RoundLine<'a>>, AllocError>
-    ensures { IfOk result (λ rounds. map round_as rounds.items ≡ rounds_of trace.now) }
+/// The rounds of a trace, in order.
+pub(crate) fn all_rounds<'a>(
+    alloc: Global,
+    trace: &'a [u8],
+) -> Result<Vec<RoundLine<'a>>, AllocError>
+    ensures rounds { IfOk result (λ rounds. map round_as rounds.items ≡ rounds_of trace.now) }
+    ensures lines { IfOk result (λ rounds. (span : Span) (pattern : List ℕ) → lines_among rounds.items span pattern ≡ lines_seen trace.now span pattern) }
 {
     let mut rounds = Vec::new(alloc);
     let mut rest = trace;

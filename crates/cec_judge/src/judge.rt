@@ -1,17 +1,18 @@
 //! What is found of each line of a script, by the trace.
 ghost use Rattle.std.specs.Prelude.{◌≡◌, ◌++◌, [], ℕ, map, nat_eq, IfOk, OnOk};
 ghost use Rattle.std.specs.HashMap.{get};
-ghost use Rattle.std.specs.Option.{option_copied};
+ghost use Rattle.std.specs.Option.{option_copied, option_map};
 ghost use Rattle.hdmi_core.specs.Lines.{lines_of};
 ghost use Rattle.hdmi_core.specs.Words.{words_after, words_of};
 ghost use Rattle.cec_expect.specs.Form.{window_of};
-ghost use Rattle.cec_judge.specs.Judged.{failure, finding_as, findings_of, first_state, has_word, has_words, holds_by, instant_at, is_of_state, is_word, later_states, line_judged, noted, nothing, or_more, other_judged, refusal_at, refused_judged, rounds_judged, span_from, span_of, state_judged, states_for};
+ghost use Rattle.cec_judge.specs.Told.{event_as};
+ghost use Rattle.cec_judge.specs.Judged.{event_instant, failure, finding_as, findings_of, first_state, has_word, has_words, holds_by, instant_at, is_of_state, is_word, later_states, line_judged, noted, nothing, or_more, other_judged, refusal_at, refused_judged, rounds_judged, span_from, span_of, state_judged, states_for};
 
 use crate::index::Index;
 use crate::named::is_labelled;
-use crate::reported::{refusal_in, state_words};
+use crate::reported::{EventLine, refusal_in, state_words};
 use crate::seen::Span;
-use cec_expect::{Form, Labels, Quantity, Window, form_in, unlabelled};
+use cec_expect::{Form, Labels, Quantity, Window, form_in, onset_in, unlabelled};
 use hdmi_core::{first_line, first_word};
 use std::alloc::{AllocError, Global};
 use std::collections::HashMap;
@@ -192,12 +193,23 @@ fn state_judged(state: &[u8], words: &[u8]) -> Judged
     }
 }
 
-fn other_judged(index: &Index<'_>, number: u64) -> Judged
-    ensures { result ≡ other_judged index.now.trace.now number }
+// The instant at which the event of a line was applied.
+fn event_instant(event: Option<EventLine>) -> Option<u64>
+    ensures { result ≡ event_instant (option_map event_as event.entry) }
 {
-    let at = match index.event_at(number) {
+    match event {
         None => None,
         Some(event) => Some(event.at),
+    }
+}
+
+// What is found of a line that has a label and expects nothing.
+fn other_judged(index: &Index<'_>, number: u64, onset: Option<u64>) -> Judged
+    ensures { result ≡ other_judged index.now.trace.now number onset }
+{
+    let at = match onset {
+        None => event_instant(index.event_at(number)),
+        Some(onset) => Some(onset),
     };
     Judged {
         holds: None,
@@ -222,7 +234,7 @@ fn line_judged(
         Ok(form) => match form {
             Form::Other => {
                 if is_labelled(line) {
-                    other_judged(index, number)
+                    other_judged(index, number, onset_in(unlabelled(line).rest))
                 } else {
                     nothing()
                 }

@@ -7,6 +7,7 @@ mod judge;
 mod laws;
 mod named;
 mod reported;
+mod rounds;
 mod seen;
 
 pub use expected::Expected;
@@ -14,4 +15,5 @@ pub use judge::{Finding, Judged, all_judged, is_of_state};
 pub use laws::{larger_spans_hold, never_is_the_contrary, once_is_some};
 pub use named::NamedLines;
 pub use reported::{EventLine, RoundLine, event_in, refusal_in, round_in, state_line};
-pub use seen::{Span, end_seen};
+pub use rounds::RoundLines;
+pub use seen::{Span, end_seen, is_seen};

@@ -1,5 +1,5 @@
 //! What the lines of a trace say of rounds, of events and of states.
-ghost use Rattle.std.specs.Prelude.{◌≡◌};
+ghost use Rattle.std.specs.Prelude.{◌≡◌, IfSome};
 ghost use Rattle.std.specs.Option.{option_copied, option_map};
 ghost use Rattle.hdmi_core.specs.Words.{words_after, words_of};
 ghost use Rattle.cec_judge.specs.Told.{event_as, event_at, event_in, is_state_of, refusal_in, round_as, round_in, state_line, state_words, reported_in};
@@ -13,6 +13,8 @@ pub struct RoundLine<'a> {
     pub at: u64,
     /// What stands after its times, without the word `complete`.
     pub reported: &'a [u8],
+    /// All of the line.
+    pub line: &'a [u8],
 }
 
 /// What the line of an event says.
@@ -47,7 +49,8 @@ fn reported_in(rest: Option<&[u8]>) -> &[u8]
 
 /// The round of a line, where it has one.
 pub fn round_in(line: &[u8]) -> Option<RoundLine<'_>>
-    ensures { option_map round_as result ≡ round_in (words_of line.now) }
+    ensures round { option_map round_as result ≡ round_in (words_of line.now) }
+    ensures line { IfSome result (λ round. round.line.now ≡ line.now) }
 {
     let (begin, rest) = first_word(line);
     let (at, rest) = first_word(rest?);
@@ -57,6 +60,7 @@ pub fn round_in(line: &[u8]) -> Option<RoundLine<'_>>
         begin,
         at,
         reported: reported_in(rest),
+        line,
     })
 }
 

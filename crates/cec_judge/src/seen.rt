@@ -1,6 +1,6 @@
 //! The rounds of a trace in a span of time that meet a pattern.
-ghost use Rattle.std.specs.Prelude.{◌≡◌, ◌+◌, ◌<◌, ◌≤◌, ◌∷◌, [], true, drop, length, map, List, ℕ};
-ghost use Rattle.cec_judge.specs.Index.{are_in_order, ends_among, leads};
+ghost use Rattle.std.specs.Prelude.{◌≡◌, ◌+◌, ◌<◌, ◌≤◌, ◌∷◌, [], true, drop, length, map, take, List, ℕ};
+ghost use Rattle.cec_judge.specs.Index.{are_in_order, ends_among, leads, lines_among};
 ghost use Rattle.cec_judge.specs.Seen.{end_seen, first_of, is_seen, or_first};
 ghost use Rattle.cec_judge.specs.Told.{round_as};
 
@@ -21,7 +21,8 @@ pub struct Seen {
     pub first: Option<u64>,
 }
 
-fn is_seen(span: Span, pattern: &[u8], round: &RoundLine) -> bool
+/// Whether a round began and ended within the span and what its line says meets the pattern.
+pub fn is_seen(span: Span, pattern: &[u8], round: &RoundLine) -> bool
     ensures { result ≡ is_seen span pattern.now (round_as round.now) }
 {
     span.from <= round.begin && round.at <= span.to && fits(pattern, round.reported)
@@ -76,16 +77,27 @@ pub(crate) fn are_in_order(rounds: &[RoundLine<'_>]) -> bool
 fn began_before(rounds: &[RoundLine<'_>], place: usize, span: Span) -> bool
     requires in_order { are_in_order rounds.now ≡ true }
     requires within { place < length rounds.now }
-    ensures { result ≡ true → (pattern : List ℕ) → ends_among (map round_as (drop (place + 1) rounds.now)) span pattern ≡ ends_among (map round_as rounds.now) span pattern }
+    ensures ends { result ≡ true → (pattern : List ℕ) → ends_among (map round_as (drop (place + 1) rounds.now)) span pattern ≡ ends_among (map round_as rounds.now) span pattern }
+    ensures lines { result ≡ true → (pattern : List ℕ) → lines_among (drop (place + 1) rounds.now) span pattern ≡ lines_among rounds.now span pattern }
 {
     rounds[place].begin < span.from
 }
 
-// The place of the first of these rounds, which are in order, that did not begin before the span: found by halves.
-fn first_place(rounds: &[RoundLine<'_>], span: Span) -> usize
+// Whether the round at a place of these, which are in order, ended after the span. Then none from it on is seen.
+fn ended_after(rounds: &[RoundLine<'_>], place: usize, span: Span) -> bool
+    requires in_order { are_in_order rounds.now ≡ true }
+    requires within { place < length rounds.now }
+    ensures { result ≡ true → (pattern : List ℕ) → lines_among (take place rounds.now) span pattern ≡ lines_among rounds.now span pattern }
+{
+    span.to < rounds[place].at
+}
+
+/// The place of the first of these rounds, which are in order, that did not begin before the span: found by halves.
+pub(crate) fn first_place(rounds: &[RoundLine<'_>], span: Span) -> usize
     requires { are_in_order rounds.now ≡ true }
     ensures within { result ≤ length rounds.now }
     ensures same { (pattern : List ℕ) → ends_among (map round_as (drop result rounds.now)) span pattern ≡ ends_among (map round_as rounds.now) span pattern }
+    ensures lines { (pattern : List ℕ) → lines_among (drop result rounds.now) span pattern ≡ lines_among rounds.now span pattern }
 {
     let mut start = 0usize;
     let mut width = rounds.len();
@@ -100,6 +112,25 @@ fn first_place(rounds: &[RoundLine<'_>], span: Span) -> usize
         }
     }
     start
+}
+
+/// The place of the first of these rounds, which are in order, that ended after the span, or past the last: found by halves.
+pub(crate) fn last_place(rounds: &[RoundLine<'_>], span: Span) -> usize
+    requires { are_in_order rounds.now ≡ true }
+    ensures within { result ≤ length rounds.now }
+    ensures lines { (pattern : List ℕ) → lines_among (take result rounds.now) span pattern ≡ lines_among rounds.now span pattern }
+{
+    let mut start = 0usize;
+    let mut end = rounds.len();
+    'halves: while start < end {
+        let place = start + (end - start) / 2;
+        if ended_after(rounds, place, span) {
+            end = place;
+        } else {
+            start = place + 1;
+        }
+    }
+    end
 }
 
 // How many of these rounds, which are in order, are seen: those after the first that ended after the span are not looked at.
