@@ -1,5 +1,5 @@
 -- The line of an object is read back from it.
-use Rattle.std.proofs.Common.{◌≡◌, ℕ, ◌+◌, ◌*◌, ◌/◌, ◌%◌, ◌==◌, ◌&&◌, Bool, true, false, nat_lt, nat_le, cond, codes, List, [], ◌∷◌, ◌++◌, append_assoc, refl, sym, ap, subst, ◌∙◌, arith}
+use Rattle.std.proofs.Common.{◌≡◌, ℕ, ◌+◌, ◌*◌, ◌/◌, ◌%◌, ◌==◌, ◌&&◌, ◌||◌, Bool, true, false, nat_lt, nat_le, cond, codes, List, [], ◌∷◌, ◌++◌, append_assoc, refl, sym, ap, subst, ◌∙◌, arith}
 use Rattle.std.proofs.lemmas.Bool.{eqb-true}
 use Rattle.std.proofs.lemmas.Bool.Decides.{nat_tests}
 use Rattle.cec_json.specs.Object.{object}
@@ -18,7 +18,7 @@ hex_again : (b : ℕ) → digit (cond (nat_lt (b / 16) 10) (48 + b / 16) (87 + b
 hex_again b = byte_again b _ _ (digit_again (b / 16)) (digit_again (b % 16))
 
 -- a character
-char_by : (p q r : Bool) (b : ℕ) (rest : List ℕ) → (b == 34) ≡ p → (b == 92) ≡ q → (nat_le 32 b && nat_le b 126) ≡ r
+char_by : (p q r : Bool) (b : ℕ) (rest : List ℕ) → (b == 34) ≡ p → (b == 92) ≡ q → ((nat_le 32 b && nat_le b 126) || nat_le 128 b) ≡ r
     → string_from Char (char_text b ++ rest) ≡ b ∷ string_from Char rest
 char_by true q r b rest e f g =
     subst (λ (n : ℕ). string_from Char (char_text n ++ rest) ≡ n ∷ string_from Char rest) (sym (eqb-true b 34 e)) refl
@@ -28,7 +28,7 @@ char_by false false true b rest e f g = rw (e, f, g, e, f) refl
 char_by false false false b rest e f g = rw (e, f, g) (ap (λ (n : ℕ). n ∷ string_from Char rest) (hex_again b))
 
 char_read : (b : ℕ) (rest : List ℕ) → string_from Char (char_text b ++ rest) ≡ b ∷ string_from Char rest
-char_read b rest = char_by (b == 34) (b == 92) (nat_le 32 b && nat_le b 126) b rest refl refl refl
+char_read b rest = char_by (b == 34) (b == 92) ((nat_le 32 b && nat_le b 126) || nat_le 128 b) b rest refl refl refl
 
 -- a string
 string_read : (line rest : List ℕ) → string_from Char (code_texts codings.Char line ++ 34 ∷ rest) ≡ line

@@ -1,4 +1,4 @@
--- Words of a line as values of JSON (RFC 8259, section 3; strings: section 7).
+-- Words of a line as values of JSON (RFC 8259, section 3; strings: section 7; UTF-8: section 8.1).
 use Rattle.std.specs.Prelude.{ℕ, ◌==◌, nat_le, Bool, ◌&&◌, ◌||◌, if◌then◌else◌, List, [], ◌∷◌, ◌++◌, length, codes}
 use Rattle.std.specs.List.{flat_map}
 use Rattle.std.specs.Str.{bytes_eq}
@@ -10,12 +10,13 @@ use Rattle.cec_json.specs.declared.values.Shape.TheVariants.{Number, Text, Switc
 use Rattle.cec_json.specs.declared.values.Code.{Code}
 use Rattle.cec_json.specs.declared.values.Code.TheVariants as codings
 
--- a character of a string: quote and backslash have a backslash before them, and what is not printable is its number
+-- a byte of a string: quote and backslash have a backslash before them, a control character is its number, and the others, of which
+-- those from 128 on are parts of characters of UTF-8, stand as they are
 abbrev pub char_text : ℕ → List ℕ
 char_text b =
     if b == 34 then 92 ∷ 34 ∷ []
     else if b == 92 then 92 ∷ 92 ∷ []
-    else if nat_le 32 b && nat_le b 126 then b ∷ []
+    else if (nat_le 32 b && nat_le b 126) || nat_le 128 b then b ∷ []
     else codes "\\u00" ++ hex_text b
 
 -- a character of a list of names, which commas part

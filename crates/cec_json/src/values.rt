@@ -58,7 +58,7 @@ fn char_text(byte: u8) -> ArrayVec<u8, CODE_MOST>
     match byte {
         b'"' => text_of(b"\\\""),
         b'\\' => text_of(b"\\\\"),
-        b' '..=b'~' => text_of(&[byte]),
+        b' '..=b'~' | 128..=255 => text_of(&[byte]),
         _ => text_of(&[
             b'\\',
             b'u',

@@ -52,13 +52,31 @@ fn quotes_and_backslashes(rt: HostRuntime) {
 }
 
 #[test]
-fn bytes_that_are_not_printable(rt: HostRuntime) {
+fn control_characters(rt: HostRuntime) {
     holds(
         &rt,
-        objects(&rt, b"\t\x7f\xc3\xa9").as_str()
-            == "{\"line\":\"\\u0009\\u007f\\u00c3\\u00a9\",\"type\":\"other\"}\n",
+        objects(&rt, b"\t\x1f\x7f").as_str()
+            == "{\"line\":\"\\u0009\\u001f\\u007f\",\"type\":\"other\"}\n",
         "numbers of characters",
     );
+}
+
+/// A line in UTF-8 has an object in UTF-8: characters of two, three and four bytes.
+#[test]
+fn characters_of_utf8(rt: HostRuntime) {
+    let line = "d\u{e9}but \u{20ac} \u{1f4fa}";
+    let object = format!(in rt.alloc(); "{line}\",\"type\":\"other\"}}\n").expect(&rt, line);
+    let want = format!(in rt.alloc(); "{{\"line\":\"{object}").expect(&rt, line);
+    holds(&rt, objects(&rt, line.as_bytes()) == want, line);
+}
+
+/// Bytes that are no UTF-8 stand as they are.
+#[test]
+fn bytes_that_are_no_utf8(rt: HostRuntime) {
+    let mut out = Vec::new(rt.alloc());
+    write_objects(b"\x80\xff", &mut Writes::new(&mut out)).expect(&rt, "room");
+    let want = b"{\"line\":\"\x80\xff\",\"type\":\"other\"}\n";
+    holds(&rt, out.as_slice() == want.as_slice(), "bytes");
 }
 
 #[test]

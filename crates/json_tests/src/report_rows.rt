@@ -8,6 +8,7 @@ not ok 3 - line 6: expect within 500000 of ask *>f active-source => \"type\":\"t
 ok 18446744073709551615 - line 10: expect state 1500000 tv on active=1.0.0.0 => \"type\":\"test\",\"test\":18446744073709551615,\"script_line\":10,\"holds\":true,\"expectation\":\"expect state 1500000 tv on active=1.0.0.0\",\"refused\":null
 ok 4 - line 6: expect refused slip not-for-kind => \"type\":\"test\",\"test\":4,\"script_line\":6,\"holds\":true,\"expectation\":\"expect refused slip not-for-kind\",\"refused\":null
 not ok 3 - line 4: refused not-for-kind => \"type\":\"test\",\"test\":3,\"script_line\":4,\"holds\":false,\"expectation\":null,\"refused\":\"not-for-kind\"
+ok 5 - line 7: label d\u{e9}but expect from 0 to 9 short => \"type\":\"test\",\"test\":5,\"script_line\":7,\"holds\":true,\"expectation\":\"label d\u{e9}but expect from 0 to 9 short\",\"refused\":null
 # seen 0 from 3000000 to 3500000 => \"type\":\"window\",\"seen\":0,\"from\":3000000,\"to\":3500000
 # seen 12 from 0 to 18446744073709551615 => \"type\":\"window\",\"seen\":12,\"from\":0,\"to\":18446744073709551615
 # no instant => \"type\":\"window\",\"seen\":null,\"from\":null,\"to\":null
