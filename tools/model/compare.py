@@ -744,6 +744,9 @@ def gen_expect(r):
     for n, line in out:
         if n is None:
             line = expectation()
+        elif line.startswith('pulse ') and r.random() < .5:
+            labels.append(('l%d' % n, int(line.split(' ')[1])))
+            line = 'label l%d %s' % (n, line)
         elif line.startswith('at ') and r.random() < .5 or str(n) in events and events[str(n)][3] == 'refused' and r.random() < .7:
             label = 'l%d' % n if r.random() < .995 else 'l1'
             event = events.get(str(n))
@@ -752,7 +755,7 @@ def gen_expect(r):
             elif r.random() < .1: slips.append((label, r.choice(REFUSALS)))
             line = 'label %s %s' % (label, line)
         elif r.random() < .01:
-            line = r.choice(['# ' + line, 'label x # ' + line])
+            line = r.choice(['# ' + line] * 9 + ['label x # ' + line])
         lines.append(line)
     if r.random() < .25:
         special = [i for i, l in enumerate(lines) if l.startswith(('label', 'expect'))] or [0]
@@ -761,7 +764,7 @@ def gen_expect(r):
         else:
             lines.insert(i, r.choice(['expect', 'expect ', 'label', 'label ', 'label x', 'label x ', 'label  at 5', 'label x expect', 'expect none', 'expect once', 'expect some from 0 to 1 *', 'expect from 0 to 1', 'expect from 0 to 1 ', 'expect from 0 to 1  ',
                                       'expect from 1 to 0 *', 'expect from 0 to 01 *', 'expect from 0 to 1000000000001 *', 'expect from 0 to 1000000000000 *', 'expect within 5 of nosuch *', 'expect within x of nosuch *', 'expect within 5 of', 'expect within 5 of l1', 'expect within 5 of  *',
-                                      'expect refused', 'expect refused nosuch', 'expect refused nosuch off-wire', 'expect refused l1 nonsense', 'expect refused l1 off-wire x', 'expect refused e0 off-wire', 'label y label z at 5 press tv power', 'label y expect within 5 of y *', 'label y expect from 0 to 1 * * * * *',
+                                      'expect from 0 to 18446744073709551615 *', 'expect from 0 to 18446744073709551616 *', 'expect from 0 to 1 * ', 'label y end 5', 'label y # x', 'expect refused', 'expect refused nosuch', 'expect refused nosuch off-wire', 'expect refused l1 nonsense', 'expect refused l1 off-wire x', 'expect refused e0 off-wire', 'label y label z at 5 press tv power', 'label y expect within 5 of y *', 'label y expect from 0 to 1 * * * * *',
                                       'expect from 0 to 1 ' + 'x' * 160, 'expect from 0 to 1 ' + 'x' * 161, 'label y expect from 9 to 8 *', 'label l1 expect from 9 to 8 *', 'label y expect within x of nosuch ', 'expect  from 0 to 1 *', ' expect from 0 to 1 *', 'Expect from 0 to 1 *', 'expect once none from 0 to 1 *']))
     return ['check'], topology + '\nscript\n' + '\n'.join(lines) + r.choice(['\n', '\n', ''])
 
@@ -783,7 +786,7 @@ def sweep_word(r, time):
     word = '%d..%d' % (first, first + r.choice([0, 1, 2, 4, 6]) * step + r.choice([0, 0, step // 2]))
     if step > 1: word += '/%d' % step
     if r.random() < .9: return word
-    return r.choice(['..', '5..', '..5', '9..8', '5..6/0', '5..6/', '5..06', '05..6', '5..6/01', '5...6', '5..1000000000001', '5..6..7', '5.6', word + '/', word + '.', word + '/1/1'])
+    return r.choice(['..', '5..', '..5', '9..8', '5..6/0', '5..6/', '5..06', '05..6', '5..6/01', '5...6', '5..1000000000001', '0..1000000', '5..6/1000000000001', '5..6..7', '5.6', word + '/', word + '.', word + '/1/1'])
 
 
 def gen_sweep(r):

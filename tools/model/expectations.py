@@ -8,6 +8,8 @@ EVENT = re.compile(rb'(\d+) event (\d+) (ok|refused ([a-z-]+))')
 SHOWN = 8
 MOST_PATTERN = 160
 MOST_STARS = 4
+MOST = 2 ** 64 - 1
+LABELABLE = (b'expect', b'at', b'pulse')
 
 
 def is_expectation(line):
@@ -68,14 +70,14 @@ def parse_expectation(n, text, label, body, names, end):
         it.how = words[1].decode()
         place = 2
     window, pattern = words[place:place + 4], b' '.join(words[place + 4:])
-    if len(window) < 4 or not 1 <= len(pattern) <= MOST_PATTERN or pattern.count(b'*') > MOST_STARS:
+    if len(window) < 4 or not 1 <= len(pattern) <= MOST_PATTERN or pattern.count(b'*') > MOST_STARS or pattern.strip(b' ') != pattern:
         return ['word']
     it.pattern = pattern
     if window[0] == b'within' and window[2] == b'of':
-        it.window, it.span, it.of = 'within', number(window[1]), window[3]
+        it.window, it.span, it.of = 'within', number(window[1], MOST), window[3]
         return ['number'] if it.span is None else it
     if window[0] == b'from' and window[2] == b'to':
-        it.window, it.begin, it.end = 'from', number(window[1]), number(window[3])
+        it.window, it.begin, it.end = 'from', number(window[1], MOST), number(window[3], MOST)
         if it.begin is None or it.end is None:
             return ['number']
         it.of = None
@@ -87,14 +89,14 @@ ORDER = ['word', 'number', 'name', 'label', 'order']
 
 
 def expectations(script, names, end):
-    """the expectations, and {label: line of its event}; raises the first fault"""
-    found, labels = [], {}
+    """the expectations, {label: line of its event} and {label: onset of its pulse}; raises the first fault"""
+    found, labels, onsets = [], {}, {}
     for n, line in enumerate(lines_of(script), 1):
         if skipped(line):
             continue
         label, body = parted(line)
         causes = []
-        if label is not None and body is None:
+        if label is not None and (body is None or body.split(b' ')[0] not in LABELABLE):
             causes.append('word')
         if label is not None and (label == b'' or label in labels):
             causes.append('label')
@@ -111,10 +113,12 @@ def expectations(script, names, end):
         if causes:
             raise Fault('script line %d: %s' % (n, min(causes, key=ORDER.index)))
         if label is not None:
-            labels[label] = None if it else n
+            labels[label] = n if body.startswith(b'at ') else None
+            if body.startswith(b'pulse '):
+                onsets[label] = number(body.split(b' ')[1])
         if it:
             found.append(it)
-    return found, labels
+    return found, labels, onsets
 
 
 def fits(pattern, text):
@@ -134,13 +138,14 @@ def escaped(text):
 
 
 class Judge:
-    def __init__(self, trace, state_at, labels):
+    def __init__(self, trace, state_at, labels, onsets):
         self.rounds = [(int(line.split(b' ')[0]), int(line.split(b' ')[1]), line) for line in trace if ROUND.match(line)]
         events = [EVENT.fullmatch(line) for line in trace]
         self.events = {int(m[2]): (int(m[1]), m[4]) for m in events if m}
         self.state_at = state_at
         self.labels = labels
         self.instants = {label: self.events[n][0] for label, n in labels.items() if n in self.events}
+        self.instants.update(onsets)
 
     def window(self, it):
         if it.window == 'from':
@@ -184,7 +189,7 @@ def check(data):
         topology, script = parts(data)
         plain = plain_script(script)
         tree, names, edid, events, pulses, end = load(topology, plain)
-        found, labels = expectations(script, names, end)
+        found, labels, onsets = expectations(script, names, end)
     except Fault as f:
         return 1, b'', f.args[0]
     trace = trace_of(topology, plain)[0]
@@ -194,7 +199,7 @@ def check(data):
         if at not in states:
             states[at] = trace_of(topology, plain, at)[1]
         return states[at][names[device.decode()]]
-    judge = Judge(trace, state_at, labels)
+    judge = Judge(trace, state_at, labels, onsets)
     out = [b'TAP version 13']
     failed = n = 0
     for it in found:

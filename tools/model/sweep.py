@@ -4,6 +4,9 @@ from net import Fault, parts
 from wire import T_LIMIT, lines_of, number
 
 
+MOST = 1000000
+
+
 def time_places(words):
     """the places of words in which a time stands: after a verb, and in the window of an expectation"""
     first = 2 if words[0] == b'label' else 0
@@ -37,10 +40,12 @@ def instants_of(word):
     first, rest = word.split(b'..', 1)
     last, slash, step = rest.partition(b'/')
     first, last = number(first, T_LIMIT), number(last, T_LIMIT)
-    step = number(step) if slash else 1
+    step = number(step, T_LIMIT) if slash else 1
     if first is None or last is None or not step:
         return 'number'
-    return range(first, last + 1, step) if first <= last else 'order'
+    if first > last:
+        return 'order'
+    return range(first, last + 1, step) if (last - first) // step < MOST else 'range'
 
 
 def range_in(script):

@@ -7,9 +7,10 @@ use Rattle.std.proofs.lemmas.Bool.Decides.{nat_tests}
 use Rattle.std.proofs.lemmas.Grind.{common_steps}
 use Rattle.std.proofs.lemmas.Slice.Eq.{bytes_eq-Decides}
 use Rattle.hdmi_core.specs.Lines.{lines_of}
+use Rattle.hdmi_core.specs.Number.{number_of}
 use Rattle.hdmi_core.specs.Words.{words_of}
 use Rattle.cec_expect.specs.Fits.{fits}
-use Rattle.cec_expect.specs.Line.{unlabelled_words}
+use Rattle.cec_expect.specs.Line.{onset_in, unlabelled_words}
 use Rattle.cec_expect.specs.Form.{Form, Window, expectation_in, form_in}
 use Rattle.cec_expect.specs.Form.Form.{Other, Rounds, State, Refused}
 use Rattle.cec_expect.specs.Form.Window.{Within, From}
@@ -20,7 +21,7 @@ use Rattle.cec_judge.specs.Told.{EventLine, RoundLine, event_at, event_in, refus
 use Rattle.cec_judge.specs.Named.{is_labelled, is_named, name_lines, names_line}
 use Rattle.cec_judge.proofs.Naming.{label_names}
 use Rattle.cec_judge.specs.Seen.{end_by, end_seen, ends_seen, first_of, is_seen}
-use Rattle.cec_judge.specs.Judged.{Finding, event_instant, finding_as, findings_from, findings_of, form_judged, instant_at, is_word, noted, or_more, verdicts_of, line_judged, lines_judged, refusal_at, refusal_by, rounds_by, rounds_judged, span_from, span_of, states_for}
+use Rattle.cec_judge.specs.Judged.{Finding, event_instant, finding_as, findings_from, findings_of, form_judged, instant_at, is_word, noted, or_more, verdicts_of, line_judged, lines_judged, of_instant, refusal_at, refusal_by, rounds_by, rounds_judged, span_from, span_of, states_for}
 use Rattle.cec_judge.specs.declared.seen.Span.{Span}
 use Rattle.cec_judge.specs.declared.judge.Judged.{Judged}
 use Rattle.cec_judge.specs.declared.judge.Finding.{Finding as FindingRead}
@@ -155,11 +156,17 @@ FormCovered script number (Ok (Rounds quantity window pattern)) =
 FormCovered script number (Ok (State time device words)) = Unit {0}
 FormCovered script number (Ok (Refused name word)) = Unit {0}
 
+-- the line of a pulse has no time of an event
+abbrev OnsetCovered : List ℕ → ℕ → Option ℕ → Type 0
+OnsetCovered script number None = Unit {0}
+OnsetCovered script number (Some onset) = time_at script number ≡ None
+
 -- of a script, these lines of it, of which the first has this number
 abbrev AreCovered : List ℕ → ℕ → List (List ℕ) → Type 0
 AreCovered script number [] = Unit {0}
 AreCovered script number (line ∷ lines) =
-    FormCovered script number (form_in (unlabelled_words (words_of line))) × (is_labelled line ≡ true → is_named script number ≡ true) × AreCovered script (number + 1) lines
+    FormCovered script number (form_in (unlabelled_words (words_of line))) × (is_labelled line ≡ true → is_named script number ≡ true)
+    × OnsetCovered script number (onset_in (unlabelled_words (words_of line))) × AreCovered script (number + 1) lines
 
 or_so : (a : Bool) → (a || true) ≡ true
 or_so true = refl
@@ -189,6 +196,23 @@ no_labelled_time line quantity window pattern h = by (is_labelled line)
     by true = no_time (unlabelled_words (words_of line)) quantity window pattern h
     by false = refl
 
+-- nor has a pulse
+no_onset_time : (words : List (List ℕ)) (onset : ℕ) → onset_in words ≡ Some onset → time_in words ≡ None
+no_onset_time [] onset h = refl
+no_onset_time (verb ∷ []) onset h = refl
+no_onset_time (verb ∷ time ∷ words) onset h = by (bytes_eq verb (codes "pulse")) refl h
+  where
+    by : (b : Bool) → bytes_eq verb (codes "pulse") ≡ b → (if b then number_of time else None) ≡ Some onset → time_in (verb ∷ time ∷ words) ≡ None
+    by true e k = ap (λ (word : List ℕ). time_in (word ∷ time ∷ words)) ((bytes_eq-Decides verb (codes "pulse")).0 e)
+    by false e k = cc
+
+no_time_of_pulse : (line : List ℕ) (onset : ℕ) → onset_in (unlabelled_words (words_of line)) ≡ Some onset → labelled_time line ≡ None
+no_time_of_pulse line onset h = by (is_labelled line)
+  where
+    by : (b : Bool) → (if b then time_in (unlabelled_words (words_of line)) else None) ≡ None
+    by true = no_onset_time (unlabelled_words (words_of line)) onset h
+    by false = refl
+
 later : (m n : ℕ) → m + 1 ≤ n → (m == n) ≡ false
 later m n h = grind (arith, nat_tests)
 
@@ -200,6 +224,7 @@ covered script number [] h names times = tt
 covered script number (line ∷ lines) h names times = (
   first (form_in (unlabelled_words (words_of line))) refl,
   λ labelled. names number (or_first (names_line number line number) (name_lines (number + 1) lines number) (ap (λ b. b && (number == number)) labelled ∙ itself number)),
+  own_onset (onset_in (unlabelled_words (words_of line))) refl,
   covered script (number + 1) lines (λ r k. h r (more r (watch_of script (time_at script) line) k)) (λ other k. names other (ap (λ b. names_line number line other || b) k ∙ or_so (names_line number line other)))
       (λ other k. times other (omega (arith, k)) ∙ ap (λ (b : Bool). if b then labelled_time line else times_from (number + 1) lines other) (later number other k)),
 )
@@ -222,6 +247,12 @@ covered script number (line ∷ lines) h names times = (
     first (Ok (State time device words)) e = tt
     first (Ok (Refused name word)) e = tt
 
+    own_onset : (o : Option ℕ) → onset_in (unlabelled_words (words_of line)) ≡ o → OnsetCovered script number o
+    own_onset None e = tt
+    own_onset (Some onset) e =
+        times number (omega arith) ∙ ap (λ (b : Bool). if b then labelled_time line else times_from (number + 1) lines number) (itself number)
+        ∙ no_time_of_pulse line onset e
+
 -- ---- the instants of lines
 
 -- an instant is that of the script, or later by a wait
@@ -233,6 +264,9 @@ AreNear script at = (number instant time : ℕ) → at number ≡ Some instant �
 
 value : (m n : ℕ) → Some m ≡ Some n → m ≡ n
 value m n h = cc
+
+untimed : (time instant : ℕ) → None ≡ Some time → IsNear time instant
+untimed time instant h = cc
 
 -- with the instant of one line more
 near_more : (script : List ℕ) (at : ℕ → Option ℕ) (number : ℕ) (o : Option ℕ) → AreNear script at
@@ -319,9 +353,6 @@ module _ (script : List ℕ) (at : ℕ → Option ℕ) (near : AreNear script at
 
 -- ---- what is found
 
-abbrev of_event : Option ℕ → Judged
-of_event at = record { holds = None; at = at; span = None; count = 0 }
-
 abbrev of_refusal : List ℕ → Option (List ℕ) → Judged
 of_refusal word refusal = record { holds = Some (is_word word refusal); at = None; span = None; count = 0 }
 
@@ -350,41 +381,43 @@ module _ (script few trace : List ℕ) (are : lines_of few ≡ filter (is_kept s
       by None e = refl
       by (Some line) e = ap refusal_by (same_event line (label_names true 1 (lines_of script) name line e))
 
-  form_same : (state : List ℕ) (at : ℕ → Option ℕ) → AreNear script at → (number : ℕ) (named : Bool) (f : Result Form LineFault) → FormCovered script number f
-      → (named ≡ true → is_named script number ≡ true) → form_judged script few state at number named f ≡ form_judged script trace state at number named f
-  form_same state at near number named (Err cause) c names = refl
-  form_same state at near number true (Ok Other) c names = ap (λ (o : Option EventLine). of_event (event_instant o)) (same_event number (names refl))
-  form_same state at near number false (Ok Other) c names = refl
-  form_same state at near number named (Ok (Rounds quantity window pattern)) c names = rounds_same quantity pattern (span_of script at window) (window_covered script at near window pattern c.0)
-  form_same state at near number named (Ok (State time device words)) c names = refl
-  form_same state at near number named (Ok (Refused name word)) c names = ap (of_refusal word) (refusals_same name)
+  form_same : (state : List ℕ) (at : ℕ → Option ℕ) → AreNear script at → (number : ℕ) (named : Bool) (onset : Option ℕ) (f : Result Form LineFault) → FormCovered script number f
+      → (named ≡ true → is_named script number ≡ true) → form_judged script few state at number named onset f ≡ form_judged script trace state at number named onset f
+  form_same state at near number named onset (Err cause) c names = refl
+  form_same state at near number true None (Ok Other) c names = ap (λ (o : Option EventLine). of_instant (event_instant o)) (same_event number (names refl))
+  form_same state at near number true (Some onset) (Ok Other) c names = refl
+  form_same state at near number false onset (Ok Other) c names = refl
+  form_same state at near number named onset (Ok (Rounds quantity window pattern)) c names =
+      rounds_same quantity pattern (span_of script at window) (window_covered script at near window pattern c.0)
+  form_same state at near number named onset (Ok (State time device words)) c names = refl
+  form_same state at near number named onset (Ok (Refused name word)) c names = ap (of_refusal word) (refusals_same name)
 
   -- the instant of a line is near its time
-  form_near : (state : List ℕ) (at : ℕ → Option ℕ) (number : ℕ) (named : Bool) (f : Result Form LineFault) → FormCovered script number f
-      → (instant time : ℕ) → (form_judged script trace state at number named f).at ≡ Some instant → time_at script number ≡ Some time → IsNear time instant
-  form_near state at number named (Err cause) c instant time h k = cc
-  form_near state at number true (Ok Other) c instant time h k = found_near script number instant time k (lines_of trace) timed h
-  form_near state at number false (Ok Other) c instant time h k = cc
-  form_near state at number named (Ok (Rounds quantity window pattern)) c instant time h k = none (sym c.1 ∙ k)
-    where
-      none : None ≡ Some time → IsNear time instant
-      none e = cc
-  form_near state at number named (Ok (State time_of_state device words)) c instant time h k = cc
-  form_near state at number named (Ok (Refused name word)) c instant time h k = cc
+  form_near : (state : List ℕ) (at : ℕ → Option ℕ) (number : ℕ) (named : Bool) (onset : Option ℕ) (f : Result Form LineFault) → FormCovered script number f → OnsetCovered script number onset
+      → (instant time : ℕ) → (form_judged script trace state at number named onset f).at ≡ Some instant → time_at script number ≡ Some time → IsNear time instant
+  form_near state at number named onset (Err cause) c o instant time h k = cc
+  form_near state at number true None (Ok Other) c o instant time h k = found_near script number instant time k (lines_of trace) timed h
+  form_near state at number true (Some onset) (Ok Other) c o instant time h k = untimed time instant (sym o ∙ k)
+  form_near state at number false onset (Ok Other) c o instant time h k = cc
+  form_near state at number named onset (Ok (Rounds quantity window pattern)) c o instant time h k = untimed time instant (sym c.1 ∙ k)
+  form_near state at number named onset (Ok (State time_of_state device words)) c o instant time h k = cc
+  form_near state at number named onset (Ok (Refused name word)) c o instant time h k = cc
 
   next_near : (state : List ℕ) (at : ℕ → Option ℕ) (number : ℕ) (line : List ℕ) → AreNear script at → FormCovered script number (form_in (unlabelled_words (words_of line)))
-      → AreNear script (noted at number (line_judged script trace state at number line).at)
-  next_near state at number line near c =
-      near_more script at number (line_judged script trace state at number line).at near (form_near state at number (is_labelled line) (form_in (unlabelled_words (words_of line))) c)
+      → OnsetCovered script number (onset_in (unlabelled_words (words_of line))) → AreNear script (noted at number (line_judged script trace state at number line).at)
+  next_near state at number line near c o =
+      near_more script at number (line_judged script trace state at number line).at near
+      (form_near state at number (is_labelled line) (onset_in (unlabelled_words (words_of line))) (form_in (unlabelled_words (words_of line))) c o)
 
   lines_same : (at : ℕ → Option ℕ) (number : ℕ) (lines states : List (List ℕ)) → AreNear script at → AreCovered script number lines
       → lines_judged script few at number lines states ≡ lines_judged script trace at number lines states
   lines_same at number [] states near c = refl
   lines_same at number (line ∷ lines) [] near c = refl
   lines_same at number (line ∷ lines) (state ∷ states) near c =
-      ap (λ (j : Judged). j ∷ lines_judged script few (noted at number j.at) (number + 1) lines states) (form_same state at near number (is_labelled line) (form_in (unlabelled_words (words_of line))) c.0 c.1)
+      ap (λ (j : Judged). j ∷ lines_judged script few (noted at number j.at) (number + 1) lines states)
+      (form_same state at near number (is_labelled line) (onset_in (unlabelled_words (words_of line))) (form_in (unlabelled_words (words_of line))) c.0 c.1)
       ∙ ap (λ (js : List Judged). line_judged script trace state at number line ∷ js)
-      (lines_same (noted at number (line_judged script trace state at number line).at) (number + 1) lines states (next_near state at number line near c.0) c.2)
+      (lines_same (noted at number (line_judged script trace state at number line).at) (number + 1) lines states (next_near state at number line near c.0 c.2) c.3)
 
   -- ---- what is shown
 
@@ -406,14 +439,15 @@ module _ (script few trace : List ℕ) (are : lines_of few ≡ filter (is_kept s
   span_same quantity pattern None covers h = refl
   span_same quantity pattern (Some span) covers h = seen_same pattern (length (ends_seen trace span pattern)) span covers h
 
-  remarks_same : (state : List ℕ) (at : ℕ → Option ℕ) → AreNear script at → (number : ℕ) (named : Bool) (f : Result Form LineFault) → FormCovered script number f
-      → (is_some (form_judged script trace state at number named f).span && ((form_judged script trace state at number named f).count == 0)) ≡ false
-      → form_remarks few state (form_judged script trace state at number named f) f ≡ form_remarks trace state (form_judged script trace state at number named f) f
-  remarks_same state at near number named (Err cause) c h = refl
-  remarks_same state at near number named (Ok Other) c h = refl
-  remarks_same state at near number named (Ok (Rounds quantity window pattern)) c h = span_same quantity pattern (span_of script at window) (window_covered script at near window pattern c.0) h
-  remarks_same state at near number named (Ok (State time device words)) c h = refl
-  remarks_same state at near number named (Ok (Refused name word)) c h = refl
+  remarks_same : (state : List ℕ) (at : ℕ → Option ℕ) → AreNear script at → (number : ℕ) (named : Bool) (onset : Option ℕ) (f : Result Form LineFault) → FormCovered script number f
+      → (is_some (form_judged script trace state at number named onset f).span && ((form_judged script trace state at number named onset f).count == 0)) ≡ false
+      → form_remarks few state (form_judged script trace state at number named onset f) f ≡ form_remarks trace state (form_judged script trace state at number named onset f) f
+  remarks_same state at near number named onset (Err cause) c h = refl
+  remarks_same state at near number named onset (Ok Other) c h = refl
+  remarks_same state at near number named onset (Ok (Rounds quantity window pattern)) c h =
+      span_same quantity pattern (span_of script at window) (window_covered script at near window pattern c.0) h
+  remarks_same state at near number named onset (Ok (State time device words)) c h = refl
+  remarks_same state at near number named onset (Ok (Refused name word)) c h = refl
 
   line_same : (state : List ℕ) (r : Report) (at : ℕ → Option ℕ) (number : ℕ) (line : List ℕ) → AreNear script at → FormCovered script number (form_in (unlabelled_words (words_of line)))
       → is_unmet (line_judged script trace state at number line) ≡ false
@@ -427,7 +461,7 @@ module _ (script few trace : List ℕ) (are : lines_of few ≡ filter (is_kept s
       by None k = refl
       by (Some true) k = refl
       by (Some false) k =
-          ap (with_remarks (with_test r false number [] line) false) (remarks_same state at near number (is_labelled line) (form_in (unlabelled_words (words_of line))) c k)
+          ap (with_remarks (with_test r false number [] line) false) (remarks_same state at near number (is_labelled line) (onset_in (unlabelled_words (words_of line))) (form_in (unlabelled_words (words_of line))) c k)
 
   tests_same : (r : Report) (at : ℕ → Option ℕ) (number : ℕ) (lines states : List (List ℕ)) → AreNear script at → AreCovered script number lines
       → list_any (λ f. is_unmet f.judged) (findings_from number states (lines_judged script trace at number lines states)) ≡ false
@@ -439,7 +473,7 @@ module _ (script few trace : List ℕ) (are : lines_of few ≡ filter (is_kept s
       let js : List Judged = lines_judged script trace (noted at number j.at) (number + 1) lines states in
       let met = met_by number state j j.holds refl (findings_from (number + 1) states js) h in
       ap (λ (q : Report). with_lines few q (number + 1) lines states js) (line_same state r at number line near c.0 met.0)
-      ∙ tests_same (with_line trace state r number line j) (noted at number j.at) (number + 1) lines states (next_near state at number line near c.0) c.2 met.1
+      ∙ tests_same (with_line trace state r number line j) (noted at number j.at) (number + 1) lines states (next_near state at number line near c.0 c.2) c.3 met.1
 
 -- ---- refused events
 

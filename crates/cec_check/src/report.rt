@@ -1,10 +1,11 @@
 //! The report of a script's expectations, by the trace of its run.
-ghost use Rattle.std.specs.Prelude.{◌≡◌, true, ◌++◌, ◌==◌, codes, if◌then◌else◌, ℕ, List, OnOk, IfOk, IfSome, Some, map};
+ghost use Rattle.std.specs.Prelude.{◌≡◌, true, ◌++◌, ◌==◌, codes, if◌then◌else◌, ℕ, List, OnOk, IfOk, IfSome, Some, map, take};
 ghost use Rattle.std.specs.List.{flat_map, list_any};
 ghost use Rattle.std.specs.Option.{option_map};
 ghost use Rattle.hdmi_core.specs.Piece.{piece_text};
 ghost use Rattle.hdmi_core.specs.Lines.{lines_of};
 ghost use Rattle.cec_judge.specs.Judged.{finding_as, states_for};
+ghost use Rattle.cec_judge.specs.Index.{lines_among};
 ghost use Rattle.cec_judge.specs.Told.{event_as};
 ghost use Rattle.cec_check.specs.Kept.{are_timed, is_unmet, kept};
 ghost use Rattle.cec_check.specs.Report.{report_start, report_with_plan, escaped_text, escaped_byte, remarks, report, report_as, report_by, shown_text, shown_line, span_remarks, verdict_word, with_event, with_findings, with_line, with_refusals, with_test, with_word};
@@ -12,7 +13,8 @@ ghost use Rattle.cec_check.specs.Report.{report_start, report_with_plan, escaped
 use crate::held::Held;
 use cec_expect::{Form, Labels, form_in, unlabelled};
 use cec_judge::{
-    EventLine, Expected, Finding, Judged, Span, all_judged, end_seen, event_in, refusal_in,
+    EventLine, Expected, Finding, Judged, RoundLine, RoundLines, Span, all_judged, event_in,
+    is_seen, refusal_in,
 };
 use hdmi_core::{Piece, first_line, put_all, write_pieces};
 use std::alloc::{AllocError, Global};
@@ -113,23 +115,40 @@ fn append_shown_line(out: &mut Held, line: &[u8]) -> Result<(), AllocError>
     )
 }
 
-// Appends the first eight lines of rounds that are seen.
-fn append_shown(out: &mut Held, trace: &[u8], span: Span, pattern: &[u8]) -> Result<(), AllocError>
-    ensures { OnOk result (out.new.bytes.items ≡ out.old.bytes.items ++ shown_text trace.now span pattern.now) }
+// Appends the first eight lines of those of these rounds that are seen.
+fn append_first(
+    out: &mut Held,
+    rounds: &[RoundLine<'_>],
+    span: Span,
+    pattern: &[u8],
+) -> Result<(), AllocError>
+    ensures { OnOk result (out.new.bytes.items ≡ out.old.bytes.items ++ flat_map shown_line (take 8 (lines_among rounds.now span pattern.now))) }
 {
-    let mut rest = trace;
+    let mut rest = rounds;
     let mut left = SHOWN_MOST;
-    'lines: while let Some((line, after)) = first_line(rest) {
+    'rounds: while let [round, others @ ..] = rest {
         if left == 0 {
             return Ok(());
         }
-        if end_seen(span, pattern, line).is_some() {
-            append_shown_line(out, line)?;
+        if is_seen(span, pattern, round) {
+            append_shown_line(out, round.line)?;
             left -= 1;
         }
-        rest = after;
+        rest = others;
     }
     Ok(())
+}
+
+// Appends the first eight lines of rounds of a trace that are seen.
+fn append_shown(
+    out: &mut Held,
+    rounds: &RoundLines<'_>,
+    span: Span,
+    pattern: &[u8],
+) -> Result<(), AllocError>
+    ensures { OnOk result (out.new.bytes.items ≡ out.old.bytes.items ++ shown_text rounds.now.trace.now span pattern.now) }
+{
+    append_first(out, rounds.within(span), span, pattern)
 }
 
 // What is looked at below a test that failed.
@@ -142,12 +161,12 @@ fn looked_at(count: u64, pattern: &[u8]) -> &[u8]
 // Appends the window, and rounds in it.
 fn append_span(
     out: &mut Held,
-    trace: &[u8],
+    rounds: &RoundLines<'_>,
     pattern: &[u8],
     count: u64,
     span: Option<Span>,
 ) -> Result<(), AllocError>
-    ensures { OnOk result (out.new.bytes.items ≡ out.old.bytes.items ++ span_remarks trace.now pattern.now count span) }
+    ensures { OnOk result (out.new.bytes.items ≡ out.old.bytes.items ++ span_remarks rounds.now.trace.now pattern.now count span) }
 {
     let Some(span) = span else {
         return append_bytes(out, b"# no instant\n");
@@ -164,18 +183,18 @@ fn append_span(
             Piece::Text("\n"),
         ],
     )?;
-    append_shown(out, trace, span, looked_at(count, pattern))
+    append_shown(out, rounds, span, looked_at(count, pattern))
 }
 
 // Appends what stands below a test that failed.
 fn append_remarks(
     out: &mut Held,
-    trace: &[u8],
+    rounds: &RoundLines<'_>,
     state: &[u8],
     judged: &Judged,
     line: &[u8],
 ) -> Result<(), AllocError>
-    ensures { OnOk result (out.new.bytes.items ≡ out.old.bytes.items ++ remarks trace.now state.now judged.now line.now) }
+    ensures { OnOk result (out.new.bytes.items ≡ out.old.bytes.items ++ remarks rounds.now.trace.now state.now judged.now line.now) }
 {
     match form_in(unlabelled(line).rest) {
         Err(_) => Ok(()),
@@ -184,7 +203,7 @@ fn append_remarks(
             Form::Refused { .. } => Ok(()),
             Form::State { .. } => append_shown_line(out, state),
             Form::Rounds { pattern, .. } => {
-                append_span(out, trace, pattern, judged.count, judged.span)
+                append_span(out, rounds, pattern, judged.count, judged.span)
             }
         },
     }
@@ -193,13 +212,13 @@ fn append_remarks(
 // Appends the test of a line, where it is an expectation.
 fn add_line(
     draft: &mut ReportDraft,
-    trace: &[u8],
+    rounds: &RoundLines<'_>,
     state: &[u8],
     number: u64,
     line: &[u8],
     judged: &Judged,
 ) -> Result<(), AllocError>
-    ensures { OnOk result (report_as draft.new ≡ with_line trace.now state.now (report_as draft.old) number line.now judged.now) }
+    ensures { OnOk result (report_as draft.new ≡ with_line rounds.now.trace.now state.now (report_as draft.old) number line.now judged.now) }
 {
     let Some(holds) = judged.holds else {
         return Ok(());
@@ -208,17 +227,17 @@ fn add_line(
     if holds {
         return Ok(());
     }
-    append_remarks(&mut draft.text, trace, state, judged, line)
+    append_remarks(&mut draft.text, rounds, state, judged, line)
 }
 
 // Appends the tests of the lines of a script, by what is found of those that expect something.
 fn add_lines(
     draft: &mut ReportDraft,
     script: &[u8],
-    trace: &[u8],
+    rounds: &RoundLines<'_>,
     found: &[Finding<'_>],
 ) -> Result<(), AllocError>
-    ensures { OnOk result (report_as draft.new ≡ with_findings trace.now (report_as draft.old) 1 (lines_of script.now) (map finding_as found.now)) }
+    ensures { OnOk result (report_as draft.new ≡ with_findings rounds.now.trace.now (report_as draft.old) 1 (lines_of script.now) (map finding_as found.now)) }
 {
     let mut rest = script;
     let mut left = found;
@@ -228,7 +247,7 @@ fn add_lines(
             return Ok(());
         };
         if finding.line == number {
-            add_line(draft, trace, finding.state, number, line, &finding.judged)?;
+            add_line(draft, rounds, finding.state, number, line, &finding.judged)?;
             left = others;
         }
         rest = after;
@@ -338,8 +357,9 @@ fn report_found(
     ensures { IfOk result (λ draft. report_as draft ≡ report_by labels.now.script.now trace.now (map finding_as found.now)) }
 {
     let expected = Expected::new(alloc, labels)?;
+    let rounds = RoundLines::new(alloc, trace)?;
     let mut draft = report_start(alloc)?;
-    add_lines(&mut draft, labels.script, trace, found)?;
+    add_lines(&mut draft, labels.script, &rounds, found)?;
     add_refusals(&mut draft, &expected, trace)?;
     add_plan(&mut draft)?;
     Ok(draft)

@@ -7,8 +7,8 @@ use Rattle.cec_check.proofs.report.add_lines.Given as goal
 -- the tests of the lines above, and then of those that are left
 abbrev pub invariant-lines : goal.invariant-lines
 invariant-lines l = record {
-  same : with_findings l.trace (report_as l.draft) l.number (lines_of l.rest) (map finding_as l.left)
-      ≡ with_findings l.trace (report_as l.fn.draft) 1 (lines_of l.script) (map finding_as l.found);
+  same : with_findings l.rounds.trace.now (report_as l.draft) l.number (lines_of l.rest) (map finding_as l.left)
+      ≡ with_findings l.rounds.trace.now (report_as l.fn.draft) 1 (lines_of l.script) (map finding_as l.found);
   room : l.number + length l.rest ≤ length l.script + 1;
 }
 
