@@ -1,69 +1,10 @@
 //! The emulator.
-ghost use Rattle.std.specs.Prelude.{◌≡◌, ◌≤◌, ◌<◌};
-ghost use Rattle.hdminet_c.specs.Run.{IsEdgesPut, IsRunRefused, IsTracePut, root_code, run_answer, script_code, topology_code};
+ghost use Rattle.std.specs.Prelude.{◌≤◌, ◌<◌};
+ghost use Rattle.run_calls.specs.Run.{IsEdgesPut, IsRunRefused, IsTracePut};
 
-use crate::held::Held;
-use cec_asm::{ScriptCause, TopologyCause};
-use cec_run::edges::emulate_edges;
-use cec_run::emulate::{EmulateError, emulate};
-use hdmi_blocks::EdidCause;
-use hdminet_room::{Answer, Code, edid_code, put, refused, text_code};
+use hdminet_room::Answer;
+use run_calls::{put_edges, put_trace};
 use std::alloc::Global;
-
-fn topology_code(cause: TopologyCause) -> Code
-    ensures { result ≡ topology_code cause }
-{
-    match cause {
-        TopologyCause::Word => Code::TopologyWord,
-        TopologyCause::Number => Code::TopologyNumber,
-        TopologyCause::Name => Code::TopologyName,
-        TopologyCause::Full => Code::TopologyFull,
-        TopologyCause::SecondRoot => Code::TopologySecondRoot,
-        TopologyCause::NoRoot => Code::TopologyNoRoot,
-        TopologyCause::PortRange => Code::TopologyPortRange,
-        TopologyCause::PortTaken => Code::TopologyPortTaken,
-        TopologyCause::NotLoose => Code::TopologyNotLoose,
-        TopologyCause::Loop => Code::TopologyLoop,
-        TopologyCause::Hex => Code::TopologyHex,
-    }
-}
-
-fn script_code(cause: ScriptCause) -> Code
-    ensures { result ≡ script_code cause }
-{
-    match cause {
-        ScriptCause::Word => Code::ScriptWord,
-        ScriptCause::Number => Code::ScriptNumber,
-        ScriptCause::Name => Code::ScriptName,
-        ScriptCause::Frame(cause) => text_code(cause),
-        ScriptCause::Width => Code::ScriptWidth,
-        ScriptCause::Order => Code::ScriptOrder,
-        ScriptCause::Close => Code::ScriptClose,
-        ScriptCause::TooMany => Code::ScriptTooMany,
-        ScriptCause::End => Code::ScriptEnd,
-    }
-}
-
-fn root_code(cause: EdidCause) -> Code
-    ensures { result ≡ root_code cause }
-{
-    match cause {
-        EdidCause::Edid(cause) => edid_code(cause),
-        EdidCause::NoHdmiBlock => Code::EdidNoHdmiBlock,
-    }
-}
-
-// Why there is no run. What is written stands in memory, so that only want of it ends a write.
-pub(crate) fn run_refused(error: &EmulateError) -> Answer
-    ensures { result ≡ run_answer error.now }
-{
-    match error {
-        EmulateError::Topology { line, cause, .. } => refused(topology_code(*cause), *line),
-        EmulateError::Script { line, cause, .. } => refused(script_code(*cause), *line),
-        EmulateError::Edid(cause) => refused(root_code(*cause), 0),
-        EmulateError::Write(_) | EmulateError::Memory => refused(Code::Memory, 0),
-    }
-}
 
 /// Runs a script on a topology, and puts the trace of the run into the room.
 ///
@@ -79,11 +20,7 @@ pub extern "C" fn hdminet_emulate(
     ensures done { result.code ≤ 1 → IsTracePut topology.now script.now room.old room.new result }
     ensures refused { 1 < result.code → IsRunRefused topology.now script.now room.old room.new result }
 {
-    let mut trace = Held::new(alloc);
-    match emulate(alloc, topology, script, &mut trace) {
-        Ok(_) => put(trace.bytes(), room),
-        Err(error) => run_refused(&error),
-    }
+    put_trace(alloc, topology, script, room)
 }
 
 /// Runs a script on a topology, and puts the edge file of the run into the room: the falls and rises of the whole run's
@@ -100,9 +37,5 @@ pub extern "C" fn hdminet_emulate_edges(
     ensures done { result.code ≤ 1 → IsEdgesPut topology.now script.now room.old room.new result }
     ensures refused { 1 < result.code → IsRunRefused topology.now script.now room.old room.new result }
 {
-    let mut edges = Held::new(alloc);
-    match emulate_edges(alloc, topology, script, &mut edges) {
-        Ok(_) => put(edges.bytes(), room),
-        Err(error) => run_refused(&error),
-    }
+    put_edges(alloc, topology, script, room)
 }

@@ -1,22 +1,10 @@
 //! What was read on a line.
-ghost use Rattle.std.specs.Prelude.{◌≡◌, ◌≤◌, ◌<◌, Err};
-ghost use Rattle.hdminet_c.specs.Watching.{AreReadingsPut, IsWatchRefused, watch_answer};
+ghost use Rattle.std.specs.Prelude.{◌≤◌, ◌<◌};
+ghost use Rattle.run_calls.specs.Watching.{AreReadingsPut, IsWatchRefused};
 
-use crate::held::Held;
-use cec_mon::{WatchError, watch};
-use hdminet_room::{Answer, Code, put, refused};
+use hdminet_room::Answer;
+use run_calls::put_readings;
 use std::alloc::Global;
-
-// Why nothing is read. What is written stands in memory, so that only want of it ends a write.
-fn watch_refused(error: &WatchError) -> Answer
-    ensures { result ≡ watch_answer error.now }
-{
-    match error {
-        WatchError::Line { line, .. } => refused(Code::EdgesLine, *line),
-        WatchError::Order { line, .. } => refused(Code::EdgesOrder, *line),
-        WatchError::Write(_) | WatchError::Memory => refused(Code::Memory, 0),
-    }
-}
 
 /// Puts the lines of the readings of an edge file into the room.
 ///
@@ -26,9 +14,5 @@ pub extern "C" fn hdminet_watch(alloc: Global, edges: &[u8], room: &mut [u8]) ->
     ensures done { result.code ≤ 1 → AreReadingsPut edges.now room.old room.new result }
     ensures refused { 1 < result.code → IsWatchRefused edges.now room.old room.new result }
 {
-    let mut readings = Held::new(alloc);
-    match watch(alloc, edges, &mut readings) {
-        Ok(()) => put(readings.bytes(), room),
-        Err(error) => watch_refused(&error),
-    }
+    put_readings(alloc, edges, room)
 }

@@ -4,11 +4,10 @@ ghost use Rattle.cec_text.specs.FrameReading.{is_frame};
 ghost use Rattle.cec_text.specs.FrameText.{frame_text};
 ghost use Rattle.hdminet_room.specs.Room.{IsPut, IsRefused};
 ghost use Rattle.hdminet_room.specs.declared.code.Code.TheVariants.{FrameEmpty, FrameTooLong};
-ghost use Rattle.hdminet_wire.specs.Frames.{IsFramePut, IsNoFrameText};
+ghost use Rattle.wire_calls.specs.Frames.{IsFramePut, IsNoFrameText};
 
-use cec_frame::Frame;
-use cec_text::{assemble, frame_text};
-use hdminet_room::{Answer, frame_code, put, refused, text_code};
+use hdminet_room::Answer;
+use wire_calls::{put_frame_bytes, put_frame_text};
 
 /// Puts the one text of the frame of some bytes into the room: at most 96 bytes, with no 0 after them.
 ///
@@ -19,10 +18,7 @@ pub extern "C" fn hdminet_frame_text(bytes: &[u8], room: &mut [u8]) -> Answer
     ensures empty { length bytes.now ≡ 0 → IsRefused FrameEmpty 0 room.old room.new result }
     ensures too_long { 16 < length bytes.now → IsRefused FrameTooLong 0 room.old room.new result }
 {
-    match Frame::new(bytes) {
-        Ok(frame) => put(&frame_text(&frame), room),
-        Err(error) => refused(frame_code(error), 0),
-    }
+    put_frame_text(bytes, room)
 }
 
 /// Puts the bytes of the frame that has this text into the room: 1 to 16.
@@ -34,8 +30,5 @@ pub extern "C" fn hdminet_frame_bytes(text: &[u8], room: &mut [u8]) -> Answer
     ensures found { result.code ≤ 1 → IsFramePut text.now room.old room.new result }
     ensures refused { 1 < result.code → IsNoFrameText text.now room.old room.new result }
 {
-    match assemble(text) {
-        Ok(frame) => put(frame.bytes(), room),
-        Err(error) => refused(text_code(error), 0),
-    }
+    put_frame_bytes(text, room)
 }

@@ -7,24 +7,13 @@ ghost use Rattle.cec_bits.specs.declared.receiver.Told.{Told as ReportedValue};
 ghost use Rattle.cec_bits.specs.declared.sender.Sender.{Sender as SenderValue};
 ghost use Rattle.hdminet_room.specs.Codes.{number_of};
 ghost use Rattle.hdminet_room.specs.declared.code.Code.TheVariants.{Done, FrameEmpty, FrameTooLong, Heard as NothingHeard, Late, State};
-ghost use Rattle.hdminet_wire.specs.Heard.{instant_refused, reported_in};
-ghost use Rattle.hdminet_wire.specs.Sender.{HasBegun, IsChange, IsLeft, IsNoSender, IsReported, pull_code, pull_reported};
+ghost use Rattle.wire_calls.specs.Heard.{instant_refused, reported_in};
+ghost use Rattle.wire_calls.specs.Sender.{HasBegun, IsChange, IsLeft, IsNoSender, IsReported, pull_code, pull_reported};
 
-use crate::heard::{Heard, Instant, instant_of, instant_refused, reported_in};
-use cec_bits::{Sender, SenderParts};
-use cec_frame::Frame;
-use cec_wave::LATEST_HEARD;
-use hdminet_room::{Code, frame_code};
-
-/// Whether a sender pulls the line low.
-#[repr(C)]
-#[derive(Clone, Copy, Debug, PartialEq, Eq)]
-pub struct Pull {
-    /// The number of a `Code`: 0 where it is known.
-    pub code: u32,
-    /// Whether it pulls.
-    pub is_low: bool,
-}
+use cec_bits::SenderParts;
+use wire_calls::{
+    Heard, Instant, Pull, sender_begin, sender_heard, sender_next_change, sender_pulls,
+};
 
 /// Begins to send a frame at `t`, in microseconds: the line falls then. Answers the number of a `Code`.
 ///
@@ -37,15 +26,7 @@ pub extern "C" fn hdminet_sender_begin(sender: &mut SenderParts, bytes: &[u8], t
     ensures too_long { 16 < length bytes.now → IsLeft FrameTooLong result sender.old sender.new }
     ensures late { 1 ≤ length bytes.now → length bytes.now ≤ 16 → latest_heard < t → IsLeft Late result sender.old sender.new }
 {
-    let frame = match Frame::new(bytes) {
-        Ok(frame) => frame,
-        Err(error) => return frame_code(error).number(),
-    };
-    if t > LATEST_HEARD {
-        return Code::Late.number();
-    }
-    *sender = Sender::begin(frame, t).parts();
-    Code::Done.number()
+    sender_begin(sender, bytes, t)
 }
 
 /// What a receiver told at `t` of the reading that this sender began. Answers the number of a `Code`.
@@ -61,28 +42,7 @@ pub extern "C" fn hdminet_sender_heard(sender: &mut SenderParts, heard: &Heard, 
     ensures late { (s : SenderValue) → (reported : ReportedValue) → ArePartsOfSender s sender.old → reported_in heard.now ≡ Some reported → latest_heard < t
         → IsLeft Late result sender.old sender.new }
 {
-    let Some(was) = Sender::of_parts(sender) else {
-        return Code::State.number();
-    };
-    let Some(reported) = reported_in(*heard) else {
-        return Code::Heard.number();
-    };
-    if t > LATEST_HEARD {
-        return Code::Late.number();
-    }
-    let mut next = was;
-    next.heard(reported, t);
-    *sender = next.parts();
-    Code::Done.number()
-}
-
-fn pull_refused(code: Code) -> Pull
-    ensures { result ≡ pull_code code }
-{
-    Pull {
-        code: code.number(),
-        is_low: false,
-    }
+    sender_heard(sender, heard, t)
 }
 
 /// Whether the sender pulls the line low in microsecond `t`.
@@ -94,16 +54,7 @@ pub extern "C" fn hdminet_sender_pulls(sender: &SenderParts, t: u64) -> Pull
     ensures spoilt { IsNoSender sender.now → result ≡ pull_code State }
     ensures late { (s : SenderValue) → ArePartsOfSender s sender.now → latest_heard < t → result ≡ pull_code Late }
 {
-    let Some(sender) = Sender::of_parts(sender) else {
-        return pull_refused(Code::State);
-    };
-    if t > LATEST_HEARD {
-        return pull_refused(Code::Late);
-    }
-    Pull {
-        code: Code::Done.number(),
-        is_low: sender.pulls(t),
-    }
+    sender_pulls(sender, t)
 }
 
 /// The first instant after `t` at which the pull changes, where the sender is told nothing more, in microseconds.
@@ -115,11 +66,5 @@ pub extern "C" fn hdminet_sender_next_change(sender: &SenderParts, t: u64) -> In
     ensures spoilt { IsNoSender sender.now → result ≡ instant_refused State }
     ensures late { (s : SenderValue) → ArePartsOfSender s sender.now → latest_heard < t → result ≡ instant_refused Late }
 {
-    let Some(sender) = Sender::of_parts(sender) else {
-        return instant_refused(Code::State);
-    };
-    if t > LATEST_HEARD {
-        return instant_refused(Code::Late);
-    }
-    instant_of(sender.next_change(t))
+    sender_next_change(sender, t)
 }

@@ -1,0 +1,42 @@
+-- What is answered of a script with expectations (this profile's own).
+use Rattle.std.specs.Prelude.{◌≡◌, ℕ, List, [], Some}
+use Rattle.cec_check.specs.Check.{IsCheckReported, IsChecked}
+use Rattle.cec_check.specs.declared.checking.CheckError.{CheckError}
+use Rattle.cec_check.specs.declared.checking.CheckError.TheVariants.{Emulate, Expect, Write, Memory as NoMemory}
+use Rattle.cec_check.specs.declared.checking.Tally.{Tally}
+use Rattle.cec_expect.specs.declared.form.ExpectCause.{ExpectCause}
+use Rattle.cec_expect.specs.declared.form.ExpectCause.TheVariants as expects
+use Rattle.hdminet_room.specs.Room.{IsPut, refusal}
+use Rattle.hdminet_room.specs.declared.answer.Answer.{Answer}
+use Rattle.hdminet_room.specs.declared.code.Code.{Code}
+use Rattle.hdminet_room.specs.declared.code.Code.TheVariants.{Memory, ScriptName, ExpectWord, ExpectNumber, ExpectLabel, ExpectOrder}
+use Rattle.run_calls.specs.Run.{run_answer}
+use Rattle.run_calls.specs.declared.checking.Counts.{Counts}
+
+abbrev pub expect_code : ExpectCause → Code
+expect_code expects.Word = ExpectWord
+expect_code expects.Pattern = ExpectWord
+expect_code expects.Number = ExpectNumber
+expect_code expects.Name = ScriptName
+expect_code expects.Label = ExpectLabel
+expect_code expects.Order = ExpectOrder
+
+-- a write into memory fails where memory runs out
+abbrev pub check_answer : CheckError → Answer
+check_answer (Emulate error) = run_answer error
+check_answer (Expect fault) = refusal (expect_code fault.cause) fault.line
+check_answer (Write count) = refusal Memory 0
+check_answer NoMemory = refusal Memory 0
+
+abbrev pub counts_of : Tally → Counts
+counts_of tally = record { count = tally.count; failed = tally.failed }
+
+-- the report of the script is put into the room, and its tests are counted
+abbrev pub IsReportPut : List ℕ → List ℕ → List ℕ → List ℕ → Counts → Answer → Type 0
+IsReportPut topology script old new counts answer =
+    (text : List ℕ) × (tally : Tally) × IsChecked topology script (Some []) (Some text) tally × (counts ≡ counts_of tally) × IsPut text old new answer
+
+-- there is no report, for the first cause, and nothing is put or counted
+abbrev pub IsCheckRefused : List ℕ → List ℕ → List ℕ → List ℕ → Counts → Counts → Answer → Type 0
+IsCheckRefused topology script old new before after answer =
+    (cause : CheckError) × IsCheckReported topology script cause × (answer ≡ check_answer cause) × (new ≡ old) × (after ≡ before)
