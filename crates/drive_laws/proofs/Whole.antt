@@ -1,5 +1,5 @@
 -- The line of a round is low exactly where one of its drives is.
-use Rattle.std.proofs.Common.{◌≡◌, ℕ, zero, suc, ◌+◌, ◌-◌, ◌==◌, ◌<◌, ◌≤◌, Bool, true, false, ◌||◌, if◌then◌else◌, List, [], ◌∷◌, ◌++◌, slice_get, inl, inr, Option, Some, None, refl, arith, ap, ap₂, ◌∙◌, sym, subst}
+use Rattle.std.proofs.Common.{◌≡◌, ℕ, zero, suc, ◌+◌, ◌-◌, ◌==◌, ◌<◌, ◌≤◌, Bool, true, false, ◌||◌, if◌then◌else◌, List, [], ◌∷◌, ◌++◌, map, slice_get, inl, inr, Option, Some, None, refl, arith, ap, ap₂, ◌∙◌, sym, subst}
 use Rattle.std.specs.List.{list_any}
 use Rattle.std.proofs.lemmas.Bool.{cases_lt}
 use Rattle.std.proofs.lemmas.Bool.Decides.{nat_tests}
@@ -15,10 +15,10 @@ use Rattle.cec_wire.specs.Round.{lost_at, losers_from, out_in, out_of}
 use Rattle.cec_wire.proofs.Lasting.{begun_by, contended, low_at_begin}
 use Rattle.cec_wire.proofs.OneOutcome.{covers_own}
 use Rattle.cec_wire.proofs.Still.{high_before}
-use Rattle.cec_drives.specs.Drives.{seat_line}
-use Rattle.cec_drives.specs.Stretches.{ack_stretches, break_stretches, drives_from, fall_by, seat_stretches_by, sent_stretches, slot_fall}
+use Rattle.cec_drives.specs.Drives.{pulse_line, seat_line}
+use Rattle.cec_drives.specs.Stretches.{ack_stretches, break_stretches, drives_from, drives_of, fall_by, seat_stretches_by, sent_stretches, slot_fall}
 use Rattle.cec_drives.proofs.Driven.{lines_are_driven}
-use Rattle.drive_laws.specs.DriveLaws.{DrivesAreTheLine}
+use Rattle.drive_laws.specs.DriveLaws.{DrivesAreRuled, DrivesAreTheLine}
 use Rattle.drive_laws.proofs.Acks.{ack_line, any_append}
 use Rattle.drive_laws.proofs.Pulses.{pulses_line}
 use Rattle.drive_laws.proofs.Seats.{Reports, break_line, sent_line}
@@ -87,20 +87,20 @@ out_found r n (suc k) m (x ∷ ss) s e h = by_out (out_of r x.sends) (out_found 
     by_out None q = q
     by_out (Some slot) q = let y : (n == m) ≡ false = grind (arith, nat_tests) in ap (λ b. if b then Some slot else out_in (losers_from r (n + 1) ss) m) y ∙ q
 
-seats_same : (low : Line) (begin t : ℕ) (o : Outcome) → Reports low begin o → (n : ℕ) (seats : List Seat)
+-- of each seat, and of the drives that come after those of seats
+seats_same : (low : Line) (begin t : ℕ) (o : Outcome) (rest : List (List Stretch)) → Reports low begin o → (n : ℕ) (seats : List Seat)
     → ((k : ℕ) (s : Seat) → slice_get seats k ≡ Some s → out_in o.losers.items (n + k) ≡ out_of (reading_of low begin) s.sends)
-    → list_any (λ ss. line_of ss t) (drives_from begin o n seats) ≡ list_any (λ seat. seat_line begin low seat t) seats
-seats_same low begin t o reports n [] outs = refl
-seats_same low begin t o reports n (seat ∷ seats) outs =
+    → map (λ ss. line_of ss t) (drives_from begin o n seats ++ rest) ≡ map (λ seat. seat_line begin low seat t) seats ++ map (λ ss. line_of ss t) rest
+seats_same low begin t o rest reports n [] outs = refl
+seats_same low begin t o rest reports n (seat ∷ seats) outs =
     let first : out_in o.losers.items n ≡ out_of (reading_of low begin) seat.sends = ap (out_in o.losers.items) (let e : n ≡ n + 0 = omega arith in e) ∙ outs 0 seat refl in
-    ap₂ (λ a b. a || b) (ap (λ out. line_of (seat_stretches_by begin o seat out) t) first ∙ seat_same low begin t o reports seat)
-    (seats_same low begin t o reports (n + 1) seats (λ k s h. ap (out_in o.losers.items) (let e : n + 1 + k ≡ n + suc k = omega arith in e) ∙ outs (suc k) s h))
+    ap₂ (λ a (bs : List Bool). a ∷ bs) (ap (λ out. line_of (seat_stretches_by begin o seat out) t) first ∙ seat_same low begin t o reports seat)
+    (seats_same low begin t o rest reports (n + 1) seats (λ k s h. ap (out_in o.losers.items) (let e : n + 1 + k ≡ n + suc k = omega arith in e) ∙ outs (suc k) s h))
 
--- ---- the whole line
+-- ---- all drives
 
-pub drives_are_the_line : DrivesAreTheLine
-drives_are_the_line seats begin pulses o frames sparse wave round begun t =
-    let low : Line = line_of o.wave in
+pub drives_are_ruled : DrivesAreRuled
+drives_are_ruled seats begin pulses o frames sparse wave round begun t =
     let b = begun_by (line_of o.wave) begin (start_of (line_of o.wave) begin) refl in
     let starts : line_of o.wave begin ≡ true = low_at_begin seats begin pulses (line_of o.wave) sparse (contended seats begin pulses (line_of o.wave) round.line) b.reports begun in
     let first = first_begin o.wave begin wave starts (high_before seats begin pulses (line_of o.wave) round.line) in
@@ -110,13 +110,25 @@ drives_are_the_line seats begin pulses o frames sparse wave round begun t =
       bits = round.bits;
       slots = reports_by o.wave begin o first.0 first.1 refl first.2 first.3 (subst IsWave first.2 wave) round.ends;
     } in
-    let own = seats_same (line_of o.wave) begin t o reports 0 seats
-    (λ k s h. ap (λ (ls : List Loser). out_in ls (0 + k)) round.losers ∙ out_found (reading_of (line_of o.wave) begin) 0 k (0 + k) seats s refl h) in
-    let pulse = pulses_line seats begin pulses o frames sparse wave round t in
+    seats_same (line_of o.wave) begin t o (begun_within begin o.rest pulses ∷ []) reports 0 seats
+    (λ k s h. ap (λ (ls : List Loser). out_in ls (0 + k)) round.losers ∙ out_found (reading_of (line_of o.wave) begin) 0 k (0 + k) seats s refl h)
+    ∙ ap (λ b. map (λ seat. seat_line begin (line_of o.wave) seat t) seats ++ b ∷ []) (sym (pulses_line seats begin pulses o frames sparse wave round t))
+
+-- ---- the whole line
+
+-- one of some values is low, by the list of whether each is
+any_of : {X : Type 0} (test : X → Bool) (xs : List X) → list_any test xs ≡ list_any (λ b. b) (map test xs)
+any_of test [] = refl
+any_of test (x ∷ xs) = ap (λ b. test x || b) (any_of test xs)
+
+pub drives_are_the_line : DrivesAreTheLine
+drives_are_the_line seats begin pulses o frames sparse wave round begun t =
     lines_are_driven seats begin pulses (line_of o.wave) frames sparse round.line t
-    ∙ ap₂ (λ a c. a || c) pulse (sym own)
-    ∙ turned (line_of (begun_within begin o.rest pulses) t) (list_any (λ ss. line_of ss t) (drives_from begin o 0 seats))
-    ∙ sym (any_append (λ ss. line_of ss t) (drives_from begin o 0 seats) (begun_within begin o.rest pulses ∷ []))
+    ∙ turned (pulse_line begin pulses (line_of o.wave) t) (list_any (λ seat. seat_line begin (line_of o.wave) seat t) seats)
+    ∙ ap (λ b. b || (pulse_line begin pulses (line_of o.wave) t || false)) (any_of (λ seat. seat_line begin (line_of o.wave) seat t) seats)
+    ∙ sym (any_append (λ b. b) (map (λ seat. seat_line begin (line_of o.wave) seat t) seats) (pulse_line begin pulses (line_of o.wave) t ∷ []))
+    ∙ ap (list_any (λ b. b)) (sym (drives_are_ruled seats begin pulses o frames sparse wave round begun t))
+    ∙ sym (any_of (λ ss. line_of ss t) (drives_of seats begin pulses o))
   where
     turned : (a b : Bool) → (a || b) ≡ (b || (a || false))
     turned true true = refl
