@@ -7,3 +7,4 @@ pub mod Started
 pub mod Due
 pub mod TraceRounds
 pub mod Over
+pub mod TraceSteps

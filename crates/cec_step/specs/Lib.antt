@@ -3,3 +3,4 @@ pub mod Ready
 pub mod StepRun
 pub mod Trace
 pub mod Over
+pub mod TraceSteps

@@ -8,5 +8,5 @@ mod stepper;
 mod walk;
 
 pub use cec_step_text::Break;
-pub use laws::rounds_are_the_trace;
+pub use laws::{rounds_are_the_trace, steps_are_the_trace};
 pub use stepper::{StepError, Stepper};
