@@ -329,6 +329,13 @@ def failures_are_drawn(t, b):
                  " return [pixel.map(part => part.toString(16).padStart(2, '0')).join(''), colours.failed.slice(1)]; })()")
     near = all(abs(int(pixel[0][i:i + 2], 16) - int(pixel[1][i:i + 2], 16)) < 40 for i in (0, 2, 4))
     t.holds("the failure is in the strip", near, pixel)
+    # A report and its trace in one text, of which each line of the trace begins with `# ` (docs/formats.md, "Of a report")
+    report = program(example("wrong-film.test"), "check", "--json")
+    trace = program(program(example("wrong-film.test"), "check", "--plain"), "run", "--json")
+    load(b, report + '{"line":"# trace","type":"trace"}\n' + trace.replace('{"line":"', '{"line":"# '))
+    # Of three tests the second names a round that it did not expect; the third is a refused event
+    seen = b.js("(m => [m.rounds.length, m.tests.map(test => test.rows.length)])(testing.app.model)")
+    t.same("a report with its trace", seen, [6, [0, 1, 0]])
     show(b, os.path.join(EXAMPLES, "race.sweep"))
     t.same("a sweep is a bar for each test", b.js("document.querySelectorAll('#space svg').length"), 2)
     t.same("and four stretches in each", b.js("document.querySelectorAll('#space svg rect').length"), 8)
@@ -458,6 +465,8 @@ def hostile_inputs_are_harmless(t, b):
           return { thrown, hit: window.hit || 0, images: document.querySelectorAll('#space img, #panel img, #heads img').length };
         })()""")
         t.same(f"hostile: {name}", found, {"thrown": [], "hit": 0, "images": 0})
+    load(b, '{"line":"x","type":"later"}\n{"line":"y","type":"later"}\n')
+    t.same("objects of a later program", b.js("testing.app.model.faults"), ["2 of the type later, which this page does not know"])
     load(b, "")
     t.holds("an empty file is named", "empty" in b.js("document.getElementById('panel').textContent"))
     load(b, inputs["broken lines"][0])

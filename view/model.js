@@ -344,7 +344,7 @@ function addTests(model) {
   const byLine = new Map(model.rows.filter(row => row.o).map(row => [row.o.line, row]));
   const eventOf = new Map(model.rows.filter(row => row.type === 'event').map(row => [row.o.scriptLine, row]));
   for (const test of model.tests) {
-    test.rows = test.seen.map(o => byLine.get(o.line.replace(/^# /, ''))).filter(Boolean);
+    test.rows = test.seen.map(o => byLine.get(o.line)).filter(Boolean);
     for (const row of test.rows) if (row.tests) row.tests.push(test);
     test.state = test.seen.find(o => o.type === 'state') || null;
     test.event = (test.refused && eventOf.get(test.scriptLine)) || null;

@@ -244,7 +244,7 @@ function testDetails(app, test) {
   return [
     html('p', {}, window ? seen : state ? 'What the state says:' : ''),
     test.rows.length > 0 && html('ul', {}, test.rows.map(row => html('li', {}, rowLink(row)))),
-    state && html('pre', {}, state.line.replace(/^# /, '')),
+    state && html('pre', {}, state.line),
   ];
 }
 /* The report, failures first. */

@@ -25,6 +25,7 @@ export const asList = value => (Array.isArray(value) ? value : []);
 export function readObjects(text, model) {
   let inReport = false; // below a test stand the rounds that it saw, up to the object `trace`
   let test = null;
+  const unknown = new Map(); // types of a later program, by how many there are
   text.split('\n').forEach((line, index) => {
     if (line.trim() === '') return;
     let parsed = null;
@@ -33,8 +34,11 @@ export function readObjects(text, model) {
     } catch {
       // named below
     }
-    const object = parsed && typeof parsed === 'object' && cleaned(parsed);
-    if (!object) {
+    const isTyped = parsed && typeof parsed === 'object' && typeof parsed.type === 'string';
+    const object = isTyped ? cleaned(parsed) : null;
+    if (object === undefined) {
+      unknown.set(parsed.type, (unknown.get(parsed.type) || 0) + 1);
+    } else if (!object) {
       model.faults.push(`line ${index + 1} is no object of the program: ${line.slice(0, 60)}`);
     } else if (object.type === 'version') {
       inReport = true;
@@ -47,15 +51,17 @@ export function readObjects(text, model) {
       test.window = object;
     } else if (object.type === 'stretch') {
       model.stretches.push(object);
-    } else if (inReport && test && object.type !== 'plan') {
-      test.seen.push(object);
     } else {
-      model.objects.push(object);
+      object.line = object.line.replace(/^# /, ''); // as it stands in a report
+      (inReport && test && object.type !== 'plan' ? test.seen : model.objects).push(object);
     }
   });
+  for (const [type, count] of unknown) {
+    model.faults.push(`${count} of the type ${type.slice(0, 40)}, which this page does not know`);
+  }
 }
 
-/* An object with each field of its type, or null where it is none of the program's. */
+/* An object with each field of its type; null where one lacks that has to be there, undefined where its type is not known. */
 function cleaned(o) {
   const type = asText(o.type);
   const line = asText(o.line);
@@ -93,7 +99,7 @@ function cleaned(o) {
     case 'other':
       return { type, line };
     default:
-      return null;
+      return undefined;
   }
 }
 
