@@ -102,11 +102,78 @@ static void nothing_at_null(void) {
     HOLDS(hdminet_emulate(TEXT(topology), TEXT(script), NULL, 0).code == HDMINET_ROOM);
 }
 
+/* A topology or a script, and the number and the line with which each call refuses it. */
+struct refusal {
+    const char *text;
+    uint32_t code;
+    uint64_t line;
+};
+
+static const struct refusal topologies[] = {
+    {"frob\n", HDMINET_TOPOLOGY_WORD, 1},
+    {"device tv tv 16\n", HDMINET_TOPOLOGY_NUMBER, 1},
+    {"device tv tv 4\nplug p1 tv 1\n", HDMINET_TOPOLOGY_NAME, 2},
+    {"device tv tv 4\ndevice a tv 4\n", HDMINET_TOPOLOGY_SECOND_ROOT, 2},
+    {"device a player 0\n", HDMINET_TOPOLOGY_NO_ROOT, 2},
+    {"device tv tv 4\ndevice a player 0\nplug a tv 5\n", HDMINET_TOPOLOGY_PORT_RANGE, 3},
+    {"device tv tv 4\ndevice a player 0\ndevice b player 0\nplug a tv 1\nplug b tv 1\n", HDMINET_TOPOLOGY_PORT_TAKEN, 5},
+    {"device tv tv 4\ndevice a player 0\nplug a tv 1\nplug a tv 2\n", HDMINET_TOPOLOGY_NOT_LOOSE, 4},
+    {"device tv tv 4\ndevice a switch 2\nplug a a 1\n", HDMINET_TOPOLOGY_LOOP, 3},
+    {"device tv tv 4\nedid 0g\n", HDMINET_TOPOLOGY_HEX, 2},
+    {"device tv tv 4\nedid 00\n", HDMINET_EDID_LENGTH, 0},
+};
+
+static const struct refusal scripts[] = {
+    {"frob\nend 5\n", HDMINET_SCRIPT_WORD, 1},
+    {"at x press p1 play\nend 10\n", HDMINET_SCRIPT_NUMBER, 1},
+    {"at 5 press p2 play\nend 10\n", HDMINET_SCRIPT_NAME, 1},
+    {"pulse 5 10001\nend 20000\n", HDMINET_SCRIPT_WIDTH, 1},
+    {"at 10 press p1 play\nat 9 press p1 play\nend 20\n", HDMINET_SCRIPT_ORDER, 2},
+    {"pulse 100000 400\npulse 125399 1\nend 200000\n", HDMINET_SCRIPT_CLOSE, 2},
+    {"at 10 press p1 play\nend 10\n", HDMINET_SCRIPT_END, 2},
+    {"at 5 send p1 4>g\nend 10\n", HDMINET_TEXT_ADDRESS, 1},
+    {"at 5 send p1 4>0 frob\nend 10\n", HDMINET_TEXT_NAME, 1},
+    {"at 5 send p1 4>0 op-e5 :000102030405060708090a0b0c0d0e\nend 10\n", HDMINET_TEXT_TOO_LONG, 1},
+    {"at 5 send p1 4>0 play\nend 10\n", HDMINET_TEXT_COUNT, 1},
+    {"at 5 send p1 4>0 play :24\nend 10\n", HDMINET_TEXT_OPERAND, 1},
+};
+
+static const struct refusal expectations[] = {
+    {"expect frob\nend 10\n", HDMINET_EXPECT_WORD, 1},
+    {"expect from 01 to 2 short\nend 10\n", HDMINET_EXPECT_NUMBER, 1},
+    {"expect within 1 of a short\nend 10\n", HDMINET_EXPECT_LABEL, 1},
+    {"expect from 2 to 1 short\nend 10\n", HDMINET_EXPECT_ORDER, 1},
+    {"expect state 5 p2 on\nend 10\n", HDMINET_SCRIPT_NAME, 1},
+};
+
+static void numbers(void) {
+    hdminet_counts counts = {7, 7};
+    fill();
+    for (size_t i = 0; i < sizeof topologies / sizeof *topologies; i++) {
+        const struct refusal *row = &topologies[i];
+        HOLDS(refused(hdminet_emulate(TEXT(row->text), TEXT("end 5\n"), room, sizeof room), row->code, row->line));
+        HOLDS(refused(hdminet_emulate_edges(TEXT(row->text), TEXT("end 5\n"), room, sizeof room), row->code, row->line));
+        HOLDS(refused(hdminet_check(TEXT(row->text), TEXT("end 5\n"), room, sizeof room, &counts), row->code, row->line));
+    }
+    for (size_t i = 0; i < sizeof scripts / sizeof *scripts; i++) {
+        const struct refusal *row = &scripts[i];
+        HOLDS(refused(hdminet_emulate(TEXT(topology), TEXT(row->text), room, sizeof room), row->code, row->line));
+        HOLDS(refused(hdminet_emulate_edges(TEXT(topology), TEXT(row->text), room, sizeof room), row->code, row->line));
+        HOLDS(refused(hdminet_check(TEXT(topology), TEXT(row->text), room, sizeof room, &counts), row->code, row->line));
+    }
+    for (size_t i = 0; i < sizeof expectations / sizeof *expectations; i++) {
+        const struct refusal *row = &expectations[i];
+        HOLDS(refused(hdminet_check(TEXT(topology), TEXT(row->text), room, sizeof room, &counts), row->code, row->line));
+    }
+    HOLDS(counts.count == 7 && counts.failed == 7);
+}
+
 static void *calls(void *unused) {
     (void)unused;
     traces();
     lines();
     reports();
+    numbers();
     nothing_at_null();
     return NULL;
 }

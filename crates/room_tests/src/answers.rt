@@ -1,14 +1,12 @@
 //! Bytes in a room, and the numbers of refusals, as the headers in include/ have them.
+use crate::rooms::holds;
 use cec_frame::FrameError;
 use cec_text::AssembleError;
 use hdmi_blocks::EdidError;
+use hdmi_cta::ExtError;
 use hdmi_edid::BaseError;
 use hdminet_room::{Answer, Code, edid_code, frame_code, put, refused, text_code};
 use std::process::Abort;
-
-fn holds(rt: &impl Abort, holds: bool, case: &str) {
-    assert!(rt; holds, "{case}");
-}
 
 /// Three bytes are put into the front of four, and what is answered, and what then stands there.
 fn is_put(rt: &impl Abort, count: usize, want: Answer, left: &[u8], case: &str) {
@@ -44,17 +42,38 @@ fn is_number(rt: &impl Abort, code: Code, number: u32, case: &str) {
         line: 3,
         length: 0,
     };
+    holds(rt, code.number() == number, case);
     holds(rt, refused(code, 3) == want, case);
 }
 
 #[test]
-fn refusals_have_numbers(rt: HostRuntime) {
+fn frames_and_texts_are_refused_by_numbers(rt: HostRuntime) {
+    is_number(&rt, frame_code(FrameError::Empty), 10, "no byte");
     is_number(&rt, frame_code(FrameError::TooLong), 11, "frame too long");
+    is_number(&rt, text_code(AssembleError::Address), 20, "address");
+    is_number(&rt, text_code(AssembleError::Name), 21, "name");
+    is_number(&rt, text_code(AssembleError::TooLong), 22, "operands");
+    is_number(&rt, text_code(AssembleError::Count), 23, "count");
     is_number(&rt, text_code(AssembleError::Operand), 24, "operand");
+}
+
+fn base(error: BaseError) -> Code {
+    edid_code(EdidError::Base(error))
+}
+
+fn extension(number: u8) -> Code {
+    edid_code(EdidError::Ext(number, ExtError::Checksum))
+}
+
+#[test]
+fn edids_are_refused_by_numbers(rt: HostRuntime) {
+    is_number(&rt, edid_code(EdidError::Length), 30, "length");
     is_number(&rt, edid_code(EdidError::Count), 31, "count");
-    let maker = EdidError::Base(BaseError::Maker);
-    is_number(&rt, edid_code(maker), 35, "maker");
-    is_number(&rt, Code::ScriptEnd, 87, "end");
-    is_number(&rt, Code::ExpectLabel, 92, "label");
-    is_number(&rt, Code::EdgesOrder, 101, "order");
+    is_number(&rt, base(BaseError::Header), 32, "header");
+    is_number(&rt, base(BaseError::Checksum), 33, "checksum");
+    is_number(&rt, base(BaseError::Revision), 34, "revision");
+    is_number(&rt, base(BaseError::Maker), 35, "maker");
+    is_number(&rt, extension(1), 36, "the first extension");
+    is_number(&rt, extension(2), 37, "the second extension");
+    is_number(&rt, extension(3), 38, "the third extension");
 }
