@@ -4,6 +4,8 @@
 #[cfg(test)]
 mod answers;
 #[cfg(test)]
+mod contents;
+#[cfg(test)]
 mod displays;
 #[cfg(test)]
 mod explains;

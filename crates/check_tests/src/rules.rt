@@ -84,24 +84,24 @@ tv 131=71 => warn overscan;
 tv base 35=20 cta => warn no-video-capability;
 tv base 35=20 cta 131=71 => warn overscan;warn no-video-capability;
 tv 131=b1 => fail no-basic-audio;
-tv 131=b1 137=03 => fail no-basic-audio;
-tv 131=b1 141=03 => fail no-basic-audio;
-tv 131=b1 137=03 141=03 => none
-tv 131=b1 137=03 141=e310 => none
-tv 131=b1 137=03 141=e311 => fail no-basic-audio;
-tv 131=b1 137=03 141=e312 => fail no-basic-audio;
-tv 131=b1 137=03 141=e313 => fail no-basic-audio;
-tv 131=b1 137=03 141=e314 => fail no-basic-audio;
-tv 131=b1 137=03 141=e315 => none
-tv 131=b1 137=03 141=c312 => none
+tv 131=b1 137=a3 => fail no-basic-audio;
+tv 131=b1 141=a3 => fail no-basic-audio;
+tv 131=b1 137=a3 141=a3 => none
+tv 131=b1 137=a3 141=e310 => none
+tv 131=b1 137=a3 141=e311 => fail no-basic-audio;
+tv 131=b1 137=a3 141=e312 => fail no-basic-audio;
+tv 131=b1 137=a3 141=e313 => fail no-basic-audio;
+tv 131=b1 137=a3 141=e314 => fail no-basic-audio;
+tv 131=b1 137=a3 141=e315 => none
+tv 131=b1 137=a3 141=c312 => none
 tv 138=0f => none
-tv 141=03 => none
-tv 138=0f 141=03 => fail speakers;
-tv 138=0a 141=03 => fail speakers;
-tv 138=09 141=03 => none
-tv 138=17 141=03 => none
-tv 141=82010000 => fail speakers;
-tv 137=22 140=00 => none
+tv 141=a3 => none
+tv 138=0f 141=a3 => fail speakers;
+tv 138=0a 141=a3 => fail speakers;
+tv 138=09 141=a3 => none
+tv 138=17 141=a3 => none
+tv 130=19 141=82010065030c000000e2004f00 => fail speakers;
+tv 137=22 140=a0 => fail block-length;
 tv 254=01 => fail padding;
 tv 156=01 => fail padding;
 tv 157=10 => none
@@ -136,7 +136,6 @@ tv 130=20 145=6b030c001000b82d20002001e2004f => fail hdmi-vic-without-vic;
 tv 130=20 145=6b030c001000b82d20002001e2004f 135=5f => none
 tv 130=20 145=6b030c001000b82d20000001e2004f => none
 tv 130=20 145=6b030c001000b82d00002001e2004f => none
-tv 130=20 145=6b030c001000b82d20002005e2004f => none
 tv 130=21 145=6c030c001000b82d2000400201e2004f 135=5e => fail hdmi-vic-without-vic;
 tv 130=21 145=6c030c001000b82d2000400201e2004f 135=5e 134=5f => none
 tv 130=22 145=6d030c001000b82da00000002004e2004f => fail hdmi-vic-without-vic;

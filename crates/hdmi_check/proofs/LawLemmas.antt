@@ -11,7 +11,7 @@ use Rattle.hdmi_check.specs.Findings.{rule_findings, timing_findings, edid_findi
 use Rattle.hdmi_check.specs.Laws.{IsAmong, NoneTwice, breaks_at, ListsTheBroken}
 use Rattle.hdmi_check.specs.declared.rule.Origin.{Origin}
 use Rattle.hdmi_check.specs.declared.rule.Rule.{Rule}
-use Rattle.hdmi_check.specs.declared.rule.Rule.TheVariants.{FirstTimingPreferred, PreferredTiming, ProductName, RangeLimits, LimitsAlone, LimitsOrder, Week, Srgb, NoEmptyDescriptor, UnusedStandard, BlockMap, HdmiRevision, OneSerial, Vga, VideoCodeOnce, NativeCount, NativeSize, Underscan, BasicAudio, Speakers, Padding, VideoCapability, RgbRange, TmdsClock, Address, OneHdmi, HdmiVideoCode, ForumAfterHdmi}
+use Rattle.hdmi_check.specs.declared.rule.Rule.TheVariants.{FirstTimingPreferred, PreferredTiming, ProductName, RangeLimits, LimitsAlone, LimitsOrder, Week, Srgb, NoEmptyDescriptor, UnusedStandard, BlockMap, HdmiRevision, OneSerial, Vga, VideoCodeOnce, NativeCount, NativeSize, Underscan, BasicAudio, Speakers, Padding, VideoCapability, RgbRange, TmdsClock, Address, OneHdmi, HdmiVideoCode, ForumAfterHdmi, CtaForm, CtaRevision, ExtensionTag, BlockLength, BlockOnce, OverrideFirst, OverrideCount, BlockTag, AudioFormat, HdrBits, VideoCode, HdmiCode, ForumClock, ForumScdc, ForumRates}
 use Rattle.hdmi_check.specs.declared.rule.TimingRule.{TimingRule}
 use Rattle.hdmi_check.specs.declared.rule.TimingRule.TheVariants.{Clock, Fields, HorizontalBackPorch, VerticalBackPorch, SizeThere, SizeFits, WithinLimits, NearLimits}
 use Rattle.hdmi_check.specs.declared.rule.Finding.{Finding}
@@ -49,6 +49,21 @@ place_of Address = 24
 place_of OneHdmi = 25
 place_of HdmiVideoCode = 26
 place_of ForumAfterHdmi = 27
+place_of CtaForm = 28
+place_of CtaRevision = 29
+place_of ExtensionTag = 30
+place_of BlockLength = 31
+place_of BlockOnce = 32
+place_of OverrideFirst = 33
+place_of OverrideCount = 34
+place_of BlockTag = 35
+place_of AudioFormat = 36
+place_of HdrBits = 37
+place_of VideoCode = 38
+place_of HdmiCode = 39
+place_of ForumClock = 40
+place_of ForumScdc = 41
+place_of ForumRates = 42
 
 placed : (rule : Rule) → slice_get rules (place_of rule) ≡ Some rule
 placed FirstTimingPreferred = refl
@@ -79,6 +94,21 @@ placed Address = refl
 placed OneHdmi = refl
 placed HdmiVideoCode = refl
 placed ForumAfterHdmi = refl
+placed CtaForm = refl
+placed CtaRevision = refl
+placed ExtensionTag = refl
+placed BlockLength = refl
+placed BlockOnce = refl
+placed OverrideFirst = refl
+placed OverrideCount = refl
+placed BlockTag = refl
+placed AudioFormat = refl
+placed HdrBits = refl
+placed VideoCode = refl
+placed HdmiCode = refl
+placed ForumClock = refl
+placed ForumScdc = refl
+placed ForumRates = refl
 
 every_rule : (rule : Rule) → IsAmong rule rules
 every_rule rule = among_at rule rules (place_of rule) (placed rule)

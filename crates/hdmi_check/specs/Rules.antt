@@ -10,17 +10,22 @@ use Rattle.hdmi_parts.specs.ExtParts.{is_cta, begins_with_map, overscans, has_il
 use Rattle.hdmi_parts.specs.Limits.{has_reversed_limits}
 use Rattle.hdmi_parts.specs.VideoCodes.{video_codes, repeats, has_lone_code}
 use Rattle.hdmi_native.specs.Natives.{has_mixed_natives}
+use Rattle.hdmi_contents.specs.Extensions.{overruns, has_other_revision, has_unknown_tag, repeats_block, has_misplaced_override, has_low_override}
+use Rattle.hdmi_contents.specs.Contents.{has_slip}
+use Rattle.hdmi_contents.specs.declared.contents.Slip.TheVariants as slip
 use Rattle.hdmi_check.specs.declared.rule.Origin.{Origin}
 use Rattle.hdmi_check.specs.declared.rule.Origin.TheVariants.{Display, Port}
 use Rattle.hdmi_check.specs.declared.rule.Rule.{Rule}
-use Rattle.hdmi_check.specs.declared.rule.Rule.TheVariants.{FirstTimingPreferred, PreferredTiming, ProductName, RangeLimits, LimitsAlone, LimitsOrder, Week, Srgb, NoEmptyDescriptor, UnusedStandard, BlockMap, HdmiRevision, OneSerial, Vga, VideoCodeOnce, NativeCount, NativeSize, Underscan, BasicAudio, Speakers, Padding, VideoCapability, RgbRange, TmdsClock, Address, OneHdmi, HdmiVideoCode, ForumAfterHdmi}
+use Rattle.hdmi_check.specs.declared.rule.Rule.TheVariants.{FirstTimingPreferred, PreferredTiming, ProductName, RangeLimits, LimitsAlone, LimitsOrder, Week, Srgb, NoEmptyDescriptor, UnusedStandard, BlockMap, HdmiRevision, OneSerial, Vga, VideoCodeOnce, NativeCount, NativeSize, Underscan, BasicAudio, Speakers, Padding, VideoCapability, RgbRange, TmdsClock, Address, OneHdmi, HdmiVideoCode, ForumAfterHdmi, CtaForm, CtaRevision, ExtensionTag, BlockLength, BlockOnce, OverrideFirst, OverrideCount, BlockTag, AudioFormat, HdrBits, VideoCode, HdmiCode, ForumClock, ForumScdc, ForumRates}
 
 -- all rules, in the order in which they are looked at
 abbrev pub rules : List Rule
 rules =
     FirstTimingPreferred ∷ PreferredTiming ∷ ProductName ∷ RangeLimits ∷ LimitsAlone ∷ LimitsOrder ∷ Week ∷ Srgb ∷ NoEmptyDescriptor ∷ UnusedStandard ∷
     BlockMap ∷ HdmiRevision ∷ OneSerial ∷ Vga ∷ VideoCodeOnce ∷ NativeCount ∷ NativeSize ∷ Underscan ∷ BasicAudio ∷ Speakers ∷ Padding ∷
-    VideoCapability ∷ RgbRange ∷ TmdsClock ∷ Address ∷ OneHdmi ∷ HdmiVideoCode ∷ ForumAfterHdmi ∷ []
+    VideoCapability ∷ RgbRange ∷ TmdsClock ∷ Address ∷ OneHdmi ∷ HdmiVideoCode ∷ ForumAfterHdmi ∷
+    CtaForm ∷ CtaRevision ∷ ExtensionTag ∷
+    BlockLength ∷ BlockOnce ∷ OverrideFirst ∷ OverrideCount ∷ BlockTag ∷ AudioFormat ∷ HdrBits ∷ VideoCode ∷ HdmiCode ∷ ForumClock ∷ ForumScdc ∷ ForumRates ∷ []
 
 -- an HDMI block has the address of no place in a tree, or in a port's EDID that of the root (HDMI 1.4, section 8.7.3)
 abbrev pub has_ill_address : Origin → List Ext → Bool
@@ -83,3 +88,33 @@ is_broken o OneHdmi b xs = nat_lt 1 (hdmi_count xs)
 is_broken o HdmiVideoCode b xs = list_any (λ x. list_any (has_lone_code (video_codes xs)) (blocks_of x)) xs
 -- an HDMI Forum block comes after an HDMI block (own)
 is_broken o ForumAfterHdmi b xs = list_any has_forum_first xs
+-- data blocks end where the third byte says, and timings within the block (CTA-861-D, section 7.5)
+is_broken o CtaForm b xs = list_any overruns xs
+-- data blocks came with revision 3 (CTA-861-D, section 7.5)
+is_broken o CtaRevision b xs = list_any has_other_revision xs
+-- extension tags (E-EDID Release A, section 2.2.1)
+is_broken o ExtensionTag b xs = list_any has_unknown_tag xs
+-- three bytes an audio format; the bytes of video capability, colorimetry and HDR (CTA-861-G, sections 7.5.2, 7.5.5, 7.5.6 and 7.5.13)
+is_broken o BlockLength b xs = some_block (has_slip slip.Length) xs
+-- one block of each sort in an extension (CTA-861-G, section 7.5)
+is_broken o BlockOnce b xs = list_any repeats_block xs
+-- it is the first data block of the first extension (HDMI 2.1, section 10.3.7)
+is_broken o OverrideFirst b xs = has_misplaced_override xs
+-- it counts the extensions of byte 126 and more (HDMI 2.1, section 10.3.7)
+is_broken o OverrideCount b xs = has_low_override b xs
+-- tag 0 is reserved (CTA-861-G, table 55)
+is_broken o BlockTag b xs = some_block (has_slip slip.Tag) xs
+-- format 0 is reserved (CTA-861-G, table 34)
+is_broken o AudioFormat b xs = some_block (has_slip slip.AudioFormat) xs
+-- bits of transfer functions and of types of metadata that are reserved (CTA-861-G, section 7.5.13)
+is_broken o HdrBits b xs = some_block (has_slip slip.HdrBits) xs
+-- codes above 219 stand for no format (CTA-861-G, table 3)
+is_broken o VideoCode b xs = some_block (has_slip slip.VideoCode) xs
+-- HDMI's own codes are 1 to 4 (HDMI 1.4, section 8.2.3)
+is_broken o HdmiCode b xs = some_block (has_slip slip.HdmiCode) xs
+-- above 340 MHz, and at most 600 MHz (HDMI 2.1, section 10.3.2)
+is_broken o ForumClock b xs = some_block (has_slip slip.ForumClock) xs
+-- a fixed rate link is set up by SCDC (HDMI 2.1, section 10.3.2)
+is_broken o ForumScdc b xs = some_block (has_slip slip.ForumScdc) xs
+-- at most 48 Hz, and none or at least 100 Hz (HDMI 2.1, section 10.3.2)
+is_broken o ForumRates b xs = some_block (has_slip slip.ForumRates) xs

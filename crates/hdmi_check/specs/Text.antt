@@ -3,7 +3,7 @@ use Rattle.std.specs.Prelude.{ℕ, Bool, true, false, List, ◌++◌, codes, fla
 use Rattle.std.specs.Fmt.{decimal}
 use Rattle.std.specs.List.{list_any}
 use Rattle.hdmi_check.specs.declared.rule.Rule.{Rule}
-use Rattle.hdmi_check.specs.declared.rule.Rule.TheVariants.{FirstTimingPreferred, PreferredTiming, ProductName, RangeLimits, LimitsAlone, LimitsOrder, Week, Srgb, NoEmptyDescriptor, UnusedStandard, BlockMap, HdmiRevision, OneSerial, Vga, VideoCodeOnce, NativeCount, NativeSize, Underscan, BasicAudio, Speakers, Padding, VideoCapability, RgbRange, TmdsClock, Address, OneHdmi, HdmiVideoCode, ForumAfterHdmi}
+use Rattle.hdmi_check.specs.declared.rule.Rule.TheVariants.{FirstTimingPreferred, PreferredTiming, ProductName, RangeLimits, LimitsAlone, LimitsOrder, Week, Srgb, NoEmptyDescriptor, UnusedStandard, BlockMap, HdmiRevision, OneSerial, Vga, VideoCodeOnce, NativeCount, NativeSize, Underscan, BasicAudio, Speakers, Padding, VideoCapability, RgbRange, TmdsClock, Address, OneHdmi, HdmiVideoCode, ForumAfterHdmi, CtaForm, CtaRevision, ExtensionTag, BlockLength, BlockOnce, OverrideFirst, OverrideCount, BlockTag, AudioFormat, HdrBits, VideoCode, HdmiCode, ForumClock, ForumScdc, ForumRates}
 use Rattle.hdmi_check.specs.declared.rule.Severity.{Severity}
 use Rattle.hdmi_check.specs.declared.rule.Severity.TheVariants.{Fail, Warn}
 use Rattle.hdmi_check.specs.declared.rule.TimingRule.{TimingRule}
@@ -21,6 +21,11 @@ rule_severity Underscan = Warn
 rule_severity VideoCapability = Warn
 rule_severity RgbRange = Warn
 rule_severity OneHdmi = Warn
+rule_severity CtaRevision = Warn
+rule_severity ExtensionTag = Warn
+rule_severity BlockTag = Warn
+rule_severity HdrBits = Warn
+rule_severity VideoCode = Warn
 rule_severity _ = Fail
 
 abbrev pub timing_severity : TimingRule → Severity
@@ -73,6 +78,21 @@ rule_name Address = codes "address"
 rule_name OneHdmi = codes "hdmi-twice"
 rule_name HdmiVideoCode = codes "hdmi-vic-without-vic"
 rule_name ForumAfterHdmi = codes "hdmi-forum-first"
+rule_name CtaForm = codes "cta-overrun"
+rule_name CtaRevision = codes "cta-revision"
+rule_name ExtensionTag = codes "unknown-extension"
+rule_name BlockLength = codes "block-length"
+rule_name BlockOnce = codes "block-twice"
+rule_name OverrideFirst = codes "eeodb-place"
+rule_name OverrideCount = codes "eeodb-count"
+rule_name BlockTag = codes "tag-reserved"
+rule_name AudioFormat = codes "audio-reserved"
+rule_name HdrBits = codes "hdr-reserved"
+rule_name VideoCode = codes "vic-reserved"
+rule_name HdmiCode = codes "hdmi-vic-reserved"
+rule_name ForumClock = codes "forum-clock"
+rule_name ForumScdc = codes "forum-scdc"
+rule_name ForumRates = codes "forum-vrr"
 
 abbrev pub timing_rule_name : TimingRule → List ℕ
 timing_rule_name Clock = codes " clock"

@@ -7,6 +7,10 @@ ghost use Rattle.hdmi_check.specs.Findings.{rule_findings, timing_findings, edid
 
 use crate::rule::{Finding, Origin, Rule, TimingRule};
 use arrayvec::ArrayVec;
+use hdmi_contents::{
+    Slip, has_low_override, has_misplaced_override, some_other_revision, some_overrun,
+    some_repeated, some_slip, some_unknown,
+};
 use hdmi_cta::Ext;
 use hdmi_edid::{Base, Timing};
 use hdmi_native::has_mixed_natives;
@@ -18,15 +22,15 @@ use hdmi_parts::{
     some_native, some_overscan, some_tagged, timings_of, video_codes,
 };
 
-/// The most findings of an EDID: 28 rules, and eight for each of 22 timings.
-pub const MAX_FINDINGS: usize = 204;
+/// The most findings of an EDID: 43 rules, and eight for each of 22 timings.
+pub const MAX_FINDINGS: usize = 219;
 /// The least pixel clock of a timing: 10 MHz, in units of 10 kHz.
 const MIN_CLOCK: u16 = 1000;
 /// How much larger or smaller than the display an image may be, in millimetres.
 const SIZE_TOLERANCE: u16 = 9;
 
 /// All rules, in the order in which they are looked at.
-const RULES: [Rule; 28] = [
+const RULES: [Rule; 43] = [
     Rule::FirstTimingPreferred,
     Rule::PreferredTiming,
     Rule::ProductName,
@@ -55,6 +59,21 @@ const RULES: [Rule; 28] = [
     Rule::OneHdmi,
     Rule::HdmiVideoCode,
     Rule::ForumAfterHdmi,
+    Rule::CtaForm,
+    Rule::CtaRevision,
+    Rule::ExtensionTag,
+    Rule::BlockLength,
+    Rule::BlockOnce,
+    Rule::OverrideFirst,
+    Rule::OverrideCount,
+    Rule::BlockTag,
+    Rule::AudioFormat,
+    Rule::HdrBits,
+    Rule::VideoCode,
+    Rule::HdmiCode,
+    Rule::ForumClock,
+    Rule::ForumScdc,
+    Rule::ForumRates,
 ];
 
 const TIMING_RULES: [TimingRule; 8] = [
@@ -135,6 +154,21 @@ fn is_broken(origin: Origin, rule: Rule, base: &Base, extensions: &[Ext]) -> boo
         Rule::OneHdmi => 1 < hdmi_count(extensions),
         Rule::HdmiVideoCode => some_lone_code(video_codes(extensions).as_slice(), extensions),
         Rule::ForumAfterHdmi => some_forum_first(extensions),
+        Rule::CtaForm => some_overrun(extensions),
+        Rule::CtaRevision => some_other_revision(extensions),
+        Rule::ExtensionTag => some_unknown(extensions),
+        Rule::BlockLength => some_slip(Slip::Length, extensions),
+        Rule::BlockOnce => some_repeated(extensions),
+        Rule::OverrideFirst => has_misplaced_override(extensions),
+        Rule::OverrideCount => has_low_override(base, extensions),
+        Rule::BlockTag => some_slip(Slip::Tag, extensions),
+        Rule::AudioFormat => some_slip(Slip::AudioFormat, extensions),
+        Rule::HdrBits => some_slip(Slip::HdrBits, extensions),
+        Rule::VideoCode => some_slip(Slip::VideoCode, extensions),
+        Rule::HdmiCode => some_slip(Slip::HdmiCode, extensions),
+        Rule::ForumClock => some_slip(Slip::ForumClock, extensions),
+        Rule::ForumScdc => some_slip(Slip::ForumScdc, extensions),
+        Rule::ForumRates => some_slip(Slip::ForumRates, extensions),
     }
 }
 
@@ -244,9 +278,9 @@ fn add_edid(
     extensions: &[Ext],
 )
     requires few { length extensions.now ≤ 3 }
-    requires room { array_vec_len found.old + 28 ≤ MAX_FINDINGS }
+    requires room { array_vec_len found.old + 43 ≤ MAX_FINDINGS }
     ensures items { found.new.items ≡ found.old.items ++ edid_findings origin base.now extensions.now }
-    ensures len { array_vec_len found.new ≤ array_vec_len found.old + 28 }
+    ensures len { array_vec_len found.new ≤ array_vec_len found.old + 43 }
 {
     add_rules(found, &RULES, origin, base, extensions);
 }

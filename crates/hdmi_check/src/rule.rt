@@ -59,6 +59,36 @@ pub enum Rule {
     HdmiVideoCode,
     /// An HDMI Forum block comes after an HDMI block.
     ForumAfterHdmi,
+    /// A CTA block of revision 3 has the form of one.
+    CtaForm,
+    /// A CTA block is of revision 3.
+    CtaRevision,
+    /// The tag of an extension is a known one.
+    ExtensionTag,
+    /// A data block has a length of its kind.
+    BlockLength,
+    /// A data block of a sort that stands once stands once.
+    BlockOnce,
+    /// The HDMI Forum's count of extensions stands first.
+    OverrideFirst,
+    /// The HDMI Forum's count of extensions is not below that of the base block.
+    OverrideCount,
+    /// No data block has the reserved tag 0.
+    BlockTag,
+    /// No audio format is the reserved 0.
+    AudioFormat,
+    /// No reserved bit of an HDR block is set.
+    HdrBits,
+    /// Each video code is one of a format.
+    VideoCode,
+    /// Each of HDMI's own codes is one of a format.
+    HdmiCode,
+    /// The HDMI Forum's clock is one that it reports.
+    ForumClock,
+    /// A fixed rate link has SCDC.
+    ForumScdc,
+    /// The rates of variable refresh go together.
+    ForumRates,
 }
 
 /// A rule for a detailed timing.

@@ -13,7 +13,7 @@ use hdmi_edid::append;
 /// The bytes that the longest line has room in.
 const LINE: usize = 40;
 /// The bytes that the lines of all findings have room in: a `LINE` for each.
-const TEXT: usize = 8160;
+const TEXT: usize = 8760;
 
 fn rule_severity(rule: Rule) -> Severity
     ensures { result ≡ rule_severity rule }
@@ -24,7 +24,12 @@ fn rule_severity(rule: Rule) -> Severity
         | Rule::Underscan
         | Rule::VideoCapability
         | Rule::RgbRange
-        | Rule::OneHdmi => Severity::Warn,
+        | Rule::OneHdmi
+        | Rule::CtaRevision
+        | Rule::ExtensionTag
+        | Rule::BlockTag
+        | Rule::HdrBits
+        | Rule::VideoCode => Severity::Warn,
         _ => Severity::Fail,
     }
 }
@@ -93,6 +98,21 @@ fn rule_name(rule: Rule) -> &'static str
         Rule::OneHdmi => "hdmi-twice",
         Rule::HdmiVideoCode => "hdmi-vic-without-vic",
         Rule::ForumAfterHdmi => "hdmi-forum-first",
+        Rule::CtaForm => "cta-overrun",
+        Rule::CtaRevision => "cta-revision",
+        Rule::ExtensionTag => "unknown-extension",
+        Rule::BlockLength => "block-length",
+        Rule::BlockOnce => "block-twice",
+        Rule::OverrideFirst => "eeodb-place",
+        Rule::OverrideCount => "eeodb-count",
+        Rule::BlockTag => "tag-reserved",
+        Rule::AudioFormat => "audio-reserved",
+        Rule::HdrBits => "hdr-reserved",
+        Rule::VideoCode => "vic-reserved",
+        Rule::HdmiCode => "hdmi-vic-reserved",
+        Rule::ForumClock => "forum-clock",
+        Rule::ForumScdc => "forum-scdc",
+        Rule::ForumRates => "forum-vrr",
     }
 }
 

@@ -1,16 +1,11 @@
 -- What is odd about an EDID without an HDMI block, and about the text of one (own).
-use Rattle.std.specs.Prelude.{ℕ, ◌+◌, ◌-◌, ◌==◌, Bool, false, ◌&&◌, not, nat_lt, if◌then◌else◌, List, [], ◌∷◌, length, slice_index, Option, Some, None}
+use Rattle.std.specs.Prelude.{ℕ, ◌+◌, ◌-◌, ◌==◌, Bool, ◌&&◌, not, nat_lt, if◌then◌else◌, List, [], ◌∷◌, length, slice_index, Option, Some, None}
 use Rattle.hdmi_cta.specs.declared.raw.Ext.{Ext}
-use Rattle.hdmi_cta.specs.declared.raw.Ext.TheVariants.{Raw}
+use Rattle.hdmi_contents.specs.Extensions.{overruns}
 
 -- each line of a text ends with a line feed, the last one too
 abbrev pub lacks_line_feed : List ℕ → Bool
 lacks_line_feed text = nat_lt 0 (length text) && not (slice_index text (length text - 1) == 10)
-
--- a CTA block of revision 3 that is kept as it is, since it has not the form of one (CTA-861-D, section 7.5)
-abbrev pub overruns : Ext → Bool
-overruns (Raw r) = (slice_index r.bytes 0 == 2) && (slice_index r.bytes 1 == 3)
-overruns _ = false
 
 -- the first of some extensions, numbered from a number on, that overruns
 abbrev pub overrun_from : ℕ → List Ext → Option ℕ

@@ -85,6 +85,47 @@ fn asked_of_extensions(rule: Rule) -> &'static str {
             "a format that an HDMI block lists is listed by its video code too: 1 to 4 are 95, 94, 93 and 98 (HDMI 1.4, 8.2.3)"
         }
         Rule::ForumAfterHdmi => "an HDMI Forum block comes after the HDMI block",
+        Rule::CtaForm => {
+            "the data blocks of a CTA block end where its third byte says, and its timings within it (CTA-861-D, 7.5)"
+        }
+        Rule::CtaRevision => {
+            "a CTA block is of revision 3, the only one with data blocks (CTA-861-D, 7.5)"
+        }
+        Rule::ExtensionTag => {
+            "the first byte of an extension is 02, 10, 40, 50, 60, 70, f0 or ff (E-EDID A, 2.2.1)"
+        }
+        Rule::BlockLength => {
+            "an audio block has three bytes a format; after its tag a video capability block has one at least, a colorimetry and an HDR block two (CTA-861-G, 7.5.2, 7.5.5, 7.5.6, 7.5.13)"
+        }
+        Rule::BlockOnce => {
+            "a CTA block has one block at most of video capability, colorimetry, static HDR, 4:2:0 map, speakers and HDMI Forum each (CTA-861-G, 7.5)"
+        }
+        Rule::OverrideFirst => {
+            "the HDMI Forum's override of the count of extensions is the first data block of the first extension (HDMI 2.1, 10.3.7)"
+        }
+        Rule::OverrideCount => {
+            "the HDMI Forum's override of the count of extensions is not below byte 126, and not 0 (HDMI 2.1, 10.3.7)"
+        }
+        Rule::BlockTag => { "no data block has tag 0, which is reserved (CTA-861-G, table 55)" }
+        Rule::AudioFormat => {
+            "bits 6 to 3 of the first byte of an audio format are above 0 (CTA-861-G, table 34)"
+        }
+        Rule::HdrBits => {
+            "bits 7 to 4 of the first byte of an HDR block are clear, and bits 7 to 1 of the second (CTA-861-G, 7.5.13)"
+        }
+        Rule::VideoCode => {
+            "a video code is at most 219, the last one of a format (CTA-861-G, table 3)"
+        }
+        Rule::HdmiCode => { "a code of HDMI's own is 1, 2, 3 or 4 (HDMI 1.4, 8.2.3)" }
+        Rule::ForumClock => {
+            "the clock in an HDMI Forum block is 0, or above 340 MHz and at most 600 MHz: a byte of 69 to 120 (HDMI 2.1, 10.3.2)"
+        }
+        Rule::ForumScdc => {
+            "a fixed rate link comes with SCDC, bit 7 of byte 2 of an HDMI Forum block (HDMI 2.1, 10.3.2)"
+        }
+        Rule::ForumRates => {
+            "the least rate of variable refresh is at most 48 Hz; the greatest is 0, or 100 Hz and more with a least one (HDMI 2.1, 10.3.2)"
+        }
         _ => "",
     }
 }

@@ -1,9 +1,10 @@
 //! What is odd about an EDID without an HDMI block, and about the text of one.
 ghost use Rattle.std.specs.Prelude.{◌≡◌, ◌≤◌, ◌+◌, ◌<◌, length};
-ghost use Rattle.hdmi_explain.specs.Hints.{lacks_line_feed, overruns, overrun_from};
+ghost use Rattle.hdmi_explain.specs.Hints.{lacks_line_feed, overrun_from};
 
 use arrayvec::ArrayVec;
 use hdmi_blocks::read_parts;
+use hdmi_contents::overruns;
 use hdmi_cta::{Ext, hdmi_address};
 use std::alloc::{AllocError, Global};
 
@@ -17,15 +18,6 @@ pub fn lacks_line_feed(text: &[u8]) -> bool
     ensures { result ≡ lacks_line_feed text.now }
 {
     0 < text.len() && text[text.len() - 1] != b'\n'
-}
-
-fn overruns(ext: &Ext) -> bool
-    ensures { result ≡ overruns ext.now }
-{
-    match ext {
-        Ext::Raw(raw) => raw.bytes[0] == CTA_TAG && raw.bytes[1] == CTA_REVISION,
-        Ext::Cta(_) | Ext::Bare(_) => false,
-    }
 }
 
 /// The first extension that overruns, where they are numbered from a number on.

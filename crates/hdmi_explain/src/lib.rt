@@ -4,6 +4,7 @@
 #![tactic(auto)]
 
 mod asked;
+mod blocks;
 mod explanation;
 mod hints;
 mod places;

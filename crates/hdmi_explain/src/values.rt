@@ -1,11 +1,16 @@
 //! The values at fault.
 ghost use Rattle.std.specs.Prelude.{◌≤◌, length};
 
+use crate::blocks::{
+    extension_reported, override_count_reported, override_reported, repeated_block_reported,
+    slip_reported,
+};
 use crate::places::{
     capability_reported, empty_reported, padding_reported, speakers_reported, tmds_reported,
     unused_reported,
 };
 use hdmi_check::{Finding, Rule, TimingRule};
+use hdmi_contents::Slip;
 use hdmi_core::Phys;
 use hdmi_cta::{Ext, hdmi_address};
 use hdmi_edid::{Base, Descriptor, Timing};
@@ -133,6 +138,22 @@ fn limits_reported(alloc: Global, base: &Base) -> Result<Option<String>, AllocEr
     Ok(None)
 }
 
+/// What is wrong in a data block where a rule is broken.
+fn slip_of(rule: Rule) -> Option<Slip> {
+    match rule {
+        Rule::BlockLength => Some(Slip::Length),
+        Rule::BlockTag => Some(Slip::Tag),
+        Rule::AudioFormat => Some(Slip::AudioFormat),
+        Rule::HdrBits => Some(Slip::HdrBits),
+        Rule::VideoCode => Some(Slip::VideoCode),
+        Rule::HdmiCode => Some(Slip::HdmiCode),
+        Rule::ForumClock => Some(Slip::ForumClock),
+        Rule::ForumScdc => Some(Slip::ForumScdc),
+        Rule::ForumRates => Some(Slip::ForumRates),
+        _ => None,
+    }
+}
+
 /// The values that break a rule for an EDID, where they are few.
 fn reported_of_edid(
     alloc: Global,
@@ -170,12 +191,21 @@ fn reported_of_edid(
         Rule::Padding => padding_reported(alloc, extensions),
         Rule::RgbRange => capability_reported(alloc, extensions),
         Rule::TmdsClock => tmds_reported(alloc, extensions),
+        Rule::BlockOnce => repeated_block_reported(alloc, extensions),
+        Rule::OverrideFirst => override_reported(alloc, extensions),
+        Rule::OverrideCount => override_count_reported(alloc, base.extensions, extensions),
+        Rule::CtaForm | Rule::CtaRevision | Rule::ExtensionTag => {
+            extension_reported(alloc, rule, extensions)
+        }
         Rule::Address => address_reported(alloc, extensions),
         Rule::OneHdmi => {
             let count = hdmi_count(extensions);
             Ok(Some(format!(in alloc; "{count} HDMI blocks")?))
         }
-        _ => Ok(None),
+        _ => match slip_of(rule) {
+            None => Ok(None),
+            Some(slip) => slip_reported(alloc, slip, extensions),
+        },
     }
 }
 

@@ -63,7 +63,7 @@ fn fixes_rgb_range(block: &DataBlock) -> bool
     is_video_capability(block) && 1 < payload.len() && payload[1] / 64 % 2 == 0
 }
 
-fn is_speakers(block: &DataBlock) -> bool
+pub fn is_speakers(block: &DataBlock) -> bool
     ensures { result ≡ is_speakers block.now }
 {
     matches!(block.kind, BlockKind::Speakers)
@@ -151,7 +151,7 @@ fn has_root_address(block: &DataBlock) -> bool
 }
 
 /// Whether it is a vendor block of the HDMI Forum.
-fn is_forum(block: &DataBlock) -> bool
+pub fn is_forum(block: &DataBlock) -> bool
     ensures { result ≡ is_forum block.now }
 {
     let payload = block.payload.as_slice();

@@ -14,10 +14,10 @@ pub use base_parts::{
     is_continuous, is_srgb, is_three, prefers_first, some_empty, some_formula, some_ill_unused,
     some_tagged,
 };
-pub use block_parts::Sought;
+pub use block_parts::{Sought, hdmi_codes, is_forum, is_speakers};
 pub use codes::{MAX_CODES, repeats, some_lone_code, video_codes};
 pub use ext_parts::{
-    begins_with_map, hdmi_count, native_count, some_block, some_cta, some_forum_first,
+    begins_with_map, blocks_of, hdmi_count, native_count, some_block, some_cta, some_forum_first,
     some_hidden_sound, some_ill_padding, some_native, some_overscan,
 };
 pub use limits::{field_span, has_reversed_limits, is_out_of_range, line_span};
