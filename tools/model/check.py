@@ -1,9 +1,13 @@
 """The rules that an EDID is to keep, and the other ways in which `edid` writes one: a plain model."""
+import collections
+
 from edid import check_edid, edid_text, first_hdmi, hdmi_place, is_hdmi, port_edid, read_ext
 from wire import pa_text, parse_pa
 
 SRGB = (655, 338, 307, 614, 154, 61, 320, 337)
 HDMI_CODES = {1: 95, 2: 94, 3: 93, 4: 98}
+# the tags of extensions (E-EDID Release A, section 2.2.1)
+EXTENSIONS = (0x02, 0x10, 0x40, 0x50, 0x60, 0x70, 0xF0, 0xFF)
 DUMMY = b'\0\0\0\x10' + bytes(14)
 # the video codes of 1 to 64, by width, lines and whether there are two fields (CTA-861, table 3)
 SIZES = {
@@ -132,6 +136,13 @@ def is_padding(tail):
     return not any(tail)
 
 
+def sort_of(tag, data):
+    """the sort of block of which a CTA block has one at most, or None"""
+    if tag == 7 and len(data):
+        return {0: 'capability', 5: 'colorimetry', 6: 'hdr', 15: 'map', 0x79: 'forum'}.get(data[0])
+    return 'speakers' if tag == 4 else 'forum' if tag == 3 and bytes(data[:3]) == b'\xd8\x5d\xc4' else None
+
+
 def edid_findings(e, is_port):
     b = e[:128]
     four = b[19] == 4
@@ -214,6 +225,46 @@ def edid_findings(e, is_port):
         if kinds[:1] == ['forum']:
             yield 'fail', 'hdmi-forum-first'
             break
+    kept = [raw for raw, x in zip(raws, exts) if x is None]
+    if any(raw[0] == 2 and raw[1] == 3 for raw in kept):
+        yield 'fail', 'cta-overrun'
+    if any(raw[0] == 2 and raw[1] != 3 for raw in kept):
+        yield 'warn', 'cta-revision'
+    if any(raw[0] not in EXTENSIONS for raw in kept):
+        yield 'warn', 'unknown-extension'
+    tagged = [(data[0], data[1:]) for tag, data in blocks if tag == 7 and data]
+    least = {0: 1, 5: 2, 6: 2}
+    if any(tag == 1 and len(data) % 3 or tag == 7 and not data for tag, data in blocks) or any(len(data) < least.get(tag, 0) for tag, data in tagged):
+        yield 'fail', 'block-length'
+    if any(max(collections.Counter(sort_of(tag, data) for _, tag, data in x['blocks'] if sort_of(tag, data)).values(), default=0) > 1 for x in full):
+        yield 'fail', 'block-twice'
+    places = [(i, n) for i, x in enumerate(exts) if x is not None and x['d'] for n, (_, tag, data) in enumerate(x['blocks'])
+              if tag == 7 and bytes(data[:1]) == b'\x78']
+    if [p for p in places if p != (0, 0)]:
+        yield 'fail', 'eeodb-place'
+    if (0, 0) in places:
+        data = exts[0]['blocks'][0][2]
+        count = data[1] if len(data) > 1 else 0
+        if count == 0 or count < b[126]:
+            yield 'fail', 'eeodb-count'
+    if any(tag == 0 for tag, _ in blocks):
+        yield 'warn', 'tag-reserved'
+    if any(data[i] >> 3 & 15 == 0 for tag, data in blocks if tag == 1 for i in range(0, len(data) - 2, 3)):
+        yield 'fail', 'audio-reserved'
+    if any(tag == 6 and ((data + b'\0')[0] > 15 or (data + b'\0\0')[1] > 1) for tag, data in tagged):
+        yield 'warn', 'hdr-reserved'
+    if any(c > 219 for c in codes + [c for tag, data in tagged if tag == 14 for c in data]):
+        yield 'warn', 'vic-reserved'
+    if any(c not in HDMI_CODES for data in hdmi for c in hdmi_video_codes(data)):
+        yield 'fail', 'hdmi-vic-reserved'
+    forums = [(bytes(data[3:]) + bytes(7)) for tag, data in blocks if sort_of(tag, data) == 'forum']
+    if any(0 < q[1] <= 68 or q[1] > 120 for q in forums):
+        yield 'fail', 'forum-clock'
+    if any(q[3] >> 4 and not q[2] & 128 for q in forums):
+        yield 'fail', 'forum-scdc'
+    rates = [(q[5] & 63, (q[5] >> 6) << 8 | q[6]) for q in forums]
+    if any(low > 48 or high and (high < 100 or not low) for low, high in rates):
+        yield 'fail', 'forum-vrr'
 
 
 def timings_of(e):

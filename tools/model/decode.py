@@ -42,6 +42,15 @@ RULES = {
     'tmds-clock': 'HDMI VSDB Max TMDS rate is > 340',
     'hdmi-vic-without-vic': 'HDMI VIC Codes must have',
     'hdmi-forum-first': 'HDMI Forum VSDB did not immediately follow',
+    'block-length': '(?:Video Capability|Colorimetry|HDR Static Metadata) Data Block: Empty Data Block|'
+                    'Broken CTA-861 audio block|Extended tag cannot have zero',
+    'eeodb-place': 'Block starts at a wrong offset',
+    'tag-reserved': r'Unknown CTA-861 Data Block \(tag 0x00',
+    'audio-reserved': 'Audio Format Code 0x00 is reserved',
+    'vic-reserved': 'Video Data Block: Unknown VIC',
+    'hdmi-vic-reserved': 'Unknown HDMI VIC',
+    'forum-clock': 'Max TMDS rate is > 0 and <= 340 or > 600',
+    'forum-vrr': "VRRmin > 48|VRRmin == 0, but VRRmax|VRRmax < 100",
 }
 TIMING_RULES = {
     'timing-zero': 'Detailed Timing Descriptor #\\d+: 0 values in the video timing',
