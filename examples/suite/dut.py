@@ -1,0 +1,80 @@
+"""A device under test in Python: the lines that pass between it and tools/suite (docs/suite.md).
+
+A device is a class below `Dut`, which overrides what it acts on, and ends its program with `Device().serve()`:
+
+    class Deaf(Dut):
+        def address(self, physical):
+            self.send([0x44])
+"""
+
+import sys
+
+
+class Dut:
+    """A device under test. Times are microseconds of emulated time; `now` is the instant of the line that is answered."""
+
+    def __init__(self):
+        self.now, self.kind, self.actions = 0, "", []
+
+    # What a device does. Each may come later, by `after`, and all happen in the order of their times.
+
+    def send(self, data, after=0):
+        """Sends a frame of these bytes, the header first."""
+        self.actions.append("after %d send %s" % (after, bytes(data).hex()))
+
+    def hold(self, addresses, after=0):
+        """Acknowledges these logical addresses from then on, two at most."""
+        self.actions.append("after %d hold %s" % (after, "+".join("%x" % address for address in addresses) or "-"))
+
+    def drop(self, after=0):
+        """Gives up all frames that wait to be sent."""
+        self.actions.append("after %d drop" % after)
+
+    def wake_up(self, after):
+        """Asks for a call of `wake`, a millisecond from now or later."""
+        self.actions.append("after %d wake" % after)
+
+    # What comes. Each does nothing here.
+
+    def start(self, kind):
+        """The device has its power: it is new, and forgets all."""
+
+    def address(self, physical):
+        """It is plugged in, at a physical address such as 0x2000; or unplugged, None."""
+
+    def frame(self, data, acknowledged):
+        """A frame of another device was on the wire, for this one or not. Of a broadcast: nobody refused it."""
+
+    def sent(self, data, acknowledged):
+        """An attempt of a frame of its own is over. One that failed is made again, six in all; a poll is made once."""
+
+    def press(self, key):
+        """Somebody presses a key of the device."""
+
+    def release(self, key):
+        """Somebody releases it."""
+
+    def wake(self):
+        """The time of `wake_up` has come."""
+
+    def answer(self, line):
+        """The lines with which it answers a line of tools/suite."""
+        verb, time, *rest = line.split(" ")
+        self.now, self.actions = int(time), []
+        if verb == "start":
+            self.kind = rest[0]
+            self.start(self.kind)
+        elif verb == "address":
+            self.address(None if rest[0] == "-" else int(rest[0].replace(".", ""), 16))
+        elif verb in ("frame", "sent"):
+            (self.frame if verb == "frame" else self.sent)(bytes.fromhex(rest[1]), rest[2] in ("ack", "ok"))
+        elif verb in ("press", "release"):
+            (self.press if verb == "press" else self.release)(" ".join(rest))
+        elif verb == "wake":
+            self.wake()
+        return self.actions + ["idle"]
+
+    def serve(self):
+        """Answers each line of the input until it ends."""
+        for line in sys.stdin:
+            print("\n".join(self.answer(line.rstrip("\n"))), flush=True)

@@ -1,0 +1,316 @@
+#!/usr/bin/env python3
+"""A player, a recorder, a tuner, an amplifier or a switch that keeps HDMI 1.4, CEC, as a device under test:
+
+    tools/suite --dut examples/suite/reference.py --kind player
+
+It takes 20 ms to answer. What it does on a frame are its methods `on_XX`, by the opcode in hex."""
+
+from dut import Dut
+
+# The logical addresses of each kind in the order in which it polls them (CEC 10.2), and its device type (CEC 17).
+ADDRESSES = {"player": (4, 8, 11), "recorder": (1, 2, 9), "tuner": (3, 6, 7, 10), "amp": (5,), "switch": ()}
+TYPES = {"player": 4, "recorder": 1, "tuner": 3, "amp": 5, "switch": 6}
+UNREGISTERED = BROADCAST = 15
+TELEVISION = 0
+
+# Times in microseconds: how long it thinks, how often a held key acts, and when a press that is not repeated counts as released (CEC 13.13).
+THINKS, REPEATS, RELEASES = 20_000, 300_000, 550_000
+
+UNRECOGNIZED, WRONG_MODE, INVALID_OPERAND, REFUSED = 0, 1, 3, 4
+DECK_PLAY, DECK_STILL, DECK_FAST, DECK_NO_MEDIUM, DECK_STOP = 0x11, 0x14, 0x17, 0x19, 0x1A
+MODES = {0x24: DECK_PLAY, 0x25: DECK_STILL, 5: DECK_FAST, 6: DECK_FAST, 7: DECK_FAST, 9: 0x18, 10: 0x18, 11: 0x18}
+CONTROLS = {1: 0x1B, 2: 0x1C, 3: DECK_STOP, 4: DECK_NO_MEDIUM}
+
+# How many operands a message has at least, and whether it comes to one device, to all, or either way (CEC 15).
+DIRECT, TO_ALL, BOTH = "direct", "to all", "both"
+MESSAGES = {
+    0x00: (2, DIRECT), 0x1A: (1, DIRECT), 0x32: (3, TO_ALL), 0x36: (0, BOTH), 0x41: (1, DIRECT), 0x42: (1, DIRECT), 0x44: (1, DIRECT),
+    0x45: (0, DIRECT), 0x46: (0, DIRECT), 0x47: (1, DIRECT), 0x70: (0, DIRECT), 0x71: (0, DIRECT), 0x72: (1, BOTH), 0x7D: (0, DIRECT), 0x80: (4, TO_ALL),
+    0x81: (2, TO_ALL), 0x82: (2, TO_ALL), 0x83: (0, DIRECT), 0x84: (3, TO_ALL), 0x85: (0, TO_ALL), 0x86: (2, TO_ALL), 0x87: (3, TO_ALL),
+    0x8C: (0, DIRECT), 0x8D: (1, DIRECT), 0x8F: (0, DIRECT), 0x90: (1, DIRECT), 0x9E: (1, DIRECT), 0x9F: (0, DIRECT), 0xC1: (0, DIRECT),
+    0xC2: (0, DIRECT), 0xC3: (0, DIRECT), 0xC4: (0, DIRECT), 0xFF: (0, DIRECT),
+}
+# What a kind obeys beside what all do; it refuses the rest as unrecognized.
+FOR_KINDS = {0x1A: "deck", 0x41: "deck", 0x42: "deck", 0x44: "deck amp", 0x45: "deck amp", 0x70: "amp", 0x71: "amp", 0x7D: "amp", 0x8D: "deck", 0xC1: "amp", 0xC2: "amp", 0xC3: "amp", 0xC4: "amp"}
+
+
+class Reference(Dut):
+    def start(self, kind):
+        self.candidates, self.la, self.physical = [], None, None
+        self.renew()
+
+    def renew(self):
+        self.on, self.active, self.deck, self.menu, self.notified = True, False, DECK_STOP, False, None
+        self.audio, self.volume, self.mute = False, 20, False
+        self.held, self.by, self.pressed_at, self.acts_at = None, None, 0, 0
+        self.port = 1
+
+    def is_deck(self):
+        return self.kind in ("player", "recorder")
+
+    # What it says.
+
+    def say(self, to, opcode, *operands):
+        """To one device, or to all; nothing to the unregistered one."""
+        if to != UNREGISTERED:
+            self.send([self.la << 4 | to, opcode, *operands], after=THINKS)
+
+    def say_all(self, opcode, *operands):
+        self.send([self.la << 4 | BROADCAST, opcode, *operands], after=THINKS)
+
+    def refuse(self, to, opcode, reason):
+        self.say(to, 0x00, opcode, reason)
+
+    def bytes_of(self, physical):
+        return physical >> 8, physical & 0xFF
+
+    def report_physical(self):
+        self.say_all(0x84, *self.bytes_of(self.physical), TYPES[self.kind])
+
+    def report_audio(self, to):
+        self.say(to, 0x7A, self.mute << 7 | self.volume)
+
+    def set_deck(self, deck):
+        changed, self.deck = self.deck != deck, deck
+        if changed and self.notified is not None:
+            self.say(self.notified, 0x1B, deck)
+
+    # Its address (CEC 10.2.1).
+
+    def address(self, physical):
+        self.hold([])
+        self.la, self.physical = None, physical
+        self.renew()
+        if physical is not None:
+            self.candidates = list(ADDRESSES[self.kind])
+            self.poll()
+
+    def poll(self):
+        if self.candidates:
+            self.send([self.candidates[0] * 0x11])
+        else:
+            self.la = UNREGISTERED
+            if self.kind == "switch":
+                self.report_physical()
+
+    def sent(self, data, acknowledged):
+        if self.la is None and len(data) == 1:
+            address = self.candidates.pop(0)
+            if acknowledged:
+                self.poll()
+            else:
+                self.drop()
+                self.la = address
+                self.hold([address])
+                self.report_physical()
+
+    # What it obeys.
+
+    def frame(self, data, acknowledged):
+        initiator, to = data[0] >> 4, data[0] & 15
+        if self.la is None or len(data) == 1 or to not in (self.la, BROADCAST) or not acknowledged:
+            return
+        if self.la == UNREGISTERED and self.kind != "switch":
+            return
+        self.obey(initiator, to != BROADCAST, data[1], data[2:])
+
+    def obey(self, initiator, is_direct, opcode, operands):
+        is_known = opcode in MESSAGES and any(word in FOR_KINDS.get(opcode, self.kind).split() for word in (self.kind, "deck" if self.is_deck() else ""))
+        if not is_known:
+            if is_direct:
+                self.refuse(initiator, opcode, UNRECOGNIZED)
+            return
+        count, way = MESSAGES[opcode]
+        if len(operands) < count or way not in (BOTH, DIRECT if is_direct else TO_ALL):
+            return
+        reason = getattr(self, "on_%02x" % opcode, lambda *_: None)(initiator, operands)
+        if reason is not None and is_direct:
+            self.refuse(initiator, opcode, reason)
+
+    def on_ff(self, initiator, operands):
+        return UNRECOGNIZED
+
+    def on_1a(self, initiator, operands):
+        if operands[0] not in (1, 2, 3):
+            return INVALID_OPERAND
+        self.notified = {1: initiator, 2: None, 3: self.notified}[operands[0]]
+        if operands[0] != 2:
+            self.say(initiator, 0x1B, self.deck)
+
+    def on_41(self, initiator, operands):
+        if operands[0] not in MODES:
+            return INVALID_OPERAND
+        if self.deck == DECK_NO_MEDIUM:
+            return WRONG_MODE
+        self.on = True
+        self.set_deck(MODES[operands[0]])
+
+    def on_42(self, initiator, operands):
+        if operands[0] not in CONTROLS:
+            return INVALID_OPERAND
+        if not self.on or (self.deck == DECK_NO_MEDIUM and operands[0] != 4):
+            return WRONG_MODE
+        self.set_deck(CONTROLS[operands[0]])
+
+    def on_46(self, initiator, operands):
+        self.say(initiator, 0x47, *b"DUT")
+
+    def on_83(self, initiator, operands):
+        self.report_physical()
+
+    def on_8c(self, initiator, operands):
+        self.say_all(0x87, 2, 0, 0)
+
+    def on_8d(self, initiator, operands):
+        if operands[0] > 2:
+            return INVALID_OPERAND
+        if not self.on:
+            return WRONG_MODE
+        self.menu = {0: True, 1: False, 2: self.menu}[operands[0]]
+        self.say(initiator, 0x8E, 0 if self.menu else 1)
+
+    def on_8f(self, initiator, operands):
+        self.say(initiator, 0x90, 0 if self.on else 1)
+
+    def on_9f(self, initiator, operands):
+        self.say(initiator, 0x9E, 5)
+
+    # Standby, and who is shown.
+
+    def on_36(self, initiator, operands):
+        self.on, self.menu, self.held, self.notified = False, False, None, None
+        if self.deck != DECK_NO_MEDIUM:
+            self.deck = DECK_STOP
+
+    def on_80(self, initiator, operands):
+        self.active = False
+        self.routed(operands[2] << 8 | operands[3])
+
+    def on_81(self, initiator, operands):
+        self.active = False
+        self.routed(operands[0] << 8 | operands[1])
+
+    def routed(self, physical):
+        if self.kind == "switch" and physical == self.physical:
+            self.say_all(0x81, *self.bytes_of(self.below(self.port)))
+
+    def below(self, port):
+        """The physical address of a port."""
+        shift = next(shift for shift in (12, 8, 4, 0) if self.physical >> shift & 15 == 0)
+        return self.physical | port << shift
+
+    def leads(self, physical):
+        """A switch selects the port that leads to an address (CEC 13.2)."""
+        for port in (1, 2):
+            shift = next(shift for shift in (12, 8, 4, 0) if self.physical >> shift & 15 == 0)
+            if self.kind == "switch" and physical >> shift == self.below(port) >> shift:
+                self.port = port
+
+    def on_82(self, initiator, operands):
+        self.active = False
+        self.leads(operands[0] << 8 | operands[1])
+
+    def on_85(self, initiator, operands):
+        if self.on and self.active:
+            self.say_all(0x82, *self.bytes_of(self.physical))
+
+    def on_86(self, initiator, operands):
+        physical = operands[0] << 8 | operands[1]
+        self.leads(physical)
+        self.active = physical == self.physical and self.kind != "switch"
+        if self.active:
+            self.on = True
+            self.say_all(0x82, *self.bytes_of(self.physical))
+
+    # A remote control (CEC 13.13).
+
+    def on_44(self, initiator, operands):
+        code = operands[0]
+        if not self.on:
+            self.on = code in (0x40, 0x6D)
+            return
+        if code in (0x40, 0x6C):
+            self.on_36(initiator, b"")
+            return
+        self.pressed_at = self.now
+        if self.held != code:
+            self.held, self.by, self.acts_at = code, initiator, self.now
+            self.act(code)
+            if self.kind == "amp":
+                self.wake_up(REPEATS)
+
+    def on_45(self, initiator, operands):
+        self.held = None
+
+    def act(self, code):
+        if self.is_deck() and self.deck != DECK_NO_MEDIUM and code in (0x44, 0x45, 0x46):
+            self.set_deck({0x44: DECK_PLAY, 0x45: DECK_STOP, 0x46: DECK_STILL}[code])
+        elif self.kind == "amp" and code in (0x41, 0x42, 0x43):
+            self.mute ^= code == 0x43
+            self.volume = max(0, min(100, self.volume + {0x41: 1, 0x42: -1, 0x43: 0}[code]))
+            if self.audio:
+                self.report_audio(self.by)
+
+    def is_released(self):
+        return self.now - self.pressed_at >= RELEASES
+
+    def wake(self):
+        if self.is_released():
+            self.held = None
+        if self.held in (0x41, 0x42):
+            self.act(self.held)
+            self.wake_up(REPEATS)
+
+    # Sound (CEC 13.15, 13.17).
+
+    def on_70(self, initiator, operands):
+        self.audio = len(operands) >= 2
+        self.on = self.on or self.audio
+        self.say_all(0x72, 1 if self.audio else 0)
+
+    def on_71(self, initiator, operands):
+        self.report_audio(initiator)
+
+    def on_7d(self, initiator, operands):
+        self.say(initiator, 0x7E, 1 if self.audio else 0)
+
+    def on_c3(self, initiator, operands):
+        if initiator != TELEVISION:
+            return REFUSED
+        self.say(initiator, 0xC0)
+
+    def on_c4(self, initiator, operands):
+        if initiator != TELEVISION:
+            return REFUSED
+        self.say(initiator, 0xC5)
+
+    # Its own keys.
+
+    def press(self, key):
+        if self.la is None:
+            return
+        if key == "play" and self.is_deck():
+            self.on = self.active = True
+            self.say(TELEVISION, 0x04)
+            self.say_all(0x82, *self.bytes_of(self.physical))
+            if self.deck != DECK_NO_MEDIUM:
+                self.set_deck(DECK_PLAY)
+        elif key == "stop" and self.is_deck() and self.deck != DECK_NO_MEDIUM:
+            self.set_deck(DECK_STOP)
+        elif key == "menu" and self.is_deck():
+            self.menu = not self.menu
+            self.say(TELEVISION, 0x8E, 0 if self.menu else 1)
+        elif key == "power" and self.on:
+            if self.active:
+                self.say(TELEVISION, 0x9D, *self.bytes_of(self.physical))
+            self.active = False
+            self.on_36(TELEVISION, b"")
+        elif key == "power":
+            self.on = True
+        elif key.startswith("port ") and self.kind == "switch" and self.port != int(key[5:]):
+            old, self.port = self.port, int(key[5:])
+            self.say_all(0x80, *self.bytes_of(self.below(old)), *self.bytes_of(self.below(self.port)))
+
+
+if __name__ == "__main__":
+    Reference().serve()
