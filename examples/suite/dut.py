@@ -46,7 +46,10 @@ class Dut:
         """A frame of another device was on the wire, for this one or not. Of a broadcast: nobody refused it."""
 
     def sent(self, data, acknowledged):
-        """An attempt of a frame of its own is over. One that failed is made again, six in all; a poll is made once."""
+        """A frame of its own was on the wire."""
+
+    def failed(self):
+        """An attempt of the first frame that waits has failed. It is made again by itself, six attempts in all; a poll is made once."""
 
     def press(self, key):
         """Somebody presses a key of the device."""
@@ -70,8 +73,8 @@ class Dut:
             (self.frame if verb == "frame" else self.sent)(bytes.fromhex(rest[1]), rest[2] in ("ack", "ok"))
         elif verb in ("press", "release"):
             (self.press if verb == "press" else self.release)(" ".join(rest))
-        elif verb == "wake":
-            self.wake()
+        elif verb in ("failed", "wake"):
+            (self.failed if verb == "failed" else self.wake)()
         return self.actions + ["idle"]
 
     def serve(self):

@@ -35,6 +35,9 @@ FOR_KINDS = {0x1A: "deck", 0x41: "deck", 0x42: "deck", 0x44: "deck amp", 0x45: "
 
 
 class Reference(Dut):
+    # How long it thinks before it answers.
+    thinks = THINKS
+
     def start(self, kind):
         self.candidates, self.la, self.physical = [], None, None
         self.renew()
@@ -53,10 +56,10 @@ class Reference(Dut):
     def say(self, to, opcode, *operands):
         """To one device, or to all; nothing to the unregistered one."""
         if to != UNREGISTERED:
-            self.send([self.la << 4 | to, opcode, *operands], after=THINKS)
+            self.send([self.la << 4 | to, opcode, *operands], after=self.thinks)
 
     def say_all(self, opcode, *operands):
-        self.send([self.la << 4 | BROADCAST, opcode, *operands], after=THINKS)
+        self.send([self.la << 4 | BROADCAST, opcode, *operands], after=self.thinks)
 
     def refuse(self, to, opcode, reason):
         self.say(to, 0x00, opcode, reason)
