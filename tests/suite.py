@@ -16,6 +16,7 @@ sys.path.insert(0, os.path.join(TOP, "tests/suite"))
 sys.path.insert(0, os.path.join(TOP, "examples/suite"))
 
 from faulty import SLIPS  # noqa: E402
+from emulated import Emulated  # noqa: E402
 from reference import Reference  # noqa: E402
 
 loader = importlib.machinery.SourceFileLoader("runner", os.path.join(TOP, "tools/suite"))
@@ -24,6 +25,8 @@ loader.exec_module(runner)
 
 PROGRAM = os.path.realpath(sys.argv[1]) if len(sys.argv) > 1 else runner.found_program()
 REFERENCE = os.path.join(TOP, "examples/suite/reference.py")
+# What the kinds of the emulator fail, and where they have a remark.
+KNOWN = {"player": ([], []), "recorder": ([], []), "amp": ([], []), "switch": ([], [])}
 # The frames that were spelled by now; each process has its own.
 FRAMES = runner.Frames(PROGRAM)
 TESTS = runner.tests_of(runner.TESTS, [])
@@ -71,6 +74,13 @@ def expected():
     return {name: sorted(tests.split()) for name, tests in lines}
 
 
+def of_emulated(kind):
+    device = Emulated(PROGRAM)
+    got = failures(kind, device)
+    device.close()
+    return got
+
+
 def keeps_the_standard(pool):
     """The device of the example passes as each kind, in each input of the television."""
     cases = [(kind, 2) for kind in sorted(runner.KINDS)] + [("player", 1), ("amp", 4)]
@@ -80,6 +90,111 @@ def keeps_the_standard(pool):
             print("suite: the reference as %s at %d: %s" % (*case, got))
             right = False
     return right
+
+
+def emulated_kinds(pool):
+    """The kinds of the emulator pass, but for what this profile does otherwise (docs/behaviour.md)."""
+    right = True
+    for kind, got in zip(KNOWN, pool.map(of_emulated, KNOWN)):
+        if got != KNOWN[kind]:
+            print("suite: the emulated %s: %s" % (kind, got))
+            right = False
+    return right
+
+
+def suite_of(command, *words):
+    """What tools/suite writes over a device that is a program."""
+    return subprocess.run([os.path.join(TOP, "tools/suite"), "--program", PROGRAM, "--dut", command, *words], capture_output=True, text=True)
+
+
+def broken_devices(pool):
+    """A device that breaks the protocol fails with what it did, and nothing waits for ever."""
+    answers = "sh -c 'while read line; do printf \"%s\\nidle\\n\"; done'"
+    cases = [
+        ("sh -c 'cat > /dev/null'", "no answer in 0.5 seconds"),
+        ("sh -c 'printf half; cat > /dev/null'", "no answer in 0.5 seconds"),
+        ("sh -c 'read line; echo idle'", "its "),
+        ("true", "its "),
+        ("sh -c 'while read line; do seq 100; done'", "more than 64 lines in one answer"),
+        ("sh -c 'while read line; do echo idle; echo idle; done'", "a line before its turn: idle"),
+        (answers % "frob", "no such line: frob"),
+        (answers % "after 0 send 4", "no such line: after 0 send 4"),
+        (answers % ("after 0 send " + "44" * 17), "no such line: after 0 send " + "44" * 17),
+        (answers % "after 0 hold 4+8+b", "no such line: after 0 hold 4+8+b"),
+        (answers % "after 0 hold f", "no such line: after 0 hold f"),
+        (answers % "after 0 wake", "no such line: after 0 wake"),
+        (answers % "after 0 pull 100", "no such line: after 0 pull 100"),
+        (answers % "after 99999999 wake", "no such line: after 99999999 wake"),
+        ("sh -c 'while read line; do echo idle; done'", "it holds no logical address: send tv 0>{la} give-osd-name"),
+    ]
+    right = True
+    ran = [(command, fault, pool.submit(suite_of, command, "--kind", "player", "--limit", "0.5", "osd-name")) for command, fault in cases]
+    for command, fault, got in ran:
+        got = got.result()
+        if got.returncode != 1 or "# the device under test: " + fault not in got.stdout or "not ok 1 - osd-name" not in got.stdout:
+            print("suite: %s: %s %s" % (command, got.stdout, got.stderr))
+            right = False
+    for words in (["--kind", "tv"], ["--kind", "player", "no-such-test"], [], ["--kind", "player", "--port", "5"]):
+        right = right and suite_of("true", *words).returncode == 2
+    return right and suite_of("/no/such/program", "--kind", "player").returncode == 2
+
+
+def programs_are_driven(pool):
+    """A device that is a program: the report, what is kept, and the command that runs a test again."""
+    right = True
+    with tempfile.TemporaryDirectory() as kept:
+        ran = suite_of(REFERENCE, "--kind", "amp", "--keep", kept, "osd-name", "remote-lost", "deck-play")
+        lines = ran.stdout.split("\n")
+        right = right and ran.returncode == 0 and lines[0] == "TAP version 13" and lines[-2] == "1..3" and lines[1].startswith("ok 1 - deck-play: ")
+        right = right and lines[1].endswith(" # SKIP for player recorder") and lines[2].startswith("ok 2 - osd-name: ") and lines[3].startswith("ok 3 - remote-lost: ")
+        right = right and sorted(os.listdir(kept)) == ["osd-name.report", "osd-name.talk", "osd-name.test", "remote-lost.report", "remote-lost.talk", "remote-lost.test"]
+        for name in ("osd-name", "remote-lost"):
+            with open(os.path.join(kept, name + ".test")) as test, open(os.path.join(kept, name + ".report")) as report:
+                checked = subprocess.run([PROGRAM, "check", "--trace"], stdin=test, capture_output=True, text=True)
+                right = right and checked.returncode == 0 and checked.stdout == report.read()
+        again = suite_of(REFERENCE, "--kind", "amp", "--once", "--port", "3", os.path.join(TOP, "suite/osd-name.test"))
+        right = right and again.returncode == 0 and again.stdout.startswith("TAP version 13\nok 1 - osd-name: ")
+        failing = suite_of("sh -c 'while read line; do echo idle; done'", "--kind", "recorder", "--port", "1", "address-first")
+        command = "# again: tools/suite --dut 'sh -c '\"'\"'while read line; do echo idle; done'\"'\"'' --kind recorder --port 1 address-first\n"
+        right = right and failing.returncode == 1 and command in failing.stdout and "\n# trace\n# " in failing.stdout
+        without = suite_of(REFERENCE, "--kind", "player", "--without", "menu", "menu-query")
+        right = right and without.returncode == 0 and "# SKIP without menu" in without.stdout
+    return right
+
+
+def of_talk(name):
+    """Whether what a device said in each test came at the instants that it named, and its trace is the one of `hdminet run`."""
+    kind, device = SLIPS[name]
+    suite = runner.Suite(PROGRAM, kind, 2)
+    suite.frames = FRAMES
+    right = True
+    for test in TESTS:
+        if runner.skipped(test, kind, []) is not None:
+            continue
+        run = runner.Run(suite, test, Here(device()))
+        run.whole()
+        taken = {line.split(" ")[1] + " " + line.split(" ")[2] for line in run.room.script if " dut" in line and line.startswith("at ")}
+        # What a device was about to do when it is unplugged goes nowhere.
+        now, is_unplugged = 0, "unplug" in " ".join(run.room.script)
+        for line in run.talk:
+            words = line.split(" ")
+            if words[0] == ">":
+                now = int(words[2])
+            elif words[1] == "after" and words[3] in ("send", "hold") and not is_unplugged:
+                at = now + int(words[2])
+                right = right and (at >= test.end or "%d %s" % (at, words[3]) in taken)
+        text, _ = run.kept()
+        plain = subprocess.run([PROGRAM, "check", "--plain"], input=text, capture_output=True, text=True).stdout
+        trace = subprocess.run([PROGRAM, "run"], input=plain, capture_output=True, text=True).stdout
+        if not trace.startswith("".join(run.room.trace)):
+            print("suite: %s in %s: another trace than that of run" % (name, test.name))
+            right = False
+    return right
+
+
+def instants_are_kept(pool):
+    """What a device does comes at the instant that it says, to the microsecond, and runs give the same trace each time."""
+    return all(pool.map(of_talk, ["answers-late", "answers-slowly", "no-time-out"]))
 
 
 def slips_are_seen(pool):
@@ -109,7 +224,7 @@ def main():
     signal.alarm(600)
     passed = failed = 0
     with ProcessPoolExecutor(min(4, os.cpu_count() or 2)) as pool:
-        for test in [keeps_the_standard, slips_are_seen, every_test_fails_once]:
+        for test in [keeps_the_standard, emulated_kinds, slips_are_seen, every_test_fails_once, instants_are_kept, broken_devices, programs_are_driven]:
             if test(pool):
                 passed += 1
             else:

@@ -1,0 +1,140 @@
+#!/usr/bin/env python3
+"""A device of a second emulated room as a device under test:
+
+    tools/suite --dut 'examples/suite/emulated.py release/hdminet' --kind player
+
+The second room has a television, the device `own`, which is emulated, and seats for the rest of the world: `hears` hands it what
+the first room says, and holds the address that a frame comes from, so that an answer is taken; `taken` and `more` hold the addresses that
+were acknowledged in the first room. What `own` says there is said in the first room. No device of the emulator waits for
+anything, so the second room is at rest after each line, and its times are its own."""
+
+import os
+import subprocess
+import sys
+
+sys.path.append(os.path.join(os.path.dirname(os.path.realpath(__file__)), "../live"))
+from dut import Dut  # noqa: E402
+from room import Room  # noqa: E402
+
+BROADCAST, TELEVISION = 15, 0
+
+
+class Emulated(Dut):
+    def __init__(self, program):
+        super().__init__()
+        self.program, self.room, self.spelled = program, None, {}
+
+    def spell(self, word, line):
+        """The bytes of a frame's text, by `asm`, or the text of bytes, by `dis`."""
+        if (word, line) not in self.spelled:
+            ran = subprocess.run([self.program, word], input=line + "\n", capture_output=True, text=True, check=True)
+            got = ran.stdout.rstrip("\n")
+            quoted = got.rfind('"') + 1
+            self.spelled[word, line] = got[:quoted] + got[quoted:].split(" # ")[0]
+        return self.spelled[word, line]
+
+    # The second room.
+
+    def close(self):
+        if self.room is not None:
+            self.room.ask("end %d" % (self.at + 1))
+            self.room.live.communicate()
+        self.room = None
+
+    def open(self):
+        """A new room, in which the addresses of `self.taken` are taken. Its device has settled."""
+        self.close()
+        digits = [digit for digit in "%04x" % self.physical if digit != "0"]
+        lines, above = ["device tv tv 15", "device hears outside 0", "device taken outside 0", "device more outside 0"], "tv"
+        free = [port for port in range(1, 16) if port != int(digits[0], 16)]
+        lines += ["plug hears tv %d" % free[0], "plug taken tv %d" % free[1], "plug more tv %d" % free[2]]
+        for level, digit in enumerate(digits, 1):
+            is_last = level == len(digits)
+            name = "own" if is_last else "box%d" % level
+            lines += ["device %s %s %d" % (name, self.kind if is_last else "outside", 2 if is_last else 15), "plug %s %s %d" % (name, above, int(digit, 16))]
+            above = name
+        self.room = Room(self.program, "\n".join(lines) + "\n")
+        self.at = 0
+        for seat, addresses in (("taken", self.taken[:2]), ("more", self.taken[2:])):
+            if addresses:
+                self.room.ask("at 0 hold %s %s" % (seat, "+".join("%x" % address for address in addresses)))
+        self.later = self.said()
+
+    def said(self):
+        """What the device says until the room is at rest: the bytes of its frames."""
+        frames = []
+        while True:
+            told, answer = self.room.ask("wait")
+            self.at = int(answer.split()[1])
+            for line in told:
+                words = line.rstrip("\n").split(" by ")
+                if len(words) == 2 and words[0].split(" ")[2] == "complete" and "own" in words[1].split(" out ")[0].split(","):
+                    frames.append(bytes.fromhex(self.spell("asm", " ".join(words[0].split(" ")[3:-1]))))
+            if answer.endswith(" idle"):
+                return frames
+
+    def do(self, line):
+        """Something happens in the second room, and what the device says of it is said in the first one."""
+        self.room.ask("at %d %s" % (self.at, line))
+        for frame in self.said():
+            self.send(frame)
+
+    # The seat in the first room.
+
+    def start(self, kind):
+        self.close()
+
+    def address(self, physical):
+        self.close()
+        self.physical, self.la, self.taken = physical, None, []
+        if physical is not None:
+            self.settle()
+
+    def settle(self):
+        """Polls in the first room what the device has polled last in the second one."""
+        self.open()
+        polls = [frame[0] & 15 for frame in self.later if len(frame) == 1]
+        self.later = [frame for frame in self.later if len(frame) > 1]
+        self.polled = polls[-1] if polls and polls[-1] not in self.taken else None
+        if self.polled is not None:
+            self.send([self.polled * 0x11])
+        else:
+            self.settled(BROADCAST)
+
+    def settled(self, address):
+        self.la = address
+        for frame in self.later:
+            self.send(frame)
+
+    def sent(self, data, acknowledged):
+        if self.room is None or self.la is not None or data != bytes([self.polled * 0x11]):
+            return
+        if acknowledged:
+            self.taken.append(self.polled)
+            self.settle()
+        else:
+            self.drop()
+            self.hold([self.polled])
+            self.settled(self.polled)
+
+    def frame(self, data, acknowledged):
+        initiator, to = data[0] >> 4, data[0] & 15
+        if self.room is None or self.la is None or len(data) == 1 or not acknowledged or to not in (self.la, BROADCAST):
+            return
+        if initiator not in (TELEVISION, BROADCAST):
+            self.room.ask("at %d hold hears %x" % (self.at, initiator))
+        self.do("send hears " + self.spell("dis", data.hex()))
+
+    def press(self, key):
+        if self.room is not None:
+            self.do("press own " + key)
+
+    def release(self, key):
+        if self.room is not None:
+            self.do("release own " + key)
+
+
+if __name__ == "__main__":
+    device = Emulated(sys.argv[1])
+    device.serve()
+    device.close()
