@@ -21,6 +21,9 @@ tv 133=10 135=90 => fail vic-twice/  a video code is listed once (CTA-861-D, 7.5
 tv 72=023a801871382d40582c450008222100001e 131=f3 => fail native-count/  the low four bits of a CTA block's flags are at most the detailed timings (CTA-861-D, 7.5)/  here: 3 native, 2 timings/
 tv 131=71 => warn overscan/  bit 7 of a CTA block's flags is set: formats of computers are shown whole (CTA-861-D, 7.5)/  here: flags 71/
 tv 62=00 => fail timing 1 timing-zero/  picture, blanking, sync offset and sync width are above 0 (E-EDID A, 3.10.2)/  here: horizontal sync offset 0/
+tv 63=00 => fail timing 1 timing-zero/  picture, blanking, sync offset and sync width are above 0 (E-EDID A, 3.10.2)/  here: horizontal sync width 0/
+tv 64=40 => fail timing 1 timing-zero/  picture, blanking, sync offset and sync width are above 0 (E-EDID A, 3.10.2)/  here: vertical sync width 0/
+tv 64=05 => fail timing 1 timing-zero/  picture, blanking, sync offset and sync width are above 0 (E-EDID A, 3.10.2)/  here: vertical sync offset 0/
 tv 254=01 => fail padding/  whole dummy descriptors and zeros follow the timings of a CTA block (CTA-861-D, 7.5; E-EDID A, 3.10.3)/  here: extension 1/
 tv 38=0102 => fail standard-unused-form/  a standard timing that is not used is 01 01 (E-EDID A, 3.9)/  here: standard timing 1 is 01 02/
 tv 52=0001 => fail standard-unused-form/  a standard timing that is not used is 01 01 (E-EDID A, 3.9)/  here: standard timing 8 is 00 01/

@@ -5,6 +5,7 @@ use std::process::Abort;
 
 mod explained;
 mod explanations;
+mod numbers;
 mod slips;
 
 /// What a run of the program answers and writes.

@@ -44,6 +44,27 @@ edid --help => --explain
 --help => With --explain a fault is followed by
 --help =>       device tv tv 4
 --help => `4>f active-source 1.0.0.0`
+--help => or input past 1048576 bytes
+run --help =>                                 PORTS is 0 to 15;
+run --help =>                                 of 0 to e, as 4 or 1+4;
+run --help => is pulled low from outside: 1 to 10000 microseconds, each;
+run --help =>                                 at least 25000 after the end of the one above, at most 4096;
+run --help => past 1048576 bytes
+run --help => ext N checksum (N is 1 to 3)
+check --help => a pattern of no or more than 160 bytes, or with more than four `*`
+live --help => At most 4096 pulses wait at a time
+live --help => `script line N: too-long` for a line of more than 4096 bytes.
+asm --help =>   too-long   more than 14 operands in hex;
+asm --help =>   VOLUME is `mute` or `sound`, and 0 to 100 after a space;
+asm --help => TEXT is 1 to 14 printable characters in double quotes;
+asm --help => for each operand, of which there are 14 at most;
+dis --help =>   length     no byte, or more than 16;
+mon --help => Times are whole microseconds, at most 2000000000000.;
+mon --help => been high for 16800 microseconds
+mon --help => with --from past 67108864
+edid --help => of 128, 256, 384 or 512 bytes: a base block of E-EDID 1.3 or 1.4
+edid --help => in this port, 1 to 15
+edid --help => goes past 512 bytes
 --help => ./hdminet edid --text < 
 --version => hdminet 0.1.0;
 ";
@@ -132,6 +153,19 @@ check --trace --explain --trace
 check film.test
 --strict
 run -- --edges
+run -- --
+-- run
+--explain --explain run
+run --explain --explain
+--explain=1 run
+run --json=
+run --edges=true
+run --as= --edges
+mon --from=wav
+edid --port=
+edid --port=16
+edid --port=1 --port 2
+edid --below=tv --port=1
 run tv.net
 asm --text
 edid --hex --text

@@ -15,6 +15,7 @@ const PLACES: &str = "\
 --address 1.2.0.0 => 1.2.0.0
 --address f.f.f.f => f.f.f.f
 --port 3 => 3.0.0.0
+--port=2 => 2.0.0.0
 --port 15 => f.0.0.0
 ";
 

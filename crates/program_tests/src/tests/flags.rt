@@ -53,6 +53,10 @@ run => run --strict
 run --edges => run --strict --edges
 run --json => run --json --strict
  => run --strict
+run --edges --as vcd => run --as=vcd --edges
+run --edges --as vcd --drives => run --edges --drives --as=vcd --
+ => --
+ => run --
 ";
 
 #[test]

@@ -56,16 +56,21 @@ fn reads_what_is_not_too_long(rt: HostRuntime) {
     }
 }
 
+/// The longest capture whose form is given, in bytes.
+const CAPTURE_LIMIT: usize = 67_108_864;
+
+/// A capture that ends in the middle of a frame.
+const CAPTURE: &str = "\n21000 0\n24700 1\n25500 0\n26100 1\n40000 end\n";
+
 /// A capture whose form is given may be longer.
 #[test]
 fn reads_long_captures(rt: HostRuntime) {
-    let text = "\n21000 0\n24700 1\n25500 0\n26100 1\n40000 end\n";
-    let input = after_comment(&rt, 2 * LIMIT, text);
+    let input = after_comment(&rt, CAPTURE_LIMIT, CAPTURE);
     let input = input.as_bytes();
     gives(
         &rt,
         "mon --from edges",
-        "a long capture",
+        "the longest capture",
         input,
         "21000 28251 silent 1\n",
     );
@@ -95,6 +100,13 @@ fn refuses_what_is_too_long(rt: HostRuntime) {
         let input = input.as_bytes();
         reads_nothing(&rt, line, input, "hdminet: input too long\n");
     }
+}
+
+#[test]
+fn refuses_captures_that_are_too_long(rt: HostRuntime) {
+    let input = after_comment(&rt, CAPTURE_LIMIT + 1, CAPTURE);
+    let input = input.as_bytes();
+    reads_nothing(&rt, "mon --from edges", input, "hdminet: input too long\n");
 }
 
 #[test]

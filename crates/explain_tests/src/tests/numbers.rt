@@ -1,0 +1,139 @@
+//! The numbers that `--explain` names, each by hand from docs/formats.md or from the standard's field.
+use super::*;
+use std::process::Abort;
+
+/// The words of a command line, an input with `;` for each line feed, and what follows its fault, or its run.
+const NUMBERS: &str = "\
+run => device tv tv 16;script;end 5; => PORTS is a decimal number from 0 to 15, and PORT
+run => device tv tv 4;device abcdefghijklmno player 0;script;end 5; => NAME is new, of 1 to 14 of a to z
+run => device tv tv 4;script;at 1000000000001 press tv mute;end 5; => T is decimal microseconds, 0 to 1000000000000;
+run => device tv tv 4;script;pulse 5 10001;end 90000; => WIDTH is a number of microseconds, 1 to 10000
+run => device tv tv 4;script;pulse 100000 10;pulse 125009 10;end 900000; => a pulse begins at least 25000 microseconds after
+run => device tv tv 1;script;pulse 1000000 600;end 1200000; =>   rounds 3, complete rounds 2, refused events 0
+check => device tv tv 1;script;at 5..1000000000001 press tv mute;end 9; => T and U of at most 1000000000000 microseconds, S at least 1;
+check => device tv tv 1;script;expect none short * * * * *;end 9; => PATTERN has 1 to 160 bytes and at most four `*`
+asm => 4>0 op-01 :000102030405060708090a0b0c0d0e; => at most 14 operands, so at most 28 hex digits after `:`
+dis => 00 01 02 03 04 05 06 07 08 09 0a 0b 0c 0d 0e 0f 10; => a frame has 1 to 16 bytes
+mon => 2000000000001 0; => T decimal microseconds, 0 to 2000000000000
+edid => zz; => the input has 3 bytes; an EDID has 128, 256, 384 or 512
+edid => 00; => an EDID has 128, 256, 384 or 512 bytes: a base block and up to three extensions of 128 bytes each
+edid --hex => 00 ff ff ff ff ff ff 00; => an EDID has 128, 256, 384 or 512 bytes, so its dump ends at the end of a block of 128
+";
+
+/// The three parts of a row.
+fn row_of<'a>(rt: &impl Abort, row: &'a str) -> (&'a str, &'a str, &'a str) {
+    let (line, rest) = row.split_once(" => ").expect(rt, row);
+    let (text, part) = rest.split_once(" => ").expect(rt, row);
+    (line, text, part)
+}
+
+/// With `--explain` this part is said on standard error.
+fn says(rt: &(impl Abort + AllocGlobal), line: &str, input: &[u8], part: &str) {
+    let line = format!(in rt.alloc(); "{line} --explain").expect(rt, "a command line");
+    let reported = reported_of(rt, line.as_str(), input);
+    let said = String::from_utf8(reported.err).expect(rt, "a text");
+    expect(rt, said.as_str().contains(part), line.as_str(), part);
+}
+
+#[test]
+fn explanations_name_the_limits(rt: HostRuntime) {
+    for row in NUMBERS.lines() {
+        let (line, text, part) = row_of(&rt, row);
+        let input = text.replace(rt.alloc(), ";", "\n").expect(&rt, "an input");
+        says(&rt, line, input.as_bytes(), part);
+    }
+}
+
+/// The text of an EDID.
+const TELEVISION: &str = "\
+edid 1.3
+maker SAM
+product 258
+serial 1
+made 10 2011
+input 80
+size 52 29
+gamma 120
+features 0a
+chroma 655 338 307 614 154 61 320 337
+established 000000
+standard unused
+standard unused
+standard unused
+standard unused
+standard unused
+standard unused
+standard unused
+standard unused
+timing 14850 1920 280 1080 45 88 44 4 5 520 290 0 0 1e
+name \"LOUNGE TV 001\"
+dummy
+dummy
+cta f1
+video 900403
+hdmi 0.0.0.0 -
+tail -
+";
+
+/// A line of it, another one in its place, and what is said of that: the fields of E-EDID are of 8, 10, 16 and 32 bits, a
+/// descriptor has 13 characters (3.10.3), and the length of a data block five bits (CTA-861-D, 7.5), of which an HDMI block
+/// uses 5 bytes for its number and the address.
+const FIELDS: &str = "\
+product 258 => product 65536 => a product is a number of at most 65535
+serial 1 => serial 4294967296 => a serial number is one of at most 4294967295
+made 10 2011 => made 10 2246 => the week is 0 to 255, and the year 1990 to 2245
+size 52 29 => size 256 29 => each side is 0 to 255 cm
+gamma 120 => gamma 256 => the byte is a number, 0 to 255
+chroma 655 338 => chroma 1024 338 => there are eight numbers, each 0 to 1023
+LOUNGE TV 001 => LOUNGE TV 0001 => a text is at most 13 printable characters, in double quotes
+video 900403 => video 0102030405060708010203040506070801020304050607080102030405060708 => a data block has at most 31 bytes,
+hdmi 0.0.0.0 - => hdmi 0.0.0.0 010203040506070801020304050607080102030405060708010203 => and at most 26 bytes stand after it
+";
+
+#[test]
+fn explanations_name_the_ranges_of_fields(rt: HostRuntime) {
+    for row in FIELDS.lines() {
+        let (line, other, part) = row_of(&rt, row);
+        let input = TELEVISION
+            .replace(rt.alloc(), line, other)
+            .expect(&rt, "a text");
+        says(&rt, "edid --text", input.as_bytes(), part);
+    }
+}
+
+/// So many pulses, 25,000 microseconds apart.
+fn with_pulses(rt: &(impl Abort + AllocGlobal), count: u64) -> String {
+    let mut input = String::from_str(rt.alloc(), "device tv tv 1\nscript\n").expect(rt, "an input");
+    for number in 0..count {
+        let at = number.saturating_mul(25_001);
+        let line = format!(in rt.alloc(); "pulse {at} 1\n").expect(rt, "a line");
+        input.push_str(line.as_str()).expect(rt, "an input");
+    }
+    input.push_str("end 200000000\n").expect(rt, "an input");
+    input
+}
+
+#[test]
+fn explanations_name_the_limits_of_long_inputs(rt: HostRuntime) {
+    let pulses = with_pulses(&rt, 4097);
+    says(
+        &rt,
+        "run",
+        pulses.as_bytes(),
+        "  a script has at most 4096 pulses\n",
+    );
+    let long = "#".repeat(rt.alloc(), 1_048_577).expect(&rt, "an input");
+    let limits = "  standard input has at most 1048576 bytes, a capture with `--from` 67108864\n";
+    says(&rt, "run", long.as_bytes(), limits);
+    let mut session = String::from_str(rt.alloc(), "device tv tv 1\nscript\n").expect(
+        &rt, "an input",
+    );
+    let line = "#".repeat(rt.alloc(), 4097).expect(&rt, "a line");
+    session.push_str(line.as_str()).expect(&rt, "an input");
+    says(
+        &rt,
+        "live",
+        session.as_bytes(),
+        "  a line of a session has at most 4096 bytes\n",
+    );
+}
