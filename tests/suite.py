@@ -26,7 +26,7 @@ loader.exec_module(runner)
 PROGRAM = os.path.realpath(sys.argv[1]) if len(sys.argv) > 1 else runner.found_program()
 REFERENCE = os.path.join(TOP, "examples/suite/reference.py")
 # What the kinds of the emulator fail, and where they have a remark.
-KNOWN = {"player": ([], []), "recorder": ([], []), "amp": ([], []), "switch": ([], [])}
+KNOWN = {"player": ([], ["active-woken"]), "recorder": ([], ["active-woken"]), "amp": ([], ["audio-standby"]), "switch": ([], [])}
 # The frames that were spelled by now; each process has its own.
 FRAMES = runner.Frames(PROGRAM)
 TESTS = runner.tests_of(runner.TESTS, [])
@@ -111,24 +111,26 @@ def broken_devices(pool):
     """A device that breaks the protocol fails with what it did, and nothing waits for ever."""
     answers = "sh -c 'while read line; do printf \"%s\\nidle\\n\"; done'"
     cases = [
-        ("sh -c 'cat > /dev/null'", "no answer in 0.5 seconds"),
-        ("sh -c 'printf half; cat > /dev/null'", "no answer in 0.5 seconds"),
-        ("sh -c 'read line; echo idle'", "its "),
-        ("true", "its "),
-        ("sh -c 'while read line; do seq 100; done'", "more than 64 lines in one answer"),
-        ("sh -c 'while read line; do echo idle; echo idle; done'", "a line before its turn: idle"),
-        (answers % "frob", "no such line: frob"),
-        (answers % "after 0 send 4", "no such line: after 0 send 4"),
-        (answers % ("after 0 send " + "44" * 17), "no such line: after 0 send " + "44" * 17),
-        (answers % "after 0 hold 4+8+b", "no such line: after 0 hold 4+8+b"),
-        (answers % "after 0 hold f", "no such line: after 0 hold f"),
-        (answers % "after 0 wake", "no such line: after 0 wake"),
-        (answers % "after 0 pull 100", "no such line: after 0 pull 100"),
-        (answers % "after 99999999 wake", "no such line: after 99999999 wake"),
-        ("sh -c 'while read line; do echo idle; done'", "it holds no logical address: send tv 0>{la} give-osd-name"),
+        ("sh -c 'cat > /dev/null'", 1, "no answer in 1 seconds"),
+        ("sh -c 'printf half; cat > /dev/null'", 1, "no answer in 1 seconds"),
+        ("sh -c 'read line; echo idle'", 60, "its "),
+        ("true", 60, "its "),
+        ("sh -c 'while read line; do seq 100; done'", 60, "more than 64 lines in one answer"),
+        (answers % "idle", 60, "a line before its turn: idle"),
+        (answers % "frob", 60, "no such line: frob"),
+        (answers % "after 0 send 4", 60, "no such line: after 0 send 4"),
+        (answers % "after 0  send 44", 60, "no such line: after 0  send 44"),
+        (answers % "after 07 send 44", 60, "no such line: after 07 send 44"),
+        (answers % ("after 0 send " + "44" * 17), 60, "no such line: after 0 send " + "44" * 17),
+        (answers % "after 0 hold 4+8+b", 60, "no such line: after 0 hold 4+8+b"),
+        (answers % "after 0 hold f", 60, "no such line: after 0 hold f"),
+        (answers % "after 0 wake", 60, "no such line: after 0 wake"),
+        (answers % "after 0 pull 100", 60, "no such line: after 0 pull 100"),
+        (answers % "after 99999999 wake", 60, "no such line: after 99999999 wake"),
+        ("sh -c 'while read line; do echo idle; done'", 60, "it holds no logical address: send tv 0>{la} give-osd-name"),
     ]
     right = True
-    ran = [(command, fault, pool.submit(suite_of, command, "--kind", "player", "--limit", "0.5", "osd-name")) for command, fault in cases]
+    ran = [(command, fault, pool.submit(suite_of, command, "--kind", "player", "--limit", str(limit), "osd-name")) for command, limit, fault in cases]
     for command, fault, got in ran:
         got = got.result()
         if got.returncode != 1 or "# the device under test: " + fault not in got.stdout or "not ok 1 - osd-name" not in got.stdout:
@@ -162,9 +164,36 @@ def programs_are_driven(pool):
     return right
 
 
+class Ticking(Reference):
+    """A device that is called every 7 ms, and says at these calls what it has to say."""
+    thinks = 0
+
+    def address(self, physical):
+        self.waiting = []
+        super().address(physical)
+        self.wake_up(7000)
+
+    def send(self, data, after=0):
+        self.waiting.append(data)
+
+    def wake(self):
+        waiting, self.waiting = self.waiting, []
+        for data in waiting:
+            super().send(data)
+        self.wake_up(7000)
+
+
+def ticking_devices(pool):
+    """A device with a tick passes: it acts in the middle of rounds too, and is asked a thousand times."""
+    got = failures("player", Ticking())
+    if got != ([], []):
+        print("suite: the device with a tick: %s %s" % got)
+    return got == ([], [])
+
+
 def of_talk(name):
     """Whether what a device said in each test came at the instants that it named, and its trace is the one of `hdminet run`."""
-    kind, device = SLIPS[name]
+    kind, device = SLIPS.get(name, ("player", Ticking))
     suite = runner.Suite(PROGRAM, kind, 2)
     suite.frames = FRAMES
     right = True
@@ -194,7 +223,7 @@ def of_talk(name):
 
 def instants_are_kept(pool):
     """What a device does comes at the instant that it says, to the microsecond, and runs give the same trace each time."""
-    return all(pool.map(of_talk, ["answers-late", "answers-slowly", "no-time-out"]))
+    return all(pool.map(of_talk, ["answers-late", "answers-slowly", "no-time-out", "ticking"]))
 
 
 def slips_are_seen(pool):
@@ -224,7 +253,7 @@ def main():
     signal.alarm(600)
     passed = failed = 0
     with ProcessPoolExecutor(min(4, os.cpu_count() or 2)) as pool:
-        for test in [keeps_the_standard, emulated_kinds, slips_are_seen, every_test_fails_once, instants_are_kept, broken_devices, programs_are_driven]:
+        for test in [keeps_the_standard, emulated_kinds, slips_are_seen, every_test_fails_once, ticking_devices, instants_are_kept, broken_devices, programs_are_driven]:
             if test(pool):
                 passed += 1
             else:

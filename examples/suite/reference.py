@@ -181,9 +181,12 @@ class Reference(Dut):
     # Standby, and who is shown.
 
     def on_36(self, initiator, operands):
-        self.on, self.menu, self.held, self.notified = False, False, None, None
+        self.on, self.active, self.menu, self.held, self.notified = False, False, False, None, None
         if self.deck != DECK_NO_MEDIUM:
             self.deck = DECK_STOP
+        if self.audio:
+            self.audio = False
+            self.say_all(0x72, 0)
 
     def on_80(self, initiator, operands):
         self.active = False
@@ -306,7 +309,6 @@ class Reference(Dut):
         elif key == "power" and self.on:
             if self.active:
                 self.say(TELEVISION, 0x9D, *self.bytes_of(self.physical))
-            self.active = False
             self.on_36(TELEVISION, b"")
         elif key == "power":
             self.on = True

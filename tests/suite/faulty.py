@@ -466,9 +466,33 @@ class IgnoresStandbyToAll(Reference):
 class ActiveInStandby(Reference):
     """Says in standby that it is the active source."""
 
+    def on_36(self, initiator, operands):
+        was_active = self.active
+        super().on_36(initiator, operands)
+        self.active = was_active
+
     def on_85(self, initiator, operands):
         if self.active:
             self.say_all(0x82, *self.bytes_of(self.physical))
+
+
+@slip("tuner")
+class WakesForStandby(Reference):
+    """Wakes for Standby where it is in standby."""
+
+    def on_36(self, initiator, operands):
+        was_on = self.on
+        super().on_36(initiator, operands)
+        self.on = not was_on
+
+
+@slip("player")
+class SleepsOn(Reference):
+    """Does nothing for its key in standby."""
+
+    def press(self, key):
+        if self.on:
+            super().press(key)
 
 
 @slip("amp")
@@ -561,6 +585,15 @@ class MenuReversed(Reference):
     def on_8d(self, initiator, operands):
         self.menu = {0: False, 1: True}.get(operands[0], self.menu)
         return super().on_8d(initiator, b"\x02" if operands[0] < 3 else operands)
+
+
+@slip("player")
+class MenuKeyUnsaid(Reference):
+    """Does not say that its key has shown its menu."""
+
+    def press(self, key):
+        if key != "menu":
+            super().press(key)
 
 
 # The remote control
