@@ -258,6 +258,8 @@ if [ $# -ge 1 ]; then
     line "watch.py" writes "$top/examples/capture.readings" env PYTHONPATH="$at/python" python3 "$top/examples/python/watch.py" < "$top/examples/capture.edges"
   fi
   if [ -n "$program" ]; then
+    line "dut.c links" link dut -lhdminet_wire "$top/examples/c/dut.c"
+    line "dut.c, a device under test" "$top/tools/suite" --program "$program" --dut "$run $room/dut" --kind player --without deck --without menu --without remote
     line "the random frames, read by the program" frames_of_the_program
     for net in "$top"/examples/*.net; do
       name=$(basename "$net")

@@ -168,9 +168,9 @@ class Ticking(Reference):
     """A device that is called every 7 ms, and says at these calls what it has to say."""
     thinks = 0
 
-    def address(self, physical):
+    def start(self, kind):
+        super().start(kind)
         self.waiting = []
-        super().address(physical)
         self.wake_up(7000)
 
     def send(self, data, after=0):
@@ -189,6 +189,17 @@ def ticking_devices(pool):
     if got != ([], []):
         print("suite: the device with a tick: %s %s" % got)
     return got == ([], [])
+
+
+def table_is_whole(pool):
+    """docs/suite.md has a row for each test, in the order of their sections, and no other, and counts the devices with a slip."""
+    def place(row):
+        return [int(word) for word in row[1].split(" ")[1].rstrip(",").split(".")], row[0]
+    rows = sorted(([test.name, ", ".join(test.head["section"]), " ".join(test.kinds()), test.title] for test in TESTS), key=place)
+    want = "".join("| `%s` | %s | %s | %s |\n" % tuple(row) for row in rows)
+    with open(os.path.join(TOP, "docs/suite.md")) as file:
+        text = file.read()
+    return text.endswith("|---|---|---|---|\n" + want) and "Each of %d devices with one slip" % len(SLIPS) in text
 
 
 def of_talk(name):
@@ -253,7 +264,7 @@ def main():
     signal.alarm(600)
     passed = failed = 0
     with ProcessPoolExecutor(min(4, os.cpu_count() or 2)) as pool:
-        for test in [keeps_the_standard, emulated_kinds, slips_are_seen, every_test_fails_once, ticking_devices, instants_are_kept, broken_devices, programs_are_driven]:
+        for test in [keeps_the_standard, emulated_kinds, slips_are_seen, every_test_fails_once, table_is_whole, ticking_devices, instants_are_kept, broken_devices, programs_are_driven]:
             if test(pool):
                 passed += 1
             else:

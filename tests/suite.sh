@@ -1,0 +1,30 @@
+#!/usr/bin/env bash
+# suite.sh [PROGRAM]: the tests of suite/ over devices that keep the standard, over the emulator's own, and over devices with one
+# slip each (tests/suite.py), and by `prove` where there is one. The last line is 'suite: N passed, M failed'.
+set -u
+top=$(cd "$(dirname "${BASH_SOURCE[0]}")/.." && pwd)
+program=$(readlink -f "${1:-$top/crates/hdminet/out/hdminet}")
+[ -x "$program" ] || { echo "suite: no program at $program: start ./hdminet once" >&2; exit 2; }
+room=$(mktemp -d)
+trap 'rm -rf "$room"' EXIT
+passed=0
+failed=0
+
+line() {
+  local what=$1
+  shift
+  if "$@" > "$room/log" 2>&1; then passed=$((passed + 1)); else failed=$((failed + 1)); echo "suite: failed: $what"; tail -n 40 "$room/log"; fi
+}
+
+# The recipe of docs/suite.md for servers of tests: a test that holds, one that is skipped, and one that fails.
+proved() {
+  printf '#!/bin/sh\nexec "%s/tools/suite" --program "%s" --dut "%s" --kind player "$1"\n' "$top" "$program" "$top/examples/suite/reference.py" > "$room/dut.sh"
+  printf '#!/bin/sh\nexec "%s/tools/suite" --program "%s" --dut true --kind player "$1"\n' "$top" "$program" > "$room/none.sh"
+  chmod +x "$room/dut.sh" "$room/none.sh"
+  prove -e "$room/dut.sh" "$top/suite/osd-name.test" "$top/suite/arc-start.test" && ! prove -e "$room/none.sh" "$top/suite/osd-name.test"
+}
+
+line "the devices" "$top/tests/suite.py" "$program"
+! command -v prove > /dev/null || line "by prove" proved
+echo "suite: $passed passed, $failed failed"
+[ "$failed" = 0 ]
