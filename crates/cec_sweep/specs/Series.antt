@@ -1,10 +1,11 @@
 -- Series of instants in the place of a time (own): `T..U`, each microsecond from T to U, or `T..U/S`, every S microseconds from T on.
+-- Each instant costs a run, and there are at most 1,000,000.
 use Rattle.std.specs.Prelude.{ℕ, zero, suc, ◌+◌, ◌-◌, ◌/◌, ◌<◌, ◌≤◌, ◌==◌, nat_lt, nat_le, ◌&&◌, Bool, if◌then◌else◌, length, take, drop, slice_index, List, [], ◌∷◌, Option, Some, None, Result, Ok, Err}
 use Rattle.std.specs.List.{position_or_len}
 use Rattle.cec_wave.specs.Bounds.{latest_event}
 use Rattle.hdmi_core.specs.Number.{number_of}
 use Rattle.cec_sweep.specs.declared.series.RangeCause.{RangeCause}
-use Rattle.cec_sweep.specs.declared.series.RangeCause.TheVariants.{Number, Order}
+use Rattle.cec_sweep.specs.declared.series.RangeCause.TheVariants.{Number, Order, Range}
 
 pub record Series : Type 0 where
   pub from : ℕ
@@ -49,12 +50,23 @@ abbrev pub positive : Option ℕ → Option ℕ
 positive None = None
 positive (Some s) = if s == 0 then None else Some s
 
--- the step, which is 1 where there is no slash
+-- the step, at most 1,000,000,000,000, which is 1 where there is no slash
 abbrev pub step_at : List ℕ → ℕ → Option ℕ
-step_at text slash = if nat_lt slash (length text) then positive (number_of (drop (slash + 1) text)) else Some 1
+step_at text slash = if nat_lt slash (length text) then positive (time_in_range (number_of (drop (slash + 1) text))) else Some 1
+
+-- how many steps lie between two times, one fewer than instants
+abbrev pub steps_between : ℕ → ℕ → ℕ → ℕ
+steps_between from to step = (to - from) / step
+
+-- the most instants of a range
+abbrev pub most_instants : ℕ
+most_instants = 1000000
 
 abbrev pub series_to : ℕ → ℕ → ℕ → Result Series RangeCause
-series_to from to step = if nat_lt to from then Err Order else Ok (record { from = from; to = to; step = step })
+series_to from to step =
+    if nat_lt to from then Err Order
+    else if nat_lt (steps_between from to step) most_instants then Ok (record { from = from; to = to; step = step })
+    else Err Range
 
 abbrev pub series_by : Option ℕ → Option ℕ → Option ℕ → Result Series RangeCause
 series_by None to step = Err Number

@@ -1,7 +1,7 @@
 //! Series of instants, in the place of a time of a script.
 ghost use Rattle.std.specs.Prelude.{◌≡◌, ◌≤◌, ◌<◌, IfSome};
 ghost use Rattle.cec_wave.specs.Bounds.{latest_event};
-ghost use Rattle.cec_sweep.specs.Series.{is_range, positive, series_in, series_to, series_until, step_at, time_in_range};
+ghost use Rattle.cec_sweep.specs.Series.{is_range, positive, series_in, series_to, series_until, step_at, steps_between, time_in_range};
 
 use cec_wave::LATEST_EVENT;
 use hdmi_core::{after, before, byte_at, len_before, number_in};
@@ -11,16 +11,19 @@ use thiserror::Error;
 /// Why a range of instants is refused: the first of these that applies.
 #[derive(Clone, Copy, Debug, Drop, PartialEq, Eq, Error)]
 pub enum RangeCause {
-    /// A time that is no number, or above 1,000,000,000,000; a step that is none, or 0.
+    /// A time or a step that is no number, or above 1,000,000,000,000; a step of 0.
     #[error("number")]
     Number,
     /// It ends before it begins.
     #[error("order")]
     Order,
-    /// It is the second one.
+    /// It is the second one, or has more than 1,000,000 instants.
     #[error("range")]
     Range,
 }
+
+/// The most instants of a range: each costs a run.
+const MOST_INSTANTS: u64 = 1_000_000;
 
 /// The instants from one to another, one every so many microseconds.
 #[derive(Debug, Drop)]
@@ -109,10 +112,19 @@ fn step_at(text: &[u8], slash: usize) -> Option<u64>
     ensures moves { IfSome result (λ step. 0 < step) }
 {
     if slash < text.len() {
-        positive(number_in(after(text, slash + 1)))
+        positive(time_in_range(number_in(after(text, slash + 1))))
     } else {
         Some(1)
     }
+}
+
+// How many steps lie between two times, one fewer than instants.
+fn steps_between(from: u64, to: u64, step: u64) -> u64
+    requires forward { from ≤ to }
+    requires moves { 0 < step }
+    ensures { result ≡ steps_between from to step }
+{
+    (to - from) / step
 }
 
 fn series_to(from: u64, to: u64, step: u64) -> Result<Series, RangeCause>
@@ -121,8 +133,10 @@ fn series_to(from: u64, to: u64, step: u64) -> Result<Series, RangeCause>
 {
     if to < from {
         Err(RangeCause::Order)
-    } else {
+    } else if steps_between(from, to, step) < MOST_INSTANTS {
         Ok(Series { from, to, step })
+    } else {
+        Err(RangeCause::Range)
     }
 }
 
