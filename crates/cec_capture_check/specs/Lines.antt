@@ -3,16 +3,16 @@
 use Rattle.std.specs.Prelude.{ℕ, ◌||◌, if◌then◌else◌, codes, List, [], ◌∷◌, Option, Some, None}
 use Rattle.std.specs.Option.{option_map}
 use Rattle.std.specs.Str.{bytes_eq}
-use Rattle.hdmi_core.specs.Number.{number_of}
 use Rattle.hdmi_core.specs.Words.{words_of, one_of}
 use Rattle.cec_expect.specs.Fault.{after_label, at_word}
+use Rattle.cec_expect.specs.Form.{exact_number}
 use Rattle.cec_expect.specs.Line.{unlabelled_words, has_verb, label_in}
 use Rattle.cec_expect.specs.declared.fault.LineFault.{LineFault}
 use Rattle.cec_expect.specs.declared.form.ExpectCause.TheVariants.{Word, Number}
 
 abbrev pub number_by : Option (List ℕ) → Option ℕ
 number_by None = None
-number_by (Some word) = number_of word
+number_by (Some word) = exact_number word
 
 -- ---- instants
 
@@ -34,7 +34,7 @@ time_fault (Some t) = None
 -- the words after `label NAME at` are one number
 abbrev pub named_fault : List (List ℕ) → Option LineFault
 named_fault [] = Some (at_word 3 Word)
-named_fault (time ∷ []) = time_fault (number_of time)
+named_fault (time ∷ []) = time_fault (exact_number time)
 named_fault (time ∷ word ∷ words) = Some (at_word 4 Word)
 
 -- a label stands before `at`

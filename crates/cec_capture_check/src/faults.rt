@@ -8,8 +8,10 @@ ghost use Rattle.cec_expect.specs.Line.{has_verb};
 ghost use Rattle.cec_capture_check.specs.Lines.{expectation_fault, instant_fault, instant_of, kind_fault, line_fault, named_fault, number_by, time_fault, verb_fault};
 ghost use Rattle.cec_capture_check.specs.Faults.{earlier, first_fault, kinds_from};
 
-use cec_expect::{ExpectCause, ExpectFault, LineFault, after_label, at_word, unlabelled};
-use hdmi_core::{first_line, first_word, number_in, one_word};
+use cec_expect::{
+    ExpectCause, ExpectFault, LineFault, after_label, at_word, exact_number, unlabelled,
+};
+use hdmi_core::{first_line, first_word, one_word};
 use std::alloc::{AllocError, Global};
 
 // Whether this is the first word.
@@ -28,7 +30,7 @@ fn has_verb(verb: &[u8], rest: Option<&[u8]>) -> bool
 fn number_by(word: Option<&[u8]>) -> Option<u64>
     ensures { result ≡ number_by (option_copied word.entry) }
 {
-    number_in(word?)
+    exact_number(word?)
 }
 
 /// The instant that a line gives a name.
@@ -60,7 +62,7 @@ fn named_fault(rest: Option<&[u8]>) -> Option<LineFault>
     };
     let (time, others) = first_word(text);
     match others {
-        None => time_fault(number_in(time)),
+        None => time_fault(exact_number(time)),
         Some(others) => {
             let (_word, _words) = first_word(others);
             Some(at_word(4, ExpectCause::Word))
