@@ -218,7 +218,7 @@ pub const CHECK_RULES: &str = "
 
 pub const CHECK_HELP: &str = "\
 The input is that of `hdminet run`, and its script may also have labels and expectations:
-  label NAME LINE                        a label before an event or an expectation
+  label NAME LINE                        a label before an event, a pulse or an expectation
   expect within D of NAME PATTERN        a round that meets the pattern, D microseconds from a label on
   expect from T to U PATTERN             or between two times
   expect none .., expect once ..         no such round, or exactly one
@@ -226,8 +226,8 @@ The input is that of `hdminet run`, and its script may also have labels and expe
   expect refused NAME WORD               the event of this label is refused with the word
 A pattern is met by a round whose line in the trace begins with it after its two times, without the word
 complete, up to the end of a word; `*` stands for any part of one word. A round is in a window where it
-begins and ends in it. The instant of a label is that at which its event was applied, or the end of the
-first round that meets its expectation.
+begins and ends in it. The instant of a label is that at which its event was applied, the onset of its
+pulse, or the end of the first round that meets its expectation.
 
 The output is in the Test Anything Protocol, version 13: a line `ok` or `not ok` for each expectation, in
 order, then one for each refused event that none expects. Below a failure stand the window and rounds in it,
@@ -265,7 +265,7 @@ gives of examples/race.sweep
   4945300..4999950 not-ok not-ok
   5000000..5000000 ok not-ok
 Where a test fails at any of them, the status is 1 and standard error has `failed tests in the range`.
-With --trace and --plain no time is a range.
+With --trace and --plain no time is a range. A range has at most 1000000 instants.
 
 With --capture the input is expectations, a line `capture`, and a capture in any form that `hdminet mon`
 reads, of which they are to hold. Here `label NAME at T` names an instant, and the other lines are
@@ -276,14 +276,14 @@ With --json each line of the report is an object of JSON.
 
 Faults: those of `hdminet run`, and then `script line N: CAUSE` for the first label or expectation at fault;
 nothing is written then. CAUSE is the first of these that applies:
-  word       no such expectation; a pattern of no or more than 160 bytes, or with more than four `*`; nothing
-             after a label
+  word       no such expectation; a pattern of no or more than 160 bytes, with more than four `*`, or with a
+             space at an end; after a label no event, no pulse and no expectation
   number     a number that is none
   name       a device that the topology does not declare
   label      a label that is empty or stands above already; one that no line above has; for a refusal, one
              that is no event's
   order      a window ends before it begins, or the time of a state is past `end`
-  range      a second range
+  range      more than 1000000 instants, or a second range
 The faults of a range come first of all; a script that is refused at an instant T of it has ` at T` after
 its fault. With --capture they are `no capture line`, `line N: CAUSE` of the capture as those of hdminet
 mon, and `expectations line N: CAUSE`.

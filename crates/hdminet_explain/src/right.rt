@@ -60,7 +60,7 @@ fn of_script(cause: ScriptCause) -> &'static str {
 fn of_expectation(cause: ExpectCause) -> &'static str {
     match cause {
         ExpectCause::Word | ExpectCause::Pattern => {
-            "words stand one space apart; PATTERN has 1 to 160 bytes and at most four `*`; a label stands before a line"
+            "words stand one space apart; PATTERN has 1 to 160 bytes, at most four `*` and no space at an end; a label stands before an event, a pulse or an expectation"
         }
         ExpectCause::Number => {
             "D, T and U are decimal numbers of microseconds; none has a zero before it"
@@ -82,7 +82,7 @@ fn of_range(cause: RangeSlip) -> &'static str {
         }
         RangeSlip::Order => "a range `T..U` does not end before it begins: U is T or later",
         RangeSlip::Second => {
-            "one time of a script may be a range, `T..U` or `T..U/S`; another line has one already"
+            "one time of a script may be a range, `T..U` or `T..U/S`, of at most 1000000 instants; another line may have one already"
         }
     }
 }

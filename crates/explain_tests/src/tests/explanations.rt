@@ -324,7 +324,7 @@ end 9
                                             ^^^^^^
   a line here reads `expect none within D of NAME PATTERN`, `expect none from T to U PATTERN`
   `wihtin`: did you mean `within`?
-  words stand one space apart; PATTERN has 1 to 160 bytes and at most four `*`; a label stands before a line
+  words stand one space apart; PATTERN has 1 to 160 bytes, at most four `*` and no space at an end; a label stands before an event, a pulse or an expectation
 --
 check --explain
 device tv tv 4
@@ -335,7 +335,7 @@ end 9
   line 3 of the input: expect from 0 to 5 4>0 * * * * *
                                           ^^^^^^^^^^^^^
   a line here reads `expect from T to U PATTERN`
-  words stand one space apart; PATTERN has 1 to 160 bytes and at most four `*`; a label stands before a line
+  words stand one space apart; PATTERN has 1 to 160 bytes, at most four `*` and no space at an end; a label stands before an event, a pulse or an expectation
 --
 check --explain
 device tv tv 4
@@ -347,7 +347,7 @@ end 9
   line 4 of the input: expect refused film not-for-kind here
                                                         ^^^^
   a line here reads `expect refused NAME WORD`
-  words stand one space apart; PATTERN has 1 to 160 bytes and at most four `*`; a label stands before a line
+  words stand one space apart; PATTERN has 1 to 160 bytes, at most four `*` and no space at an end; a label stands before an event, a pulse or an expectation
 --
 check --explain
 device tv tv 4
@@ -358,7 +358,7 @@ end 9
   line 3 of the input: label film
   a line here reads `label NAME LINE`
   LINE is missing at the end of the line
-  words stand one space apart; PATTERN has 1 to 160 bytes and at most four `*`; a label stands before a line
+  words stand one space apart; PATTERN has 1 to 160 bytes, at most four `*` and no space at an end; a label stands before an event, a pulse or an expectation
 --
 check --explain
 device tv tv 4

@@ -463,7 +463,7 @@ end 20
 => script line 2: range
   line 8 of the input: at 10..12 press tv power
                           ^^^^^^
-  one time of a script may be a range, `T..U` or `T..U/S`; another line has one already
+  one time of a script may be a range, `T..U` or `T..U/S`, of at most 1000000 instants; another line may have one already
 --
 check --explain
 device tv tv 4
@@ -539,7 +539,7 @@ capture
   line 2: expect refused a word x
                  ^^^^^^^
   a line here reads `expect within D of NAME PATTERN`, `expect from T to U PATTERN`, `expect none within D of NAME PATTERN`, `expect none from T to U PATTERN`, `expect once within D of NAME PATTERN`, `expect once from T to U PATTERN`
-  words stand one space apart; PATTERN has 1 to 160 bytes and at most four `*`; a label stands before a line
+  words stand one space apart; PATTERN has 1 to 160 bytes, at most four `*` and no space at an end; a label stands before an event, a pulse or an expectation
 --
 check --capture --explain
 expect state 5 tv tv
@@ -549,7 +549,7 @@ capture
   line 1: expect state 5 tv tv
                  ^^^^^
   a line here reads `expect within D of NAME PATTERN`, `expect from T to U PATTERN`, `expect none within D of NAME PATTERN`, `expect none from T to U PATTERN`, `expect once within D of NAME PATTERN`, `expect once from T to U PATTERN`
-  words stand one space apart; PATTERN has 1 to 160 bytes and at most four `*`; a label stands before a line
+  words stand one space apart; PATTERN has 1 to 160 bytes, at most four `*` and no space at an end; a label stands before an event, a pulse or an expectation
 --
 check --capture --explain
 expct within
@@ -560,7 +560,7 @@ capture
           ^^^^^
   a line here reads `expect within D of NAME PATTERN`, `expect from T to U PATTERN`, `expect none within D of NAME PATTERN`, `expect none from T to U PATTERN`, `expect once within D of NAME PATTERN`, `expect once from T to U PATTERN`, `label NAME at T`, `label NAME LINE`
   `expct`: did you mean `expect`?
-  words stand one space apart; PATTERN has 1 to 160 bytes and at most four `*`; a label stands before a line
+  words stand one space apart; PATTERN has 1 to 160 bytes, at most four `*` and no space at an end; a label stands before an event, a pulse or an expectation
 --
 check --capture --explain
 label a at x
@@ -579,7 +579,7 @@ capture
   line 1: label a at 5 x
                        ^
   a line here reads `label NAME at T`
-  words stand one space apart; PATTERN has 1 to 160 bytes and at most four `*`; a label stands before a line
+  words stand one space apart; PATTERN has 1 to 160 bytes, at most four `*` and no space at an end; a label stands before an event, a pulse or an expectation
 ";
 
 /// Bytes that are no EDID.
