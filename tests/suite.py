@@ -16,6 +16,7 @@ sys.path.insert(0, os.path.join(TOP, "tests/suite"))
 sys.path.insert(0, os.path.join(TOP, "examples/suite"))
 
 from faulty import SLIPS  # noqa: E402
+from dut import Dut  # noqa: E402
 from emulated import Emulated  # noqa: E402
 from reference import Reference  # noqa: E402
 
@@ -25,8 +26,14 @@ loader.exec_module(runner)
 
 PROGRAM = os.path.realpath(sys.argv[1]) if len(sys.argv) > 1 else runner.found_program()
 REFERENCE = os.path.join(TOP, "examples/suite/reference.py")
-# What the kinds of the emulator fail, and where they have a remark.
-KNOWN = {"player": ([], ["active-woken"]), "recorder": ([], ["active-woken"]), "amp": ([], ["audio-standby"]), "switch": ([], [])}
+# What the kinds of the emulator fail, and where they have a remark. A box of a recorder and a player is tested as a player.
+KNOWN = {
+    ("player", "player"): ([], ["active-woken"]),
+    ("recorder", "recorder"): ([], ["active-woken"]),
+    ("combo", "player"): ([], ["active-woken"]),
+    ("amp", "amp"): ([], ["audio-standby"]),
+    ("switch", "switch"): ([], []),
+}
 # The frames that were spelled by now; each process has its own.
 FRAMES = runner.Frames(PROGRAM)
 TESTS = runner.tests_of(runner.TESTS, [])
@@ -44,7 +51,7 @@ class Here:
 
 def failures(kind, device, port=2):
     """The tests that a device fails, and those that have a remark of what is recommended."""
-    suite = runner.Suite(PROGRAM, kind, port)
+    suite = runner.Suite(PROGRAM, kind, port, 60)
     suite.frames = FRAMES
     failed, remarked = [], []
     for test in TESTS:
@@ -74,8 +81,9 @@ def expected():
     return {name: sorted(tests.split()) for name, tests in lines}
 
 
-def of_emulated(kind):
-    device = Emulated(PROGRAM)
+def of_emulated(kinds):
+    emulated, kind = kinds
+    device = Emulated(PROGRAM, emulated)
     got = failures(kind, device)
     device.close()
     return got
@@ -97,7 +105,7 @@ def emulated_kinds(pool):
     right = True
     for kind, got in zip(KNOWN, pool.map(of_emulated, KNOWN)):
         if got != KNOWN[kind]:
-            print("suite: the emulated %s: %s" % (kind, got))
+            print("suite: the emulated %s: %s" % (kind[0], got))
             right = False
     return right
 
@@ -105,6 +113,53 @@ def emulated_kinds(pool):
 def suite_of(command, *words):
     """What tools/suite writes over a device that is a program."""
     return subprocess.run([os.path.join(TOP, "tools/suite"), "--program", PROGRAM, "--dut", command, *words], capture_output=True, text=True)
+
+
+class Multiplies(Dut):
+    """Asks for more calls at each call."""
+
+    def start(self, kind):
+        self.wake()
+
+    def wake(self):
+        for after in range(1000, 1063):
+            self.wake_up(after)
+
+
+class Turns(Dut):
+    """Asks for a thousand calls every millisecond."""
+
+    def start(self, kind):
+        self.wake_up(1000)
+        self.left = 1000
+
+    def wake(self):
+        self.wake_up(1000)
+        if self.left:
+            self.wake_up(1000)
+            self.left -= 1
+
+
+class Floods(Reference):
+    """Hands in twenty frames at once."""
+
+    def on_46(self, initiator, operands):
+        for _ in range(20):
+            self.say(initiator, 0x47, *b"DUT")
+
+
+def greedy_devices(pool):
+    """A device that asks for more than there is fails, and the test comes to its end."""
+    suite = runner.Suite(PROGRAM, "player", 2, 60)
+    suite.frames = FRAMES
+    test = next(test for test in TESTS if test.name == "osd-name")
+    right = True
+    for device, fault in ((Multiplies(), "more than 1024 lines are due"), (Turns(), "more than 100000 lines in one test"), (Floods(), "refused queue-full")):
+        holds, below, _ = suite.test(test, Here(device))
+        if holds or not any(fault in line for line in below):
+            print("suite: no fault: %s" % fault)
+            right = False
+    return right
 
 
 def broken_devices(pool):
@@ -205,7 +260,7 @@ def table_is_whole(pool):
 def of_talk(name):
     """Whether what a device said in each test came at the instants that it named, and its trace is the one of `hdminet run`."""
     kind, device = SLIPS.get(name, ("player", Ticking))
-    suite = runner.Suite(PROGRAM, kind, 2)
+    suite = runner.Suite(PROGRAM, kind, 2, 60)
     suite.frames = FRAMES
     right = True
     for test in TESTS:
@@ -264,7 +319,7 @@ def main():
     signal.alarm(600)
     passed = failed = 0
     with ProcessPoolExecutor(min(4, os.cpu_count() or 2)) as pool:
-        for test in [keeps_the_standard, emulated_kinds, slips_are_seen, every_test_fails_once, table_is_whole, ticking_devices, instants_are_kept, broken_devices, programs_are_driven]:
+        for test in [keeps_the_standard, emulated_kinds, slips_are_seen, every_test_fails_once, table_is_whole, ticking_devices, instants_are_kept, greedy_devices, broken_devices, programs_are_driven]:
             if test(pool):
                 passed += 1
             else:

@@ -2,6 +2,7 @@
 """A device of a second emulated room as a device under test:
 
     tools/suite --dut 'examples/suite/emulated.py release/hdminet' --kind player
+    tools/suite --dut 'examples/suite/emulated.py release/hdminet combo' --kind player
 
 The second room has a television, the device `own`, which is emulated, and seats for the rest of the world: `hears` hands it what
 the first room says, and holds the address that a frame comes from, so that an answer is taken; `taken` and `more` hold the addresses that
@@ -20,9 +21,10 @@ BROADCAST, TELEVISION = 15, 0
 
 
 class Emulated(Dut):
-    def __init__(self, program):
+    def __init__(self, program, emulated=None):
+        """The kind that is emulated is the one under test, where no other is named."""
         super().__init__()
-        self.program, self.room, self.spelled = program, None, {}
+        self.program, self.emulated, self.room, self.spelled = program, emulated, None, {}
 
     def spell(self, word, line):
         """The bytes of a frame's text, by `asm`, or the text of bytes, by `dis`."""
@@ -51,7 +53,7 @@ class Emulated(Dut):
         for level, digit in enumerate(digits, 1):
             is_last = level == len(digits)
             name = "own" if is_last else "box%d" % level
-            lines += ["device %s %s %d" % (name, self.kind if is_last else "outside", 2 if is_last else 15), "plug %s %s %d" % (name, above, int(digit, 16))]
+            lines += ["device %s %s %d" % (name, (self.emulated or self.kind) if is_last else "outside", 2 if is_last else 15), "plug %s %s %d" % (name, above, int(digit, 16))]
             above = name
         self.room = Room(self.program, "\n".join(lines) + "\n")
         self.at = 0
@@ -86,40 +88,33 @@ class Emulated(Dut):
 
     def address(self, physical):
         self.close()
-        self.physical, self.la, self.taken = physical, None, []
+        self.physical, self.taken, self.free, self.polled, self.is_settled = physical, [], [], None, False
         if physical is not None:
             self.settle()
 
     def settle(self):
-        """Polls in the first room what the device has polled last in the second one."""
+        """Polls in the first room the first address that the device has polled in the second one, and not yet in the first."""
         self.open()
         polls = [frame[0] & 15 for frame in self.later if len(frame) == 1]
-        self.later = [frame for frame in self.later if len(frame) > 1]
-        self.polled = polls[-1] if polls and polls[-1] not in self.taken else None
+        self.polled = next((address for address in polls if address not in self.taken + self.free), None)
         if self.polled is not None:
             self.send([self.polled * 0x11])
-        else:
-            self.settled(BROADCAST)
-
-    def settled(self, address):
-        self.la = address
+            return
+        self.is_settled = True
+        self.hold(self.free)
         for frame in self.later:
-            self.send(frame)
+            if len(frame) > 1:
+                self.send(frame)
 
     def sent(self, data, acknowledged):
-        if self.room is None or self.la is not None or data != bytes([self.polled * 0x11]):
-            return
-        if acknowledged:
-            self.taken.append(self.polled)
-            self.settle()
-        else:
+        if self.room is not None and not self.is_settled and data == bytes([self.polled * 0x11]):
             self.drop()
-            self.hold([self.polled])
-            self.settled(self.polled)
+            (self.taken if acknowledged else self.free).append(self.polled)
+            self.settle()
 
     def frame(self, data, acknowledged):
         initiator, to = data[0] >> 4, data[0] & 15
-        if self.room is None or self.la is None or len(data) == 1 or not acknowledged or to not in (self.la, BROADCAST):
+        if self.room is None or not self.is_settled or len(data) == 1 or not acknowledged or to not in self.free + [BROADCAST]:
             return
         if initiator not in (TELEVISION, BROADCAST):
             self.room.ask("at %d hold hears %x" % (self.at, initiator))
@@ -135,6 +130,6 @@ class Emulated(Dut):
 
 
 if __name__ == "__main__":
-    device = Emulated(sys.argv[1])
+    device = Emulated(*sys.argv[1:])
     device.serve()
     device.close()
