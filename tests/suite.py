@@ -22,6 +22,7 @@ from reference import Reference  # noqa: E402
 
 loader = importlib.machinery.SourceFileLoader("runner", os.path.join(TOP, "tools/suite"))
 runner = importlib.util.module_from_spec(importlib.util.spec_from_loader("runner", loader))
+sys.modules["runner"] = runner
 loader.exec_module(runner)
 
 PROGRAM = os.path.realpath(sys.argv[1]) if len(sys.argv) > 1 else runner.found_program()

@@ -321,6 +321,14 @@ class AnswersTwice(Reference):
         super().on_46(initiator, operands)
 
 
+@slip("tuner")
+class AnswersTelevision(Reference):
+    """Answers the television, whoever asks."""
+
+    def say(self, to, opcode, *operands):
+        super().say(to if to == UNREGISTERED else 0, opcode, *operands)
+
+
 @slip("player")
 class AnswersTheLast(Reference):
     """Forgets a question when the next one comes."""
@@ -548,6 +556,50 @@ class NotifiesNobody(Reference):
         self.deck = deck
 
 
+@slip("player")
+class NotifiesTelevision(Reference):
+    """Reports changes to the television, whoever asked."""
+
+    def set_deck(self, deck):
+        self.notified = None if self.notified is None else 0
+        super().set_deck(deck)
+
+
+@slip("recorder")
+class KeyUnsaid(Reference):
+    """Does not report a change that its key has made."""
+
+    def press(self, key):
+        notified, self.notified = self.notified, None
+        super().press(key)
+        self.notified = notified
+
+
+@slip("recorder")
+class PlaysSlowly(Reference):
+    """Plays forward where it is to play fast."""
+
+    def on_41(self, initiator, operands):
+        return super().on_41(initiator, b"\x24" if operands[0] in (5, 6, 7) else operands)
+
+
+@slip("player")
+class MenuAny(Reference):
+    """Takes each request of its menu for a query."""
+
+    def on_8d(self, initiator, operands):
+        return super().on_8d(initiator, bytes([min(operands[0], 2)]))
+
+
+@slip("tuner")
+class RecordsNothing(Reference):
+    """Takes Record On and timers, and does nothing."""
+
+    def refuse(self, to, opcode, reason):
+        if opcode not in (0x09, 0x97):
+            super().refuse(to, opcode, reason)
+
+
 @slip("recorder")
 class NotifiesAlways(Reference):
     """Goes on to report changes to who does not want them."""
@@ -666,6 +718,25 @@ class ModeUnsaid(Reference):
     def say_all(self, opcode, *operands):
         if opcode != 0x72:
             super().say_all(opcode, *operands)
+
+
+@slip("amp")
+class NeverMute(Reference):
+    """Does not turn the sound off."""
+
+    def act(self, code):
+        if code != 0x43:
+            super().act(code)
+
+
+@slip("amp")
+class SleepsWithSound(Reference):
+    """Takes the sound in standby, and stays there."""
+
+    def on_70(self, initiator, operands):
+        was_on = self.on
+        super().on_70(initiator, operands)
+        self.on = was_on
 
 
 @slip("amp")
