@@ -41,11 +41,11 @@ use Rattle.capture_laws.proofs.ReadBack.{same_line}
 use Rattle.dump_laws.specs.Dumps.{Declared, Span, ReportsLine, ReportsWires, dump_of, level_at, numbered_names, wire_at}
 use Rattle.dump_laws.proofs.ReadHead.{dumps_are_read_as_the_line}
 use Rattle.dump_laws.proofs.Whole.{dumps_report_their_wires}
-use Rattle.driven_laws.specs.Rounds.{IsRuled, Laid, RoundsAreRuled, RoundsAreTheTraces, drives, rounds_by, rounds_in, rounds_of}
+use Rattle.driven_laws.specs.Rounds.{IsRuled, Laid, RoundsAreRuled, RoundsAreTheTraces, drives, pulls, rounds_by, rounds_in, rounds_of}
 use Rattle.driven_laws.specs.Dumps.{DumpsAreReadAsLines, DumpsReportDrives, ReportsDrives, TextsHaveDrives, names_in}
 use Rattle.driven_laws.proofs.Captures.{same_captures}
 use Rattle.driven_laws.proofs.Names.{names_are_words, names_started}
-use Rattle.driven_laws.proofs.Turns.{Stands, Told, all_reported, driven_line, span_of}
+use Rattle.driven_laws.proofs.Turns.{Stands, Told, all_reported, driven_line, pulled, span_of}
 
 -- ---- a run of accepted texts
 
@@ -265,12 +265,28 @@ whole_line u [] = refl
 whole_line u (r ∷ rs) =
     ap (λ b. line_of r.outcome.wave u || b) (whole_line u rs) ∙ sym (list_any-append (λ s. covers s u) r.outcome.wave (run_wave (outcomes rs)))
 
+-- whether the wire of a number is low, by the list of whether each is
+wire_level : (number u : ℕ) (wires : List (List Stretch)) → line_of (wire_at number wires) u ≡ get_or (map (λ ss. line_of ss u) wires) number false
+wire_level number u [] = refl
+wire_level zero u (wire ∷ wires) = refl
+wire_level (suc number) u (wire ∷ wires) = wire_level number u wires
+
+-- in some round the wire of a number is low exactly where that one pulls
+some_pull : (number u : ℕ) (rs : List Laid) → All IsRuled rs → list_any (λ r. line_of (wire_at number (drives r)) u) rs ≡ list_any (λ r. get_or (pulls r u) number false) rs
+some_pull number u rs ruled =
+    any_same (λ (r : Laid). line_of (wire_at number (drives r)) u) (λ r. get_or (pulls r u) number false) rs
+    (λ k x l. wire_level number u (drives (get_or rs k x)) ∙ ap (λ bs. get_or bs number false) (pulled (get_or rs k x) (ruled k x l) u))
+
 reports : (tree : List Node) (rs : List Laid) (text : List ℕ) → All IsRuled rs → All (λ r. length r.seats ≡ length tree) rs → ReportsWires (names_in tree) (map span_of rs) text
     → ReportsDrives (names_in tree) rs text
 reports tree rs text ruled seated reported =
     let names = names_in tree ++ codes "pulses" ∷ [] in
     let line : (u : ℕ) → wire_line reported.line u ≡ level_at 0 (map span_of rs) u = λ u. (
     ap (λ (i : List ℕ). wire_line (record { scale = reported.line.scale; id = i; words = reported.line.words }) u) reported.id ∙ reported.levels 0 u) in
+    let drives_are : (number u : ℕ) → wire_line (record reported.line { id = id_of (number + 1) ∷ [] }) u ≡ list_any (λ r. line_of (wire_at number (drives r)) u) rs = λ number u. (
+    reported.levels (number + 1) u ∙ any_map (λ (s : Span). line_of (wire_at (number + 1) s.wires) u) span_of rs
+    ∙ any_same (λ (r : Laid). line_of (wire_at (number + 1) (r.outcome.wave ∷ drives r)) u) (λ r. line_of (wire_at number (drives r)) u) rs
+    (λ k x l. ap (λ n. line_of (wire_at n ((get_or rs k x).outcome.wave ∷ drives (get_or rs k x))) u) (let e : number + 1 ≡ suc number = omega arith in e))) in
     record {
       line = reported.line;
       first = reported.first;
@@ -279,9 +295,8 @@ reports tree rs text ruled seated reported =
           ∙ ap (λ ds. list_any (λ (d : Declared). wire_line (record { scale = reported.line.scale; id = d.id; words = reported.line.words }) u) (drop 1 ds)) (sym reported.declared);
       declared = reported.declared;
       line_is = λ u. line u ∙ whole_line u rs;
-      drives_are = λ number u. reported.levels (number + 1) u ∙ any_map (λ (s : Span). line_of (wire_at (number + 1) s.wires) u) span_of rs
-          ∙ any_same (λ (r : Laid). line_of (wire_at (number + 1) (r.outcome.wave ∷ drives r)) u) (λ r. line_of (wire_at number (drives r)) u) rs
-          (λ k x l. ap (λ n. line_of (wire_at n ((get_or rs k x).outcome.wave ∷ drives (get_or rs k x))) u) (let e : number + 1 ≡ suc number = omega arith in e));
+      drives_are = drives_are;
+      pulls_are = λ number u. drives_are number u ∙ some_pull number u rs ruled;
     }
 
 pub dumps_report_drives : DumpsReportDrives

@@ -13,7 +13,7 @@ use Rattle.cec_wire.specs.Alone.{part_of}
 use Rattle.cec_wire.specs.Round.{close_in}
 use Rattle.cec_wire.proofs.Alone.{rounds_are_lone}
 use Rattle.cec_wire.proofs.Lasting.{rounds_last}
-use Rattle.drive_laws.proofs.Whole.{drives_are_the_line}
+use Rattle.drive_laws.proofs.Whole.{drives_are_ruled, drives_are_the_line}
 use Rattle.dump_laws.specs.Dumps.{AreSpans, IsWithin, Span, wire_at}
 use Rattle.dump_laws.proofs.Changes.{spans_text}
 use Rattle.cec_net.specs.Start.{first_onset, least_start, sooner}
@@ -36,7 +36,7 @@ use Rattle.cec_run.specs.Run.{Config, turn_at, first_time, IsEventTurn, IsRoundT
 use Rattle.cec_run.proofs.Advance.{round_begins}
 use Rattle.cec_driven.specs.Driven.{Drives, IsDrivenBy}
 use Rattle.cec_driven.proofs.Counts.{count_applied}
-use Rattle.driven_laws.specs.Rounds.{IsRuled, Laid, drives, rounds_by, rounds_in}
+use Rattle.driven_laws.specs.Rounds.{IsRuled, Laid, drives, pulls, rounds_by, rounds_in}
 
 -- ---- where a run stands
 
@@ -136,6 +136,10 @@ none_low u place (wire ∷ wires) h = by (line_of wire u) refl h place (λ rest 
 
 pub driven_line : (r : Laid) → IsRuled r → (u : ℕ) → line_of r.outcome.wave u ≡ list_any (λ ss. line_of ss u) (drives r)
 driven_line r h u = drives_are_the_line r.seats r.begin r.pulses r.outcome h.frames h.sparse h.wave h.round h.begun u
+
+-- each of its drives is low exactly where its seat, or a pulse, pulls
+pub pulled : (r : Laid) → IsRuled r → (u : ℕ) → map (λ ss. line_of ss u) (drives r) ≡ pulls r u
+pulled r h u = drives_are_ruled r.seats r.begin r.pulses r.outcome h.frames h.sparse h.wave h.round h.begun u
 
 pub begins_low : (r : Laid) → IsRuled r → r.begin < r.outcome.rest
 begins_low r h = (rounds_last r.seats r.begin r.pulses r.outcome h.sparse h.wave h.round h.begun).0

@@ -1,5 +1,5 @@
 -- The dump of a run and of who drives its line says that the line is low exactly where somebody pulls it (own).
-use Rattle.std.specs.Prelude.{◌≡◌, ℕ, ◌+◌, List, [], ◌∷◌, ◌++◌, drop, map, codes, Option, Some, Ok}
+use Rattle.std.specs.Prelude.{◌≡◌, ℕ, ◌+◌, false, List, [], ◌∷◌, ◌++◌, drop, get_or, map, codes, Option, Some, Ok}
 use Rattle.std.specs.List.{list_any}
 use Rattle.cec_wave.specs.Line.{line_of}
 use Rattle.hdmi_blocks.specs.declared.edid.Edid.{Edid}
@@ -17,7 +17,7 @@ use Rattle.cec_run.specs.declared.run.Totals.{Totals}
 use Rattle.cec_run.specs.Emulate.{IsAccepted, IsLineOf}
 use Rattle.cec_driven.specs.Emulate.{IsDrivesOf}
 use Rattle.dump_laws.specs.Dumps.{Declared, declared_in, numbered_names, wire_at}
-use Rattle.driven_laws.specs.Rounds.{Laid, drives, rounds_of}
+use Rattle.driven_laws.specs.Rounds.{Laid, drives, pulls, rounds_of}
 
 -- the wires that a dump declares below its first one
 abbrev pub below : List ℕ → List Declared
@@ -35,6 +35,8 @@ pub record ReportsDrives (names : List (List ℕ)) (rounds : List Laid) (text : 
   pub line_is : (u : ℕ) → wire_line line u ≡ line_of (run_wave (map (λ r. r.outcome) rounds)) u
   -- and each of the others is low where its device, or the pulses, pull in some round.
   pub drives_are : (number u : ℕ) → wire_line (record line { id = id_of (number + 1) ∷ [] }) u ≡ list_any (λ r. line_of (wire_at number (drives r)) u) rounds
+  -- That is where the device of that number pulls by the rule of a round, or where a pulse does.
+  pub pulls_are : (number u : ℕ) → wire_line (record line { id = id_of (number + 1) ∷ [] }) u ≡ list_any (λ r. get_or (pulls r u) number false) rounds
 
 -- the names of a topology's devices
 abbrev pub names_in : List Node → List (List ℕ)

@@ -1,13 +1,14 @@
 -- The rounds of a run of which a dump reports who drives the line (own).
-use Rattle.std.specs.Prelude.{◌≡◌, ℕ, zero, suc, true, List, [], ◌∷◌, ◌++◌, map, All}
+use Rattle.std.specs.Prelude.{◌≡◌, ℕ, zero, suc, Bool, true, List, [], ◌∷◌, ◌++◌, map, All}
 use Rattle.cec_wave.specs.declared.Stretch.{Stretch}
-use Rattle.cec_wave.specs.Line.{IsWave}
+use Rattle.cec_wave.specs.Line.{IsWave, line_of}
 use Rattle.cec_wave.specs.Pulses.{AreSparse}
 use Rattle.cec_wire.specs.declared.Seat.{Seat}
 use Rattle.cec_wire.specs.declared.Outcome.{Outcome}
 use Rattle.cec_wire.specs.Contend.{AreFrames}
 use Rattle.cec_wire.specs.Lasting.{is_begun}
 use Rattle.cec_wire.specs.Round.{IsRound}
+use Rattle.cec_drives.specs.Drives.{pulse_line, seat_line}
 use Rattle.cec_drives.specs.Stretches.{drives_of}
 use Rattle.cec_net.specs.State.{first_net}
 use Rattle.cec_net.specs.Step.{seats_of}
@@ -30,6 +31,10 @@ pub record Laid : Type 0 where
 -- its drives: each seat's, and then the pulses'
 abbrev pub drives : Laid → List (List Stretch)
 drives r = drives_of r.seats r.begin r.pulses r.outcome
+
+-- whether each seat pulls at a microsecond by the rule of a round, and then whether a pulse does
+abbrev pub pulls : Laid → ℕ → List Bool
+pulls r u = map (λ seat. seat_line r.begin (line_of r.outcome.wave) seat u) r.seats ++ pulse_line r.begin r.pulses (line_of r.outcome.wave) u ∷ []
 
 -- the round of a turn, if it is one
 abbrev pub rounds_by : (turn : Turn) (c : Config) (line text : List ℕ) (d : Config) → IsDrivenBy turn c line text d → List Laid
