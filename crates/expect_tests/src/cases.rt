@@ -1,7 +1,7 @@
 //! Each row through the public calls.
 use crate::rows::{
-    CUTS, FAULTS, LABELS, LABELS_REPORT, PATTERNS, PLAIN, REFUSALS, REPORT, SCRIPT, STATES,
-    STATES_REPORT, TOPOLOGY, WINDOWS, WINDOWS_REPORT,
+    CUTS, FAULTS, LABELS, LABELS_REPORT, PATTERNS, PLAIN, PULSES, PULSES_REPORT, REFUSALS, REPORT,
+    SCRIPT, STATES, STATES_REPORT, TOPOLOGY, WINDOWS, WINDOWS_REPORT,
 };
 use cec_check::{CheckError, Tally, check, verdicts};
 use cec_expect::{cut_script, first_fault, fits, plain_script};
@@ -9,7 +9,7 @@ use hdmi_core::Writes;
 use std::io::{self, ErrorKind, Write};
 use std::process::Abort;
 
-fn holds(rt: &impl Abort, holds: bool, case: &str) {
+pub(crate) fn holds(rt: &impl Abort, holds: bool, case: &str) {
     assert!(rt; holds, "{case}");
 }
 
@@ -33,7 +33,7 @@ fn spelled(rt: &(impl Abort + AllocGlobal), row: &str) -> String {
     text
 }
 
-fn fault_of(rt: &(impl Abort + AllocGlobal), script: &str) -> String {
+pub(crate) fn fault_of(rt: &(impl Abort + AllocGlobal), script: &str) -> String {
     match first_fault(rt.alloc(), TOPOLOGY.as_bytes(), script.as_bytes()).expect(rt, script) {
         None => String::from_str(rt.alloc(), "none").expect(rt, script),
         Some(fault) => {
@@ -83,7 +83,11 @@ fn scripts_end_earlier(rt: HostRuntime) {
 }
 
 /// The report of a script, and its counts, or why there is none.
-fn report_of(rt: &(impl Abort + AllocGlobal), topology: &str, script: &str) -> (String, String) {
+pub(crate) fn report_of(
+    rt: &(impl Abort + AllocGlobal),
+    topology: &str,
+    script: &str,
+) -> (String, String) {
     let mut out = Vec::new(rt.alloc());
     let done = check(
         rt.alloc(),
@@ -122,6 +126,13 @@ fn windows_hang_from_what_comes(rt: HostRuntime) {
     let (text, counts) = report_of(&rt, TOPOLOGY, LABELS);
     holds(&rt, counts.as_str() == "1 of 6", "counts");
     holds(&rt, text.as_str() == LABELS_REPORT, "report");
+}
+
+#[test]
+fn windows_hang_from_pulses(rt: HostRuntime) {
+    let (text, counts) = report_of(&rt, TOPOLOGY, PULSES);
+    holds(&rt, counts.as_str() == "1 of 5", "counts");
+    holds(&rt, text.as_str() == PULSES_REPORT, "report");
 }
 
 #[test]

@@ -1,7 +1,9 @@
-//! Tests of expectations: patterns, what is refused, plain scripts, and reports worked out by hand.
+//! Tests of expectations: patterns, what is refused, plain scripts, limits, and reports worked out by hand.
 #![tactic(auto)]
 
 #[cfg(test)]
 mod cases;
+#[cfg(test)]
+mod limits;
 #[cfg(test)]
 mod rows;

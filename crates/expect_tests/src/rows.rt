@@ -14,6 +14,7 @@ pub(crate) const PATTERNS: &str = "\
 4>0 image-view-on * by p1 => 4>0 image-view-on nack by p1 out - => met
 4>0 * by => 4>0 play forward ack by p1 out - => not
 4>0 * * ack => 4>0 play forward ack by p1 out - => met
+4>0 set-osd-name \"a  b\" => 4>0 set-osd-name \"a  b\" ack by p1 out - => met
 * => 4>4 nack by p1 out - => met
 silent => silent 1000001001 by p1 out - => met
 short => silent 0 by p1 out - => not
@@ -85,11 +86,31 @@ end 10|expect state 5 plug on => line 2: name at 3
 end 10|label  expect state 10 p2 on => line 2: name at 5
 end 10|label  expect state 11 tv on => line 2: label at 1
 end 10|expect state 11 tv on => line 2: order at 2
-label a end 10|expect state 11 tv on => line 2: order at 2
+label a end 10|expect state 11 tv on => line 1: word at 2
 end 10|label a expect state 11 tv on => line 2: order at 4
 expect state 11 tv on|end 10 => line 1: order at 2
 label a expect state 5 tv on|expect refused a off-wire => line 2: label at 2
-label a expect state 5 tv on|expect within 5 of a short => none";
+label a expect state 5 tv on|expect within 5 of a short => none
+label g pulse 5 100|expect within 10 of g short => none
+label g pulse 5 100|expect refused g off-wire => line 2: label at 2
+label g pulse 5 100|label g at 7 press p1 play => line 2: label at 1
+label g end 10|end 10 => line 1: word at 2
+label g # remark|end 10 => line 1: word at 2
+label g |end 10 => line 1: word at 2
+label g attic|end 10 => line 1: word at 2
+label  # remark|end 10 => line 1: word at 2
+# remark|label g at 5 press p1 play => none
+expect from 0 to 18446744073709551615 short|end 10 => none
+expect from 0 to 18446744073709551616 short|end 10 => line 1: number at 4
+expect none from 18446744073709551616 to 18446744073709551617 short|end 10 => line 1: number at 3
+expect from 0 to 184467440737095516150 short|end 10 => line 1: number at 4
+label a at 5 press p1 play|expect within 18446744073709551615 of a short => none
+label a at 5 press p1 play|expect within 18446744073709551616 of a short => line 2: number at 2
+expect state 18446744073709551616 tv on|end 10 => line 1: number at 2
+expect from 1 to 2 short |end 10 => line 1: word at 5
+expect once from 1 to 2 4>0 image-view-on  |end 10 => line 1: word at 6
+expect from 1 to 2  short|end 10 => line 1: word at 5
+expect from 1 to 2 4>0 set-osd-name \"a  b\"|end 10 => none";
 
 /// A line, and what is left of it in the plain script.
 pub(crate) const PLAIN: &str = "\
@@ -232,6 +253,30 @@ expect state 2000000 p1 1.0.0.0 active=- 4
 expect state 2000000 tv active=1.0.0.0
 expect none within 5 of on short
 end 2000000
+";
+
+/// The instant of a pulse's label is its onset. This one falls 2,000 after the first bit of the player's frame, which is given up there.
+/// The television pulls the line low for 3,600, and the player begins again 7,200 later, at 1,017,300.
+pub(crate) const PULSES: &str = "\
+label press at 1000000 press p1 play
+label glitch pulse 1006500 100
+expect within 6500 of press short
+label again expect within 61950 of glitch 4>0 image-view-on ack
+expect none within 61949 of glitch 4>0
+expect within 10799 of glitch short
+expect once within 116400 of again 4>f active-source
+end 2000000
+";
+
+pub(crate) const PULSES_REPORT: &str = "\
+TAP version 13
+ok 1 - line 3: expect within 6500 of press short
+ok 2 - line 4: label again expect within 61950 of glitch 4>0 image-view-on ack
+ok 3 - line 5: expect none within 61949 of glitch 4>0
+not ok 4 - line 6: expect within 10799 of glitch short
+# seen 0 from 1006500 to 1017299
+ok 5 - line 7: expect once within 116400 of again 4>f active-source
+1..5
 ";
 
 pub(crate) const STATES_REPORT: &str = "\
