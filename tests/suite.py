@@ -16,6 +16,7 @@ sys.path.insert(0, os.path.join(TOP, "tests/suite"))
 sys.path.insert(0, os.path.join(TOP, "examples/suite"))
 
 from faulty import SLIPS  # noqa: E402
+import faulty_features  # noqa: E402, F401
 from dut import Dut  # noqa: E402
 from emulated import Emulated  # noqa: E402
 from reference import Reference  # noqa: E402
@@ -57,10 +58,10 @@ def failures(kind, device, port=2):
     failed, remarked = [], []
     for test in TESTS:
         if runner.skipped(test, kind, []) is None:
-            holds, below, _ = suite.test(test, Here(device))
-            if not holds:
+            result = suite.test(test, Here(device))
+            if not result.holds:
                 failed.append(test.name)
-            elif below:
+            elif result.below:
                 remarked.append(test.name)
     return failed, remarked
 
@@ -156,8 +157,8 @@ def greedy_devices(pool):
     test = next(test for test in TESTS if test.name == "osd-name")
     right = True
     for device, fault in ((Multiplies(), "more than 1024 lines are due"), (Turns(), "more than 100000 lines in one test"), (Floods(), "refused queue-full")):
-        holds, below, _ = suite.test(test, Here(device))
-        if holds or not any(fault in line for line in below):
+        result = suite.test(test, Here(device))
+        if result.holds or not any(fault in line for line in result.below):
             print("suite: no fault: %s" % fault)
             right = False
     return right
