@@ -416,6 +416,43 @@ fn unanswered(rt: HostRuntime) {
     assert_eq!(rt; first, "  no answer to 4>0 8f of 151150");
 }
 
+/// So many requests of 4 and 5 in turn, Give Device Power Status of 0, each 12,550 after the one before, and then a poll when
+/// the answers are overdue.
+fn requests_in_turn(rt: &(impl Abort + AllocGlobal), count: u64) -> String {
+    let mut words = String::new(rt.alloc());
+    for number in 0..count {
+        let begin = number.saturating_mul(63_700).saturating_add(100_000);
+        let initiator = if number % 2 == 0 { 4 } else { 5 };
+        let word = format!(in rt.alloc(); "@{begin} ={initiator}08f ").expect(rt, "a word");
+        words.push_str(word.as_str()).ok().expect(rt, "words");
+    }
+    words.push_str("@3000000 =40").ok().expect(rt, "words");
+    words
+}
+
+/// What is remarked of the first of them: a request of two blocks ends 51,150 after its begin.
+fn overdue(rt: &(impl Abort + AllocGlobal), count: u64) -> String {
+    let mut lines = String::new(rt.alloc());
+    for number in 0..count {
+        let end = number.saturating_mul(63_700).saturating_add(151_150);
+        let initiator = if number % 2 == 0 { 4 } else { 5 };
+        let line = format!(in rt.alloc(); "  no answer to {initiator}>0 8f of {end}|").expect(
+            rt, "a line",
+        );
+        lines.push_str(line.as_str()).ok().expect(rt, "lines");
+    }
+    lines
+}
+
+/// At most 16 requests wait at once; of more nothing is said.
+#[test]
+fn sixteen_requests_wait(rt: HostRuntime) {
+    for (count, waiting) in [(1, 1), (15, 15), (16, 16), (17, 16)] {
+        let reported = remarked(&rt, requests_in_turn(&rt, count).as_str());
+        assert_eq!(rt; reported.as_str(), overdue(&rt, waiting).as_str());
+    }
+}
+
 #[test]
 fn bad_starts(rt: HostRuntime) {
     for case in SERIES {
