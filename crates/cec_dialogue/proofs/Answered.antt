@@ -1,5 +1,5 @@
 -- Lines that are answered, one after another.
-use Rattle.std.proofs.Common.{◌≡◌, ℕ, ◌+◌, ◌<◌, Bool, true, false, List, [], ◌∷◌, ◌++◌, length, length-append, Option, Some, None, is_some, Result, Ok, Err, IsErr, IfErr, refl, sym, ap, subst, ◌∙◌, append_assoc, append-nil, arith}
+use Rattle.std.proofs.Common.{◌≡◌, ℕ, ◌+◌, ◌<◌, ◌≤◌, Bool, true, false, List, [], ◌∷◌, ◌++◌, length, length-append, Option, Some, None, is_some, Result, Ok, Err, IsErr, IfErr, refl, sym, ap, subst, ◌∙◌, append_assoc, append-nil, arith}
 use Rattle.std.specs.Io.KnownBytes.{Appends, Keeps}
 use Rattle.std.proofs.lemmas.Bool.{false≢true}
 use Rattle.std.proofs.lemmas.List.Elements.{All-append, All-cons, All-nil}
@@ -14,10 +14,9 @@ use Rattle.cec_session.specs.Command.{command_of}
 use Rattle.cec_session.specs.Session.{Session, IsStep, IsDue}
 use Rattle.cec_session.specs.Taken.{IsLineTaken, IsOfMemory}
 use Rattle.cec_session.specs.Whole.{IsLine, AreLines, kept_line, reported_of}
-use Rattle.cec_session.proofs.Answering.{due_one}
 use Rattle.cec_dialogue.specs.declared.error.SessionError.{SessionError}
 use Rattle.cec_dialogue.specs.declared.error.SessionError.TheVariants.{Read, TooLong, NoScriptLine, Topology, Edid, Script, Write, Memory}
-use Rattle.cec_dialogue.specs.Dialogue.{HasAnswered, HasGone, HaveAnswers, HasEnded, IsAnswering, IsCutShort, IsFirstPut, IsLineAnswered, IsScriptLine, first_reported, is_write}
+use Rattle.cec_dialogue.specs.Dialogue.{HasAnswered, HasFilled, HasGone, HaveAnswers, HasEnded, IsAnswering, IsFirstPut, IsLineAnswered, IsScriptLine, first_reported, is_write, most_lines}
 use Rattle.cec_dialogue.proofs.Coming.{come_more, come_none}
 use Rattle.cec_dialogue.proofs.Putting.{all_short, appends_keep, cut_short}
 
@@ -69,16 +68,18 @@ whole_answered s t line reported count was is old mid new (Err fault) going (ste
       step,
       asked,
       asks,
-      λ other after is_due. subst (λ (x : List ℕ). IsCutShort x old new) (due_one step asked t after text other due is_due) (all_short text old new (appends_keep old mid new text put keep)),
+      text,
+      t,
+      due,
+      all_short text old new (appends_keep old mid new text put keep),
     )
 
 -- it was cut short
 pub cut_answered : (s t : Session) (line : List ℕ) (at count : ℕ) (was is : Bool) (old mid new : Option (List ℕ)) (result : Result Unit SessionError) → IsLineTaken s line t old mid was is (Err (live.Write at)) → Keeps mid new
     → IsErr result → IfErr result (λ error. error ≡ Write count) → IsLineAnswered s line t old new result
 cut_answered s t line at count was is old mid new (Ok done) cut keep failed error = absurd (false≢true failed)
-cut_answered s t line at count was is old mid new (Err fault) (step, asked, asks, (due, flag)) keep failed error =
-    subst (λ (error : SessionError). IsLineAnswered s line t old new (Err error)) (sym error)
-    (step, asked, asks, λ text after is_due. cut_short text old mid new (record { count = at }) (due text after is_due) keep)
+cut_answered s t line at count was is old mid new (Err fault) (step, asked, asks, ((text, after, due, cut), flag, stands)) keep failed error =
+    subst (λ (error : SessionError). IsLineAnswered s line t old new (Err error)) (sym error) (step, asked, asks, text, after, due, cut_short text old mid new (record { count = at }) cut keep)
 
 pub memory_answered : (s t : Session) (line : List ℕ) (was is : Bool) (old new : Option (List ℕ)) → IsLineTaken s line t old new was is (Err live.Memory) → IsLineAnswered s line t old new (Err Memory)
 memory_answered s t line was is old new taken = taken.1
@@ -139,7 +140,7 @@ so_far_start known put s = record {
   counted = refl;
 }
 
-pub so_far_more : (before mid after : Option (List ℕ)) (s t u : Session) (old put new : Option (List ℕ)) (line : List ℕ) (count : ℕ) → SoFar before mid s old put t count → count < 18446744073709551615
+pub so_far_more : (before mid after : Option (List ℕ)) (s t u : Session) (old put new : Option (List ℕ)) (line : List ℕ) (count : ℕ) → SoFar before mid s old put t count → count < most_lines
     → IsWhole line × Leads mid after line → HasAnswered t line put new u → SoFar before after s old new u (count + 1)
 so_far_more before mid after s t u old put new line count r few l h =
     let a = r.answers in
@@ -176,24 +177,29 @@ over before after s t old new count is r e f = let end = end_is t.notes.end (sym
 pub gone : (before after : Option (List ℕ)) (s t : Session) (old new : Option (List ℕ)) (count : ℕ) → SoFar before after s old new t count → HasGone before s old new
 gone before after s t old new count r = record { last = t; mid = after; answers = r.answers }
 
+-- there may be no more
+pub filled : (before after : Option (List ℕ)) (s t : Session) (old new : Option (List ℕ)) (count : ℕ) → SoFar before after s old new t count → t.notes.end ≡ None → most_lines ≤ count → HasFilled before after s old new
+filled before after s t old new count r going all = record { last = t; answers = r.answers; goes_on = going; full = (let few = r.answers.few in let n = r.counted in omega (arith, few, n, all)) }
+
 -- no further line could be read
-pub line_stops : (before mid after : Option (List ℕ)) (s t : Session) (old new : Option (List ℕ)) (line : List ℕ) (count : ℕ) (error : SessionError) → SoFar before mid s old new t count → t.notes.end ≡ None
+pub line_stops : (before mid after : Option (List ℕ)) (s t : Session) (old new : Option (List ℕ)) (line : List ℕ) (count : ℕ) (error : SessionError) → SoFar before mid s old new t count → t.notes.end ≡ None → count < most_lines
     → IsScriptLine mid after line (count + 1) (Err error) → IsAnswering before after s old new (Err error)
-line_stops before mid after s t old new line count (Script at cause) r going l = record {
+line_stops before mid after s t old new line count (Script at cause) r going room l = record {
   last = t;
   mid = mid;
   answers = r.answers;
   goes_on = going;
+  room = (let n = r.counted in omega (arith, n, room));
   number = l.0 ∙ ap (λ k. k + 1) (sym r.counted);
   stops = l.1;
 }
-line_stops before mid after s t old new line count Read r going l = gone before mid s t old new count r
-line_stops before mid after s t old new line count TooLong r going l = absurd l
-line_stops before mid after s t old new line count NoScriptLine r going l = absurd l
-line_stops before mid after s t old new line count (Topology at cause word) r going l = absurd l
-line_stops before mid after s t old new line count (Edid cause) r going l = absurd l
-line_stops before mid after s t old new line count (Write at) r going l = absurd l
-line_stops before mid after s t old new line count Memory r going l = absurd l
+line_stops before mid after s t old new line count Read r going room l = gone before mid s t old new count r
+line_stops before mid after s t old new line count TooLong r going room l = absurd l
+line_stops before mid after s t old new line count NoScriptLine r going room l = absurd l
+line_stops before mid after s t old new line count (Topology at cause word) r going room l = absurd l
+line_stops before mid after s t old new line count (Edid cause) r going room l = absurd l
+line_stops before mid after s t old new line count (Write at) r going room l = absurd l
+line_stops before mid after s t old new line count Memory r going room l = absurd l
 
 pub line_quiet : (mid after : Option (List ℕ)) (line : List ℕ) (number : ℕ) (error : SessionError) → IsScriptLine mid after line number (Err error) → (let r : Result Unit SessionError = Err error in is_write r) ≡ false
 line_quiet mid after line number (Script at cause) l = refl
@@ -206,13 +212,13 @@ line_quiet mid after line number (Write at) l = absurd l
 line_quiet mid after line number Memory l = absurd l
 
 -- or it was not answered whole
-pub answer_stops : (before mid after : Option (List ℕ)) (s t u : Session) (old put new : Option (List ℕ)) (line : List ℕ) (count : ℕ) (error : SessionError) → SoFar before mid s old put t count
+pub answer_stops : (before mid after : Option (List ℕ)) (s t u : Session) (old put new : Option (List ℕ)) (line : List ℕ) (count : ℕ) (error : SessionError) → SoFar before mid s old put t count → count < most_lines
     → IsWhole line × Leads mid after line → IsLineAnswered t line u put new (Err error) → IsAnswering before after s old new (Err error)
-answer_stops before mid after s t u old put new line count (Write at) r l a = record { last = t; mid = mid; line = line; so_far = put; answers = r.answers; came = l.1; cut = a }
-answer_stops before mid after s t u old put new line count Memory r l a = subst (λ (new : Option (List ℕ)). HasGone before s old new) (sym a) (gone before mid s t old put count r)
-answer_stops before mid after s t u old put new line count (Script at cause) r l a = absurd a
-answer_stops before mid after s t u old put new line count Read r l a = absurd a
-answer_stops before mid after s t u old put new line count TooLong r l a = absurd a
-answer_stops before mid after s t u old put new line count NoScriptLine r l a = absurd a
-answer_stops before mid after s t u old put new line count (Topology at cause word) r l a = absurd a
-answer_stops before mid after s t u old put new line count (Edid cause) r l a = absurd a
+answer_stops before mid after s t u old put new line count (Write at) r room l a = record { last = t; mid = mid; line = line; so_far = put; answers = r.answers; room = (let n = r.counted in omega (arith, n, room)); came = l.1; cut = a }
+answer_stops before mid after s t u old put new line count Memory r room l a = subst (λ (new : Option (List ℕ)). HasGone before s old new) (sym a) (gone before mid s t old put count r)
+answer_stops before mid after s t u old put new line count (Script at cause) r room l a = absurd a
+answer_stops before mid after s t u old put new line count Read r room l a = absurd a
+answer_stops before mid after s t u old put new line count TooLong r room l a = absurd a
+answer_stops before mid after s t u old put new line count NoScriptLine r room l a = absurd a
+answer_stops before mid after s t u old put new line count (Topology at cause word) r room l a = absurd a
+answer_stops before mid after s t u old put new line count (Edid cause) r room l a = absurd a

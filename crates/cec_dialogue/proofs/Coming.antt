@@ -1,5 +1,5 @@
 -- Lines that come one after another.
-use Rattle.std.proofs.Common.{◌≡◌, ◌≢◌, ℕ, ◌++◌, Bool, true, false, List, [], ◌∷◌, codes, Option, Some, None, IfSome, All, refl, sym, ap, subst, ◌∙◌, append_assoc, append-nil}
+use Rattle.std.proofs.Common.{◌≡◌, ◌≢◌, ◌≤◌, ℕ, ◌++◌, Bool, true, false, List, [], ◌∷◌, length, codes, inl, inr, Option, Some, None, IfSome, Err, refl, sym, ap, subst, ◌∙◌, append_assoc, append-nil}
 use Rattle.std.specs.Io.KnownBytes.{IsAtEnd}
 use Rattle.std.specs.Str.{bytes_eq}
 use Rattle.std.proofs.lemmas.Bool.{false≢true}
@@ -7,8 +7,10 @@ use Rattle.std.proofs.lemmas.Slice.Eq.{bytes_eq-Decides}
 use Rattle.std.proofs.lemmas.Grind.{flat_map-append}
 use Rattle.std.proofs.lemmas.List.Elements.{All-append, All-cons, All-nil}
 use Rattle.hdmi_core.specs.Lines.{lines_of}
-use Rattle.cec_incoming.specs.Incoming.{IsWhole, Leads, text_of_lines}
-use Rattle.cec_dialogue.specs.Dialogue.{AreOthers, Come, HasNoScript, IsOpened}
+use Rattle.cec_incoming.specs.Incoming.{IsWhole, Leads, text_of_lines, longest_line}
+use Rattle.cec_dialogue.specs.declared.error.SessionError.{SessionError}
+use Rattle.cec_dialogue.specs.declared.error.SessionError.TheVariants.{Read, TooLong, NoScriptLine, Topology, Edid, Script, Write, Memory}
+use Rattle.cec_dialogue.specs.Dialogue.{AreFirst, Come, HasCome, HasNoScript, HasRoom, IsOpened, IsOpening, IsShort, IsTopologyLine, longest_topology}
 
 pub come_none : (known : Option (List ℕ)) → Come known known []
 come_none None = tt
@@ -22,29 +24,23 @@ come_more (Some x) (Some y) (Some z) lines line a b = a ∙ ap (λ l. lines ++ l
 
 -- ---- before the line `script`
 
-pub record Opening (before after : Option (List ℕ)) (text : List ℕ) : Type 0 where
-  pub lines : List (List ℕ)
-  pub spelled : text ≡ text_of_lines lines
-  pub whole : All IsWhole lines
-  pub others : AreOthers lines
-  pub come : Come before after lines
+pub come_start : (known : Option (List ℕ)) (text : List ℕ) → text ≡ [] → HasCome known known text
+come_start known text empty = record { lines = []; spelled = empty; whole = All-nil IsWhole; short = All-nil IsShort; others = All-nil (λ line. line ≢ codes "script"); come = come_none known }
 
-pub opening_start : (known : Option (List ℕ)) (text : List ℕ) → text ≡ [] → Opening known known text
-opening_start known text empty = record { lines = []; spelled = empty; whole = All-nil IsWhole; others = All-nil (λ line. line ≢ codes "script"); come = come_none known }
-
-pub opening_more : (before mid after : Option (List ℕ)) (text new line : List ℕ) → Opening before mid text → IsWhole line × Leads mid after line → line ≢ codes "script" → new ≡ text ++ (line ++ 10 ∷ [])
-    → Opening before after new
-opening_more before mid after text new line o l other more = record {
+pub come_on : (before mid after : Option (List ℕ)) (text new line : List ℕ) → HasCome before mid text → IsWhole line × Leads mid after line → length line ≤ longest_line → line ≢ codes "script" → new ≡ text ++ (line ++ 10 ∷ [])
+    → HasCome before after new
+come_on before mid after text new line o l short other more = record {
   lines = o.lines ++ line ∷ [];
   spelled = more ∙ ap (λ t. t ++ (line ++ 10 ∷ [])) o.spelled ∙ ap (λ t. text_of_lines o.lines ++ t) (sym (append-nil (line ++ 10 ∷ [])))
       ∙ sym (flat_map-append (λ (line : List ℕ). line ++ 10 ∷ []) o.lines (line ∷ []));
   whole = All-append IsWhole o.lines (line ∷ []) o.whole (All-cons IsWhole line [] l.0 (All-nil IsWhole));
+  short = All-append IsShort o.lines (line ∷ []) o.short (All-cons IsShort line [] short (All-nil IsShort));
   others = All-append (λ line. line ≢ codes "script") o.lines (line ∷ []) o.others (All-cons (λ line. line ≢ codes "script") line [] other (All-nil (λ line. line ≢ codes "script")));
   come = come_more before mid after o.lines line o.come l.1;
 }
 
-pub opened : (before mid after : Option (List ℕ)) (text line : List ℕ) → Opening before mid text → IsWhole line × Leads mid after line → line ≡ codes "script" → IsOpened before after text
-opened before mid after text line o l is = record {
+open_at : (before mid after : Option (List ℕ)) (text line : List ℕ) → HasCome before mid text → IsWhole line × Leads mid after line → line ≡ codes "script" → IsOpened before after text
+open_at before mid after text line o l is = record {
   lines = o.lines;
   spelled = o.spelled;
   whole = o.whole;
@@ -52,13 +48,41 @@ opened before mid after text line o l is = record {
   come = subst (λ (line : List ℕ). Come before after (o.lines ++ line ∷ [])) is (come_more before mid after o.lines line o.come l.1);
 }
 
-pub no_script : (before mid : Option (List ℕ)) (text : List ℕ) → Opening before mid text → IsAtEnd mid → HasNoScript before
-no_script before mid text o end = record { lines = o.lines; others = o.others; all = all before mid o.lines o.come end }
+with_room : (before mid : Option (List ℕ)) (text : List ℕ) (o : HasCome before mid text) → length text ≤ longest_topology → IfSome before (AreFirst o.lines) → HasRoom before
+with_room before mid text o fits first = record { lines = o.lines; others = o.others; short = o.short; fits = subst (λ (t : List ℕ). length t ≤ longest_topology) o.spelled fits; first = first }
+
+pub opened : (before mid after : Option (List ℕ)) (text line : List ℕ) → HasCome before mid text → length text ≤ longest_topology → IsWhole line × Leads mid after line → line ≡ codes "script" → IsOpened before after text × HasRoom before
+opened before mid after text line o fits l is = (open_at before mid after text line o l is, with_room before mid text o fits (first before mid after o.lines line o.come l.1 is))
   where
-    all : (before mid : Option (List ℕ)) (lines : List (List ℕ)) → Come before mid lines → IsAtEnd mid → IfSome before (λ text. lines_of text ≡ lines)
-    all None mid lines a b = tt
-    all (Some x) None lines a b = absurd a
-    all (Some x) (Some y) lines a b = a ∙ ap (λ (t : List ℕ). lines ++ lines_of t) b ∙ append-nil lines
+    first : (before mid after : Option (List ℕ)) (lines : List (List ℕ)) (line : List ℕ) → Come before mid lines → Leads mid after line → line ≡ codes "script" → IfSome before (AreFirst lines)
+    first None mid after lines line a b is = tt
+    first (Some x) None after lines line a b is = absurd a
+    first (Some x) (Some y) None lines line a b is = absurd b
+    first (Some x) (Some y) (Some z) lines line a b is = inr (lines_of z, a ∙ ap (λ l. lines ++ l) b ∙ ap (λ l. lines ++ l ∷ lines_of z) is)
+
+all_lines : (before mid : Option (List ℕ)) (lines : List (List ℕ)) → Come before mid lines → IsAtEnd mid → IfSome before (λ text. lines_of text ≡ lines)
+all_lines None mid lines a b = tt
+all_lines (Some x) None lines a b = absurd a
+all_lines (Some x) (Some y) lines a b = a ∙ ap (λ (t : List ℕ). lines ++ lines_of t) b ∙ append-nil lines
+
+first_of_all : (before : Option (List ℕ)) (lines : List (List ℕ)) → IfSome before (λ text. lines_of text ≡ lines) → IfSome before (AreFirst lines)
+first_of_all None lines a = tt
+first_of_all (Some x) lines a = inl a
+
+no_script : (before mid : Option (List ℕ)) (text : List ℕ) → HasCome before mid text → length text ≤ longest_topology → IsAtEnd mid → HasNoScript before × HasRoom before
+no_script before mid text o fits end =
+    let all = all_lines before mid o.lines o.come end in (record { lines = o.lines; others = o.others; all = all }, with_room before mid text o fits (first_of_all before o.lines all))
+
+-- no further line could be read
+pub unopened : (before mid after : Option (List ℕ)) (text line : List ℕ) (error : SessionError) → HasCome before mid text → length text ≤ longest_topology → IsTopologyLine mid after line (Err error) → IsOpening before after (Err error)
+unopened before mid after text line NoScriptLine o fits l = no_script before mid text o fits l
+unopened before mid after text line Read o fits l = tt
+unopened before mid after text line TooLong o fits l = inl (text, mid, o, fits, l)
+unopened before mid after text line Memory o fits l = absurd l
+unopened before mid after text line (Topology at cause word) o fits l = absurd l
+unopened before mid after text line (Edid cause) o fits l = absurd l
+unopened before mid after text line (Script at cause) o fits l = absurd l
+unopened before mid after text line (Write count) o fits l = absurd l
 
 pub is_it : (is : Bool) (line : List ℕ) → is ≡ bytes_eq line (codes "script") → is ≡ true → line ≡ codes "script"
 is_it is line e f = (bytes_eq-Decides line (codes "script")).0 (sym e ∙ f)

@@ -12,7 +12,7 @@ use Rattle.cec_session.proofs.Wholly.{sessions_report_traces}
 use Rattle.cec_session.proofs.Kept.{sessions_report_traces_of}
 use Rattle.cec_dialogue.specs.declared.error.SessionError.{SessionError}
 use Rattle.cec_dialogue.specs.declared.error.SessionError.TheVariants.{Read, TooLong, NoScriptLine, Topology, Edid, Script, Write, Memory}
-use Rattle.cec_dialogue.specs.Dialogue.{HasBegun, HasRun, HaveAnswers, IsAnswering, IsFirstPut, IsOpened, IsOpening, IsSession, IsTalk, IsTopologyFault, first_reported, is_write}
+use Rattle.cec_dialogue.specs.Dialogue.{HasBegun, HasRoom, HasRun, HaveAnswers, IsAnswering, IsFirstPut, IsInLimits, IsOpened, IsOpening, IsSession, IsTalk, IsTopologyFault, first_reported, is_write}
 use Rattle.cec_wave.specs.Bounds.{most_pulses}
 
 -- ---- what stands first, and the answers
@@ -106,15 +106,37 @@ refused_quiet topology (Script line cause) fault = absurd fault
 refused_quiet topology (Write count) fault = absurd fault
 
 -- there is none
-pub unopened_is : (before mid after old : Option (List ℕ)) (error : SessionError) → IsOpening before mid (Err error) → IsSession before after old old (Err error)
-unopened_is before mid after old NoScriptLine none = (none, refl)
-unopened_is before mid after old Read none = inl refl
-unopened_is before mid after old TooLong none = inl refl
-unopened_is before mid after old Memory none = inl refl
-unopened_is before mid after old (Topology line cause word) none = absurd none
-unopened_is before mid after old (Edid cause) none = absurd none
-unopened_is before mid after old (Script line cause) none = absurd none
-unopened_is before mid after old (Write count) none = absurd none
+pub unopened_is : (before after old : Option (List ℕ)) (error : SessionError) → IsOpening before after (Err error) → IsSession before after old old (Err error)
+unopened_is before after old NoScriptLine none = (none.0, refl)
+unopened_is before after old Read none = inl refl
+unopened_is before after old TooLong long = inl (long, refl)
+unopened_is before after old Memory none = inl refl
+unopened_is before after old (Topology line cause word) none = absurd none
+unopened_is before after old (Edid cause) none = absurd none
+unopened_is before after old (Script line cause) none = absurd none
+unopened_is before after old (Write count) none = absurd none
+
+-- it goes on within the limits alone
+pub in_limits : (before : Option (List ℕ)) (result : Result Unit SessionError) → HasRoom before → IsInLimits before result
+in_limits before (Ok done) room = room
+in_limits before (Err NoScriptLine) room = room
+in_limits before (Err (Topology line cause word)) room = room
+in_limits before (Err (Edid cause)) room = room
+in_limits before (Err (Script line cause)) room = room
+in_limits before (Err (Write count)) room = room
+in_limits before (Err TooLong) room = tt
+in_limits before (Err Read) room = tt
+in_limits before (Err Memory) room = tt
+
+pub unopened_limits : (before mid : Option (List ℕ)) (error : SessionError) → IsOpening before mid (Err error) → IsInLimits before (Err error)
+unopened_limits before mid NoScriptLine none = none.1
+unopened_limits before mid Read none = tt
+unopened_limits before mid TooLong long = tt
+unopened_limits before mid Memory none = tt
+unopened_limits before mid (Topology line cause word) none = absurd none
+unopened_limits before mid (Edid cause) none = absurd none
+unopened_limits before mid (Script line cause) none = absurd none
+unopened_limits before mid (Write count) none = absurd none
 
 pub unopened_quiet : (before mid : Option (List ℕ)) (error : SessionError) → IsOpening before mid (Err error) → (let r : Result Unit SessionError = Err error in is_write r) ≡ false
 unopened_quiet before mid NoScriptLine none = refl

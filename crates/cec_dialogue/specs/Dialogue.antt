@@ -21,6 +21,19 @@ use Rattle.cec_dialogue.specs.declared.error.SessionError.{SessionError}
 use Rattle.cec_dialogue.specs.declared.error.SessionError.TheVariants.{Read, TooLong, NoScriptLine, Topology, Edid, Script, Write, Memory}
 use Rattle.cec_wave.specs.Bounds.{most_pulses}
 
+-- ---- limits, in bytes and in lines (`longest_line` is that of cec_incoming)
+
+-- the most bytes of a topology, each line with its end
+abbrev pub longest_topology : ℕ
+longest_topology = 1048576
+
+-- the most lines after the line `script`
+abbrev pub most_lines : ℕ
+most_lines = 18446744073709551615
+
+abbrev pub IsShort : List ℕ → Type 0
+IsShort line = length line ≤ longest_line
+
 -- ---- the input
 
 -- these lines came, one after another
@@ -46,11 +59,42 @@ pub record HasNoScript (before : Option (List ℕ)) : Type 0 where
   pub others : AreOthers lines
   pub all : IfSome before (λ text. lines_of text ≡ lines)
 
+-- the lines of a text before its first line `script`, or all of them
+abbrev pub AreFirst : List (List ℕ) → List ℕ → Type 0
+AreFirst lines text = (lines_of text ≡ lines) ⊎ ((rest : List (List ℕ)) × (lines_of text ≡ lines ++ codes "script" ∷ rest))
+
+-- they are within the limits of a topology
+pub record HasRoom (before : Option (List ℕ)) : Type 0 where
+  pub lines : List (List ℕ)
+  pub others : AreOthers lines
+  pub short : All IsShort lines
+  pub fits : length (text_of_lines lines) ≤ longest_topology
+  pub first : IfSome before (AreFirst lines)
+
+-- more than 4,096 bytes have come before a line's end
+abbrev pub IsLongLine : Option (List ℕ) → Option (List ℕ) → Type 0
+IsLongLine before after = (front : List ℕ) × IsWhole front × (longest_line < length front) × Consumes before after front
+
+-- lines that are not `script` came, whose text this is
+pub record HasCome (before after : Option (List ℕ)) (text : List ℕ) : Type 0 where
+  pub lines : List (List ℕ)
+  pub spelled : text ≡ text_of_lines lines
+  pub whole : All IsWhole lines
+  pub short : All IsShort lines
+  pub others : AreOthers lines
+  pub come : Come before after lines
+
+-- a topology is too long: a line of it after lines that have room, or the lines of it that came
+abbrev pub IsLongTopology : Option (List ℕ) → Option (List ℕ) → Type 0
+IsLongTopology before after =
+    ((text : List ℕ) × (mid : Option (List ℕ)) × HasCome before mid text × (length text ≤ longest_topology) × IsLongLine mid after)
+    ⊎ ((text : List ℕ) × HasCome before after text × (longest_topology < length text))
+
 abbrev pub IsOpening : Option (List ℕ) → Option (List ℕ) → Result (List ℕ) SessionError → Type 0
-IsOpening before after (Ok text) = IsOpened before after text
-IsOpening before after (Err NoScriptLine) = HasNoScript before
+IsOpening before after (Ok text) = IsOpened before after text × HasRoom before
+IsOpening before after (Err NoScriptLine) = HasNoScript before × HasRoom before
 IsOpening before after (Err Read) = Unit {0}
-IsOpening before after (Err TooLong) = Unit {0}
+IsOpening before after (Err TooLong) = IsLongTopology before after
 IsOpening before after (Err Memory) = Unit {0}
 IsOpening before after (Err (Topology line cause word)) = ⊥
 IsOpening before after (Err (Edid cause)) = ⊥
@@ -62,7 +106,7 @@ abbrev pub IsTopologyLine : Option (List ℕ) → Option (List ℕ) → List ℕ
 IsTopologyLine before after line (Ok done) = IsWhole line × Leads before after line
 IsTopologyLine before after line (Err NoScriptLine) = IsAtEnd before
 IsTopologyLine before after line (Err Read) = Unit {0}
-IsTopologyLine before after line (Err TooLong) = Unit {0}
+IsTopologyLine before after line (Err TooLong) = IsLongLine before after
 IsTopologyLine before after line (Err Memory) = ⊥
 IsTopologyLine before after line (Err (Topology at cause word)) = ⊥
 IsTopologyLine before after line (Err (Edid cause)) = ⊥
@@ -72,7 +116,7 @@ IsTopologyLine before after line (Err (Write count)) = ⊥
 -- why a line is the last that is looked at: the input has ended, or more than 4,096 bytes have come before the line's end
 abbrev pub IsScriptEnd : Option (List ℕ) → Option (List ℕ) → ScriptEnd → Type 0
 IsScriptEnd before after ends.End = IsAtEnd before
-IsScriptEnd before after ends.TooLong = (front : List ℕ) × IsWhole front × (longest_line < length front) × Consumes before after front
+IsScriptEnd before after ends.TooLong = IsLongLine before after
 
 abbrev pub IsScriptLine : Option (List ℕ) → Option (List ℕ) → List ℕ → ℕ → Result Unit SessionError → Type 0
 IsScriptLine before after line number (Ok done) = IsWhole line × Leads before after line
@@ -116,9 +160,9 @@ IsBegun topology (Err error) = IsTopologyFault topology error
 abbrev pub IsCutShort : List ℕ → Option (List ℕ) → Option (List ℕ) → Type 0
 IsCutShort text old new = (count : ℕ) × (count ≤ length text) × Appends old new (take count text)
 
--- what is due of a line is cut short
+-- what is due of a line, which there is, is cut short
 abbrev pub IsCutLine : Session → List ℕ → Option (List ℕ) → Option (List ℕ) → Type 0
-IsCutLine s line old new = (step : Step) × (asked : Session) × IsStep s line step asked × ((text : List ℕ) (after : Session) → IsDue step asked text after → IsCutShort text old new)
+IsCutLine s line old new = (step : Step) × (asked : Session) × IsStep s line step asked × (text : List ℕ) × (after : Session) × IsDue step asked text after × IsCutShort text old new
 
 -- what stands before the first answer: the lines of the ports
 abbrev pub first_reported : Session → List ℕ
@@ -162,7 +206,7 @@ pub record HaveAnswers (before after : Option (List ℕ)) (s : Session) (old new
   pub text : List ℕ
   pub come : Come before after lines
   pub whole : All IsWhole lines
-  pub few : length lines ≤ 18446744073709551615
+  pub few : length lines ≤ most_lines
   pub are : AreLines lines s kept reported text t
   pub put : Appends old new text
 
@@ -179,6 +223,7 @@ pub record HasStopped (before after : Option (List ℕ)) (s : Session) (old new 
   pub mid : Option (List ℕ)
   pub answers : HaveAnswers before mid s old new last
   pub goes_on : last.notes.end ≡ None
+  pub room : length answers.lines < most_lines
   pub number : line ≡ length answers.lines + 1
   pub stops : IsScriptEnd mid after cause
 
@@ -189,8 +234,16 @@ pub record HasCut (before after : Option (List ℕ)) (s : Session) (old new : Op
   pub line : List ℕ
   pub so_far : Option (List ℕ)
   pub answers : HaveAnswers before mid s old so_far last
+  pub room : length answers.lines < most_lines
   pub came : Leads mid after line
   pub cut : IsCutLine last line so_far new
+
+-- as many lines are answered as a session may have, and the script has not ended
+pub record HasFilled (before after : Option (List ℕ)) (s : Session) (old new : Option (List ℕ)) : Type 0 where
+  pub last : Session
+  pub answers : HaveAnswers before after s old new last
+  pub goes_on : last.notes.end ≡ None
+  pub full : length answers.lines ≡ most_lines
 
 -- lines are answered
 pub record HasGone (before : Option (List ℕ)) (s : Session) (old new : Option (List ℕ)) : Type 0 where
@@ -203,7 +256,7 @@ IsAnswering before after s old new (Ok done) = HasEnded before after s old new
 IsAnswering before after s old new (Err (Script line cause)) = HasStopped before after s old new line cause
 IsAnswering before after s old new (Err (Write count)) = HasCut before after s old new
 IsAnswering before after s old new (Err Read) = HasGone before s old new
-IsAnswering before after s old new (Err TooLong) = HasGone before s old new
+IsAnswering before after s old new (Err TooLong) = HasFilled before after s old new
 IsAnswering before after s old new (Err Memory) = HasGone before s old new
 IsAnswering before after s old new (Err NoScriptLine) = ⊥
 IsAnswering before after s old new (Err (Topology line cause word)) = ⊥
@@ -261,6 +314,10 @@ IsCut before after old new =
 abbrev pub IsLeft : Option (List ℕ) → Option (List ℕ) → Option (List ℕ) → Option (List ℕ) → Type 0
 IsLeft before after old new = (new ≡ old) ⊎ ((run : HasRun before after old new) × HasGone run.mid run.first run.so_far new)
 
+-- the topology is too long, and nothing is put; or the session has as many lines as there may be
+abbrev pub IsTooLong : Option (List ℕ) → Option (List ℕ) → Option (List ℕ) → Option (List ℕ) → Type 0
+IsTooLong before after old new = (IsLongTopology before after × (new ≡ old)) ⊎ ((run : HasRun before after old new) × HasFilled run.mid after run.first run.so_far new)
+
 -- a topology is refused
 abbrev pub IsRefused : Option (List ℕ) → SessionError → Type 0
 IsRefused before error = (topology : List ℕ) × (mid : Option (List ℕ)) × IsOpened before mid topology × IsTopologyFault topology error
@@ -273,8 +330,21 @@ IsSession before after old new (Err (Edid cause)) = IsRefused before (Edid cause
 IsSession before after old new (Err (Script line cause)) = IsStopped before after old new line cause
 IsSession before after old new (Err (Write count)) = IsCut before after old new
 IsSession before after old new (Err Read) = IsLeft before after old new
-IsSession before after old new (Err TooLong) = IsLeft before after old new
+IsSession before after old new (Err TooLong) = IsTooLong before after old new
 IsSession before after old new (Err Memory) = IsLeft before after old new
+
+-- A session goes on with no topology past its limits: it then stops with `TooLong`, or before that for want of memory or as a
+-- read fails.
+abbrev pub IsInLimits : Option (List ℕ) → Result Unit SessionError → Type 0
+IsInLimits before (Ok done) = HasRoom before
+IsInLimits before (Err NoScriptLine) = HasRoom before
+IsInLimits before (Err (Topology line cause word)) = HasRoom before
+IsInLimits before (Err (Edid cause)) = HasRoom before
+IsInLimits before (Err (Script line cause)) = HasRoom before
+IsInLimits before (Err (Write count)) = HasRoom before
+IsInLimits before (Err TooLong) = Unit {0}
+IsInLimits before (Err Read) = Unit {0}
+IsInLimits before (Err Memory) = Unit {0}
 
 -- ---- the sink
 

@@ -3,13 +3,14 @@ ghost use Rattle.std.specs.Prelude.{◌≡◌, ◌↔◌, ℕ, [], List, Option,
 ghost use Rattle.std.specs.Io.KnownBytes.{Keeps};
 ghost use Rattle.hdmi_core.specs.Buffered.{handed_count, pending};
 ghost use Rattle.cec_incoming.specs.Incoming.{to_come};
-ghost use Rattle.cec_dialogue.specs.Dialogue.{AreHanded, IsAnswering, IsFirstPut, IsLineAnswered, IsScriptLine, IsSession, IsTalk};
+ghost use Rattle.cec_dialogue.specs.Dialogue.{AreHanded, IsAnswering, IsFirstPut, IsInLimits, IsLineAnswered, IsScriptLine, IsSession, IsTalk};
 ghost use Rattle.cec_dialogue.specs.declared.error.SessionError.TheVariants.{Write};
 
 use crate::error::{ScriptEnd, SessionError};
+use crate::limits::{LONGEST_LINE, MOST_LINES};
 use crate::opening::{begin, topology_text};
 use arrayvec::ArrayVec;
-use cec_incoming::{LONGEST_LINE, LineFault, Lines};
+use cec_incoming::{LineFault, Lines};
 use cec_session::{Live, LiveError};
 use hdmi_core::{Buffered, Sink};
 use std::alloc::Global;
@@ -86,7 +87,7 @@ fn answer_line<S: Sink>(
     }
 }
 
-// Answers line after line, up to the end of the script.
+// Answers line after line, up to the end of the script, to which it has not come.
 fn answer<R: Read, S: Sink>(
     live: &mut Live,
     lines: &mut Lines,
@@ -94,20 +95,21 @@ fn answer<R: Read, S: Sink>(
     line: &mut ArrayVec<u8, LONGEST_LINE>,
     out: &mut Buffered<S>,
 ) -> Result<(), SessionError>
+    requires going { live.old.notes.end ≡ None }
     ensures answered { IsAnswering (to_come lines.old (R.remaining input.old)) (to_come lines.new (R.remaining input.new)) live.old
         (⟦<Buffered<S> as Sink>⟧.contents out.old) (⟦<Buffered<S> as Sink>⟧.contents out.new) result }
     ensures handed { AreHanded ⟦<Buffered<S> as Sink>⟧.is_stuck out.old out.new result }
 {
-    for answered in 0..u64::MAX {
-        if live.is_over() {
-            return Ok(());
-        }
+    for answered in 0..MOST_LINES {
         match next_line(lines, input, line, answered + 1) {
             Err(error) => return Err(error),
             Ok(()) => match answer_line(live, line.as_slice(), out) {
                 Err(error) => return Err(error),
                 Ok(()) => {}
             },
+        }
+        if live.is_over() {
+            return Ok(());
         }
     }
     Err(SessionError::TooLong)
@@ -121,6 +123,7 @@ fn talk<R: Read, S: Sink>(
     line: &mut ArrayVec<u8, LONGEST_LINE>,
     out: &mut Buffered<S>,
 ) -> Result<(), SessionError>
+    requires going { live.old.notes.end ≡ None }
     ensures talked { IsTalk (to_come lines.old (R.remaining input.old)) (to_come lines.new (R.remaining input.new)) live.old
         (⟦<Buffered<S> as Sink>⟧.contents out.old) (⟦<Buffered<S> as Sink>⟧.contents out.new) result }
     ensures handed { AreHanded ⟦<Buffered<S> as Sink>⟧.is_stuck out.old out.new result }
@@ -144,6 +147,7 @@ pub fn session<R: Read, S: Sink>(
     input: &mut R,
     out: &mut Buffered<S>,
 ) -> Result<(), SessionError>
+    ensures limits { IsInLimits (R.remaining input.old) result }
     ensures session { (after : Option (List ℕ)) × IsSession (R.remaining input.old) after (⟦<Buffered<S> as Sink>⟧.contents out.old) (⟦<Buffered<S> as Sink>⟧.contents out.new) result }
     ensures handed { AreHanded ⟦<Buffered<S> as Sink>⟧.is_stuck out.old out.new result }
 {

@@ -3,6 +3,7 @@
 
 mod dialogue;
 mod error;
+mod limits;
 mod opening;
 
 pub use dialogue::session;

@@ -6,16 +6,14 @@ ghost use Rattle.cec_incoming.specs.Incoming.{to_come};
 ghost use Rattle.cec_dialogue.specs.Dialogue.{IsBegun, IsOpening, IsTopologyLine};
 
 use crate::error::SessionError;
+use crate::limits::{LONGEST_LINE, LONGEST_TOPOLOGY};
 use arrayvec::ArrayVec;
 use cec_asm::{TopologyError, parse_topology};
-use cec_incoming::{LONGEST_LINE, LineFault, Lines};
+use cec_incoming::{LineFault, Lines};
 use cec_session::Live;
 use hdmi_blocks::root_of;
 use std::alloc::{AllocError, Global};
 use std::io::Read;
-
-/// The longest topology, in bytes.
-const LONGEST_TOPOLOGY: usize = 1_048_576;
 
 // Whether a line is the one between the topology and the lines that are answered.
 fn is_script(line: &[u8]) -> bool

@@ -7,11 +7,11 @@ use Rattle.hdmi_core.specs.Cut.{CutOff, WrittenText}
 use Rattle.hdmi_core.proofs.Cutting.{cut_front}
 use Rattle.cec_run.specs.declared.run.Reporting.TheVariants.{Trace}
 use Rattle.cec_run.specs.Run.{Config, end_reported}
-use Rattle.cec_session.specs.declared.live.Step.{Step}
 use Rattle.cec_session.specs.declared.live.Step.TheVariants.{Refuse, Idle, Go, Finish, Show}
 use Rattle.cec_session.specs.Turns.{Goes}
-use Rattle.cec_session.specs.Session.{Session, IsDue, taken_line}
-use Rattle.cec_session.specs.Taken.{IsAnswered}
+use Rattle.cec_session.specs.declared.answer.Refusal.{Refusal}
+use Rattle.cec_session.specs.Session.{Session, StepsHaveOneText, idle_line, refused_line, taken_line}
+use Rattle.cec_session.specs.Taken.{IsAnswered, StandsSomewhere}
 use Rattle.cec_session.proofs.Going.{goes_one}
 
 -- the text after what is reported, by where the session then stands
@@ -19,28 +19,20 @@ abbrev IsWhole : Bool → (Session → List ℕ) → Session → Session → Opt
 IsWhole ended tail s t old new was is (Ok count) =
     (reported : List ℕ) × (place : Config) × Goes s.edid ended s.horizon s.place reported place × (t ≡ record s { place = place }) × WrittenText old new was is (reported ++ tail t) (Ok count)
 IsWhole ended tail s t old new was is (Err fault) =
-    ((reported : List ℕ) (place : Config) → Goes s.edid ended s.horizon s.place reported place → CutOff old new (reported ++ tail (record s { place = place })) fault) × (is ≡ true)
+    ((reported : List ℕ) × (place : Config) × Goes s.edid ended s.horizon s.place reported place × CutOff old new (reported ++ tail (record s { place = place })) fault) × (is ≡ true) × StandsSomewhere s t
 
 -- what was reported was written, and the tail after it whole or not
 pub whole_is : (ended : Bool) (tail : Session → List ℕ) (s t : Session) (old new : Option (List ℕ)) (was is : Bool) (reported : List ℕ) (place : Config) (result : Result ℕ WriteFault)
     → Goes s.edid ended s.horizon s.place reported place → t ≡ record s { place = place } → WrittenText old new was is (reported ++ tail t) result → IsWhole ended tail s t old new was is result
 whole_is ended tail s t old new was is reported place (Ok count) goes same w = (reported, place, goes, same, w)
-whole_is ended tail s t old new was is reported place (Err fault) goes same w = (
-  λ other there due.
-      let one = goes_one s.edid ended s.horizon s.place place there reported other goes due in
-      let text : reported ++ tail t ≡ other ++ tail (record s { place = there }) =
-      ap (λ (xs : List ℕ). xs ++ tail t) one.0 ∙ ap (λ (u : Session). other ++ tail u) (same ∙ ap (λ (p : Config). let u : Session = record s { place = p } in u) one.1) in
-      subst (λ (xs : List ℕ). CutOff old new xs fault) text w.0,
-  w.1,
-)
+whole_is ended tail s t old new was is reported place (Err fault) goes same w =
+    ((reported, place, goes, subst (λ (xs : List ℕ). CutOff old new xs fault) (ap (λ (u : Session). reported ++ tail u) same) w.0), w.1, (place, same))
 
 -- what is reported was cut off
 pub whole_cut : (ended : Bool) (tail : Session → List ℕ) (s t : Session) (old new : Option (List ℕ)) (was is : Bool) (fault : WriteFault)
-    → ((reported : List ℕ) (place : Config) → Goes s.edid ended s.horizon s.place reported place → CutOff old new reported fault) × (is ≡ true) → IsWhole ended tail s t old new was is (Err fault)
-whole_cut ended tail s t old new was is fault cut = (
-  λ reported place goes. cut_front old new reported (tail (record s { place = place })) fault (cut.0 reported place goes),
-  cut.1,
-)
+    → ((reported : List ℕ) × (place : Config) × Goes s.edid ended s.horizon s.place reported place × CutOff old new reported fault) × (is ≡ true) × StandsSomewhere s t → IsWhole ended tail s t old new was is (Err fault)
+whole_cut ended tail s t old new was is fault ((reported, place, goes, cut), stuck, stands) =
+    ((reported, place, goes, cut_front old new reported (tail (record s { place = place })) fault cut), stuck, stands)
 
 abbrev pub taken_tail : Session → List ℕ
 taken_tail s = taken_line s.horizon
@@ -53,10 +45,8 @@ go_answered s t old new was is (Ok count) (reported, place, goes, same, w) =
     let text : reported ++ taken_tail t ≡ reported ++ taken_line s.horizon = ap (λ (u : Session). reported ++ taken_tail u) same in
     let here = subst (λ (xs : List ℕ). WrittenText old new was is xs (Ok count)) text w in
     (reported ++ taken_line s.horizon, (reported, place, goes, refl, same), here.0, here.1, here.2)
-go_answered s t old new was is (Err fault) w = (
-  λ text after due. subst (λ (xs : List ℕ). CutOff old new xs fault) (sym due.3) (w.0 due.0 due.1 due.2),
-  w.1,
-)
+go_answered s t old new was is (Err fault) ((reported, place, goes, cut), stuck, stands) =
+    ((reported ++ taken_line s.horizon, record s { place = place }, (reported, place, goes, refl, refl), cut), stuck, stands)
 
 pub finish_answered : (s t : Session) (old new : Option (List ℕ)) (was is : Bool) (result : Result ℕ WriteFault) → IsWhole true end_tail s t old new was is result → IsAnswered Finish s t old new was is result
 finish_answered s t old new was is (Ok count) (reported, place, goes, same, w) =
@@ -64,10 +54,8 @@ finish_answered s t old new was is (Ok count) (reported, place, goes, same, w) =
     let text : reported ++ end_tail t ≡ reported ++ tail = ap (λ (u : Session). reported ++ end_tail u) same in
     let here = subst (λ (xs : List ℕ). WrittenText old new was is xs (Ok count)) text w in
     (reported ++ tail, (reported, place, goes, refl, same), here.0, here.1, here.2)
-finish_answered s t old new was is (Err fault) w = (
-  λ text after due. subst (λ (xs : List ℕ). CutOff old new xs fault) (sym due.3) (w.0 due.0 due.1 due.2),
-  w.1,
-)
+finish_answered s t old new was is (Err fault) ((reported, place, goes, cut), stuck, stands) =
+    ((reported ++ end_tail (record s { place = place }), record s { place = place }, (reported, place, goes, refl, refl), cut), stuck, stands)
 
 -- ---- a state
 
@@ -77,24 +65,32 @@ same_state x a b e f = cc
 pub show_answered : (s : Session) (device : ℕ) (d : State) (old new : Option (List ℕ)) (was is : Bool) (result : Result ℕ WriteFault) → slice_get s.place.net.devices device ≡ Some d
     → WrittenText old new was is (codes "= " ++ state_line d) result → IsAnswered (Show device) s s old new was is result
 show_answered s device d old new was is (Ok count) found w = (codes "= " ++ state_line d, (d, found, refl, refl), w.0, w.1, w.2)
-show_answered s device d old new was is (Err fault) found w = (
-  λ text after due.
-      subst (λ (xs : List ℕ). CutOff old new xs fault)
-      (ap (λ (x : State). codes "= " ++ state_line x) (same_state (slice_get s.place.net.devices device) d due.0 found due.1) ∙ sym due.2) w.0,
-  w.1,
-)
+show_answered s device d old new was is (Err fault) found w = ((codes "= " ++ state_line d, s, (d, found, refl, refl), w.0), w.1, (s.place, refl))
+
+-- ---- an answer alone
+
+pub refuse_answered : (refusal : Refusal) (s : Session) (old new : Option (List ℕ)) (was is : Bool) (result : Result ℕ WriteFault) → WrittenText old new was is (refused_line s.lines refusal) result
+    → IsAnswered (Refuse refusal) s s old new was is result
+refuse_answered refusal s old new was is (Ok count) w = (refused_line s.lines refusal, (refl, refl), w.0, w.1, w.2)
+refuse_answered refusal s old new was is (Err fault) w = ((refused_line s.lines refusal, s, (refl, refl), w.0), w.1, (s.place, refl))
+
+pub idle_answered : (s : Session) (old new : Option (List ℕ)) (was is : Bool) (result : Result ℕ WriteFault) → WrittenText old new was is (idle_line s.horizon) result → IsAnswered Idle s s old new was is result
+idle_answered s old new was is (Ok count) w = (idle_line s.horizon, (refl, refl), w.0, w.1, w.2)
+idle_answered s old new was is (Err fault) w = ((idle_line s.horizon, s, (refl, refl), w.0), w.1, (s.place, refl))
 
 -- ---- one text is due
 
-pub due_one : (step : Step) (s t u : Session) (text other : List ℕ) → IsDue step s text t → IsDue step s other u → text ≡ other
-due_one (Refuse refusal) s t u text other a b = a.0 ∙ sym b.0
-due_one Idle s t u text other a b = a.0 ∙ sym b.0
-due_one (Show device) s t u text other a b =
-    a.2 ∙ ap (λ (x : State). codes "= " ++ state_line x) (same_state (slice_get s.place.net.devices device) a.0 b.0 a.1 b.1) ∙ sym b.2
-due_one Go s t u text other a b =
+pub steps_have_one_text : StepsHaveOneText
+steps_have_one_text (Refuse refusal) s t u text other a b = (a.0 ∙ sym b.0, a.1 ∙ sym b.1)
+steps_have_one_text Idle s t u text other a b = (a.0 ∙ sym b.0, a.1 ∙ sym b.1)
+steps_have_one_text (Show device) s t u text other a b =
+    (a.2 ∙ ap (λ (x : State). codes "= " ++ state_line x) (same_state (slice_get s.place.net.devices device) a.0 b.0 a.1 b.1) ∙ sym b.2, a.3 ∙ sym b.3)
+steps_have_one_text Go s t u text other a b =
     let one = goes_one s.edid false s.horizon s.place a.1 b.1 a.0 b.0 a.2 b.2 in
-    a.3 ∙ ap (λ (xs : List ℕ). xs ++ taken_line s.horizon) one.0 ∙ sym b.3
-due_one Finish s t u text other a b =
+    (a.3 ∙ ap (λ (xs : List ℕ). xs ++ taken_line s.horizon) one.0 ∙ sym b.3, a.4 ∙ ap (λ (p : Config). let v : Session = record s { place = p } in v) one.1 ∙ sym b.4)
+steps_have_one_text Finish s t u text other a b =
     let one = goes_one s.edid true s.horizon s.place a.1 b.1 a.0 b.0 a.2 b.2 in
-    let tail : Config → List ℕ = λ p. end_reported (Trace s.edid) s.horizon p.net ++ taken_line s.horizon in
-    a.3 ∙ ap (λ (xs : List ℕ). xs ++ tail a.1) one.0 ∙ ap (λ (p : Config). b.0 ++ tail p) one.1 ∙ sym b.3
+    let tail : Config → List ℕ = λ p. end_reported (Trace s.edid) s.horizon p.net ++ taken_line s.horizon in (
+      a.3 ∙ ap (λ (xs : List ℕ). xs ++ tail a.1) one.0 ∙ ap (λ (p : Config). b.0 ++ tail p) one.1 ∙ sym b.3,
+      a.4 ∙ ap (λ (p : Config). let v : Session = record s { place = p } in v) one.1 ∙ sym b.4,
+    )

@@ -68,7 +68,7 @@ cut_reported edid ended until c d e old mid new n inner fault line r turn over c
 
 -- ---- an event
 
-reported_event : (ended : Bool) (until at : ℕ) (e : Config) → IsReported ended until (Apply at) e
+pub reported_event : (ended : Bool) (until at : ℕ) (e : Config) → IsReported ended until (Apply at) e
 reported_event false until at e = tt
 reported_event true until at e = tt
 
@@ -214,6 +214,6 @@ same_place net new events left totals e f = ap₂ (λ (n : NetState) (es : List 
 pub gone_is : (ended : Bool) (s t : Session) (place : Config) (old new : Option (List ℕ)) (was is : Bool) (result : Result ℕ WriteFault) → t ≡ record s { place = place }
     → IfOk result (λ written. (text : List ℕ) × Goes s.edid ended s.horizon s.place text place × Appends old new text × (written ≡ reported_count (length text)))
     → OnOk result (is ≡ was) → IfErr result (λ fault. (text : List ℕ) (last : Config) → Goes s.edid ended s.horizon s.place text last → CutOff old new text fault)
-    → OnErr result (is ≡ true) → IsGone ended s t old new was is result
-gone_is ended s t place old new was is (Ok written) stands reported same cut stuck = (reported.0, place, reported.1, stands, (reported.3, reported.2, same))
-gone_is ended s t place old new was is (Err fault) stands reported same cut stuck = (cut, stuck)
+    → OnErr result (is ≡ true) → (text : List ℕ) × (last : Config) × Goes s.edid ended s.horizon s.place text last → IsGone ended s t old new was is result
+gone_is ended s t place old new was is (Ok written) stands reported same cut stuck due = (reported.0, place, reported.1, stands, (reported.3, reported.2, same))
+gone_is ended s t place old new was is (Err fault) stands reported same cut stuck (text, last, goes) = ((text, last, goes, cut text last goes), stuck, (place, stands))

@@ -1,6 +1,7 @@
 pub mod Extends
 pub mod Foreseeing
 pub mod Going
+pub mod HasText
 pub mod Noting
 pub mod Wholly
 pub mod Answering

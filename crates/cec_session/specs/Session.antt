@@ -194,6 +194,10 @@ IsDue Finish s text t =
     (reported : List ℕ) × (place : Config) × Goes s.edid true s.horizon s.place reported place
     × (text ≡ reported ++ (end_reported (Trace s.edid) s.horizon place.net ++ taken_line s.horizon)) × (t ≡ record s { place = place })
 
+-- a step of a session has one text that is due, and one session after it
+abbrev pub StepsHaveOneText : Type 0
+StepsHaveOneText = (step : Step) (s t u : Session) (text other : List ℕ) → IsDue step s text t → IsDue step s other u → (text ≡ other) × (t ≡ u)
+
 -- ---- what holds of every session
 
 -- of what its lines say

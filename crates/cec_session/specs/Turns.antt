@@ -1,6 +1,7 @@
 -- The turns that a session reports (this profile's own).
-use Rattle.std.specs.Prelude.{◌≡◌, ℕ, ◌+◌, ◌<◌, ◌≤◌, Bool, true, false, List, length, Option, Some, None, Result, Ok, Err, IsSome}
+use Rattle.std.specs.Prelude.{◌≡◌, ℕ, ◌+◌, ◌<◌, ◌≤◌, Bool, true, false, List, length, Option, Some, None, Result, Ok, Err, IsSome, All}
 use Rattle.cec_wave.specs.Line.{IsWave}
+use Rattle.cec_wave.specs.Pulses.{AreSparse}
 use Rattle.cec_wave.specs.Bounds.{latest_instant}
 use Rattle.cec_wire.specs.declared.Outcome.{Outcome}
 use Rattle.cec_net.specs.Progress.{IsProgress}
@@ -60,6 +61,11 @@ IsRoundTaken edid ended until begin s t a b old new was is (Ok (Some count)) = R
 IsRoundTaken edid ended until begin s t a b old new was is (Err fault) = RoundWritten (Trace edid) s t a b old new was is (Err fault) × IsSoon ended until t
 
 -- ---- what stays within its limits
+
+-- the pulses of a network: they are sparse, and none begins before its line has come to rest
+pub record AreAhead (net : NetState) : Type 0 where
+  pub sparse : AreSparse net.pulses
+  pub later : All (λ p. net.rest ≤ p.from) net.pulses
 
 -- times and counts at a place
 pub record IsWithin (c : Config) : Type 0 where

@@ -15,7 +15,7 @@ ghost use Rattle.hdmi_blocks.specs.Root.{HasAddress};
 ghost use Rattle.cec_text.specs.ReadingText.{is_complete};
 ghost use Rattle.cec_run.specs.declared.run.Reporting.TheVariants.{Trace};
 ghost use Rattle.cec_run.specs.Run.{RoundWritten, counted_event, counted_round, event_text, turn_of};
-ghost use Rattle.cec_session.specs.Turns.{IsForeseen, IsKept, IsRoundTaken};
+ghost use Rattle.cec_session.specs.Turns.{AreAhead, IsForeseen, IsKept, IsRoundTaken};
 ghost use Rattle.hdmi_blocks.specs.declared.edid.Edid.{Edid as EdidValue};
 
 use cec_asm::TimedEvent;
@@ -47,13 +47,13 @@ pub(crate) struct Foreseen {
 
 impl Model for Foreseen {
     ghost use Rattle.cec_net.specs.State.{NetState};
-    ghost use Rattle.cec_session.specs.Turns.{IsKept};
+    ghost use Rattle.cec_session.specs.Turns.{AreAhead, IsKept};
 
     ghost Value = { NetState };
 
     ghost view = { λ f. f.net.value };
 
-    ghost invariant = { λ f. IsKept f.is_known f.net.value f.next };
+    ghost invariant = { λ f. IsKept f.is_known f.net.value f.next × AreAhead f.net.value };
 }
 
 // Runs the next round, which begins at `begin`. Returns its close. An outcome is large: room for it is made here, and not where
@@ -155,6 +155,13 @@ impl Foreseen {
             next: None,
             is_known: false,
         })
+    }
+
+    /// Its pulses are sparse, and none begins before its line has come to rest.
+    pub fn pulses_are_ahead(&self)
+        ensures { AreAhead self.now }
+    {
+        let _is_known = self.is_known;
     }
 
     /// The tree of the devices.

@@ -1,5 +1,11 @@
 //! Laws of whole sessions.
+ghost use Rattle.cec_session.specs.Session.{StepsHaveOneText};
 ghost use Rattle.cec_session.specs.Whole.{SessionsReportFronts, SessionsReportTraces, SessionsReportTracesOf};
+
+/// A step that a line asks for has one text that is due, and leads to one session.
+pub fn steps_have_one_text()
+    ensures { StepsHaveOneText }
+{}
 
 /// While a session goes on, what its lines have reported, without the answers, is the front of the trace of every run that may
 /// still come of the lines that were taken.

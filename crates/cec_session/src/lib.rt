@@ -10,5 +10,7 @@ mod note;
 mod turns;
 
 pub use answer::Refusal;
-pub use laws::{sessions_report_fronts, sessions_report_traces, sessions_report_traces_of};
+pub use laws::{
+    sessions_report_fronts, sessions_report_traces, sessions_report_traces_of, steps_have_one_text,
+};
 pub use live::{Live, LiveError, Step};

@@ -107,7 +107,7 @@ impl Live {
     ghost use Rattle.hdmi_core.specs.Cut.{WrittenText};
     ghost use Rattle.cec_run.specs.declared.run.Reporting.TheVariants.{Trace};
     ghost use Rattle.cec_run.specs.Run.{end_reported, start_reported};
-    ghost use Rattle.cec_session.specs.declared.live.Step.TheVariants.{Finish, Go, Show};
+    ghost use Rattle.cec_session.specs.declared.live.Step.TheVariants.{Finish, Go, Idle, Refuse, Show};
     ghost use Rattle.cec_session.specs.Note.{IsSettled};
     ghost use Rattle.cec_session.specs.Session.{IsSoonest, IsStep, NamesShown, after_to, after_wait, first_session, with_line_counted, standing, step_to, step_wait, taken_line, with_standing};
     ghost use Rattle.cec_session.specs.Taken.{IsAnswered, IsGone, IsLineTaken, IsOfMemory};
@@ -219,6 +219,7 @@ impl Live {
     fn go<S: Sink>(&mut self, out: &mut S, ended: bool) -> Result<u128, WriteFault>
         ensures { IsGone ended self.old self.new (S.contents out.old) (S.contents out.new) (S.is_stuck out.old) (S.is_stuck out.new) result }
     {
+        self.net.pulses_are_ahead();
         let mut applied = 0;
         let gone = go_on(
             out,
@@ -239,6 +240,20 @@ impl Live {
         ensures { WrittenText (S.contents out.old) (S.contents out.new) (S.is_stuck out.old) (S.is_stuck out.new) (taken_line self.now.horizon) result }
     {
         write_taken(out, self.horizon)
+    }
+
+    // Refuses a line.
+    fn take_refusal<S: Sink>(&self, refusal: Refusal, out: &mut S) -> Result<u128, WriteFault>
+        ensures { IsAnswered (Refuse refusal) self.now self.now (S.contents out.old) (S.contents out.new) (S.is_stuck out.old) (S.is_stuck out.new) result }
+    {
+        write_refused(out, self.lines, refusal)
+    }
+
+    // Says that nothing comes any more.
+    fn take_idle<S: Sink>(&self, out: &mut S) -> Result<u128, WriteFault>
+        ensures { IsAnswered Idle self.now self.now (S.contents out.old) (S.contents out.new) (S.is_stuck out.old) (S.is_stuck out.new) result }
+    {
+        write_idle(out, self.horizon)
     }
 
     // Shows the state of a device.
@@ -286,8 +301,8 @@ impl Live {
         ensures { IsAnswered step self.old self.new (S.contents out.old) (S.contents out.new) (S.is_stuck out.old) (S.is_stuck out.new) result }
     {
         match step {
-            Step::Refuse(refusal) => write_refused(out, self.lines, refusal),
-            Step::Idle => write_idle(out, self.horizon),
+            Step::Refuse(refusal) => self.take_refusal(refusal, out),
+            Step::Idle => self.take_idle(out),
             Step::Show(device) => self.take_show(device, out),
             Step::Go => self.take_go(out),
             Step::Finish => self.take_finish(out),

@@ -5,6 +5,7 @@ use Rattle.cec_run.specs.Run.{Config}
 use Rattle.cec_session.specs.Session.{Session}
 use Rattle.cec_session.specs.Taken.{IsGone}
 use Rattle.cec_session.proofs.Going.{drop_schedule, drop_drop, gone_is}
+use Rattle.cec_session.proofs.HasText.{has_text}
 use Rattle.cec_session.proofs.live.Live.go.Goals as goal
 
 pub go_on-gone-requires-clause-schedule : goal.go_on-gone-requires-clause-schedule
@@ -38,4 +39,5 @@ returns g c =
     let t : Session = record s { place = record { net = c.go_on-gone.new.net; events = drop (here.applied + c.go_on-gone.new.applied) here.draft.events.items; totals = c.go_on-gone.new.totals } } in
     subst (λ (s : Session). IsGone c.args.ended s t (g.S.Sink.contents c.args.out.now) (g.S.Sink.contents c.go_on-gone.new.out) (g.S.Sink.is_stuck c.args.out.now) (g.S.Sink.is_stuck c.go_on-gone.new.out) c.go_on-gone.result) from
     (gone_is c.args.ended s t place (g.S.Sink.contents c.args.out.now) (g.S.Sink.contents c.go_on-gone.new.out) (g.S.Sink.is_stuck c.args.out.now) (g.S.Sink.is_stuck c.go_on-gone.new.out) c.go_on-gone.result stands
-    c.go_on-gone.ensures.ok c.go_on-gone.ensures.same c.go_on-gone.ensures.cut c.go_on-gone.ensures.stuck)
+    c.go_on-gone.ensures.ok c.go_on-gone.ensures.same c.go_on-gone.ensures.cut c.go_on-gone.ensures.stuck
+    (has_text here.edid c.args.ended here.horizon s.place c.pulses_are_ahead.ensures))

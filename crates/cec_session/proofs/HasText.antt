@@ -1,0 +1,164 @@
+-- A session that goes on has a text: each round has an outcome, and the turns come to an end.
+use Rattle.std.proofs.Common.{◌≡◌, ℕ, zero, suc, ◌+◌, ◌-◌, ◌<◌, ◌≤◌, Bool, true, false, nat_lt, if◌then◌else◌, List, [], ◌∷◌, ◌++◌, length, filter, inl, inr, All, Option, Some, None, option_map, Result, Ok, Err, MatchResult, refl, sym, ap, ◌∙◌, subst, arith}
+use Rattle.std.proofs.lemmas.Bool.{cases_lt}
+use Rattle.std.proofs.lemmas.Bool.Decides.{nat_tests}
+use Rattle.std.proofs.lemmas.List.Elements.{All-append, All-cons, All-nil, filter_passes}
+use Rattle.cec_wave.specs.declared.Stretch.{Stretch}
+use Rattle.cec_wave.specs.declared.PulsesError.{PulsesError}
+use Rattle.cec_wave.specs.Line.{IsWave}
+use Rattle.cec_wave.specs.Pulses.{AreSparse, pulses_fault}
+use Rattle.cec_wave.specs.Bounds.{latest_instant}
+use Rattle.cec_wave.proofs.Kept.{sparse-filter}
+use Rattle.cec_wave.proofs.Sparse.{faultless_are_sparse}
+use Rattle.cec_wire.specs.declared.Outcome.{Outcome}
+use Rattle.cec_wire.proofs.HasOutcome.{rounds_have_outcomes}
+use Rattle.cec_event.specs.declared.event.Event.{Event}
+use Rattle.hdmi_blocks.specs.declared.edid.Edid.{Edid}
+use Rattle.cec_asm.specs.declared.script.TimedEvent.{TimedEvent}
+use Rattle.cec_net.specs.State.{NetState, next_start}
+use Rattle.cec_net.specs.Added.{between_rounds, pulse_fault, pulse_fault_by, with_pulse}
+use Rattle.cec_net.specs.Apply.{net_after, event_fault}
+use Rattle.cec_net.specs.Step.{IsNextRound, after_round, seats_of}
+use Rattle.cec_net.specs.declared.added.PulseError.{PulseError}
+use Rattle.cec_net.specs.declared.added.PulseError.TheVariants.{Past, Late, NotSparse}
+use Rattle.cec_net.proofs.Progress.{progress}
+use Rattle.cec_text.specs.ReadingText.{is_complete}
+use Rattle.cec_run.specs.declared.run.Reporting.TheVariants.{Trace}
+use Rattle.cec_run.specs.declared.run.Turn.{Turn}
+use Rattle.cec_run.specs.declared.run.Turn.TheVariants.{Stop, Apply, Round}
+use Rattle.cec_run.specs.Run.{Config, turn_at, turn_of, first_time, round_turn, counted_event, counted_round, event_text, round_reported, IsEventTurn, IsTurnBy}
+use Rattle.cec_run.proofs.Advance.{event_keeps, round_begins}
+use Rattle.causal_laws.specs.Certain.{IsHeldBy}
+use Rattle.cec_session.specs.Turns.{AreAhead, Goes, IsReported}
+use Rattle.cec_session.proofs.Going.{last_stop, reported_event}
+
+-- ---- what a network keeps of its pulses
+
+pub ahead_first : (net : NetState) → net.pulses ≡ [] → AreAhead net
+ahead_first net none = record { sparse = subst (λ (ps : List Stretch). AreSparse ps) (sym none) (record { few = omega arith; narrow = All-nil _; far = tt }); later = subst (λ (ps : List Stretch). All (λ p. net.rest ≤ p.from) ps) (sym none) (All-nil _) }
+
+pub ahead_event : (at : ℕ) (event : Event) (s t : NetState) → t ≡ net_after at event s → AreAhead s → AreAhead t
+ahead_event at event s t e a =
+    let kept = event_keeps at event s t e in
+    record {
+      sparse = subst (λ (ps : List Stretch). AreSparse ps) (sym kept.pulses) a.sparse;
+      later = subst (λ (ps : List Stretch). All (λ p. t.rest ≤ p.from) ps) (sym kept.pulses) (subst (λ (rest : ℕ). All (λ p. rest ≤ p.from) s.pulses) (sym kept.rest) a.later);
+    }
+
+-- the pulses that are left come after the rest
+later_after : (rest : ℕ) (pulses : List Stretch) → All (λ p. rest ≤ p.from) (filter (λ p. nat_lt rest p.from) pulses)
+later_after rest pulses k p l = (let e = filter_passes (λ (q : Stretch). nat_lt rest q.from) pulses k p l in grind (arith, nat_tests))
+
+pub ahead_round : (begin : ℕ) (s t : NetState) (o : Outcome) → t ≡ after_round s begin o → AreAhead s → AreAhead t
+ahead_round begin s t o e a = subst AreAhead (sym e) (record { sparse = sparse-filter (λ q. nat_lt o.rest q.from) s.pulses a.sparse; later = later_after o.rest s.pulses })
+
+no_fault : (fault : Option PulseError) (a b : Bool) → (if a then Some Past else if b then Some Late else fault) ≡ None → (a ≡ false) × (fault ≡ None)
+no_fault fault true b e = cc
+no_fault fault false true e = cc
+no_fault fault false false e = (refl, e)
+
+no_pulses_fault : (fault : Option PulsesError) → option_map NotSparse fault ≡ None → fault ≡ None
+no_pulses_fault None e = refl
+no_pulses_fault (Some fault) e = cc
+
+ahead_between : (s : NetState) (pulse : Stretch) → between_rounds s pulse ≡ None → AreAhead s → AreAhead (with_pulse s pulse)
+ahead_between s pulse e a =
+    let none = no_fault (option_map NotSparse (pulses_fault (s.pulses ++ pulse ∷ []))) (nat_lt pulse.from s.rest) (nat_lt latest_instant pulse.from) e in
+    let late : s.rest ≤ pulse.from = (let no = none.0 in grind (arith, nat_tests)) in
+    record {
+      sparse = (faultless_are_sparse (s.pulses ++ pulse ∷ [])).0 (no_pulses_fault (pulses_fault (s.pulses ++ pulse ∷ [])) none.1);
+      later = All-append (λ p. s.rest ≤ p.from) s.pulses (pulse ∷ []) a.later (All-cons (λ p. s.rest ≤ p.from) pulse [] late (All-nil (λ p. s.rest ≤ p.from)));
+    }
+
+pub ahead_pulse : (s t : NetState) (pulse : Stretch) → pulse_fault s pulse ≡ None → t ≡ with_pulse s pulse → AreAhead s → AreAhead t
+ahead_pulse s t pulse none e a = subst AreAhead (sym e) (by_heard s.heard none)
+  where
+    by_heard : (heard : Option ℕ) → pulse_fault_by heard s pulse ≡ None → AreAhead (with_pulse s pulse)
+    by_heard None h = ahead_between s pulse h a
+    by_heard (Some at) h = cc
+
+-- what the call for a pulse gives
+pub ahead_added : (s t : NetState) (pulse : Stretch) (result : Result (Unit {0}) PulseError) → MatchResult result (λ done. (pulse_fault s pulse ≡ None) × (t ≡ with_pulse s pulse)) (λ error. (pulse_fault s pulse ≡ Some error) × (t ≡ s))
+    → AreAhead s → AreAhead t
+ahead_added s t pulse (Ok done) h a = ahead_pulse s t pulse h.0 h.1 a
+ahead_added s t pulse (Err error) h a = subst AreAhead (sym h.1) a
+
+-- ---- one turn
+
+-- what is left
+abbrev size : ℕ → Config → ℕ
+size until c = length c.events + (until - c.net.rest)
+
+abbrev pub HasText : Option Edid → Bool → ℕ → Config → Type 0
+HasText edid ended until c = (text : List ℕ) × (place : Config) × Goes edid ended until c text place
+
+-- smaller ones have a text
+abbrev HaveTexts : Option Edid → Bool → ℕ → Config → Type 0
+HaveTexts edid ended until c = (d : Config) → size until d < size until c → AreAhead d.net → HasText edid ended until d
+
+in_front : (edid : Option Edid) (ended : Bool) (until : ℕ) (c d : Config) (line : List ℕ) (turn : Turn) → turn_at until c ≡ turn → IsTurnBy (Trace edid) turn c line d → IsReported ended until turn d → HasText edid ended until d
+    → HasText edid ended until c
+in_front edid ended until c d line turn e is over (text, place, goes) = (
+  line ++ text,
+  place,
+  record {
+    turns = suc goes.turns;
+    leads = (d, line, text, subst (λ t. IsTurnBy (Trace edid) t c line d) (sym e) is, subst (λ t. IsReported ended until t d) (sym e) over, goes.leads, refl);
+    last = goes.last;
+  },
+)
+
+no_event : (end at : ℕ) (o : Option ℕ) → round_turn end o ≡ Apply at → ⊥
+no_event end at None e = cc
+no_event end at (Some begin) e = by_test (nat_lt begin end) e
+  where
+    by_test : (b : Bool) → (if b then Round begin else Stop) ≡ Apply at → ⊥
+    by_test true k = cc
+    by_test false k = cc
+
+event_step : (edid : Option Edid) (ended : Bool) (until at : ℕ) (c : Config) (events : List TimedEvent) → c.events ≡ events → turn_at until c ≡ Apply at → AreAhead c.net → HaveTexts edid ended until c
+    → HasText edid ended until c
+event_step edid ended until at c [] same e ahead go = absurd (no_event until at (next_start c.net) (sym (ap (λ (xs : List TimedEvent). turn_of until c.net (first_time xs)) same) ∙ e))
+event_step edid ended until at c (x ∷ xs) same e ahead go =
+    let d : Config = record { net = net_after at x.event c.net; events = xs; totals = counted_event (event_fault c.net x.event) c.totals } in
+    let line = event_text edid at x c.net in
+    let kept = event_keeps at x.event c.net (net_after at x.event c.net) refl in
+    let turn : IsTurnBy (Trace edid) (Apply at) c line d = subst (λ (es : List TimedEvent). IsEventTurn (Trace edid) at es c line d) (sym same) (refl, refl) in
+    let count : length c.events ≡ suc (length xs) = ap length same in
+    in_front edid ended until c d line (Apply at) e turn (reported_event ended until at d) (go d (omega (arith, count, kept.rest)) (ahead_event at x.event c.net (net_after at x.event c.net) refl ahead))
+
+round_step : (edid : Option Edid) (ended : Bool) (until begin : ℕ) (c : Config) → turn_at until c ≡ Round begin → AreAhead c.net → HaveTexts edid ended until c → HasText edid ended until c
+round_step edid ended until begin c e ahead go =
+    let begins = round_begins until c.net (first_time c.events) begin e in
+    let has = rounds_have_outcomes (seats_of c.net begin) begin c.net.pulses ahead.sparse in
+    let o : Outcome = has.0 in
+    let net = after_round c.net begin o in
+    let next : IsNextRound c.net begin o net = record { round = has.2; after_is = refl } in
+    let d : Config = record { net = net; events = c.events; totals = counted_round (is_complete o.reading.ending) c.totals } in
+    let line = round_reported (Trace edid) net.devices o in
+    let turn : IsTurnBy (Trace edid) (Round begin) c line d = (record { outcome = o; wave = has.1; next = next; reported = refl; totals = refl }, refl) in
+    let p = progress c.net begin o ahead.sparse ahead.later begins.0 has.1 has.2 in
+    let rest = go d (omega (arith, begins.1, p.later, p.low)) (ahead_round begin c.net net o refl ahead) in
+    by_end ended o has.1 net next d turn rest
+  where
+    by_end : (b : Bool) (o : Outcome) → IsWave o.wave → (net : NetState) → IsNextRound c.net begin o net → (d : Config) → IsTurnBy (Trace edid) (Round begin) c (round_reported (Trace edid) net.devices o) d → HasText edid b until d → HasText edid b until c
+    by_end true o wave net next d turn rest = in_front edid true until c d (round_reported (Trace edid) net.devices o) (Round begin) e turn tt rest
+    by_end false o wave net next d turn rest =
+        elim (cases_lt d.net.close until) [
+          | inl lt ↦ in_front edid false until c d (round_reported (Trace edid) net.devices o) (Round begin) e turn lt rest
+          | inr ge ↦ ([], c, record { turns = zero; leads = (refl, refl); last = subst (IsHeldBy until c.net) (sym e) (turn.0.outcome, d.net, turn.0.wave, turn.0.next, ge) })
+        ]
+
+some_step : (edid : Option Edid) (ended : Bool) (until : ℕ) (c : Config) (turn : Turn) → turn_at until c ≡ turn → AreAhead c.net → HaveTexts edid ended until c → HasText edid ended until c
+some_step edid ended until c Stop e ahead go = ([], c, record { turns = zero; leads = (refl, refl); last = last_stop ended until c.net c.events c.totals e })
+some_step edid ended until c (Apply at) e ahead go = event_step edid ended until at c c.events refl e ahead go
+some_step edid ended until c (Round begin) e ahead go = round_step edid ended until begin c e ahead go
+
+-- ---- all turns
+
+has_some : (edid : Option Edid) (ended : Bool) (until n : ℕ) (c : Config) → size until c ≤ n → AreAhead c.net → HasText edid ended until c
+has_some edid ended until zero c few ahead = some_step edid ended until c (turn_at until c) refl ahead (λ d l a. absurd (omega (arith, l, few)))
+has_some edid ended until (suc n) c few ahead = some_step edid ended until c (turn_at until c) refl ahead (λ d l a. has_some edid ended until n d (omega (arith, l, few)) a)
+
+pub has_text : (edid : Option Edid) (ended : Bool) (until : ℕ) (c : Config) → AreAhead c.net → HasText edid ended until c
+has_text edid ended until c ahead = has_some edid ended until (size until c) c (omega arith) ahead
