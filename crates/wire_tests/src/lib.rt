@@ -16,4 +16,6 @@ mod receivers;
 #[cfg(test)]
 mod senders;
 #[cfg(test)]
+mod wide;
+#[cfg(test)]
 mod words;
