@@ -37,6 +37,11 @@ abbrev pub AreRisingFrom : ℕ → List ℕ → Type 0
 AreRisingFrom from [] = Unit {0}
 AreRisingFrom from (t ∷ ts) = (from ≤ t) × AreRisingFrom (t + 1) ts
 
+-- Any line, whoever pulls it, falls at most 162 times from a reading's begin to its last microsecond: at the begin, at 160
+-- slots, and once more where that breaks the reading.
+abbrev pub FallsAreRead : Type 0
+FallsAreRead = (low : ℕ → Bool) (begin : ℕ) (falls : List ℕ) → AreRisingFrom begin falls → All (λ u. (u ≤ (reading_of low begin).until) × (is_fall low u ≡ true)) falls → length falls ≤ 162
+
 -- So it falls at most 179 times: 161 stretches of the senders, and 18 pulses.
 abbrev pub FewFalls : Type 0
 FewFalls = (seats : List Seat) (begin : ℕ) (pulses : List Stretch) (t : ℕ) (low : ℕ → Bool) → AreShortFrames seats → AreSparse pulses → IsPulledBelow seats begin pulses t low

@@ -1,8 +1,8 @@
 //! Laws of rounds: one line, arbitration (CEC 9), the acknowledge bit (CEC 6.1), and how long a round lasts.
 ghost use Rattle.cec_wire.specs.Alone.{RoundsAreLone};
 ghost use Rattle.cec_wire.specs.Bounds.{RoundsAreShort};
-ghost use Rattle.cec_wire.specs.Contend.{AcknowledgedIsZero, AcknowledgersHold, CompleteIsWinners, HasLine, LaterPulses, LosersInside, RoundBelow, SameLine, WinnersLast, WinnersWindow};
-ghost use Rattle.cec_wire.specs.Falls.{EachFallBegins, FewFalls, RoundFits, WaveFits};
+ghost use Rattle.cec_wire.specs.Contend.{AcknowledgedIsZero, AcknowledgersHold, CompleteIsSurvivors, CompleteIsWinners, HasLine, LaterPulses, LosersInside, RoundBelow, SameLine, WinnersLast, WinnersWindow};
+ghost use Rattle.cec_wire.specs.Falls.{EachFallBegins, FallsAreRead, FewFalls, RoundFits, WaveFits};
 ghost use Rattle.cec_wire.specs.Lasting.{RoundsLast};
 ghost use Rattle.cec_wire.specs.OneOutcome.{OneOutcome, RoundsHaveOutcomes};
 ghost use Rattle.cec_wire.specs.Polls.{FreeIsRead, HoldersAreHeard};
@@ -56,6 +56,11 @@ pub fn complete_is_winners()
     ensures { CompleteIsWinners }
 {}
 
+/// Of any line: a complete reading has, acknowledge slots left out, the bits of each sender that is not out of it.
+pub fn complete_is_survivors()
+    ensures { CompleteIsSurvivors }
+{}
+
 /// Arbitration (CEC 9): what is read of a complete round as its frame is the frame of a winner.
 pub fn complete_is_read()
     ensures { CompleteIsRead }
@@ -81,6 +86,11 @@ pub fn few_falls()
     ensures few { FewFalls }
     ensures wave { WaveFits }
     ensures round { RoundFits }
+{}
+
+/// Of any line at most 162 falls lie from a reading's begin to its last microsecond, whoever pulls.
+pub fn falls_are_read()
+    ensures { FallsAreRead }
 {}
 
 /// A round in which a seat sends, or a pulse begins at its begin, ends after its begin, and its last low
