@@ -101,3 +101,34 @@ fn takes_lines_of_4096_bytes(rt: HostRuntime) {
     let topology = with_long_line(&rt, b"device tv tv 1\n", 4097);
     ends_so(&rt, topology.as_slice(), "", "input too long");
 }
+
+/// A television, remarks up to so many bytes of topology, and a script.
+fn with_long_topology(rt: &(impl Abort + AllocGlobal), bytes: usize) -> Vec<u8> {
+    let mut input = Vec::new(rt.alloc());
+    input
+        .extend_from_slice(b"device tv tv 1\n")
+        .expect(rt, "a device");
+    for _ in 0..257 {
+        let length = bytes.saturating_sub(input.len()).min(4096);
+        for _ in 1..length {
+            input.push(b'#').expect(rt, "a remark");
+        }
+        if length > 0 {
+            input.push(b'\n').expect(rt, "its end");
+        }
+    }
+    input
+        .extend_from_slice(b"script\nend 10\n")
+        .expect(rt, "a script");
+    input
+}
+
+#[test]
+fn takes_topologies_of_1048576_bytes(rt: HostRuntime) {
+    let said =
+        "state tv tv - 0.0.0.0 on active=- path=- deck=1a menu=off audio=off volume=20 mute=off arc=off sel=- lang=656e67 osd=- held=- heard=- sub=- queue=0 dropped=0\n10 end\n= 10\n";
+    let longest = with_long_topology(&rt, 1_048_576);
+    ends_so(&rt, longest.as_slice(), said, "");
+    let longer = with_long_topology(&rt, 1_048_577);
+    ends_so(&rt, longer.as_slice(), "", "input too long");
+}
