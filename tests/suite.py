@@ -156,7 +156,12 @@ def greedy_devices(pool):
     suite.frames = FRAMES
     test = next(test for test in TESTS if test.name == "osd-name")
     right = True
-    for device, fault in ((Multiplies(), "more than 1024 lines are due"), (Turns(), "more than 100000 lines in one test"), (Floods(), "refused queue-full")):
+    cases = [
+        (Multiplies(), "more than 1024 lines are due"),
+        (Turns(), "more than 100000 lines in one test"),
+        (Floods(), "refused queue-full"),
+    ]
+    for device, fault in cases:
         result = suite.test(test, Here(device))
         if result.holds or not any(fault in line for line in result.below):
             print("suite: no fault: %s" % fault)
@@ -205,8 +210,10 @@ def programs_are_driven(pool):
         ran = suite_of(REFERENCE, "--kind", "amp", "--keep", kept, "osd-name", "remote-lost", "deck-play")
         lines = ran.stdout.split("\n")
         right = right and ran.returncode == 0 and lines[0] == "TAP version 13" and lines[-2] == "1..3" and lines[1].startswith("ok 1 - deck-play: ")
-        right = right and lines[1].endswith(" # SKIP for player recorder") and lines[2].startswith("ok 2 - osd-name: ") and lines[3].startswith("ok 3 - remote-lost: ")
-        right = right and sorted(os.listdir(kept)) == ["osd-name.report", "osd-name.talk", "osd-name.test", "remote-lost.report", "remote-lost.talk", "remote-lost.test"]
+        right = right and lines[1].endswith(" # SKIP for player recorder")
+        right = right and lines[2].startswith("ok 2 - osd-name: ") and lines[3].startswith("ok 3 - remote-lost: ")
+        files = [name + end for name in ("osd-name", "remote-lost") for end in (".report", ".talk", ".test")]
+        right = right and sorted(os.listdir(kept)) == files
         for name in ("osd-name", "remote-lost"):
             with open(os.path.join(kept, name + ".test")) as test, open(os.path.join(kept, name + ".report")) as report:
                 checked = subprocess.run([PROGRAM, "check", "--trace"], stdin=test, capture_output=True, text=True)
@@ -315,13 +322,27 @@ def every_test_fails_once(pool):
     return not never
 
 
+WHAT = [
+    keeps_the_standard,
+    emulated_kinds,
+    slips_are_seen,
+    every_test_fails_once,
+    table_is_whole,
+    ticking_devices,
+    instants_are_kept,
+    greedy_devices,
+    broken_devices,
+    programs_are_driven,
+]
+
+
 def main():
     if not os.access(PROGRAM, os.X_OK):
         sys.exit("suite: no program at %s" % PROGRAM)
     signal.alarm(600)
     passed = failed = 0
     with ProcessPoolExecutor(min(4, os.cpu_count() or 2)) as pool:
-        for test in [keeps_the_standard, emulated_kinds, slips_are_seen, every_test_fails_once, table_is_whole, ticking_devices, instants_are_kept, greedy_devices, broken_devices, programs_are_driven]:
+        for test in WHAT:
             if test(pool):
                 passed += 1
             else:

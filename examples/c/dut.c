@@ -66,7 +66,8 @@ static void sent(const char *acknowledged) {
 /* A frame for it, whose operands are there, and came as they may. */
 static void obey(int initiator, const char *name, const uint8_t *operands) {
     char path[16] = "";
-    if (!strcmp(name, "set-stream-path")) snprintf(path, sizeof path, "%x.%x.%x.%x", operands[0] / 16u, operands[0] % 16u, operands[1] / 16u, operands[1] % 16u);
+    if (!strcmp(name, "set-stream-path"))
+        snprintf(path, sizeof path, "%x.%x.%x.%x", operands[0] / 16u, operands[0] % 16u, operands[1] / 16u, operands[1] % 16u);
     if (!strcmp(name, "standby")) is_on = is_active = false;
     if (!strcmp(name, "routing-change") || !strcmp(name, "active-source")) is_active = false;
     if (*path) is_active = !strcmp(path, physical), is_on = is_on || is_active;
@@ -81,7 +82,8 @@ static void obey(int initiator, const char *name, const uint8_t *operands) {
 static void hear(const uint8_t *frame, size_t count, const char *acknowledged) {
     char text[97], name[40] = "", refusal[40];
     int initiator = frame[0] / 16, to = frame[0] % 16;
-    if (la == NONE || la == UNREGISTERED || count < 2 || (to != la && to != TO_ALL) || !strcmp(acknowledged, "nack") || !strcmp(acknowledged, "refused")) return;
+    bool is_taken = !strcmp(acknowledged, "ack") || !strcmp(acknowledged, "ok");
+    if (la == NONE || la == UNREGISTERED || count < 2 || (to != la && to != TO_ALL) || !is_taken) return;
     hdminet_answer spelled = hdminet_frame_text(frame, count, (uint8_t *)text, sizeof text - 1);
     text[spelled.code == HDMINET_DONE ? spelled.length : 0] = 0;
     sscanf(text, "%*s %39s", name);

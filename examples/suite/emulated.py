@@ -53,7 +53,8 @@ class Emulated(Dut):
         for level, digit in enumerate(digits, 1):
             is_last = level == len(digits)
             name = "own" if is_last else "box%d" % level
-            lines += ["device %s %s %d" % (name, (self.emulated or self.kind) if is_last else "outside", 2 if is_last else 15), "plug %s %s %d" % (name, above, int(digit, 16))]
+            kind, ports = (self.emulated or self.kind, 2) if is_last else ("outside", 15)
+            lines += ["device %s %s %d" % (name, kind, ports), "plug %s %s %d" % (name, above, int(digit, 16))]
             above = name
         self.room = Room(self.program, "\n".join(lines) + "\n")
         self.at = 0

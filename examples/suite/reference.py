@@ -5,6 +5,8 @@
 
 It takes 20 ms to answer. What it does on a frame are its methods `on_XX`, by the opcode in hex."""
 
+from collections import namedtuple
+
 from dut import Dut
 
 # The logical addresses of each kind in the order in which it polls them (CEC 10.2), and its device type (CEC 17).
@@ -21,17 +23,47 @@ DECK_PLAY, DECK_STILL, DECK_FAST, DECK_NO_MEDIUM, DECK_STOP = 0x11, 0x14, 0x17, 
 MODES = {0x24: DECK_PLAY, 0x25: DECK_STILL, 5: DECK_FAST, 6: DECK_FAST, 7: DECK_FAST, 9: 0x18, 10: 0x18, 11: 0x18}
 CONTROLS = {1: 0x1B, 2: 0x1C, 3: DECK_STOP, 4: DECK_NO_MEDIUM}
 
-# How many operands a message has at least, and whether it comes to one device, to all, or either way (CEC 15).
+# How many operands a message has at least, whether it comes to one device, to all, or either way (CEC 15), and who obeys it. Another
+# kind refuses it as unrecognized, as it does what is not here.
+Message = namedtuple("Message", "least way kinds")
 DIRECT, TO_ALL, BOTH = "direct", "to all", "both"
+DECKS, AMP = ("player", "recorder"), ("amp",)
+ALL = tuple(ADDRESSES)
 MESSAGES = {
-    0x00: (2, DIRECT), 0x1A: (1, DIRECT), 0x32: (3, TO_ALL), 0x36: (0, BOTH), 0x41: (1, DIRECT), 0x42: (1, DIRECT), 0x44: (1, DIRECT),
-    0x45: (0, DIRECT), 0x46: (0, DIRECT), 0x47: (1, DIRECT), 0x70: (0, DIRECT), 0x71: (0, DIRECT), 0x72: (1, BOTH), 0x7D: (0, DIRECT), 0x80: (4, TO_ALL),
-    0x81: (2, TO_ALL), 0x82: (2, TO_ALL), 0x83: (0, DIRECT), 0x84: (3, TO_ALL), 0x85: (0, TO_ALL), 0x86: (2, TO_ALL), 0x87: (3, TO_ALL),
-    0x8C: (0, DIRECT), 0x8D: (1, DIRECT), 0x8F: (0, DIRECT), 0x90: (1, DIRECT), 0x9E: (1, DIRECT), 0x9F: (0, DIRECT), 0xC1: (0, DIRECT),
-    0xC2: (0, DIRECT), 0xC3: (0, DIRECT), 0xC4: (0, DIRECT), 0xFF: (0, DIRECT),
+    0x00: Message(2, DIRECT, ALL),  # Feature Abort
+    0x1A: Message(1, DIRECT, DECKS),  # Give Deck Status
+    0x32: Message(3, TO_ALL, ALL),  # Set Menu Language
+    0x36: Message(0, BOTH, ALL),  # Standby
+    0x41: Message(1, DIRECT, DECKS),  # Play
+    0x42: Message(1, DIRECT, DECKS),  # Deck Control
+    0x44: Message(1, DIRECT, DECKS + AMP),  # User Control Pressed
+    0x45: Message(0, DIRECT, DECKS + AMP),  # User Control Released
+    0x46: Message(0, DIRECT, ALL),  # Give OSD Name
+    0x47: Message(1, DIRECT, ALL),  # Set OSD Name
+    0x70: Message(0, DIRECT, AMP),  # System Audio Mode Request
+    0x71: Message(0, DIRECT, AMP),  # Give Audio Status
+    0x72: Message(1, BOTH, ALL),  # Set System Audio Mode
+    0x7D: Message(0, DIRECT, AMP),  # Give System Audio Mode Status
+    0x80: Message(4, TO_ALL, ALL),  # Routing Change
+    0x81: Message(2, TO_ALL, ALL),  # Routing Information
+    0x82: Message(2, TO_ALL, ALL),  # Active Source
+    0x83: Message(0, DIRECT, ALL),  # Give Physical Address
+    0x84: Message(3, TO_ALL, ALL),  # Report Physical Address
+    0x85: Message(0, TO_ALL, ALL),  # Request Active Source
+    0x86: Message(2, TO_ALL, ALL),  # Set Stream Path
+    0x87: Message(3, TO_ALL, ALL),  # Device Vendor ID
+    0x8C: Message(0, DIRECT, ALL),  # Give Device Vendor ID
+    0x8D: Message(1, DIRECT, DECKS),  # Menu Request
+    0x8F: Message(0, DIRECT, ALL),  # Give Device Power Status
+    0x90: Message(1, DIRECT, ALL),  # Report Power Status
+    0x9E: Message(1, DIRECT, ALL),  # CEC Version
+    0x9F: Message(0, DIRECT, ALL),  # Get CEC Version
+    0xC1: Message(0, DIRECT, AMP),  # Report ARC Initiated
+    0xC2: Message(0, DIRECT, AMP),  # Report ARC Terminated
+    0xC3: Message(0, DIRECT, AMP),  # Request ARC Initiation
+    0xC4: Message(0, DIRECT, AMP),  # Request ARC Termination
+    0xFF: Message(0, DIRECT, ALL),  # Abort
 }
-# What a kind obeys beside what all do; it refuses the rest as unrecognized.
-FOR_KINDS = {0x1A: "deck", 0x41: "deck", 0x42: "deck", 0x44: "deck amp", 0x45: "deck amp", 0x70: "amp", 0x71: "amp", 0x7D: "amp", 0x8D: "deck", 0xC1: "amp", 0xC2: "amp", 0xC3: "amp", 0xC4: "amp"}
 
 
 class Reference(Dut):
@@ -49,7 +81,7 @@ class Reference(Dut):
         self.port = 1
 
     def is_deck(self):
-        return self.kind in ("player", "recorder")
+        return self.kind in DECKS
 
     # What it says.
 
@@ -118,13 +150,12 @@ class Reference(Dut):
         self.obey(initiator, to != BROADCAST, data[1], data[2:])
 
     def obey(self, initiator, is_direct, opcode, operands):
-        is_known = opcode in MESSAGES and any(word in FOR_KINDS.get(opcode, self.kind).split() for word in (self.kind, "deck" if self.is_deck() else ""))
-        if not is_known:
+        known = MESSAGES.get(opcode)
+        if known is None or self.kind not in known.kinds:
             if is_direct:
                 self.refuse(initiator, opcode, UNRECOGNIZED)
             return
-        count, way = MESSAGES[opcode]
-        if len(operands) < count or way not in (BOTH, DIRECT if is_direct else TO_ALL):
+        if len(operands) < known.least or known.way not in (BOTH, DIRECT if is_direct else TO_ALL):
             return
         reason = getattr(self, "on_%02x" % opcode, lambda *_: None)(initiator, operands)
         if reason is not None and is_direct:

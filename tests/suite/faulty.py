@@ -274,7 +274,7 @@ class ObeysShort(Reference):
     """Takes operands that are not there for 0."""
 
     def obey(self, initiator, is_direct, opcode, operands):
-        missing = MESSAGES.get(opcode, (0, None))[0] - len(operands)
+        missing = MESSAGES[opcode].least - len(operands) if opcode in MESSAGES else 0
         super().obey(initiator, is_direct, opcode, operands + bytes(max(missing, 0)))
 
 
@@ -283,7 +283,7 @@ class IgnoresLong(Reference):
     """Ignores a frame with too many operands."""
 
     def obey(self, initiator, is_direct, opcode, operands):
-        if len(operands) <= MESSAGES.get(opcode, (14, None))[0] or opcode == 0x70:
+        if opcode not in MESSAGES or len(operands) <= MESSAGES[opcode].least or opcode == 0x70:
             super().obey(initiator, is_direct, opcode, operands)
 
 
