@@ -209,7 +209,8 @@ def programs_are_driven(pool):
     with tempfile.TemporaryDirectory() as kept:
         ran = suite_of(REFERENCE, "--kind", "amp", "--keep", kept, "osd-name", "remote-lost", "deck-play")
         lines = ran.stdout.split("\n")
-        right = right and ran.returncode == 0 and lines[0] == "TAP version 13" and lines[-2] == "1..3" and lines[1].startswith("ok 1 - deck-play: ")
+        right = right and ran.returncode == 0 and lines[0] == "TAP version 13" and lines[1].startswith("ok 1 - deck-play: ")
+        right = right and lines[-3:] == ["# passed 2, failed 0, skipped 1, with remarks 0", "1..3", ""]
         right = right and lines[1].endswith(" # SKIP for player recorder")
         right = right and lines[2].startswith("ok 2 - osd-name: ") and lines[3].startswith("ok 3 - remote-lost: ")
         files = [name + end for name in ("osd-name", "remote-lost") for end in (".report", ".talk", ".test")]
@@ -221,7 +222,8 @@ def programs_are_driven(pool):
         again = suite_of(REFERENCE, "--kind", "amp", "--once", "--port", "3", os.path.join(TOP, "suite/osd-name.test"))
         right = right and again.returncode == 0 and again.stdout.startswith("TAP version 13\nok 1 - osd-name: ")
         failing = suite_of("sh -c 'while read line; do echo idle; done'", "--kind", "recorder", "--port", "1", "address-first")
-        command = "# again: tools/suite --dut 'sh -c '\"'\"'while read line; do echo idle; done'\"'\"'' --kind recorder --port 1 address-first\n"
+        command = "# again: tools/suite --dut 'sh -c '\"'\"'while read line; do echo idle; done'\"'\"'' --kind recorder --port 1 --program %s address-first\n" % PROGRAM
+        right = right and failing.stderr == "suite: failed tests 1\n"
         right = right and failing.returncode == 1 and command in failing.stdout and "\n# trace\n# " in failing.stdout
         without = suite_of(REFERENCE, "--kind", "player", "--without", "menu", "menu-query")
         right = right and without.returncode == 0 and "# SKIP without menu" in without.stdout
