@@ -169,6 +169,58 @@ def greedy_devices(pool):
     return right
 
 
+class SleepsOver(Reference):
+    """Says its name two seconds after it was asked."""
+    thinks = 2_000_000
+
+
+HEAD = "# A test\n# section: own\n# for: player\n"
+SEAT = "device tv tv 4\ndevice dut outside 2\nplug dut tv {port}\nscript\n"
+ASK = "at 6000000 send tv 0>{la} give-osd-name\n"
+AGAIN = "at 6500000 unplug dut\nat 7000000 plug dut tv {port}\n"
+SILENT = "expect none from 0 to 15000000 {la}>0 set-osd-name\nend 15000000\n"
+
+
+def written(directory, name, text):
+    path = os.path.join(directory, name + ".test")
+    with open(path, "w") as file:
+        file.write(text)
+    return path
+
+
+def unplugged_devices(pool):
+    """What a device has asked for is dropped where it is unplugged, and comes where it is not."""
+    suite = runner.Suite(PROGRAM, "player", 2, 60)
+    suite.frames = FRAMES
+    with tempfile.TemporaryDirectory() as room:
+        paths = [written(room, "stays", HEAD + SEAT + ASK + SILENT), written(room, "leaves", HEAD + SEAT + ASK + AGAIN + SILENT)]
+        leaves, stays = (suite.test(test, Here(SleepsOver())).holds for test in runner.tests_of(room, paths))
+    return leaves and not stays
+
+
+def ill_formed_tests(pool):
+    """A test that is none is refused with status 2, by its line or by what the program says of it."""
+    cases = [
+        (SEAT + ASK + SILENT, "a title, a section, kinds and an end are needed"),
+        (HEAD + SEAT + ASK, "a title, a section, kinds and an end are needed"),
+        (HEAD + SEAT + "at x send tv 0>4\nend 9000000\n", "line 8: a number or a word is missing"),
+        (HEAD + SEAT + "label a\nend 9000000\n", "line 8: a number or a word is missing"),
+        (HEAD + SEAT + "frob\nend 9000000\n", "line 8: no such line"),
+        (HEAD + SEAT + "at 3000000 send tv 0>{fourth} give-osd-name\nend 9000000\n", "no place {fourth} for a player"),
+        (HEAD + SEAT + "at 3000000 send tv 0>4 give-osd-nam\nend 9000000\n", "frame name"),
+        (HEAD + SEAT + "expect within 500 of nothing 0>4\nend 9000000\n", "the test is refused: hdminet: script line "),
+        (HEAD + SEAT.replace("tv 4", "tv 16") + ASK + SILENT, "topology line 1: number"),
+    ]
+    right = True
+    with tempfile.TemporaryDirectory() as room:
+        for number, (text, fault) in enumerate(cases):
+            ran = suite_of(REFERENCE, "--kind", "player", written(room, "test%d" % number, text))
+            if ran.returncode != 2 or fault not in ran.stderr or not ran.stderr.startswith("suite: "):
+                print("suite: %d: %s %s" % (ran.returncode, fault, ran.stderr))
+                right = False
+    return right
+
+
 def broken_devices(pool):
     """A device that breaks the protocol fails with what it did, and nothing waits for ever."""
     answers = "sh -c 'while read line; do printf \"%s\\nidle\\n\"; done'"
@@ -219,6 +271,10 @@ def programs_are_driven(pool):
             with open(os.path.join(kept, name + ".test")) as test, open(os.path.join(kept, name + ".report")) as report:
                 checked = subprocess.run([PROGRAM, "check", "--trace"], stdin=test, capture_output=True, text=True)
                 right = right and checked.returncode == 0 and checked.stdout == report.read()
+        with tempfile.TemporaryDirectory() as anew:
+            suite_of(REFERENCE, "--kind", "amp", "--keep", anew, "osd-name", "remote-lost")
+            ran = subprocess.run(["diff", "-r", kept, anew], capture_output=True, text=True)
+            right = right and ran.returncode == 0
         again = suite_of(REFERENCE, "--kind", "amp", "--once", "--port", "3", os.path.join(TOP, "suite/osd-name.test"))
         right = right and again.returncode == 0 and again.stdout.startswith("TAP version 13\nok 1 - osd-name: ")
         failing = suite_of("sh -c 'while read line; do echo idle; done'", "--kind", "recorder", "--port", "1", "address-first")
@@ -258,14 +314,19 @@ def ticking_devices(pool):
 
 
 def table_is_whole(pool):
-    """docs/suite.md has a row for each test, in the order of their sections, and no other, and counts the devices with a slip."""
-    def place(row):
-        return [int(word) for word in row[1].split(" ")[1].rstrip(",").split(".")], row[0]
-    rows = sorted(([test.name, ", ".join(test.head["section"]), " ".join(test.kinds()), test.title] for test in TESTS), key=place)
-    want = "".join("| `%s` | %s | %s | %s |\n" % tuple(row) for row in rows)
+    """docs/suite.md has a row for each test, in the order of their sections, with the devices that fail it, and no other row."""
+    def place(test):
+        return [int(word) for word in test.head["section"][0].split(" ")[1].rstrip(",").split(".")], test.name
+    want = ""
+    for test in sorted(TESTS, key=place):
+        fail = " ".join(name for name, tests in sorted(expected().items()) if test.name in tests)
+        want += "| `%s` | %s | %s | %s | %s |\n" % (test.name, ", ".join(test.head["section"]), " ".join(test.kinds()), test.title, fail)
     with open(os.path.join(TOP, "docs/suite.md")) as file:
         text = file.read()
-    return text.endswith("|---|---|---|---|\n" + want) and "Each of %d devices with one slip" % len(SLIPS) in text
+    is_whole = text.endswith("|---|---|---|---|---|\n" + want) and "Each of %d devices with one slip" % len(SLIPS) in text
+    if not is_whole:
+        print("suite: the table of docs/suite.md is to be:\n" + want, end="")
+    return is_whole
 
 
 def of_talk(name):
@@ -333,6 +394,8 @@ WHAT = [
     ticking_devices,
     instants_are_kept,
     greedy_devices,
+    unplugged_devices,
+    ill_formed_tests,
     broken_devices,
     programs_are_driven,
 ]
