@@ -1,5 +1,5 @@
 //! The command line.
-ghost use Rattle.std.specs.Prelude.{◌≡◌, Ok, IfSome, map, string_bytes};
+ghost use Rattle.std.specs.Prelude.{◌≡◌, MatchResult, None, Some, map, string_bytes};
 ghost use Rattle.hdminet_words.specs.Line.{asked_by};
 
 use crate::help;
@@ -190,33 +190,6 @@ fn command<'a>(
     add_edid(alloc, program)
 }
 
-// Adds a word in its plain spelling: a flag and its value with `=` between them are two words.
-fn add_word(alloc: Global, words: &mut Vec<String>, word: &str) -> Result<(), AllocError> {
-    match word.split_once('=') {
-        Some((flag, value)) if flag.starts_with("--") => {
-            words.push(String::from_str(alloc, flag)?)?;
-            words.push(String::from_str(alloc, value)?)?;
-        }
-        _ => words.push(String::from_str(alloc, word)?)?,
-    }
-    Ok(())
-}
-
-// Whether a word stands for no flag and no value by itself: it asks for explanations, or ends the flags.
-fn is_apart(word: &str) -> bool {
-    word == "--explain" || word == "--"
-}
-
-// Adds the words of a command line but the first in their plain spelling, without those that stand apart.
-fn add_words(alloc: Global, words: &[String], plain: &mut Vec<String>) -> Result<(), AllocError> {
-    for word in words {
-        if !is_apart(word.as_str()) {
-            add_word(alloc, plain, word.as_str())?;
-        }
-    }
-    Ok(())
-}
-
 // Whether explanations are asked for.
 fn asks_explanation(words: &[String]) -> bool {
     for word in words {
@@ -227,40 +200,23 @@ fn asks_explanation(words: &[String]) -> bool {
     false
 }
 
-// A command line that the table takes, in its plain spelling: the name, the subcommand, the flags, and `--explain` last.
-fn spelled_plainly(alloc: Global, words: &[String]) -> Result<Vec<String>, AllocError> {
-    let mut plain = Vec::new(alloc);
-    plain.push(String::from_str(alloc, "hdminet")?)?;
-    if let [_, rest @ ..] = words {
-        add_words(alloc, rest, &mut plain)?;
-    }
-    if plain.len() == 1 {
-        plain.push(String::from_str(alloc, "run")?)?;
-    }
-    if asks_explanation(words) {
-        plain.push(String::from_str(alloc, "--explain")?)?;
-    }
-    Ok(plain)
-}
-
-// Reads a command line by the table of commands and flags. What the table takes is read in its plain spelling.
-fn choose_by_table(
+// Puts a command line to the table of commands and flags, which refuses it, shows a help, or takes it.
+fn put_to_table(
     alloc: Global,
     words: &[String],
     run_help: &str,
     asm_help: &str,
-) -> Result<Option<Asked>, Error> {
+) -> Result<(), Error> {
     let command = command(alloc, run_help, asm_help)?;
     let _ = command.try_get_matches_from(words)?;
-    let plain = spelled_plainly(alloc, words)?;
-    Ok(asked_by(&plain))
+    Ok(())
 }
 
-// Reads a command line with the helps of its commands.
-fn choose_with_help(alloc: Global, words: &[String]) -> Result<Option<Asked>, Error> {
+// The same with the helps of its commands.
+fn put_with_help(alloc: Global, words: &[String]) -> Result<(), Error> {
     let run_help = run_help(alloc, words)?;
     let asm_help = asm_help(alloc, words)?;
-    choose_by_table(alloc, words, run_help.as_str(), asm_help.as_str())
+    put_to_table(alloc, words, run_help.as_str(), asm_help.as_str())
 }
 
 // What follows words that are refused: with `--explain` among them, how the program is called.
@@ -374,18 +330,18 @@ fn meaningless(alloc: Global, words: &[String]) -> Refused {
 
 /// Reads a command line: the program's name, a subcommand, its flags. The name alone asks for the trace of a run.
 ///
-/// A line that `asked_by` reads is that. Others are left to the table of commands and flags, which refuses them, shows a
-/// help, or knows another spelling of a flag.
+/// # Errors
+///
+/// A line that `asked_by` does not read is put to the table of commands and flags, which says why it is refused, or shows a help.
 // The table takes as long to build as an EDID to read, so where nothing of it is needed it is left alone.
 pub fn choose(alloc: Global, words: &[String]) -> Result<Asked, Refused>
-    ensures { IfSome (asked_by (map string_bytes words.now)) (λ asked. result ≡ Ok asked) }
+    ensures { MatchResult result (λ asked. asked_by (map string_bytes words.now) ≡ Some asked) (λ _. asked_by (map string_bytes words.now) ≡ None) }
 {
     if let Some(asked) = asked_by(words) {
         return Ok(asked);
     }
-    match choose_with_help(alloc, words) {
-        Ok(Some(asked)) => Ok(asked),
-        Ok(None) => Err(meaningless(alloc, words)),
+    match put_with_help(alloc, words) {
+        Ok(()) => Err(meaningless(alloc, words)),
         Err(error) => Err(refusal(alloc, &error, words)),
     }
 }

@@ -144,10 +144,10 @@ pub record IsServed (known old new : Option (List ℕ)) (choice : Choice) (name 
 abbrev pub IsHelp : Option (List ℕ) → Option (List ℕ) → Type 0
 IsHelp old new = (text : List ℕ) × Appends old new text
 
--- What is asked for is done: one choice, or where a line is not read exactly some choice or a help.
+-- What is asked for is done: the choice; of a line that asks for none a help is written.
 abbrev pub AreServedAs : Option Asked → List ℕ → Option (List ℕ) → Option (List ℕ) → Option (List ℕ) → Type 0
 AreServedAs asked name known old new =
-    MatchOption asked (((choice : Choice) × IsServed known old new choice name) ⊎ IsHelp old new) (λ a. IsServed known old new a.choice name)
+    MatchOption asked (IsHelp old new) (λ a. IsServed known old new a.choice name)
 
 -- What the words of a command line ask for is done.
 abbrev pub AreServed : List (List ℕ) → Option (List ℕ) → Option (List ℕ) → Option (List ℕ) → Type 0

@@ -3,6 +3,7 @@ use Rattle.std.specs.Prelude.{ℕ, List, [], ◌∷◌, Bool, Option, Some, None
 use Rattle.std.specs.Option.{option_map}
 use Rattle.std.specs.Str.{bytes_eq}
 use Rattle.hdmi_core.specs.Number.{number_of}
+use Rattle.hdminet_words.specs.Joined.{joined}
 use Rattle.hdminet_words.specs.MonFlags.{form_of, has_names}
 use Rattle.hdminet_words.specs.declared.check_flags.CheckFlags.{CheckFlags}
 use Rattle.hdminet_words.specs.declared.choice.Asked.{Asked}
@@ -34,10 +35,19 @@ with_check_flag flags word =
     else if bytes_eq word (codes "--explain") && not flags.explains then Some (record flags { explains = true })
     else None
 
+-- a flag that waits for a value, with this one
+abbrev pub waited_check : List ℕ → CheckFlags → Option CheckFlags
+waited_check word flags = option_and_then (λ value. with_check_value flags value word) flags.waits
+
+-- the flags with one more, or with a flag and its value
+abbrev pub with_check_parts : CheckFlags → List ℕ → Option (List ℕ × List ℕ) → Option CheckFlags
+with_check_parts flags word None = with_check_flag flags word
+with_check_parts flags word (Some parts) = option_and_then (waited_check parts.1) (with_check_flag flags parts.0)
+
 -- the flags with one word more, which is a value where a flag waits for one
 abbrev pub with_check_word : CheckFlags → Option MonValue → List ℕ → Option CheckFlags
 with_check_word flags (Some value) word = with_check_value flags value word
-with_check_word flags None word = with_check_flag flags word
+with_check_word flags None word = with_check_parts flags word (joined word)
 
 -- and with each of some words
 abbrev pub check_flags : CheckFlags → List (List ℕ) → Option CheckFlags

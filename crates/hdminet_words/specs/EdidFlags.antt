@@ -5,6 +5,7 @@ use Rattle.std.specs.Str.{bytes_eq}
 use Rattle.hdmi_core.specs.Number.{number_of}
 use Rattle.hdmi_core.specs.Phys.{phys_of}
 use Rattle.hdmi_core.specs.declared.phys.Phys.{Phys}
+use Rattle.hdminet_words.specs.Joined.{joined}
 use Rattle.hdminet_words.specs.declared.choice.Asked.{Asked}
 use Rattle.hdminet_words.specs.declared.choice.Choice.TheVariants.{Edid}
 use Rattle.hdminet_words.specs.declared.choice.Recipient.{Recipient}
@@ -53,10 +54,19 @@ with_edid_flag flags word =
     else if bytes_eq word (codes "--explain") && not flags.explains then Some (record flags { explains = true })
     else None
 
+-- a flag that waits for a value, with this one
+abbrev pub waited_edid : List ℕ → EdidFlags → Option EdidFlags
+waited_edid word flags = option_and_then (λ value. with_edid_value flags value word) flags.waits
+
+-- the flags with one more, or with a flag and its value
+abbrev pub with_edid_parts : EdidFlags → List ℕ → Option (List ℕ × List ℕ) → Option EdidFlags
+with_edid_parts flags word None = with_edid_flag flags word
+with_edid_parts flags word (Some parts) = option_and_then (waited_edid parts.1) (with_edid_flag flags parts.0)
+
 -- the flags with one word more, which is a value where a flag waits for one
 abbrev pub with_edid_word : EdidFlags → Option EdidValue → List ℕ → Option EdidFlags
 with_edid_word flags (Some value) word = with_edid_value flags value word
-with_edid_word flags None word = with_edid_flag flags word
+with_edid_word flags None word = with_edid_parts flags word (joined word)
 
 -- and with each of some words
 abbrev pub edid_flags : EdidFlags → List (List ℕ) → Option EdidFlags

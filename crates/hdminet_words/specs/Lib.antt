@@ -1,3 +1,4 @@
+pub mod Joined
 pub mod RunFlags
 pub mod CheckFlags
 pub mod MonFlags

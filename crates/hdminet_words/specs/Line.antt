@@ -1,5 +1,6 @@
 -- What a command line asks for (own).
 use Rattle.std.specs.Prelude.{ℕ, List, [], ◌∷◌, Option, Some, None, if◌then◌else◌, false, codes, option_and_then, true}
+use Rattle.std.specs.Option.{option_map, option_or}
 use Rattle.std.specs.Str.{bytes_eq}
 use Rattle.hdminet_words.specs.CheckFlags.{check_asked, check_flags}
 use Rattle.hdminet_words.specs.EdidFlags.{edid_asked, edid_flags}
@@ -42,8 +43,32 @@ asked_of Mon words = option_and_then mon_asked (mon_flags (record { form = None;
 asked_of Edid words =
     option_and_then edid_asked (edid_flags (record { source = None; wanted = None; address = None; port = None; amplified = false; explains = false; waits = None }) words)
 
--- the program's name, a subcommand, its flags; the name alone is `run`
+-- a subcommand and its flags; no word at all is `run`
+abbrev pub asked_as : List (List ℕ) → Option Asked
+asked_as [] = asked_of Run []
+asked_as (word ∷ flags) = option_and_then (λ subcommand. asked_of subcommand flags) (subcommand_of word)
+
+abbrev pub explained : Asked → Asked
+explained asked = record asked { explains = true }
+
+-- the same, with `--explain` before it or not
+abbrev pub asked_with : List (List ℕ) → Option Asked
+asked_with [] = asked_as []
+asked_with (word ∷ words) =
+    if bytes_eq word (codes "--explain") then option_map explained (asked_as words)
+    else asked_as (word ∷ words)
+
+-- the same after the program's name
+abbrev pub asked_after : List (List ℕ) → Option Asked
+asked_after [] = None
+asked_after (name ∷ words) = asked_with words
+
+-- the words before `--`, where that is the last one
+abbrev pub before_end : List (List ℕ) → List (List ℕ)
+before_end [] = []
+before_end (word ∷ []) = if bytes_eq word (codes "--") then [] else word ∷ []
+before_end (word ∷ next ∷ words) = word ∷ before_end (next ∷ words)
+
+-- the program's name, a subcommand and its flags, and at the end `--` or not
 abbrev pub asked_by : List (List ℕ) → Option Asked
-asked_by [] = None
-asked_by (name ∷ []) = asked_of Run []
-asked_by (name ∷ word ∷ flags) = option_and_then (λ subcommand. asked_of subcommand flags) (subcommand_of word)
+asked_by words = option_or (asked_after words) (asked_after (before_end words))

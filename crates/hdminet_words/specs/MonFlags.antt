@@ -3,6 +3,7 @@ use Rattle.std.specs.Prelude.{ℕ, List, [], ◌∷◌, Bool, Option, Some, None
 use Rattle.std.specs.Option.{option_map, option_or}
 use Rattle.std.specs.Str.{bytes_eq}
 use Rattle.hdmi_core.specs.Number.{number_of}
+use Rattle.hdminet_words.specs.Joined.{joined}
 use Rattle.hdminet_words.specs.declared.choice.Asked.{Asked}
 use Rattle.hdminet_words.specs.declared.choice.Choice.{Choice}
 use Rattle.hdminet_words.specs.declared.choice.Choice.TheVariants.{Mon, Json}
@@ -44,10 +45,19 @@ with_mon_flag flags word =
     else if bytes_eq word (codes "--explain") && not flags.explains then Some (record flags { explains = true })
     else None
 
+-- a flag that waits for a value, with this one
+abbrev pub waited_mon : List ℕ → MonFlags → Option MonFlags
+waited_mon word flags = option_and_then (λ value. with_mon_value flags value word) flags.waits
+
+-- the flags with one more, or with a flag and its value
+abbrev pub with_mon_parts : MonFlags → List ℕ → Option (List ℕ × List ℕ) → Option MonFlags
+with_mon_parts flags word None = with_mon_flag flags word
+with_mon_parts flags word (Some parts) = option_and_then (waited_mon parts.1) (with_mon_flag flags parts.0)
+
 -- the flags with one word more, which is a value where a flag waits for one
 abbrev pub with_mon_word : MonFlags → Option MonValue → List ℕ → Option MonFlags
 with_mon_word flags (Some value) word = with_mon_value flags value word
-with_mon_word flags None word = with_mon_flag flags word
+with_mon_word flags None word = with_mon_parts flags word (joined word)
 
 -- and with each of some words
 abbrev pub mon_flags : MonFlags → List (List ℕ) → Option MonFlags

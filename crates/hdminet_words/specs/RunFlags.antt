@@ -2,6 +2,7 @@
 use Rattle.std.specs.Prelude.{ℕ, List, [], ◌∷◌, Bool, Option, Some, None, if◌then◌else◌, true, false, codes, ◌&&◌, ◌||◌, option_and_then, is_none, not}
 use Rattle.std.specs.Option.{option_map}
 use Rattle.std.specs.Str.{bytes_eq}
+use Rattle.hdminet_words.specs.Joined.{joined}
 use Rattle.hdminet_words.specs.declared.choice.Asked.{Asked}
 use Rattle.hdminet_words.specs.declared.choice.Choice.{Choice}
 use Rattle.hdminet_words.specs.declared.choice.Choice.TheVariants.{Run, Json}
@@ -30,15 +31,26 @@ one_run_flag flags word =
     else None
 
 -- or with the value of the last
-abbrev pub with_run_flag : RunFlags → List ℕ → Option RunFlags
-with_run_flag flags word =
-    if flags.waits then option_map (λ format. record flags { format = Some format; waits = false }) (line_listing word)
-    else one_run_flag flags word
+abbrev pub with_run_value : RunFlags → List ℕ → Option RunFlags
+with_run_value flags word = option_map (λ format. record flags { format = Some format; waits = false }) (line_listing word)
+
+-- a flag that waits for a value, with this one
+abbrev pub waited_run : List ℕ → RunFlags → Option RunFlags
+waited_run word flags = if flags.waits then with_run_value flags word else None
+
+-- the flags with one more, or with a flag and its value
+abbrev pub with_run_parts : RunFlags → List ℕ → Option (List ℕ × List ℕ) → Option RunFlags
+with_run_parts flags word None = one_run_flag flags word
+with_run_parts flags word (Some parts) = option_and_then (waited_run parts.1) (one_run_flag flags parts.0)
+
+-- the flags with one word more, which is a value where a flag waits for one
+abbrev pub with_run_word : RunFlags → List ℕ → Option RunFlags
+with_run_word flags word = if flags.waits then with_run_value flags word else with_run_parts flags word (joined word)
 
 -- and with each of some words
 abbrev pub run_flags : RunFlags → List (List ℕ) → Option RunFlags
 run_flags flags [] = Some flags
-run_flags flags (word ∷ words) = option_and_then (λ more. run_flags more words) (with_run_flag flags word)
+run_flags flags (word ∷ words) = option_and_then (λ more. run_flags more words) (with_run_word flags word)
 
 -- what is written: with `--as` and not `--edges` nothing
 abbrev pub run_listing : Bool → Option Listing → Option Listing

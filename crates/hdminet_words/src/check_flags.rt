@@ -1,8 +1,9 @@
 //! The flags of `check`.
-ghost use Rattle.std.specs.Prelude.{◌≡◌, map, string_bytes};
-ghost use Rattle.hdminet_words.specs.CheckFlags.{capture_choice, check_asked, check_choice, check_flags, has_capture_flag, of_capture, of_run, run_choice, test_view, with_check_flag, with_check_value};
+ghost use Rattle.std.specs.Prelude.{◌≡◌, map, string_bytes, option_and_then};
+ghost use Rattle.hdminet_words.specs.CheckFlags.{capture_choice, check_asked, check_choice, check_flags, has_capture_flag, of_capture, of_run, run_choice, test_view, waited_check, with_check_flag, with_check_value, with_check_word};
 
 use crate::choice::{Asked, Choice, Form, Objects, TestView};
+use crate::joined::joined;
 use crate::mon_flags::{MonValue, form_of, has_names};
 use hdmi_core::number_in;
 
@@ -107,16 +108,34 @@ fn with_check_flag(flags: CheckFlags, word: &str) -> Option<CheckFlags>
     }
 }
 
+// The flags with a flag that waits for this value.
+fn with_check_pair(flags: CheckFlags, flag: &str, word: &str) -> Option<CheckFlags>
+    ensures { result ≡ option_and_then (waited_check word.now) (with_check_flag flags flag.now) }
+{
+    let flags = with_check_flag(flags, flag)?;
+    with_check_value(flags, flags.waits?, word)
+}
+
+// The flags with one word more: a value where a flag waits for one, else a flag, or a flag and its value.
+fn with_check_word(flags: CheckFlags, word: &str) -> Option<CheckFlags>
+    ensures { result ≡ with_check_word flags flags.waits word.now }
+{
+    match flags.waits {
+        Some(value) => with_check_value(flags, value, word),
+        None => match joined(word) {
+            Some((flag, value)) => with_check_pair(flags, flag, value),
+            None => with_check_flag(flags, word),
+        },
+    }
+}
+
 /// The flags with those that these words are, and their values.
 pub fn check_flags(flags: CheckFlags, words: &[String]) -> Option<CheckFlags>
     ensures { result ≡ check_flags flags (map string_bytes words.now) }
 {
     match words {
         [] => Some(flags),
-        [word, rest @ ..] => match flags.waits {
-            Some(value) => check_flags(with_check_value(flags, value, word.as_str())?, rest),
-            None => check_flags(with_check_flag(flags, word.as_str())?, rest),
-        },
+        [word, rest @ ..] => check_flags(with_check_word(flags, word.as_str())?, rest),
     }
 }
 

@@ -1,8 +1,9 @@
 //! The flags of `edid`.
-ghost use Rattle.std.specs.Prelude.{◌≡◌, map, string_bytes};
-ghost use Rattle.hdminet_words.specs.EdidFlags.{amplified_of, edid_asked, edid_flags, edid_place, edid_view, own_shape, port_of, with_edid_flag, with_edid_value};
+ghost use Rattle.std.specs.Prelude.{◌≡◌, map, string_bytes, option_and_then};
+ghost use Rattle.hdminet_words.specs.EdidFlags.{amplified_of, edid_asked, edid_flags, edid_place, edid_view, own_shape, port_of, waited_edid, with_edid_flag, with_edid_value, with_edid_word};
 
 use crate::choice::{Asked, Choice, Recipient, Shape, Source, View};
+use crate::joined::joined;
 use hdmi_core::{Phys, number_in};
 
 /// A flag of `edid` that a value follows.
@@ -145,16 +146,34 @@ fn with_edid_flag(flags: EdidFlags, word: &str) -> Option<EdidFlags>
     }
 }
 
+// The flags with a flag that waits for this value.
+fn with_edid_pair(flags: EdidFlags, flag: &str, word: &str) -> Option<EdidFlags>
+    ensures { result ≡ option_and_then (waited_edid word.now) (with_edid_flag flags flag.now) }
+{
+    let flags = with_edid_flag(flags, flag)?;
+    with_edid_value(flags, flags.waits?, word)
+}
+
+// The flags with one word more: a value where a flag waits for one, else a flag, or a flag and its value.
+fn with_edid_word(flags: EdidFlags, word: &str) -> Option<EdidFlags>
+    ensures { result ≡ with_edid_word flags flags.waits word.now }
+{
+    match flags.waits {
+        Some(value) => with_edid_value(flags, value, word),
+        None => match joined(word) {
+            Some((flag, value)) => with_edid_pair(flags, flag, value),
+            None => with_edid_flag(flags, word),
+        },
+    }
+}
+
 /// The flags with those that these words are, and their values.
 pub fn edid_flags(flags: EdidFlags, words: &[String]) -> Option<EdidFlags>
     ensures { result ≡ edid_flags flags (map string_bytes words.now) }
 {
     match words {
         [] => Some(flags),
-        [word, rest @ ..] => match flags.waits {
-            Some(value) => edid_flags(with_edid_value(flags, value, word.as_str())?, rest),
-            None => edid_flags(with_edid_flag(flags, word.as_str())?, rest),
-        },
+        [word, rest @ ..] => edid_flags(with_edid_word(flags, word.as_str())?, rest),
     }
 }
 

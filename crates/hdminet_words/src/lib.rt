@@ -4,6 +4,7 @@
 mod check_flags;
 mod choice;
 mod edid_flags;
+mod joined;
 mod line;
 mod mon_flags;
 mod run_flags;

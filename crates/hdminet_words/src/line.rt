@@ -1,6 +1,6 @@
 //! Whole command lines.
 ghost use Rattle.std.specs.Prelude.{◌≡◌, map, string_bytes};
-ghost use Rattle.hdminet_words.specs.Line.{asked_by, asked_of, only_explained};
+ghost use Rattle.hdminet_words.specs.Line.{asked_after, asked_as, asked_by, asked_of, asked_with, before_end, only_explained};
 
 use crate::check_flags::{CheckFlags, check_asked, check_flags};
 use crate::choice::{Asked, Choice};
@@ -42,14 +42,60 @@ fn asked_of(subcommand: Subcommand, words: &[String]) -> Option<Asked>
     }
 }
 
+// What a subcommand and its flags ask for. No word at all asks for the trace of a run.
+fn asked_as(words: &[String]) -> Option<Asked>
+    ensures { result ≡ asked_as (map string_bytes words.now) }
+{
+    match words {
+        [] => asked_of(Subcommand::Run, &[]),
+        [command, flags @ ..] => asked_of(subcommand_of(command.as_str())?, flags),
+    }
+}
+
+// The same, with `--explain` before it or not.
+fn asked_with(words: &[String]) -> Option<Asked>
+    ensures { result ≡ asked_with (map string_bytes words.now) }
+{
+    match words {
+        [word, rest @ ..] if word.as_str() == "--explain" => {
+            let asked = asked_as(rest)?;
+            Some(Asked {
+                explains: true,
+                ..asked
+            })
+        }
+        words => asked_as(words),
+    }
+}
+
+// The same after the program's name.
+fn asked_after(words: &[String]) -> Option<Asked>
+    ensures { result ≡ asked_after (map string_bytes words.now) }
+{
+    match words {
+        [] => None,
+        [_, rest @ ..] => asked_with(rest),
+    }
+}
+
+// The words before `--`, where that is the last one.
+fn before_end(words: &[String]) -> &[String]
+    ensures { map string_bytes result.now ≡ before_end (map string_bytes words.now) }
+{
+    match words {
+        [] => words,
+        [front @ .., last] => { if last.as_str() == "--" { front } else { words } }
+    }
+}
+
 /// What a command line asks for: the program's name, a subcommand, its flags. The name alone asks for the trace of a run.
+/// A value stands after its flag, or in its word as `--port=1`; `--explain` may stand before the subcommand, and `--` at the end.
 /// `None` where a word is another one, a flag stands twice, or flags do not go together.
 pub fn asked_by(words: &[String]) -> Option<Asked>
     ensures { result ≡ asked_by (map string_bytes words.now) }
 {
-    match words {
-        [] => None,
-        [_] => asked_of(Subcommand::Run, &[]),
-        [_, command, flags @ ..] => asked_of(subcommand_of(command.as_str())?, flags),
+    match asked_after(words) {
+        Some(asked) => Some(asked),
+        None => asked_after(before_end(words)),
     }
 }

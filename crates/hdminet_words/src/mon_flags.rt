@@ -1,8 +1,9 @@
 //! The flags of `mon`.
-ghost use Rattle.std.specs.Prelude.{◌≡◌, map, string_bytes, Some, None, MatchOption};
-ghost use Rattle.hdminet_words.specs.MonFlags.{form_of, has_names, is_misfit, joined_signal, mon_asked, mon_choice, mon_flags, mon_report, signal_in, with_mon_flag, with_mon_value};
+ghost use Rattle.std.specs.Prelude.{◌≡◌, map, string_bytes, Some, None, MatchOption, option_and_then};
+ghost use Rattle.hdminet_words.specs.MonFlags.{form_of, has_names, is_misfit, joined_signal, mon_asked, mon_choice, mon_flags, mon_report, signal_in, waited_mon, with_mon_flag, with_mon_value, with_mon_word};
 
 use crate::choice::{Asked, Choice, Form, Objects, Report};
+use crate::joined::joined;
 use hdmi_core::{after, before, number_in};
 
 /// A flag of a capture that a value follows.
@@ -132,16 +133,34 @@ fn with_mon_flag(flags: MonFlags, word: &str) -> Option<MonFlags>
     }
 }
 
+// The flags with a flag that waits for this value.
+fn with_mon_pair(flags: MonFlags, flag: &str, word: &str) -> Option<MonFlags>
+    ensures { result ≡ option_and_then (waited_mon word.now) (with_mon_flag flags flag.now) }
+{
+    let flags = with_mon_flag(flags, flag)?;
+    with_mon_value(flags, flags.waits?, word)
+}
+
+// The flags with one word more: a value where a flag waits for one, else a flag, or a flag and its value.
+fn with_mon_word(flags: MonFlags, word: &str) -> Option<MonFlags>
+    ensures { result ≡ with_mon_word flags flags.waits word.now }
+{
+    match flags.waits {
+        Some(value) => with_mon_value(flags, value, word),
+        None => match joined(word) {
+            Some((flag, value)) => with_mon_pair(flags, flag, value),
+            None => with_mon_flag(flags, word),
+        },
+    }
+}
+
 /// The flags with those that these words are, and their values.
 pub fn mon_flags(flags: MonFlags, words: &[String]) -> Option<MonFlags>
     ensures { result ≡ mon_flags flags (map string_bytes words.now) }
 {
     match words {
         [] => Some(flags),
-        [word, rest @ ..] => match flags.waits {
-            Some(value) => mon_flags(with_mon_value(flags, value, word.as_str())?, rest),
-            None => mon_flags(with_mon_flag(flags, word.as_str())?, rest),
-        },
+        [word, rest @ ..] => mon_flags(with_mon_word(flags, word.as_str())?, rest),
     }
 }
 

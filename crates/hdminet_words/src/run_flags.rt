@@ -1,8 +1,9 @@
 //! The flags of `run`.
-ghost use Rattle.std.specs.Prelude.{◌≡◌, map, string_bytes};
-ghost use Rattle.hdminet_words.specs.RunFlags.{line_listing, run_asked, run_choice, run_flags, with_run_flag};
+ghost use Rattle.std.specs.Prelude.{◌≡◌, map, option_and_then, string_bytes};
+ghost use Rattle.hdminet_words.specs.RunFlags.{line_listing, one_run_flag, run_asked, run_choice, run_flags, waited_run, with_run_value, with_run_word};
 
 use crate::choice::{Asked, Choice, Listing, Objects};
+use crate::joined::joined;
 
 /// The flags that `run` was given.
 #[derive(Clone, Copy, Debug)]
@@ -44,18 +45,22 @@ fn line_listing(word: &str) -> Option<Listing>
     }
 }
 
-// The flags with one more, or with the value of the last. Each stands once at most.
-fn with_run_flag(flags: RunFlags, word: &str) -> Option<RunFlags>
-    ensures { result ≡ with_run_flag flags word.now }
+// The flags with the value of the last.
+fn with_run_value(flags: RunFlags, word: &str) -> Option<RunFlags>
+    ensures { result ≡ with_run_value flags word.now }
 {
-    if flags.waits {
-        let format = line_listing(word)?;
-        return Some(RunFlags {
-            format: Some(format),
-            waits: false,
-            ..flags
-        });
-    }
+    let format = line_listing(word)?;
+    Some(RunFlags {
+        format: Some(format),
+        waits: false,
+        ..flags
+    })
+}
+
+// The flags with one more. Each stands once at most.
+fn with_run_flag(flags: RunFlags, word: &str) -> Option<RunFlags>
+    ensures { result ≡ one_run_flag flags word.now }
+{
     match word {
         "--edges" if !flags.edges => Some(RunFlags {
             edges: true,
@@ -85,13 +90,38 @@ fn with_run_flag(flags: RunFlags, word: &str) -> Option<RunFlags>
     }
 }
 
+// The flags with a flag that waits for this value.
+fn with_run_pair(flags: RunFlags, flag: &str, word: &str) -> Option<RunFlags>
+    ensures { result ≡ option_and_then (waited_run word.now) (one_run_flag flags flag.now) }
+{
+    let flags = with_run_flag(flags, flag)?;
+    if flags.waits {
+        with_run_value(flags, word)
+    } else {
+        None
+    }
+}
+
+// The flags with one word more: a value where a flag waits for one, else a flag, or a flag and its value.
+fn with_run_word(flags: RunFlags, word: &str) -> Option<RunFlags>
+    ensures { result ≡ with_run_word flags word.now }
+{
+    if flags.waits {
+        return with_run_value(flags, word);
+    }
+    match joined(word) {
+        Some((flag, value)) => with_run_pair(flags, flag, value),
+        None => with_run_flag(flags, word),
+    }
+}
+
 /// The flags with those that these words are.
 pub fn run_flags(flags: RunFlags, words: &[String]) -> Option<RunFlags>
     ensures { result ≡ run_flags flags (map string_bytes words.now) }
 {
     match words {
         [] => Some(flags),
-        [word, rest @ ..] => run_flags(with_run_flag(flags, word.as_str())?, rest),
+        [word, rest @ ..] => run_flags(with_run_word(flags, word.as_str())?, rest),
     }
 }
 

@@ -11,5 +11,5 @@ returns-in-Ok g c done =
     (c.serve_named.ensures done)
 
 pub returns-in-Err : goal.returns-in-Err
-returns-in-Err g c done = helped (asked_by (map string_bytes c.args.words.now)) c.in-Err.refused (name_of (signal_in (map string_bytes c.args.words.now))) _ _ _ c.in-Err.ensures
+returns-in-Err g c done = helped (asked_by (map string_bytes c.args.words.now)) (name_of (signal_in (map string_bytes c.args.words.now))) _ _ _ c.in-Err.ensures
     (c.refuse.ensures done)
