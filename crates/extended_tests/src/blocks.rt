@@ -44,6 +44,8 @@ vendor d85dc40100004000|  HDMI Forum version 1, FRL up to 8 Gbit/s on 4 lanes/
 vendor d85dc40100005000|  HDMI Forum version 1, FRL up to 10 Gbit/s on 4 lanes/
 vendor d85dc40100007000|  HDMI Forum version 1, FRL of a reserved rate/
 vendor d85dc401780000003000|  HDMI Forum version 1, TMDS up to 600 MHz/  VRR from 48 Hz on/
+vendor d85dc401780000000064|  HDMI Forum version 1, TMDS up to 600 MHz/  VRR up to 100 Hz/
+vendor d85dc401780000004000|  HDMI Forum version 1, TMDS up to 600 MHz/  VRR up to 256 Hz/
 vendor d85dc40178000000702c|  HDMI Forum version 1, TMDS up to 600 MHz/  VRR from 48 to 300 Hz/
 extended 79000001788060023090|  HDMI Forum version 1, TMDS up to 600 MHz, SCDC, FRL up to 12 Gbit/s on 4 lanes/  ALLM, VRR from 48 to 144 Hz/
 vendor 1a0000010203|  AMD/
@@ -59,7 +61,23 @@ extended 0146d0004d4e|  Dolby Vision, then in hex 4d4e/
 extended 018b849001|  HDR10+, then in hex 01/
 extended 01123456|
 extended 1146d00041|  Dolby audio, then in hex 41/
-extended 02aabb|";
+extended 02aabb|  VESA display device, then in hex aabb/
+extended 03|  VESA video timings/
+extended 0701|  dynamic HDR metadata, then in hex 01/
+extended 0800|  native video resolution, then in hex 00/
+extended 1201|  HDMI audio, then in hex 01/
+extended 13|  room configuration/
+extended 1480|  speaker locations, then in hex 80/
+extended 200102|  InfoFrames, then in hex 0102/
+extended 2200|  DisplayID type VII timing, then in hex 00/
+extended 2300|  DisplayID type VIII timings, then in hex 00/
+extended 2a00|  DisplayID type X timings, then in hex 00/
+extended 7803|  count of extensions, then in hex 03/
+extended 0403|
+extended 0a03|
+extended 2103|
+extended 7703|
+extended 7a03|";
 
 /// Each bit and each border of the extended blocks alone.
 const EXTENDED_BITS: &str = "\
@@ -83,6 +101,17 @@ extended 060100|  traditional gamma SDR/
 extended 060200|  traditional gamma HDR/
 extended 060400|  SMPTE ST 2084/
 extended 060800|  hybrid log-gamma/
+extended 061000|  reserved transfer function 4/
+extended 062000|  reserved transfer function 5/
+extended 064000|  reserved transfer function 6/
+extended 068000|  reserved transfer function 7/
+extended 060002|  reserved metadata type 2/
+extended 060004|  reserved metadata type 3/
+extended 060008|  reserved metadata type 4/
+extended 060010|  reserved metadata type 5/
+extended 060020|  reserved metadata type 6/
+extended 060040|  reserved metadata type 7/
+extended 060080|  reserved metadata type 8/
 extended 060001|  static metadata type 1/
 extended 06000020|  content up to 100 cd/m2/
 extended 0600000020|  frames on average up to 100 cd/m2/

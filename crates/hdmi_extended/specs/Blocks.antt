@@ -3,7 +3,7 @@ use Rattle.std.specs.Prelude.{ℕ, ◌==◌, if◌then◌else◌, List, [], drop
 use Rattle.hdmi_meaning.specs.Videos.{video_meanings}
 use Rattle.hdmi_extended.specs.Colours.{capability_meanings, colour_meanings, hdr_meanings}
 use Rattle.hdmi_extended.specs.Videos.{preference_meanings, map_meanings}
-use Rattle.hdmi_extended.specs.Makers.{identifier, maker_meanings, video_name, audio_name, named_meanings}
+use Rattle.hdmi_extended.specs.Makers.{identifier, maker_meanings, video_name, audio_name, named_meanings, tag_name, labelled_meanings}
 use Rattle.hdmi_extended.specs.Forum.{forum_meanings}
 
 -- by the extended tag
@@ -18,7 +18,7 @@ tagged_meanings tag p =
     else if tag == 0x0f then map_meanings p
     else if tag == 0x11 then named_meanings (audio_name (identifier p)) p
     else if tag == 0x79 then forum_meanings (drop 2 p)
-    else []
+    else labelled_meanings (tag_name tag) p
 
 abbrev pub extended_meanings : List ℕ → List (List ℕ)
 extended_meanings p = if length p == 0 then [] else tagged_meanings (slice_index p 0) (drop 1 p)

@@ -61,10 +61,22 @@ curve_rows =
     row 1 (codes "traditional gamma SDR") ∷
     row 2 (codes "traditional gamma HDR") ∷
     row 4 (codes "SMPTE ST 2084") ∷
-    row 8 (codes "hybrid log-gamma") ∷ []
+    row 8 (codes "hybrid log-gamma") ∷
+    row 16 (codes "reserved transfer function 4") ∷
+    row 32 (codes "reserved transfer function 5") ∷
+    row 64 (codes "reserved transfer function 6") ∷
+    row 128 (codes "reserved transfer function 7") ∷ []
 
 abbrev pub metadata_rows : List Row
-metadata_rows = row 1 (codes "static metadata type 1") ∷ []
+metadata_rows =
+    row 1 (codes "static metadata type 1") ∷
+    row 2 (codes "reserved metadata type 2") ∷
+    row 4 (codes "reserved metadata type 3") ∷
+    row 8 (codes "reserved metadata type 4") ∷
+    row 16 (codes "reserved metadata type 5") ∷
+    row 32 (codes "reserved metadata type 6") ∷
+    row 64 (codes "reserved metadata type 7") ∷
+    row 128 (codes "reserved metadata type 8") ∷ []
 
 -- a luminance of content by its code, where it is told of
 abbrev pub luminance_words : List ℕ → ℕ → List ℕ

@@ -64,8 +64,16 @@ picture_rows =
 abbrev pub greatest_words : ℕ → List ℕ
 greatest_words most = if most == 0 then codes " Hz on" else text_between (codes " to ") most (codes " Hz")
 
+-- a least rate, and what is above it
+abbrev pub from_words : ℕ → ℕ → List ℕ
+from_words least most = text_between (codes ", VRR from ") least [] ++ greatest_words most
+
+-- a greatest rate without a least one
+abbrev pub alone_words : ℕ → List ℕ
+alone_words most = if most == 0 then [] else text_between (codes ", VRR up to ") most (codes " Hz")
+
 abbrev pub vrr_words : ℕ → ℕ → List ℕ
-vrr_words least most = if least == 0 then [] else text_between (codes ", VRR from ") least [] ++ greatest_words most
+vrr_words least most = if least == 0 then alone_words most else from_words least most
 
 abbrev pub stream_rows : List Row
 stream_rows =

@@ -28,6 +28,28 @@ video_name id = if id == 0x00d046 then codes ", Dolby Vision" else if id == 0x90
 abbrev pub audio_name : ℕ → List ℕ
 audio_name id = if id == 0x00d046 then codes ", Dolby audio" else []
 
+-- what an extended block is for, by its tag, where its bytes are not read (CTA-861-G, table 56; 8: CTA-861-I; 120: HDMI 2.1, section 10.3.7)
+abbrev pub tag_name : ℕ → List ℕ
+tag_name tag =
+    if tag == 0x02 then codes ", VESA display device"
+    else if tag == 0x03 then codes ", VESA video timings"
+    else if tag == 0x07 then codes ", dynamic HDR metadata"
+    else if tag == 0x08 then codes ", native video resolution"
+    else if tag == 0x12 then codes ", HDMI audio"
+    else if tag == 0x13 then codes ", room configuration"
+    else if tag == 0x14 then codes ", speaker locations"
+    else if tag == 0x20 then codes ", InfoFrames"
+    else if tag == 0x22 then codes ", DisplayID type VII timing"
+    else if tag == 0x23 then codes ", DisplayID type VIII timings"
+    else if tag == 0x2a then codes ", DisplayID type X timings"
+    else if tag == 0x78 then codes ", count of extensions"
+    else []
+
+-- the name, and the bytes in hex
+abbrev pub labelled_meanings : List ℕ → List ℕ → List (List ℕ)
+labelled_meanings [] p = []
+labelled_meanings (c ∷ name) p = below ((c ∷ name) ++ rest_words p)
+
 -- the name, and the bytes after the identifier in hex
 abbrev pub named_meanings : List ℕ → List ℕ → List (List ℕ)
 named_meanings [] p = []

@@ -6,7 +6,9 @@ ghost use Rattle.hdmi_extended.specs.Blocks.{extended_meanings, tagged_meanings,
 
 use crate::colours::{append_capability, append_colours, append_hdr};
 use crate::forum::append_forum;
-use crate::makers::{append_maker, append_named, audio_name, identifier, video_name};
+use crate::makers::{
+    append_labelled, append_maker, append_named, audio_name, identifier, tag_name, video_name,
+};
 use crate::videos::{append_map, append_preferences};
 use hdmi_meaning::{PAGE, Page, after, append_video, byte_at};
 
@@ -48,7 +50,7 @@ fn append_tagged(page: &mut Page, tag: u8, payload: &[u8])
         MAP_420 => append_map(page, payload),
         VENDOR_AUDIO => append_named(page, audio_name(identifier(payload)).as_bytes(), payload),
         SINK_CAPABILITY => append_forum(page, after(payload, 2)),
-        _ => {}
+        _ => append_labelled(page, tag_name(tag).as_bytes(), payload),
     }
 }
 

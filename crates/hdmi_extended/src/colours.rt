@@ -44,10 +44,21 @@ const CURVES: &[Bit] = bit_rows! {
     2 "traditional gamma HDR";
     4 "SMPTE ST 2084";
     8 "hybrid log-gamma";
+    16 "reserved transfer function 4";
+    32 "reserved transfer function 5";
+    64 "reserved transfer function 6";
+    128 "reserved transfer function 7";
 };
 
 const METADATA: &[Bit] = bit_rows! {
     1 "static metadata type 1";
+    2 "reserved metadata type 2";
+    4 "reserved metadata type 3";
+    8 "reserved metadata type 4";
+    16 "reserved metadata type 5";
+    32 "reserved metadata type 6";
+    64 "reserved metadata type 7";
+    128 "reserved metadata type 8";
 };
 
 // Appends the ranges that can be chosen.
@@ -79,18 +90,18 @@ fn append_gamut_bits(note: &mut Note, bits: u8)
 
 // Appends the transfer functions.
 fn append_curve_bits(note: &mut Note, bits: u8)
-    requires { array_vec_len note.old + 160 ≤ NOTE }
+    requires { array_vec_len note.old + 320 ≤ NOTE }
     ensures items { note.new.items ≡ note.old.items ++ set_words curve_rows bits }
-    ensures len { array_vec_len note.new ≤ array_vec_len note.old + 160 }
+    ensures len { array_vec_len note.new ≤ array_vec_len note.old + 320 }
 {
     append_bits(note, CURVES, u32::from(bits));
 }
 
 // Appends the kinds of metadata.
 fn append_metadata_bits(note: &mut Note, bits: u8)
-    requires { array_vec_len note.old + 40 ≤ NOTE }
+    requires { array_vec_len note.old + 320 ≤ NOTE }
     ensures items { note.new.items ≡ note.old.items ++ set_words metadata_rows bits }
-    ensures len { array_vec_len note.new ≤ array_vec_len note.old + 40 }
+    ensures len { array_vec_len note.new ≤ array_vec_len note.old + 320 }
 {
     append_bits(note, METADATA, u32::from(bits));
 }
@@ -198,7 +209,7 @@ fn append_contents(note: &mut Note, payload: &[u8])
 fn hdr_note(payload: &[u8]) -> Note
     requires { length payload.now ≤ 128 }
     ensures value { result.items ≡ hdr_words payload.now }
-    ensures len { array_vec_len result ≤ 700 }
+    ensures len { array_vec_len result ≤ 1140 }
 {
     let mut words = ArrayVec::new();
     append_curve_bits(&mut words, byte_at(payload, 0));

@@ -2,7 +2,7 @@
 ghost use Rattle.std.specs.Prelude.{◌≡◌, ◌≤◌, ◌+◌, ◌*◌, ◌++◌, length, flat_map};
 ghost use Rattle.arrayvec.specs.ArrayVec.{array_vec_len};
 ghost use Rattle.hdmi_meaning.specs.Notes.{own_line, set_words};
-ghost use Rattle.hdmi_extended.specs.Forum.{clock_words, depth_rows, fixed_words, forum_meanings, greatest_words, link_rows, link_words, picture_rows, picture_words, rate_words, stream_rows, vrr_words};
+ghost use Rattle.hdmi_extended.specs.Forum.{alone_words, clock_words, depth_rows, fixed_words, forum_meanings, from_words, greatest_words, link_rows, link_words, picture_rows, picture_words, rate_words, stream_rows, vrr_words};
 
 use arrayvec::ArrayVec;
 use hdmi_edid::append;
@@ -159,14 +159,36 @@ fn append_greatest(note: &mut Note, most: u16)
     }
 }
 
+/// Appends a least rate, and what is above it.
+fn append_from(note: &mut Note, least: u8, most: u16)
+    requires { array_vec_len note.old + 160 ≤ NOTE }
+    ensures items { note.new.items ≡ note.old.items ++ from_words least most }
+    ensures len { array_vec_len note.new ≤ array_vec_len note.old + 80 }
+{
+    append_between(note, b", VRR from ", u64::from(least), b"");
+    append_greatest(note, most);
+}
+
+/// Appends a greatest rate without a least one.
+fn append_alone(note: &mut Note, most: u16)
+    requires { array_vec_len note.old + 160 ≤ NOTE }
+    ensures items { note.new.items ≡ note.old.items ++ alone_words most }
+    ensures len { array_vec_len note.new ≤ array_vec_len note.old + 80 }
+{
+    if most != 0 {
+        append_between(note, b", VRR up to ", u64::from(most), b" Hz");
+    }
+}
+
 fn append_vrr(note: &mut Note, least: u8, most: u16)
     requires { array_vec_len note.old + 160 ≤ NOTE }
     ensures items { note.new.items ≡ note.old.items ++ vrr_words least most }
     ensures len { array_vec_len note.new ≤ array_vec_len note.old + 80 }
 {
-    if least != 0 {
-        append_between(note, b", VRR from ", u64::from(least), b"");
-        append_greatest(note, most);
+    if least == 0 {
+        append_alone(note, most);
+    } else {
+        append_from(note, least, most);
     }
 }
 

@@ -2,7 +2,7 @@
 ghost use Rattle.std.specs.Prelude.{◌≡◌, ◌≤◌, ◌+◌, ◌++◌, length, flat_map};
 ghost use Rattle.arrayvec.specs.ArrayVec.{array_vec_len};
 ghost use Rattle.hdmi_meaning.specs.Notes.{own_line};
-ghost use Rattle.hdmi_extended.specs.Makers.{audio_name, identifier, maker_meanings, maker_name, named_meanings, video_name};
+ghost use Rattle.hdmi_extended.specs.Makers.{audio_name, identifier, maker_meanings, labelled_meanings, maker_name, named_meanings, tag_name, video_name};
 
 use arrayvec::ArrayVec;
 use hdmi_edid::append;
@@ -75,6 +75,28 @@ pub fn audio_name(identifier: u32) -> &'static str
     }
 }
 
+/// The name of what an extended block is for whose bytes are not read, with a comma before it; nothing where it is not known.
+pub fn tag_name(tag: u8) -> &'static str
+    ensures value { result.now ≡ tag_name tag }
+    ensures short { length result.now ≤ 40 }
+{
+    match tag {
+        0x02 => ", VESA display device",
+        0x03 => ", VESA video timings",
+        0x07 => ", dynamic HDR metadata",
+        0x08 => ", native video resolution",
+        0x12 => ", HDMI audio",
+        0x13 => ", room configuration",
+        0x14 => ", speaker locations",
+        0x20 => ", InfoFrames",
+        0x22 => ", DisplayID type VII timing",
+        0x23 => ", DisplayID type VIII timings",
+        0x2a => ", DisplayID type X timings",
+        0x78 => ", count of extensions",
+        _ => "",
+    }
+}
+
 /// Appends the maker of a vendor block, where it is known.
 pub fn append_maker(page: &mut Page, payload: &[u8])
     requires { array_vec_len page.old + 1536 ≤ PAGE }
@@ -96,5 +118,21 @@ pub fn append_named(page: &mut Page, name: &[u8], payload: &[u8])
     let mut words: Note = ArrayVec::new();
     append(&mut words, name);
     append_rest(&mut words, after(payload, 3));
+    append_words(page, words.as_slice());
+}
+
+/// Appends a name, with a comma before it, and bytes in hex; nothing without a name.
+pub fn append_labelled(page: &mut Page, name: &[u8], payload: &[u8])
+    requires short { length name.now ≤ 40 }
+    requires few { length payload.now ≤ 128 }
+    requires room { array_vec_len page.old + 1536 ≤ PAGE }
+    ensures { page.new.items ≡ page.old.items ++ flat_map own_line (labelled_meanings name.now payload.now) }
+{
+    if name.is_empty() {
+        return;
+    }
+    let mut words: Note = ArrayVec::new();
+    append(&mut words, name);
+    append_rest(&mut words, payload);
     append_words(page, words.as_slice());
 }
