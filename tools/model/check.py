@@ -8,6 +8,121 @@ SRGB = (655, 338, 307, 614, 154, 61, 320, 337)
 HDMI_CODES = {1: 95, 2: 94, 3: 93, 4: 98}
 # the tags of extensions (E-EDID Release A, section 2.2.1)
 EXTENSIONS = (0x02, 0x10, 0x40, 0x50, 0x60, 0x70, 0xF0, 0xFF)
+# video codes by their pixel clock in kHz, pixels of a line and half lines of a field (CTA-861, table 2)
+PACES = {
+    (25175, 800, 1050): [1],
+    (27000, 858, 1050): [2, 3],
+    (74250, 1650, 1500): [4, 69],
+    (74250, 2200, 1125): [5],
+    (27000, 1716, 525): [6, 7],
+    (27000, 1716, 524): [8, 9],
+    (54000, 3432, 525): [10, 11],
+    (54000, 3432, 524): [12, 13],
+    (54000, 1716, 1050): [14, 15],
+    (148500, 2200, 2250): [16, 76],
+    (27000, 864, 1250): [17, 18],
+    (74250, 1980, 1500): [19, 68],
+    (74250, 2640, 1125): [20],
+    (27000, 1728, 625): [21, 22],
+    (27000, 1728, 624): [23, 24],
+    (54000, 3456, 625): [25, 26],
+    (54000, 3456, 624): [27, 28],
+    (54000, 1728, 1250): [29, 30],
+    (148500, 2640, 2250): [31, 75],
+    (74250, 2750, 2250): [32, 72],
+    (74250, 2640, 2250): [33, 73],
+    (74250, 2200, 2250): [34, 74],
+    (108000, 3432, 1050): [35, 36],
+    (108000, 3456, 1250): [37, 38],
+    (72000, 2304, 1250): [39],
+    (148500, 2640, 1125): [40],
+    (148500, 1980, 1500): [41, 70],
+    (54000, 864, 1250): [42, 43],
+    (54000, 1728, 625): [44, 45],
+    (148500, 2200, 1125): [46],
+    (148500, 1650, 1500): [47, 71],
+    (54000, 858, 1050): [48, 49],
+    (54000, 1716, 525): [50, 51],
+    (108000, 864, 1250): [52, 53],
+    (108000, 1728, 625): [54, 55],
+    (108000, 858, 1050): [56, 57],
+    (108000, 1716, 525): [58, 59],
+    (59400, 3300, 1500): [60, 65, 79],
+    (74250, 3960, 1500): [61, 66],
+    (74250, 3300, 1500): [62, 67],
+    (297000, 2200, 2250): [63, 78],
+    (297000, 2640, 2250): [64, 77],
+    (59400, 3168, 1500): [80],
+    (59400, 2640, 1500): [81],
+    (82500, 2200, 1500): [82],
+    (99000, 2200, 1500): [83],
+    (165000, 2000, 1650): [84],
+    (198000, 2000, 1650): [85],
+    (99000, 3750, 2200): [86],
+    (90000, 3200, 2250): [87],
+    (118800, 3520, 2250): [88],
+    (185625, 3300, 2250): [89],
+    (198000, 3000, 2200): [90],
+    (371250, 2970, 2500): [91],
+    (495000, 3300, 2500): [92],
+    (297000, 5500, 4500): [93, 98, 103],
+    (297000, 5280, 4500): [94, 99, 104],
+    (297000, 4400, 4500): [95, 100, 105],
+    (594000, 5280, 4500): [96, 101, 106],
+    (594000, 4400, 4500): [97, 102, 107],
+    (90000, 2500, 1500): [108, 109],
+    (99000, 2750, 1500): [110],
+    (148500, 2750, 2250): [111, 112],
+    (198000, 3750, 2200): [113],
+    (594000, 5500, 4500): [114, 115, 116],
+    (1188000, 5280, 4500): [117, 119, 218],
+    (1188000, 4400, 4500): [118, 120, 219],
+    (396000, 7500, 4400): [121],
+    (396000, 7200, 4400): [122],
+    (396000, 6000, 4400): [123],
+    (742500, 6250, 4950): [124],
+    (742500, 6600, 4500): [125],
+    (742500, 5500, 4500): [126],
+    (1485000, 6600, 4500): [127],
+    (1485000, 5500, 4500): [193],
+    (1188000, 11000, 9000): [194, 202],
+    (1188000, 10800, 8800): [195, 203],
+    (1188000, 9000, 8800): [196, 204],
+    (2376000, 11000, 9000): [197, 205],
+    (2376000, 10800, 8800): [198, 206],
+    (2376000, 9000, 8800): [199, 207],
+    (4752000, 10560, 9000): [200, 208],
+    (4752000, 8800, 9000): [201, 209],
+    (1485000, 12500, 9900): [210],
+    (1485000, 13500, 8800): [211],
+    (1485000, 11000, 9000): [212],
+    (2970000, 12500, 9900): [213],
+    (2970000, 13500, 8800): [214],
+    (2970000, 11000, 9000): [215],
+    (5940000, 13200, 9000): [216],
+    (5940000, 11000, 9000): [217],
+}
+PACE_OF = {code: pace for pace, codes in PACES.items() for code in codes}
+# established timings: byte, bit, and the same three
+ESTABLISHED = [
+    (35, 7, 28320, 900, 898),
+    (35, 6, 35500, 900, 898),
+    (35, 5, 25175, 800, 1050),
+    (35, 4, 30240, 864, 1050),
+    (35, 3, 31500, 832, 1040),
+    (35, 2, 31500, 840, 1000),
+    (35, 1, 36000, 1024, 1250),
+    (35, 0, 40000, 1056, 1256),
+    (36, 7, 50000, 1040, 1332),
+    (36, 6, 49500, 1056, 1250),
+    (36, 5, 57284, 1152, 1334),
+    (36, 4, 44900, 1264, 817),
+    (36, 3, 65000, 1344, 1612),
+    (36, 2, 75000, 1328, 1612),
+    (36, 1, 78750, 1312, 1600),
+    (36, 0, 135000, 1688, 2132),
+    (37, 7, 100000, 1456, 1830),
+]
 DUMMY = b'\0\0\0\x10' + bytes(14)
 # the video codes of 1 to 64, by width, lines and whether there are two fields (CTA-861, table 3)
 SIZES = {
@@ -50,13 +165,13 @@ class Timing:
 
 
 def limits(b, four):
-    """(least, greatest) fields a second and thousands of lines a second, of each range descriptor"""
+    """(least, greatest) fields a second and thousands of lines a second, and the greatest clock, of each range descriptor"""
     for i in range(4):
         d = b[54 + 18 * i:72 + 18 * i]
         if d[:3] == b'\0\0\0' and d[3] == 0xFD:
             bits_v, bits_h = (d[4] & 3, d[4] >> 2 & 3) if four else (0, 0)
             up = lambda bits, low, high: (low + 255 * (bits == 3), high + 255 * (bits >= 2))
-            yield up(bits_v, d[5], d[6]), up(bits_h, d[7], d[8])
+            yield up(bits_v, d[5], d[6]), up(bits_h, d[7], d[8]), d[9]
 
 
 def is_outside(span, count, per):
@@ -66,13 +181,45 @@ def is_outside(span, count, per):
     return count <= (span[0] - 1) * per or count >= (span[1] + 1) * per
 
 
-def out_of_range(b, four, t):
-    pixels = t.h_active + t.h_blank
-    half_lines = 2 * (t.v_active + t.v_blank) + t.interlaced
-    for fields, lines in limits(b, four):
-        if is_outside(fields, t.clock * 20000, pixels * half_lines) or is_outside(lines, t.clock * 10, pixels):
+def is_pace_outside(b, four, clock, pixels, half_lines):
+    for fields, lines, most in limits(b, four):
+        if is_outside(fields, clock * 2000, pixels * half_lines) or is_outside(lines, clock, pixels):
+            return True
+        if 0 < most < 255 and clock >= 10000 * (most + 1):
             return True
     return False
+
+
+def out_of_range(b, four, t):
+    return is_pace_outside(b, four, t.clock * 10, t.h_active + t.h_blank, 2 * (t.v_active + t.v_blank) + t.interlaced)
+
+
+def is_standard_outside(b, four, first, second):
+    if first < 2:
+        return False
+    width, rate = 8 * (first + 31), 60 + (second & 63)
+    height = width * (10, 3, 4, 9)[second >> 6] // (16, 4, 5, 16)[second >> 6]
+    return any(is_outside(fields, rate, 1) or lines[0] <= lines[1] != 0 and height * rate >= 1000 * (lines[1] + 1)
+               for fields, lines, _ in limits(b, four))
+
+
+def has_format_outside(b, four, codes):
+    paces = [PACE_OF[c] for c in codes if c in PACE_OF] + [pace for byte, bit, *pace in ESTABLISHED if b[byte] >> bit & 1]
+    pairs = [(b[38 + 2 * i], b[39 + 2 * i]) for i in range(8)]
+    return any(is_pace_outside(b, four, *pace) for pace in paces) or any(is_standard_outside(b, four, *pair) for pair in pairs)
+
+
+def is_text(d):
+    """13 characters that can be printed, or fewer, a line feed and spaces"""
+    text, feed, rest = d[5:].partition(b'\n')
+    return d[2] == d[4] == 0 and all(32 <= c <= 126 for c in text) and (bool(feed) or len(text) == 13) and not rest.strip(b' ')
+
+
+def latencies_late(data):
+    """audio more than 20 ms above video, where both are told"""
+    data = bytes(data) + bytes(12)
+    told = lambda i: 0 < data[i] < 252 and 0 < data[i + 1] < 252 and data[i + 1] > data[i] + 10
+    return bool(data[7] & 128) and (told(8) or bool(data[7] & 64) and told(10))
 
 
 def timing_findings(b, t):
@@ -169,7 +316,7 @@ def edid_findings(e, is_port):
         yield 'fail', 'no-range-limits'
     if four and not features & 1 and any(d[2] == 0 and d[3] == 0xFD and d[10] in (0, 2, 4) for d in shown):
         yield 'fail', 'gtf-fixed'
-    if any(span[1] < span[0] for spans in limits(b, four) for span in spans):
+    if any(span[1] < span[0] for *spans, _ in limits(b, four) for span in spans):
         yield 'fail', 'limits-reversed'
     if not four and b[16] in (54, 255):
         yield 'fail', 'week-of-1.4'
@@ -265,6 +412,29 @@ def edid_findings(e, is_port):
     rates = [(q[5] & 63, (q[5] >> 6) << 8 | q[6]) for q in forums]
     if any(low > 48 or high and (high < 100 or not low) for low, high in rates):
         yield 'fail', 'forum-vrr'
+    maps = [[i for i in range(8 * len(data)) if data[i // 8] >> i % 8 & 1] for tag, data in tagged if tag == 15]
+    if any(i >= len(codes) for places in maps for i in places):
+        yield 'fail', 'map-past-codes'
+    taken = [codes[i] for places in maps for i in places if i < len(codes)]
+    taken += [c - 128 if 129 <= c <= 192 else c for tag, data in tagged if tag == 14 for c in data]
+    if any(c in PACE_OF and PACE_OF[c][0] < 590000 for c in taken):
+        yield 'warn', 'ycc420-slow'
+    if any(x['flags'] & 48 and tag == 7 and bytes(data[:1]) == b'\0' and len(data) > 1 and data[1] < 128 for x in full for _, tag, data in x['blocks']):
+        yield 'warn', 'ycc-quantization'
+    if any(latencies_late(data) for data in hdmi):
+        yield 'warn', 'latency-order'
+    if has_format_outside(b, four, codes):
+        yield ('warn' if four else 'fail'), 'out-of-range'
+    if any(d[3] in (0xFC, 0xFE, 0xFF) and not is_text(d) for d in shown):
+        yield 'fail', 'text-form'
+    if 54 < b[16] < 255:
+        yield 'fail', 'week-reserved'
+    if 1990 + b[17] > 2050:
+        yield 'warn', 'year-late'
+    if features & 4 and b[23] != 120:
+        yield 'warn', 'srgb-gamma'
+    if b[20] & 128 and (b[20] >> 4 & 7 == 7 or b[20] & 15 > 5 if four else b[20] & 126):
+        yield 'fail', 'input-reserved'
 
 
 def timings_of(e):

@@ -50,6 +50,13 @@ RULES = {
     'vic-reserved': 'Video Data Block: Unknown VIC',
     'hdmi-vic-reserved': 'Unknown HDMI VIC',
     'forum-clock': 'Max TMDS rate is > 0 and <= 340 or > 600',
+    'map-past-codes': r'Max index \d+ > \d+',
+    'ycc420-slow': 'Some YCbCr 4:2:0 timings are invalid for HDMI 2.1',
+    'ycc-quantization': 'Set Selectable YCbCr Quantization',
+    'latency-order': r'latency \+ 20 < ',
+    'week-reserved': 'Invalid week',
+    'srgb-gamma': 'sRGB is signaled, but the gamma',
+    'input-reserved': 'Color Bit Depth set to reserved|Digital Video Interface Standard set to reserved',
     'forum-vrr': "VRRmin > 48|VRRmin == 0, but VRRmax|VRRmax < 100",
 }
 TIMING_RULES = {

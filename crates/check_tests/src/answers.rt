@@ -1,5 +1,5 @@
 //! What is reported of EDIDs, a case each.
-use crate::contents::{BLOCKS, EXTENSIONS};
+use crate::contents::{BLOCKS, EXTENSIONS, MAPS, VALUES};
 use crate::displays::bytes_of;
 use crate::explains::{EXPLAINED, HINTED, explained, hinted};
 use crate::rules::{IN_PORTS, NATIVES, RULES};
@@ -57,6 +57,8 @@ fn each_rule_is_broken_alone_and_just_kept(rt: HostRuntime) {
     are_checked(&rt, TIMINGS);
     are_checked(&rt, EXTENSIONS);
     are_checked(&rt, BLOCKS);
+    are_checked(&rt, MAPS);
+    are_checked(&rt, VALUES);
 }
 
 /// The answer that is wanted: in place of bytes in hex, words give them.

@@ -10,10 +10,10 @@ tv 19=04 24=0c 118=01 => warn hdmi-of-1.3;
 tv 131=f0 54=000000100000000000000000000000000000 => fail no-preferred-timing;
 tv 131=f0 24=0c 54=000000100000000000000000000000000000 => fail first-timing-not-preferred;
 tv 93=fe => fail no-name;
-tv 93=fe 72=000000fc0a => none
-tv 111=fe => fail no-range-limits;
-tv 19=04 146=04 111=fe => none
-tv 19=04 146=04 111=fe 24=0f => fail no-range-limits;
+tv 93=fe 72=000000fc00410a2020202020202020202020 => none
+tv 111=fb => fail no-range-limits;
+tv 19=04 146=04 111=fb => none
+tv 19=04 146=04 111=fb 24=0f => fail no-range-limits;
 tv 19=04 146=04 118=00 => fail gtf-fixed;
 tv 19=04 146=04 118=02 => fail gtf-fixed;
 tv 19=04 146=04 118=04 => fail gtf-fixed;
@@ -27,7 +27,7 @@ tv 113=3d 114=17 115=44 116=0f => fail limits-reversed;
 tv 19=04 146=04 118=01 113=3d 114=3c => fail limits-reversed;
 tv 16=35 => none
 tv 16=36 => fail week-of-1.4;
-tv 16=fe => none
+tv 16=fe => fail week-reserved;
 tv 16=ff => fail week-of-1.4;
 tv 19=04 146=04 118=01 16=36 => none
 tv 19=04 146=04 118=01 16=ff => none
@@ -66,14 +66,14 @@ tv 35=00 => none
 tv 136=05 => none
 tv 131=f0 133=10 136=81 35=00 => none
 tv 136=05 35=00 => fail no-640x480;
-tv 136=05 35=df => fail no-640x480;
+tv 136=05 35=01 => fail no-640x480;
 tv base 35=00 bare => fail no-640x480;warn no-video-capability;
 tv 135=04 => fail vic-twice;
 tv 133=10 135=90 => fail vic-twice;
 tv 135=10 => fail vic-twice;
 tv 135=05 => none
-tv 134=c1 135=41 => none
-tv 134=c0 135=40 => fail vic-twice;
+tv 113=0000000000 134=c1 135=41 => none
+tv 113=0000000000 134=c0 135=40 => fail vic-twice;
 tv 134=80 135=00 => none
 tv 134=00 135=00 => none
 tv 134=80 135=80 => fail vic-twice;
@@ -100,7 +100,7 @@ tv 138=0f 141=a3 => fail speakers;
 tv 138=0a 141=a3 => fail speakers;
 tv 138=09 141=a3 => none
 tv 138=17 141=a3 => none
-tv 130=19 141=82010065030c000000e2004f00 => fail speakers;
+tv 130=19 141=82010065030c000000e200cf00 => fail speakers;
 tv 137=22 140=a0 => fail block-length;
 tv 254=01 => fail padding;
 tv 156=01 => fail padding;
@@ -117,10 +117,10 @@ tv 157=10 175=10 193=10 211=10 229=10 247=10 => fail padding;
 tv base cta 135=10 153=10 171=10 189=10 207=10 225=10 => warn no-video-capability;
 tv base cta 135=10 153=10 171=10 189=10 207=10 225=10 243=10 => fail padding;warn no-video-capability;
 tv 152=01 => warn no-video-capability;
-tv 153=0f => warn rgb-quantization;
-tv 153=40 => none
-tv 130=1c 145=67030c001000b844e2004f => none
-tv 130=1c 145=67030c001000b845e2004f => fail tmds-clock;
+tv 153=8f => warn rgb-quantization;
+tv 153=c0 => none
+tv 130=1c 145=67030c001000b844e200cf => none
+tv 130=1c 145=67030c001000b845e200cf => fail tmds-clock;
 tv 149=0000 => none
 tv 149=1234 => none
 tv 149=ffff => fail address;
@@ -132,19 +132,19 @@ tv 149=0100 => fail address;
 tv 149=0001 => fail address;
 tv 130=20 154=65030c001000 => warn hdmi-twice;
 tv 130=20 154=65030c010000 => none
-tv 130=20 145=6b030c001000b82d20002001e2004f => fail hdmi-vic-without-vic;
-tv 130=20 145=6b030c001000b82d20002001e2004f 135=5f => none
-tv 130=20 145=6b030c001000b82d20000001e2004f => none
-tv 130=20 145=6b030c001000b82d00002001e2004f => none
-tv 130=21 145=6c030c001000b82d2000400201e2004f 135=5e => fail hdmi-vic-without-vic;
-tv 130=21 145=6c030c001000b82d2000400201e2004f 135=5e 134=5f => none
-tv 130=22 145=6d030c001000b82da00000002004e2004f => fail hdmi-vic-without-vic;
-tv 130=22 145=6d030c001000b82da00000002004e2004f 135=62 => none
-tv 130=24 145=6f030c001000b82de000000000002003e2004f => fail hdmi-vic-without-vic;
-tv 130=24 145=6f030c001000b82de000000000002003e2004f 135=5d => none
-tv 130=22 145=67d85dc40178000065030c000000e2004f => fail hdmi-forum-first;
-tv 130=22 145=65030c00000067d85dc401780000e2004f => none
-tv 130=22 145=67d85dc50178000065030c000000e2004f => none
+tv 130=20 145=6b030c001000b82d20002001e200cf => fail hdmi-vic-without-vic;
+tv 113=0000000000 130=20 145=6b030c001000b82d20002001e200cf 135=5f => none
+tv 130=20 145=6b030c001000b82d20000001e200cf => none
+tv 130=20 145=6b030c001000b82d00002001e200cf => none
+tv 113=0000000000 130=21 145=6c030c001000b82d2000400201e200cf 135=5e => fail hdmi-vic-without-vic;
+tv 113=0000000000 130=21 145=6c030c001000b82d2000400201e200cf 135=5e 134=5f => none
+tv 130=22 145=6d030c001000b82da00000002004e200cf => fail hdmi-vic-without-vic;
+tv 113=0000000000 130=22 145=6d030c001000b82da00000002004e200cf 135=62 => none
+tv 130=24 145=6f030c001000b82de000000000002003e200cf => fail hdmi-vic-without-vic;
+tv 113=0000000000 130=24 145=6f030c001000b82de000000000002003e200cf 135=5d => none
+tv 130=22 145=67d85dc40178000065030c000000e200cf => fail hdmi-forum-first;
+tv 130=22 145=65030c00000067d85dc401780000e200cf => none
+tv 130=22 145=67d85dc50178000065030c000000e200cf => none
 ";
 
 /// The same of native pictures. The first timing is 1920x1080, the second 1280x720. Codes are 16, native, 4, 3 and 1; the code 31
@@ -157,8 +157,8 @@ tv 131=f0 134=84 => fail native-mixed;
 tv 131=f0 133=10 134=84 => none
 tv 131=f0 133=10 => none
 tv 134=9f => none
-tv 134=c0 => none
-tv 134=c1 => none
+tv 113=0000000000 134=c0 => none
+tv 113=0000000000 134=c1 => none
 tv 136=81 => fail native-mixed;
 tv 134=80 => none
 tv 134=85 => none

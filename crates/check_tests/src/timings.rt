@@ -32,24 +32,26 @@ tv 66=fe1811 => fail timing 1 size-differs;
 tv 66=ff1811 => none
 tv 66=fe1911 => none
 tv 114=3c => none
-tv 114=3b => fail timing 1 out-of-range;fail timing 2 out-of-range;
+tv 114=3b => fail out-of-range;fail timing 1 out-of-range;fail timing 2 out-of-range;
 tv 113=3c => none
-tv 113=3d => fail timing 1 out-of-range;fail timing 2 out-of-range;
+tv 113=3d => fail out-of-range;fail timing 1 out-of-range;fail timing 2 out-of-range;
 tv 116=43 => none
-tv 116=42 => fail timing 1 out-of-range;
-tv 115=2d => none
-tv 115=2e => fail timing 2 out-of-range;
-tv 19=04 146=04 118=01 114=3b => warn timing 1 out-of-range;warn timing 2 out-of-range;
+tv 116=42 => fail out-of-range;fail timing 1 out-of-range;
+tv 115=20 => none
+tv 115=21 => fail out-of-range;
+tv 115=2d => fail out-of-range;
+tv 115=2e => fail out-of-range;fail timing 2 out-of-range;
+tv 19=04 146=04 118=01 114=3b => warn out-of-range;warn timing 1 out-of-range;warn timing 2 out-of-range;
 tv 19=04 146=04 118=01 112=02 114=00 => none
 tv 112=02 114=00 => fail limits-reversed;
 tv 113=00 114=00 => none
-tv 113=00 114=01 => fail timing 1 out-of-range;fail timing 2 out-of-range;
+tv 113=00 114=01 => fail out-of-range;fail timing 1 out-of-range;fail timing 2 out-of-range;
 tv 115=00 116=00 => none
-tv 115=00 116=01 => fail timing 1 out-of-range;fail timing 2 out-of-range;
-tv 19=04 146=04 118=01 112=02 113=3d 114=3c => warn timing 1 out-of-range;warn timing 2 out-of-range;
-tv 19=04 146=04 118=01 112=03 => warn timing 1 out-of-range;warn timing 2 out-of-range;
+tv 115=00 116=01 => fail out-of-range;fail timing 1 out-of-range;fail timing 2 out-of-range;
+tv 19=04 146=04 118=01 112=02 113=3d 114=3c => warn out-of-range;warn timing 1 out-of-range;warn timing 2 out-of-range;
+tv 19=04 146=04 118=01 112=03 => warn out-of-range;warn timing 1 out-of-range;warn timing 2 out-of-range;
 tv 19=04 146=04 118=01 112=08 116=00 => none
-tv 19=04 146=04 118=01 112=0c => warn timing 1 out-of-range;warn timing 2 out-of-range;
+tv 19=04 146=04 118=01 112=0c => warn out-of-range;warn timing 1 out-of-range;warn timing 2 out-of-range;
 tv 154=e703801871382d40582c450008222100001e => fail timing 3 clock;fail timing 3 out-of-range;
 tv 154=023a801871382d40582c450012222100001e => fail timing 3 size-differs;
 ";

@@ -11,7 +11,7 @@ use Rattle.hdmi_check.specs.Findings.{rule_findings, timing_findings, edid_findi
 use Rattle.hdmi_check.specs.Laws.{IsAmong, NoneTwice, breaks_at, ListsTheBroken}
 use Rattle.hdmi_check.specs.declared.rule.Origin.{Origin}
 use Rattle.hdmi_check.specs.declared.rule.Rule.{Rule}
-use Rattle.hdmi_check.specs.declared.rule.Rule.TheVariants.{FirstTimingPreferred, PreferredTiming, ProductName, RangeLimits, LimitsAlone, LimitsOrder, Week, Srgb, NoEmptyDescriptor, UnusedStandard, BlockMap, HdmiRevision, OneSerial, Vga, VideoCodeOnce, NativeCount, NativeSize, Underscan, BasicAudio, Speakers, Padding, VideoCapability, RgbRange, TmdsClock, Address, OneHdmi, HdmiVideoCode, ForumAfterHdmi, CtaForm, CtaRevision, ExtensionTag, BlockLength, BlockOnce, OverrideFirst, OverrideCount, BlockTag, AudioFormat, HdrBits, VideoCode, HdmiCode, ForumClock, ForumScdc, ForumRates}
+use Rattle.hdmi_check.specs.declared.rule.Rule.TheVariants.{FirstTimingPreferred, PreferredTiming, ProductName, RangeLimits, LimitsAlone, LimitsOrder, Week, Srgb, NoEmptyDescriptor, UnusedStandard, BlockMap, HdmiRevision, OneSerial, Vga, VideoCodeOnce, NativeCount, NativeSize, Underscan, BasicAudio, Speakers, Padding, VideoCapability, RgbRange, TmdsClock, Address, OneHdmi, HdmiVideoCode, ForumAfterHdmi, CtaForm, CtaRevision, ExtensionTag, BlockLength, BlockOnce, OverrideFirst, OverrideCount, BlockTag, AudioFormat, HdrBits, VideoCode, HdmiCode, ForumClock, ForumScdc, ForumRates, MapWithinCodes, FastYcc420, YccRange, LatencyOrder, FormatsWithinLimits, FormatsNearLimits, TextForm, WeekKnown, YearKnown, SrgbGamma, InputKnown}
 use Rattle.hdmi_check.specs.declared.rule.TimingRule.{TimingRule}
 use Rattle.hdmi_check.specs.declared.rule.TimingRule.TheVariants.{Clock, Fields, HorizontalBackPorch, VerticalBackPorch, SizeThere, SizeFits, WithinLimits, NearLimits}
 use Rattle.hdmi_check.specs.declared.rule.Finding.{Finding}
@@ -64,6 +64,17 @@ place_of HdmiCode = 39
 place_of ForumClock = 40
 place_of ForumScdc = 41
 place_of ForumRates = 42
+place_of MapWithinCodes = 43
+place_of FastYcc420 = 44
+place_of YccRange = 45
+place_of LatencyOrder = 46
+place_of FormatsWithinLimits = 47
+place_of FormatsNearLimits = 48
+place_of TextForm = 49
+place_of WeekKnown = 50
+place_of YearKnown = 51
+place_of SrgbGamma = 52
+place_of InputKnown = 53
 
 placed : (rule : Rule) → slice_get rules (place_of rule) ≡ Some rule
 placed FirstTimingPreferred = refl
@@ -109,6 +120,17 @@ placed HdmiCode = refl
 placed ForumClock = refl
 placed ForumScdc = refl
 placed ForumRates = refl
+placed MapWithinCodes = refl
+placed FastYcc420 = refl
+placed YccRange = refl
+placed LatencyOrder = refl
+placed FormatsWithinLimits = refl
+placed FormatsNearLimits = refl
+placed TextForm = refl
+placed WeekKnown = refl
+placed YearKnown = refl
+placed SrgbGamma = refl
+placed InputKnown = refl
 
 every_rule : (rule : Rule) → IsAmong rule rules
 every_rule rule = among_at rule rules (place_of rule) (placed rule)

@@ -7,16 +7,19 @@ use Rattle.hdmi_cta.specs.declared.raw.Ext.{Ext}
 use Rattle.hdmi_parts.specs.BaseParts.{is_three, some_tagged, is_empty, begins_with_timing, is_continuous, prefers_first, claims_srgb, is_srgb, is_ill_unused, has_established_vga, names_formula}
 use Rattle.hdmi_parts.specs.BlockParts.{lists_vga, is_video_capability, fixes_rgb_range, has_fast_clock, has_wrong_address, has_root_address, is_speakers, is_ill_speakers, has_multichannel_pcm}
 use Rattle.hdmi_parts.specs.ExtParts.{is_cta, begins_with_map, overscans, has_ill_padding, native_count, hides_sound, some_block, hdmi_count, has_forum_first, timings_of}
-use Rattle.hdmi_parts.specs.Limits.{has_reversed_limits}
 use Rattle.hdmi_parts.specs.VideoCodes.{video_codes, repeats, has_lone_code}
 use Rattle.hdmi_native.specs.Natives.{has_mixed_natives}
-use Rattle.hdmi_contents.specs.Extensions.{overruns, has_other_revision, has_unknown_tag, repeats_block, has_misplaced_override, has_low_override}
+use Rattle.hdmi_contents.specs.Extensions.{overruns, has_other_revision, has_unknown_tag, repeats_block, has_fixed_ycc, has_misplaced_override, has_low_override}
+use Rattle.hdmi_contents.specs.Bases.{is_ill_text, is_reserved_week, is_late_year, has_other_gamma, has_reserved_input}
 use Rattle.hdmi_contents.specs.Contents.{has_slip}
 use Rattle.hdmi_contents.specs.declared.contents.Slip.TheVariants as slip
+use Rattle.hdmi_rates.specs.Formats.{has_format_outside}
+use Rattle.hdmi_rates.specs.Limits.{has_reversed_limits}
+use Rattle.hdmi_rates.specs.Maps.{has_past, has_slow}
 use Rattle.hdmi_check.specs.declared.rule.Origin.{Origin}
 use Rattle.hdmi_check.specs.declared.rule.Origin.TheVariants.{Display, Port}
 use Rattle.hdmi_check.specs.declared.rule.Rule.{Rule}
-use Rattle.hdmi_check.specs.declared.rule.Rule.TheVariants.{FirstTimingPreferred, PreferredTiming, ProductName, RangeLimits, LimitsAlone, LimitsOrder, Week, Srgb, NoEmptyDescriptor, UnusedStandard, BlockMap, HdmiRevision, OneSerial, Vga, VideoCodeOnce, NativeCount, NativeSize, Underscan, BasicAudio, Speakers, Padding, VideoCapability, RgbRange, TmdsClock, Address, OneHdmi, HdmiVideoCode, ForumAfterHdmi, CtaForm, CtaRevision, ExtensionTag, BlockLength, BlockOnce, OverrideFirst, OverrideCount, BlockTag, AudioFormat, HdrBits, VideoCode, HdmiCode, ForumClock, ForumScdc, ForumRates}
+use Rattle.hdmi_check.specs.declared.rule.Rule.TheVariants.{FirstTimingPreferred, PreferredTiming, ProductName, RangeLimits, LimitsAlone, LimitsOrder, Week, Srgb, NoEmptyDescriptor, UnusedStandard, BlockMap, HdmiRevision, OneSerial, Vga, VideoCodeOnce, NativeCount, NativeSize, Underscan, BasicAudio, Speakers, Padding, VideoCapability, RgbRange, TmdsClock, Address, OneHdmi, HdmiVideoCode, ForumAfterHdmi, CtaForm, CtaRevision, ExtensionTag, BlockLength, BlockOnce, OverrideFirst, OverrideCount, BlockTag, AudioFormat, HdrBits, VideoCode, HdmiCode, ForumClock, ForumScdc, ForumRates, MapWithinCodes, FastYcc420, YccRange, LatencyOrder, FormatsWithinLimits, FormatsNearLimits, TextForm, WeekKnown, YearKnown, SrgbGamma, InputKnown}
 
 -- all rules, in the order in which they are looked at
 abbrev pub rules : List Rule
@@ -25,7 +28,8 @@ rules =
     BlockMap ∷ HdmiRevision ∷ OneSerial ∷ Vga ∷ VideoCodeOnce ∷ NativeCount ∷ NativeSize ∷ Underscan ∷ BasicAudio ∷ Speakers ∷ Padding ∷
     VideoCapability ∷ RgbRange ∷ TmdsClock ∷ Address ∷ OneHdmi ∷ HdmiVideoCode ∷ ForumAfterHdmi ∷
     CtaForm ∷ CtaRevision ∷ ExtensionTag ∷
-    BlockLength ∷ BlockOnce ∷ OverrideFirst ∷ OverrideCount ∷ BlockTag ∷ AudioFormat ∷ HdrBits ∷ VideoCode ∷ HdmiCode ∷ ForumClock ∷ ForumScdc ∷ ForumRates ∷ []
+    BlockLength ∷ BlockOnce ∷ OverrideFirst ∷ OverrideCount ∷ BlockTag ∷ AudioFormat ∷ HdrBits ∷ VideoCode ∷ HdmiCode ∷ ForumClock ∷ ForumScdc ∷ ForumRates ∷
+    MapWithinCodes ∷ FastYcc420 ∷ YccRange ∷ LatencyOrder ∷ FormatsWithinLimits ∷ FormatsNearLimits ∷ TextForm ∷ WeekKnown ∷ YearKnown ∷ SrgbGamma ∷ InputKnown ∷ []
 
 -- an HDMI block has the address of no place in a tree, or in a port's EDID that of the root (HDMI 1.4, section 8.7.3)
 abbrev pub has_ill_address : Origin → List Ext → Bool
@@ -118,3 +122,25 @@ is_broken o ForumClock b xs = some_block (has_slip slip.ForumClock) xs
 is_broken o ForumScdc b xs = some_block (has_slip slip.ForumScdc) xs
 -- at most 48 Hz, and none or at least 100 Hz (HDMI 2.1, section 10.3.2)
 is_broken o ForumRates b xs = some_block (has_slip slip.ForumRates) xs
+-- bit k is for the video code k (CTA-861-G, section 7.5.11)
+is_broken o MapWithinCodes b xs = some_block (has_past (length (video_codes xs))) xs
+-- 4:2:0 is for pixel clocks of 590 MHz and more (HDMI 2.1, section 7.1)
+is_broken o FastYcc420 b xs = some_block (has_slow (video_codes xs)) xs
+-- the range of YCbCr values can be chosen (CTA-861-G, section 7.5.6)
+is_broken o YccRange b xs = list_any has_fixed_ycc xs
+-- audio latency is at most 20 ms above video latency, where no other device shows the pictures (HDMI 1.4, section 8.3.2)
+is_broken o LatencyOrder b xs = some_block (has_slip slip.Latency) xs
+-- a display of 1.3 shows no format outside its limits (E-EDID Release A, section 3.10.3.3)
+is_broken o FormatsWithinLimits b xs = is_three b.revision && has_format_outside b xs
+-- in 1.4 a format that is told of by its name holds whatever the limits are (E-EDID 1.4, section 3.10.3.3)
+is_broken o FormatsNearLimits b xs = not (is_three b.revision) && has_format_outside b xs
+-- printable characters, a line feed after fewer than 13, and then spaces (E-EDID Release A, section 3.10.3)
+is_broken o TextForm b xs = list_any is_ill_text b.descriptors
+-- weeks 55 to 254 are reserved (E-EDID 1.4, section 3.4.4)
+is_broken o WeekKnown b xs = is_reserved_week b
+-- a year after 2050 (own)
+is_broken o YearKnown b xs = is_late_year b
+-- the gamma of sRGB is 2.2 (IEC 61966-2-1; E-EDID Release A, section 3.6.3)
+is_broken o SrgbGamma b xs = has_other_gamma b
+-- bits that 1.3 reserves, and depths and interfaces that 1.4 does (E-EDID Release A and 1.4, section 3.6.1)
+is_broken o InputKnown b xs = has_reserved_input b

@@ -3,7 +3,7 @@ use Rattle.std.specs.Prelude.{ℕ, Bool, true, false, List, ◌++◌, codes, fla
 use Rattle.std.specs.Fmt.{decimal}
 use Rattle.std.specs.List.{list_any}
 use Rattle.hdmi_check.specs.declared.rule.Rule.{Rule}
-use Rattle.hdmi_check.specs.declared.rule.Rule.TheVariants.{FirstTimingPreferred, PreferredTiming, ProductName, RangeLimits, LimitsAlone, LimitsOrder, Week, Srgb, NoEmptyDescriptor, UnusedStandard, BlockMap, HdmiRevision, OneSerial, Vga, VideoCodeOnce, NativeCount, NativeSize, Underscan, BasicAudio, Speakers, Padding, VideoCapability, RgbRange, TmdsClock, Address, OneHdmi, HdmiVideoCode, ForumAfterHdmi, CtaForm, CtaRevision, ExtensionTag, BlockLength, BlockOnce, OverrideFirst, OverrideCount, BlockTag, AudioFormat, HdrBits, VideoCode, HdmiCode, ForumClock, ForumScdc, ForumRates}
+use Rattle.hdmi_check.specs.declared.rule.Rule.TheVariants.{FirstTimingPreferred, PreferredTiming, ProductName, RangeLimits, LimitsAlone, LimitsOrder, Week, Srgb, NoEmptyDescriptor, UnusedStandard, BlockMap, HdmiRevision, OneSerial, Vga, VideoCodeOnce, NativeCount, NativeSize, Underscan, BasicAudio, Speakers, Padding, VideoCapability, RgbRange, TmdsClock, Address, OneHdmi, HdmiVideoCode, ForumAfterHdmi, CtaForm, CtaRevision, ExtensionTag, BlockLength, BlockOnce, OverrideFirst, OverrideCount, BlockTag, AudioFormat, HdrBits, VideoCode, HdmiCode, ForumClock, ForumScdc, ForumRates, MapWithinCodes, FastYcc420, YccRange, LatencyOrder, FormatsWithinLimits, FormatsNearLimits, TextForm, WeekKnown, YearKnown, SrgbGamma, InputKnown}
 use Rattle.hdmi_check.specs.declared.rule.Severity.{Severity}
 use Rattle.hdmi_check.specs.declared.rule.Severity.TheVariants.{Fail, Warn}
 use Rattle.hdmi_check.specs.declared.rule.TimingRule.{TimingRule}
@@ -26,6 +26,12 @@ rule_severity ExtensionTag = Warn
 rule_severity BlockTag = Warn
 rule_severity HdrBits = Warn
 rule_severity VideoCode = Warn
+rule_severity FastYcc420 = Warn
+rule_severity YccRange = Warn
+rule_severity LatencyOrder = Warn
+rule_severity FormatsNearLimits = Warn
+rule_severity YearKnown = Warn
+rule_severity SrgbGamma = Warn
 rule_severity _ = Fail
 
 abbrev pub timing_severity : TimingRule → Severity
@@ -93,6 +99,17 @@ rule_name HdmiCode = codes "hdmi-vic-reserved"
 rule_name ForumClock = codes "forum-clock"
 rule_name ForumScdc = codes "forum-scdc"
 rule_name ForumRates = codes "forum-vrr"
+rule_name MapWithinCodes = codes "map-past-codes"
+rule_name FastYcc420 = codes "ycc420-slow"
+rule_name YccRange = codes "ycc-quantization"
+rule_name LatencyOrder = codes "latency-order"
+rule_name FormatsWithinLimits = codes "out-of-range"
+rule_name FormatsNearLimits = codes "out-of-range"
+rule_name TextForm = codes "text-form"
+rule_name WeekKnown = codes "week-reserved"
+rule_name YearKnown = codes "year-late"
+rule_name SrgbGamma = codes "srgb-gamma"
+rule_name InputKnown = codes "input-reserved"
 
 abbrev pub timing_rule_name : TimingRule → List ℕ
 timing_rule_name Clock = codes " clock"

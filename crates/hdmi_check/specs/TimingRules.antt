@@ -3,7 +3,7 @@ use Rattle.std.specs.Prelude.{◌+◌, ◌*◌, ◌==◌, Bool, ◌&&◌, ◌||�
 use Rattle.hdmi_edid.specs.declared.base.Base.{Base}
 use Rattle.hdmi_edid.specs.declared.timing.Timing.{Timing}
 use Rattle.hdmi_parts.specs.BaseParts.{is_three}
-use Rattle.hdmi_parts.specs.Limits.{is_out_of_range}
+use Rattle.hdmi_rates.specs.Limits.{timing_pace, is_out_of_range}
 use Rattle.hdmi_check.specs.declared.rule.TimingRule.{TimingRule}
 use Rattle.hdmi_check.specs.declared.rule.TimingRule.TheVariants.{Clock, Fields, HorizontalBackPorch, VerticalBackPorch, SizeThere, SizeFits, WithinLimits, NearLimits}
 
@@ -36,6 +36,6 @@ breaks VerticalBackPorch b t = nat_le t.vertical_blanking (t.vertical_sync_offse
 breaks SizeThere b t = has_size b && ((t.width == 0) || (t.height == 0))
 breaks SizeFits b t = has_size b && (nat_lt 0 t.width || nat_lt 0 t.height) && differs b t
 -- a display of 1.3 shows no timing outside its limits (section 3.10.3.3)
-breaks WithinLimits b t = is_three b.revision && is_out_of_range b t
+breaks WithinLimits b t = is_three b.revision && is_out_of_range b (timing_pace t)
 -- in 1.4 a timing that is told in full holds whatever the limits are (E-EDID 1.4, section 3.10.3.3)
-breaks NearLimits b t = not (is_three b.revision) && is_out_of_range b t
+breaks NearLimits b t = not (is_three b.revision) && is_out_of_range b (timing_pace t)

@@ -8,29 +8,33 @@ ghost use Rattle.hdmi_check.specs.Findings.{rule_findings, timing_findings, edid
 use crate::rule::{Finding, Origin, Rule, TimingRule};
 use arrayvec::ArrayVec;
 use hdmi_contents::{
-    Slip, has_low_override, has_misplaced_override, some_other_revision, some_overrun,
-    some_repeated, some_slip, some_unknown,
+    Slip, has_low_override, has_misplaced_override, has_other_gamma, has_reserved_input,
+    is_late_year, is_reserved_week, some_fixed_ycc, some_ill_text, some_other_revision,
+    some_overrun, some_repeated, some_slip, some_unknown,
 };
 use hdmi_cta::Ext;
 use hdmi_edid::{Base, Timing};
 use hdmi_native::has_mixed_natives;
 use hdmi_parts::{
     NAME_TAG, RANGE_TAG, SERIAL_TAG, Sought, begins_with_map, begins_with_timing, claims_srgb,
-    has_established_vga, has_reversed_limits, hdmi_count, is_continuous, is_out_of_range, is_srgb,
-    is_three, prefers_first, repeats, some_block, some_cta, some_empty, some_formula,
-    some_forum_first, some_hidden_sound, some_ill_padding, some_ill_unused, some_lone_code,
-    some_native, some_overscan, some_tagged, timings_of, video_codes,
+    has_established_vga, hdmi_count, is_continuous, is_srgb, is_three, prefers_first, repeats,
+    some_block, some_cta, some_empty, some_formula, some_forum_first, some_hidden_sound,
+    some_ill_padding, some_ill_unused, some_lone_code, some_native, some_overscan, some_tagged,
+    timings_of, video_codes,
+};
+use hdmi_rates::{
+    has_format_outside, has_reversed_limits, is_out_of_range, some_past, some_slow, timing_pace,
 };
 
-/// The most findings of an EDID: 43 rules, and eight for each of 22 timings.
-pub const MAX_FINDINGS: usize = 219;
+/// The most findings of an EDID: 54 rules, and eight for each of 22 timings.
+pub const MAX_FINDINGS: usize = 230;
 /// The least pixel clock of a timing: 10 MHz, in units of 10 kHz.
 const MIN_CLOCK: u16 = 1000;
 /// How much larger or smaller than the display an image may be, in millimetres.
 const SIZE_TOLERANCE: u16 = 9;
 
 /// All rules, in the order in which they are looked at.
-const RULES: [Rule; 43] = [
+const RULES: [Rule; 54] = [
     Rule::FirstTimingPreferred,
     Rule::PreferredTiming,
     Rule::ProductName,
@@ -74,6 +78,17 @@ const RULES: [Rule; 43] = [
     Rule::ForumClock,
     Rule::ForumScdc,
     Rule::ForumRates,
+    Rule::MapWithinCodes,
+    Rule::FastYcc420,
+    Rule::YccRange,
+    Rule::LatencyOrder,
+    Rule::FormatsWithinLimits,
+    Rule::FormatsNearLimits,
+    Rule::TextForm,
+    Rule::WeekKnown,
+    Rule::YearKnown,
+    Rule::SrgbGamma,
+    Rule::InputKnown,
 ];
 
 const TIMING_RULES: [TimingRule; 8] = [
@@ -169,6 +184,18 @@ fn is_broken(origin: Origin, rule: Rule, base: &Base, extensions: &[Ext]) -> boo
         Rule::ForumClock => some_slip(Slip::ForumClock, extensions),
         Rule::ForumScdc => some_slip(Slip::ForumScdc, extensions),
         Rule::ForumRates => some_slip(Slip::ForumRates, extensions),
+        Rule::MapWithinCodes => some_past(video_codes(extensions).len(), extensions),
+        Rule::FastYcc420 => some_slow(video_codes(extensions).as_slice(), extensions),
+        Rule::YccRange => some_fixed_ycc(extensions),
+        Rule::LatencyOrder => some_slip(Slip::Latency, extensions),
+        Rule::FormatsWithinLimits => is_three(base.revision)
+            && has_format_outside(base, extensions),
+        Rule::FormatsNearLimits => !is_three(base.revision) && has_format_outside(base, extensions),
+        Rule::TextForm => some_ill_text(base),
+        Rule::WeekKnown => is_reserved_week(base),
+        Rule::YearKnown => is_late_year(base),
+        Rule::SrgbGamma => has_other_gamma(base),
+        Rule::InputKnown => has_reserved_input(base),
     }
 }
 
@@ -223,8 +250,10 @@ fn breaks(rule: TimingRule, base: &Base, timing: &Timing) -> bool
         TimingRule::SizeFits => {
             has_size(base) && (0 < timing.width || 0 < timing.height) && differs(base, timing)
         }
-        TimingRule::WithinLimits => is_three(base.revision) && is_out_of_range(base, timing),
-        TimingRule::NearLimits => !is_three(base.revision) && is_out_of_range(base, timing),
+        TimingRule::WithinLimits => is_three(base.revision)
+            && is_out_of_range(base, timing_pace(timing)),
+        TimingRule::NearLimits => !is_three(base.revision)
+            && is_out_of_range(base, timing_pace(timing)),
     }
 }
 
@@ -278,9 +307,9 @@ fn add_edid(
     extensions: &[Ext],
 )
     requires few { length extensions.now ≤ 3 }
-    requires room { array_vec_len found.old + 43 ≤ MAX_FINDINGS }
+    requires room { array_vec_len found.old + 54 ≤ MAX_FINDINGS }
     ensures items { found.new.items ≡ found.old.items ++ edid_findings origin base.now extensions.now }
-    ensures len { array_vec_len found.new ≤ array_vec_len found.old + 43 }
+    ensures len { array_vec_len found.new ≤ array_vec_len found.old + 54 }
 {
     add_rules(found, &RULES, origin, base, extensions);
 }

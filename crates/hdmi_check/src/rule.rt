@@ -89,6 +89,28 @@ pub enum Rule {
     ForumScdc,
     /// The rates of variable refresh go together.
     ForumRates,
+    /// A map of 4:2:0 formats marks no place after the last video code.
+    MapWithinCodes,
+    /// A format in 4:2:0 is fast enough for it.
+    FastYcc420,
+    /// The range of YCbCr values can be chosen where there is YCbCr.
+    YccRange,
+    /// Sound is not late.
+    LatencyOrder,
+    /// Video codes, established and standard timings are within the range limits of revision 3.
+    FormatsWithinLimits,
+    /// Video codes, established and standard timings are within the range limits of revision 4.
+    FormatsNearLimits,
+    /// A name, a text and a serial number have the form of a text.
+    TextForm,
+    /// The week is one of a year.
+    WeekKnown,
+    /// The year is one in which displays are made.
+    YearKnown,
+    /// A display of sRGB has its gamma.
+    SrgbGamma,
+    /// A digital input has no reserved depth and no reserved interface.
+    InputKnown,
 }
 
 /// A rule for a detailed timing.

@@ -13,7 +13,7 @@ use hdmi_edid::append;
 /// The bytes that the longest line has room in.
 const LINE: usize = 40;
 /// The bytes that the lines of all findings have room in: a `LINE` for each.
-const TEXT: usize = 8760;
+const TEXT: usize = 9200;
 
 fn rule_severity(rule: Rule) -> Severity
     ensures { result ≡ rule_severity rule }
@@ -29,7 +29,13 @@ fn rule_severity(rule: Rule) -> Severity
         | Rule::ExtensionTag
         | Rule::BlockTag
         | Rule::HdrBits
-        | Rule::VideoCode => Severity::Warn,
+        | Rule::VideoCode
+        | Rule::FastYcc420
+        | Rule::YccRange
+        | Rule::LatencyOrder
+        | Rule::FormatsNearLimits
+        | Rule::YearKnown
+        | Rule::SrgbGamma => Severity::Warn,
         _ => Severity::Fail,
     }
 }
@@ -113,6 +119,17 @@ fn rule_name(rule: Rule) -> &'static str
         Rule::ForumClock => "forum-clock",
         Rule::ForumScdc => "forum-scdc",
         Rule::ForumRates => "forum-vrr",
+        Rule::MapWithinCodes => "map-past-codes",
+        Rule::FastYcc420 => "ycc420-slow",
+        Rule::YccRange => "ycc-quantization",
+        Rule::LatencyOrder => "latency-order",
+        Rule::FormatsWithinLimits => "out-of-range",
+        Rule::FormatsNearLimits => "out-of-range",
+        Rule::TextForm => "text-form",
+        Rule::WeekKnown => "week-reserved",
+        Rule::YearKnown => "year-late",
+        Rule::SrgbGamma => "srgb-gamma",
+        Rule::InputKnown => "input-reserved",
     }
 }
 

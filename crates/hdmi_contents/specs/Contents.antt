@@ -10,7 +10,7 @@ use Rattle.hdmi_parts.specs.BlockParts.{is_extended_kind, is_video_kind, is_spea
 use Rattle.hdmi_contents.specs.declared.contents.Sort.{Sort}
 use Rattle.hdmi_contents.specs.declared.contents.Sort.TheVariants.{VideoCapability, Colorimetry, HdrStatic, Map, Speakers, Forum}
 use Rattle.hdmi_contents.specs.declared.contents.Slip.{Slip}
-use Rattle.hdmi_contents.specs.declared.contents.Slip.TheVariants.{Length, Tag, AudioFormat, HdrBits, VideoCode, HdmiCode, ForumClock, ForumScdc, ForumRates}
+use Rattle.hdmi_contents.specs.declared.contents.Slip.TheVariants.{Length, Tag, AudioFormat, HdrBits, VideoCode, HdmiCode, ForumClock, ForumScdc, ForumRates, Latency}
 
 -- ---- which block it is
 
@@ -104,6 +104,22 @@ are_ill_rates least most = nat_lt 48 least || (nat_lt 0 most && (nat_lt most 100
 abbrev pub has_ill_rates : DataBlock → Bool
 has_ill_rates b = is_forum_block b && are_ill_rates (forum_byte b 5 % 64) (forum_byte b 5 / 64 * 256 + forum_byte b 6)
 
+-- ---- latencies (HDMI 1.4, section 8.3.2): a byte is half the milliseconds, and 1; 0, and 252 and more, tell of none
+
+abbrev pub is_latency : ℕ → Bool
+is_latency byte = nat_lt 0 byte && nat_lt byte 252
+
+-- sound is late by more than 20 ms
+abbrev pub is_late : ℕ → ℕ → Bool
+is_late video audio = is_latency video && is_latency audio && nat_lt (video + 10) audio
+
+-- bit 7 of the eighth byte says that two bytes follow it, and bit 6 that two for interlaced video do
+abbrev pub has_late_sound : DataBlock → Bool
+has_late_sound b =
+    is_hdmi b && (slice_index b.payload.items 7 / 128 % 2 == 1) &&
+    (is_late (slice_index b.payload.items 8) (slice_index b.payload.items 9) ||
+    ((slice_index b.payload.items 7 / 64 % 2 == 1) && is_late (slice_index b.payload.items 10) (slice_index b.payload.items 11)))
+
 -- ---- all of them
 
 abbrev pub has_slip : Slip → DataBlock → Bool
@@ -116,3 +132,4 @@ has_slip HdmiCode b = has_reserved_hdmi b
 has_slip ForumClock b = has_ill_clock b
 has_slip ForumScdc b = lacks_scdc b
 has_slip ForumRates b = has_ill_rates b
+has_slip Latency b = has_late_sound b

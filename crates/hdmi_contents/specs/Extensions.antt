@@ -1,12 +1,12 @@
 -- What the rules ask of the extensions that are kept as they are (E-EDID Release A, section 2.2.1), and of the blocks of an
 -- extension taken together (CTA-861-G, section 7.5).
-use Rattle.std.specs.Prelude.{ℕ, ◌==◌, Bool, false, ◌&&◌, ◌||◌, not, nat_lt, List, [], ◌∷◌, slice_index, drop, count_by}
+use Rattle.std.specs.Prelude.{ℕ, ◌/◌, ◌%◌, ◌==◌, Bool, false, ◌&&◌, ◌||◌, not, nat_lt, List, [], ◌∷◌, length, slice_index, drop, count_by}
 use Rattle.std.specs.List.{list_any}
 use Rattle.hdmi_edid.specs.declared.base.Base.{Base}
 use Rattle.hdmi_cta.specs.Hdmi.{blocks_of}
 use Rattle.hdmi_cta.specs.declared.block.DataBlock.{DataBlock}
 use Rattle.hdmi_cta.specs.declared.raw.Ext.{Ext}
-use Rattle.hdmi_cta.specs.declared.raw.Ext.TheVariants.{Raw}
+use Rattle.hdmi_cta.specs.declared.raw.Ext.TheVariants.{Cta, Raw}
 use Rattle.hdmi_parts.specs.ExtParts.{some_block}
 use Rattle.hdmi_contents.specs.Contents.{has_extended_tag, is_of_sort}
 use Rattle.hdmi_contents.specs.declared.contents.Sort.{Sort}
@@ -46,6 +46,17 @@ has_two blocks sort = nat_lt 1 (count_by (is_of_sort sort) blocks)
 
 abbrev pub repeats_block : Ext → Bool
 repeats_block x = list_any (has_two (blocks_of x)) sorts
+
+-- ---- ranges of colour values
+
+-- bit 7 of the byte of a video capability block: the range of YCbCr values can be chosen (CTA-861-G, section 7.5.6)
+abbrev pub fixes_ycc_range : DataBlock → Bool
+fixes_ycc_range b = has_extended_tag 0x00 b && nat_lt 1 (length b.payload.items) && nat_lt (slice_index b.payload.items 1) 128
+
+-- bits 5 and 4 of the flags: YCbCr 4:4:4 and 4:2:2 (CTA-861-D, section 7.5)
+abbrev pub has_fixed_ycc : Ext → Bool
+has_fixed_ycc (Cta c) = nat_lt 0 (c.flags / 16 % 4) && list_any fixes_ycc_range c.blocks.items
+has_fixed_ycc _ = false
 
 -- ---- the HDMI Forum's override of the count of extensions (HF-EEODB: HDMI 2.1, section 10.3.7)
 

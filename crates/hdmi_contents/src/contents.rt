@@ -1,7 +1,7 @@
 //! What the rules ask of what stands in a data block.
 ghost use Rattle.std.specs.Prelude.{◌≡◌, ◌≤◌, slice_index};
 ghost use Rattle.std.specs.List.{list_any};
-ghost use Rattle.hdmi_contents.specs.Contents.{has_extended_tag, is_forum_block, is_of_sort, least_length, has_ill_length, lists_format_zero, has_format_zero, has_reserved_hdr, is_reserved_code, has_reserved_code, is_reserved_hdmi, has_reserved_hdmi, forum_byte, is_ill_clock, has_ill_clock, lacks_scdc, are_ill_rates, has_ill_rates, has_slip};
+ghost use Rattle.hdmi_contents.specs.Contents.{has_extended_tag, is_forum_block, is_of_sort, least_length, has_ill_length, lists_format_zero, has_format_zero, has_reserved_hdr, is_reserved_code, has_reserved_code, is_reserved_hdmi, has_reserved_hdmi, forum_byte, is_ill_clock, has_ill_clock, lacks_scdc, are_ill_rates, has_ill_rates, is_latency, is_late, has_late_sound, has_slip};
 
 use hdmi_cta::{BlockKind, DataBlock};
 use hdmi_parts::{hdmi_codes, is_forum, is_speakers};
@@ -32,6 +32,9 @@ const MOST_FORUM_CLOCK: u8 = 120;
 const MOST_LEAST_RATE: u16 = 48;
 /// What the greatest rate of variable refresh is at least, in Hz.
 const LEAST_MOST_RATE: u16 = 100;
+
+/// How late sound may be, in units of 2 ms.
+const MOST_LATE: u16 = 10;
 
 /// A sort of data blocks of which an extension has one at most.
 #[derive(Clone, Copy, Debug, PartialEq, Eq)]
@@ -67,6 +70,8 @@ pub enum Slip {
     ForumScdc,
     /// Rates of variable refresh that do not go together.
     ForumRates,
+    /// Sound that is late.
+    Latency,
 }
 
 /// Whether it is an extended block with this tag.
@@ -228,6 +233,30 @@ fn has_ill_rates(block: &DataBlock) -> bool
         )
 }
 
+fn is_latency(byte: u8) -> bool
+    ensures { result ≡ is_latency byte }
+{
+    0 < byte && byte < 252
+}
+
+/// Whether sound is late by more than 20 ms.
+fn is_late(video: u8, audio: u8) -> bool
+    ensures { result ≡ is_late video audio }
+{
+    is_latency(video) && is_latency(audio) && u16::from(video) + MOST_LATE < u16::from(audio)
+}
+
+/// Whether the sound of an HDMI block is late, for plain or for interlaced video.
+fn has_late_sound(block: &DataBlock) -> bool
+    ensures { result ≡ has_late_sound block.now }
+{
+    let presence = byte_at(block, 7);
+    block.is_hdmi()
+        && presence / 128 % 2 == 1
+        && (is_late(byte_at(block, 8), byte_at(block, 9))
+            || presence / 64 % 2 == 1 && is_late(byte_at(block, 10), byte_at(block, 11)))
+}
+
 /// Whether this is wrong in a data block.
 pub fn has_slip(slip: Slip, block: &DataBlock) -> bool
     ensures { result ≡ has_slip slip block.now }
@@ -242,5 +271,6 @@ pub fn has_slip(slip: Slip, block: &DataBlock) -> bool
         Slip::ForumClock => has_ill_clock(block),
         Slip::ForumScdc => lacks_scdc(block),
         Slip::ForumRates => has_ill_rates(block),
+        Slip::Latency => has_late_sound(block),
     }
 }

@@ -3,9 +3,9 @@ ghost use Rattle.std.specs.Prelude.{◌≡◌, ◌≤◌, count_by};
 ghost use Rattle.std.specs.List.{list_any};
 ghost use Rattle.hdmi_parts.specs.ExtParts.{some_block};
 ghost use Rattle.hdmi_contents.specs.Contents.{is_of_sort, has_slip};
-ghost use Rattle.hdmi_contents.specs.Extensions.{overruns, has_other_revision, is_known_tag, has_unknown_tag, sorts, has_two, repeats_block, is_override, has_misplaced_override, begins_low, has_low_override};
+ghost use Rattle.hdmi_contents.specs.Extensions.{overruns, has_other_revision, is_known_tag, has_unknown_tag, sorts, has_two, repeats_block, fixes_ycc_range, has_fixed_ycc, is_override, has_misplaced_override, begins_low, has_low_override};
 
-use crate::contents::{Slip, Sort, byte_at, has_slip, is_of_sort, is_override};
+use crate::contents::{Slip, Sort, byte_at, has_extended_tag, has_slip, is_of_sort, is_override};
 use hdmi_cta::{DataBlock, Ext};
 use hdmi_edid::Base;
 use hdmi_parts::blocks_of;
@@ -14,6 +14,8 @@ use hdmi_parts::blocks_of;
 const CTA_TAG: u8 = 0x02;
 /// The only revision of a CTA block whose parts are told apart.
 const CTA_REVISION: u8 = 3;
+/// The extended tag of a video capability block.
+const VIDEO_CAPABILITY: u8 = 0x00;
 /// The sorts of data blocks of which an extension has one at most.
 pub const SORTS: [Sort; 6] = [
     Sort::VideoCapability,
@@ -102,6 +104,36 @@ pub fn some_repeated(extensions: &[Ext]) -> bool
     ensures { result ≡ list_any repeats_block extensions.now }
 {
     extensions.iter().any(|ext| repeats_block(ext))
+}
+
+/// Whether it is a video capability block after which the range of YCbCr values can't be chosen.
+pub fn fixes_ycc_range(block: &DataBlock) -> bool
+    ensures { result ≡ fixes_ycc_range block.now }
+{
+    let payload = block.payload.as_slice();
+    has_extended_tag(VIDEO_CAPABILITY, block) && 1 < payload.len() && payload[1] < 128
+}
+
+fn some_ycc_fixer(blocks: &[DataBlock]) -> bool
+    ensures { result ≡ list_any fixes_ycc_range blocks.now }
+{
+    blocks.iter().any(|block| fixes_ycc_range(block))
+}
+
+fn has_fixed_ycc(ext: &Ext) -> bool
+    ensures { result ≡ has_fixed_ycc ext.now }
+{
+    match ext {
+        Ext::Cta(cta) => 0 < cta.flags / 16 % 4 && some_ycc_fixer(cta.blocks.as_slice()),
+        Ext::Bare(_) | Ext::Raw(_) => false,
+    }
+}
+
+/// Whether some CTA block has YCbCr and a range of its values that can't be chosen.
+pub fn some_fixed_ycc(extensions: &[Ext]) -> bool
+    ensures { result ≡ list_any has_fixed_ycc extensions.now }
+{
+    extensions.iter().any(|ext| has_fixed_ycc(ext))
 }
 
 fn some_override(blocks: &[DataBlock]) -> bool

@@ -126,6 +126,35 @@ fn asked_of_extensions(rule: Rule) -> &'static str {
         Rule::ForumRates => {
             "the least rate of variable refresh is at most 48 Hz; the greatest is 0, or 100 Hz and more with a least one (HDMI 2.1, 10.3.2)"
         }
+        Rule::MapWithinCodes => {
+            "the 4:2:0 map has a bit for each video code at most (CTA-861-G, 7.5.11)"
+        }
+        Rule::FastYcc420 => {
+            "a format in 4:2:0 has a pixel clock of 590 MHz at least (HDMI 2.1, 7.1)"
+        }
+        Rule::YccRange => {
+            "bit 7 of a video capability block is set where the flags have YCbCr: the range of its values can be chosen (CTA-861-G, 7.5.6)"
+        }
+        Rule::LatencyOrder => {
+            "the audio latency of an HDMI block is at most 20 ms above the video latency (HDMI 1.4, 8.3.2)"
+        }
+        Rule::FormatsWithinLimits => {
+            "video codes, established and standard timings are within the range limits (E-EDID A, 3.10.3.3)"
+        }
+        Rule::FormatsNearLimits => {
+            "video codes, established and standard timings are within the range limits; in 1.4 they may be outside (E-EDID 1.4, 3.10.3.3)"
+        }
+        Rule::TextForm => {
+            "a name, a text and a serial number are printable characters, with a line feed and spaces after fewer than 13 (E-EDID A, 3.10.3)"
+        }
+        Rule::WeekKnown => { "a week is at most 54, or 255 (E-EDID 1.4, 3.4.4)" }
+        Rule::YearKnown => { "a display is made before 2051" }
+        Rule::SrgbGamma => {
+            "where bit 2 of the features says sRGB, the gamma is 2.2, a byte of 120 (E-EDID A, 3.6.3, 3.6.4)"
+        }
+        Rule::InputKnown => {
+            "of a digital input bits 6 to 1 are clear in 1.3; in 1.4 bits 6 to 4 are at most 6, and bits 3 to 0 at most 5 (E-EDID A, 3.6.1; 1.4, 3.6.1)"
+        }
         _ => "",
     }
 }
@@ -150,10 +179,10 @@ fn asked_of_timing(rule: TimingRule) -> &'static str {
             "the image is at most 9 mm larger than the display, and not more than 9 mm smaller both ways (E-EDID A, 3.10.2, 3.6.2)"
         }
         TimingRule::WithinLimits => {
-            "the field rate and the line rate are within the range limits (E-EDID A, 3.10.3.3)"
+            "the field rate, the line rate and the pixel clock are within the range limits (E-EDID A, 3.10.3.3)"
         }
         TimingRule::NearLimits => {
-            "the field rate and the line rate are within the range limits; in 1.4 a timing may be outside (E-EDID 1.4, 3.10.3.3)"
+            "the field rate, the line rate and the pixel clock are within the range limits; in 1.4 a timing may be outside (E-EDID 1.4, 3.10.3.3)"
         }
     }
 }

@@ -6,6 +6,7 @@
 mod asked;
 mod blocks;
 mod explanation;
+mod formats;
 mod hints;
 mod places;
 mod values;

@@ -1,4 +1,5 @@
 //! Descriptors, standard timings and data blocks at fault: which they are, and what stands in them.
+use hdmi_contents::is_ill_text;
 use hdmi_cta::{BlockKind, DataBlock, Ext};
 use hdmi_edid::{Base, StandardTiming, are_zeros};
 use hdmi_parts::some_ill_padding;
@@ -27,6 +28,18 @@ pub fn empty_reported(alloc: Global, base: &Base) -> Result<Option<String>, Allo
         number = number.saturating_add(1);
         let bytes = descriptor.write();
         if are_zeros(&bytes) {
+            return Ok(Some(format!(in alloc; "descriptor {number}")?));
+        }
+    }
+    Ok(None)
+}
+
+/// The first descriptor that is no text in spite of its tag, from 1.
+pub fn ill_text_reported(alloc: Global, base: &Base) -> Result<Option<String>, AllocError> {
+    let mut number = 0_u8;
+    for descriptor in &base.descriptors {
+        number = number.saturating_add(1);
+        if is_ill_text(descriptor) {
             return Ok(Some(format!(in alloc; "descriptor {number}")?));
         }
     }

@@ -5,9 +5,10 @@ use crate::blocks::{
     extension_reported, override_count_reported, override_reported, repeated_block_reported,
     slip_reported,
 };
+use crate::formats::{format_reported, map_reported, range_reported, slow_reported};
 use crate::places::{
-    capability_reported, empty_reported, padding_reported, speakers_reported, tmds_reported,
-    unused_reported,
+    capability_reported, empty_reported, ill_text_reported, padding_reported, speakers_reported,
+    tmds_reported, unused_reported,
 };
 use hdmi_check::{Finding, Rule, TimingRule};
 use hdmi_contents::Slip;
@@ -15,7 +16,8 @@ use hdmi_core::Phys;
 use hdmi_cta::{Ext, hdmi_address};
 use hdmi_edid::{Base, Descriptor, Timing};
 use hdmi_native::{Picture, differs, native_pictures};
-use hdmi_parts::{field_span, hdmi_count, line_span, native_count, timings_of, video_codes};
+use hdmi_parts::{hdmi_count, native_count, timings_of, video_codes};
+use hdmi_rates::{field_span, line_span};
 use std::alloc::{AllocError, Global};
 
 /// The clock's units, 10 kHz, that are a MHz.
@@ -150,6 +152,7 @@ fn slip_of(rule: Rule) -> Option<Slip> {
         Rule::ForumClock => Some(Slip::ForumClock),
         Rule::ForumScdc => Some(Slip::ForumScdc),
         Rule::ForumRates => Some(Slip::ForumRates),
+        Rule::LatencyOrder => Some(Slip::Latency),
         _ => None,
     }
 }
@@ -169,7 +172,7 @@ fn reported_of_edid(
             Ok(Some(format!(in alloc; "features {features:02x}")?))
         }
         Rule::LimitsOrder => limits_reported(alloc, base),
-        Rule::Week => {
+        Rule::Week | Rule::WeekKnown => {
             let week = base.week;
             Ok(Some(format!(in alloc; "week {week}")?))
         }
@@ -191,6 +194,25 @@ fn reported_of_edid(
         Rule::Padding => padding_reported(alloc, extensions),
         Rule::RgbRange => capability_reported(alloc, extensions),
         Rule::TmdsClock => tmds_reported(alloc, extensions),
+        Rule::MapWithinCodes => map_reported(alloc, extensions),
+        Rule::FastYcc420 => slow_reported(alloc, extensions),
+        Rule::YccRange => range_reported(alloc, extensions),
+        Rule::FormatsWithinLimits | Rule::FormatsNearLimits => {
+            format_reported(alloc, base, extensions)
+        }
+        Rule::TextForm => ill_text_reported(alloc, base),
+        Rule::YearKnown => {
+            let year = base.year;
+            Ok(Some(format!(in alloc; "year {year}")?))
+        }
+        Rule::SrgbGamma => {
+            let gamma = base.gamma;
+            Ok(Some(format!(in alloc; "gamma {gamma}")?))
+        }
+        Rule::InputKnown => {
+            let input = base.input;
+            Ok(Some(format!(in alloc; "input {input:02x}")?))
+        }
         Rule::BlockOnce => repeated_block_reported(alloc, extensions),
         Rule::OverrideFirst => override_reported(alloc, extensions),
         Rule::OverrideCount => override_count_reported(alloc, base.extensions, extensions),
@@ -210,9 +232,14 @@ fn reported_of_edid(
 }
 
 /// The clock in MHz to two places.
-fn clock_reported(alloc: Global, timing: &Timing) -> Result<String, AllocError> {
+fn clock_text(alloc: Global, timing: &Timing) -> Result<String, AllocError> {
     let (whole, part) = (timing.clock / UNITS_A_MHZ, timing.clock % UNITS_A_MHZ);
-    format!(in alloc; "clock {whole}.{part:02} MHz")
+    format!(in alloc; "{whole}.{part:02} MHz")
+}
+
+fn clock_reported(alloc: Global, timing: &Timing) -> Result<String, AllocError> {
+    let clock = clock_text(alloc, timing)?;
+    format!(in alloc; "clock {clock}")
 }
 
 /// The first field that is 0 and that a picture needs.
@@ -276,7 +303,8 @@ fn rates_reported(alloc: Global, timing: &Timing) -> Result<String, AllocError> 
     let clock = u64::from(timing.clock);
     let (hertz, part) = parts_of(clock * 20_000, pixels.saturating_mul(half_lines));
     let (kilohertz, more) = parts_of(clock * 10, pixels);
-    format!(in alloc; "{hertz}.{part:03} Hz, {kilohertz}.{more:03} kHz")
+    let megahertz = clock_text(alloc, timing)?;
+    format!(in alloc; "{hertz}.{part:03} Hz, {kilohertz}.{more:03} kHz, {megahertz}")
 }
 
 /// The values by which a timing breaks a rule.

@@ -15,7 +15,7 @@ use hdmi_cta::{BlockKind, DataBlock, Ext};
 pub const MAX_CODES: usize = 369;
 
 /// The code that a byte lists, whether it is marked as native or not.
-fn code_of(svd: u8) -> u8
+pub fn code_of(svd: u8) -> u8
     ensures { result ≡ code_of svd }
 {
     match svd {

@@ -5,8 +5,6 @@ mod base_parts;
 mod block_parts;
 mod codes;
 mod ext_parts;
-mod limits;
-mod span;
 mod timings;
 
 pub use base_parts::{
@@ -15,11 +13,9 @@ pub use base_parts::{
     some_tagged,
 };
 pub use block_parts::{Sought, hdmi_codes, is_forum, is_speakers};
-pub use codes::{MAX_CODES, repeats, some_lone_code, video_codes};
+pub use codes::{MAX_CODES, code_of, repeats, some_lone_code, video_codes};
 pub use ext_parts::{
     begins_with_map, blocks_of, hdmi_count, native_count, some_block, some_cta, some_forum_first,
     some_hidden_sound, some_ill_padding, some_native, some_overscan,
 };
-pub use limits::{field_span, has_reversed_limits, is_out_of_range, line_span};
-pub use span::Span;
 pub use timings::{MAX_TIMINGS, timings_of};

@@ -127,16 +127,16 @@ const SOUND: [&str; 4] = [
     "00ffffffffffff004c2d0201010000000a15010380341d78",
     "ee91a3544c99260f505420000001010101010101010101010101010101023a801871382d40582c450008222100001e011d007251d01e206e28550008222100001e000000fc004c4f554e47452054560a202020000000fd00173d0f440f000a20202020202001",
     "02031af1",
-    "4490040301230907078301000065030c000000e2004f",
+    "4490040301230907078301000065030c000000e200cf",
 ];
 
 /// The features, the first checksum, the flags, the second checksum, the status, and what is written, with `;` for a line
 /// feed. Without the bit of sRGB its chromaticities are at fault; without underscan there is a warning.
 const CHECKED: &str = "\
-0e d4 f1 b1 => 0 => 
-0a d8 f1 b1 => 5 => fail srgb;
-0e d4 71 31 => 0 => warn overscan;
-0a d8 71 31 => 5 => fail srgb;warn overscan;
+0e d4 f1 31 => 0 => 
+0a d8 f1 31 => 5 => fail srgb;
+0e d4 71 b1 => 0 => warn overscan;
+0a d8 71 b1 => 5 => fail srgb;warn overscan;
 ";
 
 /// The bytes of the display with these features, checksums and flags.
@@ -179,9 +179,9 @@ fn reports_the_rules_that_are_broken(rt: HostRuntime) {
 
 /// What follows a fault of a rule, or nothing where none is one, with `--explain`: what each rule asks, and the values at fault.
 const EXPLAINED: &str = "\
-0e d4 f1 b1 => 0 => 
-0a d8 f1 b1 => 5 => hdminet: edid: a rule fails;fail srgb;  bit 2 of the features is set exactly where the chromaticities are those of sRGB (E-EDID A, 3.6.4);  here: features 0a;
-0e d4 71 31 => 0 => warn overscan;  bit 7 of a CTA block's flags is set: formats of computers are shown whole (CTA-861-D, 7.5);  here: flags 71;
+0e d4 f1 31 => 0 => 
+0a d8 f1 31 => 5 => hdminet: edid: a rule fails;fail srgb;  bit 2 of the features is set exactly where the chromaticities are those of sRGB (E-EDID A, 3.6.4);  here: features 0a;
+0e d4 71 b1 => 0 => warn overscan;  bit 7 of a CTA block's flags is set: formats of computers are shown whole (CTA-861-D, 7.5);  here: flags 71;
 ";
 
 #[test]
@@ -200,7 +200,7 @@ fn explains_the_rules_that_are_broken(rt: HostRuntime) {
 /// The rule that the address of a port is not the root's, which an EDID that is passed on may break.
 #[test]
 fn checks_what_is_passed_on(rt: HostRuntime) {
-    let bytes = display(&rt, "0e d4 f1 b1");
+    let bytes = display(&rt, "0e d4 f1 31");
     gives(&rt, "edid --check --port 2", "a port", &bytes, "");
     let reported = reported_of(
         &rt,

@@ -1,37 +1,35 @@
-//! The rates of a detailed timing, and the limits that a display has for them.
+//! How fast a format is, and the limits that a display has for that.
 ghost use Rattle.std.specs.Prelude.{◌≡◌, ◌<◌, ◌^◌};
-ghost use Rattle.hdmi_parts.specs.Limits.{line_pixels, half_lines, is_reversed, limits_rates, is_outside, raised_span, field_span, line_span, has_reversed, has_reversed_limits, is_field_rate_outside, is_line_rate_outside, excludes, is_out_of_range};
+ghost use Rattle.hdmi_rates.specs.Limits.{timing_pace, is_reversed, limits_rates, is_outside, raised_span, field_span, line_span, has_reversed, has_reversed_limits, is_field_rate_outside, is_line_rate_outside, is_clock_above, excludes, is_out_of_range};
 
+use crate::pace::Pace;
 use crate::span::Span;
 use hdmi_edid::{Base, Descriptor, RangeLimits, Revision, Timing};
 
 /// What bits of 1.4 add to a rate.
 const OFFSET: u64 = 255;
-/// The half lines of a second's fields to the clock's units: 10,000 pixels, twice.
-const HALF_LINE_CLOCK: u64 = 20_000;
-/// The clock's units, 10,000 pixels, to a thousand lines.
-const LINE_CLOCK: u64 = 10;
+/// The half lines of a second's fields to the clock's units: 1,000 pixels, twice.
+const HALF_LINE_CLOCK: u64 = 2000;
+/// The unit of a detailed timing's clock in kHz.
+const TIMING_CLOCK: u32 = 10;
+/// The unit of the greatest clock in kHz.
+const CLOCK_UNIT: u32 = 10_000;
 /// Flags from here on say that a picture is two fields.
 const INTERLACED: u8 = 128;
 
-/// The pixels of a line.
-fn line_pixels(timing: &Timing) -> u64
-    ensures value { result ≡ line_pixels timing.now }
-    ensures small { result < 8192 }
+/// How fast a detailed timing is.
+pub fn timing_pace(timing: &Timing) -> Pace
+    ensures { result ≡ timing_pace timing.now }
 {
-    u64::from(timing.horizontal_active) + u64::from(timing.horizontal_blanking)
-}
-
-/// The half lines of a field.
-fn half_lines(timing: &Timing) -> u64
-    ensures value { result ≡ half_lines timing.now }
-    ensures small { result < 16384 }
-{
-    let lines = u64::from(timing.vertical_active) + u64::from(timing.vertical_blanking);
-    if timing.flags < INTERLACED {
-        2 * lines
-    } else {
-        2 * lines + 1
+    let lines = timing.vertical_active + timing.vertical_blanking;
+    Pace {
+        clock: u32::from(timing.clock) * TIMING_CLOCK,
+        pixels: timing.horizontal_active + timing.horizontal_blanking,
+        half_lines: if timing.flags < INTERLACED {
+            2 * lines
+        } else {
+            2 * lines + 1
+        },
     }
 }
 
@@ -43,17 +41,17 @@ fn is_reversed(span: Span) -> bool
 }
 
 /// Whether a span limits rates: a greatest rate of 0 limits none, nor do limits that are reversed.
-fn limits_rates(span: Span) -> bool
+pub fn limits_rates(span: Span) -> bool
     ensures { result ≡ limits_rates span }
 {
     0 < span.greatest && !is_reversed(span)
 }
 
 /// Whether a rate of `count` by `per` is one unit and more outside a span.
-fn is_outside(span: Span, count: u64, per: u64) -> bool
+pub fn is_outside(span: Span, count: u64, per: u64) -> bool
     requires least { span.least < 512 }
     requires greatest { span.greatest < 512 }
-    requires count_fits { count < 2 ^ 32 }
+    requires count_fits { count < 2 ^ 48 }
     requires per_fits { per < 2 ^ 32 }
     ensures { result ≡ is_outside span count per }
 {
@@ -122,44 +120,52 @@ pub fn has_reversed_limits(base: &Base) -> bool
         .any(|descriptor| has_reversed(base.revision, descriptor))
 }
 
-fn is_field_rate_outside(revision: Revision, limits: &RangeLimits, timing: &Timing) -> bool
-    ensures { result ≡ is_field_rate_outside revision limits.now.bytes timing.now }
+fn is_field_rate_outside(revision: Revision, limits: &RangeLimits, pace: Pace) -> bool
+    ensures { result ≡ is_field_rate_outside revision limits.now.bytes pace }
 {
     is_outside(
         field_span(revision, limits),
-        u64::from(timing.clock) * HALF_LINE_CLOCK,
-        line_pixels(timing) * half_lines(timing),
+        u64::from(pace.clock) * HALF_LINE_CLOCK,
+        u64::from(pace.pixels) * u64::from(pace.half_lines),
     )
 }
 
-fn is_line_rate_outside(revision: Revision, limits: &RangeLimits, timing: &Timing) -> bool
-    ensures { result ≡ is_line_rate_outside revision limits.now.bytes timing.now }
+fn is_line_rate_outside(revision: Revision, limits: &RangeLimits, pace: Pace) -> bool
+    ensures { result ≡ is_line_rate_outside revision limits.now.bytes pace }
 {
     is_outside(
         line_span(revision, limits),
-        u64::from(timing.clock) * LINE_CLOCK,
-        line_pixels(timing),
+        u64::from(pace.clock),
+        u64::from(pace.pixels),
     )
 }
 
-/// Whether a descriptor has limits that a timing is outside of.
-fn excludes(revision: Revision, timing: &Timing, descriptor: &Descriptor) -> bool
-    ensures { result ≡ excludes revision timing.now descriptor.now }
+/// Whether a clock is a unit and more above the greatest, where there is one.
+fn is_clock_above(most: u8, pace: Pace) -> bool
+    ensures { result ≡ is_clock_above most pace }
+{
+    0 < most && most < 255 && (u32::from(most) + 1) * CLOCK_UNIT <= pace.clock
+}
+
+/// Whether a descriptor has limits that a format is outside of.
+fn excludes(revision: Revision, pace: Pace, descriptor: &Descriptor) -> bool
+    ensures { result ≡ excludes revision pace descriptor.now }
 {
     match descriptor {
         Descriptor::Range(limits) => {
-            is_field_rate_outside(revision, limits, timing)
-                || is_line_rate_outside(revision, limits, timing)
+            is_field_rate_outside(revision, limits, pace)
+                || is_line_rate_outside(revision, limits, pace)
+                || is_clock_above(limits.bytes[5], pace)
         }
         _ => false,
     }
 }
 
-/// Whether a timing is outside the range limits of a base block by a unit or more.
-pub fn is_out_of_range(base: &Base, timing: &Timing) -> bool
-    ensures { result ≡ is_out_of_range base.now timing.now }
+/// Whether a format is outside the range limits of a base block by a unit or more.
+pub fn is_out_of_range(base: &Base, pace: Pace) -> bool
+    ensures { result ≡ is_out_of_range base.now pace }
 {
     base.descriptors
         .iter()
-        .any(|descriptor| excludes(base.revision, timing, descriptor))
+        .any(|descriptor| excludes(base.revision, pace, descriptor))
 }

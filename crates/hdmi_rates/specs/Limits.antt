@@ -1,4 +1,4 @@
--- The rates of a detailed timing (E-EDID Release A, section 3.10.2) and the limits that a display has for them (section 3.10.3.3).
+-- How fast a format is (E-EDID Release A, section 3.10.2), and the limits that a display has for that (section 3.10.3.3).
 use Rattle.std.specs.Prelude.{ℕ, ◌+◌, ◌*◌, ◌/◌, ◌%◌, ◌==◌, Bool, false, ◌&&◌, ◌||◌, not, nat_lt, nat_le, if◌then◌else◌, List, slice_index}
 use Rattle.std.specs.List.{list_any}
 use Rattle.hdmi_edid.specs.declared.base.Base.{Base}
@@ -7,17 +7,20 @@ use Rattle.hdmi_edid.specs.declared.base.Revision.TheVariants.{Three, Four}
 use Rattle.hdmi_edid.specs.declared.descriptor.Descriptor.{Descriptor}
 use Rattle.hdmi_edid.specs.declared.descriptor.Descriptor.TheVariants.{Range}
 use Rattle.hdmi_edid.specs.declared.timing.Timing.{Timing}
-use Rattle.hdmi_parts.specs.declared.span.Span.{Span}
+use Rattle.hdmi_rates.specs.declared.pace.Pace.{Pace}
+use Rattle.hdmi_rates.specs.declared.span.Span.{Span}
 
--- ---- rates
-
--- the pixels of a line, blanking among them
-abbrev pub line_pixels : Timing → ℕ
-line_pixels t = t.horizontal_active + t.horizontal_blanking
+-- ---- how fast
 
 -- the half lines of a field: bit 7 of the flags says that a picture is two fields, each half a line longer
 abbrev pub half_lines : Timing → ℕ
 half_lines t = if nat_lt t.flags 128 then 2 * (t.vertical_active + t.vertical_blanking) else 2 * (t.vertical_active + t.vertical_blanking) + 1
+
+-- the clock of a timing is in units of 10 kHz, and blanking counts
+abbrev pub timing_pace : Timing → Pace
+timing_pace t = record { clock = t.clock * 10; pixels = t.horizontal_active + t.horizontal_blanking; half_lines = half_lines t }
+
+-- ---- spans
 
 -- the greatest is below the least
 abbrev pub is_reversed : Span → Bool
@@ -58,17 +61,21 @@ has_reversed_limits b = list_any (has_reversed b.revision) b.descriptors
 
 -- ---- both
 
--- the clock counts 10,000 pixels a second
-abbrev pub is_field_rate_outside : Revision → List ℕ → Timing → Bool
-is_field_rate_outside r l t = is_outside (field_span r l) (t.clock * 20000) (line_pixels t * half_lines t)
+-- a clock of one unit and more above the greatest, in units of 10 MHz, where there is one: 0 and 255 limit nothing
+abbrev pub is_clock_above : ℕ → Pace → Bool
+is_clock_above most p = nat_lt 0 most && nat_lt most 255 && nat_le ((most + 1) * 10000) p.clock
 
-abbrev pub is_line_rate_outside : Revision → List ℕ → Timing → Bool
-is_line_rate_outside r l t = is_outside (line_span r l) (t.clock * 10) (line_pixels t)
+-- the clock counts thousands of pixels a second
+abbrev pub is_field_rate_outside : Revision → List ℕ → Pace → Bool
+is_field_rate_outside r l p = is_outside (field_span r l) (p.clock * 2000) (p.pixels * p.half_lines)
 
-abbrev pub excludes : Revision → Timing → Descriptor → Bool
-excludes r t (Range l) = is_field_rate_outside r l.bytes t || is_line_rate_outside r l.bytes t
-excludes r t _ = false
+abbrev pub is_line_rate_outside : Revision → List ℕ → Pace → Bool
+is_line_rate_outside r l p = is_outside (line_span r l) p.clock p.pixels
 
--- beyond the range limits of the base block by a unit or more: 1 Hz for fields, 1 kHz for lines
-abbrev pub is_out_of_range : Base → Timing → Bool
-is_out_of_range b t = list_any (excludes b.revision t) b.descriptors
+abbrev pub excludes : Revision → Pace → Descriptor → Bool
+excludes r p (Range l) = is_field_rate_outside r l.bytes p || is_line_rate_outside r l.bytes p || is_clock_above (slice_index l.bytes 5) p
+excludes r p _ = false
+
+-- beyond the range limits of the base block by a unit or more: 1 Hz for fields, 1 kHz for lines, 10 MHz for the clock
+abbrev pub is_out_of_range : Base → Pace → Bool
+is_out_of_range b p = list_any (excludes b.revision p) b.descriptors

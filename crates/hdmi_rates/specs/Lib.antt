@@ -1,0 +1,4 @@
+pub mod Limits
+pub mod Paces
+pub mod Formats
+pub mod Maps
