@@ -211,7 +211,8 @@ pub const CHECK_VALUES: &[(&str, &str, &str)] = &[
 ];
 
 pub const CHECK_RULES: &str = "
-  of --trace, --plain, --json and --capture one is given at most, but for --json with --capture
+  of --trace, --plain and --capture one is given at most; --json goes with --trace or --capture, and not
+  with --plain
   --from, --signal and --glitch go with --capture alone; --from takes edges, vcd, pin or csv; --glitch a
   number of microseconds; --signal goes with vcd and csv alone
 ";

@@ -1,5 +1,5 @@
 -- What the program does for a choice, an input and what it writes (own).
-use Rattle.std.specs.Prelude.{◌≡◌, ℕ, Bool, true, if◌then◌else◌, ◌⊎◌, List, take, Option, None, IfSome, MatchOption, codes}
+use Rattle.std.specs.Prelude.{◌≡◌, ℕ, Bool, true, false, if◌then◌else◌, ◌⊎◌, List, take, Option, None, IfSome, MatchOption, codes}
 use Rattle.std.specs.Str.{bytes_eq}
 use Rattle.std.specs.List.{flat_map}
 use Rattle.std.specs.Io.KnownBytes.{Appends}
@@ -26,7 +26,7 @@ use Rattle.hdminet_words.specs.declared.choice.Objects.TheVariants as of
 use Rattle.hdminet_words.specs.declared.choice.Listing.{Listing}
 use Rattle.hdminet_words.specs.declared.choice.Listing.TheVariants.{Trace, Edges, Vcd, Pin, Csv, Drives}
 use Rattle.hdminet_words.specs.declared.choice.TestView.{TestView}
-use Rattle.hdminet_words.specs.declared.choice.TestView.TheVariants.{Report}
+use Rattle.hdminet_words.specs.declared.choice.TestView.TheVariants.{Report, Traced}
 use Rattle.hdminet_program.specs.CaptureTests.{IsCaptureTest}
 use Rattle.hdminet_program.specs.Captures.{IsHeard, form_of, name_of, report_of}
 use Rattle.hdminet_program.specs.Edids.{IsShown, IsRead}
@@ -81,11 +81,16 @@ IsListed Pin input text totals = IsLineDone formats.Pin input text totals
 IsListed Csv input text totals = IsLineDone formats.Csv input text totals
 IsListed Drives input text totals = IsDrivenDone input text totals
 
+-- a report, with its trace or without
+abbrev pub report_view : Bool → TestView
+report_view false = Report
+report_view true = Traced
+
 -- the lines of which there are objects
 abbrev pub AreLines : Objects → List ℕ → List ℕ → List ℕ → Type 0
 AreLines (of.Trace strict) name input text = (totals : Totals) × IsRunDone input text totals × (strict ≡ true → totals.refused ≡ 0)
 AreLines (of.Capture form glitch report) name input text = IsHeard (form_of form input) name glitch (report_of report (form_of form input)) input text
-AreLines of.Test name input text = IsTestDone Report input text
+AreLines (of.Test traced) name input text = IsTestDone (report_view traced) input text
 AreLines (of.CaptureTest form glitch) name input text = IsCaptureTest form name glitch input text
 
 -- they are written, and nothing else
@@ -100,7 +105,7 @@ report_kind lines = if bytes_eq (take 3 lines) (codes "TAP") then kinds.Expectat
 abbrev pub AreObjectsOf : Objects → List ℕ → List ℕ → Type 0
 AreObjectsOf (of.Trace strict) lines text = AreObjects (lines_of lines) text
 AreObjectsOf (of.Capture form glitch report) lines text = AreObjects (lines_of lines) text
-AreObjectsOf of.Test lines text = AreReportObjects (report_kind lines) (lines_of lines) text
+AreObjectsOf (of.Test traced) lines text = AreReportObjects (report_kind lines) (lines_of lines) text
 AreObjectsOf (of.CaptureTest form glitch) lines text = AreReportObjects kinds.Expectations (lines_of lines) text
 
 -- they are written, and nothing else

@@ -17,7 +17,7 @@ use hdminet_words::{Choice, Objects, Source};
 /// What the input of a choice is to be.
 pub fn input_of(choice: Choice) -> Input {
     match choice {
-        Choice::Check(_) | Choice::Json(Objects::Test) => Input::Test,
+        Choice::Check(_) | Choice::Json(Objects::Test { .. }) => Input::Test,
         Choice::CheckCapture { .. } | Choice::Json(Objects::CaptureTest { .. }) => {
             Input::CaptureTest
         }

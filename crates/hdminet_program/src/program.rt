@@ -2,7 +2,7 @@
 ghost use Rattle.std.specs.Prelude.{◌≡◌, ◌≢◌, ◌<◌, true, [], OnOk, IfOk, Ok, map, string_bytes};
 ghost use Rattle.std.specs.Io.KnownBytes.{Keeps};
 ghost use Rattle.hdmi_core.specs.Buffered.{below};
-ghost use Rattle.hdminet_program.specs.Done.{AreServed, IsAllOf, IsHelp, IsServed, Writes, WritesLine, WritesLines, WritesObjects, report_kind};
+ghost use Rattle.hdminet_program.specs.Done.{AreServed, IsAllOf, IsHelp, IsServed, Writes, WritesLine, WritesLines, WritesObjects, report_kind, report_view};
 ghost use Rattle.hdminet_program.specs.CaptureTests.{WritesCaptureTest};
 ghost use Rattle.hdminet_program.specs.Captures.{name_of};
 ghost use Rattle.hdminet_program.specs.Live.{Lives};
@@ -57,7 +57,7 @@ fn limit_of(choice: Choice) -> usize {
         | Choice::CheckCapture { form: None, .. }
         | Choice::Json(
             Objects::Trace { .. }
-            | Objects::Test
+            | Objects::Test { .. }
             | Objects::Capture { form: None, .. }
             | Objects::CaptureTest { form: None, .. },
         )
@@ -209,6 +209,17 @@ fn assemble<W: Sink>(input: &[u8], out: &mut W) -> Result<Option<Totals>, Progra
     Ok(None)
 }
 
+// A report, with its trace or without.
+fn report_view(traced: bool) -> TestView
+    ensures { result ≡ report_view traced }
+{
+    if traced {
+        TestView::Traced
+    } else {
+        TestView::Report
+    }
+}
+
 // Writes the lines whose objects are asked for.
 fn write_lines<W: Sink>(
     alloc: Global,
@@ -229,7 +240,7 @@ fn write_lines<W: Sink>(
             monitor(alloc, form, signal, glitch, report, input, out)?;
             Ok(None)
         }
-        Objects::Test => test(alloc, TestView::Report, input, out),
+        Objects::Test { traced } => test(alloc, report_view(traced), input, out),
         Objects::CaptureTest { form, glitch } => {
             test_capture(alloc, form, signal, glitch, input, out)
         }
@@ -258,7 +269,7 @@ fn write_objects_of<W: Sink>(
     match objects {
         Objects::Trace { .. } => Ok(write_objects(lines, out)?),
         Objects::Capture { .. } => Ok(write_objects(lines, out)?),
-        Objects::Test => Ok(write_report_objects(report_kind(lines), lines, out)?),
+        Objects::Test { .. } => Ok(write_report_objects(report_kind(lines), lines, out)?),
         Objects::CaptureTest { .. } => {
             Ok(write_report_objects(ReportKind::Expectations, lines, out)?)
         }

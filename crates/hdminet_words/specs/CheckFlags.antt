@@ -76,10 +76,10 @@ of_capture flags =
     if flags.plain || flags.trace || (flags.named && not (has_names flags.form)) then None
     else Some (capture_choice flags.json flags.form (unwrap_or flags.glitch 0))
 
--- what is written of a test of a run; objects are those of its report alone
+-- what is written of a test of a run; objects are those of its report, with its trace or without
 abbrev pub run_choice : Bool → TestView → Option Choice
-run_choice true Report = Some (Json objects.Test)
-run_choice true Traced = None
+run_choice true Report = Some (Json (objects.Test false))
+run_choice true Traced = Some (Json (objects.Test true))
 run_choice true Plain = None
 run_choice false view = Some (Check view)
 

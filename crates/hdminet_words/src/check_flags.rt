@@ -179,12 +179,13 @@ fn of_capture(flags: &CheckFlags) -> Option<Choice>
     Some(capture_choice(flags.json, flags.form, flags.glitch.unwrap_or(0)))
 }
 
-// What is written of a test of a run. Objects are those of its report alone.
+// What is written of a test of a run. Objects are those of its report, with its trace or without.
 fn run_choice(json: bool, view: TestView) -> Option<Choice>
     ensures { result ≡ run_choice json view }
 {
     match view {
-        TestView::Report if json => Some(Choice::Json(Objects::Test)),
+        TestView::Report if json => Some(Choice::Json(Objects::Test { traced: false })),
+        TestView::Traced if json => Some(Choice::Json(Objects::Test { traced: true })),
         _ if json => None,
         view => Some(Choice::Check(view)),
     }

@@ -68,8 +68,10 @@ pub enum Objects {
         glitch: u64,
         report: Option<Report>,
     },
-    /// The lines of the report of a test of a run.
-    Test,
+    /// The lines of the report of a test of a run, with its trace after it or without.
+    Test {
+        traced: bool,
+    },
     /// The lines of the report of a test of a capture.
     CaptureTest {
         form: Option<Form>,

@@ -132,8 +132,9 @@ mon --json --json
 step --json
 live --json
 live room.net
-check --json --trace
 check --plain --json
+check --json --trace --plain
+check --json --trace --capture
 check --json --json
 check --from vcd
 check --signal CEC

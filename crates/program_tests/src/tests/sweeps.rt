@@ -223,6 +223,24 @@ const POLL_OBJECTS: &str = "\
 {\"line\":\"1..1\",\"type\":\"plan\",\"tests\":1}
 ";
 
+/// Of a script without expectations, with its trace.
+const TRACED_OBJECTS: &str = "\
+{\"line\":\"TAP version 13\",\"type\":\"version\",\"version\":13}
+{\"line\":\"1..0\",\"type\":\"plan\",\"tests\":0}
+{\"line\":\"# trace\",\"type\":\"trace\"}
+{\"line\":\"# state tv tv - 0.0.0.0 on active=- path=- deck=1a menu=off audio=off volume=20 mute=off arc=off sel=- lang=656e67 osd=- held=- heard=- sub=- queue=0 dropped=0\",\"type\":\"state\",\"device\":\"tv\",\"kind\":\"tv\",\"logical_addresses\":[null],\"physical_address\":\"0.0.0.0\",\"power\":\"on\",\"active_source\":null,\"path\":null,\"deck\":\"1a\",\"menu\":false,\"system_audio\":false,\"volume\":20,\"mute\":false,\"audio_return_channel\":false,\"selected_port\":null,\"menu_language\":\"656e67\",\"osd_text\":null,\"held_key\":null,\"heard\":null,\"subscriber\":null,\"queued\":0,\"dropped\":0}
+{\"line\":\"# 10 end\",\"type\":\"end\",\"at\":10}
+";
+
+#[test]
+fn a_trace_after_a_report_is_objects(rt: HostRuntime) {
+    let input = over_television(&rt, "end 10");
+    let input = input.as_str().as_bytes();
+    for line in ["check --json --trace", "check --trace --json"] {
+        gives(&rt, line, "a report and its trace", input, TRACED_OBJECTS);
+    }
+}
+
 #[test]
 fn reports_are_objects(rt: HostRuntime) {
     let input = over_television(&rt, POLL);
