@@ -156,6 +156,10 @@ impl ProgramFault {
             | ProgramFault::Emulate(EmulateError::Memory)
             | ProgramFault::Session(SessionError::Memory)
             | ProgramFault::Capture(CaptureError::Memory)
+            | ProgramFault::AtInstant {
+                error: CheckError::Emulate(EmulateError::Memory),
+                ..
+            }
             | ProgramFault::TextToHex(TextToHexError::Memory) => 4,
             ProgramFault::NoScriptLine
             | ProgramFault::NoStepsLine
