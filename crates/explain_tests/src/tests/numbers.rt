@@ -11,7 +11,7 @@ run => device tv tv 4;script;pulse 5 10001;end 90000; => WIDTH is a number of mi
 run => device tv tv 4;script;pulse 100000 10;pulse 125009 10;end 900000; => a pulse begins at least 25000 microseconds after
 run => device tv tv 1;script;pulse 1000000 600;end 1200000; =>   rounds 3, complete rounds 2, refused events 0
 check => device tv tv 1;script;at 5..1000000000001 press tv mute;end 9; => T and U of at most 1000000000000 microseconds, S at least 1;
-check => device tv tv 1;script;expect none short * * * * *;end 9; => PATTERN has 1 to 160 bytes and at most four `*`
+check => device tv tv 1;script;expect none short * * * * *;end 9; => PATTERN has 1 to 160 bytes, at most four `*` and no space at an end
 asm => 4>0 op-01 :000102030405060708090a0b0c0d0e; => at most 14 operands, so at most 28 hex digits after `:`
 dis => 00 01 02 03 04 05 06 07 08 09 0a 0b 0c 0d 0e 0f 10; => a frame has 1 to 16 bytes
 mon => 2000000000001 0; => T decimal microseconds, 0 to 2000000000000
