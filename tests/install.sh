@@ -1,0 +1,198 @@
+#!/usr/bin/env bash
+# install.sh: tools/install into a folder of its own; the installed program and check-room from another folder, the manual by man,
+# and the completions in bash, zsh and fish. A shell that is not here is left out, and named. The last line is
+# 'installed: N passed, M failed'.
+set -u
+top=$(cd "$(dirname "${BASH_SOURCE[0]}")/.." && pwd)
+room=$(mktemp -d)
+trap 'rm -rf "$room"' EXIT
+dir=$room/else\ where
+mkdir "$room/home" "$room/work"
+# Shells write nothing into the home of who runs this.
+export HOME=$room/home XDG_CONFIG_HOME=$room/home XDG_DATA_HOME=$room/home XDG_CACHE_HOME=$room/home TERM=dumb
+passed=0
+failed=0
+
+# Counts a test: a name, and a condition that held.
+check() {
+  local name=$1
+  shift
+  if "$@"; then
+    passed=$((passed + 1))
+  else
+    failed=$((failed + 1))
+    echo "installed: failed: $name"
+    sed 's/^/  out: /' "$room/out"
+    sed 's/^/  err: /' "$room/err"
+  fi
+}
+
+# Runs a command from a folder that is neither the checkout nor the one installed into.
+start() {
+  (cd "$room/work" && "$@") > "$room/out" 2> "$room/err"
+  status=$?
+}
+ended() { [ "$status" = "$1" ]; }
+wrote() { grep -qxF -- "$1" "$room/out"; }
+refused() { [ "$status" = 2 ] && [ ! -s "$room/out" ] && grep -qF -- "$1" "$room/err"; }
+files_of() { find "$1" -type f -printf '%P %m\n' | LC_ALL=C sort; }
+
+FILES='bin/check-room 755
+bin/hdminet 755
+share/bash-completion/completions/hdminet 644
+share/fish/vendor_completions.d/hdminet.fish 644
+share/man/man1/hdminet.1 644
+share/zsh/site-functions/_hdminet 644'
+
+# What stands in for a toolchain, and tells that it was called.
+mkdir "$room/kit"
+printf '#!/bin/sh\n: > "%s"\n' "$room/called" | tee "$room/kit/rt" "$room/kit/rustc" "$room/kit/cc" > /dev/null
+chmod +x "$room/kit"/*
+start env PATH="$room/kit:$PATH" "$top/tools/install" "$dir"
+check "it installs" ended 0
+check "and calls no toolchain" [ ! -e "$room/called" ]
+check "each file, with its mode" [ "$(files_of "$dir")" = "$FILES" ]
+check "and names each" [ "$(grep -c "^install: $dir/" "$room/out")" = 6 ]
+check "the program is the released one" cmp -s "$top/release/hdminet" "$dir/bin/hdminet"
+check "the manual is the one that stands here" cmp -s "$top/hdminet.1" "$dir/share/man/man1/hdminet.1"
+
+start "$dir/bin/hdminet" --version
+check "the installed program starts" wrote "$("$top/release/hdminet" --version)"
+start "$dir/bin/check-room" "$top/examples/film.test"
+check "check-room finds it" ended 0
+check "and hands the test over" wrote "1..4"
+ln -s "$dir/bin/check-room" "$room/work/link"
+start ./link "$top/examples/wrong-film.test"
+check "a link to check-room finds it too, and its status is that of check" ended 1
+start "$top/tools/check-room" "$top/examples/film.test"
+check "the check-room of a checkout finds the program there" ended 0
+if command -v prove > /dev/null; then
+  start env PATH="$dir/bin:$PATH" prove -e check-room "$top/examples/film.test"
+  check "prove takes check-room by its name" ended 0
+  start env PATH="$dir/bin:$PATH" prove -e check-room "$top/examples/film.test" "$top/examples/wrong-film.test"
+  check "and fails where a test does" [ "$status" != 0 ]
+fi
+if command -v man > /dev/null; then
+  start env MANWIDTH=80 LC_ALL=C man -l "$dir/share/man/man1/hdminet.1"
+  check "man shows the manual" ended 0
+  check "with its name" grep -q 'hdminet.*emulate a living-room HDMI network' "$room/out"
+  start env MANWIDTH=80 MANPATH="$dir/share/man" man -w hdminet
+  check "and finds it by its name" wrote "$dir/share/man/man1/hdminet.1"
+else
+  echo "installed: there is no man here"
+fi
+
+# What a shell is asked, and what it is to offer. A line that ends with a space asks for the next word.
+ROWS='hdminet | run check step live asm dis mon edid
+hdminet r| run
+hdminet zzz|
+hdminet --v| --version
+hdminet mon --fr| --from --from-start --from-idle
+hdminet mon --from | edges vcd pin csv
+hdminet mon --from e| edges
+hdminet check --from | edges vcd pin csv
+hdminet run --edges --as | vcd pin csv
+hdminet run --edges --as=| vcd pin csv
+hdminet run --edges --as=v| vcd
+hdminet edid --port 2 --below | amp
+hdminet mon --signal |
+hdminet asm --from|
+hdminet --explain run --str| --strict
+hdminet run < fi| film.test'
+# The flags of each subcommand are those of its help.
+for command in run check step live asm dis mon edid; do
+  ROWS+=$'\n'"hdminet $command --| $("$dir/bin/hdminet" "$command" --help | sed -n '/^Options:$/,/^$/p' | grep -oE '^ +(-h, )?--[a-z-]+' | grep -oE -- '--[a-z-]+' | tr '\n' ' ')"
+done
+: > "$room/work/film.test"
+
+# The words for each line, as `LINE|WORD` in order, from those that a shell offers: the values of `--flag=` without it, a flag that
+# takes one without its `=`. At the first row some shells offer the flags too.
+words_offered() {
+  awk '/^\? / { line = substr($0, 3); next } { sub(/ *$/, ""); sub(/=$/, ""); sub(/^--[a-z-]*=/, "") }
+    $0 != "" && !(line == "hdminet " && /^-/) { print line "|" $0 }' | LC_ALL=C sort -u
+}
+words_expected() {
+  local line words word
+  while IFS='|' read -r line words; do for word in $words; do printf '%s|%s\n' "$line" "$word"; done; done <<< "$ROWS" | LC_ALL=C sort -u
+}
+# Reads such words into an array, by their lines.
+by_line() {
+  local -n into=$1
+  local line word
+  into=()
+  while IFS='|' read -r line word; do into[$line]+=" $word"; done
+}
+
+offered_by_bash() {
+  bash --norc -c '
+    . "$1"
+    complete -p hdminet | grep -q -- "-F _hdminet" || exit 1
+    while IFS= read -r line; do
+      printf "? %s\n" "$line"
+      # The words as bash parts them; `=` is one of its own.
+      read -ra COMP_WORDS <<< "${line//=/ = }"
+      [[ $line != *" " ]] || COMP_WORDS+=("")
+      COMP_CWORD=$((${#COMP_WORDS[@]} - 1))
+      _hdminet hdminet
+      printf "%s\n" "${COMPREPLY[@]}"
+    done' bash "$dir/share/bash-completion/completions/hdminet"
+}
+
+offered_by_zsh() { zsh -f "$top/tests/complete.zsh" "${dir// /\\ }/share/zsh/site-functions" "$room/home"; }
+
+offered_by_fish() {
+  fish --no-config -c '
+    source $argv[1]
+    while read -l line
+      printf "? %s\n" $line
+      complete -C $line | string replace -r "\t.*" ""
+    end' "$dir/share/fish/vendor_completions.d/hdminet.fish"
+}
+
+declare -A expected offered
+by_line expected < <(words_expected)
+for shell in bash zsh fish; do
+  command -v $shell > /dev/null || { echo "installed: there is no $shell here"; continue; }
+  start offered_by_$shell < <(sed 's/|.*//' <<< "$ROWS")
+  check "$shell takes its completions" ended 0
+  check "and says nothing of them" [ ! -s "$room/err" ]
+  by_line offered < <(words_offered < "$room/out")
+  while IFS='|' read -r line _; do
+    printf '%s\n' "offered:${offered[$line]-}" "expected:${expected[$line]-}" > "$room/out"
+    check "$shell: $line" [ "${offered[$line]-}" = "${expected[$line]-}" ]
+  done <<< "$ROWS"
+done
+
+echo old > "$dir/bin/hdminet"
+start "$top/tools/install" "$dir/"
+check "a second run replaces the first" [ "$(files_of "$dir")" = "$FILES" ]
+check "with the released program" cmp -s "$top/release/hdminet" "$dir/bin/hdminet"
+
+# A checkout whose released program is not the one that its sum is of.
+mkdir "$room/checkout"
+cp -R "$top/tools" "$top/release" "$top/hdminet.1" "$room/checkout"
+echo >> "$room/checkout/release/hdminet"
+start "$room/checkout/tools/install" "$room/new"
+check "another program than the released one is refused" refused "install: the released program does not have the sum that stands beside it"
+check "and nothing is installed" [ ! -e "$room/new" ]
+rm -r "$room/checkout/release"
+start "$room/checkout/tools/install" "$room/new"
+check "so is a checkout without one" refused "install: there is no released program"
+: > "$room/file"
+start "$top/tools/install" "$room/file"
+check "and a folder that can't be made" refused "can't be written"
+for words in "" "-x" "a b"; do
+  # shellcheck disable=SC2086
+  start "$top/tools/install" $words
+  check "and the words '$words'" refused "install: usage"
+done
+
+: > "$dir/bin/other"
+start "$top/tools/install" --remove "$dir"
+check "--remove takes the files away" [ "$(files_of "$dir" | cut -d' ' -f1)" = bin/other ]
+check "and names each" [ "$(grep -c '^install: removed ' "$room/out")" = 6 ]
+start "$top/tools/install" --remove "$dir"
+check "and says where there is nothing" wrote "install: nothing of hdminet is in $dir"
+
+echo "installed: $passed passed, $failed failed"
+[ "$failed" = 0 ]
