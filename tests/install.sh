@@ -39,6 +39,7 @@ files_of() { find "$1" -type f -printf '%P %m\n' | LC_ALL=C sort; }
 
 FILES='bin/check-room 755
 bin/hdminet 755
+bin/join-room 755
 share/bash-completion/completions/hdminet 644
 share/fish/vendor_completions.d/hdminet.fish 644
 share/man/man1/hdminet.1 644
@@ -52,7 +53,7 @@ start env PATH="$room/kit:$PATH" "$top/tools/install" "$dir"
 check "it installs" ended 0
 check "and calls no toolchain" [ ! -e "$room/called" ]
 check "each file, with its mode" [ "$(files_of "$dir")" = "$FILES" ]
-check "and names each" [ "$(grep -c "^install: $dir/" "$room/out")" = 6 ]
+check "and names each" [ "$(grep -c "^install: $dir/" "$room/out")" = 7 ]
 check "the program is the released one" cmp -s "$top/release/hdminet" "$dir/bin/hdminet"
 check "the manual is the one that stands here" cmp -s "$top/hdminet.1" "$dir/share/man/man1/hdminet.1"
 
@@ -66,11 +67,35 @@ start ./link "$top/examples/wrong-film.test"
 check "a link to check-room finds it too, and its status is that of check" ended 1
 start "$top/tools/check-room" "$top/examples/film.test"
 check "the check-room of a checkout finds the program there" ended 0
+
+# A room without a script, and a test that is only a script; the room's last line has no line feed.
+printf '# one television\ndevice tv tv 1' > "$room/work/one.room"
+printf '# the poll\nexpect once from 0 to 60000 0>0 nack\nend 200000\n' > "$room/work/poll=.test"
+printf 'TAP version 13\nok 1 - line 2: expect once from 0 to 60000 0>0 nack\n1..1\n' > "$room/report"
+start "$dir/bin/join-room" one.room poll=.test
+check "join-room joins a topology and a script" [ "$(cat "$room/out")" = $'# one television\ndevice tv tv 1\nscript\n# the poll\nexpect once from 0 to 60000 0>0 nack\nend 200000' ]
+start "$dir/bin/check-room" one.room poll=.test
+check "check-room takes a room and a test" cmp -s "$room/report" "$room/out"
+check "with the status of check" ended 0
+for file in "$top"/examples/*.net "$top"/examples/*.test "$top"/examples/*.sweep; do
+  start "$top/tools/join-room" "$file" "$file"
+  check "$(basename "$file") joined with itself is that file" cmp -s "$file" "$room/out"
+done
+start "$dir/bin/join-room" "$top/examples/wrong-film.test" poll=.test
+check "of a file with both, the room is what stands above script" [ "$(cat "$room/out")" = "$(sed '/^script$/q' "$top/examples/wrong-film.test"; cat "$room/work/poll=.test")" ]
+start "$dir/bin/check-room" "$top/examples/film.test" "$top/examples/wrong-film.test"
+check "a test that fails in a room has status 1" ended 1
+start "$dir/bin/check-room" one.room missing.test
+check "a test that is not there is refused" refused "join-room: no file missing.test"
+start "$dir/bin/join-room" one.room
+check "so is one word" refused "join-room: usage"
 if command -v prove > /dev/null; then
   start env PATH="$dir/bin:$PATH" prove -e check-room "$top/examples/film.test"
   check "prove takes check-room by its name" ended 0
   start env PATH="$dir/bin:$PATH" prove -e check-room "$top/examples/film.test" "$top/examples/wrong-film.test"
   check "and fails where a test does" [ "$status" != 0 ]
+  start env PATH="$dir/bin:$PATH" prove -e 'check-room one.room' poll=.test
+  check "prove takes check-room with a room" ended 0
 fi
 if command -v man > /dev/null; then
   start env MANWIDTH=80 LC_ALL=C man -l "$dir/share/man/man1/hdminet.1"
@@ -190,7 +215,7 @@ done
 : > "$dir/bin/other"
 start "$top/tools/install" --remove "$dir"
 check "--remove takes the files away" [ "$(files_of "$dir" | cut -d' ' -f1)" = bin/other ]
-check "and names each" [ "$(grep -c '^install: removed ' "$room/out")" = 6 ]
+check "and names each" [ "$(grep -c '^install: removed ' "$room/out")" = 7 ]
 start "$top/tools/install" --remove "$dir"
 check "and says where there is nothing" wrote "install: nothing of hdminet is in $dir"
 
