@@ -188,14 +188,18 @@ for shell in bash zsh fish; do
   done <<< "$ROWS"
 done
 
-echo old > "$dir/bin/hdminet"
-start "$top/tools/install" "$dir/"
-check "a second run replaces the first" [ "$(files_of "$dir")" = "$FILES" ]
-check "with the released program" cmp -s "$top/release/hdminet" "$dir/bin/hdminet"
-
-# A checkout whose released program is not the one that its sum is of.
+# A checkout of other sources than those of its released program.
 mkdir "$room/checkout"
 cp -R "$top/tools" "$top/release" "$top/hdminet.1" "$room/checkout"
+echo 'hdminet:' > "$room/checkout/crates.txt"
+echo old > "$dir/bin/hdminet"
+start "$room/checkout/tools/install" "$dir/"
+check "a second run replaces the first" [ "$(files_of "$dir")" = "$FILES" ]
+check "with the released program" cmp -s "$top/release/hdminet" "$dir/bin/hdminet"
+check "and says that the sources are other ones" grep -qxF "install: the released program was built of other sources than those beside it" "$room/err"
+check "which refuses nothing" ended 0
+
+# One whose released program is not the one that its sum is of.
 echo >> "$room/checkout/release/hdminet"
 start "$room/checkout/tools/install" "$room/new"
 check "another program than the released one is refused" refused "install: the released program does not have the sum that stands beside it"
