@@ -160,7 +160,7 @@ offered_by_bash() {
       COMP_CWORD=$((${#COMP_WORDS[@]} - 1))
       _hdminet hdminet
       printf "%s\n" "${COMPREPLY[@]}"
-    done' bash "$dir/share/bash-completion/completions/hdminet"
+    done' bash "${1:-$dir/share/bash-completion/completions/hdminet}"
 }
 
 offered_by_zsh() { zsh -f "$top/tests/complete.zsh" "${dir// /\\ }/share/zsh/site-functions" "$room/home"; }
@@ -187,6 +187,28 @@ for shell in bash zsh fish; do
     check "$shell: $line" [ "${offered[$line]-}" = "${expected[$line]-}" ]
   done <<< "$ROWS"
 done
+
+# Completions of another program: what its help says, and which of those words it takes.
+mkdir "$room/made"
+cat > "$room/painter" << 'END'
+#!/bin/sh
+case "$*" in
+  --help) printf 'Commands:\n  paint  Paints a wall\n\nOptions:\n  -h, --help  Print help\n' ;;
+  'paint --help') printf "Options:\n      --wall <WALL>  The wall's name: north, or [any]\n      --when <WHEN>  Paints always or never\n" ;;
+  'paint --wall'* | 'paint --when always' | 'paint --when never') ;;
+  *) exit 2 ;;
+esac
+END
+chmod +x "$room/painter"
+start "$top/tools/completions" "$room/painter" "$room/made"
+check "completions are made of any help" ended 0
+start offered_by_bash "$room/made/hdminet" <<< $'hdminet \nhdminet paint --\nhdminet paint --when \nhdminet paint --wall '
+check "with its words and no others" [ "$(words_offered < "$room/out" | tr '\n' ' ')" = "hdminet paint --when |always hdminet paint --when |never hdminet paint --|--wall hdminet paint --|--when hdminet |paint " ]
+rm "$room/made"/*
+sed -i 's/  paint  Paints/  Paint  Paints/' "$room/painter"
+start "$top/tools/completions" "$room/painter" "$room/made"
+check "a help of another form is refused" refused "completions: no command:   Paint  Paints a wall"
+check "and nothing is written" [ -z "$(ls "$room/made")" ]
 
 # A checkout of other sources than those of its released program.
 mkdir "$room/checkout"
