@@ -7,7 +7,7 @@ top=$(cd "$(dirname "${BASH_SOURCE[0]}")/.." && pwd)
 room=$(mktemp -d)
 trap 'rm -rf "$room"' EXIT
 dir=$room/else\ where
-mkdir "$room/home" "$room/work"
+mkdir "$room/home" "$room/elsewhere"
 # Shells write nothing into the home of who runs this.
 export HOME=$room/home XDG_CONFIG_HOME=$room/home XDG_DATA_HOME=$room/home XDG_CACHE_HOME=$room/home TERM=dumb
 passed=0
@@ -29,7 +29,7 @@ check() {
 
 # Runs a command from a folder that is neither the checkout nor the one installed into.
 start() {
-  (cd "$room/work" && "$@") > "$room/out" 2> "$room/err"
+  (cd "$room/elsewhere" && "$@") > "$room/out" 2> "$room/err"
   status=$?
 }
 ended() { [ "$status" = "$1" ]; }
@@ -62,15 +62,15 @@ check "the installed program starts" wrote "$("$top/release/hdminet" --version)"
 start "$dir/bin/check-room" "$top/examples/film.test"
 check "check-room finds it" ended 0
 check "and hands the test over" wrote "1..4"
-ln -s "$dir/bin/check-room" "$room/work/link"
+ln -s "$dir/bin/check-room" "$room/elsewhere/link"
 start ./link "$top/examples/wrong-film.test"
 check "a link to check-room finds it too, and its status is that of check" ended 1
 start "$top/tools/check-room" "$top/examples/film.test"
 check "the check-room of a checkout finds the program there" ended 0
 
 # A room without a script, and a test that is only a script; the room's last line has no line feed.
-printf '# one television\ndevice tv tv 1' > "$room/work/one.room"
-printf '# the poll\nexpect once from 0 to 60000 0>0 nack\nend 200000\n' > "$room/work/poll=.test"
+printf '# one television\ndevice tv tv 1' > "$room/elsewhere/one.room"
+printf '# the poll\nexpect once from 0 to 60000 0>0 nack\nend 200000\n' > "$room/elsewhere/poll=.test"
 printf 'TAP version 13\nok 1 - line 2: expect once from 0 to 60000 0>0 nack\n1..1\n' > "$room/report"
 start "$dir/bin/join-room" one.room poll=.test
 check "join-room joins a topology and a script" [ "$(cat "$room/out")" = $'# one television\ndevice tv tv 1\nscript\n# the poll\nexpect once from 0 to 60000 0>0 nack\nend 200000' ]
@@ -82,7 +82,7 @@ for file in "$top"/examples/*.net "$top"/examples/*.test "$top"/examples/*.sweep
   check "$(basename "$file") joined with itself is that file" cmp -s "$file" "$room/out"
 done
 start "$dir/bin/join-room" "$top/examples/wrong-film.test" poll=.test
-check "of a file with both, the room is what stands above script" [ "$(cat "$room/out")" = "$(sed '/^script$/q' "$top/examples/wrong-film.test"; cat "$room/work/poll=.test")" ]
+check "of a file with both, the room is what stands above script" [ "$(cat "$room/out")" = "$(sed '/^script$/q' "$top/examples/wrong-film.test"; cat "$room/elsewhere/poll=.test")" ]
 start "$dir/bin/check-room" "$top/examples/film.test" "$top/examples/wrong-film.test"
 check "a test that fails in a room has status 1" ended 1
 start "$dir/bin/check-room" one.room missing.test
@@ -128,7 +128,7 @@ hdminet run < fi| film.test'
 for command in run check step live asm dis mon edid; do
   ROWS+=$'\n'"hdminet $command --| $("$dir/bin/hdminet" "$command" --help | sed -n '/^Options:$/,/^$/p' | grep -oE '^ +(-h, )?--[a-z-]+' | grep -oE -- '--[a-z-]+' | tr '\n' ' ')"
 done
-: > "$room/work/film.test"
+: > "$room/elsewhere/film.test"
 
 # The words for each line, as `LINE|WORD` in order, from those that a shell offers: the values of `--flag=` without it, a flag that
 # takes one without its `=`. At the first row some shells offer the flags too.

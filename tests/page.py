@@ -491,7 +491,7 @@ def hostile_inputs_are_harmless(t, b):
 def inferences_are_the_programs(t, b):
     """What the page infers is what the program says: bits, who acknowledged, addresses and places, of random rooms."""
     b.open(BARE)
-    random.seed(11)
+    random.seed("rooms of the page")
     rooms = rounds = 0
     faults = []
     while rooms < 15:

@@ -72,7 +72,7 @@ def hostile_inputs(program, room):
     yield "control characters", ["\0\1\2" * 1000]
     yield "a long line", ['{"type":"round","line":"' + "a" * 1000000 + '"}']
     yield "edges out of order", ["5 1\n5 1\n3 0\n9 0\n9 0\n1 end\n"]
-    random.seed(1)
+    random.seed("broken texts")
     objects = program(room, "run", "--json")
     dump = program(room, "run", "--edges", "--as", "vcd", "--drives")
 
