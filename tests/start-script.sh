@@ -292,7 +292,7 @@ start "$room/checkout/hdminet" run x
 check "a released program starts" wrote "one run x"
 check "and says nothing" lines_of_err 0
 check "and calls no rt" [ "$(calls)" = "" ]
-check "and writes nothing" [ ! -e "$room/checkout/crates/hdminet/out" ]
+check "and writes when the sums were right, and nothing else" [ "$(ls "$room/checkout/crates/hdminet/out")" = released.seen ]
 start env PATH="$without_rt" "$room/checkout/hdminet" x
 check "it needs no rt" wrote "one x"
 check "and says nothing of that" lines_of_err 0
@@ -326,6 +326,13 @@ source_is one
 rm -rf "$room/checkout/crates/hdminet/out"
 start "$room/checkout/hdminet" x
 check "the sources as they were start it again" wrote "one x"
+source_is two
+touch -d 2001-01-01 "$room/checkout/crates/hdminet/src/main.rt"
+start env PATH="$without_rt" "$room/checkout/hdminet" x
+check "a changed source with an old time is seen after that" refused "hdminet: the released program is not started: it was built of other sources"
+source_is one
+start "$room/checkout/hdminet" x
+check "and the source as it was too" wrote "one x"
 check "without a build" [ "$(calls)" = 1 ]
 for change in "crates/low/src/new.rt" "crates/low/specs/Lib.antt" "crates/hdminet/proofs/f/Proof.antt"; do
   released
@@ -344,6 +351,7 @@ start "$room/checkout/hdminet" x
 check "and another line of a crate" [ "$(calls)" = 1 ]
 
 released
+start "$room/checkout/hdminet" x
 echo 'echo wrong' >> "$room/checkout/release/hdminet"
 start "$room/checkout/hdminet" x
 check "a program with a wrong sum is never started" wrote "one x"
