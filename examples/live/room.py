@@ -55,7 +55,7 @@ class Round:
         words = front.split(" ")
         self.begin, self.close = int(words[0]), int(words[1])
         self.text, self.verdict = " ".join(words[3:-1]), words[-1]
-        self.senders = ends.split(" out ")[0].split("+")
+        self.senders = ends.split(" out ")[0].split(",")
 
 
 def rounds(told):
