@@ -5,8 +5,7 @@ use Rattle.cec_bits.specs.Reading.{End, Known, known_at, reading_of, Slot}
 use Rattle.cec_bits.specs.Sending.{sender_pulls}
 use Rattle.cec_wire.specs.declared.Seat.{Seat}
 use Rattle.cec_wave.specs.Line.{was_low}
-use Rattle.cec_wire.specs.Round.{acknowledges, frames_of, is_acknowledged, is_broken, pulse_pulls}
-use Rattle.cec_wire.proofs.Law.{same_line}
+use Rattle.cec_wire.specs.Round.{acknowledges, frames_of, is_acknowledged, is_broken, is_within, pulse_pulls}
 use Rattle.cec_drives.specs.Drives.{seat_pulls, LinesAreDriven}
 
 -- one of two, within two tests
@@ -62,9 +61,9 @@ breaks_both k t None seat seats = refl
 breaks_both k t (Some end) seat seats = spread _ (nat_lt t (end.at + 3600)) _ _
 
 -- one of the seats pulls
-any_pulls : (seats : List Seat) (begin : ℕ) (k : Known) (t : ℕ)
-    → (list_any (sender_pulls begin k t) (frames_of seats) || (is_acknowledged seats k t || is_broken seats k t k.ended)) ≡ list_any (seat_pulls begin k t) seats
-any_pulls [] begin k t = ap₂ (λ a b. a || b) (no_acks (enumerate_from 1 k.slots)) (no_breaks k.ended)
+any_pulls : (seats : List Seat) (begin : ℕ) (was : Bool) (k : Known) (t : ℕ)
+    → ((list_any (sender_pulls begin k t) (frames_of seats) && (is_within k.ended t || was)) || (is_acknowledged seats k t || is_broken seats k t k.ended)) ≡ list_any (seat_pulls begin was k t) seats
+any_pulls [] begin was k t = ap₂ (λ a b. a || b) (no_acks (enumerate_from 1 k.slots)) (no_breaks k.ended)
   where
     no_ack : (a b : Bool) → (a && (b && false)) ≡ false
     no_ack true true = refl
@@ -78,12 +77,23 @@ any_pulls [] begin k t = ap₂ (λ a b. a || b) (no_acks (enumerate_from 1 k.slo
     no_breaks : (o : Option End) → is_broken [] k t o ≡ false
     no_breaks None = refl
     no_breaks (Some end) = no_ack _ (nat_lt t (end.at + 3600))
-any_pulls (seat ∷ seats) begin k t =
-    ap₂ (λ a b. a || b) (sent_both begin k t seat seats) (ap₂ (λ a b. a || b) (acks_both k t seat seats) (breaks_both k t k.ended seat seats))
-    ∙ regroup (list_any (sender_pulls begin k t) (frames_of (seat ∷ []))) (is_acknowledged (seat ∷ []) k t) (is_broken (seat ∷ []) k t k.ended)
-    (list_any (sender_pulls begin k t) (frames_of seats)) (is_acknowledged seats k t) (is_broken seats k t k.ended)
-    ∙ ap (λ b. seat_pulls begin k t seat || b) (any_pulls seats begin k t)
+any_pulls (seat ∷ seats) begin was k t =
+    ap₂ (λ a b. a || b) (ap (λ b. b && time) (sent_both begin k t seat seats) ∙ within (list_any (sender_pulls begin k t) (frames_of (seat ∷ []))) (list_any (sender_pulls begin k t) (frames_of seats)) time)
+    (ap₂ (λ a b. a || b) (acks_both k t seat seats) (breaks_both k t k.ended seat seats))
+    ∙ regroup (list_any (sender_pulls begin k t) (frames_of (seat ∷ [])) && time) (is_acknowledged (seat ∷ []) k t) (is_broken (seat ∷ []) k t k.ended)
+    (list_any (sender_pulls begin k t) (frames_of seats) && time) (is_acknowledged seats k t) (is_broken seats k t k.ended)
+    ∙ ap (λ b. seat_pulls begin was k t seat || b) (any_pulls seats begin was k t)
+  where
+    time : Bool
+    time = is_within k.ended t || was
+
+    within : (a b c : Bool) → ((a || b) && c) ≡ ((a && c) || (b && c))
+    within true true true = refl
+    within true true false = refl
+    within true false true = refl
+    within true false false = refl
+    within false b c = refl
 
 pub lines_are_driven : LinesAreDriven
-lines_are_driven seats begin pulses low frames sparse line t =
-    (same_line seats begin pulses low frames sparse).0 line t ∙ ap (λ b. list_any (pulse_pulls begin (known_at t (reading_of low begin)).ended (was_low low t) t) pulses || b) (any_pulls seats begin (known_at t (reading_of low begin)) t)
+lines_are_driven seats begin pulses low line t =
+    line t ∙ ap (λ b. list_any (pulse_pulls begin (known_at t (reading_of low begin)).ended (was_low low t) t) pulses || b) (any_pulls seats begin (was_low low t) (known_at t (reading_of low begin)) t)

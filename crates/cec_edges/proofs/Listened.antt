@@ -8,7 +8,6 @@ use Rattle.cec_bits.specs.Hears.{rest}
 use Rattle.cec_bits.specs.Kept.{kept_by, kept_before}
 use Rattle.cec_bits.specs.Follows.{StandsOn}
 use Rattle.cec_bits.specs.Sending.{SenderStood}
-use Rattle.cec_bits.proofs.Ends.{at_by}
 use Rattle.cec_bits.proofs.Stood.{was_now}
 use Rattle.cec_bits.proofs.Keeping.{none_runs}
 use Rattle.cec_bits.proofs.Following.{empty_kept}
@@ -17,7 +16,6 @@ use Rattle.cec_edges.specs.declared.edge_wire.EdgeWire.{EdgeWire}
 use Rattle.cec_edges.specs.Listening.{IsReadOnce, SendsFor, AreSenders, IsSending, AreSending, AreStanding, KeepsSenders, IsLevel, Reaches, ReachesEdge}
 use Rattle.cec_edges.specs.Wired.{EachOf, IsBegun, SameRound, is_low_in, Grows, Passes, Listens, IsReceiverIn, IsSenderIn, SendsNothing}
 use Rattle.cec_wire.proofs.Still.{high_before}
-use Rattle.cec_edges.proofs.Meets.{are_frames}
 use Rattle.cec_wire.proofs.Afterwards.{no_fall_after}
 use Rattle.cec_edges.proofs.Searching.{each_later, was_in}
 use Rattle.cec_edges.proofs.Wiring.{no_later}
@@ -27,7 +25,7 @@ read_once : (w : EdgeWire) → IsBegun w → EachOf w (λ low. low w.begin ≡ t
 read_once w b later low sparse late line first = record {
   before = high_before w.seats.items w.begin (w.pulses.items ++ later) low line;
   first = first;
-  quiet = no_fall_after w.seats.items w.begin (w.pulses.items ++ later) low (are_frames w.seats.items b.sent) sparse line (at_by low w.begin);
+  quiet = no_fall_after w.seats.items w.begin (w.pulses.items ++ later) low line;
 }
 
 -- the same wire, but for who listens

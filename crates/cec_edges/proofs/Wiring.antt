@@ -60,7 +60,7 @@ space_in seats begin pulses t h falls w e = has_space seats (line_in seats begin
 
 pub room_in : (seats : List Seat) (begin : ℕ) (pulses : List Stretch) (t : ℕ) (h : Heard) → IsHeard seats begin pulses t h → length h.wave < most_stretches
 room_in seats begin pulses t h w =
-    has_room seats begin (pulses ++ []) (line_in seats begin pulses) t h.wave h.since (are_frames seats w.sent) (are_short seats w.sent) (line_sparse pulses w.sparse) (made_round seats begin (pulses ++ [])) (stands_in seats begin pulses t h w).records
+    has_room seats begin (pulses ++ []) (line_in seats begin pulses) t h.wave h.since (are_short seats w.sent) (line_sparse pulses w.sparse) (made_round seats begin (pulses ++ [])) (stands_in seats begin pulses t h w).records
 
 pub ready_in : (seats : List Seat) (begin : ℕ) (pulses : List Stretch) (t : ℕ) (h : Heard) → IsHeard seats begin pulses t h → IsReady h.wave h.since t
 ready_in seats begin pulses t h w = is_ready (line_in seats begin pulses) t h.wave h.since (stands_in seats begin pulses t h w).records

@@ -1,5 +1,5 @@
 -- What a round does: who contends in it, so that arbitration picks among them (CEC 9), and what it leaves of each device.
-use Rattle.std.specs.Prelude.{◌≡◌, ℕ, ◌==◌, nat_lt, Bool, true, false, if◌then◌else◌, List, map, filter, Option, Some, None}
+use Rattle.std.specs.Prelude.{◌≡◌, ℕ, ◌==◌, nat_lt, Bool, true, false, ◌||◌, if◌then◌else◌, List, map, filter, Option, Some, None, is_some}
 use Rattle.std.specs.List.{list_any}
 use Rattle.cec_frame.specs.Blocks.{frame_in}
 use Rattle.cec_wire.specs.declared.Seat.{Seat}
@@ -40,13 +40,13 @@ followed_unless false (Some frame) at d = after_frame 16 d frame at
 abbrev pub followed_in : Outcome → ℕ → State → State
 followed_in o number d = followed_unless (is_among o.survivors.items number) (frame_in o.reading) (close_in o) d
 
--- Who contended learns what became of its frame; where others did, who did not has waited.
+-- Who contended learns what became of its frame; where a frame was sent by others, who did not has waited.
 abbrev pub after_fate : Bool → Bool → Fate → ℕ → State → State
 after_fate true others fate at d = after_sending 16 d fate at
 after_fate false true fate at d = after_waiting d
 after_fate false false fate at d = d
 
--- `own` where the device contends, `any` where some device does
+-- `own` where the device contends, `any` where some frame was sent
 abbrev pub device_after : Bool → Bool → Outcome → ℕ → State → State
 device_after own any o number d =
     if is_on_wire d then after_fate own any (fate_in o number) (close_in o) (followed_in o number d) else d
@@ -55,9 +55,13 @@ device_after own any o number d =
 abbrev pub is_contended : ℕ → ℕ → List State → Bool
 is_contended rest begin devices = list_any (contends rest begin) devices
 
+-- a frame was sent: some device started at `begin`, or the round was read whole
+abbrev pub is_sent : ℕ → ℕ → Outcome → List State → Bool
+is_sent rest begin o devices = is_contended rest begin devices || is_some (frame_in o.reading)
+
 abbrev pub devices_after : ℕ → ℕ → Outcome → List State → List State
 devices_after rest begin o devices =
-    each_from 0 (λ number d. device_after (contends rest begin d) (is_contended rest begin devices) o number d) devices
+    each_from 0 (λ number d. device_after (contends rest begin d) (is_sent rest begin o devices) o number d) devices
 
 -- The round takes the pulses that begin by its last low stretch's end: those that it had on its line, and
 -- those that overlap or touch that stretch.

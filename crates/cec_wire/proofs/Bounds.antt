@@ -95,7 +95,7 @@ begins seats begin pulses o frames sparse wave round = in_all (λ s. s.from ≤ 
       | inl lt ↦ (
           let own : (s.from == s.from) ≡ true = grind (arith, nat_tests) in
           let fall : is_fall (line_of o.wave) s.from ≡ true = falls_of_wave o.wave 0 s.from wave ∙ any_in (λ x. x.from == s.from) o.wave s i own in
-          let none : is_fall (line_of o.wave) s.from ≡ false = no_fall_after seats begin pulses (line_of o.wave) frames sparse round.line (at_by (line_of o.wave) begin) s.from lt in
+          let none : is_fall (line_of o.wave) s.from ≡ false = no_fall_after seats begin pulses (line_of o.wave) round.line s.from lt in
           let no : true ≡ false = sym fall ∙ none in cc)
     ]
 

@@ -13,7 +13,7 @@ use Rattle.cec_bits.proofs.Causes.{known_start_low, nothing}
 use Rattle.cec_wire.specs.declared.Seat.{Seat}
 use Rattle.cec_wire.specs.declared.hearing.Ended.{Ended}
 use Rattle.cec_bits.specs.Sending.{goes_on, out_slot, sender_pulls}
-use Rattle.cec_wire.specs.Round.{winning_frames, pulse_pulls, is_acknowledged, is_broken, is_pulled, IsRoundLine}
+use Rattle.cec_wire.specs.Round.{frames_of, is_within, pulse_pulls, is_acknowledged, is_broken, is_pulled, IsRoundLine}
 use Rattle.cec_wire.proofs.Differ.{In, in_any}
 use Rattle.cec_wire.proofs.Lows.{far_apart}
 use Rattle.cec_wire.proofs.Lays.{before_start}
@@ -37,8 +37,8 @@ high_before seats begin pulses low line u l = by_low (low u) refl
               let c : nat_le r.0.from u ≡ true = and_left (nat_le r.0.from u) (nat_lt u r.0.to) (and_left (nat_le r.0.from u && nat_lt u r.0.to) _ r.2) in
               let d : nat_le begin r.0.from ≡ true = and_left (nat_le begin r.0.from) true (and_right (nat_le r.0.from u && nat_lt u r.0.to) _ r.2) in
               early r.0.from c d)
-          | inr b ↦ elim (or_cases (list_any (sender_pulls begin nothing u) (winning_frames seats)) _ b) [
-            | inl a ↦ (let r = in_any (sender_pulls begin nothing u) (winning_frames seats) a in
+          | inr b ↦ elim (or_cases (list_any (sender_pulls begin nothing u) (frames_of seats) && true) _ b) [
+            | inl a ↦ (let r = in_any (sender_pulls begin nothing u) (frames_of seats) (and_left (list_any (sender_pulls begin nothing u) (frames_of seats)) true a) in
                 let e : true ≡ false = sym (and_left (line_of (sender_stretches begin (frame_bits r.0)) u) _ r.2) ∙ before_start (frame_bits r.0) begin u l in cc)
             | inr a ↦ cc
           ]
@@ -79,8 +79,8 @@ pulse_only seats begin pulses low t bits e held line s u l h =
     elim (or_cases (list_any (pulse_pulls begin (Some (end_of e)) (was_low low u) u) pulses) _ made) [
       | inl a ↦ (let r = in_any (pulse_pulls begin (Some (end_of e)) (was_low low u) u) pulses a in
           (r.0, r.1, and_left (covers r.0 u) _ r.2, taken r.0 (or_cases (nat_le r.0.from e.until) (was_low low u) (and_right (nat_le begin r.0.from) _ (and_right (covers r.0 u) _ r.2)))))
-      | inr b ↦ elim (or_cases (list_any (sender_pulls begin k u) (winning_frames seats)) _ b) [
-        | inl a ↦ (let r = in_any (sender_pulls begin k u) (winning_frames seats) a in
+      | inr b ↦ elim (or_cases (list_any (sender_pulls begin k u) (frames_of seats) && (is_within (Some (end_of e)) u || was_low low u)) _ b) [
+        | inl a ↦ (let r = in_any (sender_pulls begin k u) (frames_of seats) (and_left (list_any (sender_pulls begin k u) (frames_of seats)) _ a) in
             absurd (stopped (sym (ap (λ (n : Option End). goes_on n u) (ap (λ (n : Known). n.ended) knows)) ∙ and_right (is_none (out_slot k (frame_bits r.0))) (goes_on k.ended u) (and_right (line_of (sender_stretches begin (frame_bits r.0)) u) _ r.2))))
         | inr a ↦ absurd (let_go (sym (s.holds u past) ∙ a))
       ]
@@ -95,8 +95,10 @@ pulse_only seats begin pulses low t bits e held line s u l h =
     knows : known_at u (reading_of low begin) ≡ record { slots = s.zs; ended = Some (end_of e) }
     knows = s.knows u past
 
-    made : (list_any (pulse_pulls begin (Some (end_of e)) (was_low low u) u) pulses || (list_any (sender_pulls begin k u) (winning_frames seats) || (is_acknowledged seats k u || is_broken seats k u k.ended))) ≡ true
-    made = sym (ap (λ (n : Option End). list_any (pulse_pulls begin n (was_low low u) u) pulses || (list_any (sender_pulls begin k u) (winning_frames seats) || (is_acknowledged seats k u || is_broken seats k u k.ended))) (ap (λ (n : Known). n.ended) knows))
+    made : (list_any (pulse_pulls begin (Some (end_of e)) (was_low low u) u) pulses
+        || ((list_any (sender_pulls begin k u) (frames_of seats) && (is_within (Some (end_of e)) u || was_low low u)) || (is_acknowledged seats k u || is_broken seats k u k.ended))) ≡ true
+    made = sym (ap (λ (n : Option End). list_any (pulse_pulls begin n (was_low low u) u) pulses
+        || ((list_any (sender_pulls begin k u) (frames_of seats) && (is_within n u || was_low low u)) || (is_acknowledged seats k u || is_broken seats k u k.ended))) (ap (λ (n : Known). n.ended) knows))
         ∙ sym (line u) ∙ h
 
     taken : (p : Stretch) → (nat_le p.from e.until ≡ true) ⊎ (was_low low u ≡ true) → (p.from ≤ e.until) ⊎ (was_low low u ≡ true)

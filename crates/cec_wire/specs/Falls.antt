@@ -7,7 +7,7 @@ use Rattle.cec_wave.specs.Pulses.{AreSparse}
 use Rattle.cec_bits.specs.Reading.{reading_of}
 use Rattle.cec_wire.specs.declared.Seat.{Seat}
 use Rattle.cec_wire.specs.Round.{frames_of, IsRoundLine}
-use Rattle.cec_wire.specs.Contend.{IsContendersLine, IsPulledBelow}
+use Rattle.cec_wire.specs.Contend.{IsWinnersLine, IsPulledBelow}
 use Rattle.cec_wave.specs.Bounds.{most_slots}
 
 -- a frame has at most 16 blocks (CEC 6, frame description)
@@ -52,7 +52,7 @@ abbrev pub WaveFits : Type 0
 WaveFits = (seats : List Seat) (begin : ℕ) (pulses : List Stretch) (t : ℕ) (ss : List Stretch) → AreShortFrames seats → AreSparse pulses
     → IsPulledBelow seats begin pulses t (line_of ss) → IsWave ss → All (λ s. s.from < t) ss → length ss ≤ 179
 
--- And so has the wave of a round, whoever is taken to pull: the winners, or all who send.
+-- And so has the wave of a round, whoever is taken to pull: all who send, or the winners.
 abbrev pub RoundFits : Type 0
 RoundFits = (seats : List Seat) (begin : ℕ) (pulses ss : List Stretch) → AreShortFrames seats → AreSparse pulses
-    → IsRoundLine seats begin pulses (line_of ss) ⊎ IsContendersLine seats begin pulses (line_of ss) → IsWave ss → length ss ≤ 179
+    → IsRoundLine seats begin pulses (line_of ss) ⊎ IsWinnersLine seats begin pulses (line_of ss) → IsWave ss → length ss ≤ 179

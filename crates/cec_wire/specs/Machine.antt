@@ -9,6 +9,7 @@ use Rattle.cec_wave.specs.Bounds.{latest_heard}
 use Rattle.cec_frame.specs.Bits.{frame_bits}
 use Rattle.cec_frame.specs.declared.Ending.{Ending}
 use Rattle.cec_frame.specs.declared.Ending.TheVariants.{Short, Silent, BadStart}
+use Rattle.cec_bits.specs.Windows.{standard, sample_at}
 use Rattle.cec_bits.specs.Reading.{last_ending}
 use Rattle.cec_bits.specs.Sending.{destination, out_by}
 use Rattle.cec_wire.specs.declared.Seat.{Seat}
@@ -25,25 +26,25 @@ over ending at until = Over (record { ending = ending; at = at; until = until })
 -- in the start bit, before its rise
 abbrev pub after_start_low : ℕ → ℕ → Bool → Stage
 after_start_low begin t rises =
-    if nat_lt (begin + 3900) t then over BadStart (begin + 3901) (begin + 3901)
-    else if rises then (if nat_lt t (begin + 3500) then over BadStart t t else StartHigh) else StartLow
+    if nat_lt (begin + standard.start_low.most) t then over BadStart (begin + (standard.start_low.most + 1)) (begin + (standard.start_low.most + 1))
+    else if rises then (if nat_lt t (begin + standard.start_low.least) then over BadStart t t else StartHigh) else StartLow
 
 -- after the start bit's rise
 abbrev pub after_start_high : ℕ → ℕ → Bool → Stage
 after_start_high begin t falls =
-    if falls then (if nat_lt t (begin + 4300) then over BadStart t t else InSlot t None)
-    else if t == begin + 4700 then over BadStart (begin + 4701) (begin + 4700) else StartHigh
+    if falls then (if nat_lt t (begin + standard.start_total.least) then over BadStart t t else InSlot t None)
+    else if t == begin + standard.start_total.most then over BadStart (begin + (standard.start_total.most + 1)) (begin + standard.start_total.most) else StartHigh
 
 -- in a slot that ends the reading where nothing breaks it
 abbrev pub after_last_slot : ℕ → Ending → ℕ → Bool → Stage
 after_last_slot fall ending t falls =
-    if falls then over Short t t else if t == fall + 1050 then over ending t t else InSlot fall (Some ending)
+    if falls then over Short t t else if t == fall + sample_at then over ending t t else InSlot fall (Some ending)
 
 -- in another slot
 abbrev pub after_other_slot : List Bool → ℕ → ℕ → Bool → Stage
 after_other_slot bits fall t falls =
-    if falls then (if nat_lt t (fall + 2050) then over Short t t else InSlot t (last_ending bits))
-    else if t == fall + 2750 then over Silent (t + 1) t else InSlot fall None
+    if falls then (if nat_lt t (fall + standard.bit_total.least) then over Short t t else InSlot t (last_ending bits))
+    else if t == fall + standard.bit_total.most then over Silent (t + 1) t else InSlot fall None
 
 abbrev pub next_place : ℕ → List Bool → Stage → ℕ → Bool → Bool → Stage
 next_place begin bits StartLow t falls rises = after_start_low begin t rises
@@ -54,7 +55,7 @@ next_place begin bits (Over ended) t falls rises = Over ended
 
 -- whether microsecond t is the sample of the slot that falls there
 abbrev pub samples : Stage → ℕ → Bool → Bool
-samples (InSlot fall last) t falls = not falls && (t == fall + 1050)
+samples (InSlot fall last) t falls = not falls && (t == fall + sample_at)
 samples _ t falls = false
 
 -- the bit that is sampled at microsecond t

@@ -3,7 +3,7 @@ ghost use Rattle.std.specs.Prelude.{◌≡◌, ◌+◌, ◌<◌, ◌≤◌, ◌&
 ghost use Rattle.cec_wave.specs.Bounds.{latest_begin, latest_heard};
 
 use arrayvec::ArrayVec;
-use cec_bits::ending_of;
+use cec_bits::{SAMPLE, STANDARD, ending_of};
 use cec_frame::Ending;
 
 /// How a reading ended: `until` is the last microsecond that belongs to it.
@@ -39,11 +39,15 @@ fn start_low_at(begin: u64, t: u64, rises: bool) -> Stage
     requires { begin ≤ latest_begin }
     ensures { result ≡ after_start_low begin t rises }
 {
-    if t > begin + 3900 {
-        over(Ending::BadStart, begin + 3901, begin + 3901)
+    if t > begin + STANDARD.start_low.most {
+        over(
+            Ending::BadStart,
+            begin + STANDARD.start_low.most + 1,
+            begin + STANDARD.start_low.most + 1,
+        )
     } else if !rises {
         Stage::StartLow
-    } else if t < begin + 3500 {
+    } else if t < begin + STANDARD.start_low.least {
         over(Ending::BadStart, t, t)
     } else {
         Stage::StartHigh
@@ -55,13 +59,17 @@ fn start_high_at(begin: u64, t: u64, falls: bool) -> Stage
     ensures { result ≡ after_start_high begin t falls }
 {
     if falls {
-        if t < begin + 4300 {
+        if t < begin + STANDARD.start_total.least {
             over(Ending::BadStart, t, t)
         } else {
             Stage::InSlot(t, None)
         }
-    } else if t == begin + 4700 {
-        over(Ending::BadStart, begin + 4701, begin + 4700)
+    } else if t == begin + STANDARD.start_total.most {
+        over(
+            Ending::BadStart,
+            begin + STANDARD.start_total.most + 1,
+            begin + STANDARD.start_total.most,
+        )
     } else {
         Stage::StartHigh
     }
@@ -73,7 +81,7 @@ fn last_slot_at(fall: u64, ending: Ending, t: u64, falls: bool) -> Stage
 {
     if falls {
         over(Ending::Short, t, t)
-    } else if t == fall + 1050 {
+    } else if t == fall + SAMPLE {
         over(ending, t, t)
     } else {
         Stage::InSlot(fall, Some(ending))
@@ -85,12 +93,12 @@ fn other_slot_at(bits: &[bool], fall: u64, t: u64, falls: bool) -> Stage
     ensures { result ≡ after_other_slot bits.now fall t falls }
 {
     if falls {
-        if t < fall + 2050 {
+        if t < fall + STANDARD.bit_total.least {
             over(Ending::Short, t, t)
         } else {
             Stage::InSlot(t, ending_of(bits))
         }
-    } else if t == fall + 2750 {
+    } else if t == fall + STANDARD.bit_total.most {
         over(Ending::Silent, t + 1, t)
     } else {
         Stage::InSlot(fall, None)
@@ -121,7 +129,7 @@ impl Stage {
         ensures { result ≡ samples self t falls }
     {
         match self {
-            Stage::InSlot(fall, _) => !falls && t == fall + 1050,
+            Stage::InSlot(fall, _) => !falls && t == fall + SAMPLE,
             _ => false,
         }
     }

@@ -1,7 +1,7 @@
 //! Laws of rounds: one line, arbitration (CEC 9), the acknowledge bit (CEC 6.1), and how long a round lasts.
 ghost use Rattle.cec_wire.specs.Alone.{RoundsAreLone};
 ghost use Rattle.cec_wire.specs.Bounds.{RoundsAreShort};
-ghost use Rattle.cec_wire.specs.Contend.{AcknowledgedIsZero, AcknowledgersHold, CompleteIsSurvivors, CompleteIsWinners, HasLine, LaterPulses, LosersInside, RoundBelow, SameLine, WinnersLast, WinnersWindow};
+ghost use Rattle.cec_wire.specs.Contend.{AcknowledgedIsZero, AcknowledgersHold, AlikePulses, CompleteIsSurvivors, CompleteIsWinners, HasLine, LaterPulses, LosersInside, RoundBelow, SameLine, WinnersLast, WinnersWindow};
 ghost use Rattle.cec_wire.specs.Falls.{EachFallBegins, FallsAreRead, FewFalls, RoundFits, WaveFits};
 ghost use Rattle.cec_wire.specs.Lasting.{RoundsLast};
 ghost use Rattle.cec_wire.specs.OneOutcome.{OneOutcome, RoundsHaveOutcomes};
@@ -21,7 +21,8 @@ pub fn losers_inside()
     ensures { LosersInside }
 {}
 
-/// It is one line, whether the winners alone pull until they are out, or all who send.
+/// Where pulses are sparse, the line on which all who send pull is the line on which the winners alone do, and a sender
+/// pulls through the instant of an ending for want of a fall or not: it has none to make there.
 pub fn same_line()
     ensures { SameLine }
 {}
@@ -44,6 +45,11 @@ pub fn has_line()
 /// A pulse changes nothing before it begins.
 pub fn later_pulses()
     ensures { LaterPulses }
+{}
+
+/// Pulses that are alike before an instant have lines that are.
+pub fn alike_pulses()
+    ensures { AlikePulses }
 {}
 
 /// What everybody pulled below an instant is the round's line there, whatever pulses follow.

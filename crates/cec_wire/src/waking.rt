@@ -10,6 +10,7 @@ use crate::Seat;
 use crate::hearing::Stage;
 use crate::pulling::low_of;
 use crate::senders::sent_bit;
+use cec_bits::{SAMPLE, STANDARD};
 use cec_frame::Frame;
 use cec_wave::{FIRST_SLOT, SLOT, START_LOW, Stretch};
 
@@ -121,14 +122,14 @@ fn next_due(begin: u64, place: Stage, t: u64) -> Option<u64>
     ensures { result ≡ next_due begin place t }
 {
     match place {
-        Stage::StartLow => Some(begin + 3901),
-        Stage::StartHigh => Some(begin + 4700),
-        Stage::InSlot(fall, None) => Some(if t <= fall + 1050 {
-            fall + 1050
+        Stage::StartLow => Some(begin + STANDARD.start_low.most + 1),
+        Stage::StartHigh => Some(begin + STANDARD.start_total.most),
+        Stage::InSlot(fall, None) => Some(if t <= fall + SAMPLE {
+            fall + SAMPLE
         } else {
-            fall + 2750
+            fall + STANDARD.bit_total.most
         }),
-        Stage::InSlot(fall, Some(_)) => Some(fall + 1050),
+        Stage::InSlot(fall, Some(_)) => Some(fall + SAMPLE),
         Stage::Over(ended) => {
             if t <= ended.at {
                 Some(ended.at + 1)

@@ -11,7 +11,7 @@ use Rattle.cec_wire.specs.declared.Seat.{Seat}
 use Rattle.cec_wire.specs.declared.Outcome.{Outcome}
 use Rattle.cec_wire.specs.Bounds.{begun_within}
 use Rattle.cec_wire.specs.Contend.{AreFrames}
-use Rattle.cec_wire.specs.Round.{is_within, pulse_pulls, winning_frames, is_acknowledged, is_broken, IsRound}
+use Rattle.cec_wire.specs.Round.{is_within, pulse_pulls, frames_of, is_acknowledged, is_broken, IsRound}
 use Rattle.cec_bits.specs.Sending.{sender_pulls}
 use Rattle.cec_wire.proofs.Bounds.{rounds_are_short}
 use Rattle.cec_wire.proofs.Differ.{In, any_in}
@@ -107,7 +107,7 @@ pulses_line seats begin pulses o frames sparse wave round t =
     pulls : (p : Stretch) → In p pulses → (u : ℕ) → pulse_pulls begin (known_at u (reading_of low begin)).ended (was_low low u) u p ≡ true → low u ≡ true
     pulls p i u h =
         round.line u ∙ or_first (list_any (pulse_pulls begin (known_at u (reading_of low begin)).ended (was_low low u) u) pulses)
-        (list_any (sender_pulls begin (known_at u (reading_of low begin)) u) (winning_frames seats)
+        ((list_any (sender_pulls begin (known_at u (reading_of low begin)) u) (frames_of seats) && (is_within (known_at u (reading_of low begin)).ended u || was_low low u))
         || (is_acknowledged seats (known_at u (reading_of low begin)) u || is_broken seats (known_at u (reading_of low begin)) u (known_at u (reading_of low begin)).ended))
         (any_in (pulse_pulls begin (known_at u (reading_of low begin)).ended (was_low low u) u) pulses p i h)
 

@@ -1,17 +1,19 @@
 -- The line of a round is low exactly where one of its drives is.
-use Rattle.std.proofs.Common.{◌≡◌, ℕ, zero, suc, ◌+◌, ◌-◌, ◌==◌, ◌<◌, ◌≤◌, Bool, true, false, ◌||◌, if◌then◌else◌, List, [], ◌∷◌, ◌++◌, map, slice_get, inl, inr, Option, Some, None, refl, arith, ap, ap₂, ◌∙◌, sym, subst}
-use Rattle.std.specs.List.{list_any}
+use Rattle.std.proofs.Common.{◌≡◌, ℕ, zero, suc, ◌+◌, ◌-◌, ◌==◌, ◌<◌, ◌≤◌, Bool, true, false, ◌&&◌, ◌||◌, if◌then◌else◌, List, [], ◌∷◌, ◌++◌, map, slice_get, inl, inr, Option, Some, None, refl, arith, ap, ap₂, ◌∙◌, sym, subst}
+use Rattle.std.specs.List.{list_any, cons_option}
 use Rattle.std.proofs.lemmas.Bool.{cases_lt}
 use Rattle.std.proofs.lemmas.Bool.Decides.{nat_tests}
 use Rattle.cec_wave.specs.declared.Stretch.{Stretch}
-use Rattle.cec_wave.specs.Line.{Line, covers, line_of, IsWave}
-use Rattle.cec_bits.specs.Reading.{Read, reading_of, start_of}
+use Rattle.cec_wave.specs.Line.{Line, covers, line_of, was_low, IsWave}
+use Rattle.cec_bits.specs.Reading.{Read, known_at, reading_of, start_of}
 use Rattle.cec_bits.proofs.Waves.{quiet}
 use Rattle.cec_wire.specs.declared.Loser.{Loser}
 use Rattle.cec_wire.specs.declared.Seat.{Seat}
 use Rattle.cec_wire.specs.declared.Outcome.{Outcome}
 use Rattle.cec_wire.specs.Bounds.{begun_within}
-use Rattle.cec_wire.specs.Round.{lost_at, losers_from, out_in, out_of}
+use Rattle.cec_bits.specs.Sending.{sender_pulls}
+use Rattle.cec_wire.specs.Round.{frames_of, is_within, lost_at, losers_from, out_in, out_of}
+use Rattle.cec_wire.proofs.SameLine.{none_begins}
 use Rattle.cec_wire.proofs.Lasting.{begun_by, contended, low_at_begin}
 use Rattle.cec_wire.proofs.OneOutcome.{covers_own}
 use Rattle.cec_wire.proofs.Still.{high_before}
@@ -56,11 +58,21 @@ reports_by wave begin o s rest own same first w at (suc k) some =
 
 -- ---- seat by seat
 
-seat_same : (low : Line) (begin t : ℕ) (o : Outcome) → Reports low begin o → (seat : Seat) → line_of (seat_stretches_by begin o seat (out_of (reading_of low begin) seat.sends)) t ≡ seat_line begin low seat t
-seat_same low begin t o reports seat =
+-- past the reading's last microsecond a seat pulls only where the line is low already
+abbrev pub IsTimely : Line → ℕ → ℕ → Seat → Type 0
+IsTimely low begin t seat = list_any (sender_pulls begin (known_at t (reading_of low begin)) t) (frames_of (seat ∷ [])) ≡ true → (is_within (known_at t (reading_of low begin)).ended t || was_low low t) ≡ true
+
+and_same : (b c : Bool) → (b ≡ true → c ≡ true) → b ≡ (b && c)
+and_same true c h = sym (h refl)
+and_same false c h = refl
+
+seat_same : (low : Line) (begin t : ℕ) (o : Outcome) → Reports low begin o → (seat : Seat) → IsTimely low begin t seat
+    → line_of (seat_stretches_by begin o seat (out_of (reading_of low begin) seat.sends)) t ≡ seat_line begin low seat t
+seat_same low begin t o reports seat timely =
     let out = out_of (reading_of low begin) seat.sends in
     any_append (λ s. covers s t) (sent_stretches begin o out seat.sends) (ack_stretches o seat out ++ break_stretches o seat out)
-    ∙ ap₂ (λ a b. a || b) (sent_line low begin t o reports seat.sends)
+    ∙ ap₂ (λ a b. a || b) (sent_line low begin t o reports seat.sends
+    ∙ and_same (list_any (sender_pulls begin (known_at t (reading_of low begin)) t) (frames_of (seat ∷ []))) (is_within (known_at t (reading_of low begin)).ended t || was_low low t) timely)
     (any_append (λ s. covers s t) (ack_stretches o seat out) (break_stretches o seat out) ∙ ap₂ (λ a b. a || b) (ack_line low begin t o reports seat) (break_line low begin t o reports seat))
 
 -- the losers after place n have greater places
@@ -89,13 +101,37 @@ out_found r n (suc k) m (x ∷ ss) s e h = by_out (out_of r x.sends) (out_found 
 
 -- of each seat, and of the drives that come after those of seats
 seats_same : (low : Line) (begin t : ℕ) (o : Outcome) (rest : List (List Stretch)) → Reports low begin o → (n : ℕ) (seats : List Seat)
-    → ((k : ℕ) (s : Seat) → slice_get seats k ≡ Some s → out_in o.losers.items (n + k) ≡ out_of (reading_of low begin) s.sends)
+    → ((k : ℕ) (s : Seat) → slice_get seats k ≡ Some s → (out_in o.losers.items (n + k) ≡ out_of (reading_of low begin) s.sends) × IsTimely low begin t s)
     → map (λ ss. line_of ss t) (drives_from begin o n seats ++ rest) ≡ map (λ seat. seat_line begin low seat t) seats ++ map (λ ss. line_of ss t) rest
 seats_same low begin t o rest reports n [] outs = refl
 seats_same low begin t o rest reports n (seat ∷ seats) outs =
-    let first : out_in o.losers.items n ≡ out_of (reading_of low begin) seat.sends = ap (out_in o.losers.items) (let e : n ≡ n + 0 = omega arith in e) ∙ outs 0 seat refl in
-    ap₂ (λ a (bs : List Bool). a ∷ bs) (ap (λ out. line_of (seat_stretches_by begin o seat out) t) first ∙ seat_same low begin t o reports seat)
-    (seats_same low begin t o rest reports (n + 1) seats (λ k s h. ap (out_in o.losers.items) (let e : n + 1 + k ≡ n + suc k = omega arith in e) ∙ outs (suc k) s h))
+    let first : out_in o.losers.items n ≡ out_of (reading_of low begin) seat.sends = ap (out_in o.losers.items) (let e : n ≡ n + 0 = omega arith in e) ∙ (outs 0 seat refl).0 in
+    ap₂ (λ a (bs : List Bool). a ∷ bs) (ap (λ out. line_of (seat_stretches_by begin o seat out) t) first ∙ seat_same low begin t o reports seat (outs 0 seat refl).1)
+    (seats_same low begin t o rest reports (n + 1) seats (λ k s h. (ap (out_in o.losers.items) (let e : n + 1 + k ≡ n + suc k = omega arith in e) ∙ (outs (suc k) s h).0, (outs (suc k) s h).1)))
+
+-- what one seat sends is among what all send
+sent_among : (test : List ℕ → Bool) (k : ℕ) (seats : List Seat) (s : Seat) → slice_get seats k ≡ Some s → list_any test (frames_of (s ∷ [])) ≡ true → list_any test (frames_of seats) ≡ true
+sent_among test k [] s h e = cc
+sent_among test zero (x ∷ ss) s h e =
+    let same : x ≡ s = cc in
+    subst (λ (y : Seat). list_any test (frames_of (y ∷ ss)) ≡ true) (sym same) (by s.sends e)
+  where
+    by : (o : Option (List ℕ)) → list_any test (cons_option o []) ≡ true → list_any test (cons_option o (frames_of ss)) ≡ true
+    by None q = cc
+    by (Some f) q = by_first (test f) q
+      where
+        by_first : (b : Bool) → (b || false) ≡ true → (b || list_any test (frames_of ss)) ≡ true
+        by_first true r = refl
+        by_first false r = cc
+sent_among test (suc k) (x ∷ ss) s h e = by x.sends (sent_among test k ss s h e)
+  where
+    by : (o : Option (List ℕ)) → list_any test (frames_of ss) ≡ true → list_any test (cons_option o (frames_of ss)) ≡ true
+    by None q = q
+    by (Some f) q = rw q (or_true (test f))
+      where
+        or_true : (b : Bool) → (b || true) ≡ true
+        or_true true = refl
+        or_true false = refl
 
 -- ---- all drives
 
@@ -111,7 +147,11 @@ drives_are_ruled seats begin pulses o frames sparse wave round begun t =
       slots = reports_by o.wave begin o first.0 first.1 refl first.2 first.3 (subst IsWave first.2 wave) round.ends;
     } in
     seats_same (line_of o.wave) begin t o (begun_within begin o.rest pulses ∷ []) reports 0 seats
-    (λ k s h. ap (λ (ls : List Loser). out_in ls (0 + k)) round.losers ∙ out_found (reading_of (line_of o.wave) begin) 0 k (0 + k) seats s refl h)
+    (λ k s h. (
+      ap (λ (ls : List Loser). out_in ls (0 + k)) round.losers ∙ out_found (reading_of (line_of o.wave) begin) 0 k (0 + k) seats s refl h,
+      λ e. none_begins seats begin pulses (line_of o.wave) frames sparse (contended seats begin pulses (line_of o.wave) round.line) t
+          (sent_among (sender_pulls begin (known_at t (reading_of (line_of o.wave) begin)) t) k seats s h e),
+    ))
     ∙ ap (λ b. map (λ seat. seat_line begin (line_of o.wave) seat t) seats ++ b ∷ []) (sym (pulses_line seats begin pulses o frames sparse wave round t))
 
 -- ---- the whole line
@@ -123,7 +163,7 @@ any_of test (x ∷ xs) = ap (λ b. test x || b) (any_of test xs)
 
 pub drives_are_the_line : DrivesAreTheLine
 drives_are_the_line seats begin pulses o frames sparse wave round begun t =
-    lines_are_driven seats begin pulses (line_of o.wave) frames sparse round.line t
+    lines_are_driven seats begin pulses (line_of o.wave) round.line t
     ∙ turned (pulse_line begin pulses (line_of o.wave) t) (list_any (λ seat. seat_line begin (line_of o.wave) seat t) seats)
     ∙ ap (λ b. b || (pulse_line begin pulses (line_of o.wave) t || false)) (any_of (λ seat. seat_line begin (line_of o.wave) seat t) seats)
     ∙ sym (any_append (λ b. b) (map (λ seat. seat_line begin (line_of o.wave) seat t) seats) (pulse_line begin pulses (line_of o.wave) t ∷ []))

@@ -37,7 +37,7 @@ use Rattle.cec_event.specs.declared.event.EventError.{EventError}
 use Rattle.cec_net.specs.Start.{contends}
 use Rattle.cec_net.specs.State.{NetState, each_from}
 use Rattle.cec_net.specs.Apply.{net_after, applied_unless, changed_at, event_fault}
-use Rattle.cec_net.specs.Step.{after_round, device_after, followed_in, followed_unless, is_among, is_contended, after_fate}
+use Rattle.cec_net.specs.Step.{after_round, device_after, followed_in, followed_unless, is_among, is_sent, after_fate}
 use Rattle.cec_driven.specs.Driven.{names_of}
 use Rattle.driven_laws.specs.Dumps.{names_in}
 use Rattle.driven_laws.proofs.Names.{name-queued, name-reported_by, names-each, two}
@@ -142,8 +142,8 @@ names_applied at event s = names-unless (event_fault s event) at event s
 
 pub names_round : (s : NetState) (begin : ℕ) (o : Outcome) → names_of (after_round s begin o).devices ≡ names_of s.devices
 names_round s begin o =
-    names-all 0 (λ number d. device_after (contends s.rest begin d) (is_contended s.rest begin s.devices) o number d) s.devices
-    (λ number d. name-after (contends s.rest begin d) (is_contended s.rest begin s.devices) o number d)
+    names-all 0 (λ number d. device_after (contends s.rest begin d) (is_sent s.rest begin o s.devices) o number d) s.devices
+    (λ number d. name-after (contends s.rest begin d) (is_sent s.rest begin o s.devices) o number d)
 
 -- ---- the tree
 

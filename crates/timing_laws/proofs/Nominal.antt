@@ -116,7 +116,7 @@ high_after seats begin low c left xs bits e s bit d ending at h t l =
 
     quiet : (u : ℕ) → e < u → is_fall low u ≡ false
     quiet u m = elim (cases_lt (last_heard ending at) u) [
-      | inl past ↦ no_fall_after seats begin [] low c.frames no_pulses c.line (let n = over.near in omega (arith, ends.0, ends.1, n)) u (omega (arith, ends.0))
+      | inl past ↦ no_fall_after seats begin [] low c.line u (omega (arith, ends.0))
       | inr within ↦ over.quiet u m within
     ]
 

@@ -18,8 +18,8 @@ use Rattle.cec_bits.specs.Sending.{bit_read, out_slot, sender_pulls, goes_on}
 use Rattle.cec_bits.proofs.Search.{first_in_none}
 use Rattle.cec_bits.proofs.Causes.{nothing, known_front, late_read, known_in_slot}
 use Rattle.cec_wire.specs.declared.Seat.{Seat}
-use Rattle.cec_wire.specs.Round.{IsRoundLine, frames_of, is_acknowledged, is_broken, is_pulled, winning_frames}
-use Rattle.cec_wire.specs.Contend.{AreFrames, Stays}
+use Rattle.cec_wire.specs.Round.{IsRoundLine, frames_of, is_acknowledged, is_broken, winning_frames}
+use Rattle.cec_wire.specs.Contend.{AreFrames, pulled_through, Stays}
 use Rattle.cec_wire.specs.Machine.{acks_until}
 use Rattle.cec_wire.proofs.Differ.{In, in_any, or_right}
 use Rattle.cec_wire.proofs.Lays.{slot_or_none, after_start}
@@ -29,7 +29,8 @@ use Rattle.cec_wire.proofs.Inside.{stays_by, known_here}
 use Rattle.cec_wire.proofs.Law.{in_filter}
 use Rattle.cec_wire.proofs.Holding.{acks_now, done_by}
 use Rattle.cec_wire.proofs.Lasting.{contended}
-use Rattle.cec_wire.proofs.Falls.{fall_by, FallBy}
+use Rattle.cec_wire.proofs.Falls.{round_fall_by, FallBy}
+use Rattle.cec_wire.proofs.SameLine.{same_line}
 
 -- ---- a line without falls
 
@@ -72,9 +73,9 @@ IsSlotTime begin t = (k : ℕ) × (t ≡ begin + 4500 + 2400 * k)
 -- its falls come at the nominal instants
 pub falls_nominal : (seats : List Seat) (begin : ℕ) (low : Line) → Calm seats begin low → (u : ℕ) → is_fall low u ≡ true → (u ≡ begin) ⊎ IsSlotTime begin u
 falls_nominal seats begin low c u fall =
-    by (fall_by (winning_frames seats) seats begin [] low u (c.line u) (λ p. c.line (u - 1)) fall)
+    by (round_fall_by seats begin [] low u c.line fall)
   where
-    by : FallBy (winning_frames seats) begin [] low u → (u ≡ begin) ⊎ IsSlotTime begin u
+    by : FallBy (frames_of seats) begin [] low u → (u ≡ begin) ⊎ IsSlotTime begin u
     by (inl e) = inl e
     by (inr (inl s)) = inr (s.3.0, s.3.2)
     by (inr (inr p)) = let none : p.0.0 < 0 = p.0.2 in absurd (omega arith)
@@ -137,11 +138,11 @@ who_makes seats begin low c t k reports h =
     ]
   where
     made : (list_any (sender_pulls begin k t) (winning_frames seats) || (is_acknowledged seats k t || is_broken seats k t k.ended)) ≡ true
-    made = ap (λ (m : Known). is_pulled seats begin [] (was_low low t) m t) (sym reports) ∙ sym (c.line t) ∙ h
+    made = ap (λ (m : Known). pulled_through (winning_frames seats) seats begin [] (was_low low t) m t) (sym reports) ∙ sym ((same_line seats begin [] low c.frames no_pulses).0 c.line t) ∙ h
 
 pub acked_low : (seats : List Seat) (begin : ℕ) (low : Line) → Calm seats begin low → (t : ℕ) (k : Known) → known_at t (reading_of low begin) ≡ k → is_acknowledged seats k t ≡ true → low t ≡ true
 acked_low seats begin low c t k reports h =
-    c.line t ∙ ap (λ (m : Known). is_pulled seats begin [] (was_low low t) m t) reports
+    (same_line seats begin [] low c.frames no_pulses).0 c.line t ∙ ap (λ (m : Known). pulled_through (winning_frames seats) seats begin [] (was_low low t) m t) reports
     ∙ or_right (list_any (sender_pulls begin k t) (winning_frames seats)) (is_acknowledged seats k t || is_broken seats k t k.ended) (rw h refl)
 
 -- ---- a slot

@@ -1,5 +1,5 @@
-use Rattle.cec_wire.proofs.Law as Law
+use Rattle.cec_wire.proofs.SameLine as SameLine
 use Rattle.cec_wire.proofs.laws.same_line.Goals as goal
 
 pub returns : goal.returns
-returns c = Law.same_line
+returns c = SameLine.same_line
