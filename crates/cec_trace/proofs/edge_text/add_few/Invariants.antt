@@ -3,7 +3,7 @@ use Rattle.std.specs.List.{flat_map}
 use Rattle.arrayvec.specs.ArrayVec.{array_vec_len}
 use Rattle.hdmi_core.specs.Piece.{piece_text}
 use Rattle.cec_trace.specs.EdgeText.{stretch_lines}
-use Rattle.cec_trace.proofs.edge_text.write_few.Given as goal
+use Rattle.cec_trace.proofs.edge_text.add_few.Given as goal
 
 -- the lines of the stretches so far are there, in four parts each
 abbrev pub invariant-loop-stretch : goal.invariant-loop-stretch

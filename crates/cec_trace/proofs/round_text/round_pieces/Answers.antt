@@ -2,11 +2,10 @@ use Rattle.std.proofs.Common.{◌≡◌, rules, append_assoc}
 use Rattle.std.specs.List.{flat_map}
 use Rattle.hdmi_core.specs.Piece.{piece_text}
 use Rattle.cec_trace.specs.TraceText.{round_line_of}
-use Rattle.cec_trace.proofs.round_text.write_round_of.Goals as goal
+use Rattle.cec_trace.proofs.round_text.round_pieces.Goals as goal
 
 pub returns : goal.returns
-returns g c =
-    let total : flat_map piece_text c.add-9.new.line.items ≡ round_line_of c.args.devices.now c.args.outcome.now c.args.reported.now c.args.verdict.now =
+returns c =
     rw (
       c.add-9.ensures.text,
       c.add_losers.ensures.text,
@@ -20,5 +19,4 @@ returns g c =
       c.add-2.ensures.text,
       c.add.ensures.text,
       c.new-line.ensures,
-    ) (search (rules, append_assoc)) in
-    rw (← total, ← c.deref-3.ensures.0) c.write_line.ensures
+    ) (search (rules, append_assoc))

@@ -1,4 +1,4 @@
-use Rattle.cec_wires.proofs.definitions.+write_highs.Given as goal
+use Rattle.cec_wires.proofs.definitions.+add_highs.Given as goal
 
-abbrev pub decreases-write_highs : goal.decreases-write_highs
-decreases-write_highs g l = l.count
+abbrev pub decreases-add_highs : goal.decreases-add_highs
+decreases-add_highs g l = l.count

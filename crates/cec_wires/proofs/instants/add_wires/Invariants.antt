@@ -1,12 +1,12 @@
 use Rattle.std.proofs.Common.{◌≤◌, ◌-◌, ◌∷◌}
-use Rattle.cec_tally.specs.Adds.{AddsAll}
+use Rattle.hdmi_core.specs.Adds.{Adds}
 use Rattle.cec_wires.specs.Wires.{wires_text}
-use Rattle.cec_wires.proofs.instants.write_wires.Given as goal
+use Rattle.cec_wires.proofs.instants.add_wires.Given as goal
 
--- the instants so far are written
+-- the instants so far are added
 abbrev pub invariant-instants : goal.invariant-instants
 invariant-instants g l = record {
-  so_far : AddsAll (g.S.Sink.contents l.fn.out) (g.S.Sink.contents l.out) (g.S.Sink.is_stuck l.fn.out) (g.S.Sink.is_stuck l.out) l.fn.written l.written (wires_text (l.line ∷ l.drives) l.from (l.t - l.from));
+  so_far : Adds l.fn.out l.out (wires_text (l.line ∷ l.drives) l.from (l.t - l.from));
   after : l.from ≤ l.t;
   before : l.t ≤ l.to;
 }
