@@ -1,10 +1,10 @@
 use Rattle.std.proofs.Common.{length}
 use Rattle.hdmi_core.specs.Lines.{lines_of}
 use Rattle.cec_dis.proofs.Reporting.{Put}
-use Rattle.cec_dis.proofs.lines.write_lines.Given as goal
+use Rattle.cec_dis.proofs.lines.add_lines.Given as goal
 
 abbrev pub invariant-lines : goal.invariant-lines
-invariant-lines g l = Put (lines_of l.text) l.rest (g.S.Sink.contents l.fn.out) (g.S.Sink.contents l.out) (g.S.Sink.is_stuck l.fn.out) (g.S.Sink.is_stuck l.out) l.written
+invariant-lines g l = Put (lines_of l.text) l.rest l.fn.out l.out
 
 abbrev pub decreases-lines : goal.decreases-lines
 decreases-lines g l = length l.rest
