@@ -2,7 +2,7 @@
 use cec_formats::{Form, read_capture};
 use cec_mon::watch_capture;
 use cec_wave::Stretch;
-use hdmi_core::{WriteFault, Writes};
+use hdmi_core::{Counted, WriteFault, Writes};
 use std::io::{self, ErrorKind, Write};
 use std::process::Abort;
 
@@ -83,30 +83,40 @@ fn watch(rt: &(impl Abort + AllocGlobal), out: &mut Out<'_>) -> Result<(), Write
     watch_capture(&capture, out)
 }
 
-fn dump(name: &str, out: &mut Out<'_>) -> Result<(), WriteFault> {
-    let mut written = 0;
+fn dump(name: &str, text: &mut Counted<'_, Out<'_>>) {
     match name {
-        "vcd head" => cec_vcd::write_head(out, &mut written),
-        "vcd changes" => cec_vcd::write_changes(out, &mut written, STRETCHES),
-        _ => cec_vcd::write_last(out, &mut written, 2_030_000),
+        "vcd head" => cec_vcd::add_head(text),
+        "vcd changes" => cec_vcd::add_changes(text, STRETCHES),
+        _ => cec_vcd::add_last(text, 2_030_000),
     }
 }
 
-fn pins(name: &str, out: &mut Out<'_>) -> Result<(), WriteFault> {
-    let mut written = 0;
+fn pins(name: &str, text: &mut Counted<'_, Out<'_>>) {
     match name {
-        "pin head" => cec_pin::write_head(out, &mut written),
-        "pin fall" => cec_pin::write_fall(out, &mut written, 1_016_500),
-        _ => cec_pin::write_rise(out, &mut written, 2_030_000),
+        "pin head" => cec_pin::add_head(text),
+        "pin fall" => cec_pin::add_fall(text, 1_016_500),
+        _ => cec_pin::add_rise(text, 2_030_000),
     }
 }
 
-fn rows(name: &str, out: &mut Out<'_>) -> Result<(), WriteFault> {
-    let mut written = 0;
+fn rows(name: &str, text: &mut Counted<'_, Out<'_>>) {
     match name {
-        "csv head" => cec_csv::write_head(out, &mut written),
-        "csv changes" => cec_csv::write_changes(out, &mut written, STRETCHES),
-        _ => cec_csv::write_last(out, &mut written, 2_030_000),
+        "csv head" => cec_csv::add_head(text),
+        "csv changes" => cec_csv::add_changes(text, STRETCHES),
+        _ => cec_csv::add_last(text, 2_030_000),
+    }
+}
+
+fn write(name: &str, out: &mut Out<'_>) -> Result<(), WriteFault> {
+    let mut text = Counted::new(out);
+    match name.get(..3).unwrap_or(name) {
+        "vcd" => dump(name, &mut text),
+        "pin" => pins(name, &mut text),
+        _ => rows(name, &mut text),
+    }
+    match text.written() {
+        Ok(_) => Ok(()),
+        Err(fault) => Err(fault),
     }
 }
 
@@ -119,11 +129,9 @@ fn fault_of(outcome: Result<(), WriteFault>) -> Option<u128> {
 }
 
 fn call(rt: &(impl Abort + AllocGlobal), name: &str, out: &mut Out<'_>) -> Option<u128> {
-    match name.get(..3).unwrap_or(name) {
-        "vcd" => fault_of(dump(name, out)),
-        "pin" => fault_of(pins(name, out)),
-        "csv" => fault_of(rows(name, out)),
-        _ => fault_of(watch(rt, out)),
+    match name {
+        "watch" => fault_of(watch(rt, out)),
+        _ => fault_of(write(name, out)),
     }
 }
 

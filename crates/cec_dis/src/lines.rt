@@ -1,15 +1,15 @@
 //! Frames in hex, one a line, and their texts.
 ghost use Rattle.std.specs.Prelude.{◌≡◌, ◌++◌, codes, Ok, Err, Some, None, Option, MatchResult};
 ghost use Rattle.cec_dis.specs.Lines.{Answers, WritesLines, first_fault, frame_line, line_frame, line_text};
-ghost use Rattle.cec_tally.specs.Adds.{Adds};
+ghost use Rattle.std.specs.List.{flat_map};
+ghost use Rattle.hdmi_core.specs.Adds.{Adds};
 ghost use Rattle.hdmi_core.specs.Lines.{lines_of};
 
 use crate::bytes::{DisCause, frame_in};
 use crate::remarks::remark;
 use cec_frame::Frame;
-use cec_tally::add_line;
 use cec_text::frame_text;
-use hdmi_core::{Piece, Sink, WriteFault, first_line, is_skipped};
+use hdmi_core::{Counted, Piece, Sink, WriteFault, first_line, is_skipped};
 use thiserror::Error;
 
 /// The first line that has no frame, counted from 1, and why.
@@ -62,62 +62,66 @@ fn check_lines(text: &[u8]) -> Result<(), DisFault>
     Ok(())
 }
 
-// Writes a text and the remark after it, as a line.
-fn write_with_remark<'a, S: Sink>(
-    out: &mut S,
-    written: &mut u128,
-    text: &'a [u8],
-    word: &'a str,
-) -> Result<(), WriteFault>
-    ensures { Adds (S.contents out.old) (S.contents out.new) (S.is_stuck out.old) (S.is_stuck out.new) written.old written.new (text.now ++ codes " # " ++ word.now ++ codes "\n") result }
+// Adds a text and the remark after it, as a line.
+fn add_with_remark<'a, S: Sink>(out: &mut Counted<'_, S>, text: &'a [u8], word: &'a str)
+    ensures { Adds out.old out.new (text.now ++ codes " # " ++ word.now ++ codes "\n") }
 {
-    add_line(
-        out,
-        written,
-        &[
-            Piece::Bytes(text),
-            Piece::Text(" # "),
-            Piece::Text(word),
-            Piece::Text("\n"),
-        ],
-    )
+    out.add_line(&[
+        Piece::Bytes(text),
+        Piece::Text(" # "),
+        Piece::Text(word),
+        Piece::Text("\n"),
+    ]);
 }
 
-fn write_frame<S: Sink>(out: &mut S, written: &mut u128, frame: &Frame) -> Result<(), WriteFault>
-    ensures { Adds (S.contents out.old) (S.contents out.new) (S.is_stuck out.old) (S.is_stuck out.new) written.old written.new (frame_line frame.now) result }
+fn add_frame<S: Sink>(out: &mut Counted<'_, S>, frame: &Frame)
+    ensures { Adds out.old out.new (frame_line frame.now) }
 {
     let text = frame_text(frame);
     match remark(frame) {
-        None => add_line(
-            out,
-            written,
-            &[Piece::Bytes(text.as_slice()), Piece::Text("\n")],
-        ),
-        Some(word) => write_with_remark(out, written, text.as_slice(), word),
+        None => out.add_line(&[Piece::Bytes(text.as_slice()), Piece::Text("\n")]),
+        Some(word) => add_with_remark(out, text.as_slice(), word),
     }
 }
 
-// Writes what a line has, if anything.
-fn write_one<S: Sink>(out: &mut S, written: &mut u128, line: &[u8]) -> Result<(), WriteFault>
-    ensures { Adds (S.contents out.old) (S.contents out.new) (S.is_stuck out.old) (S.is_stuck out.new) written.old written.new (line_text line.now) result }
+// Adds what a line has, if anything.
+#[tactic(auto, using(hdmi_core::proofs::Adding::nothing))]
+fn add_one<S: Sink>(out: &mut Counted<'_, S>, line: &[u8])
+    ensures { Adds out.old out.new (line_text line.now) }
 {
     match line_frame(line) {
-        Ok(Some(frame)) => write_frame(out, written, &frame),
-        Ok(None) => Ok(()),
-        Err(_) => Ok(()),
+        Ok(Some(frame)) => add_frame(out, &frame),
+        Ok(None) => {}
+        Err(_) => {}
+    }
+}
+
+// Adds what the lines have, up to a fault.
+fn add_lines<S: Sink>(out: &mut Counted<'_, S>, text: &[u8])
+    ensures { Adds out.old out.new (flat_map line_text (lines_of text.now)) }
+{
+    let mut rest = text;
+    'lines: while let Some((current, after)) = first_line(rest) {
+        add_one(out, current);
+        if out.has_failed() {
+            return;
+        }
+        rest = after;
     }
 }
 
 fn write_lines<S: Sink>(text: &[u8], out: &mut S) -> Result<(), WriteFault>
     ensures { WritesLines (S.contents out.old) (S.contents out.new) (S.is_stuck out.old) (S.is_stuck out.new) (lines_of text.now) result }
 {
-    let mut rest = text;
-    let mut written = 0;
-    'lines: while let Some((current, after)) = first_line(rest) {
-        write_one(out, &mut written, current)?;
-        rest = after;
+    let mut lines = Counted::new(out);
+    add_lines(&mut lines, text);
+    let written = lines.written();
+    // No effect at run time. The proof reads what `out` holds from the sink that comes back.
+    let _below = lines.into_sink();
+    match written {
+        Ok(_) => Ok(()),
+        Err(fault) => Err(fault),
     }
-    Ok(())
 }
 
 /// Writes the texts of the frames whose bytes the lines of a text spell in hex, a line each; after a text a remark, ` # `

@@ -3,7 +3,9 @@
 #![tactic(auto)]
 
 mod format;
+mod tallied;
 mod writing;
 
 pub use format::Format;
-pub use writing::{write_end, write_round, write_start};
+pub use tallied::{write_end, write_round, write_start};
+pub use writing::{add_end, add_round, add_start};

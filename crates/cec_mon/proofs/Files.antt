@@ -1,11 +1,8 @@
 -- An edge file read edge by edge, and what is written of it.
 use Rattle.std.proofs.Common.{◌≡◌, ℕ, suc, ◌+◌, ◌-◌, ◌<◌, ◌≤◌, Bool, true, false, ◌&&◌, nat_lt, nat_le, if◌then◌else◌, List, [], ◌∷◌, ◌++◌, Option, Result, Ok, Err, refl, arith, ap, ◌∙◌, sym, subst}
 use Rattle.std.specs.Option.{option_to_list}
-use Rattle.std.specs.Io.KnownBytes.{Appends}
 use Rattle.std.proofs.lemmas.Bool.Decides.{nat_tests}
 use Rattle.std.proofs.lemmas.Grind.{flat_map-append}
-use Rattle.hdmi_core.specs.declared.sink.WriteFault.{WriteFault}
-use Rattle.hdmi_core.proofs.CutShort.{Appends-trans}
 use Rattle.cec_wave.specs.declared.Edge.{Edge as EdgeOf}
 use Rattle.cec_wave.specs.Line.{Line, was_low}
 use Rattle.cec_bits.specs.Readings.{Listed, readings_of}
@@ -13,10 +10,9 @@ use Rattle.cec_bits.specs.Ended.{ended_by}
 use Rattle.cec_bits.specs.Reports.{ended_before}
 use Rattle.cec_bits.proofs.Reported.{ended_first}
 use Rattle.cec_bits.proofs.Stood.{was_now}
-use Rattle.hdmi_core.specs.Cut.{CutOff}
-use Rattle.cec_tally.specs.Adds.{Adds, AddsAll}
+use Rattle.hdmi_core.specs.Adds.{Adds, Tally}
 use Rattle.hdmi_core.specs.Lines.{lines_of, is_skipped}
-use Rattle.cec_tally.proofs.Adding.{adds_nothing, both, from_nothing, front, front_after}
+use Rattle.hdmi_core.proofs.Adding.{cut_short, nothing, then}
 use Rattle.cec_signal.specs.Edges.{level_at, line_of_edges}
 use Rattle.cec_mon.specs.declared.monitor.Monitor.{Monitor as Watcher}
 use Rattle.cec_mon.specs.declared.edge_file.EdgeFault.{EdgeFault}
@@ -26,7 +22,7 @@ use Rattle.cec_mon.specs.declared.edge_file.EdgeLine.TheVariants.{Edge, End}
 use Rattle.cec_mon.specs.declared.edge_file.EdgeLines.{EdgeLines}
 use Rattle.cec_mon.specs.EdgeFile.{EdgeFile, edge_line_of, edges_read, end_read, file_left, file_of, is_in_turn, read_line, turns, with_edge, with_edges, word_out_of_turn, word_past, GoesAfter, ReadsOn}
 use Rattle.cec_mon.specs.Monitor.{HeardBefore, FollowsEdge, FollowsEnd}
-use Rattle.cec_mon.specs.Watch.{WritesFile, file_readings, listed_line, readings_text, reported_text}
+use Rattle.cec_mon.specs.Watch.{file_readings, listed_line, readings_text, reported_text}
 
 -- ---- edges before what is left
 
@@ -104,18 +100,18 @@ late_read (line ∷ lines) number is_low from f h = by_skip (is_skipped line) h 
 
 -- ---- the readings so far are written
 
-pub record Watched (f : EdgeFile) (lines : EdgeLines) (m : Watcher) (old now : Option (List ℕ)) (was is : Bool) (written : ℕ) : Type 0 where
+pub record Watched (f : EdgeFile) (lines : EdgeLines) (m : Watcher) (a b : Tally) : Type 0 where
   pub left : EdgeFile
   pub file : file_left lines ≡ Ok left
   pub end : left.end ≡ f.end
   pub level : (u : ℕ) → lines.from ≤ u → line_of_edges f.edges u ≡ level_at lines.is_low left.edges u
   pub before : was_low (line_of_edges f.edges) lines.from ≡ lines.is_low
   pub heard : HeardBefore m (line_of_edges f.edges) lines.from
-  pub so_far : AddsAll old now was is 0 written (readings_text (ended_before (line_of_edges f.edges) lines.from))
+  pub so_far : Adds a b (readings_text (ended_before (line_of_edges f.edges) lines.from))
 
-pub watched_first : (text : List ℕ) (f : EdgeFile) (lines : EdgeLines) (m : Watcher) (old : Option (List ℕ)) (was : Bool) → file_of text ≡ Ok f → lines.rest.now ≡ text → lines.number ≡ 1 → lines.is_low ≡ false → lines.from ≡ 0
-    → ((low : Line) → HeardBefore m low 0) → Watched f lines m old old was was 0
-watched_first text f lines m old was h rest number level from heard = record {
+pub watched_first : (text : List ℕ) (f : EdgeFile) (lines : EdgeLines) (m : Watcher) (a : Tally) → file_of text ≡ Ok f → lines.rest.now ≡ text → lines.number ≡ 1 → lines.is_low ≡ false → lines.from ≡ 0
+    → ((low : Line) → HeardBefore m low 0) → Watched f lines m a a
+watched_first text f lines m a h rest number level from heard = record {
   left = f;
   file = ap (λ (t : List ℕ). edges_read (lines_of t) lines.number lines.is_low lines.from) rest ∙ ap (λ n. edges_read (lines_of text) n lines.is_low lines.from) number
       ∙ ap (λ b. edges_read (lines_of text) 1 b lines.from) level ∙ ap (edges_read (lines_of text) 1 false) from ∙ h;
@@ -123,7 +119,7 @@ watched_first text f lines m old was h rest number level from heard = record {
   level = λ u l. ap (λ b. level_at b f.edges u) (sym level);
   before = ap (was_low (line_of_edges f.edges)) from ∙ (let x : nat_lt 0 0 ≡ false = grind (arith, nat_tests) in ap (λ b. b && line_of_edges f.edges (0 - 1)) x) ∙ sym level;
   heard = subst (HeardBefore m (line_of_edges f.edges)) (sym from) (heard (line_of_edges f.edges));
-  so_far = subst (λ n. AddsAll old old was was 0 0 (readings_text (ended_before (line_of_edges f.edges) n))) (sym from) (adds_nothing old was 0);
+  so_far = subst (λ n. Adds a a (readings_text (ended_before (line_of_edges f.edges) n))) (sym from) (nothing a);
 }
 
 -- an edge, and what was reported of it
@@ -136,10 +132,10 @@ record Told (f : EdgeFile) (lines next : EdgeLines) (m new : Watcher) (e : EdgeO
   heard : HeardBefore new (line_of_edges f.edges) next.from
   ended : ended_before (line_of_edges f.edges) next.from ≡ ended_before (line_of_edges f.edges) lines.from ++ option_to_list reported
 
-reported_edge : (f : EdgeFile) (lines next : EdgeLines) (m new : Watcher) (e : EdgeOf) (reported : Option Listed) (old now : Option (List ℕ)) (was is : Bool) (written : ℕ) → Watched f lines m old now was is written
+reported_edge : (f : EdgeFile) (lines next : EdgeLines) (m new : Watcher) (e : EdgeOf) (reported : Option Listed) (a b : Tally) → Watched f lines m a b
     → GoesAfter lines e next → FollowsEdge m e reported new → Told f lines next m new e reported
 unfolding Late
-reported_edge f lines next m new e reported old now was is written w g follows = record {
+reported_edge f lines next m new e reported p q w g follows = record {
   left = b.left;
   file = b.is;
   end = ap (λ (x : EdgeFile). x.end) (sym b.same) ∙ w.end;
@@ -176,11 +172,11 @@ reported_edge f lines next m new e reported old now was is written w g follows =
 pub text_more : (xs : List Listed) (o : Option Listed) → readings_text (xs ++ option_to_list o) ≡ readings_text xs ++ reported_text o
 text_more xs o = flat_map-append listed_line xs (option_to_list o)
 
-pub watched_more : (f : EdgeFile) (lines next : EdgeLines) (m new : Watcher) (e : EdgeOf) (reported : Option Listed) (old mid out : Option (List ℕ)) (was is now : Bool) (written total : ℕ)
-    → Watched f lines m old mid was is written → GoesAfter lines e next → FollowsEdge m e reported new → AddsAll mid out is now written total (reported_text reported)
-    → Watched f next new old out was now total
-watched_more f lines next m new e reported old mid out was is now written total w g follows added =
-    let t = reported_edge f lines next m new e reported old mid was is written w g follows in
+pub watched_more : (f : EdgeFile) (lines next : EdgeLines) (m new : Watcher) (e : EdgeOf) (reported : Option Listed) (a b c : Tally)
+    → Watched f lines m a b → GoesAfter lines e next → FollowsEdge m e reported new → Adds b c (reported_text reported)
+    → Watched f next new a c
+watched_more f lines next m new e reported a b c w g follows added =
+    let t = reported_edge f lines next m new e reported a b w g follows in
     let first : List ℕ = readings_text (ended_before (line_of_edges f.edges) lines.from) in
     let whole : readings_text (ended_before (line_of_edges f.edges) next.from) ≡ first ++ reported_text reported =
     ap readings_text t.ended ∙ text_more (ended_before (line_of_edges f.edges) lines.from) reported in
@@ -191,7 +187,7 @@ watched_more f lines next m new e reported old mid out was is now written total 
       level = t.level;
       before = t.before;
       heard = t.heard;
-      so_far = subst (AddsAll old out was now 0 total) (sym whole) (both old mid out was is now 0 written total first (reported_text reported) w.so_far added);
+      so_far = subst (Adds a c) (sym whole) ((then) a b c first (reported_text reported) w.so_far added);
     }
 
 -- ---- the end of a file
@@ -233,39 +229,35 @@ end_after (line ∷ lines) number is_low from f h = by_skip (is_skipped line) h 
     by_skip false k ih = by_line (edge_line_of line) k ih
 
 -- what follows an edge does not begin after the end
-edge_by : (f : EdgeFile) (lines next : EdgeLines) (m : Watcher) (e : EdgeOf) (old now : Option (List ℕ)) (was is : Bool) (written : ℕ) → Watched f lines m old now was is written → GoesAfter lines e next → e.at ≤ f.end
-edge_by f lines next m e old now was is written w g =
+edge_by : (f : EdgeFile) (lines next : EdgeLines) (m : Watcher) (e : EdgeOf) (a b : Tally) → Watched f lines m a b → GoesAfter lines e next → e.at ≤ f.end
+edge_by f lines next m e a b w g =
     let b = edge_before e (file_left next) w.left (sym g.file ∙ w.file) in
     let late = end_after (lines_of next.rest.now) next.number next.is_low next.from b.left b.is in
     let same : b.left.end ≡ f.end = ap (λ (x : EdgeFile). x.end) (sym b.same) ∙ w.end in
     omega (arith, late, same, g.from)
 
 -- the line of an edge's reading was cut off
-pub cut_edge : (f : EdgeFile) (lines next : EdgeLines) (m new : Watcher) (e : EdgeOf) (reported : Option Listed) (old mid out : Option (List ℕ)) (was is now : Bool) (written total : ℕ) (fault : WriteFault)
-    → Watched f lines m old mid was is written → GoesAfter lines e next → FollowsEdge m e reported new → Adds mid out is now written total (reported_text reported) (Err fault) → WritesFile old out was now f (Err fault)
-cut_edge f lines next m new e reported old mid out was is now written total fault w g follows cut =
-    let t = reported_edge f lines next m new e reported old mid was is written w g follows in
-    let rest = ended_first (line_of_edges f.edges) e.at f.end (edge_by f lines next m e old mid was is written w g) in
+pub cut_edge : (f : EdgeFile) (lines next : EdgeLines) (m new : Watcher) (e : EdgeOf) (reported : Option Listed) (a b c : Tally)
+    → Watched f lines m a b → GoesAfter lines e next → FollowsEdge m e reported new → Adds b c (reported_text reported) → c.failed ≡ true → Adds a c (readings_text (file_readings f))
+cut_edge f lines next m new e reported a b c w g follows added failed =
+    let t = reported_edge f lines next m new e reported a b w g follows in
+    let rest = ended_first (line_of_edges f.edges) e.at f.end (edge_by f lines next m e a b w g) in
     let before : List ℕ = readings_text (ended_before (line_of_edges f.edges) lines.from) in
     let ended : ended_by (line_of_edges f.edges) e.at ≡ ended_before (line_of_edges f.edges) lines.from ++ option_to_list reported =
     sym (ap (ended_before (line_of_edges f.edges)) (g.from ∙ (let x : e.at + 1 ≡ suc e.at = omega arith in x))) ∙ t.ended in
     let whole : readings_text (file_readings f) ≡ (before ++ reported_text reported) ++ readings_text rest.0 =
     ap readings_text (rest.1 ∙ ap (λ (xs : List Listed). xs ++ rest.0) ended) ∙ flat_map-append listed_line (ended_before (line_of_edges f.edges) lines.from ++ option_to_list reported) rest.0
-    ∙ ap (λ (xs : List ℕ). xs ++ readings_text rest.0) (text_more (ended_before (line_of_edges f.edges) lines.from) reported) in (
-      subst (λ (x : List ℕ). CutOff old out x fault) (sym whole)
-          (from_nothing old out ((before ++ reported_text reported) ++ readings_text rest.0) fault
-          (front old out 0 (before ++ reported_text reported) (readings_text rest.0) fault (front_after old mid out was is 0 written before (reported_text reported) fault w.so_far cut.0))),
-      cut.1,
-    )
+    ∙ ap (λ (xs : List ℕ). xs ++ readings_text rest.0) (text_more (ended_before (line_of_edges f.edges) lines.from) reported) in
+    subst (Adds a c) (sym whole) (cut_short a c (before ++ reported_text reported) (readings_text rest.0) failed ((then) a b c before (reported_text reported) w.so_far added))
 
 same_file : (a b : EdgeFile) (r : Result EdgeFile EdgeFault) → r ≡ Ok a → r ≡ Ok b → a ≡ b
 same_file a b r h k = cc
 
 -- the last reading, and with it the whole list
-all_read : (f : EdgeFile) (lines : EdgeLines) (m : Watcher) (t : ℕ) (reported : Option Listed) (old mid : Option (List ℕ)) (was is : Bool) (written : ℕ) → Watched f lines m old mid was is written
+all_read : (f : EdgeFile) (lines : EdgeLines) (m : Watcher) (t : ℕ) (reported : Option Listed) (a b : Tally) → Watched f lines m a b
     → file_left lines ≡ Ok (record { edges = []; end = t }) → lines.from ≤ t + 1 → FollowsEnd m t reported
     → readings_text (file_readings f) ≡ readings_text (ended_before (line_of_edges f.edges) lines.from) ++ reported_text reported
-all_read f lines m t reported old mid was is written w file l follows =
+all_read f lines m t reported a b w file l follows =
     let left : w.left ≡ record { edges = []; end = t } = same_file w.left (record { edges = []; end = t }) (file_left lines) w.file file in
     let end : f.end ≡ t = sym w.end ∙ ap (λ (x : EdgeFile). x.end) left in
     let level : (u : ℕ) → lines.from ≤ u → line_of_edges f.edges u ≡ lines.is_low = λ u k. w.level u k ∙ ap (λ (x : EdgeFile). level_at lines.is_low x.edges u) left in
@@ -273,24 +265,15 @@ all_read f lines m t reported old mid was is written w file l follows =
     ∙ follows (line_of_edges f.edges) lines.from w.heard l (λ u k s. level u k ∙ sym w.before ∙ sym w.heard.stood.level))
     ∙ text_more (ended_before (line_of_edges f.edges) lines.from) reported
 
-pub ended_so : (f : EdgeFile) (lines : EdgeLines) (m : Watcher) (t : ℕ) (reported : Option Listed) (old mid out : Option (List ℕ)) (was is now : Bool) (written total : ℕ) (result : Result (Unit {0}) WriteFault)
-    → Watched f lines m old mid was is written → file_left lines ≡ Ok (record { edges = []; end = t }) → lines.from ≤ t + 1 → FollowsEnd m t reported → Adds mid out is now written total (reported_text reported) result
-    → WritesFile old out was now f result
-ended_so f lines m t reported old mid out was is now written total (Ok _) w file l follows added =
-    let before : List ℕ = readings_text (ended_before (line_of_edges f.edges) lines.from) in (
-      subst (Appends old out) (sym (all_read f lines m t reported old mid was is written w file l follows)) (Appends-trans old mid out before (reported_text reported) w.so_far.1 added.1),
-      added.2 ∙ w.so_far.2,
-    )
-ended_so f lines m t reported old mid out was is now written total (Err fault) w file l follows cut =
-    let before : List ℕ = readings_text (ended_before (line_of_edges f.edges) lines.from) in (
-      subst (λ (x : List ℕ). CutOff old out x fault) (sym (all_read f lines m t reported old mid was is written w file l follows))
-          (from_nothing old out (before ++ reported_text reported) fault (front_after old mid out was is 0 written before (reported_text reported) fault w.so_far cut.0)),
-      cut.1,
-    )
+pub ended_so : (f : EdgeFile) (lines : EdgeLines) (m : Watcher) (t : ℕ) (reported : Option Listed) (a b c : Tally)
+    → Watched f lines m a b → file_left lines ≡ Ok (record { edges = []; end = t }) → lines.from ≤ t + 1 → FollowsEnd m t reported → Adds b c (reported_text reported)
+    → Adds a c (readings_text (file_readings f))
+ended_so f lines m t reported a b c w file l follows added =
+    subst (Adds a c) (sym (all_read f lines m t reported a b w file l follows)) ((then) a b c (readings_text (ended_before (line_of_edges f.edges) lines.from)) (reported_text reported) w.so_far added)
 
 -- a file without a fault has none where it is read on
-pub no_fault : (f : EdgeFile) (lines : EdgeLines) (m : Watcher) (old mid : Option (List ℕ)) (was is : Bool) (written : ℕ) (x : EdgeFault) → Watched f lines m old mid was is written → file_left lines ≡ Err x → ⊥
-no_fault f lines m old mid was is written x w e = no w.left (file_left lines) w.file e
+pub no_fault : (f : EdgeFile) (lines : EdgeLines) (m : Watcher) (a b : Tally) (x : EdgeFault) → Watched f lines m a b → file_left lines ≡ Err x → ⊥
+no_fault f lines m a b x w e = no w.left (file_left lines) w.file e
   where
     no : (a : EdgeFile) (r : Result EdgeFile EdgeFault) → r ≡ Ok a → r ≡ Err x → ⊥
     no a r h k = cc

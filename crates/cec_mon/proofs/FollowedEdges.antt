@@ -6,7 +6,6 @@ use Rattle.std.specs.Option.{option_to_list}
 use Rattle.std.specs.Io.KnownBytes.{Appends}
 use Rattle.std.proofs.lemmas.Bool.Decides.{nat_tests}
 use Rattle.hdmi_core.specs.declared.sink.WriteFault.{WriteFault}
-use Rattle.hdmi_core.proofs.CutShort.{Appends-trans}
 use Rattle.cec_wave.specs.declared.Edge.{Edge}
 use Rattle.cec_wave.specs.Line.{Line, was_low}
 use Rattle.cec_bits.specs.Readings.{Listed, readings_of}
@@ -15,8 +14,8 @@ use Rattle.cec_bits.specs.Reports.{ended_before}
 use Rattle.cec_bits.proofs.Reported.{ended_first}
 use Rattle.cec_bits.proofs.Stood.{was_now}
 use Rattle.hdmi_core.specs.Cut.{CutOff}
-use Rattle.cec_tally.specs.Adds.{Adds, AddsAll}
-use Rattle.cec_tally.proofs.Adding.{adds_nothing, both, from_nothing, front, front_after}
+use Rattle.hdmi_core.specs.Adds.{Adds, Tally}
+use Rattle.hdmi_core.proofs.Adding.{cut_short, nothing, then}
 use Rattle.cec_signal.specs.Edges.{AreInTurn, Captured, EndBy, IsCapture, level_at, line_of_edges}
 use Rattle.cec_signal.proofs.Recording.{before_turn}
 use Rattle.cec_mon.specs.declared.monitor.Monitor.{Monitor as Watcher}
@@ -77,7 +76,7 @@ edge_early (e ∷ edges) end zero none h l = h.0
 edge_early (e ∷ edges) end (suc k) none h l = edge_early edges end k none h.1 (omega arith)
 
 -- the edges up to these are followed, and what has ended before the next one is written
-pub record Followed (t : ℕ) (is_reported : Bool) (c : Captured) (left : List Edge) (m : Watcher) (old now : Option (List ℕ)) (was is : Bool) (written : ℕ) : Type 0 where
+pub record Followed (t : ℕ) (is_reported : Bool) (c : Captured) (left : List Edge) (m : Watcher) (a b : Tally) : Type 0 where
   pub is_low : Bool
   pub from : ℕ
   pub level : (u : ℕ) → from ≤ u → line_of_edges c.edges u ≡ level_at is_low left u
@@ -87,10 +86,10 @@ pub record Followed (t : ℕ) (is_reported : Bool) (c : Captured) (left : List E
   pub reach : from ≤ c.end + 1
   pub heard : HeardBefore m (line_of_edges c.edges) from
   pub reported : is_reported ≡ was_joined t (line_of_edges c.edges) from
-  pub put : AddsAll old now was is 0 written (so_far t (line_of_edges c.edges) from)
+  pub put : Adds a b (so_far t (line_of_edges c.edges) from)
 
-pub followed_first : (t : ℕ) (c : Captured) (m : Watcher) (old : Option (List ℕ)) (was : Bool) → IsCapture c.edges c.end → ((low : Line) → HeardBefore m low 0) → Followed t false c c.edges m old old was was 0
-followed_first t c m old was is heard = record {
+pub followed_first : (t : ℕ) (c : Captured) (m : Watcher) (a : Tally) → IsCapture c.edges c.end → ((low : Line) → HeardBefore m low 0) → Followed t false c c.edges m a a
+followed_first t c m a is heard = record {
   is_low = false;
   from = 0;
   level = λ u l. refl;
@@ -100,7 +99,7 @@ followed_first t c m old was is heard = record {
   reach = omega arith;
   heard = heard (line_of_edges c.edges);
   reported = refl;
-  put = adds_nothing old was 0;
+  put = nothing a;
 }
 
 -- an edge, and what was reported of it
@@ -111,9 +110,9 @@ record Told (c : Captured) (rest : List Edge) (new : Watcher) (e : Edge) (from :
   by : ended_by (line_of_edges c.edges) e.at ≡ ended_before (line_of_edges c.edges) from ++ option_to_list reported
   ended : ended_before (line_of_edges c.edges) (e.at + 1) ≡ ended_before (line_of_edges c.edges) from ++ option_to_list reported
 
-reported_edge : (t : ℕ) (is_reported : Bool) (c : Captured) (rest : List Edge) (m new : Watcher) (e : Edge) (reported : Option Listed) (old now : Option (List ℕ)) (was is : Bool) (written : ℕ) → (w : Followed t is_reported c (e ∷ rest) m old now was is written)
+reported_edge : (t : ℕ) (is_reported : Bool) (c : Captured) (rest : List Edge) (m new : Watcher) (e : Edge) (reported : Option Listed) (a b : Tally) → (w : Followed t is_reported c (e ∷ rest) m a b)
     → FollowsEdge m e reported new → Told c rest new e w.from reported
-reported_edge t is_reported c rest m new e reported old now was is written w follows = record {
+reported_edge t is_reported c rest m new e reported a b w follows = record {
   level = λ u l. later u (omega arith);
   before = was_now (line_of_edges c.edges) e.at ∙ now_is;
   heard = d.0;
@@ -141,12 +140,12 @@ text_more : (t : ℕ) (is_reported : Bool) (low : Line) (from : ℕ) (reported :
     → joined_text t false (ended_before low from ++ option_to_list reported) ≡ so_far t low from ++ told_text t is_reported reported
 text_more t is_reported low from reported is = joined_more t false (ended_before low from) (option_to_list reported) ∙ ap (λ b. so_far t low from ++ told_text t b reported) (sym is)
 
-pub followed_more : (t : ℕ) (is_reported is_more : Bool) (c : Captured) (left rest : List Edge) (m new : Watcher) (e : Edge) (reported : Option Listed) (old mid out : Option (List ℕ)) (was is now : Bool) (written total : ℕ)
-    → Followed t is_reported c left m old mid was is written → left ≡ e ∷ rest → FollowsEdge m e reported new → AddsAll mid out is now written total (told_text t is_reported reported)
-    → is_more ≡ (is_reported || has_joined t (option_to_list reported)) → Followed t is_more c rest new old out was now total
-followed_more t is_reported is_more c left rest m new e reported old mid out was is now written total followed cut follows added joins =
-    let w : Followed t is_reported c (e ∷ rest) m old mid was is written = subst (λ (l : List Edge). Followed t is_reported c l m old mid was is written) cut followed in
-    let d = reported_edge t is_reported c rest m new e reported old mid was is written w follows in
+pub followed_more : (t : ℕ) (is_reported is_more : Bool) (c : Captured) (left rest : List Edge) (m new : Watcher) (e : Edge) (reported : Option Listed) (a b z : Tally)
+    → Followed t is_reported c left m a b → left ≡ e ∷ rest → FollowsEdge m e reported new → Adds b z (told_text t is_reported reported)
+    → is_more ≡ (is_reported || has_joined t (option_to_list reported)) → Followed t is_more c rest new a z
+followed_more t is_reported is_more c left rest m new e reported a b z followed cut follows added joins =
+    let w : Followed t is_reported c (e ∷ rest) m a b = subst (λ (l : List Edge). Followed t is_reported c l m a b) cut followed in
+    let d = reported_edge t is_reported c rest m new e reported a b w follows in
     let low : Line = line_of_edges c.edges in
     let whole : so_far t low (e.at + 1) ≡ so_far t low w.from ++ told_text t is_reported reported = ap (joined_text t false) d.ended ∙ text_more t is_reported low w.from reported w.reported in
     let last = w.ends.0 in
@@ -160,50 +159,35 @@ followed_more t is_reported is_more c left rest m new e reported old mid out was
       reach = omega (arith, last);
       heard = d.heard;
       reported = joins ∙ ap (λ b. b || has_joined t (option_to_list reported)) w.reported ∙ sym (ap (has_joined t) d.ended ∙ has_more t (ended_before low w.from) (option_to_list reported));
-      put = subst (AddsAll old out was now 0 total) (sym whole) (both old mid out was is now 0 written total (so_far t low w.from) (told_text t is_reported reported) w.put added);
+      put = subst (Adds a z) (sym whole) ((then) a b z (so_far t low w.from) (told_text t is_reported reported) w.put added);
     }
 
 -- the line of an edge's reading was cut off
-pub cut_edge : (t : ℕ) (is_reported : Bool) (c : Captured) (left rest : List Edge) (m new : Watcher) (e : Edge) (reported : Option Listed) (old mid out : Option (List ℕ)) (was is now : Bool) (written total : ℕ) (fault : WriteFault)
-    → Followed t is_reported c left m old mid was is written → left ≡ e ∷ rest → FollowsEdge m e reported new → Adds mid out is now written total (told_text t is_reported reported) (Err fault)
-    → WritesJoined old out was now c t (Err fault)
-cut_edge t is_reported c left rest m new e reported old mid out was is now written total fault followed split follows cut =
-    let w : Followed t is_reported c (e ∷ rest) m old mid was is written = subst (λ (l : List Edge). Followed t is_reported c l m old mid was is written) split followed in
-    let d = reported_edge t is_reported c rest m new e reported old mid was is written w follows in
+pub cut_edge : (t : ℕ) (is_reported : Bool) (c : Captured) (left rest : List Edge) (m new : Watcher) (e : Edge) (reported : Option Listed) (a b z : Tally)
+    → Followed t is_reported c left m a b → left ≡ e ∷ rest → FollowsEdge m e reported new → Adds b z (told_text t is_reported reported) → z.failed ≡ true → Adds a z (capture_text c t)
+cut_edge t is_reported c left rest m new e reported a b z followed split follows added failed =
+    let w : Followed t is_reported c (e ∷ rest) m a b = subst (λ (l : List Edge). Followed t is_reported c l m a b) split followed in
+    let d = reported_edge t is_reported c rest m new e reported a b w follows in
     let low : Line = line_of_edges c.edges in
     let more = ended_first low e.at c.end w.ends.0 in
     let rest_text : List ℕ = joined_text t (has_joined t (ended_before low w.from ++ option_to_list reported)) more.0 in
     let whole : capture_text c t ≡ (so_far t low w.from ++ told_text t is_reported reported) ++ rest_text =
     ap (joined_text t false) (more.1 ∙ ap (λ (xs : List Listed). xs ++ more.0) d.by) ∙ joined_more t false (ended_before low w.from ++ option_to_list reported) more.0
-    ∙ ap (λ (xs : List ℕ). xs ++ rest_text) (text_more t is_reported low w.from reported w.reported) in (
-      subst (λ (x : List ℕ). CutOff old out x fault) (sym whole)
-          (from_nothing old out ((so_far t low w.from ++ told_text t is_reported reported) ++ rest_text) fault
-          (front old out 0 (so_far t low w.from ++ told_text t is_reported reported) rest_text fault (front_after old mid out was is 0 written (so_far t low w.from) (told_text t is_reported reported) fault w.put cut.0))),
-      cut.1,
-    )
+    ∙ ap (λ (xs : List ℕ). xs ++ rest_text) (text_more t is_reported low w.from reported w.reported) in
+    subst (Adds a z) (sym whole) (cut_short a z (so_far t low w.from ++ told_text t is_reported reported) rest_text failed ((then) a b z (so_far t low w.from) (told_text t is_reported reported) w.put added))
 
 -- the last reading, and with it the whole list
-all_read : (t : ℕ) (is_reported : Bool) (c : Captured) (m : Watcher) (reported : Option Listed) (old mid : Option (List ℕ)) (was is : Bool) (written : ℕ) → (w : Followed t is_reported c [] m old mid was is written) → FollowsEnd m c.end reported
+all_read : (t : ℕ) (is_reported : Bool) (c : Captured) (m : Watcher) (reported : Option Listed) (a b : Tally) → (w : Followed t is_reported c [] m a b) → FollowsEnd m c.end reported
     → capture_text c t ≡ so_far t (line_of_edges c.edges) w.from ++ told_text t is_reported reported
-all_read t is_reported c m reported old mid was is written w follows =
+all_read t is_reported c m reported a b w follows =
     ap (joined_text t false) (follows (line_of_edges c.edges) w.from w.heard w.reach (λ u k s. w.level u k ∙ sym w.before ∙ sym w.heard.stood.level))
     ∙ text_more t is_reported (line_of_edges c.edges) w.from reported w.reported
 
-pub ended_so : (t : ℕ) (is_reported : Bool) (c : Captured) (left : List Edge) (m : Watcher) (reported : Option Listed) (old mid out : Option (List ℕ)) (was is now : Bool) (written total : ℕ) (result : Result (Unit {0}) WriteFault)
-    → Followed t is_reported c left m old mid was is written → left ≡ [] → FollowsEnd m c.end reported → Adds mid out is now written total (told_text t is_reported reported) result → WritesJoined old out was now c t result
-ended_so t is_reported c left m reported old mid out was is now written total (Ok _) followed over follows added =
-    let w : Followed t is_reported c [] m old mid was is written = subst (λ (l : List Edge). Followed t is_reported c l m old mid was is written) over followed in (
-      subst (Appends old out) (sym (all_read t is_reported c m reported old mid was is written w follows))
-          (Appends-trans old mid out (so_far t (line_of_edges c.edges) w.from) (told_text t is_reported reported) w.put.1 added.1),
-      added.2 ∙ w.put.2,
-    )
-ended_so t is_reported c left m reported old mid out was is now written total (Err fault) followed over follows cut =
-    let w : Followed t is_reported c [] m old mid was is written = subst (λ (l : List Edge). Followed t is_reported c l m old mid was is written) over followed in
-    let before : List ℕ = so_far t (line_of_edges c.edges) w.from in (
-      subst (λ (x : List ℕ). CutOff old out x fault) (sym (all_read t is_reported c m reported old mid was is written w follows))
-          (from_nothing old out (before ++ told_text t is_reported reported) fault (front_after old mid out was is 0 written before (told_text t is_reported reported) fault w.put cut.0)),
-      cut.1,
-    )
+pub ended_so : (t : ℕ) (is_reported : Bool) (c : Captured) (left : List Edge) (m : Watcher) (reported : Option Listed) (a b z : Tally)
+    → Followed t is_reported c left m a b → left ≡ [] → FollowsEnd m c.end reported → Adds b z (told_text t is_reported reported) → Adds a z (capture_text c t)
+ended_so t is_reported c left m reported a b z followed over follows added =
+    let w : Followed t is_reported c [] m a b = subst (λ (l : List Edge). Followed t is_reported c l m a b) over followed in
+    subst (Adds a z) (sym (all_read t is_reported c m reported a b w follows)) ((then) a b z (so_far t (line_of_edges c.edges) w.from) (told_text t is_reported reported) w.put added)
 
 -- joined up to 0 the readings are those of the file that says the same
 pub none_joined : (c : Captured) (old new : Option (List ℕ)) (was is : Bool) (result : Result (Unit {0}) WriteFault) → WritesJoined old new was is c 0 result → WritesFile old new was is (as_file c) result

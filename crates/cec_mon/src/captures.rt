@@ -1,18 +1,17 @@
 //! From a capture to the lines of its readings.
 ghost use Rattle.std.specs.Prelude.{◌≡◌, ◌||◌, option_map};
 ghost use Rattle.std.specs.Option.{option_to_list};
-ghost use Rattle.cec_tally.specs.Adds.{Adds};
+ghost use Rattle.hdmi_core.specs.Adds.{Adds};
 ghost use Rattle.cec_bits.specs.Reports.{listed_as};
 ghost use Rattle.cec_signal.specs.Edges.{line_of_edges};
-ghost use Rattle.cec_mon.specs.Joined.{IsJoined, WatchesJoined, WritesJoined, has_joined, idle_by, joined_line, joined_text};
+ghost use Rattle.cec_mon.specs.Joined.{IsJoined, WatchesJoined, WritesJoined, capture_text, has_joined, idle_by, joined_line, joined_text};
 ghost use Rattle.cec_mon.specs.Watch.{WritesFile, as_file};
 
 use crate::monitor::Monitor;
-use crate::watching::write_reported;
+use crate::watching::add_reported;
 use cec_frame::Reading;
 use cec_signal::Capture;
-use cec_tally::add_line;
-use hdmi_core::{Piece, Sink, WriteFault};
+use hdmi_core::{Counted, Piece, Sink, WriteFault};
 
 /// Seven nominal bit periods of 2,400 microseconds (HDMI 1.4, CEC 5.2.2), for which the line is high before a reading that is
 /// sure to begin with a start bit. No frame has its line high for so long.
@@ -48,18 +47,14 @@ fn joined_at(capture: &Capture) -> u64
     }
 }
 
-fn write_joined<S: Sink>(out: &mut S, written: &mut u128, instant: u64) -> Result<(), WriteFault>
-    ensures { Adds (S.contents out.old) (S.contents out.new) (S.is_stuck out.old) (S.is_stuck out.new) written.old written.new (joined_line instant) result }
+fn add_joined<S: Sink>(out: &mut Counted<'_, S>, instant: u64)
+    ensures { Adds out.old out.new (joined_line instant) }
 {
-    add_line(
-        out,
-        written,
-        &[
-            Piece::Text("0 "),
-            Piece::Decimal(instant),
-            Piece::Text(" joined -\n"),
-        ],
-    )
+    out.add_line(&[
+        Piece::Text("0 "),
+        Piece::Decimal(instant),
+        Piece::Text(" joined -\n"),
+    ]);
 }
 
 // Whether a reading is joined, or one was before it.
@@ -72,41 +67,58 @@ fn has_joined(reading: &Option<Reading>, joined_at: u64, is_reported: bool) -> b
     }
 }
 
-// Writes the line of a reading, if there is one, or the one that stands for all that are joined.
-fn write_one<S: Sink>(
-    out: &mut S,
-    written: &mut u128,
+// Adds the line of a reading, if there is one, or the one that stands for all that are joined.
+#[tactic(auto, using(hdmi_core::proofs::Adding::nothing))]
+fn add_one<S: Sink>(
+    out: &mut Counted<'_, S>,
     reading: &Option<Reading>,
     joined_at: u64,
     is_reported: bool,
-) -> Result<(), WriteFault>
-    ensures { Adds (S.contents out.old) (S.contents out.new) (S.is_stuck out.old) (S.is_stuck out.new) written.old written.new
-        (joined_text joined_at is_reported (option_to_list (option_map listed_as reading.now))) result }
+)
+    ensures { Adds out.old out.new (joined_text joined_at is_reported (option_to_list (option_map listed_as reading.now))) }
 {
     if !has_joined(reading, joined_at, false) {
-        return write_reported(out, written, reading);
+        add_reported(out, reading);
+        return;
     }
     if is_reported {
-        return Ok(());
+        return;
     }
-    write_joined(out, written, joined_at)
+    add_joined(out, joined_at);
+}
+
+// Adds the readings of a capture, joined up to an instant, up to a fault of the sink.
+fn add_from<S: Sink>(out: &mut Counted<'_, S>, capture: &Capture, joined_at: u64)
+    ensures { Adds out.old out.new (capture_text capture.now joined_at) }
+{
+    let edges = capture.edges();
+    let mut monitor = Monitor::new();
+    let mut is_reported = false;
+    for edge in edges {
+        let reading = monitor.edge(*edge);
+        add_one(out, &reading, joined_at, is_reported);
+        if out.has_failed() {
+            return;
+        }
+        is_reported = has_joined(&reading, joined_at, is_reported);
+    }
+    let reading = monitor.finish(capture.end());
+    add_one(out, &reading, joined_at, is_reported);
 }
 
 // Writes the readings of a capture, joined up to an instant.
 fn write_from<S: Sink>(capture: &Capture, joined_at: u64, out: &mut S) -> Result<(), WriteFault>
     ensures { WritesJoined (S.contents out.old) (S.contents out.new) (S.is_stuck out.old) (S.is_stuck out.new) capture.now joined_at result }
 {
-    let edges = capture.edges();
-    let mut monitor = Monitor::new();
-    let mut is_reported = false;
-    let mut written = 0;
-    for edge in edges {
-        let reading = monitor.edge(*edge);
-        write_one(out, &mut written, &reading, joined_at, is_reported)?;
-        is_reported = has_joined(&reading, joined_at, is_reported);
+    let mut readings = Counted::new(out);
+    add_from(&mut readings, capture, joined_at);
+    let written = readings.written();
+    // No effect at run time. The proof reads what `out` holds from the sink that comes back.
+    let _below = readings.into_sink();
+    match written {
+        Ok(_) => Ok(()),
+        Err(fault) => Err(fault),
     }
-    let reading = monitor.finish(capture.end());
-    write_one(out, &mut written, &reading, joined_at, is_reported)
 }
 
 /// Writes the readings of a capture, a line each, as `watch` writes those of an edge file.

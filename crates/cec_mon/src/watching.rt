@@ -2,16 +2,14 @@
 ghost use Rattle.std.specs.Prelude.{◌≡◌, ◌<◌, MatchResult, option_map, Ok, Err};
 ghost use Rattle.cec_bits.specs.Reports.{listed_as};
 ghost use Rattle.cec_mon.specs.EdgeFile.{EdgeFile, file_of};
-ghost use Rattle.cec_mon.specs.Watch.{Answers, WritesFile, reported_text, reported_so};
-ghost use Rattle.cec_tally.specs.Adds.{Adds};
-ghost use Rattle.cec_text.specs.ReadingText.{reading_line};
+ghost use Rattle.cec_mon.specs.Watch.{Answers, WritesFile, file_readings, readings_text, reported_text, reported_so};
+ghost use Rattle.hdmi_core.specs.Adds.{Adds};
 
 use crate::edge_file::{EdgeFault, EdgeLine, EdgeLines};
 use crate::monitor::Monitor;
 use cec_frame::Reading;
-use cec_tally::add_part;
-use cec_text::write_reading;
-use hdmi_core::{Sink, WriteFault};
+use cec_text::add_reading;
+use hdmi_core::{Counted, Sink, WriteFault};
 use std::alloc::Global;
 use thiserror::Error;
 
@@ -60,28 +58,41 @@ fn check_file(text: &[u8]) -> Result<(), EdgeFault>
     }
 }
 
-fn write_line_of<S: Sink>(
-    out: &mut S,
-    written: &mut u128,
-    reading: &Reading,
-) -> Result<(), WriteFault>
-    ensures { Adds (S.contents out.old) (S.contents out.new) (S.is_stuck out.old) (S.is_stuck out.new) written.old written.new (reading_line reading.now) result }
-{
-    add_part(written, write_reading(reading, out))
-}
-
-// Writes the line of a reading, if there is one.
-pub(crate) fn write_reported<S: Sink>(
-    out: &mut S,
-    written: &mut u128,
-    reading: &Option<Reading>,
-) -> Result<(), WriteFault>
-    ensures { Adds (S.contents out.old) (S.contents out.new) (S.is_stuck out.old) (S.is_stuck out.new) written.old written.new
-        (reported_text (option_map listed_as reading.now)) result }
+// Adds the line of a reading, if there is one.
+#[tactic(auto, using(hdmi_core::proofs::Adding::nothing))]
+pub(crate) fn add_reported<S: Sink>(out: &mut Counted<'_, S>, reading: &Option<Reading>)
+    ensures { Adds out.old out.new (reported_text (option_map listed_as reading.now)) }
 {
     match reading {
-        None => Ok(()),
-        Some(reading) => write_line_of(out, written, reading),
+        None => {}
+        Some(reading) => add_reading(out, reading),
+    }
+}
+
+// Adds the readings of a file without a fault, up to a fault of the sink.
+fn add_readings<S: Sink>(out: &mut Counted<'_, S>, text: &[u8])
+    ensures { (f : EdgeFile) → file_of text.now ≡ Ok f → Adds out.old out.new (readings_text (file_readings f)) }
+{
+    let mut lines = EdgeLines::new(text);
+    let mut monitor = Monitor::new();
+    'edges: loop {
+        match lines.next() {
+            Err(_) => return,
+            Ok(line) => match line {
+                EdgeLine::Edge(edge) => {
+                    let reading = monitor.edge(edge);
+                    add_reported(out, &reading);
+                    if out.has_failed() {
+                        return;
+                    }
+                }
+                EdgeLine::End(t) => {
+                    let reading = monitor.finish(t);
+                    add_reported(out, &reading);
+                    return;
+                }
+            },
+        }
     }
 }
 
@@ -90,23 +101,14 @@ fn write_readings<S: Sink>(text: &[u8], out: &mut S) -> Result<(), WriteFault>
     ensures { (f : EdgeFile) → file_of text.now ≡ Ok f
         → WritesFile (S.contents out.old) (S.contents out.new) (S.is_stuck out.old) (S.is_stuck out.new) f result }
 {
-    let mut lines = EdgeLines::new(text);
-    let mut monitor = Monitor::new();
-    let mut written = 0;
-    'edges: loop {
-        match lines.next() {
-            Err(_) => return Ok(()),
-            Ok(line) => match line {
-                EdgeLine::Edge(edge) => {
-                    let reading = monitor.edge(edge);
-                    write_reported(out, &mut written, &reading)?;
-                }
-                EdgeLine::End(t) => {
-                    let reading = monitor.finish(t);
-                    return write_reported(out, &mut written, &reading);
-                }
-            },
-        }
+    let mut readings = Counted::new(out);
+    add_readings(&mut readings, text);
+    let written = readings.written();
+    // No effect at run time. The proof reads what `out` holds from the sink that comes back.
+    let _below = readings.into_sink();
+    match written {
+        Ok(_) => Ok(()),
+        Err(fault) => Err(fault),
     }
 }
 

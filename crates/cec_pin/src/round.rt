@@ -1,67 +1,49 @@
 //! The events of a round.
 ghost use Rattle.std.specs.Prelude.{◌-◌};
 ghost use Rattle.std.specs.List.{flat_map};
-ghost use Rattle.cec_tally.specs.Adds.{Adds};
+ghost use Rattle.hdmi_core.specs.Adds.{Adds};
 ghost use Rattle.cec_pin.specs.Text.{again, round_text, stretch_text};
 
-use crate::writing::{write_fall, write_rise};
+use crate::writing::{add_fall, add_rise};
 use cec_wave::Stretch;
-use hdmi_core::{Sink, WriteFault};
+use hdmi_core::{Counted, Sink};
 
-// Writes the level before the first of these stretches once more.
-fn write_again<S: Sink>(
-    out: &mut S,
-    written: &mut u128,
-    stretches: &[Stretch],
-) -> Result<(), WriteFault>
-    ensures { Adds (S.contents out.old) (S.contents out.new) (S.is_stuck out.old) (S.is_stuck out.new) written.old written.new (again stretches.now) result }
+// Adds the level before the first of these stretches once more.
+#[tactic(auto, using(hdmi_core::proofs::Adding::nothing))]
+fn add_again<S: Sink>(out: &mut Counted<'_, S>, stretches: &[Stretch])
+    ensures { Adds out.old out.new (again stretches.now) }
 {
     match stretches.first() {
-        None => Ok(()),
-        Some(first) => write_rise(out, written, first.from.saturating_sub(1)),
+        None => {}
+        Some(first) => add_rise(out, first.from.saturating_sub(1)),
     }
 }
 
-// Writes the fall and the rise of a stretch.
-fn write_stretch<S: Sink>(
-    out: &mut S,
-    written: &mut u128,
-    stretch: &Stretch,
-) -> Result<(), WriteFault>
-    ensures { Adds (S.contents out.old) (S.contents out.new) (S.is_stuck out.old) (S.is_stuck out.new) written.old written.new (stretch_text stretch.now) result }
+// Adds the fall and the rise of a stretch.
+#[tactic(auto, using(hdmi_core::proofs::Adding::then))]
+fn add_stretch<S: Sink>(out: &mut Counted<'_, S>, stretch: &Stretch)
+    ensures { Adds out.old out.new (stretch_text stretch.now) }
 {
-    write_fall(out, written, stretch.from)?;
-    write_rise(out, written, stretch.to)
+    add_fall(out, stretch.from);
+    add_rise(out, stretch.to);
 }
 
-// Writes the falls and rises of stretches.
-fn write_stretches<S: Sink>(
-    out: &mut S,
-    written: &mut u128,
-    stretches: &[Stretch],
-) -> Result<(), WriteFault>
-    ensures { Adds (S.contents out.old) (S.contents out.new) (S.is_stuck out.old) (S.is_stuck out.new) written.old written.new (flat_map stretch_text stretches.now) result }
+// Adds the falls and rises of stretches.
+fn add_stretches<S: Sink>(out: &mut Counted<'_, S>, stretches: &[Stretch])
+    ensures { Adds out.old out.new (flat_map stretch_text stretches.now) }
 {
     for stretch in stretches {
-        write_stretch(out, written, stretch)?;
+        add_stretch(out, stretch);
     }
-    Ok(())
 }
 
-/// Writes the line of a round, given by its low stretches: that the line is high still a microsecond before its first fall,
+/// Adds the line of a round, given by its low stretches: that the line is high still a microsecond before its first fall,
 /// since cec-ctl ends a message only at a level that is reported again, and then each fall and each rise. Of no stretch it
-/// writes nothing.
-///
-/// # Errors
-///
-/// A `put` took none. The fault reports how much was written in all: the count stays at its greatest value.
-pub fn write_round<S: Sink>(
-    out: &mut S,
-    written: &mut u128,
-    stretches: &[Stretch],
-) -> Result<(), WriteFault>
-    ensures { Adds (S.contents out.old) (S.contents out.new) (S.is_stuck out.old) (S.is_stuck out.new) written.old written.new (round_text stretches.now) result }
+/// adds nothing.
+#[tactic(auto, using(hdmi_core::proofs::Adding::then))]
+pub fn add_round<S: Sink>(out: &mut Counted<'_, S>, stretches: &[Stretch])
+    ensures { Adds out.old out.new (round_text stretches.now) }
 {
-    write_again(out, written, stretches)?;
-    write_stretches(out, written, stretches)
+    add_again(out, stretches);
+    add_stretches(out, stretches);
 }

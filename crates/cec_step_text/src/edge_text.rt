@@ -2,8 +2,8 @@
 ghost use Rattle.std.specs.Prelude.{◌≡◌, ◌≤◌, ◌∷◌, ◌++◌, [], codes, length};
 ghost use Rattle.std.specs.List.{flat_map};
 ghost use Rattle.cec_bits.specs.Follows.{standing_by_code};
+ghost use Rattle.hdmi_core.specs.Adds.{Adds};
 ghost use Rattle.hdmi_core.specs.Cut.{WrittenText};
-ghost use Rattle.cec_tally.specs.Adds.{Adds};
 ghost use Rattle.cec_text.specs.ReadingText.{bit_digit, bits_text};
 ghost use Rattle.cec_step_text.specs.EdgeText.{device_text, edge_line, level_text, name_text, slot_text, standing_text};
 ghost use Rattle.cec_frame.specs.Bits.{most_bits};
@@ -12,39 +12,37 @@ use arrayvec::ArrayVec;
 use cec_bits::Standing;
 use cec_device::Device;
 use cec_frame::MOST_BITS;
-use cec_tally::add_line;
 use cec_wave::Edge;
-use hdmi_core::{Piece, Sink, WriteFault, counted};
+use hdmi_core::{Counted, Piece, Sink, WriteFault};
 
-// Writes the instant of an edge, and the level that the line then has.
-fn write_level<S: Sink>(out: &mut S, written: &mut u128, edge: Edge) -> Result<(), WriteFault>
-    ensures { Adds (S.contents out.old) (S.contents out.new) (S.is_stuck out.old) (S.is_stuck out.new) written.old written.new (level_text edge) result }
+// Adds the instant of an edge, and the level that the line then has.
+fn add_level<S: Sink>(out: &mut Counted<'_, S>, edge: Edge)
+    ensures { Adds out.old out.new (level_text edge) }
 {
     let level = if edge.low { " low" } else { " high" };
-    add_line(out, written, &[Piece::Decimal(edge.at), Piece::Text(level)])
+    out.add_line(&[Piece::Decimal(edge.at), Piece::Text(level)]);
 }
 
-fn write_word<S: Sink>(out: &mut S, written: &mut u128, word: &str) -> Result<(), WriteFault>
-    ensures { Adds (S.contents out.old) (S.contents out.new) (S.is_stuck out.old) (S.is_stuck out.new) written.old written.new word.now result }
+fn add_word<S: Sink>(out: &mut Counted<'_, S>, word: &str)
+    ensures { Adds out.old out.new word.now }
 {
-    add_line(out, written, &[Piece::Text(word)])
+    out.add(word.as_bytes());
 }
 
-fn write_bit<S: Sink>(out: &mut S, written: &mut u128, bit: bool) -> Result<(), WriteFault>
-    ensures { Adds (S.contents out.old) (S.contents out.new) (S.is_stuck out.old) (S.is_stuck out.new) written.old written.new (bit_digit bit ∷ []) result }
+fn add_bit<S: Sink>(out: &mut Counted<'_, S>, bit: bool)
+    ensures { Adds out.old out.new (bit_digit bit ∷ []) }
 {
     let digit = if bit { "1" } else { "0" };
-    add_line(out, written, &[Piece::Text(digit)])
+    out.add_line(&[Piece::Text(digit)]);
 }
 
-// Writes bits as digits.
-fn write_digits<S: Sink>(out: &mut S, written: &mut u128, bits: &[bool]) -> Result<(), WriteFault>
-    ensures { Adds (S.contents out.old) (S.contents out.new) (S.is_stuck out.old) (S.is_stuck out.new) written.old written.new (flat_map (λ bit. bit_digit bit ∷ []) bits.now) result }
+// Adds bits as digits.
+fn add_digits<S: Sink>(out: &mut Counted<'_, S>, bits: &[bool])
+    ensures { Adds out.old out.new (flat_map (λ bit. bit_digit bit ∷ []) bits.now) }
 {
     for bit in bits {
-        write_bit(out, written, *bit)?;
+        add_bit(out, *bit);
     }
-    Ok(())
 }
 
 fn digit_of(bit: bool) -> u8
@@ -69,145 +67,107 @@ fn digits_of(bits: &[bool]) -> ArrayVec<u8, MOST_BITS>
     digits
 }
 
-fn write_row<S: Sink>(out: &mut S, written: &mut u128, bits: &[bool]) -> Result<(), WriteFault>
+fn add_row<S: Sink>(out: &mut Counted<'_, S>, bits: &[bool])
     requires { length bits.now ≤ most_bits }
-    ensures { Adds (S.contents out.old) (S.contents out.new) (S.is_stuck out.old) (S.is_stuck out.new) written.old written.new (bits_text bits.now) result }
+    ensures { Adds out.old out.new (bits_text bits.now) }
 {
-    add_line(out, written, &[Piece::Bytes(&digits_of(bits))])
+    out.add(&digits_of(bits));
 }
 
-// Writes bits as digits, or `-` for none.
-fn write_bits<S: Sink>(out: &mut S, written: &mut u128, bits: &[bool]) -> Result<(), WriteFault>
-    ensures { Adds (S.contents out.old) (S.contents out.new) (S.is_stuck out.old) (S.is_stuck out.new) written.old written.new (bits_text bits.now) result }
+// Adds bits as digits, or `-` for none.
+fn add_bits<S: Sink>(out: &mut Counted<'_, S>, bits: &[bool])
+    ensures { Adds out.old out.new (bits_text bits.now) }
 {
     if bits.len() <= MOST_BITS {
-        return write_row(out, written, bits);
+        add_row(out, bits);
+        return;
     }
     if bits.is_empty() {
-        write_word(out, written, "-")
+        add_word(out, "-");
     } else {
-        write_digits(out, written, bits)
+        add_digits(out, bits);
     }
 }
 
-fn write_slot_number<S: Sink>(
-    out: &mut S,
-    written: &mut u128,
-    slot: usize,
-) -> Result<(), WriteFault>
-    ensures { Adds (S.contents out.old) (S.contents out.new) (S.is_stuck out.old) (S.is_stuck out.new) written.old written.new (slot_text slot) result }
+fn add_slot_number<S: Sink>(out: &mut Counted<'_, S>, slot: usize)
+    ensures { Adds out.old out.new (slot_text slot) }
 {
-    add_line(
-        out,
-        written,
-        &[
-            Piece::Text("slot:"),
-            Piece::Decimal(slot as u64),
-            Piece::Text(":"),
-        ],
-    )
+    out.add_line(&[
+        Piece::Text("slot:"),
+        Piece::Decimal(slot as u64),
+        Piece::Text(":"),
+    ]);
 }
 
-// Writes the slot in which a receiver stands, and the bits that it has sampled.
-fn write_slot<S: Sink>(
-    out: &mut S,
-    written: &mut u128,
-    slot: usize,
-    bits: &[bool],
-) -> Result<(), WriteFault>
-    ensures { Adds (S.contents out.old) (S.contents out.new) (S.is_stuck out.old) (S.is_stuck out.new) written.old written.new (slot_text slot ++ bits_text bits.now) result }
+// Adds the slot in which a receiver stands, and the bits that it has sampled.
+fn add_slot<S: Sink>(out: &mut Counted<'_, S>, slot: usize, bits: &[bool])
+    ensures { Adds out.old out.new (slot_text slot ++ bits_text bits.now) }
 {
-    write_slot_number(out, written, slot)?;
-    write_bits(out, written, bits)
+    add_slot_number(out, slot);
+    add_bits(out, bits);
 }
 
-// Writes where a receiver stands.
-fn write_standing<S: Sink>(
-    out: &mut S,
-    written: &mut u128,
-    standing: Standing,
-) -> Result<(), WriteFault>
-    ensures { Adds (S.contents out.old) (S.contents out.new) (S.is_stuck out.old) (S.is_stuck out.new) written.old written.new (standing_text (standing_by_code standing.entry)) result }
+// Adds where a receiver stands.
+fn add_standing<S: Sink>(out: &mut Counted<'_, S>, standing: Standing)
+    ensures { Adds out.old out.new (standing_text (standing_by_code standing.entry)) }
 {
     match standing {
-        Standing::Idle => write_word(out, written, "idle"),
-        Standing::StartLow => write_word(out, written, "start-low"),
-        Standing::StartHigh => write_word(out, written, "start-high"),
-        Standing::Slot(slot, bits) => write_slot(out, written, slot, bits),
-        Standing::WaitHigh => write_word(out, written, "wait-high"),
+        Standing::Idle => add_word(out, "idle"),
+        Standing::StartLow => add_word(out, "start-low"),
+        Standing::StartHigh => add_word(out, "start-high"),
+        Standing::Slot(slot, bits) => add_slot(out, slot, bits),
+        Standing::WaitHigh => add_word(out, "wait-high"),
     }
 }
 
-fn write_name<S: Sink>(out: &mut S, written: &mut u128, name: &[u8]) -> Result<(), WriteFault>
-    ensures { Adds (S.contents out.old) (S.contents out.new) (S.is_stuck out.old) (S.is_stuck out.new) written.old written.new (name_text name.now) result }
+fn add_name<S: Sink>(out: &mut Counted<'_, S>, name: &[u8])
+    ensures { Adds out.old out.new (name_text name.now) }
 {
-    add_line(
-        out,
-        written,
-        &[Piece::Text(" "), Piece::Bytes(name), Piece::Text("=")],
-    )
+    out.add_line(&[Piece::Text(" "), Piece::Bytes(name), Piece::Text("=")]);
 }
 
-// Writes the name of a device, and where it stands.
-fn write_plugged<S: Sink>(
-    out: &mut S,
-    written: &mut u128,
-    device: &Device<16>,
-    standing: Standing,
-) -> Result<(), WriteFault>
-    ensures { Adds (S.contents out.old) (S.contents out.new) (S.is_stuck out.old) (S.is_stuck out.new) written.old written.new
-        (name_text device.now.name ++ standing_text (standing_by_code standing.entry)) result }
+// Adds the name of a device, and where it stands.
+fn add_plugged<S: Sink>(out: &mut Counted<'_, S>, device: &Device<16>, standing: Standing)
+    ensures { Adds out.old out.new (name_text device.now.name ++ standing_text (standing_by_code standing.entry)) }
 {
-    write_name(out, written, device.name())?;
-    write_standing(out, written, standing)
+    add_name(out, device.name());
+    add_standing(out, standing);
 }
 
-// Writes it for a device on the wire, and nothing of another device.
-fn write_device<S: Sink>(
-    out: &mut S,
-    written: &mut u128,
-    device: &Device<16>,
-    standing: Standing,
-) -> Result<(), WriteFault>
-    ensures { Adds (S.contents out.old) (S.contents out.new) (S.is_stuck out.old) (S.is_stuck out.new) written.old written.new (device_text (standing_by_code standing.entry) device.now) result }
+// Adds it for a device on the wire, and nothing of another device.
+#[tactic(auto, using(hdmi_core::proofs::Adding::nothing))]
+fn add_device<S: Sink>(out: &mut Counted<'_, S>, device: &Device<16>, standing: Standing)
+    ensures { Adds out.old out.new (device_text (standing_by_code standing.entry) device.now) }
 {
     if device.is_on_wire() {
-        write_plugged(out, written, device, standing)
-    } else {
-        Ok(())
+        add_plugged(out, device, standing);
     }
 }
 
-// Writes where each device on the wire stands. All of them hear one line, so that they stand alike.
-fn write_devices<S: Sink>(
-    out: &mut S,
-    written: &mut u128,
-    devices: &[Device<16>],
-    standing: Standing,
-) -> Result<(), WriteFault>
-    ensures { Adds (S.contents out.old) (S.contents out.new) (S.is_stuck out.old) (S.is_stuck out.new) written.old written.new (flat_map (device_text (standing_by_code standing.entry)) devices.now) result }
+// Adds where each device on the wire stands. All of them hear one line, so that they stand alike.
+fn add_devices<S: Sink>(out: &mut Counted<'_, S>, devices: &[Device<16>], standing: Standing)
+    ensures { Adds out.old out.new (flat_map (device_text (standing_by_code standing.entry)) devices.now) }
 {
     for device in devices {
-        write_device(out, written, device, standing)?;
+        add_device(out, device, standing);
     }
-    Ok(())
 }
 
-// Writes the same, and ends the line.
-fn write_rest<S: Sink>(
-    out: &mut S,
-    written: &mut u128,
+/// Adds the line of an edge: its instant, the level that the line then has, and where each device on the wire stands.
+pub fn add_edge<S: Sink>(
+    out: &mut Counted<'_, S>,
     devices: &[Device<16>],
+    edge: Edge,
     standing: Standing,
-) -> Result<(), WriteFault>
-    ensures { Adds (S.contents out.old) (S.contents out.new) (S.is_stuck out.old) (S.is_stuck out.new) written.old written.new
-        (flat_map (device_text (standing_by_code standing.entry)) devices.now ++ codes "\n") result }
+)
+    ensures { Adds out.old out.new (edge_line devices.now edge (standing_by_code standing.entry)) }
 {
-    write_devices(out, written, devices, standing)?;
-    write_word(out, written, "\n")
+    add_level(out, edge);
+    add_devices(out, devices, standing);
+    add_word(out, "\n");
 }
 
-/// Writes the line of an edge: its instant, the level that the line then has, and where each device on the wire stands.
+/// Writes it by itself. Returns its length.
 pub fn write_edge<S: Sink>(
     out: &mut S,
     devices: &[Device<16>],
@@ -216,8 +176,10 @@ pub fn write_edge<S: Sink>(
 ) -> Result<u128, WriteFault>
     ensures { WrittenText (S.contents out.old) (S.contents out.new) (S.is_stuck out.old) (S.is_stuck out.new) (edge_line devices.now edge (standing_by_code standing.entry)) result }
 {
-    let mut written = 0;
-    write_level(out, &mut written, edge)?;
-    write_rest(out, &mut written, devices, standing)?;
-    Ok(counted(0, written))
+    let mut line = Counted::new(out);
+    add_edge(&mut line, devices, edge, standing);
+    let written = line.written();
+    // No effect at run time. The proof reads what `out` holds from the sink that comes back.
+    let _below = line.into_sink();
+    written
 }

@@ -8,5 +8,5 @@ mod parts;
 
 pub use break_at::{Break, stops};
 pub use commands::{Command, CommandsError, parse_commands};
-pub use edge_text::write_edge;
+pub use edge_text::{add_edge, write_edge};
 pub use parts::{whole, with_rest};

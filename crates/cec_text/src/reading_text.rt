@@ -1,5 +1,8 @@
 //! The text of a reading.
 ghost use Rattle.std.specs.Prelude.{◌≡◌, ◌+◌, ◌-◌, ◌<◌, ◌≤◌, ◌++◌, length, codes};
+ghost use Rattle.std.specs.List.{flat_map};
+ghost use Rattle.hdmi_core.specs.Adds.{Adds};
+ghost use Rattle.hdmi_core.specs.Piece.{piece_text};
 ghost use Rattle.hdmi_core.specs.Written.{WrittenLine};
 ghost use Rattle.cec_text.specs.ReadingText.{bit_digit, bits_text, ending_text, is_broadcast, last_bit, reading_line, reading_text_of, reported_frame, reported_text, verdict_by, verdict_text};
 ghost use Rattle.cec_frame.specs.Bits.{most_bits};
@@ -7,7 +10,7 @@ ghost use Rattle.cec_frame.specs.Bits.{most_bits};
 use crate::spelling::frame_text;
 use arrayvec::ArrayVec;
 use cec_frame::{Addr, Ending, Frame, MOST_BITS, Reading};
-use hdmi_core::{Piece, Sink, WriteFault, write_line};
+use hdmi_core::{Counted, Piece, Sink, WriteFault, write_line};
 
 /// How a reading ended, between spaces.
 pub fn ending_word(ending: Ending) -> &'static str
@@ -108,35 +111,36 @@ pub fn reading_verdict(reading: &Reading) -> &'static str
     }
 }
 
-// Writes a reading's line, from what it told and the verdict.
-fn write_reading_of<'a, S: Sink>(
-    reading: &'a Reading,
-    reported: &'a [u8],
-    verdict: &'a str,
-    out: &mut S,
-) -> Result<u128, WriteFault>
-    ensures { WrittenLine (S.contents out.old) (S.contents out.new) (S.is_stuck out.old) (S.is_stuck out.new)
-        (reading_text_of reading.now reported.now verdict.now ++ codes "\n") result }
+// The parts of a reading's line, from what it told and the verdict.
+fn reading_pieces<'a>(reading: &'a Reading, reported: &'a [u8], verdict: &'a str) -> [Piece<'a>; 7]
+    ensures { flat_map piece_text result ≡ reading_text_of reading.now reported.now verdict.now ++ codes "\n" }
 {
-    write_line(
-        out,
-        &[
-            Piece::Decimal(reading.begin),
-            Piece::Text(" "),
-            Piece::Decimal(reading.at),
-            Piece::Text(ending_word(reading.ending)),
-            Piece::Bytes(reported),
-            Piece::Text(verdict),
-            Piece::Text("\n"),
-        ],
-    )
+    [
+        Piece::Decimal(reading.begin),
+        Piece::Text(" "),
+        Piece::Decimal(reading.at),
+        Piece::Text(ending_word(reading.ending)),
+        Piece::Bytes(reported),
+        Piece::Text(verdict),
+        Piece::Text("\n"),
+    ]
 }
 
-/// Writes the line of a reading: its fall and its ending in microseconds, how it ended, and what it told. Answers
-/// the line's length.
+/// Adds the line of a reading: its fall and its ending in microseconds, how it ended, and what it told.
+pub fn add_reading<S: Sink>(out: &mut Counted<'_, S>, reading: &Reading)
+    ensures { Adds out.old out.new (reading_line reading.now) }
+{
+    let reported = reading_reported(reading);
+    out.add_line(&reading_pieces(reading, &reported, reading_verdict(reading)));
+}
+
+/// Writes it by itself. Returns its length.
 pub fn write_reading<S: Sink>(reading: &Reading, out: &mut S) -> Result<u128, WriteFault>
     ensures { WrittenLine (S.contents out.old) (S.contents out.new) (S.is_stuck out.old) (S.is_stuck out.new) (reading_line reading.now) result }
 {
     let reported = reading_reported(reading);
-    write_reading_of(reading, &reported, reading_verdict(reading), out)
+    write_line(
+        out,
+        &reading_pieces(reading, &reported, reading_verdict(reading)),
+    )
 }

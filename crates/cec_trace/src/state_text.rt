@@ -1,13 +1,15 @@
 //! The line that reports the state of a device.
 ghost use Rattle.std.specs.Prelude.{◌≡◌, ◌<◌, ◌∷◌, [], Some, None};
-ghost use Rattle.hdmi_core.specs.Piece.{dash_or};
+ghost use Rattle.std.specs.List.{flat_map};
+ghost use Rattle.hdmi_core.specs.Adds.{Adds};
+ghost use Rattle.hdmi_core.specs.Piece.{dash_or, piece_text};
 ghost use Rattle.hdmi_core.specs.Written.{WrittenLine};
 ghost use Rattle.cec_trace.specs.StateText.{address_text, held_text, note_text, outside_line_of, phys_on, power_text, state_line, state_line_of, unit_text};
 
 use arrayvec::ArrayVec;
 use cec_device::{Device, Note, Port};
 use cec_frame::Addr;
-use hdmi_core::{Kind, Phys, Piece, Sink, WriteFault, hex_digit, write_line};
+use hdmi_core::{Counted, Kind, Phys, Piece, Sink, WriteFault, hex_digit, write_line};
 
 /// What a device from outside has in the place of its record, of which nobody but its driver knows more.
 const UNKNOWN_RECORD: &str =
@@ -103,19 +105,18 @@ fn note_bytes(note: Option<Note>) -> ArrayVec<u8, 7>
     bytes
 }
 
-// Writes the state line of a device, from the texts of its logical address and of what it heard, and the bytes of its
+// The parts of the state line of a device, from the texts of its logical address and of what it heard, and the bytes of its
 // language.
-fn write_state_of<'a, S: Sink>(
-    out: &mut S,
+fn state_pieces<'a>(
     device: &'a Device<16>,
     address: &'a [u8],
     language: &'a [u8],
     heard: &'a [u8],
-) -> Result<u128, WriteFault>
-    ensures { WrittenLine (S.contents out.old) (S.contents out.new) (S.is_stuck out.old) (S.is_stuck out.new) (state_line_of device.now address.now language.now heard.now) result }
+) -> [Piece<'a>; 43]
+    ensures { flat_map piece_text result ≡ state_line_of device.now address.now language.now heard.now }
 {
     let record = device.record();
-    let pieces = [
+    [
         Piece::Text("state "),
         Piece::Bytes(device.name()),
         Piece::Text(" "),
@@ -159,20 +160,18 @@ fn write_state_of<'a, S: Sink>(
         Piece::Text(" dropped="),
         Piece::Decimal(device.dropped()),
         Piece::Text("\n"),
-    ];
-    write_line(out, &pieces)
+    ]
 }
 
-// Writes the state line of a device from outside, from the texts of its logical addresses and of what is unknown.
-fn write_outside<'a, S: Sink>(
-    out: &mut S,
+// The parts of the state line of a device from outside, from the texts of its logical addresses and of what is unknown.
+fn outside_pieces<'a>(
     device: &'a Device<16>,
     address: &'a [u8],
     unknown: &'a str,
-) -> Result<u128, WriteFault>
-    ensures { WrittenLine (S.contents out.old) (S.contents out.new) (S.is_stuck out.old) (S.is_stuck out.new) (outside_line_of device.now address.now unknown.now) result }
+) -> [Piece<'a>; 13]
+    ensures { flat_map piece_text result ≡ outside_line_of device.now address.now unknown.now }
 {
-    let pieces = [
+    [
         Piece::Text("state "),
         Piece::Bytes(device.name()),
         Piece::Text(" "),
@@ -186,17 +185,17 @@ fn write_outside<'a, S: Sink>(
         Piece::Text(" dropped="),
         Piece::Decimal(device.dropped()),
         Piece::Text("\n"),
-    ];
-    write_line(out, &pieces)
+    ]
 }
 
-/// Writes the state line of a device.
-pub fn write_state<S: Sink>(out: &mut S, device: &Device<16>) -> Result<u128, WriteFault>
-    ensures { WrittenLine (S.contents out.old) (S.contents out.new) (S.is_stuck out.old) (S.is_stuck out.new) (state_line device.now) result }
+/// Adds the state line of a device.
+pub fn add_state<S: Sink>(out: &mut Counted<'_, S>, device: &Device<16>)
+    ensures { Adds out.old out.new (state_line device.now) }
 {
     if device.kind() == Kind::Outside {
         let address = held_bytes(device.held());
-        return write_outside(out, device, &address, UNKNOWN_RECORD);
+        out.add_line(&outside_pieces(device, &address, UNKNOWN_RECORD));
+        return;
     }
     let record = device.record();
     let language = [
@@ -206,5 +205,24 @@ pub fn write_state<S: Sink>(out: &mut S, device: &Device<16>) -> Result<u128, Wr
     ];
     let heard = note_bytes(record.heard);
     let address = address_bytes(device.kind(), device.held());
-    write_state_of(out, device, &address, &language, &heard)
+    out.add_line(&state_pieces(device, &address, &language, &heard));
+}
+
+/// Writes it by itself. Returns its length.
+pub fn write_state<S: Sink>(out: &mut S, device: &Device<16>) -> Result<u128, WriteFault>
+    ensures { WrittenLine (S.contents out.old) (S.contents out.new) (S.is_stuck out.old) (S.is_stuck out.new) (state_line device.now) result }
+{
+    if device.kind() == Kind::Outside {
+        let address = held_bytes(device.held());
+        return write_line(out, &outside_pieces(device, &address, UNKNOWN_RECORD));
+    }
+    let record = device.record();
+    let language = [
+        record.language.first,
+        record.language.second,
+        record.language.third,
+    ];
+    let heard = note_bytes(record.heard);
+    let address = address_bytes(device.kind(), device.held());
+    write_line(out, &state_pieces(device, &address, &language, &heard))
 }

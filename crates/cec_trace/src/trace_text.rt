@@ -1,13 +1,12 @@
 //! The lines of a trace that tell events, and its last one.
 ghost use Rattle.std.specs.Prelude.{◌≡◌};
+ghost use Rattle.hdmi_core.specs.Adds.{Adds};
 ghost use Rattle.hdmi_core.specs.Written.{WrittenLine};
-ghost use Rattle.cec_tally.specs.Adds.{Adds};
 ghost use Rattle.cec_trace.specs.TraceText.{end_line, error_word, event_line, key_word, plug_word, submit_word, unplug_word};
 
 use cec_device::{KeyError, SubmitError};
 use cec_event::EventError;
-use cec_tally::add_line;
-use hdmi_core::{Piece, Sink, WriteFault, write_line};
+use hdmi_core::{Counted, Piece, Sink, WriteFault, write_line};
 use hdmi_topo::{PlugError, UnplugError};
 
 fn plug_word(error: PlugError) -> &'static str
@@ -60,43 +59,36 @@ fn error_word(error: EventError) -> &'static str
     }
 }
 
-/// Writes the line of an event: when it was applied, its line in the script, and why it was refused.
-pub fn write_event<S: Sink>(
-    out: &mut S,
-    written: &mut u128,
-    at: u64,
-    line: u64,
-    refused: Option<EventError>,
-) -> Result<(), WriteFault>
-    ensures { Adds (S.contents out.old) (S.contents out.new) (S.is_stuck out.old) (S.is_stuck out.new) written.old written.new (event_line at line refused) result }
+/// Adds the line of an event: when it was applied, its line in the script, and why it was refused.
+pub fn add_event<S: Sink>(out: &mut Counted<'_, S>, at: u64, line: u64, refused: Option<EventError>)
+    ensures { Adds out.old out.new (event_line at line refused) }
 {
     match refused {
-        None => add_line(
-            out,
-            written,
-            &[
-                Piece::Decimal(at),
-                Piece::Text(" event "),
-                Piece::Decimal(line),
-                Piece::Text(" ok\n"),
-            ],
-        ),
-        Some(error) => add_line(
-            out,
-            written,
-            &[
-                Piece::Decimal(at),
-                Piece::Text(" event "),
-                Piece::Decimal(line),
-                Piece::Text(" refused "),
-                Piece::Text(error_word(error)),
-                Piece::Text("\n"),
-            ],
-        ),
+        None => out.add_line(&[
+            Piece::Decimal(at),
+            Piece::Text(" event "),
+            Piece::Decimal(line),
+            Piece::Text(" ok\n"),
+        ]),
+        Some(error) => out.add_line(&[
+            Piece::Decimal(at),
+            Piece::Text(" event "),
+            Piece::Decimal(line),
+            Piece::Text(" refused "),
+            Piece::Text(error_word(error)),
+            Piece::Text("\n"),
+        ]),
     }
 }
 
-/// Writes the last line.
+/// Adds the last line.
+pub fn add_end<S: Sink>(out: &mut Counted<'_, S>, end: u64)
+    ensures { Adds out.old out.new (end_line end) }
+{
+    out.add_line(&[Piece::Decimal(end), Piece::Text(" end\n")]);
+}
+
+/// Writes it by itself. Returns its length.
 pub fn write_end<S: Sink>(out: &mut S, end: u64) -> Result<u128, WriteFault>
     ensures { WrittenLine (S.contents out.old) (S.contents out.new) (S.is_stuck out.old) (S.is_stuck out.new) (end_line end) result }
 {

@@ -12,4 +12,4 @@ mod writing;
 pub use laws::{dumps_are_read_back, dumps_are_sampled};
 pub use reader::Cause;
 pub use reading::{VcdError, VcdFault, read_vcd};
-pub use writing::{write_changes, write_head, write_last};
+pub use writing::{add_changes, add_head, add_last, write_last};

@@ -3,14 +3,13 @@ ghost use Rattle.std.specs.Prelude.{◌≡◌, [], ◌+◌, ◌-◌, ◌==◌, �
 ghost use Rattle.std.specs.Fmt.{decimal};
 ghost use Rattle.std.specs.List.{concat, list_any};
 ghost use Rattle.cec_wave.specs.Line.{line_of, was_low};
-ghost use Rattle.cec_tally.specs.Adds.{Adds};
+ghost use Rattle.hdmi_core.specs.Adds.{Adds};
 ghost use Rattle.cec_wires.specs.Wires.{change_text, changes_from, id_of, instant_text, turns, wires_text};
 
-use crate::definitions::{id_of, write_bytes};
+use crate::definitions::id_of;
 use crate::drive::Drive;
-use cec_tally::add_line;
 use cec_wave::Stretch;
-use hdmi_core::{Piece, Sink, WriteFault};
+use hdmi_core::{Counted, Piece, Sink};
 
 // ---- one wire
 
@@ -83,18 +82,12 @@ fn next_end_of(drives: &[Drive], t: u64, next: u64) -> u64
 
 // ---- one instant
 
-fn write_value<S: Sink>(
-    out: &mut S,
-    written: &mut u128,
-    number: u8,
-    is_low: bool,
-) -> Result<(), WriteFault>
+fn add_value<S: Sink>(out: &mut Counted<'_, S>, number: u8, is_low: bool)
     requires { number ≤ 100 }
-    ensures { Adds (S.contents out.old) (S.contents out.new) (S.is_stuck out.old) (S.is_stuck out.new) written.old written.new
-        ((if is_low then 48 else 49) ∷ id_of number ∷ 10 ∷ []) result }
+    ensures { Adds out.old out.new ((if is_low then 48 else 49) ∷ id_of number ∷ 10 ∷ []) }
 {
     let line = [value_of(is_low), id_of(number), b'\n'];
-    write_bytes(out, written, &line)
+    out.add(&line);
 }
 
 // The value of a wire: 0 where it is low.
@@ -104,66 +97,34 @@ fn value_of(is_low: bool) -> u8
     if is_low { b'0' } else { b'1' }
 }
 
-// Writes the change of a wire, where it has one.
-fn write_change<S: Sink>(
-    out: &mut S,
-    written: &mut u128,
-    t: u64,
-    number: u8,
-    wire: &[Stretch],
-) -> Result<(), WriteFault>
+// Adds the change of a wire, where it has one.
+#[tactic(auto, using(hdmi_core::proofs::Adding::nothing))]
+fn add_change<S: Sink>(out: &mut Counted<'_, S>, t: u64, number: u8, wire: &[Stretch])
     requires { number ≤ 100 }
-    ensures { Adds (S.contents out.old) (S.contents out.new) (S.is_stuck out.old) (S.is_stuck out.new) written.old written.new (change_text t number wire.now) result }
+    ensures { Adds out.old out.new (change_text t number wire.now) }
 {
     if turns(wire, t) {
-        write_value(out, written, number, is_low(wire, t))
-    } else {
-        Ok(())
+        add_value(out, number, is_low(wire, t));
     }
 }
 
-// Writes the changes of wires from this number on.
-fn write_changes<S: Sink>(
-    out: &mut S,
-    written: &mut u128,
-    t: u64,
-    number: u8,
-    drives: &[Drive],
-) -> Result<(), WriteFault>
+// Adds the changes of wires from this number on.
+#[tactic(auto, using(hdmi_core::proofs::Adding::nothing))]
+fn add_changes<S: Sink>(out: &mut Counted<'_, S>, t: u64, number: u8, drives: &[Drive])
     requires { number + length drives.now ≤ 100 }
-    ensures { Adds (S.contents out.old) (S.contents out.new) (S.is_stuck out.old) (S.is_stuck out.new) written.old written.new (changes_from t number drives.now) result }
+    ensures { Adds out.old out.new (changes_from t number drives.now) }
 {
     let Some((drive, others)) = drives.split_first() else {
-        return Ok(());
+        return;
     };
-    write_change(out, written, t, number, drive.as_slice())?;
-    write_changes(out, written, t, number + 1, others)
+    add_change(out, t, number, drive.as_slice());
+    add_changes(out, t, number + 1, others);
 }
 
-// Writes the changes of the line and of the wires below it.
-fn write_all<S: Sink>(
-    out: &mut S,
-    written: &mut u128,
-    t: u64,
-    line: &[Stretch],
-    drives: &[Drive],
-) -> Result<(), WriteFault>
-    requires { length drives.now ≤ 90 }
-    ensures { Adds (S.contents out.old) (S.contents out.new) (S.is_stuck out.old) (S.is_stuck out.new) written.old written.new (changes_from t 0 (line.now ∷ drives.now)) result }
+fn add_time<S: Sink>(out: &mut Counted<'_, S>, t: u64)
+    ensures { Adds out.old out.new (concat (codes "#" ∷ decimal t ∷ codes "\n" ∷ [])) }
 {
-    write_change(out, written, t, 0, line)?;
-    write_changes(out, written, t, 1, drives)
-}
-
-fn write_time<S: Sink>(out: &mut S, written: &mut u128, t: u64) -> Result<(), WriteFault>
-    ensures { Adds (S.contents out.old) (S.contents out.new) (S.is_stuck out.old) (S.is_stuck out.new) written.old written.new
-        (concat (codes "#" ∷ decimal t ∷ codes "\n" ∷ [])) result }
-{
-    add_line(
-        out,
-        written,
-        &[Piece::Text("#"), Piece::Decimal(t), Piece::Text("\n")],
-    )
+    out.add_line(&[Piece::Text("#"), Piece::Decimal(t), Piece::Text("\n")]);
 }
 
 fn any_turns(drives: &[Drive], t: u64) -> bool
@@ -175,63 +136,44 @@ fn any_turns(drives: &[Drive], t: u64) -> bool
     }
 }
 
-// Writes an instant, and the changes then.
-fn write_timed<S: Sink>(
-    out: &mut S,
-    written: &mut u128,
-    t: u64,
-    line: &[Stretch],
-    drives: &[Drive],
-) -> Result<(), WriteFault>
+// Adds an instant, and the changes of the line and of the wires below it then.
+fn add_timed<S: Sink>(out: &mut Counted<'_, S>, t: u64, line: &[Stretch], drives: &[Drive])
     requires { length drives.now ≤ 90 }
-    ensures { Adds (S.contents out.old) (S.contents out.new) (S.is_stuck out.old) (S.is_stuck out.new) written.old written.new
-        (concat (codes "#" ∷ decimal t ∷ codes "\n" ∷ []) ++ changes_from t 0 (line.now ∷ drives.now)) result }
+    ensures { Adds out.old out.new (concat (codes "#" ∷ decimal t ∷ codes "\n" ∷ []) ++ changes_from t 0 (line.now ∷ drives.now)) }
 {
-    write_time(out, written, t)?;
-    write_all(out, written, t, line, drives)
+    add_time(out, t);
+    add_change(out, t, 0, line);
+    add_changes(out, t, 1, drives);
 }
 
-// Writes an instant, where some wire changes then.
-fn write_instant<S: Sink>(
-    out: &mut S,
-    written: &mut u128,
-    t: u64,
-    line: &[Stretch],
-    drives: &[Drive],
-) -> Result<(), WriteFault>
+// Adds an instant, where some wire changes then.
+#[tactic(auto, using(hdmi_core::proofs::Adding::nothing))]
+fn add_instant<S: Sink>(out: &mut Counted<'_, S>, t: u64, line: &[Stretch], drives: &[Drive])
     requires { length drives.now ≤ 90 }
-    ensures { Adds (S.contents out.old) (S.contents out.new) (S.is_stuck out.old) (S.is_stuck out.new) written.old written.new (instant_text (line.now ∷ drives.now) t) result }
+    ensures { Adds out.old out.new (instant_text (line.now ∷ drives.now) t) }
 {
     if turns(line, t) || any_turns(drives, t) {
-        write_timed(out, written, t, line, drives)
-    } else {
-        Ok(())
+        add_timed(out, t, line, drives);
     }
 }
 
 // ---- all of them
 
-/// Writes the changes of the line and of the wires below it, from one instant up to another.
-///
-/// # Errors
-///
-/// A `put` took none. The fault reports how much was written in all: the count stays at its greatest value.
-pub fn write_wires<S: Sink>(
-    out: &mut S,
-    written: &mut u128,
+/// Adds the changes of the line and of the wires below it, from one instant up to another.
+pub fn add_wires<S: Sink>(
+    out: &mut Counted<'_, S>,
     line: &[Stretch],
     drives: &[Drive],
     from: u64,
     to: u64,
-) -> Result<(), WriteFault>
+)
     requires few { length drives.now ≤ 90 }
     requires order { from ≤ to }
-    ensures { Adds (S.contents out.old) (S.contents out.new) (S.is_stuck out.old) (S.is_stuck out.new) written.old written.new (wires_text (line.now ∷ drives.now) from (to - from)) result }
+    ensures { Adds out.old out.new (wires_text (line.now ∷ drives.now) from (to - from)) }
 {
     let mut t = from;
     'instants: while t < to {
-        write_instant(out, written, t, line, drives)?;
+        add_instant(out, t, line, drives);
         t = next_end(line, t, next_end_of(drives, t, to));
     }
-    Ok(())
 }

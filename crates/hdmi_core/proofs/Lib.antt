@@ -5,3 +5,4 @@ pub mod KindWords
 pub mod LineLemmas
 pub mod PartedLemmas
 pub mod Cutting
+pub mod Adding

@@ -10,3 +10,4 @@ pub mod Words
 pub mod Number
 pub mod Hex
 pub mod Cut
+pub mod Adds

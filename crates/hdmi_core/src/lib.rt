@@ -12,6 +12,7 @@ mod parts;
 mod phys;
 mod piece;
 mod sink;
+mod tally;
 mod words;
 mod written;
 
@@ -25,5 +26,6 @@ pub use parts::{after, before, byte_at, joined, len_before};
 pub use phys::{Phys, digit_value, is_hex_digit};
 pub use piece::{Piece, hex_digit, write_line, write_pieces};
 pub use sink::{Sink, WriteFault, Writes, put_all};
+pub use tally::Counted;
 pub use words::{first_word, one_word, spaces_unquoted, three_words, two_words};
 pub use written::{counted, cut_at};

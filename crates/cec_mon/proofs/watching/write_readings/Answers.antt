@@ -1,44 +1,28 @@
-use Rattle.std.proofs.Common.{◌≡◌, length, option_map, ap, arith}
-use Rattle.cec_bits.specs.Reports.{listed_as}
-use Rattle.cec_tally.proofs.Adding.{hands_on}
-use Rattle.cec_mon.specs.Watch.{WritesFile}
-use Rattle.cec_mon.proofs.Files.{watched_first, watched_more, cut_edge, ended_so, no_fault, edge_read, end_read_so}
+use Rattle.std.proofs.Common.{ℕ, Bool, List, Option, Ok, Err, Result, rules, subst}
+use Rattle.hdmi_core.specs.Cut.{WrittenText}
+use Rattle.hdmi_core.specs.declared.sink.WriteFault.{WriteFault}
+use Rattle.hdmi_core.proofs.Adding.{loan_ended}
+use Rattle.cec_mon.specs.Watch.{WritesFile, file_readings, readings_text}
 use Rattle.cec_mon.proofs.watching.write_readings.Goals as goal
 
-pub edges-init : goal.edges-init
-edges-init g c =
-    let count = c.new-lines.ensures.first.0 in
-    let text : length c.new-lines.result.rest.now ≡ length c.args.text.now = ap length c.new-lines.ensures.rest in
-    record {
-      watched = λ f h. watched_first c.args.text.now f c.new-lines.result c.new-monitor.result (g.S.Sink.contents c.args.out.now) (g.S.Sink.is_stuck c.args.out.now) h
-          c.new-lines.ensures.rest c.new-lines.ensures.first.0 c.new-lines.ensures.first.1 c.new-lines.ensures.first.2 c.new-monitor.ensures;
-      room = omega (arith, count, text);
-    }
-
-pub edges-preserved : goal.edges-preserved
-edges-preserved g c =
-    let b = edge_read c.edges.lines c.next.new.self c.in-Ok.line c.in-Edge.edge c.in-Ok.ensures c.in-Edge.is in
-    record {
-      watched = λ f h. watched_more f c.edges.lines c.next.new.self c.edges.monitor c.edge-reading.new.self c.in-Edge.edge (option_map listed_as c.edge-reading.result) _ _ _ _ _ _
-          c.edges.written _ (c.edges.invariant.watched f h) b c.edge-reading.ensures.follows c.in_ok-write_reported-in-Edge.ensures;
-      room = omega (arith, b.room, c.edges.invariant.room);
-    }
-
-pub returns-in_err-write_reported-in-Edge : goal.returns-in_err-write_reported-in-Edge
-returns-in_err-write_reported-in-Edge g c = λ f h.
-    let b = edge_read c.edges.lines c.next.new.self c.in-Ok.line c.in-Edge.edge c.in-Ok.ensures c.in-Edge.is in
-    hands_on (WritesFile (g.S.Sink.contents c.args.out.now) (g.S.Sink.contents c.write_reported.new.out) (g.S.Sink.is_stuck c.args.out.now) (g.S.Sink.is_stuck c.write_reported.new.out) f)
-    c.in_err-write_reported-in-Edge.field-0.0 c.from_residual.result c.from_residual.ensures.0 c.from_residual.ensures.1
-    (cut_edge f c.edges.lines c.next.new.self c.edges.monitor c.edge-reading.new.self c.in-Edge.edge (option_map listed_as c.edge-reading.result) _ _ _ _ _ _
-    c.edges.written c.write_reported.new.written c.in_err-write_reported-in-Edge.field-0.0 (c.edges.invariant.watched f h) b c.edge-reading.ensures.follows c.in_err-write_reported-in-Edge.ensures)
-
-pub returns-in-End : goal.returns-in-End
-returns-in-End g c = λ f h.
-    let b = end_read_so c.edges.lines c.next.new.self c.in-Ok.line c.in-End.t c.in-Ok.ensures c.in-End.is in
-    ended_so f c.edges.lines c.edges.monitor c.in-End.t (option_map listed_as c.finish-reading.result) _ _ _ _ _ _
-    c.edges.written _ c.write_reported-in-End.result (c.edges.invariant.watched f h) b.0 b.1 c.finish-reading.ensures c.write_reported-in-End.ensures
+pub returns-in-Ok : goal.returns-in-Ok
+returns-in-Ok g c = λ f h.
+    let old = g.S.Sink.contents c.args.out.now in
+    let was = g.S.Sink.is_stuck c.args.out.now in
+    let text = readings_text (file_readings f) in
+    loan_ended g.S.Sink.contents g.S.Sink.is_stuck c.args.out.now _ c.into_sink-below.result.now _ c.into_sink-below.result.ghost_name c.new-readings.result c.add_readings.new.out text
+    (λ (k : Option (List ℕ)) (s : Bool). WritesFile old k was s f (Ok tt))
+    c.new-readings.ensures (c.add_readings.ensures f h)
+    (λ added. let whole = subst (λ (r : Result ℕ WriteFault). WrittenText old c.add_readings.new.out.known was c.add_readings.new.out.stuck text r) c.in-Ok.is (c.written-written.ensures.text _ _ _ text added) in (whole.1, whole.2))
+    c.into_sink-below.ensures.loan c.into_sink-below.ensures.known c.into_sink-below.ensures.stuck (search rules)
 
 pub returns-in-Err : goal.returns-in-Err
 returns-in-Err g c = λ f h.
-    absurd (no_fault f c.edges.lines c.edges.monitor (g.S.Sink.contents c.args.out.now) (g.S.Sink.contents c.edges.out) (g.S.Sink.is_stuck c.args.out.now) (g.S.Sink.is_stuck c.edges.out) c.edges.written
-    c.in-Err.field-0 (c.edges.invariant.watched f h) c.in-Err.ensures)
+    let old = g.S.Sink.contents c.args.out.now in
+    let was = g.S.Sink.is_stuck c.args.out.now in
+    let text = readings_text (file_readings f) in
+    loan_ended g.S.Sink.contents g.S.Sink.is_stuck c.args.out.now _ c.into_sink-below.result.now _ c.into_sink-below.result.ghost_name c.new-readings.result c.add_readings.new.out text
+    (λ (k : Option (List ℕ)) (s : Bool). WritesFile old k was s f (Err c.in-Err.fault))
+    c.new-readings.ensures (c.add_readings.ensures f h)
+    (λ added. subst (λ (r : Result ℕ WriteFault). WrittenText old c.add_readings.new.out.known was c.add_readings.new.out.stuck text r) c.in-Err.is (c.written-written.ensures.text _ _ _ text added))
+    c.into_sink-below.ensures.loan c.into_sink-below.ensures.known c.into_sink-below.ensures.stuck (search rules)
