@@ -8,6 +8,7 @@ use Rattle.cec_wave.specs.Sender.{sender_stretches}
 use Rattle.cec_frame.specs.Bits.{frame_bits}
 use Rattle.cec_frame.specs.declared.Ending.{Ending}
 use Rattle.cec_frame.specs.declared.Ending.TheVariants.{Short}
+use Rattle.cec_bits.specs.Windows.{sample_at}
 use Rattle.cec_bits.specs.Sending.{destination}
 use Rattle.cec_wire.specs.declared.Seat.{Seat}
 use Rattle.cec_wire.specs.declared.Outcome.{Outcome}
@@ -33,7 +34,7 @@ slot_fall o n = fall_by o.reading.at (slice_get o.wave n)
 
 abbrev pub sample_by : Option ℕ → ℕ
 sample_by None = 0
-sample_by (Some fall) = fall + 1050
+sample_by (Some fall) = fall + sample_at
 
 -- the last microsecond in which a sender pulls that is out at this slot: that slot's sample, or the reading's end
 abbrev pub last_pull : Outcome → Option ℕ → ℕ

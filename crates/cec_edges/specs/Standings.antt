@@ -1,5 +1,6 @@
 -- Where a wire says that the receivers of its line stand. (own)
 use Rattle.std.specs.Prelude.{◌≡◌, ℕ, ◌+◌, ◌-◌, ◌<◌, Bool, true, nat_lt, nat_le, if◌then◌else◌, List, [], ◌∷◌, length}
+use Rattle.cec_bits.specs.Windows.{sample_at}
 use Rattle.cec_bits.specs.Phase.{Standing, at_rest, standing_of}
 use Rattle.cec_bits.specs.Phase as phase
 use Rattle.cec_wire.specs.declared.hearing.Stage.{Stage}
@@ -16,7 +17,7 @@ still_in (bit ∷ bits) = phase.InSlot (length (bit ∷ bits)) (bit ∷ bits)
 abbrev pub stands_in : Stage → List Bool → ℕ → Bool → Standing
 stands_in StartLow bits t is_low = phase.StartLow
 stands_in StartHigh bits t is_low = phase.StartHigh
-stands_in (InSlot fall last) bits t is_low = phase.InSlot (if nat_le (fall + 1050) t then length bits else length bits + 1) bits
+stands_in (InSlot fall last) bits t is_low = phase.InSlot (if nat_le (fall + sample_at) t then length bits else length bits + 1) bits
 stands_in (Over ended) bits t is_low = if nat_lt t ended.at then still_in bits else at_rest is_low
 
 -- A wire that has heard a microsecond or more of a round's line, which falls as the round begins, says where

@@ -9,6 +9,7 @@ use Rattle.cec_frame.specs.declared.Ending.{Ending}
 use Rattle.cec_frame.specs.declared.Ending.TheVariants.{Short}
 use Rattle.cec_bits.specs.declared.After.{After}
 use Rattle.cec_bits.specs.declared.After.TheVariants.{Next, Ends}
+use Rattle.cec_bits.specs.Windows.{standard, sample_at}
 use Rattle.cec_bits.specs.Reading.{next_fall, next_rise, Read, read_slots, read_on, after_slot, after_fall, after_last, last_ending, last_heard, bit_sampled_at, read_start, reading_of, start_of, start_rise, start_fall}
 use Rattle.cec_bits.proofs.Search.{found_first, found_none}
 use Rattle.cec_bits.proofs.Causes.{IsPlain, last_plain}
@@ -53,29 +54,29 @@ until_of (Ends ending at) = last_heard ending at
 -- before the instant at which a slot ends a reading, the line does not fall
 quiet_end : (low : Line) (e : ℕ) (last : Option Ending) (ending : Ending) (at : ℕ) → IsPlain last → after_slot low e last ≡ Ends ending at
     → (u : ℕ) → e + 1 ≤ u → u < last_heard ending at → is_fall low u ≡ false
-quiet_end low e None ending at w h = by_fall (next_fall low e 2750) refl h
+quiet_end low e None ending at w h = by_fall (next_fall low e standard.bit_total.most) refl h
   where
-    by_time : (g : ℕ) (b : Bool) → next_fall low e 2750 ≡ Some g → (let a : After = if b then Ends Short g else Next g in a) ≡ Ends ending at → (u : ℕ) → e + 1 ≤ u → u < last_heard ending at → is_fall low u ≡ false
+    by_time : (g : ℕ) (b : Bool) → next_fall low e standard.bit_total.most ≡ Some g → (let a : After = if b then Ends Short g else Next g in a) ≡ Ends ending at → (u : ℕ) → e + 1 ≤ u → u < last_heard ending at → is_fall low u ≡ false
     by_time g true k a u l m =
         let same : last_heard ending at ≡ g = ap until_of (sym a) in
-        (found_first (is_fall low) (e + 1) 2750 g k).first u l (omega (arith, m, same))
+        (found_first (is_fall low) (e + 1) standard.bit_total.most g k).first u l (omega (arith, m, same))
     by_time g false k a u l m = cc
 
-    by_fall : (o : Option ℕ) → next_fall low e 2750 ≡ o → after_fall e o ≡ Ends ending at → (u : ℕ) → e + 1 ≤ u → u < last_heard ending at → is_fall low u ≡ false
+    by_fall : (o : Option ℕ) → next_fall low e standard.bit_total.most ≡ o → after_fall e o ≡ Ends ending at → (u : ℕ) → e + 1 ≤ u → u < last_heard ending at → is_fall low u ≡ false
     by_fall None k a u l m =
-        let same : last_heard ending at ≡ e + 2751 - 1 = ap until_of (sym a) in
-        found_none (is_fall low) (e + 1) 2750 k u l (omega (arith, m, same))
-    by_fall (Some g) k a u l m = by_time g (nat_lt g (e + 2050)) k a u l m
-quiet_end low e (Some x) ending at w h = by_fall (next_fall low e 1050) refl h
+        let same : last_heard ending at ≡ e + (standard.bit_total.most + 1) - 1 = ap until_of (sym a) in
+        found_none (is_fall low) (e + 1) standard.bit_total.most k u l (omega (arith, m, same))
+    by_fall (Some g) k a u l m = by_time g (nat_lt g (e + standard.bit_total.least)) k a u l m
+quiet_end low e (Some x) ending at w h = by_fall (next_fall low e sample_at) refl h
   where
-    by_fall : (o : Option ℕ) → next_fall low e 1050 ≡ o → after_last e x o ≡ Ends ending at → (u : ℕ) → e + 1 ≤ u → u < last_heard ending at → is_fall low u ≡ false
+    by_fall : (o : Option ℕ) → next_fall low e sample_at ≡ o → after_last e x o ≡ Ends ending at → (u : ℕ) → e + 1 ≤ u → u < last_heard ending at → is_fall low u ≡ false
     by_fall None k a u l m =
-        let same : last_heard ending at ≡ last_heard x (e + 1050) = ap until_of (sym a) in
-        let plain : last_heard x (e + 1050) ≡ e + 1050 = w (e + 1050) in
-        found_none (is_fall low) (e + 1) 1050 k u l (omega (arith, m, same, plain))
+        let same : last_heard ending at ≡ last_heard x (e + sample_at) = ap until_of (sym a) in
+        let plain : last_heard x (e + sample_at) ≡ e + sample_at = w (e + sample_at) in
+        found_none (is_fall low) (e + 1) sample_at k u l (omega (arith, m, same, plain))
     by_fall (Some g) k a u l m =
         let same : last_heard ending at ≡ g = ap until_of (sym a) in
-        (found_first (is_fall low) (e + 1) 1050 g k).first u l (omega (arith, m, same))
+        (found_first (is_fall low) (e + 1) sample_at g k).first u l (omega (arith, m, same))
 
 count_on : (low : Line) (e left : ℕ) (bits : List Bool) (rest : ℕ → Read) → ((f : ℕ) (us : List ℕ) → AreFallsTo low (f + 1) (rest f).until us → length us ≤ left)
     → (a : After) → after_slot low e (last_ending bits) ≡ a → (us : List ℕ) → AreFallsTo low (e + 1) (read_on rest a).until us → length us ≤ suc left
@@ -149,40 +150,40 @@ few_at_end : (low : Line) (g until : ℕ) (vs : List ℕ) → until ≤ g → Ar
 few_at_end low g until vs l h = one_at_most low g until vs (λ u a b. absurd (omega (arith, a, b, l))) h
 
 count_start : (low : Line) (begin : ℕ) (s : Result ℕ ℕ) → start_of low begin ≡ s → (us : List ℕ) → AreFallsTo low begin (read_start low begin s).until us → length us ≤ 162
-count_start low begin s e us h = by_rise (next_rise low begin 3900) refl e
+count_start low begin s e us h = by_rise (next_rise low begin standard.start_low.most) refl e
   where
     on_slots : (f : ℕ) (vs : List ℕ) → AreFallsTo low f (read_slots low 160 [] f).until vs → length vs ≤ 161
     on_slots f [] k = omega arith
     on_slots f (v ∷ vs) k = let x = count_slots low 160 [] f vs (falls_later low (v + 1) (f + 1) (read_slots low 160 [] f).until vs (λ w l m. absurd (omega (arith, l, m, k.0))) k.3) in omega (arith, x)
 
-    ok_at : (r g : ℕ) → next_rise low begin 3900 ≡ Some r → next_fall low r (begin + 4700 - r) ≡ Some g → Ok g ≡ s → length us ≤ 162
+    ok_at : (r g : ℕ) → next_rise low begin standard.start_low.most ≡ Some r → next_fall low r (begin + standard.start_total.most - r) ≡ Some g → Ok g ≡ s → length us ≤ 162
     ok_at r g x y z =
-        count_rise low begin r g (read_slots low 160 [] g).until 161 us (found_first (is_rise low) (begin + 1) 3900 r x).first (found_first (is_fall low) (r + 1) (begin + 4700 - r) g y).first (on_slots g)
+        count_rise low begin r g (read_slots low 160 [] g).until 161 us (found_first (is_rise low) (begin + 1) standard.start_low.most r x).first (found_first (is_fall low) (r + 1) (begin + standard.start_total.most - r) g y).first (on_slots g)
         (subst (λ (t : Result ℕ ℕ). AreFallsTo low begin (read_start low begin t).until us) (sym z) h)
 
-    err_at : (r g at : ℕ) → ((w : ℕ) → begin + 1 ≤ w → w < r → is_rise low w ≡ false) → ((v : ℕ) → r + 1 ≤ v → v < g → is_fall low v ≡ false) → min at (begin + 4700) ≤ g → Err at ≡ s → length us ≤ 162
+    err_at : (r g at : ℕ) → ((w : ℕ) → begin + 1 ≤ w → w < r → is_rise low w ≡ false) → ((v : ℕ) → r + 1 ≤ v → v < g → is_fall low v ≡ false) → min at (begin + standard.start_total.most) ≤ g → Err at ≡ s → length us ≤ 162
     err_at r g at q k l z =
-        let x = count_rise low begin r g (min at (begin + 4700)) 1 us q k (λ vs a. few_at_end low g (min at (begin + 4700)) vs l a)
+        let x = count_rise low begin r g (min at (begin + standard.start_total.most)) 1 us q k (λ vs a. few_at_end low g (min at (begin + standard.start_total.most)) vs l a)
         (subst (λ (t : Result ℕ ℕ). AreFallsTo low begin (read_start low begin t).until us) (sym z) h) in omega (arith, x)
 
-    by_time : (r g : ℕ) (b : Bool) → next_rise low begin 3900 ≡ Some r → next_fall low r (begin + 4700 - r) ≡ Some g → (let t : Result ℕ ℕ = if b then Err g else Ok g in t) ≡ s → length us ≤ 162
-    by_time r g true x y z = err_at r g g (found_first (is_rise low) (begin + 1) 3900 r x).first (found_first (is_fall low) (r + 1) (begin + 4700 - r) g y).first (omega arith) z
+    by_time : (r g : ℕ) (b : Bool) → next_rise low begin standard.start_low.most ≡ Some r → next_fall low r (begin + standard.start_total.most - r) ≡ Some g → (let t : Result ℕ ℕ = if b then Err g else Ok g in t) ≡ s → length us ≤ 162
+    by_time r g true x y z = err_at r g g (found_first (is_rise low) (begin + 1) standard.start_low.most r x).first (found_first (is_fall low) (r + 1) (begin + standard.start_total.most - r) g y).first (omega arith) z
     by_time r g false x y z = ok_at r g x y z
 
-    by_fall : (r : ℕ) → next_rise low begin 3900 ≡ Some r → (o : Option ℕ) → next_fall low r (begin + 4700 - r) ≡ o → start_fall begin o ≡ s → length us ≤ 162
+    by_fall : (r : ℕ) → next_rise low begin standard.start_low.most ≡ Some r → (o : Option ℕ) → next_fall low r (begin + standard.start_total.most - r) ≡ o → start_fall begin o ≡ s → length us ≤ 162
     by_fall r x None y z =
-        err_at r (begin + 4701) (begin + 4701) (found_first (is_rise low) (begin + 1) 3900 r x).first
-        (λ v l m. let w = (found_first (is_rise low) (begin + 1) 3900 r x).within in found_none (is_fall low) (r + 1) (begin + 4700 - r) y v l (omega (arith, w, m, l))) (omega arith) z
-    by_fall r x (Some g) y z = by_time r g (nat_lt g (begin + 4300)) x y z
+        err_at r (begin + (standard.start_total.most + 1)) (begin + (standard.start_total.most + 1)) (found_first (is_rise low) (begin + 1) standard.start_low.most r x).first
+        (λ v l m. let w = (found_first (is_rise low) (begin + 1) standard.start_low.most r x).within in found_none (is_fall low) (r + 1) (begin + standard.start_total.most - r) y v l (omega (arith, w, m, l))) (omega arith) z
+    by_fall r x (Some g) y z = by_time r g (nat_lt g (begin + standard.start_total.least)) x y z
 
-    by_low : (r : ℕ) (b : Bool) → next_rise low begin 3900 ≡ Some r → (let t : Result ℕ ℕ = if b then Err r else start_fall begin (next_fall low r (begin + 4700 - r)) in t) ≡ s → length us ≤ 162
-    by_low r true x z = err_at r (r + 1) r (found_first (is_rise low) (begin + 1) 3900 r x).first (λ v l m. absurd (omega arith)) (omega arith) z
-    by_low r false x z = by_fall r x (next_fall low r (begin + 4700 - r)) refl z
+    by_low : (r : ℕ) (b : Bool) → next_rise low begin standard.start_low.most ≡ Some r → (let t : Result ℕ ℕ = if b then Err r else start_fall begin (next_fall low r (begin + standard.start_total.most - r)) in t) ≡ s → length us ≤ 162
+    by_low r true x z = err_at r (r + 1) r (found_first (is_rise low) (begin + 1) standard.start_low.most r x).first (λ v l m. absurd (omega arith)) (omega arith) z
+    by_low r false x z = by_fall r x (next_fall low r (begin + standard.start_total.most - r)) refl z
 
-    by_rise : (o : Option ℕ) → next_rise low begin 3900 ≡ o → start_rise low begin o ≡ s → length us ≤ 162
+    by_rise : (o : Option ℕ) → next_rise low begin standard.start_low.most ≡ o → start_rise low begin o ≡ s → length us ≤ 162
     by_rise None x z =
-        err_at (begin + 3901) (begin + 3902) (begin + 3901) (λ w l m. found_none (is_rise low) (begin + 1) 3900 x w l (omega arith)) (λ v l m. absurd (omega arith)) (omega arith) z
-    by_rise (Some r) x z = by_low r (nat_lt r (begin + 3500)) x z
+        err_at (begin + (standard.start_low.most + 1)) (begin + 3902) (begin + (standard.start_low.most + 1)) (λ w l m. found_none (is_rise low) (begin + 1) standard.start_low.most x w l (omega arith)) (λ v l m. absurd (omega arith)) (omega arith) z
+    by_rise (Some r) x z = by_low r (nat_lt r (begin + standard.start_low.least)) x z
 
 pub falls_are_read : FallsAreRead
 falls_are_read low begin us r all = count_start low begin (start_of low begin) refl us (to_falls low begin (reading_of low begin).until us r all)

@@ -8,6 +8,7 @@ use Rattle.cec_wave.specs.Line.{Line, line_of, was_low}
 use Rattle.cec_wave.specs.Pulses.{AreSparse}
 use Rattle.cec_wave.specs.Sender.{sender_stretches}
 use Rattle.cec_frame.specs.Bits.{frame_bits, least_among}
+use Rattle.cec_bits.specs.Windows.{standard}
 use Rattle.cec_bits.specs.Reading.{Slot, Known, known_at, reading_of, start_of}
 use Rattle.cec_bits.proofs.Ends.{at_by}
 use Rattle.cec_wire.specs.declared.Seat.{Seat}
@@ -57,7 +58,7 @@ pulled_on seats begin pulses low frames sparse line t past w i p =
     no_slot : BeginsSlot begin t (length (frame_bits w)) → ⊥
     no_slot b = by_late (late_start low begin (start_of low begin) refl (omega (arith, at_t, past)))
       where
-        by_late : ((reading_of low begin).at ≡ begin + 4701) ⊎ LateEnd (reading_of low begin).slots (reading_of low begin).at → ⊥
+        by_late : ((reading_of low begin).at ≡ begin + (standard.start_total.most + 1)) ⊎ LateEnd (reading_of low begin).slots (reading_of low begin).at → ⊥
         by_late (inl x) = omega (arith, x, b.2, at_by low begin, past, at_t)
         by_late (inr q) =
             let d = all_in (λ w. (k : ℕ) (s : Slot) → slice_get (reading_of low begin).slots k ≡ Some s → out_slot (known_at s.fall (reading_of low begin)) (frame_bits w) ≡ None → (k < length (frame_bits w)) × InWindow begin k s) (winning_frames seats)

@@ -9,6 +9,7 @@ use Rattle.cec_frame.specs.declared.Ending.{Ending}
 use Rattle.cec_frame.specs.declared.Ending.TheVariants.{Complete, Short, Silent, BadStart, Long}
 use Rattle.cec_bits.specs.declared.After.{After}
 use Rattle.cec_bits.specs.declared.After.TheVariants.{Next, Ends}
+use Rattle.cec_bits.specs.Windows.{standard, sample_at}
 use Rattle.cec_bits.specs.Reading.{next_fall, next_rise, Read, Slot, End, Known, known_at, known_slot, reading_of, read_start, read_slots, read_on, read_then, after_slot, after_fall, after_last, last_ending, last_heard, sample, bit_sampled_at, start_of, start_rise, start_fall}
 use Rattle.cec_bits.proofs.Search.{first_in_none, first_in_some}
 use Rattle.cec_bits.proofs.Causes.{with_slots, start_risen}
@@ -35,23 +36,23 @@ pub record AtStartLow (low : Line) (begin t : ℕ) (bits : List Bool) (held : �
   pub free : held ≡ 0
   pub quiet : (u : ℕ) → begin < u → u < t → is_rise low u ≡ false
   pub from : begin ≤ t
-  pub early : t ≤ begin + 3901
+  pub early : t ≤ begin + (standard.start_low.most + 1)
 
 -- after the rise
 pub record AtStartHigh (low : Line) (begin t : ℕ) (bits : List Bool) (held : ℕ) : Type 0 where
   pub none : bits ≡ []
   pub free : held ≡ 0
   pub rise : ℕ
-  pub found : next_rise low begin 3900 ≡ Some rise
-  pub late : begin + 3500 ≤ rise
-  pub near : rise ≤ begin + 3900
+  pub found : next_rise low begin standard.start_low.most ≡ Some rise
+  pub late : begin + standard.start_low.least ≤ rise
+  pub near : rise ≤ begin + standard.start_low.most
   pub after : rise < t
   pub quiet : (u : ℕ) → rise < u → u < t → is_fall low u ≡ false
-  pub early : t ≤ begin + 4700
+  pub early : t ≤ begin + standard.start_total.most
 
 -- the bit, once it is sampled before t
 abbrev pub reported_by : Line → ℕ → ℕ → List Bool
-reported_by low fall t = if nat_lt (fall + 1050) t then option_to_list (bit_sampled_at low fall) else []
+reported_by low fall t = if nat_lt (fall + sample_at) t then option_to_list (bit_sampled_at low fall) else []
 
 -- in a slot
 pub record AtSlot (seats : List Seat) (low : Line) (begin t : ℕ) (bits : List Bool) (fall : ℕ) (last : Option Ending) (held : ℕ) : Type 0 where
@@ -65,9 +66,9 @@ pub record AtSlot (seats : List Seat) (low : Line) (begin t : ℕ) (bits : List 
   pub reported : bits ≡ before ++ reported_by low fall t
   pub quiet : (u : ℕ) → fall < u → u < t → is_fall low u ≡ false
   pub after : fall < t
-  pub early : t ≤ fall + 2750
-  pub waits : IsSome last → t ≤ fall + 1050
-  pub near : fall ≤ begin + 4700 + 2750 * length before
+  pub early : t ≤ fall + standard.bit_total.most
+  pub waits : IsSome last → t ≤ fall + sample_at
+  pub near : fall ≤ begin + standard.start_total.most + standard.bit_total.most * length before
   pub free : held ≡ acks_until seats before fall
 
 -- after the ending
@@ -104,8 +105,8 @@ no_break true n held = refl
 no_break false n held = refl
 
 -- a bad start
-bad_start : (seats : List Seat) (low : Line) (begin t at until : ℕ) (bits : List Bool) (held : ℕ) → bits ≡ [] → held ≡ 0 → start_of low begin ≡ Err at → min at (begin + 4700) ≡ until
-    → until < t → at ≤ begin + 4701 → AtEnd seats low begin t bits (record { ending = BadStart; at = at; until = until }) held
+bad_start : (seats : List Seat) (low : Line) (begin t at until : ℕ) (bits : List Bool) (held : ℕ) → bits ≡ [] → held ≡ 0 → start_of low begin ≡ Err at → min at (begin + standard.start_total.most) ≡ until
+    → until < t → at ≤ begin + (standard.start_total.most + 1) → AtEnd seats low begin t bits (record { ending = BadStart; at = at; until = until }) held
 bad_start seats low begin t at until bits held none free h m past near = record {
   zs = [];
   reads = reads;
@@ -128,14 +129,14 @@ bad_start seats low begin t at until bits held none free h m past near = record 
 
 -- ---- a step in the start bit
 
-start_early : (low : Line) (begin t : ℕ) → ((u : ℕ) → begin < u → u < t → is_rise low u ≡ false) → begin < t → t ≤ begin + 3900 → is_rise low t ≡ true → next_rise low begin 3900 ≡ Some t
-start_early low begin t q l m r = first_in_some (is_rise low) (begin + 1) 3900 t (omega arith) (omega arith) r (λ u a b. q u (omega arith) b)
+start_early : (low : Line) (begin t : ℕ) → ((u : ℕ) → begin < u → u < t → is_rise low u ≡ false) → begin < t → t ≤ begin + standard.start_low.most → is_rise low t ≡ true → next_rise low begin standard.start_low.most ≡ Some t
+start_early low begin t q l m r = first_in_some (is_rise low) (begin + 1) standard.start_low.most t (omega arith) (omega arith) r (λ u a b. q u (omega arith) b)
 
 -- before its own fall the line of the round does not rise
 pub low_step : (seats : List Seat) (low : Line) (begin t : ℕ) (bits : List Bool) (held : ℕ) → AtStartLow low begin t bits held → (t ≡ begin → is_rise low t ≡ false)
     → StandsAt seats low begin (t + 1) (bits ++ []) (held_after seats (bits ++ []) (after_start_low begin t (is_rise low t)) t held) (after_start_low begin t (is_rise low t))
 unfolding StandsAt
-low_step seats low begin t bits held s first = by_late (nat_lt (begin + 3900) t) refl
+low_step seats low begin t bits held s first = by_late (nat_lt (begin + standard.start_low.most) t) refl
   where
     none : bits ++ [] ≡ []
     none = append-nil bits ∙ s.none
@@ -143,23 +144,23 @@ low_step seats low begin t bits held s first = by_late (nat_lt (begin + 3900) t)
     quiet_to : is_rise low t ≡ false → (u : ℕ) → begin < u → u < t + 1 → is_rise low u ≡ false
     quiet_to e u l m = elim (cases_lt u t) [ inl lt ↦ s.quiet u l lt | inr ge ↦ let same : u ≡ t = omega arith in rw same e ]
 
-    stay : is_rise low t ≡ false → t ≤ begin + 3900 → AtStartLow low begin (t + 1) (bits ++ []) held
+    stay : is_rise low t ≡ false → t ≤ begin + standard.start_low.most → AtStartLow low begin (t + 1) (bits ++ []) held
     stay e l = record { none = none; free = s.free; quiet = quiet_to e; from = omega (arith, s.from); early = omega arith }
 
     past : is_rise low t ≡ true → begin < t
     past e = elim (cases_lt begin t) [ inl lt ↦ lt | inr ge ↦ let same : t ≡ begin = omega (arith, s.from) in let no : true ≡ false = sym e ∙ first same in cc ]
 
-    by_soon : t ≤ begin + 3900 → is_rise low t ≡ true → (b : Bool) → nat_lt t (begin + 3500) ≡ b
+    by_soon : t ≤ begin + standard.start_low.most → is_rise low t ≡ true → (b : Bool) → nat_lt t (begin + standard.start_low.least) ≡ b
         → StandsAt seats low begin (t + 1) (bits ++ []) (held_after seats (bits ++ []) (if b then over BadStart t t else StartHigh) t held) (if b then over BadStart t t else StartHigh)
     by_soon l e true h =
         let p : begin < t = past e in
-        let at : t < begin + 3500 = grind (arith, nat_tests) in
+        let at : t < begin + standard.start_low.least = grind (arith, nat_tests) in
         bad_start seats low begin (t + 1) t t (bits ++ []) (if (t == t) && false then t + 3600 else held) none (no_break (t == t) (t + 3600) held ∙ s.free)
-        (ap (start_rise low begin) (start_early low begin t s.quiet p l e) ∙ ap (λ b. if b then Err t else start_fall begin (next_fall low t (begin + 4700 - t))) h)
+        (ap (start_rise low begin) (start_early low begin t s.quiet p l e) ∙ ap (λ b. if b then Err t else start_fall begin (next_fall low t (begin + standard.start_total.most - t))) h)
         (omega arith) (omega arith) (omega arith)
     by_soon l e false h =
         let p : begin < t = past e in
-        let at : begin + 3500 ≤ t = grind (arith, nat_tests) in
+        let at : begin + standard.start_low.least ≤ t = grind (arith, nat_tests) in
         record {
           none = none;
           free = s.free;
@@ -172,21 +173,21 @@ low_step seats low begin t bits held s first = by_late (nat_lt (begin + 3900) t)
           early = omega arith;
         }
 
-    by_rise : t ≤ begin + 3900 → (r : Bool) → is_rise low t ≡ r
-        → StandsAt seats low begin (t + 1) (bits ++ []) (held_after seats (bits ++ []) (if r then (if nat_lt t (begin + 3500) then over BadStart t t else StartHigh) else StartLow) t held)
-        (if r then (if nat_lt t (begin + 3500) then over BadStart t t else StartHigh) else StartLow)
-    by_rise l true e = by_soon l e (nat_lt t (begin + 3500)) refl
+    by_rise : t ≤ begin + standard.start_low.most → (r : Bool) → is_rise low t ≡ r
+        → StandsAt seats low begin (t + 1) (bits ++ []) (held_after seats (bits ++ []) (if r then (if nat_lt t (begin + standard.start_low.least) then over BadStart t t else StartHigh) else StartLow) t held)
+        (if r then (if nat_lt t (begin + standard.start_low.least) then over BadStart t t else StartHigh) else StartLow)
+    by_rise l true e = by_soon l e (nat_lt t (begin + standard.start_low.least)) refl
     by_rise l false e = stay e l
 
-    by_late : (b : Bool) → nat_lt (begin + 3900) t ≡ b
-        → StandsAt seats low begin (t + 1) (bits ++ []) (held_after seats (bits ++ []) (if b then over BadStart (begin + 3901) (begin + 3901) else if is_rise low t then (if nat_lt t (begin + 3500) then over BadStart t t else StartHigh) else StartLow) t held)
-        (if b then over BadStart (begin + 3901) (begin + 3901) else if is_rise low t then (if nat_lt t (begin + 3500) then over BadStart t t else StartHigh) else StartLow)
+    by_late : (b : Bool) → nat_lt (begin + standard.start_low.most) t ≡ b
+        → StandsAt seats low begin (t + 1) (bits ++ []) (held_after seats (bits ++ []) (if b then over BadStart (begin + (standard.start_low.most + 1)) (begin + (standard.start_low.most + 1)) else if is_rise low t then (if nat_lt t (begin + standard.start_low.least) then over BadStart t t else StartHigh) else StartLow) t held)
+        (if b then over BadStart (begin + (standard.start_low.most + 1)) (begin + (standard.start_low.most + 1)) else if is_rise low t then (if nat_lt t (begin + standard.start_low.least) then over BadStart t t else StartHigh) else StartLow)
     by_late true h =
-        let l : begin + 3900 < t = grind (arith, nat_tests) in
-        bad_start seats low begin (t + 1) (begin + 3901) (begin + 3901) (bits ++ []) (if (begin + 3901 == t) && false then t + 3600 else held) none (no_break (begin + 3901 == t) (t + 3600) held ∙ s.free)
-        (ap (start_rise low begin) (first_in_none (is_rise low) (begin + 1) 3900 (λ u a b. s.quiet u (omega arith) (omega arith))))
+        let l : begin + standard.start_low.most < t = grind (arith, nat_tests) in
+        bad_start seats low begin (t + 1) (begin + (standard.start_low.most + 1)) (begin + (standard.start_low.most + 1)) (bits ++ []) (if (begin + (standard.start_low.most + 1) == t) && false then t + 3600 else held) none (no_break (begin + (standard.start_low.most + 1) == t) (t + 3600) held ∙ s.free)
+        (ap (start_rise low begin) (first_in_none (is_rise low) (begin + 1) standard.start_low.most (λ u a b. s.quiet u (omega arith) (omega arith))))
         (omega arith) (omega arith) (omega arith)
-    by_late false h = by_rise (let l : t ≤ begin + 3900 = grind (arith, nat_tests) in l) (is_rise low t) refl
+    by_late false h = by_rise (let l : t ≤ begin + standard.start_low.most = grind (arith, nat_tests) in l) (is_rise low t) refl
 
 pub high_step : (seats : List Seat) (low : Line) (begin t : ℕ) (bits : List Bool) (held : ℕ) → AtStartHigh low begin t bits held
     → StandsAt seats low begin (t + 1) (bits ++ []) (held_after seats (bits ++ []) (after_start_high begin t (is_fall low t)) t held) (after_start_high begin t (is_fall low t))
@@ -196,16 +197,16 @@ high_step seats low begin t bits held s = by_fall (is_fall low t) refl
     none : bits ++ [] ≡ []
     none = append-nil bits ∙ s.none
 
-    found : is_fall low t ≡ true → next_fall low s.rise (begin + 4700 - s.rise) ≡ Some t
-    found e = first_in_some (is_fall low) (s.rise + 1) (begin + 4700 - s.rise) t (omega (arith, s.after)) (omega (arith, s.early, s.near)) e (λ u a b. s.quiet u (omega arith) b)
+    found : is_fall low t ≡ true → next_fall low s.rise (begin + standard.start_total.most - s.rise) ≡ Some t
+    found e = first_in_some (is_fall low) (s.rise + 1) (begin + standard.start_total.most - s.rise) t (omega (arith, s.after)) (omega (arith, s.early, s.near)) e (λ u a b. s.quiet u (omega arith) b)
 
-    start : is_fall low t ≡ true → start_of low begin ≡ (if nat_lt t (begin + 4300) then Err t else Ok t)
+    start : is_fall low t ≡ true → start_of low begin ≡ (if nat_lt t (begin + standard.start_total.least) then Err t else Ok t)
     start e = start_risen low begin s.rise s.found s.late ∙ ap (start_fall begin) (found e)
 
     here : t == t ≡ true
     here = grind (arith, nat_tests)
 
-    by_soon : is_fall low t ≡ true → (b : Bool) → nat_lt t (begin + 4300) ≡ b
+    by_soon : is_fall low t ≡ true → (b : Bool) → nat_lt t (begin + standard.start_total.least) ≡ b
         → StandsAt seats low begin (t + 1) (bits ++ []) (held_after seats (bits ++ []) (if b then over BadStart t t else InSlot t None) t held) (if b then over BadStart t t else InSlot t None)
     by_soon e true h =
         bad_start seats low begin (t + 1) t t (bits ++ []) (if (t == t) && false then t + 3600 else held) none (no_break (t == t) (t + 3600) held ∙ s.free)
@@ -218,7 +219,7 @@ high_step seats low begin t bits held s = by_fall (is_fall low t) refl
       room = refl;
       count = refl;
       ends = refl;
-      reported = none ∙ sym (ap (λ b. if b then option_to_list (bit_sampled_at low t) else []) (let x : nat_lt (t + 1050) (t + 1) ≡ false = grind (arith, nat_tests) in x));
+      reported = none ∙ sym (ap (λ b. if b then option_to_list (bit_sampled_at low t) else []) (let x : nat_lt (t + sample_at) (t + 1) ≡ false = grind (arith, nat_tests) in x));
       quiet = λ u a b. absurd (omega arith);
       after = omega arith;
       early = omega arith;
@@ -230,22 +231,22 @@ high_step seats low begin t bits held s = by_fall (is_fall low t) refl
     quiet_to : is_fall low t ≡ false → (u : ℕ) → s.rise < u → u < t + 1 → is_fall low u ≡ false
     quiet_to e u l m = elim (cases_lt u t) [ inl lt ↦ s.quiet u l lt | inr ge ↦ let same : u ≡ t = omega arith in rw same e ]
 
-    by_last : is_fall low t ≡ false → (b : Bool) → (t == begin + 4700) ≡ b
-        → StandsAt seats low begin (t + 1) (bits ++ []) (held_after seats (bits ++ []) (if b then over BadStart (begin + 4701) (begin + 4700) else StartHigh) t held) (if b then over BadStart (begin + 4701) (begin + 4700) else StartHigh)
+    by_last : is_fall low t ≡ false → (b : Bool) → (t == begin + standard.start_total.most) ≡ b
+        → StandsAt seats low begin (t + 1) (bits ++ []) (held_after seats (bits ++ []) (if b then over BadStart (begin + (standard.start_total.most + 1)) (begin + standard.start_total.most) else StartHigh) t held) (if b then over BadStart (begin + (standard.start_total.most + 1)) (begin + standard.start_total.most) else StartHigh)
     by_last e true h =
-        let at : t ≡ begin + 4700 = grind (arith, nat_tests) in
-        bad_start seats low begin (t + 1) (begin + 4701) (begin + 4700) (bits ++ []) (if (begin + 4701 == t) && false then t + 3600 else held) none (no_break (begin + 4701 == t) (t + 3600) held ∙ s.free)
-        (start_risen low begin s.rise s.found s.late ∙ ap (start_fall begin) (first_in_none (is_fall low) (s.rise + 1) (begin + 4700 - s.rise) (λ u a b. quiet_to e u (omega arith) (omega (arith, s.near)))))
+        let at : t ≡ begin + standard.start_total.most = grind (arith, nat_tests) in
+        bad_start seats low begin (t + 1) (begin + (standard.start_total.most + 1)) (begin + standard.start_total.most) (bits ++ []) (if (begin + (standard.start_total.most + 1) == t) && false then t + 3600 else held) none (no_break (begin + (standard.start_total.most + 1) == t) (t + 3600) held ∙ s.free)
+        (start_risen low begin s.rise s.found s.late ∙ ap (start_fall begin) (first_in_none (is_fall low) (s.rise + 1) (begin + standard.start_total.most - s.rise) (λ u a b. quiet_to e u (omega arith) (omega (arith, s.near)))))
         (omega arith) (omega arith) (omega arith)
     by_last e false h =
-        let at : t < begin + 4700 = (let ne : (t == begin + 4700) ≡ false = h in grind (arith, nat_tests, s.early)) in
+        let at : t < begin + standard.start_total.most = (let ne : (t == begin + standard.start_total.most) ≡ false = h in grind (arith, nat_tests, s.early)) in
         record { none = none; free = s.free; rise = s.rise; found = s.found; late = s.late; near = s.near; after = omega (arith, s.after); quiet = quiet_to e; early = omega arith }
 
     by_fall : (b : Bool) → is_fall low t ≡ b
-        → StandsAt seats low begin (t + 1) (bits ++ []) (held_after seats (bits ++ []) (if b then (if nat_lt t (begin + 4300) then over BadStart t t else InSlot t None) else if t == begin + 4700 then over BadStart (begin + 4701) (begin + 4700) else StartHigh) t held)
-        (if b then (if nat_lt t (begin + 4300) then over BadStart t t else InSlot t None) else if t == begin + 4700 then over BadStart (begin + 4701) (begin + 4700) else StartHigh)
-    by_fall true e = by_soon e (nat_lt t (begin + 4300)) refl
-    by_fall false e = by_last e (t == begin + 4700) refl
+        → StandsAt seats low begin (t + 1) (bits ++ []) (held_after seats (bits ++ []) (if b then (if nat_lt t (begin + standard.start_total.least) then over BadStart t t else InSlot t None) else if t == begin + standard.start_total.most then over BadStart (begin + (standard.start_total.most + 1)) (begin + standard.start_total.most) else StartHigh) t held)
+        (if b then (if nat_lt t (begin + standard.start_total.least) then over BadStart t t else InSlot t None) else if t == begin + standard.start_total.most then over BadStart (begin + (standard.start_total.most + 1)) (begin + standard.start_total.most) else StartHigh)
+    by_fall true e = by_soon e (nat_lt t (begin + standard.start_total.least)) refl
+    by_fall false e = by_last e (t == begin + standard.start_total.most) refl
 
 -- ---- a step in a slot
 
@@ -254,41 +255,41 @@ and_false true = refl
 and_false false = refl
 
 abbrev bits_next : List Bool → ℕ → ℕ → Bool → Bool → List Bool
-bits_next bits fall t falls is_low = bits ++ (if not falls && (t == fall + 1050) then not is_low ∷ [] else [])
+bits_next bits fall t falls is_low = bits ++ (if not falls && (t == fall + sample_at) then not is_low ∷ [] else [])
 
 -- with microsecond t the bits are those that the line told by then
 reported_step : (low : Line) (fall t : ℕ) (before bits : List Bool) → bits ≡ before ++ reported_by low fall t → ((u : ℕ) → fall < u → u < t → is_fall low u ≡ false) → fall < t
     → bits_next bits fall t (is_fall low t) (low t) ≡ before ++ reported_by low fall (t + 1)
 reported_step low fall t before bits reported quiet after =
-    elim (cases_lt t (fall + 1050)) [
-      | inl lt ↦ other (let x : (t == fall + 1050) ≡ false = grind (arith, nat_tests) in x)
-          (let x : nat_lt (fall + 1050) t ≡ false = grind (arith, nat_tests) in let y : nat_lt (fall + 1050) (t + 1) ≡ false = grind (arith, nat_tests) in x ∙ sym y)
-      | inr ge ↦ elim (cases_lt (fall + 1050) t) [
-        | inl gt ↦ other (let x : (t == fall + 1050) ≡ false = grind (arith, nat_tests) in x)
-            (let x : nat_lt (fall + 1050) t ≡ true = grind (arith, nat_tests) in let y : nat_lt (fall + 1050) (t + 1) ≡ true = grind (arith, nat_tests) in x ∙ sym y)
-        | inr le ↦ here (let x : t ≡ fall + 1050 = omega arith in x) (is_fall low t) refl
+    elim (cases_lt t (fall + sample_at)) [
+      | inl lt ↦ other (let x : (t == fall + sample_at) ≡ false = grind (arith, nat_tests) in x)
+          (let x : nat_lt (fall + sample_at) t ≡ false = grind (arith, nat_tests) in let y : nat_lt (fall + sample_at) (t + 1) ≡ false = grind (arith, nat_tests) in x ∙ sym y)
+      | inr ge ↦ elim (cases_lt (fall + sample_at) t) [
+        | inl gt ↦ other (let x : (t == fall + sample_at) ≡ false = grind (arith, nat_tests) in x)
+            (let x : nat_lt (fall + sample_at) t ≡ true = grind (arith, nat_tests) in let y : nat_lt (fall + sample_at) (t + 1) ≡ true = grind (arith, nat_tests) in x ∙ sym y)
+        | inr le ↦ here (let x : t ≡ fall + sample_at = omega arith in x) (is_fall low t) refl
       ]
     ]
   where
-    other : (t == fall + 1050) ≡ false → nat_lt (fall + 1050) t ≡ nat_lt (fall + 1050) (t + 1) → bits_next bits fall t (is_fall low t) (low t) ≡ before ++ reported_by low fall (t + 1)
+    other : (t == fall + sample_at) ≡ false → nat_lt (fall + sample_at) t ≡ nat_lt (fall + sample_at) (t + 1) → bits_next bits fall t (is_fall low t) (low t) ≡ before ++ reported_by low fall (t + 1)
     other e f =
         ap (λ b. bits ++ (if b then not (low t) ∷ [] else [])) (ap (λ b. not (is_fall low t) && b) e ∙ and_false (not (is_fall low t))) ∙ append-nil bits ∙ reported
         ∙ ap (λ b. before ++ (if b then option_to_list (bit_sampled_at low fall) else [])) f
 
-    here : t ≡ fall + 1050 → (f : Bool) → is_fall low t ≡ f → bits_next bits fall t f (low t) ≡ before ++ reported_by low fall (t + 1)
+    here : t ≡ fall + sample_at → (f : Bool) → is_fall low t ≡ f → bits_next bits fall t f (low t) ≡ before ++ reported_by low fall (t + 1)
     here e f g = ap (λ bs. bits_next bs fall t f (low t)) so_far ∙ by_fall f g ∙ ap (λ b. before ++ (if b then option_to_list (bit_sampled_at low fall) else [])) (sym past)
       where
-        now : (t == fall + 1050) ≡ true
+        now : (t == fall + sample_at) ≡ true
         now = grind (arith, nat_tests)
 
-        past : nat_lt (fall + 1050) (t + 1) ≡ true
+        past : nat_lt (fall + sample_at) (t + 1) ≡ true
         past = grind (arith, nat_tests)
 
         so_far : bits ≡ before
-        so_far = reported ∙ ap (λ b. before ++ (if b then option_to_list (bit_sampled_at low fall) else [])) (let x : nat_lt (fall + 1050) t ≡ false = grind (arith, nat_tests) in x) ∙ append-nil before
+        so_far = reported ∙ ap (λ b. before ++ (if b then option_to_list (bit_sampled_at low fall) else [])) (let x : nat_lt (fall + sample_at) t ≡ false = grind (arith, nat_tests) in x) ∙ append-nil before
 
         by_fall : (b : Bool) → is_fall low t ≡ b → bits_next before fall t b (low t) ≡ before ++ option_to_list (bit_sampled_at low fall)
-        by_fall true k = ap (λ (o : Option Bool). before ++ option_to_list o) (sym (ap (sample low fall) (first_in_some (is_fall low) (fall + 1) 1050 t (omega arith) (omega arith) k (λ u l m. quiet u (omega arith) m))))
+        by_fall true k = ap (λ (o : Option Bool). before ++ option_to_list o) (sym (ap (sample low fall) (first_in_some (is_fall low) (fall + 1) sample_at t (omega arith) (omega arith) k (λ u l m. quiet u (omega arith) m))))
         by_fall false k =
             ap (λ b. before ++ (if b then not (low t) ∷ [] else [])) now
             ∙ ap (λ n. before ++ not (low n) ∷ []) e
@@ -306,7 +307,7 @@ ends_so low begin left xs before e ending at r h =
 
 slot_end : (seats : List Seat) (low : Line) (begin t : ℕ) (bits : List Bool) (fall : ℕ) (last : Option Ending) (held : ℕ) → (s : AtSlot seats low begin t bits fall last held)
     → (ending : Ending) (at : ℕ) (bits2 : List Bool) → after_slot low fall (last_ending s.before) ≡ Ends ending at → last_heard ending at ≡ t → bits2 ≡ s.before ++ option_to_list (bit_sampled_at low fall)
-    → (fall + 1050 < t + 1) ⊎ (bit_sampled_at low fall ≡ None) → (is_short ending ≡ true → at ≡ t) → t ≤ at → at ≤ t + 1
+    → (fall + sample_at < t + 1) ⊎ (bit_sampled_at low fall ≡ None) → (is_short ending ≡ true → at ≡ t) → t ≤ at → at ≤ t + 1
     → AtEnd seats low begin (t + 1) bits2 (record { ending = ending; at = at; until = t }) (if (at == t) && (is_short ending && list_any (breaks_after bits2) seats) then t + 3600 else held)
 slot_end seats low begin t bits fall last held s ending at bits2 a heard reported2 settled short ge le = record {
   zs = s.xs ++ slot ∷ [];
@@ -342,9 +343,9 @@ slot_end seats low begin t bits fall last held s ending at bits2 a heard reporte
     known_one : (u : ℕ) → t < u → known_slot u slot ≡ slot
     known_one u l = by_settled settled
       where
-        by_settled : (fall + 1050 < t + 1) ⊎ (bit_sampled_at low fall ≡ None) → known_slot u slot ≡ slot
-        by_settled (inl h) = let e : nat_lt (fall + 1050) u ≡ true = grind (arith, nat_tests) in ap (λ b. let x : Slot = record { fall = fall; bit = if b then bit_sampled_at low fall else None } in x) e
-        by_settled (inr h) = none_either (nat_lt (fall + 1050) u)
+        by_settled : (fall + sample_at < t + 1) ⊎ (bit_sampled_at low fall ≡ None) → known_slot u slot ≡ slot
+        by_settled (inl h) = let e : nat_lt (fall + sample_at) u ≡ true = grind (arith, nat_tests) in ap (λ b. let x : Slot = record { fall = fall; bit = if b then bit_sampled_at low fall else None } in x) e
+        by_settled (inr h) = none_either (nat_lt (fall + sample_at) u)
           where
             none_either : (b : Bool) → (let x : Slot = record { fall = fall; bit = if b then bit_sampled_at low fall else None } in x) ≡ slot
             none_either true = refl
@@ -360,21 +361,21 @@ slot_end seats low begin t bits fall last held s ending at bits2 a heard reporte
 
 -- what a fall in the slot told
 reported_fall : (seats : List Seat) (low : Line) (begin t : ℕ) (bits : List Bool) (fall : ℕ) (last : Option Ending) (held : ℕ) → (s : AtSlot seats low begin t bits fall last held) → is_fall low t ≡ true
-    → (bits_next bits fall t (is_fall low t) (low t) ≡ s.before ++ option_to_list (bit_sampled_at low fall)) × ((fall + 1050 < t + 1) ⊎ (bit_sampled_at low fall ≡ None))
+    → (bits_next bits fall t (is_fall low t) (low t) ≡ s.before ++ option_to_list (bit_sampled_at low fall)) × ((fall + sample_at < t + 1) ⊎ (bit_sampled_at low fall ≡ None))
 reported_fall seats low begin t bits fall last held s f =
-    elim (cases_lt (fall + 1050) (t + 1)) [
-      | inl l ↦ (reported_step low fall t s.before bits s.reported s.quiet s.after ∙ ap (λ b. s.before ++ (if b then option_to_list (bit_sampled_at low fall) else [])) (let x : nat_lt (fall + 1050) (t + 1) ≡ true = grind (arith, nat_tests) in x), inl l)
-      | inr g ↦ (let none : bit_sampled_at low fall ≡ None = ap (sample low fall) (first_in_some (is_fall low) (fall + 1) 1050 t (omega (arith, s.after)) (omega arith) f (λ u a b. s.quiet u (omega arith) b)) in (
-        reported_step low fall t s.before bits s.reported s.quiet s.after ∙ ap (λ b. s.before ++ (if b then option_to_list (bit_sampled_at low fall) else [])) (let x : nat_lt (fall + 1050) (t + 1) ≡ false = grind (arith, nat_tests) in x)
+    elim (cases_lt (fall + sample_at) (t + 1)) [
+      | inl l ↦ (reported_step low fall t s.before bits s.reported s.quiet s.after ∙ ap (λ b. s.before ++ (if b then option_to_list (bit_sampled_at low fall) else [])) (let x : nat_lt (fall + sample_at) (t + 1) ≡ true = grind (arith, nat_tests) in x), inl l)
+      | inr g ↦ (let none : bit_sampled_at low fall ≡ None = ap (sample low fall) (first_in_some (is_fall low) (fall + 1) sample_at t (omega (arith, s.after)) (omega arith) f (λ u a b. s.quiet u (omega arith) b)) in (
+        reported_step low fall t s.before bits s.reported s.quiet s.after ∙ ap (λ b. s.before ++ (if b then option_to_list (bit_sampled_at low fall) else [])) (let x : nat_lt (fall + sample_at) (t + 1) ≡ false = grind (arith, nat_tests) in x)
             ∙ ap (λ (o : Option Bool). s.before ++ option_to_list o) (sym none),
         inr none,
       ))
     ]
 
-reported_past : (seats : List Seat) (low : Line) (begin t : ℕ) (bits : List Bool) (fall : ℕ) (last : Option Ending) (held : ℕ) → (s : AtSlot seats low begin t bits fall last held) → fall + 1050 < t + 1
+reported_past : (seats : List Seat) (low : Line) (begin t : ℕ) (bits : List Bool) (fall : ℕ) (last : Option Ending) (held : ℕ) → (s : AtSlot seats low begin t bits fall last held) → fall + sample_at < t + 1
     → bits_next bits fall t (is_fall low t) (low t) ≡ s.before ++ option_to_list (bit_sampled_at low fall)
 reported_past seats low begin t bits fall last held s l =
-    reported_step low fall t s.before bits s.reported s.quiet s.after ∙ ap (λ b. s.before ++ (if b then option_to_list (bit_sampled_at low fall) else [])) (let x : nat_lt (fall + 1050) (t + 1) ≡ true = grind (arith, nat_tests) in x)
+    reported_step low fall t s.before bits s.reported s.quiet s.after ∙ ap (λ b. s.before ++ (if b then option_to_list (bit_sampled_at low fall) else [])) (let x : nat_lt (fall + sample_at) (t + 1) ≡ true = grind (arith, nat_tests) in x)
 
 quiet_next : (low : Line) (from t : ℕ) → ((u : ℕ) → from < u → u < t → is_fall low u ≡ false) → is_fall low t ≡ false → (u : ℕ) → from < u → u < t + 1 → is_fall low u ≡ false
 quiet_next low from t q e u l m = elim (cases_lt u t) [ inl lt ↦ q u l lt | inr ge ↦ let same : u ≡ t = omega arith in rw same e ]
@@ -424,7 +425,7 @@ one_bit : (o : Option Bool) (b : Bool) → o ≡ Some b → length (option_to_li
 one_bit o b e = ap (λ (x : Option Bool). length (option_to_list x)) e
 
 -- the next slot falls
-slot_next : (seats : List Seat) (low : Line) (begin t : ℕ) (bits : List Bool) (fall held : ℕ) → (s : AtSlot seats low begin t bits fall None held) → is_fall low t ≡ true → fall + 2050 ≤ t
+slot_next : (seats : List Seat) (low : Line) (begin t : ℕ) (bits : List Bool) (fall held : ℕ) → (s : AtSlot seats low begin t bits fall None held) → is_fall low t ≡ true → fall + standard.bit_total.least ≤ t
     → AtSlot seats low begin (t + 1) (bits_next bits fall t (is_fall low t) (low t)) t (last_ending bits) (if t == t then acks_until seats (bits_next bits fall t (is_fall low t) (low t)) t else held)
 slot_next seats low begin t bits fall held s f far = by_left s.left s.room refl s.reached
   where
@@ -438,15 +439,15 @@ slot_next seats low begin t bits fall held s f far = by_left s.left s.room refl 
     bits2 = reported_past seats low begin t bits fall None held s (omega arith)
 
     same : bits ≡ s.before ++ option_to_list (bit_sampled_at low fall)
-    same = s.reported ∙ ap (λ b. s.before ++ (if b then option_to_list (bit_sampled_at low fall) else [])) (let x : nat_lt (fall + 1050) t ≡ true = grind (arith, nat_tests) in x)
+    same = s.reported ∙ ap (λ b. s.before ++ (if b then option_to_list (bit_sampled_at low fall) else [])) (let x : nat_lt (fall + sample_at) t ≡ true = grind (arith, nat_tests) in x)
 
     after : after_slot low fall (last_ending s.before) ≡ Next t
-    after = ap (after_slot low fall) (sym s.ends) ∙ ap (after_fall fall) (next_here low fall t 2750 s.quiet s.after s.early f)
-        ∙ ap (λ b. let a : After = if b then Ends Short t else Next t in a) (let x : nat_lt t (fall + 2050) ≡ false = grind (arith, nat_tests) in x)
+    after = ap (after_slot low fall) (sym s.ends) ∙ ap (after_fall fall) (next_here low fall t standard.bit_total.most s.quiet s.after s.early f)
+        ∙ ap (λ b. let a : After = if b then Ends Short t else Next t in a) (let x : nat_lt t (fall + standard.bit_total.least) ≡ false = grind (arith, nat_tests) in x)
 
     more : length (s.before ++ option_to_list (bit_sampled_at low fall)) ≡ length s.before + 1
     more = length-append s.before (option_to_list (bit_sampled_at low fall)) ∙ ap (λ n. length s.before + n)
-        (one_bit (bit_sampled_at low fall) (not (low (fall + 1050))) (quiet_sample low fall (λ u a b. s.quiet u a (omega arith))))
+        (one_bit (bit_sampled_at low fall) (not (low (fall + sample_at))) (quiet_sample low fall (λ u a b. s.quiet u a (omega arith))))
 
     by_left : (left : ℕ) → length s.before + left ≡ 159 → s.left ≡ left → Reached low begin (suc s.left) s.xs s.before fall
         → AtSlot seats low begin (t + 1) (bits_next bits fall t (is_fall low t) (low t)) t (last_ending bits) (if t == t then acks_until seats (bits_next bits fall t (is_fall low t) (low t)) t else held)
@@ -460,7 +461,7 @@ slot_next seats low begin t bits fall held s f far = by_left s.left s.room refl 
       count = length-append s.xs (slot ∷ []) ∙ (let x : length s.xs + 1 ≡ length (s.before ++ option_to_list (bit_sampled_at low fall)) = omega (arith, more, s.count) in x);
       ends = ap last_ending same;
       reported = bits2 ∙ sym (append-nil (s.before ++ option_to_list (bit_sampled_at low fall)))
-          ∙ sym (ap (λ b. (s.before ++ option_to_list (bit_sampled_at low fall)) ++ (if b then option_to_list (bit_sampled_at low t) else [])) (let x : nat_lt (t + 1050) (t + 1) ≡ false = grind (arith, nat_tests) in x));
+          ∙ sym (ap (λ b. (s.before ++ option_to_list (bit_sampled_at low fall)) ++ (if b then option_to_list (bit_sampled_at low t) else [])) (let x : nat_lt (t + sample_at) (t + 1) ≡ false = grind (arith, nat_tests) in x));
       quiet = λ u a b. absurd (omega arith);
       after = omega arith;
       early = omega arith;
@@ -470,7 +471,7 @@ slot_next seats low begin t bits fall held s f far = by_left s.left s.room refl 
     }
 
 slot_stays : (seats : List Seat) (low : Line) (begin t : ℕ) (bits : List Bool) (fall : ℕ) (last : Option Ending) (held : ℕ) → (s : AtSlot seats low begin t bits fall last held) → is_fall low t ≡ false
-    → t + 1 ≤ fall + 2750 → (IsSome last → t + 1 ≤ fall + 1050)
+    → t + 1 ≤ fall + standard.bit_total.most → (IsSome last → t + 1 ≤ fall + sample_at)
     → AtSlot seats low begin (t + 1) (bits_next bits fall t (is_fall low t) (low t)) fall last (if fall == t then acks_until seats (bits_next bits fall t (is_fall low t) (low t)) fall else held)
 slot_stays seats low begin t bits fall last held s f early waits = record {
   before = s.before;
@@ -498,28 +499,28 @@ other_step seats low begin t bits fall held s = by_fall (is_fall low t) refl
     bits2 : List Bool
     bits2 = bits_next bits fall t (is_fall low t) (low t)
 
-    soon : is_fall low t ≡ true → (b : Bool) → nat_lt t (fall + 2050) ≡ b
+    soon : is_fall low t ≡ true → (b : Bool) → nat_lt t (fall + standard.bit_total.least) ≡ b
         → StandsAt seats low begin (t + 1) (bits_next bits fall t (is_fall low t) (low t)) (held_after seats (bits_next bits fall t (is_fall low t) (low t)) (if b then over Short t t else InSlot t (last_ending bits)) t held) (if b then over Short t t else InSlot t (last_ending bits))
     soon f true h =
         let d = reported_fall seats low begin t bits fall None held s f in
         slot_end seats low begin t bits fall None held s Short t (bits_next bits fall t (is_fall low t) (low t))
-        (ap (after_slot low fall) (sym s.ends) ∙ ap (after_fall fall) (next_here low fall t 2750 s.quiet s.after s.early f) ∙ ap (λ b. let a : After = if b then Ends Short t else Next t in a) h)
+        (ap (after_slot low fall) (sym s.ends) ∙ ap (after_fall fall) (next_here low fall t standard.bit_total.most s.quiet s.after s.early f) ∙ ap (λ b. let a : After = if b then Ends Short t else Next t in a) h)
         refl d.0 d.1 (λ w. refl) (omega arith) (omega arith)
-    soon f false h = slot_next seats low begin t bits fall held s f (let x : fall + 2050 ≤ t = grind (arith, nat_tests) in x)
+    soon f false h = slot_next seats low begin t bits fall held s f (let x : fall + standard.bit_total.least ≤ t = grind (arith, nat_tests) in x)
 
-    wait : is_fall low t ≡ false → (b : Bool) → (t == fall + 2750) ≡ b
+    wait : is_fall low t ≡ false → (b : Bool) → (t == fall + standard.bit_total.most) ≡ b
         → StandsAt seats low begin (t + 1) (bits_next bits fall t (is_fall low t) (low t)) (held_after seats (bits_next bits fall t (is_fall low t) (low t)) (if b then over Silent (t + 1) t else InSlot fall None) t held) (if b then over Silent (t + 1) t else InSlot fall None)
     wait f true h =
-        let x : t ≡ fall + 2750 = grind (arith, nat_tests) in
+        let x : t ≡ fall + standard.bit_total.most = grind (arith, nat_tests) in
         slot_end seats low begin t bits fall None held s Silent (t + 1) (bits_next bits fall t (is_fall low t) (low t))
-        (ap (after_slot low fall) (sym s.ends) ∙ ap (after_fall fall) (next_none low fall (t + 1) 2750 (quiet_next low fall t s.quiet f) (omega arith)) ∙ ap (λ n. let a : After = Ends Silent n in a) (let y : fall + 2751 ≡ t + 1 = omega arith in y))
+        (ap (after_slot low fall) (sym s.ends) ∙ ap (after_fall fall) (next_none low fall (t + 1) standard.bit_total.most (quiet_next low fall t s.quiet f) (omega arith)) ∙ ap (λ n. let a : After = Ends Silent n in a) (let y : fall + (standard.bit_total.most + 1) ≡ t + 1 = omega arith in y))
         (omega arith) (reported_past seats low begin t bits fall None held s (omega arith)) (inl (omega arith)) (λ w. cc) (omega arith) (omega arith)
-    wait f false h = slot_stays seats low begin t bits fall None held s f (let l = s.early in let ne : (t == fall + 2750) ≡ false = h in grind (arith, nat_tests)) (λ w. cc)
+    wait f false h = slot_stays seats low begin t bits fall None held s f (let l = s.early in let ne : (t == fall + standard.bit_total.most) ≡ false = h in grind (arith, nat_tests)) (λ w. cc)
 
     by_fall : (b : Bool) → is_fall low t ≡ b
         → StandsAt seats low begin (t + 1) (bits_next bits fall t (is_fall low t) (low t)) (held_after seats (bits_next bits fall t (is_fall low t) (low t)) (after_other_slot bits fall t b) t held) (after_other_slot bits fall t b)
-    by_fall true f = soon f (nat_lt t (fall + 2050)) refl
-    by_fall false f = wait f (t == fall + 2750) refl
+    by_fall true f = soon f (nat_lt t (fall + standard.bit_total.least)) refl
+    by_fall false f = wait f (t == fall + standard.bit_total.most) refl
 
 pub last_step : (seats : List Seat) (low : Line) (begin t : ℕ) (bits : List Bool) (fall : ℕ) (ending : Ending) (held : ℕ) → AtSlot seats low begin t bits fall (Some ending) held
     → StandsAt seats low begin (t + 1) (bits_next bits fall t (is_fall low t) (low t))
@@ -530,15 +531,15 @@ last_step seats low begin t bits fall ending held s = by_fall (is_fall low t) re
     kind : (ending ≡ Complete) ⊎ (ending ≡ Long)
     kind = last_kind s.before ending s.ends
 
-    wait : is_fall low t ≡ false → (b : Bool) → (t == fall + 1050) ≡ b
+    wait : is_fall low t ≡ false → (b : Bool) → (t == fall + sample_at) ≡ b
         → StandsAt seats low begin (t + 1) (bits_next bits fall t (is_fall low t) (low t)) (held_after seats (bits_next bits fall t (is_fall low t) (low t)) (if b then over ending t t else InSlot fall (Some ending)) t held) (if b then over ending t t else InSlot fall (Some ending))
     wait f true h =
-        let x : t ≡ fall + 1050 = grind (arith, nat_tests) in
+        let x : t ≡ fall + sample_at = grind (arith, nat_tests) in
         slot_end seats low begin t bits fall (Some ending) held s ending t (bits_next bits fall t (is_fall low t) (low t))
-        (ap (after_slot low fall) (sym s.ends) ∙ ap (after_last fall ending) (next_none low fall (t + 1) 1050 (quiet_next low fall t s.quiet f) (omega arith)) ∙ ap (λ n. let a : After = Ends ending n in a) (sym x))
+        (ap (after_slot low fall) (sym s.ends) ∙ ap (after_last fall ending) (next_none low fall (t + 1) sample_at (quiet_next low fall t s.quiet f) (omega arith)) ∙ ap (λ n. let a : After = Ends ending n in a) (sym x))
         (last_plain ending t kind) (reported_past seats low begin t bits fall (Some ending) held s (omega arith)) (inl (omega arith)) (λ w. absurd (last_long ending kind w)) (omega arith) (omega arith)
     wait f false h =
-        let l : t + 1 ≤ fall + 1050 = (let l2 : t ≤ fall + 1050 = s.waits refl in let ne : (t == fall + 1050) ≡ false = h in grind (arith, nat_tests)) in
+        let l : t + 1 ≤ fall + sample_at = (let l2 : t ≤ fall + sample_at = s.waits refl in let ne : (t == fall + sample_at) ≡ false = h in grind (arith, nat_tests)) in
         slot_stays seats low begin t bits fall (Some ending) held s f (omega arith) (λ w. l)
 
     by_fall : (b : Bool) → is_fall low t ≡ b
@@ -546,9 +547,9 @@ last_step seats low begin t bits fall ending held s = by_fall (is_fall low t) re
     by_fall true f =
         let d = reported_fall seats low begin t bits fall (Some ending) held s f in
         slot_end seats low begin t bits fall (Some ending) held s Short t (bits_next bits fall t (is_fall low t) (low t))
-        (ap (after_slot low fall) (sym s.ends) ∙ ap (after_last fall ending) (next_here low fall t 1050 s.quiet s.after (s.waits refl) f))
+        (ap (after_slot low fall) (sym s.ends) ∙ ap (after_last fall ending) (next_here low fall t sample_at s.quiet s.after (s.waits refl) f))
         refl d.0 d.1 (λ w. refl) (omega arith) (omega arith)
-    by_fall false f = wait f (t == fall + 1050) refl
+    by_fall false f = wait f (t == fall + sample_at) refl
 
 -- ---- a step after the ending, and any step
 

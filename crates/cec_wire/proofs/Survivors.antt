@@ -10,6 +10,7 @@ use Rattle.cec_frame.specs.declared.Ending.TheVariants.{Complete}
 use Rattle.cec_frame.proofs.Slots.{length-frame_bits}
 use Rattle.cec_bits.specs.declared.After.{After}
 use Rattle.cec_bits.specs.declared.After.TheVariants.{Next, Ends}
+use Rattle.cec_bits.specs.Windows.{sample_at}
 use Rattle.cec_bits.specs.Reading.{bits_of, next_fall, reading_of, read_start, read_slots, read_on, after_slot, last_ending, sample, bit_sampled_at, start_of}
 use Rattle.cec_bits.specs.Sending.{bit_read, destination, is_whole, is_out_by, out_by}
 use Rattle.cec_wire.specs.Round.{all_known}
@@ -34,13 +35,13 @@ has_bit low (suc left) bits e h = by_after (after_slot low e (last_ending bits))
         → 0 < length (cons_option (bit_sampled_at low e) (bits_of (read_on (read_slots low left (bits ++ option_to_list (bit_sampled_at low e))) (after_slot low e (last_ending bits)))))
     by_after (Next f) a g =
         let n = next_falls low e bits f a in
-        with_bit (bit_sampled_at low e) (not (low (e + 1050))) (bits_of (read_on (read_slots low left (bits ++ option_to_list (bit_sampled_at low e))) (after_slot low e (last_ending bits))))
+        with_bit (bit_sampled_at low e) (not (low (e + sample_at))) (bits_of (read_on (read_slots low left (bits ++ option_to_list (bit_sampled_at low e))) (after_slot low e (last_ending bits))))
         (quiet_sample low e (λ u x y. n.quiet u x (omega (arith, n.far))))
     by_after (Ends ending at) a g =
         let c : after_slot low e (last_ending bits) ≡ Ends Complete at = a ∙ ap (λ x. Ends x at) g in
         let l : last_ending bits ≡ Some Complete = complete_last low e (last_ending bits) at c in
-        let q : next_fall low e 1050 ≡ None = complete_quiet low e Complete at (ap (after_slot low e) (sym l) ∙ c) in
-        with_bit (bit_sampled_at low e) (not (low (e + 1050))) (bits_of (read_on (read_slots low left (bits ++ option_to_list (bit_sampled_at low e))) (after_slot low e (last_ending bits))))
+        let q : next_fall low e sample_at ≡ None = complete_quiet low e Complete at (ap (after_slot low e) (sym l) ∙ c) in
+        with_bit (bit_sampled_at low e) (not (low (e + sample_at))) (bits_of (read_on (read_slots low left (bits ++ option_to_list (bit_sampled_at low e))) (after_slot low e (last_ending bits))))
         (ap (sample low e) q)
 
 -- no slot but the last says to stop
@@ -65,7 +66,7 @@ survive low w full (suc left) bits e room own h =
     bits2 = bits ++ option_to_list (bit_sampled_at low e)
 
     v : Bool
-    v = not (low (e + 1050))
+    v = not (low (e + sample_at))
 
     total : After → List Bool
     total a = bits ++ cons_option (bit_sampled_at low e) (bits_of (read_on (read_slots low left (bits ++ option_to_list (bit_sampled_at low e))) a))
@@ -76,9 +77,9 @@ survive low w full (suc left) bits e room own h =
 
     room_on : (f : ℕ) → NextFall low e bits f → Stays (bits ++ option_to_list (bit_sampled_at low e)) (frame_bits w) → length (bits ++ option_to_list (bit_sampled_at low e)) < length (frame_bits w)
     room_on f n stays =
-        let q : bit_sampled_at low e ≡ Some (not (low (e + 1050))) = quiet_sample low e (λ u x y. n.quiet u x (omega (arith, n.far))) in
+        let q : bit_sampled_at low e ≡ Some (not (low (e + sample_at))) = quiet_sample low e (λ u x y. n.quiet u x (omega (arith, n.far))) in
         subst (λ (x : Option Bool). length (bits ++ option_to_list x) < length (frame_bits w)) (sym q)
-        (room_next w bits (not (low (e + 1050))) full n.last room (subst (λ (x : Option Bool). Stays (bits ++ option_to_list x) (frame_bits w)) q stays))
+        (room_next w bits (not (low (e + sample_at))) full n.last room (subst (λ (x : Option Bool). Stays (bits ++ option_to_list x) (frame_bits w)) q stays))
 
     by_after : (a : After) → after_slot low e (last_ending bits) ≡ a → (read_on (read_slots low left (bits ++ option_to_list (bit_sampled_at low e))) a).ending ≡ Complete
         → ((f : ℕ) → length (bits ++ option_to_list (bit_sampled_at low e)) < length (frame_bits w)
@@ -97,10 +98,10 @@ survive low w full (suc left) bits e room own h =
     by_after (Ends ending at) a g ih =
         let c : after_slot low e (last_ending bits) ≡ Ends Complete at = a ∙ ap (λ x. Ends x at) g in
         let l : last_ending bits ≡ Some Complete = complete_last low e (last_ending bits) at c in
-        let q : next_fall low e 1050 ≡ None = complete_quiet low e Complete at (ap (after_slot low e) (sym l) ∙ c) in
-        let same : total (after_slot low e (last_ending bits)) ≡ bits ++ not (low (e + 1050)) ∷ [] = ap total a ∙ ap (λ (x : Option Bool). bits ++ cons_option x []) (ap (sample low e) q) in
-        let stays = own_first bits (not (low (e + 1050)) ∷ []) (frame_bits w) (omega arith) (subst (λ (zs : List Bool). AreOwn zs (frame_bits w)) same own) in
-        subst (λ (zs : List Bool). HasBits zs (frame_bits w)) (sym same) (has_whole w bits (not (low (e + 1050))) room stays l)
+        let q : next_fall low e sample_at ≡ None = complete_quiet low e Complete at (ap (after_slot low e) (sym l) ∙ c) in
+        let same : total (after_slot low e (last_ending bits)) ≡ bits ++ not (low (e + sample_at)) ∷ [] = ap total a ∙ ap (λ (x : Option Bool). bits ++ cons_option x []) (ap (sample low e) q) in
+        let stays = own_first bits (not (low (e + sample_at)) ∷ []) (frame_bits w) (omega arith) (subst (λ (zs : List Bool). AreOwn zs (frame_bits w)) same own) in
+        subst (λ (zs : List Bool). HasBits zs (frame_bits w)) (sym same) (has_whole w bits (not (low (e + sample_at))) room stays l)
 
 -- before the last slot, a slot at which nobody is out says not to stop
 to_leaves : (bits sent : List Bool) (whole : Bool) (n : ℕ) → n < length bits → is_out_by bits whole sent n ≡ leaves bits sent n

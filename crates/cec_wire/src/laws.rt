@@ -21,8 +21,8 @@ pub fn losers_inside()
     ensures { LosersInside }
 {}
 
-/// Where pulses are sparse, the line on which all who send pull is the line on which the winners alone do, and a sender
-/// pulls through the instant of an ending for want of a fall or not: it has none to make there.
+/// Where pulses are sparse, the round's line is that on which the winners alone pull: losers pull only inside winners, and
+/// a sender has no fall to make at an ending for want of a fall.
 pub fn same_line()
     ensures { SameLine }
 {}
