@@ -126,6 +126,20 @@ const ATTEMPTS: &[Case] = &[
         "@100000 S 0 1 0 0 0 1 0 0 1 1",
         "100000 127150 complete 4>4 nack\n",
     ),
+    // what goes on after its header is no poll, and has remarks like any other frame
+    (
+        "@100000 S 0 1 0 0 0 1 0 0 0 0 0 1 0 0 0 1 1 0 1 1 @200000 S 0 1 0 0 0 1 0 0 0 0 0 1 0 0 0 1 1 0 1 1",
+        "100000 151150 complete 4>4 give-osd-name nack\n  block 2 not acknowledged, attempt 1\n200000 251150 complete 4>4 give-osd-name nack\n  block 2 not acknowledged, attempt 2\n",
+    ),
+    (
+        "@100000 S 0 1 0 0 0 1 0 0 0 1",
+        "100000 128851 silent 0100010001\n  block 1 not acknowledged, attempt 1\n",
+    ),
+    // a header that breaks before its end-of-message bit may be a poll
+    (
+        "@100000 S 0 1 0 0 0 1 0 0 @200000 S 0 1 0 0 0 1 0 0 1 1",
+        "100000 124051 silent 01000100\n200000 227150 complete 4>4 nack\n",
+    ),
 ];
 
 /// One below and at each signal free time: after a frame of the same initiator that failed, of another one, of the same one
@@ -350,20 +364,43 @@ fn places(rt: HostRuntime) {
     }
 }
 
+/// What the summary of a capture says of each initiator.
+fn counted(rt: &(impl Abort + AllocGlobal), words: &str) -> String {
+    let text = audited(rt, words, false);
+    let (_, summary) = text
+        .as_str()
+        .split_once("  all readings\n")
+        .expect(rt, "a summary");
+    let (counts, _) = summary.split_once("  start low").expect(rt, "widths");
+    String::from_str(rt.alloc(), counts).expect(rt, "a text")
+}
+
+/// Of a reading that the end of the capture cuts off it is not known whether it breaks, so that it counts for nobody: a frame
+/// from 1, after a poll from 4. A block of it that nobody acknowledged is known all the same.
+#[test]
+fn readings_that_the_end_cuts_off(rt: HostRuntime) {
+    for (words, want) in [
+        (
+            "@100000 =40 @500000 S 0 0 0 1 0 0 0 0 |",
+            "  from 4: 1 taken, 0 not taken, 0 broken\n",
+        ),
+        (
+            "@100000 =40 @500000 S 0 0 0 1 0 0 0 0 0 1 0 |",
+            "  from 1: 0 taken, 1 not taken, 0 broken\n  from 4: 1 taken, 0 not taken, 0 broken\n",
+        ),
+    ] {
+        assert_eq!(rt; counted(&rt, words).as_str(), want);
+    }
+}
+
 /// The frames of each initiator: taken, not acknowledged, refused and broken; nothing of who sent none, nor of a reading
 /// without a header.
 #[test]
 fn initiators(rt: HostRuntime) {
     let words =
         "@100000 =40 @200000 =4f36 @300000 S 0 1 0 0 0 0 0 0 1 1 @400000 S 0 0 0 0 1 1 1 1 1 0 @500000 S 0 0 0 1 0 0 0 0 @600000 S 1 1 1 1 0 0 0";
-    let text = audited(&rt, words, false);
-    let (_, summary) = text
-        .as_str()
-        .split_once("  all readings\n")
-        .expect(&rt, "a summary");
-    let (counts, _) = summary.split_once("  start low").expect(&rt, "widths");
     assert_eq!(rt;
-        counts,
+        counted(&rt, words).as_str(),
         "  from 0: 0 taken, 1 not taken, 0 broken\n  from 1: 0 taken, 0 not taken, 1 broken\n  from 4: 2 taken, 1 not taken, 0 broken\n"
     );
 }

@@ -100,21 +100,24 @@ fn add_word(rt: &(impl Abort + AllocGlobal), spelling: &mut Spelling, word: &str
     }
 }
 
-/// These words, one after another: `@N` waits until an instant, `=4f36` is a frame in hex, and each other word is low and then
-/// high.
+/// These words, one after another: `@N` waits until an instant, `=4f36` is a frame in hex, `|`, the last word, ends the
+/// capture there, and each other word is low and then high.
 fn spelled(rt: &(impl Abort + AllocGlobal), words: &str) -> Spelling {
     let mut spelling = Spelling {
         at: 0,
         dump: String::from_str(rt.alloc(), HEAD).expect(rt, "a text"),
         file: String::new(rt.alloc()),
     };
-    for word in words.split_ascii_whitespace() {
+    let whole = words.strip_suffix(" |");
+    for word in whole.unwrap_or(words).split_ascii_whitespace() {
         match word.strip_prefix("@") {
             Some(instant) => spelling.at = number(rt, instant),
             None => add_word(rt, &mut spelling, word),
         }
     }
-    spelling.at = spelling.at.saturating_add(TAIL);
+    if whole.is_none() {
+        spelling.at = spelling.at.saturating_add(TAIL);
+    }
     spelling
 }
 

@@ -1,7 +1,8 @@
 -- The frames of each initiator: those that were taken, those that were not acknowledged or were refused, and those that
 -- broke (own). A reading without a whole header counts for nobody.
-use Rattle.std.specs.Prelude.{Bool, nat_lt, if◌then◌else◌, is_some, List, length, replicate, slice_index_or, slice_set}
+use Rattle.std.specs.Prelude.{Bool, true, false, nat_lt, if◌then◌else◌, is_some, List, length, replicate, slice_index_or, slice_set}
 use Rattle.cec_frame.specs.declared.Ending.{Ending}
+use Rattle.cec_frame.specs.declared.Ending.TheVariants.{Open}
 use Rattle.cec_timing.specs.Spreads.{sum_of}
 use Rattle.cec_remarks.specs.declared.counts.Count.{Count}
 use Rattle.cec_remarks.specs.Header.{failed_block, initiator_of, is_delivered}
@@ -9,10 +10,16 @@ use Rattle.cec_remarks.specs.Header.{failed_block, initiator_of, is_delivered}
 abbrev pub no_count : Count
 no_count = record { taken = 0; untaken = 0; broken = 0 }
 
+-- the end of the capture cuts a reading off: whether it broke is not known
+abbrev pub is_cut_off : Ending → Bool
+is_cut_off Open = true
+is_cut_off _ = false
+
 abbrev pub with_frame : Ending → List Bool → Count → Count
 with_frame ending bits c =
     if is_delivered ending bits then record c { taken = sum_of c.taken 1 }
     else if is_some (failed_block bits) then record c { untaken = sum_of c.untaken 1 }
+    else if is_cut_off ending then c
     else record c { broken = sum_of c.broken 1 }
 
 abbrev pub no_counts : List Count

@@ -1,6 +1,6 @@
 -- The header block of a frame, by the bits of its reading: initiator and destination (CEC 6.1.1), and which of its blocks
 -- were taken (CEC 6.1.2). Bits that were not read count as 0.
-use Rattle.std.specs.Prelude.{ℕ, ◌+◌, ◌*◌, ◌/◌, ◌==◌, Bool, false, not, ◌&&◌, List, length, slice_index_or, Option, is_none}
+use Rattle.std.specs.Prelude.{ℕ, ◌+◌, ◌*◌, ◌/◌, ◌==◌, Bool, false, not, nat_lt, ◌&&◌, List, length, slice_index_or, Option, is_none}
 use mathlib.Core.Bool.{beq}
 use Rattle.cec_frame.specs.Blocks.{bit_value}
 use Rattle.cec_frame.specs.declared.Ending.{Ending}
@@ -22,9 +22,14 @@ destination_of bits = nibble_at bits 4
 abbrev pub is_to_all : List Bool → Bool
 is_to_all bits = destination_of bits == 15
 
--- A poll of its own address asks whether anybody has it: nobody is to acknowledge it (CEC 10.2.1).
+-- a block follows the header: its end-of-message bit, the ninth, was read 0 (CEC 6.1.2)
+abbrev pub goes_on : List Bool → Bool
+goes_on bits = nat_lt 8 (length bits) && not (slice_index_or bits 8 false)
+
+-- A poll of its own address asks whether anybody has it: nobody is to acknowledge it (CEC 10.2.1). A header that is cut off
+-- before its end-of-message bit may be one (own); what goes on after its header is none.
 abbrev pub seeks_address : List Bool → Bool
-seeks_address bits = (initiator_of bits == destination_of bits) && not (initiator_of bits == 15)
+seeks_address bits = (initiator_of bits == destination_of bits) && (not (initiator_of bits == 15) && not (goes_on bits))
 
 -- The acknowledge slot of a block, counted from 1, was read 0, or of a frame to all 1: nobody refused it (CEC 6.1.2).
 abbrev pub is_taken : List Bool → ℕ → Bool

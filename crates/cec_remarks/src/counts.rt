@@ -1,16 +1,28 @@
 //! The frames of each initiator.
 ghost use Rattle.std.specs.Prelude.{◌≡◌, ◌≤◌, length};
-ghost use Rattle.cec_remarks.specs.Counts.{no_counts, with_frame, with_reading};
+ghost use Rattle.cec_remarks.specs.Counts.{is_cut_off, no_counts, with_frame, with_reading};
 
 use crate::header::{HEADER, failed_block, initiator_of, is_delivered};
 use cec_frame::Ending;
 
-/// How many frames were taken, were not acknowledged or were refused, and broke.
+/// How many frames were taken, were not acknowledged or were refused, and broke. A reading that the end of the capture cuts
+/// off is none of these, unless a block of it had failed.
 #[derive(Clone, Copy, Debug, PartialEq, Eq)]
 pub struct Count {
     pub taken: u64,
     pub untaken: u64,
     pub broken: u64,
+}
+
+// Whether the end of the capture cuts a reading off.
+fn is_cut_off(ending: Ending) -> bool
+    ensures { result ≡ is_cut_off ending }
+{
+    match ending {
+        Ending::Open => true,
+        Ending::Complete | Ending::Short | Ending::Silent | Ending::BadStart | Ending::Long =>
+            false,
+    }
 }
 
 impl Count {
@@ -28,7 +40,7 @@ impl Count {
             self.taken = self.taken.saturating_add(1);
         } else if failed_block(bits).is_some() {
             self.untaken = self.untaken.saturating_add(1);
-        } else {
+        } else if !is_cut_off(ending) {
             self.broken = self.broken.saturating_add(1);
         }
     }

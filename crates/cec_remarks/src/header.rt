@@ -2,7 +2,7 @@
 ghost use Rattle.std.specs.Prelude.{◌≡◌, ◌+◌, ◌*◌, ◌<◌, ◌≤◌, length, false, slice_index_or};
 ghost use Rattle.cec_frame.specs.Blocks.{bit_value};
 ghost use Rattle.cec_text.specs.ReadingText.{is_complete};
-ghost use Rattle.cec_remarks.specs.Header.{destination_of, failed_block, initiator_of, is_delivered, is_taken, is_to_all, nibble_at, seeks_address};
+ghost use Rattle.cec_remarks.specs.Header.{destination_of, failed_block, goes_on, initiator_of, is_delivered, is_taken, is_to_all, nibble_at, seeks_address};
 
 use cec_frame::{Addr, Ending};
 
@@ -57,12 +57,19 @@ pub(crate) fn is_to_all(bits: &[bool]) -> bool
     destination_of(bits) == Addr::BROADCAST
 }
 
+/// Whether a block follows the header: its end-of-message bit was read 0 (CEC 6.1.2).
+fn goes_on(bits: &[bool]) -> bool
+    ensures { result ≡ goes_on bits.now }
+{
+    bits.len() > HEADER && !bit_at(bits, HEADER)
+}
+
 /// Whether it polls its own address (CEC 10.2.1).
 pub(crate) fn seeks_address(bits: &[bool]) -> bool
     ensures { result ≡ seeks_address bits.now }
 {
     let initiator = initiator_of(bits);
-    initiator == destination_of(bits) && initiator != Addr::BROADCAST
+    initiator == destination_of(bits) && initiator != Addr::BROADCAST && !goes_on(bits)
 }
 
 fn is_taken(bits: &[bool], block: usize) -> bool

@@ -22,9 +22,9 @@ use Rattle.cec_step.specs.declared.stepper.StepError.{StepError}
 use Rattle.cec_step.specs.declared.stepper.StepError.TheVariants.{Write}
 use Rattle.cec_step_text.specs.EdgeText.{edge_line}
 use Rattle.cec_step.specs.Steps.{Point, Run, Steps, IsEdgeStep, IsEdgeStepBy, IsFirstEdge, IsFirstStep, IsNoEdge, IsNoEdgeBy, IsOver, IsRoundStep, IsTaken, in_round, after_events, passed_by, passed_from}
-use Rattle.cec_step.specs.Ready.{Begins, InsideIf, IsInside, IsReady, begun_in, point_of, run_of}
+use Rattle.cec_step.specs.Ready.{AreAlike, Begins, InsideIf, IsInside, IsReady, begun_in, point_of, run_of}
 use Rattle.cec_step.proofs.Passing.{ready_event}
-use Rattle.cec_step.proofs.Rounds.{ready_round}
+use Rattle.cec_step.proofs.Rounds.{alike_point, ready_round}
 use Rattle.cec_step.proofs.Taken.{taken_as}
 
 ready_from : (end : ℕ) (s : NetState) (es : List TimedEvent) (first : Bool) → IsReady end (record { net = s; events = es; is_first = first }) → IsReady end (passed_from end s es first)
@@ -56,15 +56,15 @@ begun_inside end p q e b = record { begin = b.begin; heard = e.at + 1; turn = b.
 abbrev pub Reports : NetState → Edge → List ℕ → Type 0
 Reports net e text = OfRound net (λ begin heard low. text ≡ edge_line net.devices e (standing_reported low begin heard))
 
-pub reports_at : (p q : Position) (e : Edge) (text : List ℕ) → p ≡ q → Reports p.net e text → Reports q.net e text
-reports_at p q e text same line = subst (λ (x : Position). Reports x.net e text) same line
+pub reports_at : (p q : Position) (e : Edge) (text : List ℕ) → p ≡ q → Reports p.net.value e text → Reports q.net.value e text
+reports_at p q e text same line = subst (λ (x : Position). Reports x.net.value e text) same line
 
 -- a round that was begun from a copy of a position, in the run that a stepper shows
-pub begins_from : (course : RunInput) (run : Run) (copy here next : Position) (e : Edge) → run_of course ≡ run → copy ≡ here
+pub begins_from : (course : RunInput) (run : Run) (copy here next : Position) (e : Edge) → run_of course ≡ run → point_of course.events.items copy ≡ point_of course.events.items here
     → Begins course.end (point_of course.events.items copy) e (point_of course.events.items next) → Begins run.end (point_of run.events here) e (point_of run.events next)
 begins_from course run copy here next e shown same begins =
     subst (λ (r : Run). Begins r.end (point_of r.events here) e (point_of r.events next)) shown
-    (subst (λ (p : Position). Begins course.end (point_of course.events.items p) e (point_of course.events.items next)) same begins)
+    (subst (λ (p : Point). Begins course.end p e (point_of course.events.items next)) same begins)
 
 pub first_gives : (end : ℕ) (p q : Point) (e : Edge) (text : List ℕ) → Begins end p e q → Reports q.net e text → IsFirstEdge end p text q.net
 first_gives end p q e text b line =
@@ -90,9 +90,16 @@ steps run last begun = record { run = run; last = last; begun = begun }
 
 -- a stepper stands in a round
 pub record IsIn (s : Steps) (inside : Position) : Type 0 where
-  pub net : s.begun ≡ Some inside.net
+  pub net : s.begun ≡ Some inside.net.value
   pub ready : IsReady s.run.end s.last
   pub round : IsInside s.run.end s.last (point_of s.run.events inside)
+
+pub alike_in : (s : Steps) (p q : Position) → AreAlike p q → IsIn s q → IsIn s p
+alike_in s p q alike stands = record {
+  net = stands.net ∙ ap (λ (n : NetState). Some n) (sym alike.net);
+  ready = stands.ready;
+  round = subst (λ (x : Point). IsInside s.run.end s.last x) (sym (alike_point s.run.events p q alike)) stands.round;
+}
 
 pub is_in : (course : RunInput) (last inside : Position) (b : Bool) → IsSome (begun_in b (point_of course.events.items inside)) → IsReady course.end (point_of course.events.items last)
     → InsideIf b course.end (point_of course.events.items last) (point_of course.events.items inside)

@@ -1,5 +1,5 @@
 -- What events, a round and its first edge make of where a run stands.
-use Rattle.std.proofs.Common.{◌≡◌, ℕ, ◌+◌, ◌<◌, false, nat_lt, List, ◌++◌, drop, MatchOption, IfSome, Option, Some, None, ap, ◌∙◌, sym, refl, subst, arith}
+use Rattle.std.proofs.Common.{◌≡◌, ℕ, ◌+◌, ◌<◌, Bool, false, nat_lt, List, ◌++◌, drop, MatchOption, IfSome, Option, Some, None, ap, ◌∙◌, sym, refl, subst, arith}
 use Rattle.std.specs.List.{filter}
 use Rattle.cec_wave.specs.declared.Edge.{Edge}
 use Rattle.cec_wave.specs.declared.Stretch.{Stretch}
@@ -19,30 +19,38 @@ use Rattle.cec_run.specs.Run.{first_time}
 use Rattle.cec_run.proofs.Advance.{event_keeps, round_begins}
 use Rattle.cec_step.specs.declared.position.Position.{Position}
 use Rattle.cec_step.specs.Steps.{Point, IsOver, turn_at, after_events, passed_from, passed_text}
-use Rattle.cec_step.specs.Ready.{Begins, IsReady, Passes, first_text, point_of}
+use Rattle.cec_step.specs.Ready.{AreAlike, Begins, IsReady, Passes, first_text, point_of}
 use Rattle.cec_step.proofs.Passing.{passed_event, passed_event_text, passed_round, passed_stop}
 use Rattle.cec_step.proofs.Edges.{has_edge}
+
+-- positions that stand alike
+pub alike_point : (es : List TimedEvent) (p q : Position) → AreAlike p q → point_of es p ≡ point_of es q
+alike_point es p q alike =
+    let by_net : NetState → Point = λ n. record { net = n; events = drop p.applied es; is_first = p.is_first } in
+    let by_count : ℕ → Point = λ k. record { net = q.net.value; events = drop k es; is_first = p.is_first } in
+    let by_flag : Bool → Point = λ f. record { net = q.net.value; events = drop q.applied es; is_first = f } in
+    ap by_net alike.net ∙ ap by_count alike.applied ∙ ap by_flag alike.first
 
 -- one event more
 pub pass_more : (end at : ℕ) (es : List TimedEvent) (p q : Position) → turn_at end (point_of es p) ≡ Apply at → Passes at es p q → after_events end (point_of es q) ≡ after_events end (point_of es p)
 pass_more end at es p q turn m =
-    sym (passed_event end at p.net q.net (drop p.applied es) p.is_first m.event (drop q.applied es) m.split turn m.step ∙ ap (λ f. passed_from end q.net (drop q.applied es) f) (sym m.first))
+    sym (passed_event end at p.net.value q.net.value (drop p.applied es) p.is_first m.event (drop q.applied es) m.split turn m.step ∙ ap (λ f. passed_from end q.net.value (drop q.applied es) f) (sym m.first))
 
-pub rest_more : (at : ℕ) (es : List TimedEvent) (p q : Position) → Passes at es p q → q.net.rest ≡ p.net.rest
-rest_more at es p q m = (event_keeps at m.event.event p.net q.net m.step).rest
+pub rest_more : (at : ℕ) (es : List TimedEvent) (p q : Position) → Passes at es p q → q.net.value.rest ≡ p.net.value.rest
+rest_more at es p q m = (event_keeps at m.event.event p.net.value q.net.value m.step).rest
 
 pub text_more : (edid : Option Edid) (end at : ℕ) (es : List TimedEvent) (p q : Position) → turn_at end (point_of es p) ≡ Apply at → Passes at es p q
-    → passed_text edid end (point_of es p) ≡ first_text edid at p.net (drop p.applied es) ++ passed_text edid end (point_of es q)
+    → passed_text edid end (point_of es p) ≡ first_text edid at p.net.value (drop p.applied es) ++ passed_text edid end (point_of es q)
 text_more edid end at es p q turn m =
-    passed_event_text edid end at p.net q.net (drop p.applied es) m.event (drop q.applied es) m.split turn m.step
-    ∙ ap (λ xs. first_text edid at p.net xs ++ passed_text edid end (point_of es q)) (sym m.split)
+    passed_event_text edid end at p.net.value q.net.value (drop p.applied es) m.event (drop q.applied es) m.split turn m.step
+    ∙ ap (λ xs. first_text edid at p.net.value xs ++ passed_text edid end (point_of es q)) (sym m.split)
 
 -- no event comes any more
 pub over_round : (end begin : ℕ) (es : List TimedEvent) (p : Position) → turn_at end (point_of es p) ≡ Round begin → point_of es p ≡ after_events end (point_of es p)
-over_round end begin es p turn = sym (passed_round end begin p.net (drop p.applied es) p.is_first turn)
+over_round end begin es p turn = sym (passed_round end begin p.net.value (drop p.applied es) p.is_first turn)
 
 pub over_stop : (end : ℕ) (es : List TimedEvent) (p : Position) → turn_at end (point_of es p) ≡ Stop → point_of es p ≡ after_events end (point_of es p)
-over_stop end es p turn = sym (passed_stop end p.net (drop p.applied es) p.is_first turn)
+over_stop end es p turn = sym (passed_stop end p.net.value (drop p.applied es) p.is_first turn)
 
 -- after a round a run is ready still
 pub ready_round : (end begin : ℕ) (p : Point) (o : Outcome) (t : NetState) → IsReady end p → begin < end → IsNextRound p.net begin o t → IsProgress p.net begin t

@@ -1,20 +1,15 @@
 -- Where a stepper begins.
-use Rattle.std.proofs.Common.{◌≡◌, ℕ, ◌<◌, ◌≤◌, true, List, length, Option, IsSome, Some, None, ap, ◌∙◌, sym, subst, arith}
+use Rattle.std.proofs.Common.{◌≡◌, ℕ, ◌<◌, ◌≤◌, Bool, true, List, drop, length, Option, Some, None, ap, ◌∙◌, sym, subst, arith}
 use Rattle.cec_wave.specs.Bounds.{latest_instant}
 use Rattle.hdmi_topo.specs.Node.{Node}
 use Rattle.cec_asm.specs.Script.{Course, IsScript}
 use Rattle.cec_net.specs.State.{NetState, first_net}
-use Rattle.hdmi_core.specs.declared.phys.Phys.{Phys}
-use Rattle.hdmi_blocks.specs.Address.{edid_address}
-use Rattle.hdmi_blocks.specs.Bytes.{edid_bytes, IsRefused}
 use Rattle.hdmi_blocks.specs.declared.edid.Edid.{Edid}
-use Rattle.hdmi_blocks.proofs.OneEdid.{not_refused, one_edid}
-use Rattle.hdmi_blocks.specs.Root.{HasAddress, IsNoRoot, IsRoot}
-use Rattle.hdmi_blocks.specs.declared.root.EdidCause.{EdidCause}
-use Rattle.hdmi_blocks.specs.declared.root.EdidCause.TheVariants.{Edid as OfEdid, NoHdmiBlock}
+use Rattle.hdmi_blocks.specs.Root.{HasAddress, IsRoot}
 use Rattle.cec_asm.specs.declared.script.TimedEvent.{TimedEvent}
 use Rattle.cec_step.specs.Steps.{Point, Run, Steps}
-use Rattle.cec_step.specs.Ready.{IsReady}
+use Rattle.cec_step.specs.Ready.{IsReady, point_of}
+use Rattle.cec_step.specs.declared.position.Position.{Position}
 
 -- a television's EDID has an address
 pub has_address : (bytes : Option (List ℕ)) (root : Option Edid) → IsRoot bytes root → HasAddress root
@@ -22,26 +17,16 @@ has_address None root r = subst HasAddress (sym r) tt
 has_address (Some bytes) None r = absurd r
 has_address (Some bytes) (Some root) r = r.1
 
-no_cause : (bytes : List ℕ) (root : Edid) (cause : EdidCause) → edid_bytes root ≡ bytes → IsSome (edid_address root) → IsNoRoot bytes cause → ⊥
-no_cause bytes root (OfEdid error) spells some refused = not_refused root error (subst (λ xs. IsRefused xs error) (sym spells) refused)
-no_cause bytes root NoHdmiBlock spells some (other, same, none) =
-    let one : root ≡ other = one_edid root other (spells ∙ sym same) in
-    let address : edid_address root ≡ None = ap edid_address one ∙ none in
-    clash (edid_address root) address some
-  where
-    clash : (a : Option Phys) → a ≡ None → IsSome a → ⊥
-    clash a same there = cc
-
--- its bytes are not refused
-pub no_root_refused : (bytes : Option (List ℕ)) (root : Option Edid) (given : List ℕ) (cause : EdidCause) → IsRoot bytes root → bytes ≡ Some given → IsNoRoot given cause → ⊥
-no_root_refused None root given cause r is refused = cc
-no_root_refused (Some bytes) None given cause r is refused = absurd r
-no_root_refused (Some bytes) (Some root) given cause r is refused =
-    let same : bytes ≡ given = cc in
-    no_cause given root cause (r.0 ∙ same) r.1 refused
-
 abbrev pub begins_with : List TimedEvent → NetState → Point
 begins_with events s = record { net = s; events = events; is_first = true }
+
+-- a position at the start of a run
+pub starts_at : (events : List TimedEvent) (p : Position) (s : NetState) → p.net.value ≡ s → p.applied ≡ 0 → p.is_first ≡ true → point_of events p ≡ begins_with events s
+starts_at events p s net applied first =
+    let by_net : NetState → Point = λ n. record { net = n; events = drop p.applied events; is_first = p.is_first } in
+    let by_count : ℕ → Point = λ k. record { net = s; events = drop k events; is_first = p.is_first } in
+    let by_flag : Bool → Point = λ f. record { net = s; events = events; is_first = f } in
+    ap by_net net ∙ ap by_count applied ∙ ap by_flag first
 
 abbrev pub stepper_at : Run → Point → Steps
 stepper_at run p = record { run = run; last = p; begun = None }

@@ -21,11 +21,17 @@ use Rattle.cec_step.specs.Steps.{Point, Run, Steps, IsRoundStep, Skips, turn_at,
 
 -- where a position stands in a run with these events
 abbrev pub point_of : List TimedEvent → Position → Point
-point_of events p = record { net = p.net; events = drop p.applied events; is_first = p.is_first }
+point_of events p = record { net = p.net.value; events = drop p.applied events; is_first = p.is_first }
+
+-- two positions that stand where one does: their networks are in two places
+pub record AreAlike (p q : Position) : Type 0 where
+  pub net : p.net.value ≡ q.net.value
+  pub applied : p.applied ≡ q.applied
+  pub first : p.is_first ≡ q.is_first
 
 -- what a run in the code is made of
 abbrev pub run_of : RunInput → Run
-run_of course = record { edid = course.edid; events = course.events.items; end = course.end }
+run_of course = record { edid = course.edid.value; events = course.events.items; end = course.end }
 
 -- times stay below the limits, and the events that are left come in their order, before the end
 pub record IsReady (end : ℕ) (p : Point) : Type 0 where
@@ -54,7 +60,7 @@ begun_in true q = Some q.net
 pub record Passes (at : ℕ) (events : List TimedEvent) (p q : Position) : Type 0 where
   pub event : TimedEvent
   pub split : drop p.applied events ≡ event ∷ drop q.applied events
-  pub step : q.net ≡ net_after at event.event p.net
+  pub step : q.net.value ≡ net_after at event.event p.net.value
   pub first : q.is_first ≡ p.is_first
 
 -- what is reported of the first of these events

@@ -1,11 +1,14 @@
 //! Where a run stands, and its next round.
-ghost use Rattle.std.specs.Prelude.{◌≡◌, ℕ, ◌+◌, ◌++◌, ◌<◌, List, drop, length, MatchOption, IfSome, IsSome};
+ghost use Rattle.std.specs.Prelude.{◌≡◌, ℕ, ◌+◌, ◌++◌, ◌<◌, ◌≤◌, List, All, None, true, drop, length, IfOk, MatchOption, IfSome, IsSome};
+ghost use Rattle.cec_wave.specs.Bounds.{latest_instant};
+ghost use Rattle.cec_wave.specs.Pulses.{pulses_fault};
+ghost use Rattle.cec_net.specs.State.{first_net};
 ghost use Rattle.cec_net.specs.Underway.{OfRound, standing_reported};
 ghost use Rattle.cec_step_text.specs.EdgeText.{edge_line};
 ghost use Rattle.hdmi_core.specs.Cut.{WrittenText};
 ghost use Rattle.cec_run.specs.declared.run.Turn.TheVariants.{Apply, Round, Stop};
 ghost use Rattle.hdmi_blocks.specs.Root.{HasAddress};
-ghost use Rattle.cec_step.specs.Ready.{Begins, Brings, IsReady, Passes, first_text, point_of};
+ghost use Rattle.cec_step.specs.Ready.{AreAlike, Begins, Brings, IsReady, Passes, first_text, point_of};
 ghost use Rattle.cec_step.specs.Steps.{IsOver, IsRoundStep, after_events, passed_text, start_text, turn_at};
 
 use cec_asm::TimedEvent;
@@ -14,22 +17,25 @@ use cec_net::{Net, RoundReport};
 use cec_run::{Totals, Turn, apply_event, first_time, next_turn};
 use cec_step_text::{with_rest, write_edge};
 use cec_trace::write_ports;
-use cec_wave::Edge;
+use cec_wave::{Edge, Stretch};
 use hdmi_blocks::Edid;
 use hdmi_core::{Sink, WriteFault, counted, cut_at};
+use hdmi_topo::Tree;
+use std::alloc::{AllocError, Global};
 
-/// What a run is made of: the television's EDID, the events in the order of their times, and the end.
+/// What a run is made of: the television's EDID, which is large and stands on the heap, the events in the order of their
+/// times, and the end.
 #[derive(Drop)]
 pub(crate) struct RunInput {
-    pub edid: Option<Edid>,
+    pub edid: Box<Option<Edid>>,
     pub events: Vec<TimedEvent>,
     pub end: u64,
 }
 
-/// Where a run stands.
+/// Where a run stands. Its network is large, and stands on the heap.
 #[derive(Drop)]
 pub(crate) struct Position {
-    pub net: Net<EdgeWire>,
+    pub net: Box<Net<EdgeWire>>,
     /// How many events were applied.
     pub applied: usize,
     /// Whether no round was run yet. The lines of the ports are then due.
@@ -50,20 +56,23 @@ impl RunInput {
 }
 
 impl Position {
-    /// The same position again.
-    pub fn copy(&self) -> Self
-        ensures { result ≡ self.now }
+    /// The start of a run.
+    pub fn start(alloc: Global, tree: Tree<15>, pulses: &[Stretch]) -> Result<Self, AllocError>
+        requires some { 0 < length tree }
+        requires early { All (λ p. p.from ≤ latest_instant) pulses.now }
+        requires sparse { pulses_fault pulses.now ≡ None }
+        ensures { IfOk result (λ start. (start.net.value ≡ first_net tree pulses.now) × (start.applied ≡ 0) × (start.is_first ≡ true)) }
     {
-        Position {
-            net: self.net.copy(),
-            applied: self.applied,
-            is_first: self.is_first,
-        }
+        Ok(Position {
+            net: Net::on_heap(alloc, tree, pulses)?,
+            applied: 0,
+            is_first: true,
+        })
     }
 
     /// Becomes a copy of another position, in its own place.
     pub fn copy_from(&mut self, other: &Self)
-        ensures { self.new ≡ other.now }
+        ensures { AreAlike self.new other.now }
     {
         self.net.copy_from(&other.net);
         self.applied = other.applied;
@@ -100,7 +109,7 @@ impl Position {
         ensures comes { MatchOption result
             (IsOver course.now.end (point_of course.now.events.items self.old))
             (λ begin. turn_at course.now.end (after_events course.now.end (point_of course.now.events.items self.old)) ≡ Round begin) }
-        ensures rest { self.new.net.rest ≡ self.old.net.rest }
+        ensures rest { self.new.net.value.rest ≡ self.old.net.value.rest }
         ensures ready { IsReady course.now.end (point_of course.now.events.items self.new) }
     {
         'events: loop {
@@ -152,10 +161,10 @@ impl Position {
     ) -> Result<u128, WriteFault>
         requires turn { turn_at course.now.end (point_of course.now.events.items self.old) ≡ Apply at }
         requires ready { IsReady course.now.end (point_of course.now.events.items self.old) }
-        requires addressed { HasAddress course.now.edid }
+        requires addressed { HasAddress course.now.edid.value }
         ensures point { Passes at course.now.events.items self.old self.new }
         ensures text { WrittenText (S.contents out.old) (S.contents out.new) (S.is_stuck out.old) (S.is_stuck out.new)
-            (first_text course.now.edid at self.old.net (drop self.old.applied course.now.events.items)) result }
+            (first_text course.now.edid.value at self.old.net.value (drop self.old.applied course.now.events.items)) result }
         ensures ready { IsReady course.now.end (point_of course.now.events.items self.new) }
     {
         let Some((event, others)) = course.left(self.applied).split_first() else {
@@ -170,9 +179,9 @@ impl Position {
     // Applies the events that come before the next round, and writes their lines.
     fn write_events<S: Sink>(&mut self, course: &RunInput, out: &mut S) -> Result<u128, WriteFault>
         requires ready { IsReady course.now.end (point_of course.now.events.items self.old) }
-        requires addressed { HasAddress course.now.edid }
+        requires addressed { HasAddress course.now.edid.value }
         ensures { WrittenText (S.contents out.old) (S.contents out.new) (S.is_stuck out.old) (S.is_stuck out.new)
-            (passed_text course.now.edid course.now.end (point_of course.now.events.items self.old)) result }
+            (passed_text course.now.edid.value course.now.end (point_of course.now.events.items self.old)) result }
     {
         let mut written = 0;
         'events: loop {
@@ -189,9 +198,9 @@ impl Position {
 
     // Writes the lines that are due before any event: those of the ports, before the first round.
     fn write_start<S: Sink>(&self, course: &RunInput, out: &mut S) -> Result<u128, WriteFault>
-        requires addressed { HasAddress course.now.edid }
+        requires addressed { HasAddress course.now.edid.value }
         ensures { WrittenText (S.contents out.old) (S.contents out.new) (S.is_stuck out.old) (S.is_stuck out.new)
-            (start_text course.now.edid (point_of course.now.events.items self.now)) result }
+            (start_text course.now.edid.value (point_of course.now.events.items self.now)) result }
     {
         if self.is_first {
             write_ports(out, 0, &course.edid, self.net.tree(), &[])
@@ -207,10 +216,10 @@ impl Position {
         out: &mut S,
     ) -> Result<u128, WriteFault>
         requires ready { IsReady course.now.end (point_of course.now.events.items self.old) }
-        requires addressed { HasAddress course.now.edid }
+        requires addressed { HasAddress course.now.edid.value }
         ensures { WrittenText (S.contents out.old) (S.contents out.new) (S.is_stuck out.old) (S.is_stuck out.new)
-            (start_text course.now.edid (point_of course.now.events.items self.old)
-            ++ passed_text course.now.edid course.now.end (point_of course.now.events.items self.old)) result }
+            (start_text course.now.edid.value (point_of course.now.events.items self.old)
+            ++ passed_text course.now.edid.value course.now.end (point_of course.now.events.items self.old)) result }
     {
         match self.write_start(course, out) {
             Ok(count) => with_rest(count, self.write_events(course, out)),
@@ -221,9 +230,9 @@ impl Position {
     /// Writes the line of an edge through which the line of the round that was begun is told. All devices hear one line:
     /// the first one's receiver stands where each one does.
     pub fn write_edge<S: Sink>(&self, out: &mut S, edge: Edge) -> Result<u128, WriteFault>
-        requires underway { IsSome self.now.net.heard }
-        requires some { 0 < length self.now.net.tree }
-        ensures { (text : List ℕ) × OfRound self.now.net (λ begin heard low. text ≡ edge_line self.now.net.devices edge (standing_reported low begin heard))
+        requires underway { IsSome self.now.net.value.heard }
+        requires some { 0 < length self.now.net.value.tree }
+        ensures { (text : List ℕ) × OfRound self.now.net.value (λ begin heard low. text ≡ edge_line self.now.net.value.devices edge (standing_reported low begin heard))
             × WrittenText (S.contents out.old) (S.contents out.new) (S.is_stuck out.old) (S.is_stuck out.new) text result }
     {
         write_edge(out, self.net.devices(), edge, self.net.standing_of(0))

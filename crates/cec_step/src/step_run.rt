@@ -9,7 +9,7 @@ use crate::stepper::{StepError, Stepper};
 use cec_asm::{parse_script, parse_topology};
 use cec_run::emulate::EmulateError;
 use cec_step_text::{Command, CommandsError, parse_commands, whole};
-use hdmi_blocks::root_of;
+use hdmi_blocks::root_on_heap;
 use hdmi_core::{Piece, Sink, WriteFault, counted, cut_at, write_line};
 use std::alloc::Global;
 use thiserror::Error;
@@ -119,9 +119,9 @@ pub fn step_run<S: Sink>(
         Ok(script) => script,
         Err(fault) => return Err(StepRunError::Run(fault.into())),
     };
-    let _edid = match root_of(&topology.edid) {
+    let _edid = match root_on_heap(alloc, &topology.edid) {
         Ok(edid) => edid,
-        Err(cause) => return Err(StepRunError::Run(EmulateError::Edid(cause))),
+        Err(error) => return Err(StepRunError::Run(error.into())),
     };
     let commands = match parse_commands(alloc, &topology.tree, steps) {
         Ok(commands) => commands,

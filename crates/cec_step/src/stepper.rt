@@ -29,8 +29,8 @@ pub struct Stepper {
     /// Whether no edge is left, as a step has found. No further step then looks for one.
     is_over: bool,
     /// Places in which a step is worked out.
-    before: Box<Position>,
-    after: Box<Position>,
+    before: Position,
+    after: Position,
 }
 
 impl Model for Stepper {
@@ -54,7 +54,7 @@ fn is_ended(taken: &Result<u128, StepError>) -> bool
 }
 
 // Whether no edge is left, as far as that is looked for: after a step that there was not, and where no round was begun.
-fn found_over(walk: &Walk, taken: &Result<u128, StepError>, place: &mut Box<Position>) -> bool
+fn found_over(walk: &Walk, taken: &Result<u128, StepError>, place: &mut Position) -> bool
     ensures { OverIf result walk.now }
 {
     is_ended(taken) && walk.is_over(place)

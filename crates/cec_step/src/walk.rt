@@ -1,5 +1,5 @@
 //! Where a run stands, and how its steps lead on.
-ghost use Rattle.std.specs.Prelude.{◌≡◌, ℕ, Option, Result, Some, IsSome, length};
+ghost use Rattle.std.specs.Prelude.{◌≡◌, ℕ, Option, Result, Some, IfOk, IsSome, length, option_map};
 ghost use Rattle.hdmi_core.specs.Cut.{WrittenText};
 ghost use Rattle.hdmi_blocks.specs.Root.{HasAddress};
 ghost use Rattle.cec_step.specs.Ready.{IsReady, point_of, run_of};
@@ -14,7 +14,7 @@ use cec_net::Net;
 use cec_step_text::{Break, stops, whole, with_rest};
 use cec_trace::{write_round, write_state};
 use cec_wire::Outcome;
-use hdmi_blocks::root_of;
+use hdmi_blocks::{Edid, root_on_heap};
 use hdmi_core::{Sink, WriteFault};
 use std::alloc::{AllocError, Global};
 use std::marker::Model;
@@ -24,15 +24,15 @@ use std::mem;
 /// twice, with a copy of the position before each.
 const LEAP: u32 = 64;
 
-/// A run of a script on a topology, and where it stands. A position is large: a step is worked out in places that are lent
+/// A run of a script on a topology, and where it stands. A network is large: a step is worked out in places that are lent
 /// to it, and where it counts they are exchanged for those in which the run stands.
 #[derive(Drop)]
 pub(crate) struct Walk {
     course: RunInput,
     /// After the last round that was finished, or at the start.
-    last: Box<Position>,
+    last: Position,
     /// In the round that was begun, where one is.
-    inside: Box<Position>,
+    inside: Position,
     is_begun: bool,
 }
 
@@ -43,10 +43,22 @@ impl Model for Walk {
 
     ghost Value = { Steps };
 
-    ghost view = { λ s. record { run = run_of s.course; last = point_of s.course.events.items s.last.value; begun = begun_in s.is_begun (point_of s.course.events.items s.inside.value) } };
+    ghost view = { λ s. record { run = run_of s.course; last = point_of s.course.events.items s.last; begun = begun_in s.is_begun (point_of s.course.events.items s.inside) } };
 
-    ghost invariant = { λ s. HasAddress s.course.edid × IsReady s.course.end (point_of s.course.events.items s.last.value)
-        × InsideIf s.is_begun s.course.end (point_of s.course.events.items s.last.value) (point_of s.course.events.items s.inside.value) };
+    ghost invariant = { λ s. HasAddress s.course.edid.value × IsReady s.course.end (point_of s.course.events.items s.last)
+        × InsideIf s.is_begun s.course.end (point_of s.course.events.items s.last) (point_of s.course.events.items s.inside) };
+}
+
+// The EDID of a run in its place on the heap: it is large.
+#[inline(never)]
+fn edid_on_heap(alloc: Global, edid: Option<Box<Edid>>) -> Result<Box<Option<Edid>>, AllocError>
+    ensures { IfOk result (λ place. place.value ≡ option_map (λ b. b.value) edid) }
+{
+    let place = match edid {
+        None => Box::new(alloc, None)?,
+        Some(edid) => Box::new(alloc, Some(Box::into_inner(edid)))?,
+    };
+    Ok(place)
 }
 
 fn step_error(fault: WriteFault) -> StepError
@@ -64,7 +76,7 @@ fn write_step<S: Sink>(
     out: &mut S,
 ) -> Result<u128, WriteFault>
     requires ready { IsReady course.now.end (point_of course.now.events.items before.old) }
-    requires addressed { HasAddress course.now.edid }
+    requires addressed { HasAddress course.now.edid.value }
     ensures { WrittenText (S.contents out.old) (S.contents out.new) (S.is_stuck out.old) (S.is_stuck out.new)
         (step_text (run_of course.now) (point_of course.now.events.items before.old) outcome.now (point_of course.now.events.items after.now)) result }
 {
@@ -86,19 +98,19 @@ impl Walk {
     ghost use Rattle.cec_step.specs.Steps.{IsEdgeStep, IsNever, IsNoEdge, IsOver, IsRound, IsTaken, IsUntil, IsFirstStep, IsShown, Skips, after_round, begun_at, device_count, in_round, is_write, shown_net};
 
     // Stands after a round.
-    fn stand_after(&mut self, after: &mut Box<Position>)
-        requires { IsReady self.old.run.end (point_of self.old.run.events after.old.value) }
-        ensures { self.new ≡ after_round self.old (point_of self.old.run.events after.old.value) }
+    fn stand_after(&mut self, after: &mut Position)
+        requires { IsReady self.old.run.end (point_of self.old.run.events after.old) }
+        ensures { self.new ≡ after_round self.old (point_of self.old.run.events after.old) }
     {
         mem::swap(&mut self.last, after);
         self.is_begun = false;
     }
 
     // Stands in the round that comes after a position.
-    fn stand_in(&mut self, last: &mut Box<Position>, inside: &mut Box<Position>)
-        requires ready { IsReady self.old.run.end (point_of self.old.run.events last.old.value) }
-        requires inside { IsInside self.old.run.end (point_of self.old.run.events last.old.value) (point_of self.old.run.events inside.old.value) }
-        ensures { self.new ≡ in_round self.old (point_of self.old.run.events last.old.value) inside.old.value.net }
+    fn stand_in(&mut self, last: &mut Position, inside: &mut Position)
+        requires ready { IsReady self.old.run.end (point_of self.old.run.events last.old) }
+        requires inside { IsInside self.old.run.end (point_of self.old.run.events last.old) (point_of self.old.run.events inside.old) }
+        ensures { self.new ≡ in_round self.old (point_of self.old.run.events last.old) inside.old.net.value }
     {
         mem::swap(&mut self.last, last);
         mem::swap(&mut self.inside, inside);
@@ -113,12 +125,14 @@ impl Walk {
     }
 
     /// A place for a position.
-    pub fn place(&self, alloc: Global) -> Result<Box<Position>, AllocError> {
-        Ok(Box::new(alloc, self.last.copy())?)
+    pub fn place(&self, alloc: Global) -> Result<Position, AllocError>
+        requires { 0 < device_count self.now }
+    {
+        Position::start(alloc, self.last.net.tree().copy(), &[])
     }
 
     /// Whether no edge is left, where no round was begun. Where one was, that is not looked for.
-    pub fn is_over(&self, place: &mut Box<Position>) -> bool
+    pub fn is_over(&self, place: &mut Position) -> bool
         ensures { OverIf result self.now }
     {
         if self.is_begun {
@@ -129,9 +143,9 @@ impl Walk {
     }
 
     // Copies the position after the last round that was finished to another place.
-    fn copy_last(&self, place: &mut Box<Position>)
-        ensures last { point_of self.now.run.events place.new.value ≡ self.now.last }
-        ensures ready { IsReady self.now.run.end (point_of self.now.run.events place.new.value) }
+    fn copy_last(&self, place: &mut Position)
+        ensures last { point_of self.now.run.events place.new ≡ self.now.last }
+        ensures ready { IsReady self.now.run.end (point_of self.now.run.events place.new) }
     {
         place.copy_from(&self.last);
     }
@@ -139,16 +153,16 @@ impl Walk {
     // Writes what the trace has of a round, and stands after it.
     fn take<S: Sink>(
         &mut self,
-        before: &mut Box<Position>,
-        after: &mut Box<Position>,
+        before: &mut Position,
+        after: &mut Position,
         outcome: &Outcome,
         out: &mut S,
     ) -> Result<u128, StepError>
-        requires before { IsReady self.old.run.end (point_of self.old.run.events before.old.value) }
-        requires after { IsReady self.old.run.end (point_of self.old.run.events after.old.value) }
+        requires before { IsReady self.old.run.end (point_of self.old.run.events before.old) }
+        requires after { IsReady self.old.run.end (point_of self.old.run.events after.old) }
         ensures step { IsTaken
-            (λ text t. (text ≡ step_text self.old.run (point_of self.old.run.events before.old.value) outcome.now (point_of self.old.run.events after.old.value))
-            × (t ≡ after_round self.old (point_of self.old.run.events after.old.value)))
+            (λ text t. (text ≡ step_text self.old.run (point_of self.old.run.events before.old) outcome.now (point_of self.old.run.events after.old))
+            × (t ≡ after_round self.old (point_of self.old.run.events after.old)))
             ⊥ self.old self.new (S.contents out.old) (S.contents out.new) result }
         ensures flag { S.is_stuck out.new ≡ (is_write result || S.is_stuck out.old) }
     {
@@ -164,8 +178,8 @@ impl Walk {
     /// `Stepper::round`, worked out in these places.
     pub fn round<S: Sink>(
         &mut self,
-        before: &mut Box<Position>,
-        after: &mut Box<Position>,
+        before: &mut Position,
+        after: &mut Position,
         out: &mut S,
     ) -> Result<u128, StepError>
         ensures step { IsTaken (IsRound self.old) (IsOver self.old.run.end self.old.last) self.old self.new (S.contents out.old) (S.contents out.new) result }
@@ -180,11 +194,11 @@ impl Walk {
     }
 
     // Goes on over as many rounds as are leapt over at once, where none of them is looked for. Returns whether it went on.
-    fn leap(&self, at: Break, here: &mut Box<Position>, ahead: &mut Box<Position>) -> bool
-        requires { IsReady self.now.run.end (point_of self.now.run.events here.old.value) }
-        ensures skips { (rounds : ℕ) × Skips self.now.run.end at rounds (point_of self.now.run.events here.old.value) (point_of self.now.run.events here.new.value) }
-        ensures ready { IsReady self.now.run.end (point_of self.now.run.events here.new.value) }
-        ensures goes { IsTrue result → Brings self.now.run.end (point_of self.now.run.events here.old.value) (point_of self.now.run.events here.new.value) }
+    fn leap(&self, at: Break, here: &mut Position, ahead: &mut Position) -> bool
+        requires { IsReady self.now.run.end (point_of self.now.run.events here.old) }
+        ensures skips { (rounds : ℕ) × Skips self.now.run.end at rounds (point_of self.now.run.events here.old) (point_of self.now.run.events here.new) }
+        ensures ready { IsReady self.now.run.end (point_of self.now.run.events here.new) }
+        ensures goes { IsTrue result → Brings self.now.run.end (point_of self.now.run.events here.old) (point_of self.now.run.events here.new) }
     {
         ahead.copy_from(here);
         'rounds: for _ in 0..LEAP {
@@ -201,13 +215,8 @@ impl Walk {
 
     // Goes on to the first round that is looked for. Returns its outcome, with the positions before and after it in their
     // places. A position is large: it is copied before each round only where the one that is looked for is near.
-    fn search(
-        &self,
-        at: Break,
-        before: &mut Box<Position>,
-        after: &mut Box<Position>,
-    ) -> Option<Outcome>
-        ensures { MatchOption result (IsNever self.now at) (λ outcome. IsFound self.now at before.new.value outcome after.new.value) }
+    fn search(&self, at: Break, before: &mut Position, after: &mut Position) -> Option<Outcome>
+        ensures { MatchOption result (IsNever self.now at) (λ outcome. IsFound self.now at before.new outcome after.new) }
     {
         self.copy_last(before);
         'leaps: while self.leap(at, before, after) {}
@@ -227,8 +236,8 @@ impl Walk {
     pub fn until<S: Sink>(
         &mut self,
         at: Break,
-        before: &mut Box<Position>,
-        after: &mut Box<Position>,
+        before: &mut Position,
+        after: &mut Position,
         out: &mut S,
     ) -> Result<u128, StepError>
         ensures step { IsTaken (IsUntil self.old at) (IsNever self.old at) self.old self.new (S.contents out.old) (S.contents out.new) result }
@@ -243,12 +252,12 @@ impl Walk {
     // Writes the first edge of the round that comes after a position, and stands in that round.
     fn first_edge<S: Sink>(
         &mut self,
-        last: &mut Box<Position>,
-        inside: &mut Box<Position>,
+        last: &mut Position,
+        inside: &mut Position,
         out: &mut S,
     ) -> Result<u128, StepError>
-        requires { IsReady self.old.run.end (point_of self.old.run.events last.old.value) }
-        ensures step { IsTaken (IsFirstStep self.old (point_of self.old.run.events last.old.value)) (IsOver self.old.run.end (point_of self.old.run.events last.old.value))
+        requires { IsReady self.old.run.end (point_of self.old.run.events last.old) }
+        ensures step { IsTaken (IsFirstStep self.old (point_of self.old.run.events last.old)) (IsOver self.old.run.end (point_of self.old.run.events last.old))
             self.old self.new (S.contents out.old) (S.contents out.new) result }
         ensures flag { S.is_stuck out.new ≡ (is_write result || S.is_stuck out.old) }
     {
@@ -268,8 +277,8 @@ impl Walk {
     // Writes the next edge of the round that was begun; where it has given all its edges, the first one of the next.
     fn edge_inside<S: Sink>(
         &mut self,
-        inside: &mut Box<Position>,
-        next: &mut Box<Position>,
+        inside: &mut Position,
+        next: &mut Position,
         out: &mut S,
     ) -> Result<u128, StepError>
         requires { IsSome self.old.begun }
@@ -295,8 +304,8 @@ impl Walk {
     /// `Stepper::edge`, worked out in these places.
     pub fn edge<S: Sink>(
         &mut self,
-        before: &mut Box<Position>,
-        after: &mut Box<Position>,
+        before: &mut Position,
+        after: &mut Position,
         out: &mut S,
     ) -> Result<u128, StepError>
         ensures step { IsTaken (IsEdgeStep self.old) (IsNoEdge self.old) self.old self.new (S.contents out.old) (S.contents out.new) result }
@@ -341,17 +350,12 @@ impl Walk {
         ensures { IfOk result (λ walk. (edid : Option Edid) × IsRootOf (option_map (λ bytes. bytes.items) topology.edid) edid
             × (walk ≡ begun_at edid (course_of script) (first_net topology.tree script.pulses.items))) }
     {
-        let edid = match root_of(&topology.edid) {
-            Ok(edid) => edid,
-            Err(_) => None,
+        let Ok(edid) = root_on_heap(alloc, &topology.edid) else {
+            return Err(AllocError);
         };
-        let last = Position {
-            net: Net::new(topology.tree, EdgeWire::new(), script.to_pulses()),
-            applied: 0,
-            is_first: true,
-        };
-        let inside = Box::new(alloc, last.copy())?;
-        let last = Box::new(alloc, last)?;
+        let edid = edid_on_heap(alloc, edid)?;
+        let inside = Position::start(alloc, topology.tree.copy(), &[])?;
+        let last = Position::start(alloc, topology.tree, &script.pulses)?;
         Ok(Walk {
             course: RunInput {
                 edid,

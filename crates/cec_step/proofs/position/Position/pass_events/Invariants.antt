@@ -7,7 +7,7 @@ use Rattle.cec_step.proofs.position.Position.pass_events.Given as goal
 abbrev pub invariant-events : goal.invariant-events
 invariant-events l = record {
   point : after_events l.course.end (point_of l.course.events.items l.self) ≡ after_events l.course.end (point_of l.course.events.items l.fn.self);
-  rest : l.self.net.rest ≡ l.fn.self.net.rest;
+  rest : l.self.net.value.rest ≡ l.fn.self.net.value.rest;
   ready : IsReady l.course.end (point_of l.course.events.items l.self);
 }
 

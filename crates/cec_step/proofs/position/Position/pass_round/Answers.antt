@@ -13,7 +13,7 @@ returns-clause-brings c =
     let p = after_events end (point_of es c.args.self.now) in
     let begins = round_begins end p.net (first_time p.events) c.in_ok-begin.begin c.in_ok-begin.ensures.comes in
     let rest = c.pass_events.ensures.rest in
-    let progress = c.round_at-outcome.ensures.progress in
+    let progress = rw c.deref_mut.ensures.value at c.round_at-outcome.ensures.progress in
     record { before = omega (arith, rest, progress.later, begins.1); later = omega (arith, rest, progress.later, progress.low) }
 
 pub returns-clause-ready : goal.returns-clause-ready
@@ -23,4 +23,5 @@ returns-clause-ready c =
     let p = after_events end (point_of es c.args.self.now) in
     let begins = round_begins end p.net (first_time p.events) c.in_ok-begin.begin c.in_ok-begin.ensures.comes in
     let round = c.round_at-outcome in
-    ready_round end c.in_ok-begin.begin (point_of es c.pass_events.new.self) round.result round.new.self c.pass_events.ensures.ready begins.1 round.ensures.step round.ensures.progress
+    ready_round end c.in_ok-begin.begin (point_of es c.pass_events.new.self) round.result round.new.self c.pass_events.ensures.ready begins.1
+    (rw c.deref_mut.ensures.value at round.ensures.step) (rw c.deref_mut.ensures.value at round.ensures.progress)

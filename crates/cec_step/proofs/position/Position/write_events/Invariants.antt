@@ -8,7 +8,7 @@ use Rattle.cec_step.proofs.position.Position.write_events.Given as goal
 -- the lines of the events so far are written
 abbrev pub invariant-events : goal.invariant-events
 invariant-events g l = record {
-  text : (text : List ℕ) × (passed_text l.course.edid l.course.end (point_of l.course.events.items l.fn.self) ≡ text ++ passed_text l.course.edid l.course.end (point_of l.course.events.items l.self))
+  text : (text : List ℕ) × (passed_text l.course.edid.value l.course.end (point_of l.course.events.items l.fn.self) ≡ text ++ passed_text l.course.edid.value l.course.end (point_of l.course.events.items l.self))
       × Appends (g.S.Sink.contents l.fn.out) (g.S.Sink.contents l.out) text × (l.written ≡ reported_count (length text));
   flag : g.S.Sink.is_stuck l.out ≡ g.S.Sink.is_stuck l.fn.out;
   ready : IsReady l.course.end (point_of l.course.events.items l.self);

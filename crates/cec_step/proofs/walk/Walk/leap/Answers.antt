@@ -1,4 +1,4 @@
-use Rattle.std.proofs.Common.{rules, ◌≡◌, ◌∙◌, suc, inr, sym, subst}
+use Rattle.std.proofs.Common.{rules, ◌≡◌, ◌∙◌, suc, inr, refl, sym, subst}
 use Rattle.cec_step.specs.Ready.{IsReady, point_of, run_of}
 use Rattle.cec_step.specs.Steps.{Run}
 use Rattle.cec_step.proofs.Taken.{brings_from, brings_then, step_from}
@@ -12,13 +12,12 @@ rounds-preserved c =
     let outcome = c.in-Some.report.outcome in
     let course = c.self.inside.course in
     let viewed : run_of course ≡ run = search rules in
-    let ahead = c.deref_mut-in-rounds in
-    let here = point_of run.events c.rounds.ahead.value in
+    let here = point_of run.events c.rounds.ahead in
     let next = point_of run.events c.pass_round.new.self in
-    let step = step_from course run ahead.result.now c.rounds.ahead.value c.pass_round.new.self outcome viewed ahead.ensures.value e.step in
-    let brings = brings_from course run ahead.result.now c.rounds.ahead.value c.pass_round.new.self viewed ahead.ensures.value e.brings in
+    let step = step_from course run c.rounds.ahead c.rounds.ahead c.pass_round.new.self outcome viewed refl e.step in
+    let brings = brings_from course run c.rounds.ahead c.rounds.ahead c.pass_round.new.self viewed refl e.brings in
     record {
       skips = (suc inv.skips.0, (here, outcome, inv.skips.1, step, sym c.stops.ensures ∙ c.if-stops.false));
       ready = subst (λ (r : Run). IsReady r.end (point_of r.events c.pass_round.new.self)) viewed e.ready;
-      goes = inr (brings_then run.end c.rounds.counter (point_of run.events c.args.here.now.value) here next inv.goes brings);
+      goes = inr (brings_then run.end c.rounds.counter (point_of run.events c.args.here.now) here next inv.goes brings);
     }

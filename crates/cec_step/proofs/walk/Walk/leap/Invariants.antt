@@ -6,7 +6,7 @@ use Rattle.cec_step.proofs.walk.Walk.leap.Given as goal
 -- none of the rounds so far is looked for, and each brought the rest on
 abbrev pub invariant-rounds : goal.invariant-rounds
 invariant-rounds l = record {
-  skips : (rounds : ℕ) × Skips l.self.run.end l.at rounds (point_of l.self.run.events l.fn.here.value) (point_of l.self.run.events l.ahead.value);
-  ready : IsReady l.self.run.end (point_of l.self.run.events l.ahead.value);
-  goes : ((l.counter ≡ 0) × (point_of l.self.run.events l.ahead.value ≡ point_of l.self.run.events l.fn.here.value)) ⊎ Brings l.self.run.end (point_of l.self.run.events l.fn.here.value) (point_of l.self.run.events l.ahead.value);
+  skips : (rounds : ℕ) × Skips l.self.run.end l.at rounds (point_of l.self.run.events l.fn.here) (point_of l.self.run.events l.ahead);
+  ready : IsReady l.self.run.end (point_of l.self.run.events l.ahead);
+  goes : ((l.counter ≡ 0) × (point_of l.self.run.events l.ahead ≡ point_of l.self.run.events l.fn.here)) ⊎ Brings l.self.run.end (point_of l.self.run.events l.fn.here) (point_of l.self.run.events l.ahead);
 }

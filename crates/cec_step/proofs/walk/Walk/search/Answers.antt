@@ -1,7 +1,8 @@
-use Rattle.std.proofs.Common.{rules, ◌≡◌, ◌∙◌, suc, box_value, ap, sym, subst}
+use Rattle.std.proofs.Common.{rules, ◌≡◌, ◌∙◌, suc, sym, subst}
 use Rattle.cec_step.specs.Ready.{IsReady, point_of, run_of}
 use Rattle.cec_step.specs.Steps.{Run, IsRoundStep}
 use Rattle.cec_step.specs.declared.position.Position.{Position}
+use Rattle.cec_step.proofs.Rounds.{alike_point}
 use Rattle.cec_step.proofs.Taken.{skips_then, step_from}
 use Rattle.cec_step.proofs.walk.Walk.search.Goals as goal
 
@@ -13,11 +14,11 @@ rounds-preserved c =
     let outcome = c.in-Some.report.outcome in
     let course = c.self.inside.course in
     let viewed : run_of course ≡ run = search rules in
-    let copied : c.deref_mut-in-rounds.result.now ≡ c.rounds.before.value = c.deref_mut-in-rounds.ensures.value ∙ c.copy_from.ensures ∙ c.deref.ensures in
-    let step = step_from course run c.deref_mut-in-rounds.result.now c.rounds.before.value c.pass_round.new.self outcome viewed copied e.step in
+    let copied = alike_point course.events.items c.copy_from.new.self c.rounds.before c.copy_from.ensures in
+    let step = step_from course run c.copy_from.new.self c.rounds.before c.pass_round.new.self outcome viewed copied e.step in
     let ready = subst (λ (r : Run). IsReady r.end (point_of r.events c.pass_round.new.self)) viewed e.ready in
-    let swapped : c.pass_round.new.self ≡ c.swap.new.x.value = sym (ap box_value c.swap.ensures.x_after) in
-    let here = point_of run.events c.rounds.before.value in
+    let swapped : c.pass_round.new.self ≡ c.swap.new.x = sym c.swap.ensures.x_after in
+    let here = point_of run.events c.rounds.before in
     record {
       skips = (suc inv.skips.0, (here, outcome, inv.skips.1, subst (λ (p : Position). IsRoundStep run.end here outcome (point_of run.events p)) swapped step, sym c.stops.ensures ∙ c.if-stops.false));
       ready = subst (λ (p : Position). IsReady run.end (point_of run.events p)) swapped ready;
@@ -29,7 +30,7 @@ leaps-preserved c =
     let inv = c.leaps.invariant in
     let e = c.leap.ensures in
     record {
-      skips = skips_then run.end c.args.at inv.skips.0 e.skips.0 c.args.self.now.last (point_of run.events c.leaps.before.value) (point_of run.events c.leap.new.here.value) inv.skips.1 e.skips.1;
+      skips = skips_then run.end c.args.at inv.skips.0 e.skips.0 c.args.self.now.last (point_of run.events c.leaps.before) (point_of run.events c.leap.new.here) inv.skips.1 e.skips.1;
       ready = e.ready;
     }
 
@@ -39,6 +40,6 @@ rounds-init c =
     let inv = c.leaps.invariant in
     let e = c.leap.ensures in
     record {
-      skips = skips_then run.end c.args.at inv.skips.0 e.skips.0 c.args.self.now.last (point_of run.events c.leaps.before.value) (point_of run.events c.leap.new.here.value) inv.skips.1 e.skips.1;
+      skips = skips_then run.end c.args.at inv.skips.0 e.skips.0 c.args.self.now.last (point_of run.events c.leaps.before) (point_of run.events c.leap.new.here) inv.skips.1 e.skips.1;
       ready = e.ready;
     }

@@ -1,7 +1,7 @@
 use Rattle.std.proofs.Common.{◌≡◌, ◌∙◌, length, ap}
 use Rattle.cec_step.specs.Ready.{point_of}
 use Rattle.cec_step.specs.Steps.{device_count}
-use Rattle.cec_step.specs.declared.position.Position.{Position}
+use Rattle.cec_net.specs.State.{NetState}
 use Rattle.cec_step.proofs.Due.{inside_count}
 use Rattle.cec_step.proofs.walk.Walk.shown.Goals as goal
 
@@ -9,6 +9,6 @@ pub returns-then-self-clause-count : goal.returns-then-self-clause-count
 returns-then-self-clause-count c =
     let here = c.self.inside in
     let es = here.course.events.items in
-    let same : length here.inside.value.net.tree ≡ length here.last.value.net.tree =
-    inside_count here.course.end here.is_begun (point_of es here.last.value) (point_of es here.inside.value) c.if-self.true c.self.invariant.2 in
-    ap (λ (p : Position). length p.net.tree) c.deref.ensures ∙ same ∙ ap device_count c.self.view_is
+    let same : length here.inside.net.value.tree ≡ length here.last.net.value.tree =
+    inside_count here.course.end here.is_begun (point_of es here.last) (point_of es here.inside) c.if-self.true c.self.invariant.2 in
+    ap (λ (n : NetState). length n.tree) c.deref.ensures ∙ same ∙ ap device_count c.self.view_is
