@@ -53,15 +53,13 @@ fn smooth_text(rt: &(impl Abort + AllocGlobal), capture: &Capture, number: &str)
     capture_text(rt, &left)
 }
 
-/// A fault, and after it the word at fault, where the form has one.
+/// A fault, and after it the word at fault.
 fn fault_text(rt: &(impl Abort + AllocGlobal), error: &CaptureError) -> String {
-    let word = match error {
-        CaptureError::Fault(fault) => fault.word,
-        CaptureError::Memory => None,
-    };
-    match word {
-        Some(word) => format!(in rt.alloc(); "{error} {word}").expect(rt, "a fault"),
-        None => format!(in rt.alloc(); "{error}").expect(rt, "a fault"),
+    match error {
+        CaptureError::Fault(fault) => {
+            format!(in rt.alloc(); "{error} {}", fault.word).expect(rt, "a fault")
+        }
+        CaptureError::Memory => format!(in rt.alloc(); "{error}").expect(rt, "a fault"),
     }
 }
 

@@ -3,7 +3,7 @@
 /// `FORM:SIGNAL TEXT => EDGES`. In a text `|` ends a line, `^` is a tab, `~` a carriage return, `HEAD` the definitions of a wire
 /// CEC, `PINS` the comments of a pin file that starts at 100 s. `12000f` is a fall, `15700r` a rise. `auto` goes by the first
 /// line, `smooth:N` leaves out what is shorter than N of an edge file, `lost` has the lines before which events were lost, and
-/// `idle` the readings of an edge file from idle on. A fault of an edge file has the number of its word at fault after it, from 0.
+/// `idle` the readings of an edge file from idle on. A fault has the number of its word at fault after it, from 0.
 pub(crate) const ROWS: &str = "\
 # A wire that falls and rises; x and z are high, in either case; a start at low.
 vcd: HEAD|#0|1!|#12000|0!|#15700|1!|#20000 => 12000f 15700r end 20000
@@ -15,8 +15,8 @@ vcd: HEAD|#0|$dumpall|1!|$end|#5|$dumpon|0!|$end|#6|$comment 1! $end|#9 => 5f en
 # Other wires, vectors and real numbers are passed over; a vector of one bit is a value. The wire goes by its name.
 vcd: $timescale 1us $end|$var wire 8 # BUS [7:0] $end|$var wire 1 ! CEC $end|$var wire 1 % SCL $end|$enddefinitions $end|#0|b10101010 #|0%|#7|b0 !|r1.5 $|#8|b1 !|#9 => 7f 8r end 9
 vcd:SCL $timescale 1us $end|$var wire 8 # BUS [7:0] $end|$var wire 1 ! CEC $end|$var wire 1 % SCL $end|$enddefinitions $end|#0|b10101010 #|0%|#7|b0 !|r1.5 $|#8|b1 !|#9 => 0f end 9
-vcd:SDA HEAD => line 3: signal
-vcd: $timescale 1 us $end|$var wire 2 ! CEC $end|$enddefinitions $end => line 3: signal
+vcd:SDA HEAD => line 3: signal 0
+vcd: $timescale 1 us $end|$var wire 2 ! CEC $end|$enddefinitions $end => line 3: signal 0
 # Units from seconds to femtoseconds: a tick is rounded up to whole microseconds.
 vcd: $timescale 1 s $end|$var wire 1 ! CEC $end|$enddefinitions $end|#1|0!|#2|1!|#3 => 1000000f 2000000r end 3000000
 vcd: $timescale 1 ms $end|$var wire 1 ! CEC $end|$enddefinitions $end|#12|0!|#15|1!|#20 => 12000f 15000r end 20000
@@ -32,19 +32,23 @@ vcd: HEAD|#5|0!|1!|#6|0!|0!|#9|1!|#9|0!|#12 => 6f end 12
 vcd: HEAD|#0|$dumpvars|1!|$end|#10|0!|#20|$dumpoff|x!|$end|#30|$dumpon|0!|$end|#40|1!|#50 => 10f 20r 30f 40r end 50
 vcd: HEAD|#0|$comment 0! $end|#5|0!|#6 => 5f end 6
 vcd: HEAD|#5|0 !|#6|1 !|#7 => 5f 6r end 7
-# Causes, with their lines.
-vcd: HEAD|#0|q! => line 5: word
-vcd: $timescale 1 us $end|$var wire 1 $end => line 2: word
-vcd: $timescale 2 us $end => line 1: scale
-vcd: $timescale 1 min $end => line 1: scale
-vcd: $var wire 1 ! CEC $end|$enddefinitions $end => line 2: scale
-vcd: $timescale 1 us $end|$var wire 1 ! CEC $end => line 3: end
-vcd: HEAD|#01 => line 4: time
-vcd: HEAD|#-1 => line 4: time
-vcd: HEAD|#18446744073709551615 => line 4: time
-vcd: HEAD|#2000000000001 => line 4: time
+# Causes, with their lines and words; between two spaces stands an empty word.
+vcd: HEAD|#0|q! => line 5: word 0
+vcd: $timescale 1 us $end|$var wire 1 $end => line 2: word 3
+vcd: $timescale 2 us $end => line 1: scale 1
+vcd: $timescale 1 min $end => line 1: scale 2
+vcd: $var wire 1 ! CEC $end|$enddefinitions $end => line 2: scale 0
+vcd: $timescale 1 us $end|$var wire 1 ! CEC $end => line 3: end 0
+vcd: HEAD|#01 => line 4: time 0
+vcd: HEAD|#-1 => line 4: time 0
+vcd: HEAD|#18446744073709551615 => line 4: time 0
+vcd: HEAD|#2000000000001 => line 4: time 0
 vcd: HEAD|#2000000000000 => end 2000000000000
-vcd: HEAD|#5|#4 => line 5: order
+vcd: HEAD|#5|#4 => line 5: order 0
+vcd: HEAD|#0 1!  #5 q! => line 4: word 4
+vcd: HEAD|#0^1!^#5~^#4 => line 4: order 4
+vcd: HEAD|#1 1!|0! #2 $dumpall 1! $end #x => line 5: time 5
+vcd:  $timescale 1us $end $var wire 1 ! => line 2: end 0
 # As sigrok-cli 0.7.2 writes a dump (libsigrok 0.5.2): times and values on one line.
 auto: META samplerate: 1000000|$date Wed Nov 25 11:16:34 2026 $end|$version libsigrok 0.5.2 $end|$comment|  Acquisition with 1/1 channels at 1 MHz|$end|$timescale 1 us $end|$scope module libsigrok $end|$var wire 1 ! CEC $end|$upscope $end|$enddefinitions $end|#0 1!|#12000 0!|#15700 1!|#16500 0!|#17100 1!|#30000 => 12000f 15700r 16500f 17100r end 30000
 # As GTKWave 3.3.118 writes it (vcd2fst, fst2vcd): tabs, and the scale in three lines.
@@ -55,16 +59,21 @@ auto: PINS|100.000000000 1|100.012000000 0|100.015700000 1|100.030000000 1 => 12
 pin: PINS|100.000000500 2|100.012000001 65536|100.015700000 65537|100.016000000 4|100.017000000 3 => 12001f 15700r end 17000
 pin: PINS|99.500000000 0|100.001000000 1 => 0f 1000r end 1000
 pin: PINS|100.000000000 5|100.012000000 0|100.013000000 65538|100.014000000 65539|100.015000000 65540|100.016000000 65541|100.017000000 2|100.018000000 3 => 12000f end 18000
-pin: PINS|100.000000000 65542 => line 7: word
-pin: PINS|100.000000000 65535 => line 7: word
+pin: PINS|100.000000000 65542 => line 7: word 1
+pin: PINS|100.000000000 65535 => line 7: word 1
 # Without a start times are counted from 0: a file of a machine that has run for more than 23 days is late.
 auto: # cec-ctl --store-pin|# version 1|81234.012000000 0|81234.015700000 1 => 81234012000f 81234015700r end 81234015700
 pin: # cec-ctl --store-pin|# version 1|2000000.000000000 1 => end 2000000000000
-pin: # cec-ctl --store-pin|# version 1|2000000.000000001 1 => line 3: late
-pin: PINS|100.5 0 => line 7: word
-pin: PINS|100.000000000 6 => line 7: word
-pin: PINS|2000101.000000000 1 => line 7: late
-pin: PINS|100.000002000 0|100.000001000 1 => line 8: order
+pin: # cec-ctl --store-pin|# version 1|2000000.000000001 1 => line 3: late 0
+pin: PINS|100.5 0 => line 7: word 0
+pin: PINS|100.000000000 6 => line 7: word 1
+pin: PINS|100.000000000 => line 7: word 1
+pin: PINS|100.0000000000 1 => line 7: word 0
+pin: PINS|100.5 6 => line 7: word 0
+pin: PINS|100.000000000 1 => end 0
+pin: PINS|100.000000000 1 1 => line 7: word 1
+pin: PINS|2000101.000000000 1 => line 7: late 0
+pin: PINS|100.000002000 0|100.000001000 1 => line 8: order 0
 # As Saleae's Logic 2 exports channels: the end is 10,000 after the last row, or that row, where the level is told again.
 auto: Time [s],Channel 0|0.000000000,1|0.012000000,0|0.015700000,1 => 12000f 15700r end 25700
 csv:CEC Time [s],SCL,CEC|-0.5,1,1|-0.499,0,0|0.000,1,1 => 1000f 500000r end 510000
@@ -73,15 +82,20 @@ csv: Time[s], Channel 0~|0.0, 1~|0.001, 0~|0.0025, 1~ => 1000f 2500r end 12500
 csv: Time,CEC|5,0|6,1 => 0f 1000000r end 1010000
 csv: Time,CEC|0,1|0.0000001,0|0.0000011,1 => 1f 2r end 10002
 csv: Time,CEC|0,1|2000000,0 => 2000000000000f end 2000000000000
-csv:SDA Time [s],CEC|0,1 => line 1: signal
-csv: Time [s] => line 1: signal
-csv: Time,A|0,\"1\" => line 2: word
-csv: Time,A|0, => line 2: word
-csv: Time,A|0,2 => line 2: word
-csv: Time,A|0.1234567890,1 => line 2: word
-csv: Time,A|1e-3,1 => line 2: word
-csv: Time,A|1,1|0.9,0 => line 3: order
-csv: Time,A|0,1|2000000.000001,0 => line 3: late
+csv:SDA Time [s],CEC|0,1 => line 1: signal 1
+csv: Time [s] => line 1: signal 1
+csv:  => line 1: signal 1
+csv: Time,A|0,\"1\" => line 2: word 1
+csv: Time,A|0, => line 2: word 1
+csv: Time,A|0,2 => line 2: word 1
+csv: Time,A|0.1234567890,1 => line 2: word 0
+csv: Time,A|1e-3,1 => line 2: word 0
+csv: Time,A|1e-3,2 => line 2: word 0
+csv: Time,A||0,1 => line 2: word 0
+csv:B Time,A,B|0,1,1|0.1,0,x => line 3: word 2
+csv:B Time,A,B|0,2,1|0.1,0 => line 3: word 2
+csv: Time,A|1,1|0.9,0 => line 3: order 0
+csv: Time,A|0,1|2000000.000001,0 => line 3: late 0
 # Edge files.
 auto: # a comment|12000 0|15700 1|20000 end => 12000f 15700r end 20000
 # A remark with a comma is no line of names.

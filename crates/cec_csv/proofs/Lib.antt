@@ -1,4 +1,3 @@
-pub mod Passing
 pub mod Sampled
 pub mod ReadBack
 pub mod Columns

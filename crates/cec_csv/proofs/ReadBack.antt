@@ -25,11 +25,13 @@ use Rattle.cec_signal.proofs.Moving.{due, track_at}
 use Rattle.cec_signal.proofs.Numbers.{number_again}
 use Rattle.cec_signal.proofs.Texts as texts
 use Rattle.cec_signal.proofs.Texts.{line_before}
-use Rattle.cec_csv.specs.Csv.{dot_in, edges_in, fields_of, instant_of, level_by, lines_read, moved_by, moved_to, nanos_by, nanos_of, named_read, passed_by, read_on, row_by, row_in, row_of, signed_by, since, since_by, time_of, took, took_by, with_edges, without_return}
+use Rattle.cec_signal.specs.Reading.{at_word, lines_read, with_edges}
+use Rattle.cec_signal.specs.declared.fault.CaptureFault.{CaptureFault}
+use Rattle.cec_signal.proofs.Passing.{alone, whole}
+use Rattle.cec_csv.specs.Csv.{csv_form, dot_in, edges_in, fields_of, instant_of, level_by, moved_by, moved_to, nanos_by, nanos_of, named_read, row_by, row_in, row_of, signed_by, since, since_by, time_of, took, took_by, with_row, without_return, word_at_fault}
 use Rattle.cec_csv.specs.Text.{changes, head, row_line, row_text, stretch_text, CsvFilesAreReadBack}
 use Rattle.cec_csv.specs.declared.row.Time.{Time}
 use Rattle.cec_csv.specs.declared.reader.Reader.{Reader}
-use Rattle.cec_csv.specs.declared.reading.CsvFault.{CsvFault}
 
 -- ---- bytes
 
@@ -134,13 +136,13 @@ fall = record { reported = refl; alone = refl; plain = refl; last = refl }
 rise : IsLevel 49 false
 rise = record { reported = refl; alone = refl; plain = refl; last = refl }
 
-row_ok : (t level : ℕ) (low : Bool) → t ≤ 2000000000000 → IsLevel level low → row_of 0 (row_line t level) ≡ Some (record { time = time_at t; low = low })
+row_ok : (t level : ℕ) (low : Bool) → t ≤ 2000000000000 → IsLevel level low → row_of 1 (row_line t level) ≡ Some (record { time = time_at t; low = low })
 row_ok t level low early is =
     let whole : without_return (row_line t level) ≡ seconds t ++ 44 ∷ level ∷ [] =
     ap without_return (row_last t level) ∙ no_return (seconds t ++ 44 ∷ []) level is.last ∙ sym (row_last t level) ∙ row_parts t level in
     let cut : fields_of (seconds t ++ 44 ∷ level ∷ []) ≡ seconds t ∷ (level ∷ []) ∷ [] =
     slice_split_at (λ b. b == 44) (seconds t) 44 (level ∷ []) (seconds_lack 44 t (omega arith) early) refl ∙ ap (λ fs. seconds t ∷ fs) is.alone in
-    ap (λ l. row_in 0 (fields_of l)) whole ∙ ap (row_in 0) cut ∙ ap (λ o. row_by o (level_by (Some (level ∷ [])))) (time_ok t early) ∙ ap (row_by (Some (time_at t))) is.reported
+    ap (λ l. row_in 1 (fields_of l)) whole ∙ ap (row_in 1) cut ∙ ap (λ o. row_by o (level_by (Some (level ∷ [])))) (time_ok t early) ∙ ap (row_by (Some (time_at t))) is.reported
 
 row_plain : (t level : ℕ) (low : Bool) → t ≤ 2000000000000 → IsLevel level low → Lacks 10 (row_line t level)
 row_plain t level low early is =
@@ -153,7 +155,7 @@ abbrev from_zero : Time
 from_zero = record { is_below = false; nanos = 0 }
 
 abbrev stood : Bool → ℕ → Bool → Bool → Reader
-stood is_again at was_low is_low = record { column = 0; first = Some from_zero; is_again = is_again; is_low = is_low; track = track_at at was_low is_low }
+stood is_again at was_low is_low = record { column = 1; first = Some from_zero; is_again = is_again; is_low = is_low; track = track_at at was_low is_low }
 
 since_ok : (t : ℕ) → since from_zero (time_at t) ≡ Some (nanos t)
 since_ok t = let l : nat_le 0 (nanos t) ≡ true = grind (arith, nat_tests) in rw l (ap Some (let x : nanos t - 0 ≡ nanos t = omega arith in x))
@@ -174,33 +176,34 @@ row_taken t level low again at was is early l =
 
 -- a row's line, before what follows
 reported_line : (number t level : ℕ) (low : Bool) (more : List ℕ) (again : Bool) (at : ℕ) (was is : Bool) (u : Reader) (edge : Option Edge) → t ≤ 2000000000000 → IsLevel level low
-    → moved_to from_zero (Some t) low (stood again at was is) ≡ Ok (record { reader = u; edge = edge })
-    → lines_read number (lines_of (row_line t level ++ 10 ∷ more)) (stood again at was is) ≡ with_edges (option_to_list edge) (lines_read (number + 1) (lines_of more) u)
+    → moved_to from_zero (Some t) low (stood again at was is) ≡ Ok (record { state = u; edge = edge })
+    → lines_read csv_form number (lines_of (row_line t level ++ 10 ∷ more)) (stood again at was is) ≡ with_edges (option_to_list edge) (lines_read csv_form (number + 1) (lines_of more) u)
 reported_line number t level low more again at was is u edge early l move =
-    ap (λ lines. lines_read number lines (stood again at was is)) (line_before (row_line t level) more (row_plain t level low early l))
-    ∙ ap (λ stepped. read_on (passed_by number stepped) (lines_read (number + 1) (lines_of more))) (row_taken t level low again at was is early l ∙ move)
+    ap (λ lines. lines_read csv_form number lines (stood again at was is)) (line_before (row_line t level) more (row_plain t level low early l))
+    ∙ alone csv_form number (row_line t level) (lines_of more) (stood again at was is) (record { state = u; edge = edge }) (whole (row_line t level))
+    (ap (at_word (word_at_fault 1 (row_line t level))) (row_taken t level low again at was is early l ∙ move))
 
 -- ---- changes
 
 abbrev again_by : Bool → Bool → Bool
 again_by low is_low = not (differ low is_low)
 
-move_kept : (t at : ℕ) (again b low : Bool) → at ≤ t → moved_to from_zero (Some t) low (stood again at b b) ≡ Ok (record { reader = stood (again_by low b) t b low; edge = None })
+move_kept : (t at : ℕ) (again b low : Bool) → at ≤ t → moved_to from_zero (Some t) low (stood again at b b) ≡ Ok (record { state = stood (again_by low b) t b low; edge = None })
 move_kept t at again b low after = ap (λ m. moved_by from_zero m low (stood again at b b)) (moving.move_kept t at b after)
 
 move_reported : (t at : ℕ) (again b low : Bool) → at < t
-    → moved_to from_zero (Some t) low (stood again at (not b) b) ≡ Ok (record { reader = stood (again_by low b) t b low; edge = Some (record { at = at; low = b }) })
+    → moved_to from_zero (Some t) low (stood again at (not b) b) ≡ Ok (record { state = stood (again_by low b) t b low; edge = Some (record { at = at; low = b }) })
 move_reported t at again b low after = ap (λ m. moved_by from_zero m low (stood again at (not b) b)) (moving.move_reported t at b after)
 
-move_same : (t : ℕ) (again was is low : Bool) → moved_to from_zero (Some t) low (stood again t was is) ≡ Ok (record { reader = stood (again_by low is) t was low; edge = None })
+move_same : (t : ℕ) (again was is low : Bool) → moved_to from_zero (Some t) low (stood again t was is) ≡ Ok (record { state = stood (again_by low is) t was low; edge = None })
 move_same t again was is low = ap (λ m. moved_by from_zero m low (stood again t was is)) (moving.move_same t was is)
 
-abbrev with_end : List Edge → ℕ → Result Captured CsvFault
+abbrev with_end : List Edge → ℕ → Result Captured CaptureFault
 with_end edges end = Ok (record { edges = edges; end = end })
 
 -- what the rest of a file is read as, where a rise may be due
 abbrev Reads : List ℕ → ℕ → Bool → List Edge → ℕ → Type 0
-Reads text at b edges end = (number : ℕ) (again : Bool) → lines_read number (lines_of text) (stood again at b false) ≡ with_end (option_to_list (due at b) ++ edges) end
+Reads text at b edges end = (number : ℕ) (again : Bool) → lines_read csv_form number (lines_of text) (stood again at b false) ≡ with_end (option_to_list (due at b) ++ edges) end
 
 cut_line : (t level : ℕ) (more : List ℕ) → row_text t level ++ more ≡ row_line t level ++ 10 ∷ more
 cut_line t level more =
@@ -208,8 +211,8 @@ cut_line t level more =
     ∙ sym (append_assoc (decimal (t / 1000000)) (46 ∷ (nine_digits (t % 1000000) ++ 44 ∷ level ∷ [])) (10 ∷ more))
 
 fall_reads : (t at : ℕ) (b : Bool) (more : List ℕ) (edges : List Edge) (end : ℕ) → cond b (at + 1) at ≤ t → t ≤ 2000000000000
-    → ((number : ℕ) (again : Bool) → lines_read number (lines_of more) (stood again t false true) ≡ with_end edges end)
-    → (number : ℕ) (again : Bool) → lines_read number (lines_of (row_line t 48 ++ 10 ∷ more)) (stood again at b false) ≡ with_end (option_to_list (due at b) ++ edges) end
+    → ((number : ℕ) (again : Bool) → lines_read csv_form number (lines_of more) (stood again t false true) ≡ with_end edges end)
+    → (number : ℕ) (again : Bool) → lines_read csv_form number (lines_of (row_line t 48 ++ 10 ∷ more)) (stood again at b false) ≡ with_end (option_to_list (due at b) ++ edges) end
 fall_reads t at true more edges end after low rest number again =
     reported_line number t 48 true more again at true false (stood (again_by true false) t false true) (Some (record { at = at; low = false })) low fall (move_reported t at again false true (omega (arith, after)))
     ∙ ap (with_edges (record { at = at; low = false } ∷ [])) (rest (number + 1) (again_by true false))
@@ -225,7 +228,7 @@ stretch_reads : (s : Stretch) (at : ℕ) (b : Bool) (more : List ℕ) (edges : L
 stretch_reads s at b more edges end after wide low rest number again =
     let parts : stretch_text s ++ more ≡ row_line s.from 48 ++ 10 ∷ (row_line s.to 49 ++ 10 ∷ more) =
     ap (λ l. l ++ more) (stretch_parts s) ∙ append_assoc (row_text s.from 48) (row_text s.to 49) more ∙ ap (λ l. row_text s.from 48 ++ l) (cut_line s.to 49 more) ∙ cut_line s.from 48 (row_line s.to 49 ++ 10 ∷ more) in
-    ap (λ text. lines_read number (lines_of text) (stood again at b false)) parts
+    ap (λ text. lines_read csv_form number (lines_of text) (stood again at b false)) parts
     ∙ fall_reads s.from at b (row_line s.to 49 ++ 10 ∷ more) (record { at = s.from; low = true } ∷ record { at = s.to; low = false } ∷ edges) end after (omega arith)
     (λ n a.
     reported_line n s.to 49 false more a s.from false true (stood (again_by false true) s.to true false) (Some (record { at = s.from; low = true })) low rise (move_reported s.to s.from a true false wide)
@@ -235,19 +238,19 @@ stretch_reads s at b more edges end after wide low rest number again =
 -- the level is reported again at the end
 end_reads : (end at : ℕ) (b : Bool) → at ≤ end → end ≤ 2000000000000 → Reads (row_text end 49) at b [] end
 end_reads end at false after low number again =
-    ap (λ text. lines_read number (lines_of text) (stood again at false false)) (sym (append-nil (row_text end 49)) ∙ cut_line end 49 [])
+    ap (λ text. lines_read csv_form number (lines_of text) (stood again at false false)) (sym (append-nil (row_text end 49)) ∙ cut_line end 49 [])
     ∙ reported_line number end 49 false [] again at false false (stood true end false false) None low rise (move_kept end at again false false after)
 end_reads end at true after low number again = by (nat_lt at end) refl
   where
-    by : (t : Bool) → nat_lt at end ≡ t → lines_read number (lines_of (row_text end 49)) (stood again at true false) ≡ with_end (record { at = at; low = false } ∷ []) end
+    by : (t : Bool) → nat_lt at end ≡ t → lines_read csv_form number (lines_of (row_text end 49)) (stood again at true false) ≡ with_end (record { at = at; low = false } ∷ []) end
     by true h =
         let earlier : at < end = grind (arith, nat_tests) in
-        ap (λ text. lines_read number (lines_of text) (stood again at true false)) (sym (append-nil (row_text end 49)) ∙ cut_line end 49 [])
+        ap (λ text. lines_read csv_form number (lines_of text) (stood again at true false)) (sym (append-nil (row_text end 49)) ∙ cut_line end 49 [])
         ∙ reported_line number end 49 false [] again at true false (stood true end false false) (Some (record { at = at; low = false })) low rise (move_reported end at again false false earlier)
     by false h =
         let same : at ≡ end = grind (arith, nat_tests) in
-        ap (λ text. lines_read number (lines_of text) (stood again at true false)) (sym (append-nil (row_text end 49)) ∙ cut_line end 49 [])
-        ∙ ap (λ k. lines_read number (lines_of (row_line end 49 ++ 10 ∷ [])) (stood again k true false)) same
+        ap (λ text. lines_read csv_form number (lines_of text) (stood again at true false)) (sym (append-nil (row_text end 49)) ∙ cut_line end 49 [])
+        ∙ ap (λ k. lines_read csv_form number (lines_of (row_line end 49 ++ 10 ∷ [])) (stood again k true false)) same
         ∙ reported_line number end 49 false [] again end true false (stood true end true false) None low rise (move_same end again true false false)
         ∙ ap (λ k. with_end (record { at = k; low = false } ∷ []) end) (sym same)
 
@@ -260,20 +263,20 @@ changes_read : (ss : List Stretch) (at : ℕ) (b : Bool) (end : ℕ) → IsWaveF
 changes_read [] at b end wave by after low = end_reads end at b after low
 changes_read (s ∷ ss) at b end wave by after low = λ number again.
     let ends = by.0 in
-    ap (λ text. lines_read number (lines_of text) (stood again at b false)) (append_assoc (stretch_text s) (changes ss) (row_text end 49))
+    ap (λ text. lines_read csv_form number (lines_of text) (stood again at b false)) (append_assoc (stretch_text s) (changes ss) (row_text end 49))
     ∙ stretch_reads s at b (changes ss ++ row_text end 49) (edges_of ss) end wave.0 wave.1 (omega (arith, ends)) (changes_read ss s.to true end wave.2 by.1 ends low) number again
 
 -- ---- the head
 
-head_read : (more : List ℕ) → edges_in [] (head ++ more) ≡ lines_read 3 (lines_of more) (stood true 0 false false)
+head_read : (more : List ℕ) → edges_in [] (head ++ more) ≡ lines_read csv_form 3 (lines_of more) (stood true 0 false false)
 head_read more =
     let rest = codes "0.000000000,1" ++ 10 ∷ more in
     ap (named_read []) (line_before (codes "Time [s],CEC") rest (shown 10 (codes "Time [s],CEC") refl))
-    ∙ ap (λ lines. lines_read 2 lines (record { column = 0; first = None; is_again = true; is_low = false; track = track_at 0 false false }))
+    ∙ ap (λ lines. lines_read csv_form 2 lines (record { column = 1; first = None; is_again = true; is_low = false; track = track_at 0 false false }))
     (line_before (codes "0.000000000,1") more (shown 10 (codes "0.000000000,1") refl))
-    ∙ same (lines_read 3 (lines_of more) (stood true 0 false false))
+    ∙ same (lines_read csv_form 3 (lines_of more) (stood true 0 false false))
   where
-    same : (r : Result Captured CsvFault) → with_edges [] r ≡ r
+    same : (r : Result Captured CaptureFault) → with_edges [] r ≡ r
     same (Ok e) = refl
     same (Err f) = refl
 

@@ -9,12 +9,13 @@ use Rattle.cec_signal.specs.Samples.{Sample, level_in}
 use Rattle.cec_signal.specs.Track.{Moved, differ, last_edge, track_move}
 use Rattle.cec_signal.specs.declared.track.Track.{Track}
 use Rattle.cec_signal.proofs.Recording.{Records, moved_at, records_capture, records_end, records_level, records_line, records_moved}
-use Rattle.cec_csv.specs.Csv.{Step, Stepped, first_reader, column_of, column_read, edges_in, end_of, ends_after, with_row, lines_read, moved_by, moved_to, named_read, or_first, passed_by, read_on, row_of, since, since_by, took_by, with_edges}
+use Rattle.cec_signal.specs.Reading.{Step, lines_read}
+use Rattle.cec_signal.proofs.Passing.{Onward, onward, whole, without_word}
+use Rattle.cec_csv.specs.Csv.{Stepped, csv_form, first_reader, column_of, column_read, edges_in, end_of, ends_after, with_row, moved_by, moved_to, named_read, or_first, row_of, since, since_by, took, took_by, word_at_fault}
 use Rattle.cec_csv.specs.Sampling.{CsvFilesAreSampled, Level, end_by, level_of, level_reported, levels_of, rows_by, rows_in, rows_of}
 use Rattle.cec_csv.specs.declared.row.Row.{Row}
 use Rattle.cec_csv.specs.declared.row.Time.{Time}
 use Rattle.cec_csv.specs.declared.reader.Reader.{Reader}
-use Rattle.cec_csv.specs.declared.reading.CsvFault.{CsvFault}
 
 -- ---- nanoseconds and microseconds
 
@@ -60,18 +61,18 @@ in_limit false at h = omega arith
 -- ---- a row
 
 -- it is led on, by a level
-record Goes (old : Reader) (step : Step) (first : Time) (l : Level) : Type 0 where
-  first_is : step.reader.first ≡ Some first
-  column : step.reader.column ≡ old.column
-  is_low : step.reader.is_low ≡ l.low
-  is_again : step.reader.is_again ≡ not (differ l.low old.is_low)
-  at : step.reader.track.at ≡ rounded l.since
-  early : step.reader.track.at ≤ 2000000000000
-  more : (edges : List Edge) (samples : List Sample) (end : ℕ) → Records step.reader.track edges samples end
+record Goes (old : Reader) (step : Step Reader) (first : Time) (l : Level) : Type 0 where
+  first_is : step.state.first ≡ Some first
+  column : step.state.column ≡ old.column
+  is_low : step.state.is_low ≡ l.low
+  is_again : step.state.is_again ≡ not (differ l.low old.is_low)
+  at : step.state.track.at ≡ rounded l.since
+  early : step.state.track.at ≤ 2000000000000
+  more : (edges : List Edge) (samples : List Sample) (end : ℕ) → Records step.state.track edges samples end
       → Records old.track (option_to_list step.edge ++ edges) (record { at = rounded l.since; low = l.low } ∷ samples) end
 
 -- a row led on has a level
-record GoesOn (old : Reader) (step : Step) (row : Row) : Type 0 where
+record GoesOn (old : Reader) (step : Step Reader) (row : Row) : Type 0 where
   nanos : ℕ
   reported : since (or_first old.first row.time) row.time ≡ Some nanos
   goes : Goes old step (or_first old.first row.time) (record { since = nanos; low = row.low })
@@ -121,7 +122,7 @@ record Ran (r : Reader) (e : Captured) (time : ℕ) (rows : List Row) : Type 0 w
   end : e.end ≡ end_by time r.is_low r.is_again (levels_of r.first rows)
   early : e.end ≤ 2000000000000
 
-run_more : (r : Reader) (step : Step) (e f : Captured) (time : ℕ) (row : Row) (rows : List Row) → (g : GoesOn r step row) → Ran step.reader f g.nanos rows
+run_more : (r : Reader) (step : Step Reader) (e f : Captured) (time : ℕ) (row : Row) (rows : List Row) → (g : GoesOn r step row) → Ran step.state f g.nanos rows
     → e ≡ record { edges = option_to_list step.edge ++ f.edges; end = f.end } → Ran r e time (row ∷ rows)
 run_more r step e f time row rows g ran is =
     let first = or_first r.first row.time in
@@ -130,15 +131,15 @@ run_more r step e f time row rows g ran is =
     subst (λ (e : Captured). Ran r e time (row ∷ rows)) (sym is) (record {
       records = subst (λ (ls : List Level). Records r.track (option_to_list step.edge ++ f.edges) (samples_of ls) f.end) (sym levels)
           (g.goes.more f.edges (samples_of (levels_of (Some first) rows)) f.end
-          (subst (λ o. Records step.reader.track f.edges (samples_of (levels_of o rows)) f.end) g.goes.first_is ran.records));
-      end = ran.end ∙ ap (λ o. end_by g.nanos step.reader.is_low step.reader.is_again (levels_of o rows)) g.goes.first_is
-          ∙ ap (λ b. end_by g.nanos b step.reader.is_again (levels_of (Some first) rows)) g.goes.is_low
+          (subst (λ o. Records step.state.track f.edges (samples_of (levels_of o rows)) f.end) g.goes.first_is ran.records));
+      end = ran.end ∙ ap (λ o. end_by g.nanos step.state.is_low step.state.is_again (levels_of o rows)) g.goes.first_is
+          ∙ ap (λ b. end_by g.nanos b step.state.is_again (levels_of (Some first) rows)) g.goes.is_low
           ∙ ap (λ b. end_by g.nanos row.low b (levels_of (Some first) rows)) g.goes.is_again
           ∙ sym (ap (end_by time r.is_low r.is_again) levels);
       early = ran.early;
     })
 
-lines_ran : (number : ℕ) (lines : List (List ℕ)) (r : Reader) (e : Captured) (time : ℕ) → r.track.at ≡ rounded time → r.track.at ≤ 2000000000000 → lines_read number lines r ≡ Ok e
+lines_ran : (number : ℕ) (lines : List (List ℕ)) (r : Reader) (e : Captured) (time : ℕ) → r.track.at ≡ rounded time → r.track.at ≤ 2000000000000 → lines_read csv_form number lines r ≡ Ok e
     → Ran r e time (rows_in r.column lines)
 lines_ran number [] r e time at early h =
     let is : record { edges = option_to_list (last_edge r.track); end = end_of r } ≡ e = cc in
@@ -148,28 +149,22 @@ lines_ran number [] r e time at early h =
       early = in_limit r.is_again r.track.at early;
     })
 lines_ran number (line ∷ lines) r e time at early h =
-    by (row_of r.column line) h (λ s f t a l k. lines_ran (number + 1) lines s f t a l k)
+    let o = onward csv_form number line lines r e (whole line) h in
+    by (row_of r.column line) o (without_word (word_at_fault r.column line) (took line r) o.step o.took)
+    (λ s f t a l k. lines_ran (number + 1) lines s f t a l k)
   where
-    next : (row : Row) (step : Step) → GoesOn r step row → (o : Result Captured CsvFault) → lines_read (number + 1) lines step.reader ≡ o → with_edges (option_to_list step.edge) o ≡ Ok e
-        → ((s : Reader) (f : Captured) (t : ℕ) → s.track.at ≡ rounded t → s.track.at ≤ 2000000000000 → lines_read (number + 1) lines s ≡ Ok f → Ran s f t (rows_in s.column lines))
+    row_on : (row : Row) (o : Onward Reader csv_form number line lines r e) → GoesOn r o.step row
+        → ((s : Reader) (f : Captured) (t : ℕ) → s.track.at ≡ rounded t → s.track.at ≤ 2000000000000 → lines_read csv_form (number + 1) lines s ≡ Ok f → Ran s f t (rows_in s.column lines))
         → Ran r e time (row ∷ rows_in r.column lines)
-    next row step g (Err x) k m ih = cc
-    next row step g (Ok f) k m ih =
-        let is : record { edges = option_to_list step.edge ++ f.edges; end = f.end } ≡ e = cc in
-        let ran = ih step.reader f g.nanos g.goes.at g.goes.early k in
-        run_more r step e f time row (rows_in r.column lines) g (subst (λ c. Ran step.reader f g.nanos (rows_in c lines)) g.goes.column ran) (sym is)
+    row_on row o g ih =
+        let ran = ih o.step.state o.rest g.nanos g.goes.at g.goes.early o.read in
+        run_more r o.step e o.rest time row (rows_in r.column lines) g (subst (λ c. Ran o.step.state o.rest g.nanos (rows_in c lines)) g.goes.column ran) o.is
 
-    step_by : (row : Row) (st : Stepped) → GoesBy r st row → read_on (passed_by number st) (lines_read (number + 1) lines) ≡ Ok e
-        → ((s : Reader) (f : Captured) (t : ℕ) → s.track.at ≡ rounded t → s.track.at ≤ 2000000000000 → lines_read (number + 1) lines s ≡ Ok f → Ran s f t (rows_in s.column lines))
-        → Ran r e time (row ∷ rows_in r.column lines)
-    step_by row (Err x) g k ih = cc
-    step_by row (Ok step) g k ih = next row step g (lines_read (number + 1) lines step.reader) refl k ih
-
-    by : (o : Option Row) → read_on (passed_by number (took_by o r)) (lines_read (number + 1) lines) ≡ Ok e
-        → ((s : Reader) (f : Captured) (t : ℕ) → s.track.at ≡ rounded t → s.track.at ≤ 2000000000000 → lines_read (number + 1) lines s ≡ Ok f → Ran s f t (rows_in s.column lines))
-        → Ran r e time (option_to_list o ++ rows_in r.column lines)
-    by None k ih = cc
-    by (Some row) k ih = step_by row (with_row row r) (row_goes r row) k ih
+    by : (row : Option Row) (o : Onward Reader csv_form number line lines r e) → took_by row r ≡ Ok o.step
+        → ((s : Reader) (f : Captured) (t : ℕ) → s.track.at ≡ rounded t → s.track.at ≤ 2000000000000 → lines_read csv_form (number + 1) lines s ≡ Ok f → Ran s f t (rows_in s.column lines))
+        → Ran r e time (option_to_list row ++ rows_in r.column lines)
+    by None o stepped ih = cc
+    by (Some row) o stepped ih = row_on row o (subst (λ (st : Stepped). GoesBy r st row) stepped (row_goes r row)) ih
 
 column_ran : (o : Option ℕ) (lines : List (List ℕ)) (e : Captured) → column_read o lines ≡ Ok e → (column : ℕ) × Ran (first_reader column) e 0 (rows_by o lines)
 column_ran None lines e h = cc

@@ -1,25 +1,22 @@
 -- Comma-separated values as Saleae's Logic exports them: a line of names, of which the first is that of the time, and then a
 -- row a change: seconds with up to nine decimals, perhaps below zero, and a level a channel.
-use Rattle.std.specs.Prelude.{◌≡◌, ℕ, suc, zero, ◌+◌, ◌-◌, ◌*◌, ◌/◌, ◌==◌, ◌&&◌, ◌||◌, not, min, Bool, true, false, nat_lt, nat_le, if◌then◌else◌, List, [], ◌∷◌, ◌++◌, length, take, drop, slice_index, codes, Option, Some, None, Result, Ok, Err}
-use Rattle.std.specs.Option.{option_to_list}
+use Rattle.std.specs.Prelude.{◌≡◌, ℕ, suc, zero, ◌+◌, ◌-◌, ◌*◌, ◌/◌, ◌==◌, ◌&&◌, ◌||◌, not, min, Bool, true, false, nat_lt, nat_le, if◌then◌else◌, List, [], ◌∷◌, length, take, drop, slice_index, codes, Option, Some, None, Result, Ok, Err}
+use Rattle.std.specs.Option.{is_none, is_some}
 use Rattle.std.specs.List.{position_or_len, slice_split}
 use Rattle.std.specs.Str.{bytes_eq}
-use Rattle.std.specs.Global.{Vec}
-use Rattle.cec_wave.specs.declared.Edge.{Edge}
 use Rattle.cec_wave.specs.Bounds.{latest_instant}
 use Rattle.hdmi_core.specs.Lines.{lines_of}
 use Rattle.hdmi_core.specs.Number.{number_of}
 use Rattle.cec_signal.specs.Edges.{Captured}
 use Rattle.cec_signal.specs.Seconds.{decimals_of}
-use Rattle.cec_signal.specs.Track.{Moved, first_track as line_begun, differ, last_edge, track_move, with_level}
+use Rattle.cec_signal.specs.Track.{Moved, first_track as line_begun, differ, track_move, with_level}
+use Rattle.cec_signal.specs.Reading.{Form, Step, at_word, lines_read}
+use Rattle.cec_signal.specs.declared.fault.Cause.{Cause}
+use Rattle.cec_signal.specs.declared.fault.Cause.TheVariants as cause
+use Rattle.cec_signal.specs.declared.fault.CaptureFault.{CaptureFault}
 use Rattle.cec_csv.specs.declared.row.Row.{Row}
 use Rattle.cec_csv.specs.declared.row.Time.{Time}
-use Rattle.cec_csv.specs.declared.reader.Cause.{Cause}
-use Rattle.cec_csv.specs.declared.reader.Cause.TheVariants as cause
 use Rattle.cec_csv.specs.declared.reader.Reader.{Reader}
-use Rattle.cec_csv.specs.declared.reading.CsvFault.{CsvFault}
-use Rattle.cec_csv.specs.declared.reading.CsvError.{CsvError}
-use Rattle.cec_csv.specs.declared.reading.CsvError.TheVariants.{Fault, Memory}
 
 -- ---- fields
 
@@ -54,9 +51,9 @@ abbrev pub after_first : List (List ℕ) → List (List ℕ)
 after_first [] = []
 after_first (field ∷ fields) = fields
 
--- columns are counted from 0 after the time
+-- the column of the time is 0
 abbrev pub column_of : List ℕ → List ℕ → Option ℕ
-column_of signal line = column_from 0 signal (after_first (fields_of (without_return line)))
+column_of signal line = column_from 1 signal (after_first (fields_of (without_return line)))
 
 -- ---- a row
 
@@ -94,9 +91,12 @@ row_by None low = None
 row_by (Some time) None = None
 row_by (Some time) (Some low) = Some (record { time = time; low = low })
 
+abbrev pub time_in : List (List ℕ) → Option Time
+time_in [] = None
+time_in (word ∷ fields) = time_of word
+
 abbrev pub row_in : ℕ → List (List ℕ) → Option Row
-row_in column [] = None
-row_in column (word ∷ fields) = row_by (time_of word) (level_by (field_at column fields))
+row_in column fields = row_by (time_in fields) (level_by (field_at column fields))
 
 abbrev pub row_of : ℕ → List ℕ → Option Row
 row_of column line = row_in column (fields_of (without_return line))
@@ -125,23 +125,14 @@ instant_of nanos = if nat_lt 2000000000000000 nanos then None else Some ((nanos 
 abbrev pub first_reader : ℕ → Reader
 first_reader column = record { column = column; first = None; is_again = true; is_low = false; track = line_begun }
 
-pub record Step : Type 0 where
-  pub reader : Reader
-  pub edge : Option Edge
-
 abbrev pub Stepped : Type 0
-Stepped = Result Step Cause
-
--- what a call returned, and what it left
-abbrev pub Takes : Stepped → Result (Option Edge) Cause → Reader → Type 0
-Takes stepped (Ok edge) new = stepped ≡ Ok (record { reader = new; edge = edge })
-Takes stepped (Err fault) new = stepped ≡ Err fault
+Stepped = Result (Step Reader) Cause
 
 abbrev pub moved_by : Time → Option Moved → Bool → Reader → Stepped
 moved_by first None low r = Err cause.Order
 moved_by first (Some m) low r =
     Ok (record {
-      reader = record { column = r.column; first = Some first; is_again = not (differ low r.is_low); is_low = low; track = with_level low m.track };
+      state = record { column = r.column; first = Some first; is_again = not (differ low r.is_low); is_low = low; track = with_level low m.track };
       edge = m.edge;
     })
 
@@ -177,51 +168,33 @@ ends_after is_again at = if is_again then at else min (at + 10000) latest_instan
 abbrev pub end_of : Reader → ℕ
 end_of r = ends_after r.is_again r.track.at
 
-abbrev pub with_edges : List Edge → Result Captured CsvFault → Result Captured CsvFault
-with_edges edges (Ok e) = Ok (record { edges = edges ++ e.edges; end = e.end })
-with_edges edges (Err fault) = Err fault
+-- the word at fault of a row that is refused: its level, where that is none after a time, and else its time
+abbrev pub fault_in : ℕ → List (List ℕ) → ℕ
+fault_in column fields = if is_some (time_in fields) && is_none (level_by (field_at column fields)) then column else 0
 
-pub record Passed : Type 0 where
-  pub edges : List Edge
-  pub reader : Reader
+abbrev pub word_at_fault : ℕ → List ℕ → ℕ
+word_at_fault column line = fault_in column (fields_of (without_return line))
 
-abbrev pub passed_by : ℕ → Stepped → Result Passed CsvFault
-passed_by number (Err fault) = Err (record { line = number; cause = fault })
-passed_by number (Ok step) = Ok (record { edges = option_to_list step.edge; reader = step.reader })
+-- a line is taken as it stands
+abbrev pub csv_form : Form Reader
+csv_form = record {
+  is_gap = λ byte. false;
+  took = λ number line r. at_word (word_at_fault r.column line) (took line r);
+  track = λ r. r.track;
+  ended = λ r. Ok (end_of r);
+}
 
-abbrev pub read_on : Result Passed CsvFault → (Reader → Result Captured CsvFault) → Result Captured CsvFault
-read_on (Err fault) more = Err fault
-read_on (Ok p) more = with_edges p.edges (more p.reader)
+-- where no name is the signal's, those after that of the time are at fault
+abbrev pub no_signal : CaptureFault
+no_signal = record { line = 1; cause = cause.Signal; word = 1 }
 
-abbrev pub lines_read : ℕ → List (List ℕ) → Reader → Result Captured CsvFault
-lines_read number [] r = Ok (record { edges = option_to_list (last_edge r.track); end = end_of r })
-lines_read number (line ∷ lines) r = read_on (passed_by number (took line r)) (lines_read (number + 1) lines)
+abbrev pub column_read : Option ℕ → List (List ℕ) → Result Captured CaptureFault
+column_read None lines = Err no_signal
+column_read (Some column) lines = lines_read csv_form 2 lines (first_reader column)
 
-abbrev pub column_read : Option ℕ → List (List ℕ) → Result Captured CsvFault
-column_read None lines = Err (record { line = 1; cause = cause.Signal })
-column_read (Some column) lines = lines_read 2 lines (first_reader column)
-
-abbrev pub named_read : List ℕ → List (List ℕ) → Result Captured CsvFault
-named_read signal [] = Err (record { line = 1; cause = cause.Signal })
+abbrev pub named_read : List ℕ → List (List ℕ) → Result Captured CaptureFault
+named_read signal [] = Err no_signal
 named_read signal (line ∷ lines) = column_read (column_of signal line) lines
 
-abbrev pub edges_in : List ℕ → List ℕ → Result Captured CsvFault
+abbrev pub edges_in : List ℕ → List ℕ → Result Captured CaptureFault
 edges_in signal text = named_read signal (lines_of text)
-
--- a capture is what is read, and a fault is the one of the text; of memory nothing is said
-abbrev pub Gives : Result Captured CsvError → Result Captured CsvFault → Type 0
-Gives (Ok c) read = read ≡ Ok c
-Gives (Err (Fault fault)) read = read ≡ Err fault
-Gives (Err Memory) read = Unit {0}
-
--- the same of edges and an end
-abbrev pub GivesEdges : Result (Vec Edge × ℕ) CsvError → Result Captured CsvFault → Type 0
-GivesEdges (Ok c) read = read ≡ Ok (record { edges = c.0.items; end = c.1 })
-GivesEdges (Err (Fault fault)) read = read ≡ Err fault
-GivesEdges (Err Memory) read = Unit {0}
-
--- a line was passed: its edges came after those before
-abbrev pub PassesLine : Result Passed CsvFault → List Edge → Result (Unit {0}) CsvError → List Edge → Reader → Type 0
-PassesLine passed old (Ok n) new reader = (more : List Edge) × (new ≡ old ++ more) × (passed ≡ Ok (record { edges = more; reader = reader }))
-PassesLine passed old (Err (Fault fault)) new reader = passed ≡ Err fault
-PassesLine passed old (Err Memory) new reader = Unit {0}

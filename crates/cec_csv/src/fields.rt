@@ -69,12 +69,13 @@ fn is_named(field: &[u8], signal: &[u8]) -> bool
     signal.is_empty() || field_without_space(field) == signal
 }
 
-/// The column of a signal among the fields of what is left of a line, counted from 0. An empty name stands for the first.
+/// The column of a signal among the fields of what is left of a line after the time, whose column is 0. An empty name stands for
+/// the first.
 pub fn column_in(fields: Option<&[u8]>, signal: &[u8]) -> Option<usize>
-    ensures { result ≡ column_from 0 signal.now (fields_after (option_copied fields.entry)) }
+    ensures { result ≡ column_from 1 signal.now (fields_after (option_copied fields.entry)) }
 {
     let mut left = fields;
-    let mut column = 0;
+    let mut column = 1;
     'fields: while let Some(rest) = left {
         let (field, more) = first_field(rest);
         if is_named(field, signal) {

@@ -10,6 +10,5 @@ mod row;
 mod writing;
 
 pub use laws::{csv_files_are_read_back, csv_files_are_sampled};
-pub use reader::Cause;
-pub use reading::{CsvError, CsvFault, read_csv};
+pub use reading::read_csv;
 pub use writing::{add_changes, add_head, add_last};

@@ -1,35 +1,17 @@
 //! A reader of rows.
 ghost use Rattle.std.specs.Prelude.{◌≡◌};
 
-use crate::row::{Row, Time, instant_of, row_of, since};
-use cec_signal::Track;
+use crate::row::{Row, Time, instant_of, row_of, since, word_at_fault};
+use cec_signal::{Cause, Slip, TakesWords, Track, no_gap};
 use cec_wave::{Edge, LATEST_INSTANT};
-use thiserror::Error;
 
 /// How long a capture goes on after its last row, in microseconds, since the form has no end.
 const ENDS_AFTER: u64 = 10_000;
 
-/// What is wrong with a line.
-#[derive(Clone, Copy, Debug, PartialEq, Eq, Error)]
-pub enum Cause {
-    /// It is no time with a level.
-    #[error("word")]
-    Word,
-    /// There is no column of this name.
-    #[error("signal")]
-    Signal,
-    /// Its time is past the limit.
-    #[error("late")]
-    Late,
-    /// Its time goes back.
-    #[error("order")]
-    Order,
-}
-
 /// A reader of the rows of a file.
 #[derive(Clone, Copy, Debug)]
 pub struct Reader {
-    /// The column of the wire, counted from 0 after the time.
+    /// The column of the wire; that of the time is 0.
     column: usize,
     /// The time of the first row.
     first: Option<Time>,
@@ -41,8 +23,8 @@ pub struct Reader {
 }
 
 impl Reader {
-    ghost use Rattle.cec_csv.specs.Csv.{Takes, first_reader, end_of, with_row, moved_to, took};
-    ghost use Rattle.cec_signal.specs.Track.{last_edge};
+    ghost use Rattle.cec_signal.specs.Reading.{Takes};
+    ghost use Rattle.cec_csv.specs.Csv.{first_reader, with_row, moved_to, took};
 
     /// A reader before the first row.
     pub fn new(column: usize) -> Self
@@ -90,8 +72,8 @@ impl Reader {
         }
     }
 
-    /// Takes the next line, and returns the edge that is known by it.
-    pub fn take(&mut self, line: &[u8]) -> Result<Option<Edge>, Cause>
+    // Takes the next line, and returns the edge that is known by it.
+    fn take_line(&mut self, line: &[u8]) -> Result<Option<Edge>, Cause>
         ensures { Takes (took line.now self.old) result self.new }
     {
         match row_of(self.column, line) {
@@ -99,25 +81,50 @@ impl Reader {
             Some(row) => self.take_row(row),
         }
     }
+}
 
-    /// The end: the last row, where that reports the level again, or else 10,000 microseconds after it, within the limit.
-    pub fn end(&self) -> u64
-        ensures { result ≡ end_of self.now }
-    {
-        if self.is_again {
-            self.track.at()
-        } else {
-            self.track
-                .at()
-                .saturating_add(ENDS_AFTER)
-                .min(LATEST_INSTANT)
+impl<'a> TakesWords<'a> for Reader {
+    ghost use Rattle.cec_csv.specs.declared.reader.Reader.{Reader as ReaderOf};
+    ghost use Rattle.cec_csv.specs.Csv.{csv_form};
+
+    ghost State = { ReaderOf };
+
+    ghost state = { λ r. r };
+
+    ghost form = { csv_form };
+
+    fn gap_in(line: &[u8]) -> Option<usize> {
+        no_gap(line)
+    }
+
+    fn take(&mut self, _number: usize, line: &'a [u8]) -> Result<Option<Edge>, Slip> {
+        let column = self.column;
+        match self.take_line(line) {
+            Ok(edge) => Ok(edge),
+            Err(cause) => {
+                Err(Slip {
+                    cause,
+                    word: word_at_fault(column, line),
+                })
+            }
         }
     }
 
-    /// The edge at the last row.
-    pub fn last(&self) -> Option<Edge>
-        ensures { result ≡ last_edge self.now.track }
-    {
-        self.track.last()
+    fn track(&self) -> Track {
+        self.track
+    }
+
+    // The last row, where that reports the level again, or else 10,000 microseconds after it, within the limit.
+    fn end(&self) -> Result<u64, Cause> {
+        if self.is_again {
+            Ok(self.track.at())
+        } else {
+            Ok(
+                self.track
+                    .at()
+                    .saturating_add(ENDS_AFTER)
+                    .min(LATEST_INSTANT),
+            )
+        }
     }
 }

@@ -1,6 +1,6 @@
 //! A row: a time and a level.
 ghost use Rattle.std.specs.Prelude.{◌≡◌, ◌+◌, ◌*◌, ◌<◌};
-ghost use Rattle.cec_csv.specs.Csv.{instant_of, level_of, nanos_of, row_of, signed_time, since, time_of};
+ghost use Rattle.cec_csv.specs.Csv.{field_at, fields_of, instant_of, level_by, level_of, nanos_of, row_of, signed_time, since, time_in, time_of, word_at_fault};
 
 use crate::fields::{field_at, field_without_space, first_field, without_return};
 use cec_signal::decimals_in;
@@ -75,15 +75,42 @@ fn level_of(field: &[u8]) -> Option<bool>
     }
 }
 
-/// What a row says of this column, counted from 0 after the time.
+// The time of a row.
+fn time_in(fields: &[u8]) -> Option<Time>
+    ensures { result ≡ time_in (fields_of fields.now) }
+{
+    let (word, _) = first_field(fields);
+    time_of(word)
+}
+
+// The level in this column.
+fn level_in(column: usize, fields: &[u8]) -> Option<bool>
+    ensures { result ≡ level_by (field_at column (fields_of fields.now)) }
+{
+    let field = field_at(Some(fields), column)?;
+    level_of(field_without_space(field))
+}
+
+/// What a row says of this column; that of the time is 0.
 pub fn row_of(column: usize, line: &[u8]) -> Option<Row>
     ensures { result ≡ row_of column line.now }
 {
-    let (word, fields) = first_field(without_return(line));
-    let time = time_of(word)?;
-    let field = field_at(fields, column)?;
-    let low = level_of(field_without_space(field))?;
+    let fields = without_return(line);
+    let time = time_in(fields)?;
+    let low = level_in(column, fields)?;
     Some(Row { time, low })
+}
+
+/// The word at fault of a row that is refused, counted from 0: its level, where that is none after a time, and else its time.
+pub fn word_at_fault(column: usize, line: &[u8]) -> usize
+    ensures { result ≡ word_at_fault column line.now }
+{
+    let fields = without_return(line);
+    if time_in(fields).is_some() && level_in(column, fields).is_none() {
+        column
+    } else {
+        0
+    }
 }
 
 /// How long a time is after the first one, in nanoseconds.

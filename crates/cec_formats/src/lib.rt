@@ -5,6 +5,6 @@ mod causes;
 mod form;
 mod reading;
 
-pub use causes::{CaptureError, CaptureFault, Cause};
+pub use cec_signal::{CaptureError, CaptureFault, Cause};
 pub use form::Form;
 pub use reading::read_capture;

@@ -1,16 +1,14 @@
 //! From a capture in any form to the edges of a line.
-ghost use Rattle.cec_csv.specs.Csv.{edges_in as csv_edges};
 ghost use Rattle.cec_mon.specs.EdgeFile.{file_of};
-ghost use Rattle.cec_pin.specs.Pin.{edges_in as pin_edges};
-ghost use Rattle.cec_vcd.specs.Dump.{edges_in as vcd_edges};
-ghost use Rattle.cec_formats.specs.Captures.{Gives, capture_in, of_csv, of_edges, of_pin, of_vcd};
+ghost use Rattle.cec_signal.specs.Reading.{Gives};
+ghost use Rattle.cec_formats.specs.Captures.{capture_in, of_edges};
 
-use crate::causes::{CaptureError, csv_error, edge_error, pin_error, vcd_error};
+use crate::causes::edge_error;
 use crate::form::Form;
 use cec_csv::read_csv;
 use cec_mon::read_edges;
 use cec_pin::read_pin;
-use cec_signal::Capture;
+use cec_signal::{Capture, CaptureError};
 use cec_vcd::read_vcd;
 use std::alloc::Global;
 
@@ -20,33 +18,6 @@ fn edges(alloc: Global, text: &[u8]) -> Result<Capture, CaptureError>
     match read_edges(alloc, text) {
         Ok(capture) => Ok(capture),
         Err(error) => Err(edge_error(error)),
-    }
-}
-
-fn vcd(alloc: Global, signal: &[u8], text: &[u8]) -> Result<Capture, CaptureError>
-    ensures { Gives result (of_vcd (vcd_edges signal.now text.now)) }
-{
-    match read_vcd(alloc, signal, text) {
-        Ok(capture) => Ok(capture),
-        Err(error) => Err(vcd_error(error)),
-    }
-}
-
-fn pin(alloc: Global, text: &[u8]) -> Result<Capture, CaptureError>
-    ensures { Gives result (of_pin (pin_edges text.now)) }
-{
-    match read_pin(alloc, text) {
-        Ok(capture) => Ok(capture),
-        Err(error) => Err(pin_error(error)),
-    }
-}
-
-fn csv(alloc: Global, signal: &[u8], text: &[u8]) -> Result<Capture, CaptureError>
-    ensures { Gives result (of_csv (csv_edges signal.now text.now)) }
-{
-    match read_csv(alloc, signal, text) {
-        Ok(capture) => Ok(capture),
-        Err(error) => Err(csv_error(error)),
     }
 }
 
@@ -66,8 +37,8 @@ pub fn read_capture(
 {
     match form {
         Form::Edges => edges(alloc, text),
-        Form::Vcd => vcd(alloc, signal, text),
-        Form::Pin => pin(alloc, text),
-        Form::Csv => csv(alloc, signal, text),
+        Form::Vcd => read_vcd(alloc, signal, text),
+        Form::Pin => read_pin(alloc, text),
+        Form::Csv => read_csv(alloc, signal, text),
     }
 }

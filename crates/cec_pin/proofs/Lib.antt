@@ -1,4 +1,3 @@
-pub mod Passing
 pub mod ReadBack
 pub mod Sampled
 pub mod LostLines

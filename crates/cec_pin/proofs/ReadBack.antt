@@ -22,10 +22,12 @@ use Rattle.cec_signal.proofs.Moving.{due, track_at}
 use Rattle.cec_signal.proofs.Numbers.{number_again, some_length}
 use Rattle.cec_signal.proofs.Texts as texts
 use Rattle.cec_signal.proofs.Texts.{line_before}
-use Rattle.cec_pin.specs.Pin.{first_reader, code_of, dot_in, event_by, event_cut, event_of, fraction_of, after_event, instant_of, lines_read, moved_by, moved_to, nanos_by, passed_by, read_on, took, with_edges}
+use Rattle.cec_signal.specs.Reading.{at_word, lines_read, with_edges}
+use Rattle.cec_signal.specs.declared.fault.CaptureFault.{CaptureFault}
+use Rattle.cec_signal.proofs.Passing.{alone, whole}
+use Rattle.cec_pin.specs.Pin.{first_reader, code_of, dot_in, event_by, event_cut, event_of, fraction_of, after_event, instant_of, moved_by, moved_to, nanos_by, pin_form, took, word_at_fault}
 use Rattle.cec_pin.specs.Text.{event_line, event_text, head, round_text, stretch_text, PinFilesAreReadBack}
 use Rattle.cec_pin.specs.declared.reader.Reader.{Reader}
-use Rattle.cec_pin.specs.declared.reading.PinFault.{PinFault}
 
 -- ---- bytes
 
@@ -50,10 +52,11 @@ dot_at (x ∷ xs) r h =
 
 -- ---- lines
 
-line_in : (number : ℕ) (line rest : List ℕ) (t u : Reader) (edge : Option Edge) → Lacks 10 line → took line t ≡ Ok (record { reader = u; edge = edge })
-    → lines_read number (lines_of (line ++ 10 ∷ rest)) t ≡ with_edges (option_to_list edge) (lines_read (number + 1) (lines_of rest) u)
+line_in : (number : ℕ) (line rest : List ℕ) (t u : Reader) (edge : Option Edge) → Lacks 10 line → took line t ≡ Ok (record { state = u; edge = edge })
+    → lines_read pin_form number (lines_of (line ++ 10 ∷ rest)) t ≡ with_edges (option_to_list edge) (lines_read pin_form (number + 1) (lines_of rest) u)
 line_in number line rest t u edge plain h =
-    ap (λ lines. lines_read number lines t) (line_before line rest plain) ∙ ap (λ stepped. read_on (passed_by number stepped) (lines_read (number + 1) (lines_of rest))) h
+    ap (λ lines. lines_read pin_form number lines t) (line_before line rest plain)
+    ∙ alone pin_form number line (lines_of rest) t (record { state = u; edge = edge }) (whole line) (ap (at_word (word_at_fault line)) h)
 
 -- ---- times
 
@@ -121,33 +124,33 @@ rise_code nanos = refl
 
 -- ---- events
 
-move_kept : (t at : ℕ) (b low : Bool) → at ≤ t → moved_to (Some t) (Some low) (stood at b b) ≡ Ok (record { reader = stood t b low; edge = None })
+move_kept : (t at : ℕ) (b low : Bool) → at ≤ t → moved_to (Some t) (Some low) (stood at b b) ≡ Ok (record { state = stood t b low; edge = None })
 move_kept t at b low after = ap (λ m. moved_by m (Some low) (stood at b b)) (moving.move_kept t at b after)
 
-move_reported : (t at : ℕ) (b low : Bool) → at < t → moved_to (Some t) (Some low) (stood at (not b) b) ≡ Ok (record { reader = stood t b low; edge = Some (record { at = at; low = b }) })
+move_reported : (t at : ℕ) (b low : Bool) → at < t → moved_to (Some t) (Some low) (stood at (not b) b) ≡ Ok (record { state = stood t b low; edge = Some (record { at = at; low = b }) })
 move_reported t at b low after = ap (λ m. moved_by m (Some low) (stood at (not b) b)) (moving.move_reported t at b after)
 
-move_same : (t : ℕ) (was is low : Bool) → moved_to (Some t) (Some low) (stood t was is) ≡ Ok (record { reader = stood t was low; edge = None })
+move_same : (t : ℕ) (was is low : Bool) → moved_to (Some t) (Some low) (stood t was is) ≡ Ok (record { state = stood t was low; edge = None })
 move_same t was is low = ap (λ m. moved_by m (Some low) (stood t was is)) (moving.move_same t was is)
 
-fall_move : (t at : ℕ) (b : Bool) → cond b (at + 1) at ≤ t → moved_to (Some t) (Some true) (stood at b false) ≡ Ok (record { reader = stood t false true; edge = due at b })
+fall_move : (t at : ℕ) (b : Bool) → cond b (at + 1) at ≤ t → moved_to (Some t) (Some true) (stood at b false) ≡ Ok (record { state = stood t false true; edge = due at b })
 fall_move t at true after = move_reported t at false true (omega (arith, after))
 fall_move t at false after = move_kept t at false true after
 
 -- an event's line, before what follows
 reported_line : (number t level : ℕ) (low : Bool) (more : List ℕ) (k u : Reader) (edge : Option Edge) → k ≡ stood k.track.at k.track.was_low k.track.is_low → t ≤ 2000000000000 → (level == 10) ≡ false
     → ((nanos : ℕ) → event_by (Some nanos) (code_of (level ∷ [])) ≡ Some (record { nanos = nanos; low = Some low }))
-    → moved_to (Some t) (Some low) k ≡ Ok (record { reader = u; edge = edge })
-    → lines_read number (lines_of (event_line t level ++ 10 ∷ more)) k ≡ with_edges (option_to_list edge) (lines_read (number + 1) (lines_of more) u)
+    → moved_to (Some t) (Some low) k ≡ Ok (record { state = u; edge = edge })
+    → lines_read pin_form number (lines_of (event_line t level ++ 10 ∷ more)) k ≡ with_edges (option_to_list edge) (lines_read pin_form (number + 1) (lines_of more) u)
 reported_line number t level low more k u edge zero early other code move =
     line_in number (event_line t level) more k u edge (line_plain t level early other) (event_taken t level low k zero early code ∙ move)
 
-abbrev with_end : List Edge → ℕ → Result Captured PinFault
+abbrev with_end : List Edge → ℕ → Result Captured CaptureFault
 with_end edges end = Ok (record { edges = edges; end = end })
 
 -- what the rest of a file is read as, where a rise may be due
 abbrev Reads : List ℕ → ℕ → Bool → List Edge → ℕ → Type 0
-Reads text at b edges end = (number : ℕ) → lines_read number (lines_of text) (stood at b false) ≡ with_end (option_to_list (due at b) ++ edges) end
+Reads text at b edges end = (number : ℕ) → lines_read pin_form number (lines_of text) (stood at b false) ≡ with_end (option_to_list (due at b) ++ edges) end
 
 cut_line : (t level : ℕ) (more : List ℕ) → event_text t level ++ more ≡ event_line t level ++ 10 ∷ more
 cut_line t level more =
@@ -160,7 +163,7 @@ stretch_reads : (s : Stretch) (at : ℕ) (b : Bool) (more : List ℕ) (edges : L
 stretch_reads s at b more edges end after wide low rest number =
     let parts : stretch_text s ++ more ≡ event_line s.from 48 ++ 10 ∷ (event_line s.to 49 ++ 10 ∷ more) =
     append_assoc (event_text s.from 48) (event_text s.to 49) more ∙ ap (λ l. event_text s.from 48 ++ l) (cut_line s.to 49 more) ∙ cut_line s.from 48 (event_line s.to 49 ++ 10 ∷ more) in
-    ap (λ text. lines_read number (lines_of text) (stood at b false)) parts
+    ap (λ text. lines_read pin_form number (lines_of text) (stood at b false)) parts
     ∙ reported_line number s.from 48 true (event_line s.to 49 ++ 10 ∷ more) (stood at b false) (stood s.from false true) (due at b) refl (omega arith) refl fall_code (fall_move s.from at b after)
     ∙ ap (with_edges (option_to_list (due at b))) (
     reported_line (number + 1) s.to 49 false more (stood s.from false true) (stood s.to true false) (Some (record { at = s.from; low = true })) refl low refl rise_code (move_reported s.to s.from true false wide)
@@ -170,20 +173,20 @@ stretch_reads s at b more edges end after wide low rest number =
 again_reads : (u at : ℕ) (b : Bool) (more : List ℕ) (edges : List Edge) (end : ℕ) → at ≤ u → u ≤ 2000000000000
     → ((c : Bool) → (c ≡ true → b ≡ true) → (c ≡ true → at ≡ u) → Reads more u c edges end) → Reads (event_text u 49 ++ more) at b edges end
 again_reads u at false more edges end after low rest number =
-    ap (λ text. lines_read number (lines_of text) (stood at false false)) (cut_line u 49 more)
+    ap (λ text. lines_read pin_form number (lines_of text) (stood at false false)) (cut_line u 49 more)
     ∙ reported_line number u 49 false more (stood at false false) (stood u false false) None refl low refl rise_code (move_kept u at false false after)
     ∙ ap (with_edges []) (rest false (λ h. absurd (false≢true h)) (λ h. absurd (false≢true h)) (number + 1))
 again_reads u at true more edges end after low rest number = by (nat_lt at u) refl
   where
-    by : (t : Bool) → nat_lt at u ≡ t → lines_read number (lines_of (event_text u 49 ++ more)) (stood at true false) ≡ with_end (record { at = at; low = false } ∷ edges) end
+    by : (t : Bool) → nat_lt at u ≡ t → lines_read pin_form number (lines_of (event_text u 49 ++ more)) (stood at true false) ≡ with_end (record { at = at; low = false } ∷ edges) end
     by true h =
         let earlier : at < u = grind (arith, nat_tests) in
-        ap (λ text. lines_read number (lines_of text) (stood at true false)) (cut_line u 49 more)
+        ap (λ text. lines_read pin_form number (lines_of text) (stood at true false)) (cut_line u 49 more)
         ∙ reported_line number u 49 false more (stood at true false) (stood u false false) (Some (record { at = at; low = false })) refl low refl rise_code (move_reported u at false false earlier)
         ∙ ap (with_edges (record { at = at; low = false } ∷ [])) (rest false (λ h. refl) (λ h. absurd (false≢true h)) (number + 1))
     by false h =
         let same : at ≡ u = grind (arith, nat_tests) in
-        ap (λ text. lines_read number (lines_of text) (stood at true false)) (cut_line u 49 more)
+        ap (λ text. lines_read pin_form number (lines_of text) (stood at true false)) (cut_line u 49 more)
         ∙ rw same (reported_line number u 49 false more (stood u true false) (stood u true false) None refl low refl rise_code (move_same u true false false)
         ∙ ap (with_edges []) (rest true (λ h. refl) (λ h. same) (number + 1)))
 
@@ -203,7 +206,7 @@ rest_reads : (ss others : List Stretch) (at : ℕ) (more : List ℕ) (edges : Li
 rest_reads [] others at more edges end wave by after low rest = rest at wave by after
 rest_reads (s ∷ ss) others at more edges end wave by after low rest = λ number.
     let ends = by.0 in
-    ap (λ text. lines_read number (lines_of text) (stood at true false)) (append_assoc (stretch_text s) (flat_map stretch_text ss) more)
+    ap (λ text. lines_read pin_form number (lines_of text) (stood at true false)) (append_assoc (stretch_text s) (flat_map stretch_text ss) more)
     ∙ stretch_reads s at true (flat_map stretch_text ss ++ more) (edges_of ss ++ edges) end wave.0 wave.1 (omega (arith, ends))
     (rest_reads ss others s.to more edges end wave.2 by.1 ends low rest) number
 
@@ -233,17 +236,17 @@ round_parts a b c d = append_assoc (a ++ b) c d ∙ append_assoc a b (c ++ d)
 rounds_read : (rounds : List (List Stretch)) (at : ℕ) (b : Bool) (end : ℕ) → IsWaveFrom (cond b (at + 1) at) (flat rounds) → EndsBy end (flat rounds) → at ≤ end → end ≤ 2000000000000 → (b ≡ false → at ≡ 0)
     → Reads (flat_map round_text rounds ++ event_text end 49) at b (edges_of (flat rounds)) end
 rounds_read [] at b end wave by after low zero = λ number.
-    ap (λ text. lines_read number (lines_of text) (stood at b false)) (sym (append-nil (event_text end 49)))
+    ap (λ text. lines_read pin_form number (lines_of text) (stood at b false)) (sym (append-nil (event_text end 49)))
     ∙ again_reads end at b [] [] end after low (λ c h e. over c end) number
 rounds_read ([] ∷ rs) at b end wave by after low zero = rounds_read rs at b end wave by after low zero
 rounds_read ((s ∷ ss) ∷ rs) at b end wave by after low zero = λ number.
     let ends = by.0 in
     let others = flat rs in
     let tail = flat_map round_text rs ++ event_text end 49 in
-    ap (λ text. lines_read number (lines_of text) (stood at b false)) (round_parts (event_text (s.from - 1) 49) (flat_map stretch_text (s ∷ ss)) (flat_map round_text rs) (event_text end 49))
+    ap (λ text. lines_read pin_form number (lines_of text) (stood at b false)) (round_parts (event_text (s.from - 1) 49) (flat_map stretch_text (s ∷ ss)) (flat_map round_text rs) (event_text end 49))
     ∙ again_reads (s.from - 1) at b (flat_map stretch_text (s ∷ ss) ++ tail) (edges_of (s ∷ ss) ++ edges_of others) end (early_by b at s.from wave.0 zero) (let w = wave.1 in omega (arith, ends))
     (λ c h e. λ n.
-    ap (λ text. lines_read n (lines_of text) (stood (s.from - 1) c false)) (append_assoc (stretch_text s) (flat_map stretch_text ss) tail)
+    ap (λ text. lines_read pin_form n (lines_of text) (stood (s.from - 1) c false)) (append_assoc (stretch_text s) (flat_map stretch_text ss) tail)
     ∙ stretch_reads s (s.from - 1) c (flat_map stretch_text ss ++ tail) (edges_of ss ++ edges_of others) end
     (still_after c at s.from (λ t. step_by b at s.from (h t) wave.0) e) wave.1 (omega (arith, ends))
     (rest_reads ss others s.to tail (edges_of others) end wave.2 by.1 ends low
@@ -252,18 +255,18 @@ rounds_read ((s ∷ ss) ∷ rs) at b end wave by after low zero = λ number.
 
 -- ---- the head
 
-head_line : (number : ℕ) (line rest : List ℕ) (t u : Reader) → list_all (λ c. not (c == 10)) line ≡ true → took line t ≡ Ok (record { reader = u; edge = None })
-    → lines_read number (lines_of (line ++ 10 ∷ rest)) t ≡ lines_read (number + 1) (lines_of rest) u
-head_line number line rest t u all h = line_in number line rest t u None (shown 10 line all) h ∙ same (lines_read (number + 1) (lines_of rest) u)
+head_line : (number : ℕ) (line rest : List ℕ) (t u : Reader) → list_all (λ c. not (c == 10)) line ≡ true → took line t ≡ Ok (record { state = u; edge = None })
+    → lines_read pin_form number (lines_of (line ++ 10 ∷ rest)) t ≡ lines_read pin_form (number + 1) (lines_of rest) u
+head_line number line rest t u all h = line_in number line rest t u None (shown 10 line all) h ∙ same (lines_read pin_form (number + 1) (lines_of rest) u)
   where
-    same : (r : Result Captured PinFault) → with_edges [] r ≡ r
+    same : (r : Result Captured CaptureFault) → with_edges [] r ≡ r
     same (Ok e) = refl
     same (Err f) = refl
 
 abbrev still : Reader
 still = stood 0 false false
 
-head_read : (more : List ℕ) → lines_read 1 (lines_of (head ++ more)) first_reader ≡ lines_read 8 (lines_of more) still
+head_read : (more : List ℕ) → lines_read pin_form 1 (lines_of (head ++ more)) first_reader ≡ lines_read pin_form 8 (lines_of more) still
 head_read more =
     let t7 = codes "0.000000000 1" ++ 10 ∷ more in
     let t6 = codes "# phys_addr f.f.f.f" ++ 10 ∷ t7 in

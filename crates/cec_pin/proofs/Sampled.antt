@@ -9,11 +9,12 @@ use Rattle.cec_signal.specs.Samples.{Sample, level_in}
 use Rattle.cec_signal.specs.Track.{Moved, last_edge, track_move}
 use Rattle.cec_signal.specs.declared.track.Track.{Track}
 use Rattle.cec_signal.proofs.Recording.{Records, moved_at, records_capture, records_end, records_level, records_line, records_moved}
-use Rattle.cec_pin.specs.Pin.{Step, Stepped, first_reader, edges_in, event_of, after_event, track_with_level, lines_read, moved_by, moved_to, start_in_comment, passed_by, read_on, reader_with_start, took, with_edges}
+use Rattle.cec_signal.specs.Reading.{Step, lines_read}
+use Rattle.cec_signal.proofs.Passing.{onward, whole, without_word}
+use Rattle.cec_pin.specs.Pin.{Stepped, first_reader, edges_in, event_of, after_event, track_with_level, moved_by, moved_to, pin_form, reader_with_start, start_in_comment, took, word_at_fault}
 use Rattle.cec_pin.specs.Sampling.{Level, PinFilesAreSampled, event_in, last_time, level_by, level_of, level_reported, levels_in, or_start, start_after, time_by}
 use Rattle.cec_pin.specs.declared.line.Event.{Event}
 use Rattle.cec_pin.specs.declared.reader.Reader.{Reader}
-use Rattle.cec_pin.specs.declared.reading.PinFault.{PinFault}
 
 -- ---- nanoseconds and microseconds
 
@@ -39,11 +40,11 @@ sampled_so b (l ∷ ls) u =
 -- ---- a line
 
 -- it is led on: from a start, at a time, with a level or none
-record Goes (old : Track) (step : Step) (start time : ℕ) (level : Option Level) : Type 0 where
-  start_is : step.reader.start ≡ start
-  at : step.reader.track.at ≡ rounded time
-  early : step.reader.track.at ≤ 2000000000000
-  more : (edges : List Edge) (samples : List Sample) (end : ℕ) → Records step.reader.track edges samples end
+record Goes (old : Track) (step : Step Reader) (start time : ℕ) (level : Option Level) : Type 0 where
+  start_is : step.state.start ≡ start
+  at : step.state.track.at ≡ rounded time
+  early : step.state.track.at ≤ 2000000000000
+  more : (edges : List Edge) (samples : List Sample) (end : ℕ) → Records step.state.track edges samples end
       → Records old (option_to_list step.edge ++ edges) (samples_of (option_to_list level) ++ samples) end
 
 abbrev GoesBy : Track → Stepped → ℕ → ℕ → Option Level → Type 0
@@ -54,7 +55,7 @@ event_goes : (r : Reader) (e : Event) → GoesBy r.track (after_event (Some e) r
 event_goes r e = late (nat_lt 2000000000000000 (e.nanos - r.start)) refl
   where
     reported : (low : Option Bool) (m : Moved) → track_move (rounded (e.nanos - r.start)) r.track ≡ Some m → e.nanos - r.start ≤ 2000000000000000
-        → Goes r.track (record { reader = record { start = r.start; track = track_with_level low m.track }; edge = m.edge }) r.start (e.nanos - r.start) (level_reported (e.nanos - r.start) low)
+        → Goes r.track (record { state = record { start = r.start; track = track_with_level low m.track }; edge = m.edge }) r.start (e.nanos - r.start) (level_reported (e.nanos - r.start) low)
     reported None m h small =
         let at = moved_at (rounded (e.nanos - r.start)) r.track m h in
         record {
@@ -88,7 +89,7 @@ line_goes : (r : Reader) (line : List ℕ) (time : ℕ) → r.track.at ≡ round
     → GoesBy r.track (took line r) (start_after line r.start) (time_by r.start (event_in line) time) (level_by r.start (event_in line))
 line_goes r line time at early = by (is_skipped line)
   where
-    comment : (o : Option ℕ) → GoesBy r.track (Ok (record { reader = reader_with_start o r; edge = None })) (or_start o r.start) time None
+    comment : (o : Option ℕ) → GoesBy r.track (Ok (record { state = reader_with_start o r; edge = None })) (or_start o r.start) time None
     comment None = record { start_is = refl; at = at; early = early; more = λ edges samples end k. k }
     comment (Some n) = record { start_is = refl; at = at; early = early; more = λ edges samples end k. k }
 
@@ -97,7 +98,7 @@ line_goes r line time at early = by (is_skipped line)
     event (Some e) = event_goes r e
 
     by : (c : Bool)
-        → GoesBy r.track (if c then Ok (record { reader = reader_with_start (start_in_comment line) r; edge = None }) else after_event (event_of line) r) (if c then or_start (start_in_comment line) r.start else r.start)
+        → GoesBy r.track (if c then Ok (record { state = reader_with_start (start_in_comment line) r; edge = None }) else after_event (event_of line) r) (if c then or_start (start_in_comment line) r.start else r.start)
         (time_by r.start (if c then None else event_of line) time) (level_by r.start (if c then None else event_of line))
     by true = comment (start_in_comment line)
     by false = event (event_of line)
@@ -109,38 +110,28 @@ record Ran (r : Reader) (e : Captured) (time : ℕ) (lines : List (List ℕ)) : 
   end : e.end ≡ rounded (last_time time r.start lines)
   early : e.end ≤ 2000000000000
 
-run_more : (r : Reader) (step : Step) (e f : Captured) (time : ℕ) (line : List ℕ) (lines : List (List ℕ))
+run_more : (r : Reader) (step : Step Reader) (e f : Captured) (time : ℕ) (line : List ℕ) (lines : List (List ℕ))
     → Goes r.track step (start_after line r.start) (time_by r.start (event_in line) time) (level_by r.start (event_in line))
-    → Ran step.reader f (time_by r.start (event_in line) time) lines → e ≡ record { edges = option_to_list step.edge ++ f.edges; end = f.end } → Ran r e time (line ∷ lines)
+    → Ran step.state f (time_by r.start (event_in line) time) lines → e ≡ record { edges = option_to_list step.edge ++ f.edges; end = f.end } → Ran r e time (line ∷ lines)
 run_more r step e f time line lines g ran is =
     subst (λ (e : Captured). Ran r e time (line ∷ lines)) (sym is) (record {
       records = rw (samples_both (option_to_list (level_by r.start (event_in line))) (levels_in (start_after line r.start) lines))
           (g.more f.edges (samples_of (levels_in (start_after line r.start) lines)) f.end
-          (subst (λ n. Records step.reader.track f.edges (samples_of (levels_in n lines)) f.end) g.start_is ran.records));
+          (subst (λ n. Records step.state.track f.edges (samples_of (levels_in n lines)) f.end) g.start_is ran.records));
       end = ran.end ∙ ap (λ n. rounded (last_time (time_by r.start (event_in line) time) n lines)) g.start_is;
       early = ran.early;
     })
 
-lines_ran : (number : ℕ) (lines : List (List ℕ)) (r : Reader) (e : Captured) (time : ℕ) → r.track.at ≡ rounded time → r.track.at ≤ 2000000000000 → lines_read number lines r ≡ Ok e → Ran r e time lines
+lines_ran : (number : ℕ) (lines : List (List ℕ)) (r : Reader) (e : Captured) (time : ℕ) → r.track.at ≡ rounded time → r.track.at ≤ 2000000000000 → lines_read pin_form number lines r ≡ Ok e → Ran r e time lines
 lines_ran number [] r e time at early h =
     let is : record { edges = option_to_list (last_edge r.track); end = r.track.at } ≡ e = cc in
     subst (λ (e : Captured). Ran r e time []) is (record { records = records_end r.track; end = at; early = early })
 lines_ran number (line ∷ lines) r e time at early h =
-    by (took line r) (line_goes r line time at early) h (λ s f t a l k. lines_ran (number + 1) lines s f t a l k)
-  where
-    next : (step : Step) → Goes r.track step (start_after line r.start) (time_by r.start (event_in line) time) (level_by r.start (event_in line)) → (o : Result Captured PinFault)
-        → lines_read (number + 1) lines step.reader ≡ o → with_edges (option_to_list step.edge) o ≡ Ok e
-        → ((s : Reader) (f : Captured) (t : ℕ) → s.track.at ≡ rounded t → s.track.at ≤ 2000000000000 → lines_read (number + 1) lines s ≡ Ok f → Ran s f t lines) → Ran r e time (line ∷ lines)
-    next step g (Err x) k m ih = cc
-    next step g (Ok f) k m ih =
-        let is : record { edges = option_to_list step.edge ++ f.edges; end = f.end } ≡ e = cc in
-        run_more r step e f time line lines g (ih step.reader f (time_by r.start (event_in line) time) g.at g.early k) (sym is)
-
-    by : (st : Stepped) → GoesBy r.track st (start_after line r.start) (time_by r.start (event_in line) time) (level_by r.start (event_in line))
-        → read_on (passed_by number st) (lines_read (number + 1) lines) ≡ Ok e
-        → ((s : Reader) (f : Captured) (t : ℕ) → s.track.at ≡ rounded t → s.track.at ≤ 2000000000000 → lines_read (number + 1) lines s ≡ Ok f → Ran s f t lines) → Ran r e time (line ∷ lines)
-    by (Err x) g k ih = cc
-    by (Ok step) g k ih = next step g (lines_read (number + 1) lines step.reader) refl k ih
+    let o = onward pin_form number line lines r e (whole line) h in
+    let stepped : took line r ≡ Ok o.step = without_word (word_at_fault line) (took line r) o.step o.took in
+    let g : Goes r.track o.step (start_after line r.start) (time_by r.start (event_in line) time) (level_by r.start (event_in line)) =
+    subst (λ (st : Stepped). GoesBy r.track st (start_after line r.start) (time_by r.start (event_in line) time) (level_by r.start (event_in line))) stepped (line_goes r line time at early) in
+    run_more r o.step e o.rest time line lines g (lines_ran (number + 1) lines o.step.state o.rest (time_by r.start (event_in line) time) g.at g.early o.read) o.is
 
 pub pin_files_are_sampled : PinFilesAreSampled
 pin_files_are_sampled text e h =

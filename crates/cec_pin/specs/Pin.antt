@@ -1,24 +1,21 @@
 -- A file of pin events as cec-ctl stores it (v4l-utils, `--store-pin`): a line an event, of which those of the CEC pin
 -- give the level of the bus; lines that are empty or begin with `#` are passed over, but for the start that they give.
-use Rattle.std.specs.Prelude.{◌≡◌, ℕ, ◌+◌, ◌-◌, ◌*◌, ◌/◌, ◌==◌, ◌&&◌, ◌||◌, Bool, true, false, nat_lt, nat_le, if◌then◌else◌, List, [], ◌∷◌, ◌++◌, length, take, drop, slice_index, codes, Option, Some, None, Result, Ok, Err}
-use Rattle.std.specs.Option.{option_to_list}
+use Rattle.std.specs.Prelude.{◌≡◌, ℕ, ◌+◌, ◌-◌, ◌*◌, ◌/◌, ◌==◌, ◌&&◌, ◌||◌, Bool, true, false, nat_lt, nat_le, if◌then◌else◌, List, [], ◌∷◌, length, take, drop, slice_index, codes, Option, Some, None, Result, Ok, Err}
+use Rattle.std.specs.Option.{is_none, is_some}
 use Rattle.std.specs.List.{position_or_len}
 use Rattle.std.specs.Str.{bytes_eq}
-use Rattle.std.specs.Global.{Vec}
-use Rattle.cec_wave.specs.declared.Edge.{Edge}
 use Rattle.hdmi_core.specs.Lines.{lines_of, is_skipped}
 use Rattle.hdmi_core.specs.Number.{number_of}
 use Rattle.cec_signal.specs.Edges.{Captured}
 use Rattle.cec_signal.specs.Seconds.{decimals_of}
-use Rattle.cec_signal.specs.Track.{Moved, first_track as line_begun, last_edge, track_move, with_level}
+use Rattle.cec_signal.specs.Track.{Moved, first_track as line_begun, track_move, with_level}
+use Rattle.cec_signal.specs.Reading.{Form, Step, at_word, lines_read}
+use Rattle.cec_signal.specs.declared.fault.Cause.{Cause}
+use Rattle.cec_signal.specs.declared.fault.Cause.TheVariants as cause
+use Rattle.cec_signal.specs.declared.fault.CaptureFault.{CaptureFault}
 use Rattle.cec_signal.specs.declared.track.Track.{Track}
 use Rattle.cec_pin.specs.declared.line.Event.{Event}
-use Rattle.cec_pin.specs.declared.reader.Cause.{Cause}
-use Rattle.cec_pin.specs.declared.reader.Cause.TheVariants as cause
 use Rattle.cec_pin.specs.declared.reader.Reader.{Reader}
-use Rattle.cec_pin.specs.declared.reading.PinFault.{PinFault}
-use Rattle.cec_pin.specs.declared.reading.PinError.{PinError}
-use Rattle.cec_pin.specs.declared.reading.PinError.TheVariants.{Fault, Memory}
 
 -- ---- a line
 
@@ -76,17 +73,8 @@ start_in_comment line = if bytes_eq (take 18 line) (codes "# start_monotonic ") 
 abbrev pub first_reader : Reader
 first_reader = record { start = 0; track = line_begun }
 
-pub record Step : Type 0 where
-  pub reader : Reader
-  pub edge : Option Edge
-
 abbrev pub Stepped : Type 0
-Stepped = Result Step Cause
-
--- what a call returned, and what it left
-abbrev pub Takes : Stepped → Result (Option Edge) Cause → Reader → Type 0
-Takes stepped (Ok edge) new = stepped ≡ Ok (record { reader = new; edge = edge })
-Takes stepped (Err fault) new = stepped ≡ Err fault
+Stepped = Result (Step Reader) Cause
 
 abbrev pub track_with_level : Option Bool → Track → Track
 track_with_level None t = t
@@ -94,7 +82,7 @@ track_with_level (Some low) t = with_level low t
 
 abbrev pub moved_by : Option Moved → Option Bool → Reader → Stepped
 moved_by None low r = Err cause.Order
-moved_by (Some m) low r = Ok (record { reader = record { start = r.start; track = track_with_level low m.track }; edge = m.edge })
+moved_by (Some m) low r = Ok (record { state = record { start = r.start; track = track_with_level low m.track }; edge = m.edge })
 
 -- an event of another pin is a time alone
 abbrev pub moved_to : Option ℕ → Option Bool → Reader → Stepped
@@ -110,48 +98,25 @@ reader_with_start None r = r
 reader_with_start (Some start) r = record r { start = start }
 
 abbrev pub took : List ℕ → Reader → Stepped
-took line r = if is_skipped line then Ok (record { reader = reader_with_start (start_in_comment line) r; edge = None }) else after_event (event_of line) r
+took line r = if is_skipped line then Ok (record { state = reader_with_start (start_in_comment line) r; edge = None }) else after_event (event_of line) r
 
 -- ---- a file
 
-abbrev pub with_edges : List Edge → Result Captured PinFault → Result Captured PinFault
-with_edges edges (Ok e) = Ok (record { edges = edges ++ e.edges; end = e.end })
-with_edges edges (Err fault) = Err fault
+-- the word at fault of a line that is refused: its code, where that is none after a time, and else its time
+abbrev pub space_in : List ℕ → ℕ
+space_in line = position_or_len (λ b. b == 32) line
 
-pub record Passed : Type 0 where
-  pub edges : List Edge
-  pub reader : Reader
+abbrev pub word_at_fault : List ℕ → ℕ
+word_at_fault line = if is_some (word_start (take (space_in line) line)) && is_none (code_of (drop (space_in line + 1) line)) then 1 else 0
 
-abbrev pub passed_by : ℕ → Stepped → Result Passed PinFault
-passed_by number (Err fault) = Err (record { line = number; cause = fault })
-passed_by number (Ok step) = Ok (record { edges = option_to_list step.edge; reader = step.reader })
+-- a line is taken as it stands; a file ends with its last event
+abbrev pub pin_form : Form Reader
+pin_form = record {
+  is_gap = λ byte. false;
+  took = λ number line r. at_word (word_at_fault line) (took line r);
+  track = λ r. r.track;
+  ended = λ r. Ok r.track.at;
+}
 
-abbrev pub read_on : Result Passed PinFault → (Reader → Result Captured PinFault) → Result Captured PinFault
-read_on (Err fault) more = Err fault
-read_on (Ok p) more = with_edges p.edges (more p.reader)
-
--- a file ends with its last event
-abbrev pub lines_read : ℕ → List (List ℕ) → Reader → Result Captured PinFault
-lines_read number [] r = Ok (record { edges = option_to_list (last_edge r.track); end = r.track.at })
-lines_read number (line ∷ lines) r = read_on (passed_by number (took line r)) (lines_read (number + 1) lines)
-
-abbrev pub edges_in : List ℕ → Result Captured PinFault
-edges_in text = lines_read 1 (lines_of text) first_reader
-
--- a capture is what is read, and a fault is the one of the text; of memory nothing is said
-abbrev pub Gives : Result Captured PinError → Result Captured PinFault → Type 0
-Gives (Ok c) read = read ≡ Ok c
-Gives (Err (Fault fault)) read = read ≡ Err fault
-Gives (Err Memory) read = Unit {0}
-
--- the same of edges and an end
-abbrev pub GivesEdges : Result (Vec Edge × ℕ) PinError → Result Captured PinFault → Type 0
-GivesEdges (Ok c) read = read ≡ Ok (record { edges = c.0.items; end = c.1 })
-GivesEdges (Err (Fault fault)) read = read ≡ Err fault
-GivesEdges (Err Memory) read = Unit {0}
-
--- a line was passed: its edges came after those before
-abbrev pub PassesLine : Result Passed PinFault → List Edge → Result (Unit {0}) PinError → List Edge → Reader → Type 0
-PassesLine passed old (Ok n) new reader = (more : List Edge) × (new ≡ old ++ more) × (passed ≡ Ok (record { edges = more; reader = reader }))
-PassesLine passed old (Err (Fault fault)) new reader = passed ≡ Err fault
-PassesLine passed old (Err Memory) new reader = Unit {0}
+abbrev pub edges_in : List ℕ → Result Captured CaptureFault
+edges_in text = lines_read pin_form 1 (lines_of text) first_reader

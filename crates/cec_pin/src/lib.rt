@@ -12,7 +12,6 @@ mod writing;
 
 pub use laws::{pin_files_are_read_back, pin_files_are_sampled};
 pub use lost::lost_lines;
-pub use reader::Cause;
-pub use reading::{PinError, PinFault, read_pin};
+pub use reading::read_pin;
 pub use round::add_round;
 pub use writing::{add_fall, add_head, add_rise};

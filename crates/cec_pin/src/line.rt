@@ -1,6 +1,6 @@
 //! A line of a file of pin events.
 ghost use Rattle.std.specs.Prelude.{◌≡◌, ◌+◌, ◌*◌, ◌<◌};
-ghost use Rattle.cec_pin.specs.Pin.{code_of, event_cut, event_of, fraction_of, instant_of, nanos_of, start_in_comment, word_start};
+ghost use Rattle.cec_pin.specs.Pin.{code_of, event_cut, event_of, fraction_of, instant_of, nanos_of, start_in_comment, word_at_fault, word_start};
 
 use cec_signal::decimals_in;
 use cec_wave::LATEST_INSTANT;
@@ -97,5 +97,17 @@ pub fn start_in_comment(line: &[u8]) -> Option<u128>
         time_in(after(line, 18))
     } else {
         None
+    }
+}
+
+/// The word at fault of a line that is refused, counted from 0: its code, where that is none after a time, and else its time.
+pub fn word_at_fault(line: &[u8]) -> usize
+    ensures { result ≡ word_at_fault line.now }
+{
+    let space = len_before(line, b' ');
+    if time_in(before(line, space)).is_some() && code_of(after(line, space + 1)).is_none() {
+        1
+    } else {
+        0
     }
 }

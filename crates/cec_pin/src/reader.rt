@@ -1,25 +1,10 @@
 //! A reader of a file of pin events, line by line.
 ghost use Rattle.std.specs.Prelude.{◌≡◌};
 
-use crate::line::{event_of, instant_of, start_in_comment};
-use cec_signal::Track;
+use crate::line::{event_of, instant_of, start_in_comment, word_at_fault};
+use cec_signal::{Cause, Slip, TakesWords, Track, no_gap};
 use cec_wave::Edge;
 use hdmi_core::is_skipped;
-use thiserror::Error;
-
-/// What is wrong with a line.
-#[derive(Clone, Copy, Debug, PartialEq, Eq, Error)]
-pub enum Cause {
-    /// It is no time with nine decimals and a code of an event.
-    #[error("word")]
-    Word,
-    /// Its time is past the limit.
-    #[error("late")]
-    Late,
-    /// Its time goes back.
-    #[error("order")]
-    Order,
-}
 
 /// A reader of the lines of a file.
 #[derive(Clone, Copy, Debug)]
@@ -30,8 +15,8 @@ pub struct Reader {
 }
 
 impl Reader {
-    ghost use Rattle.cec_pin.specs.Pin.{Takes, first_reader, moved_to, took};
-    ghost use Rattle.cec_signal.specs.Track.{last_edge};
+    ghost use Rattle.cec_signal.specs.Reading.{Takes};
+    ghost use Rattle.cec_pin.specs.Pin.{first_reader, moved_to, took};
 
     /// A reader at the front of a file.
     pub fn new() -> Self
@@ -61,8 +46,8 @@ impl Reader {
         }
     }
 
-    /// Takes the next line, and returns the edge that is known by it.
-    pub fn take(&mut self, line: &[u8]) -> Result<Option<Edge>, Cause>
+    // Takes the next line, and returns the edge that is known by it.
+    fn take_line(&mut self, line: &[u8]) -> Result<Option<Edge>, Cause>
         ensures { Takes (took line.now self.old) result self.new }
     {
         if is_skipped(line) {
@@ -76,18 +61,39 @@ impl Reader {
             Some(event) => self.go_to(instant_of(self.start, event.nanos), event.low),
         }
     }
+}
 
-    /// The last instant.
-    pub fn end(&self) -> u64
-        ensures { result ≡ self.now.track.at }
-    {
-        self.track.at()
+impl<'a> TakesWords<'a> for Reader {
+    ghost use Rattle.cec_pin.specs.declared.reader.Reader.{Reader as ReaderOf};
+    ghost use Rattle.cec_pin.specs.Pin.{pin_form};
+
+    ghost State = { ReaderOf };
+
+    ghost state = { λ r. r };
+
+    ghost form = { pin_form };
+
+    fn gap_in(line: &[u8]) -> Option<usize> {
+        no_gap(line)
     }
 
-    /// The edge at the last instant.
-    pub fn last(&self) -> Option<Edge>
-        ensures { result ≡ last_edge self.now.track }
-    {
-        self.track.last()
+    fn take(&mut self, _number: usize, line: &'a [u8]) -> Result<Option<Edge>, Slip> {
+        match self.take_line(line) {
+            Ok(edge) => Ok(edge),
+            Err(cause) => {
+                Err(Slip {
+                    cause,
+                    word: word_at_fault(line),
+                })
+            }
+        }
+    }
+
+    fn track(&self) -> Track {
+        self.track
+    }
+
+    fn end(&self) -> Result<u64, Cause> {
+        Ok(self.track.at())
     }
 }

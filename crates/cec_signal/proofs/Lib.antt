@@ -3,3 +3,4 @@ pub mod Texts
 pub mod Moving
 pub mod Recording
 pub mod Decimals
+pub mod Passing

@@ -2,3 +2,4 @@ pub mod Edges
 pub mod Track
 pub mod Samples
 pub mod Seconds
+pub mod Reading

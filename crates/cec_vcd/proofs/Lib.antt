@@ -1,4 +1,3 @@
-pub mod Passing
 pub mod Texts
 pub mod ReadBack
 pub mod Sampled

@@ -14,15 +14,16 @@ use Rattle.cec_signal.specs.Track.{first_track as line_begun}
 use Rattle.cec_signal.proofs.Moving.{due, move_kept, move_reported, move_same, track_at}
 use Rattle.cec_signal.proofs.Numbers.{number_again, some_length}
 use Rattle.cec_signal.proofs.Texts.{Lacks, line_before, shown}
+use Rattle.cec_signal.specs.Reading.{at_word, lines_read, with_edges, words_read}
+use Rattle.cec_signal.specs.declared.fault.CaptureFault.{CaptureFault}
+use Rattle.cec_signal.proofs.Passing.{alone, line_passed}
 use Rattle.cec_vcd.specs.Scale.{instant_of}
-use Rattle.cec_vcd.specs.Dump.{State, first_state, no_edge, lines_passed, parts_of, after_time, timed_by, reported_by, took, words_passed, onto}
+use Rattle.cec_vcd.specs.Dump.{State, after_time, dump_form, first_state, no_edge, parts_of, timed_by, took}
 use Rattle.cec_vcd.specs.Text.{head, changes, last, DumpsAreReadBack}
 use Rattle.cec_vcd.specs.declared.scale.Scale.{Scale as ScaleOf}
 use Rattle.cec_vcd.specs.declared.scale.Unit.TheVariants.{Microsecond}
 use Rattle.cec_vcd.specs.declared.scale.Count.TheVariants.{One}
 use Rattle.cec_vcd.specs.declared.reader.Section.TheVariants as section
-use Rattle.cec_vcd.specs.declared.reading.VcdFault.{VcdFault}
-use Rattle.cec_vcd.proofs.Passing.{before, line_reported, word_passed}
 use Rattle.cec_vcd.proofs.Texts.{time_line, value_line, time_plain, value_plain, time_parts, value_parts}
 
 abbrev scale : ScaleOf
@@ -73,21 +74,11 @@ rises at was is = refl
 
 -- ---- lines
 
--- one word alone on a line
-alone : (number : ℕ) (line : List ℕ) (lines : List (List ℕ)) (s t : State) (edge : Option Edge) → parts_of line ≡ line ∷ [] → took line s ≡ Ok (record { state = t; edge = edge })
-    → reported_by (lines_passed number (line ∷ lines) s) ≡ before (option_to_list edge) (reported_by (lines_passed (number + 1) lines t))
-alone number line lines s t edge one h =
-    line_reported number line lines s t (option_to_list edge) (ap (λ ws. words_passed number ws s) one ∙ word_passed number line [] s t edge h ∙ only edge)
-  where
-    only : (edge : Option Edge) → onto (option_to_list edge) (words_passed number [] t) ≡ Ok (record { edges = option_to_list edge; state = t })
-    only None = refl
-    only (Some e) = refl
-
--- the same of the lines of a text
+-- one word alone on a line of a text
 alone_in : (number : ℕ) (line rest : List ℕ) (s t : State) (edge : Option Edge) → Lacks (λ c. c == 10) line → parts_of line ≡ line ∷ [] → took line s ≡ Ok (record { state = t; edge = edge })
-    → reported_by (lines_passed number (lines_of (line ++ 10 ∷ rest)) s) ≡ before (option_to_list edge) (reported_by (lines_passed (number + 1) (lines_of rest) t))
+    → lines_read dump_form number (lines_of (line ++ 10 ∷ rest)) s ≡ with_edges (option_to_list edge) (lines_read dump_form (number + 1) (lines_of rest) t)
 alone_in number line rest s t edge plain one h =
-    ap (λ lines. reported_by (lines_passed number lines s)) (line_before line rest plain) ∙ alone number line (lines_of rest) s t edge one h
+    ap (λ lines. lines_read dump_form number lines s) (line_before line rest plain) ∙ alone dump_form number line (lines_of rest) s (record { state = t; edge = edge }) one (ap (at_word 0) h)
 
 -- ---- changes
 
@@ -99,19 +90,19 @@ fall_time t at false low after = time_kept t at false low after
 
 -- a stretch of the dump, before what follows
 stretch_reported : (number at from to : ℕ) (b : Bool) (more : List ℕ) → cond b (at + 1) at ≤ from → from < to → to ≤ 2000000000000
-    → reported_by (lines_passed number (lines_of (time_line from ++ 10 ∷ (value_line 48 ++ 10 ∷ (time_line to ++ 10 ∷ (value_line 49 ++ 10 ∷ more))))) (stood at b false))
-    ≡ before (option_to_list (due at b)) (before [] (before (record { at = from; low = true } ∷ []) (before [] (reported_by (lines_passed (number + 1 + 1 + 1 + 1) (lines_of more) (stood to true false))))))
+    → lines_read dump_form number (lines_of (time_line from ++ 10 ∷ (value_line 48 ++ 10 ∷ (time_line to ++ 10 ∷ (value_line 49 ++ 10 ∷ more))))) (stood at b false)
+    ≡ with_edges (option_to_list (due at b)) (with_edges [] (with_edges (record { at = from; low = true } ∷ []) (with_edges [] (lines_read dump_form (number + 1 + 1 + 1 + 1) (lines_of more) (stood to true false)))))
 stretch_reported number at from to b more after wide low =
     let early : from ≤ 2000000000000 = omega arith in
     alone_in number (time_line from) (value_line 48 ++ 10 ∷ (time_line to ++ 10 ∷ (value_line 49 ++ 10 ∷ more))) (stood at b false) (stood from false false) (due at b)
     (time_plain from (omega arith)) (time_parts from (omega arith)) (fall_time from at b early after)
-    ∙ ap (before (option_to_list (due at b))) (
+    ∙ ap (with_edges (option_to_list (due at b))) (
     alone_in (number + 1) (value_line 48) (time_line to ++ 10 ∷ (value_line 49 ++ 10 ∷ more)) (stood from false false) (stood from false true) None
     (value_plain 48 refl) (value_parts 48 refl) (falls from false false)
-    ∙ ap (before []) (
+    ∙ ap (with_edges []) (
     alone_in (number + 1 + 1) (time_line to) (value_line 49 ++ 10 ∷ more) (stood from false true) (stood to true true) (Some (record { at = from; low = true }))
     (time_plain to (omega arith)) (time_parts to (omega arith)) (time_reported to from true low wide)
-    ∙ ap (before (record { at = from; low = true } ∷ [])) (
+    ∙ ap (with_edges (record { at = from; low = true } ∷ [])) (
     alone_in (number + 1 + 1 + 1) (value_line 49) more (stood to true true) (stood to true false) None
     (value_plain 49 refl) (value_parts 49 refl) (rises to true true))))
 
@@ -134,13 +125,13 @@ EndsBy end (s ∷ ss) = (s.to ≤ end) × EndsBy end ss
 
 -- the last time
 end_reported : (number at end : ℕ) (b : Bool) → at ≤ end → end ≤ 2000000000000
-    → reported_by (lines_passed number (lines_of (time_line end ++ 10 ∷ [])) (stood at b false)) ≡ Ok (record { edges = option_to_list (due at b); end = end })
+    → lines_read dump_form number (lines_of (time_line end ++ 10 ∷ [])) (stood at b false) ≡ Ok (record { edges = option_to_list (due at b); end = end })
 end_reported number at end false after low =
     alone_in number (time_line end) [] (stood at false false) (stood end false false) None (time_plain end (omega arith)) (time_parts end (omega arith)) (time_kept end at false low after)
 end_reported number at end true after low = by (nat_lt at end) refl
   where
     by : (b : Bool) → nat_lt at end ≡ b
-        → reported_by (lines_passed number (lines_of (time_line end ++ 10 ∷ [])) (stood at true false)) ≡ Ok (record { edges = record { at = at; low = false } ∷ []; end = end })
+        → lines_read dump_form number (lines_of (time_line end ++ 10 ∷ [])) (stood at true false) ≡ Ok (record { edges = record { at = at; low = false } ∷ []; end = end })
     by true h =
         let earlier : at < end = grind (arith, nat_tests) in
         alone_in number (time_line end) [] (stood at true false) (stood end false false) (Some (record { at = at; low = false })) (time_plain end (omega arith)) (time_parts end (omega arith))
@@ -149,28 +140,28 @@ end_reported number at end true after low = by (nat_lt at end) refl
         let same : at ≡ end = grind (arith, nat_tests) in
         rw same (alone_in number (time_line end) [] (stood end true false) (stood end true false) None (time_plain end (omega arith)) (time_parts end (omega arith)) (time_same end true false low))
 
-abbrev with_end : List Edge → ℕ → Result Captured VcdFault
+abbrev with_end : List Edge → ℕ → Result Captured CaptureFault
 with_end edges end = Ok (record { edges = edges; end = end })
 
 read_back : (ss : List Stretch) (end number at : ℕ) (b : Bool) → IsWaveFrom (cond b (at + 1) at) ss → EndsBy end ss → at ≤ end → end ≤ 2000000000000
-    → reported_by (lines_passed number (lines_of (changes ss ++ last end)) (stood at b false)) ≡ Ok (record { edges = option_to_list (due at b) ++ edges_of ss; end = end })
+    → lines_read dump_form number (lines_of (changes ss ++ last end)) (stood at b false) ≡ Ok (record { edges = option_to_list (due at b) ++ edges_of ss; end = end })
 read_back [] end number at b wave by after low =
     end_reported number at end b after low ∙ ap (λ es. with_end es end) (sym (append-nil (option_to_list (due at b))))
 read_back (s ∷ ss) end number at b wave by after low =
     let ends = by.0 in
-    ap (λ text. reported_by (lines_passed number (lines_of text) (stood at b false))) (stretch_before s ss (last end))
+    ap (λ text. lines_read dump_form number (lines_of text) (stood at b false)) (stretch_before s ss (last end))
     ∙ stretch_reported number at s.from s.to b (changes ss ++ last end) wave.0 wave.1 (omega (arith, ends))
-    ∙ ap (λ r. before (option_to_list (due at b)) (before [] (before (record { at = s.from; low = true } ∷ []) (before [] r))))
+    ∙ ap (λ r. with_edges (option_to_list (due at b)) (with_edges [] (with_edges (record { at = s.from; low = true } ∷ []) (with_edges [] r))))
     (read_back ss end (number + 1 + 1 + 1 + 1) s.to true wave.2 by.1 ends low)
 
 -- ---- definitions
 
-head_line : (number : ℕ) (line rest : List ℕ) (s t : State) → list_all (λ c. not (c == 10)) line ≡ true → words_passed number (parts_of line) s ≡ Ok (record { edges = []; state = t })
-    → reported_by (lines_passed number (lines_of (line ++ 10 ∷ rest)) s) ≡ reported_by (lines_passed (number + 1) (lines_of rest) t)
+head_line : (number : ℕ) (line rest : List ℕ) (s t : State) → list_all (λ c. not (c == 10)) line ≡ true → words_read dump_form number 0 (parts_of line) s ≡ Ok (record { edges = []; state = t })
+    → lines_read dump_form number (lines_of (line ++ 10 ∷ rest)) s ≡ lines_read dump_form (number + 1) (lines_of rest) t
 head_line number line rest s t all h =
-    ap (λ lines. reported_by (lines_passed number lines s)) (line_before line rest (shown (λ c. c == 10) line all)) ∙ line_reported number line (lines_of rest) s t [] h ∙ same (reported_by (lines_passed (number + 1) (lines_of rest) t))
+    ap (λ lines. lines_read dump_form number lines s) (line_before line rest (shown (λ c. c == 10) line all)) ∙ line_passed dump_form number line (lines_of rest) s t [] h ∙ same (lines_read dump_form (number + 1) (lines_of rest) t)
   where
-    same : (r : Result Captured VcdFault) → before [] r ≡ r
+    same : (r : Result Captured CaptureFault) → with_edges [] r ≡ r
     same (Ok e) = refl
     same (Err f) = refl
 
@@ -197,37 +188,37 @@ declared = record {
   track = line_begun;
 }
 
-head_1 : words_passed 1 (parts_of (codes "$version hdminet $end")) (first_state []) ≡ Ok (record { edges = []; state = first_state [] })
+head_1 : words_read dump_form 1 0 (parts_of (codes "$version hdminet $end")) (first_state []) ≡ Ok (record { edges = []; state = first_state [] })
 head_1 = refl
 
-head_2 : words_passed 2 (parts_of (codes "$timescale 1 us $end")) (first_state []) ≡ Ok (record { edges = []; state = opened scale })
+head_2 : words_read dump_form 2 0 (parts_of (codes "$timescale 1 us $end")) (first_state []) ≡ Ok (record { edges = []; state = opened scale })
 head_2 = refl
 
-head_3 : words_passed 3 (parts_of (codes "$scope module hdmi $end")) (opened scale) ≡ Ok (record { edges = []; state = opened scale })
+head_3 : words_read dump_form 3 0 (parts_of (codes "$scope module hdmi $end")) (opened scale) ≡ Ok (record { edges = []; state = opened scale })
 head_3 = refl
 
-head_4 : words_passed 4 (parts_of (codes "$var wire 1 ! CEC $end")) (opened scale) ≡ Ok (record { edges = []; state = declared })
+head_4 : words_read dump_form 4 0 (parts_of (codes "$var wire 1 ! CEC $end")) (opened scale) ≡ Ok (record { edges = []; state = declared })
 head_4 = refl
 
-head_5 : words_passed 5 (parts_of (codes "$upscope $end")) declared ≡ Ok (record { edges = []; state = declared })
+head_5 : words_read dump_form 5 0 (parts_of (codes "$upscope $end")) declared ≡ Ok (record { edges = []; state = declared })
 head_5 = refl
 
-head_6 : words_passed 6 (parts_of (codes "$enddefinitions $end")) declared ≡ Ok (record { edges = []; state = stood 0 false false })
+head_6 : words_read dump_form 6 0 (parts_of (codes "$enddefinitions $end")) declared ≡ Ok (record { edges = []; state = stood 0 false false })
 head_6 = refl
 
-head_7 : words_passed 7 (parts_of (codes "#0")) (stood 0 false false) ≡ Ok (record { edges = []; state = stood 0 false false })
+head_7 : words_read dump_form 7 0 (parts_of (codes "#0")) (stood 0 false false) ≡ Ok (record { edges = []; state = stood 0 false false })
 head_7 = refl
 
-head_8 : words_passed 8 (parts_of (codes "$dumpvars")) (stood 0 false false) ≡ Ok (record { edges = []; state = stood 0 false false })
+head_8 : words_read dump_form 8 0 (parts_of (codes "$dumpvars")) (stood 0 false false) ≡ Ok (record { edges = []; state = stood 0 false false })
 head_8 = refl
 
-head_9 : words_passed 9 (parts_of (codes "1!")) (stood 0 false false) ≡ Ok (record { edges = []; state = stood 0 false false })
+head_9 : words_read dump_form 9 0 (parts_of (codes "1!")) (stood 0 false false) ≡ Ok (record { edges = []; state = stood 0 false false })
 head_9 = refl
 
-head_10 : words_passed 10 (parts_of (codes "$end")) (stood 0 false false) ≡ Ok (record { edges = []; state = stood 0 false false })
+head_10 : words_read dump_form 10 0 (parts_of (codes "$end")) (stood 0 false false) ≡ Ok (record { edges = []; state = stood 0 false false })
 head_10 = refl
 
-head_reported : (more : List ℕ) → reported_by (lines_passed 1 (lines_of (head ++ more)) (first_state [])) ≡ reported_by (lines_passed 11 (lines_of more) (stood 0 false false))
+head_reported : (more : List ℕ) → lines_read dump_form 1 (lines_of (head ++ more)) (first_state []) ≡ lines_read dump_form 11 (lines_of more) (stood 0 false false)
 head_reported more =
     let t10 = codes "$end" ++ 10 ∷ more in
     let t9 = codes "1!" ++ 10 ∷ t10 in

@@ -14,8 +14,12 @@ use Rattle.cec_signal.specs.Samples.{Sample, level_in}
 use Rattle.cec_signal.specs.Track.{Moved, first_track as line_begun, last_edge, track_move, with_level}
 use Rattle.cec_signal.specs.declared.track.Track.{Track}
 use Rattle.cec_signal.proofs.Recording.{Records, moved_at, records_capture, records_end, records_level, records_line, records_moved}
+use Rattle.cec_signal.specs.Reading.{Passed as PassedOf, Step as StepOf, at_word, end_read, lines_read, onto, word_read, words_read}
+use Rattle.cec_signal.specs.declared.fault.Cause.TheVariants as cause
+use Rattle.cec_signal.specs.declared.fault.CaptureFault.{CaptureFault}
+use Rattle.cec_signal.proofs.Passing.{line_onward}
 use Rattle.cec_vcd.specs.Scale.{count_times, counted_word, instant_of, micros, of_unit, unit_of, within}
-use Rattle.cec_vcd.specs.Dump.{Passed, State, Step, Stepped, first_state, edges_in, free, in_field, in_section, is_binary, is_end, is_high, is_mark, is_none, is_other_value, no_edge, keyword, lines_passed, lines_on, end_of_definitions, named_by, onto, parts_of, scalar, scale_begun, scale_made, scale_made_by, step_passed, after_time, timed_by, reported_by, took, after_value, vector_value, words_passed}
+use Rattle.cec_vcd.specs.Dump.{State, Stepped, dump_form, end_by, first_state, edges_in, free, in_field, in_section, is_binary, is_end, is_high, is_mark, is_none, is_other_value, no_edge, keyword, end_of_definitions, named_by, parts_of, scalar, scale_begun, scale_made, scale_made_by, after_time, timed_by, took, after_value, vector_value}
 use Rattle.cec_vcd.specs.Wire.{Change, Part, Wire, DumpsAreSampled, IsSampled, change_by, change_of, changes_in, femtoseconds, first_of, id_after, is_alone, is_by, is_scalar, is_some_word, last_tick, level_of, scale_after, scale_by, section_after, tick_after, unit_in, unit_made, wire_by, wire_end, wire_from, wire_in, words_in}
 use Rattle.cec_vcd.specs.declared.scale.Count.{Count}
 use Rattle.cec_vcd.specs.declared.scale.Count.TheVariants.{One, Ten, Hundred}
@@ -26,8 +30,12 @@ use Rattle.cec_vcd.specs.declared.scale.Unit.{Unit as UnitOf}
 use Rattle.cec_vcd.specs.declared.scale.Unit.TheVariants.{Second, Millisecond, Microsecond, Nanosecond, Picosecond, Femtosecond}
 use Rattle.cec_vcd.specs.declared.reader.Section.{Section}
 use Rattle.cec_vcd.specs.declared.reader.Section.TheVariants as section
-use Rattle.cec_vcd.specs.declared.reader.Cause.TheVariants as cause
-use Rattle.cec_vcd.specs.declared.reading.VcdFault.{VcdFault}
+
+abbrev Passed : Type 0
+Passed = PassedOf State
+
+abbrev Step : Type 0
+Step = StepOf State
 
 -- ---- ticks and microseconds
 
@@ -327,46 +335,47 @@ run_append (word ∷ a) b s p q h k =
     ap (λ st. run_by st (run (a ++ b))) f.2 ∙ ap (run_onto (option_to_list step.edge)) more
     ∙ ap (λ es. Some (record { edges = es; state = q.state })) (sym (append_assoc (option_to_list step.edge) r.edges q.edges) ∙ ap (λ es. es ++ q.edges) (sym edges))
 
-words_run : (number : ℕ) (words : List (List ℕ)) (s : State) (p : Passed) → words_passed number words s ≡ Ok p → run words s ≡ Some p
-words_run number [] s p h = let is : record { edges = []; state = s } ≡ p = cc in ap Some is
-words_run number (word ∷ words) s p h = by (took word s) h (λ t q e. words_run number words t q e)
+words_run : (line number : ℕ) (words : List (List ℕ)) (s : State) (p : Passed) → words_read dump_form line number words s ≡ Ok p → run words s ≡ Some p
+words_run line number [] s p h = let is : record { edges = []; state = s } ≡ p = cc in ap Some is
+words_run line number (word ∷ words) s p h = by (took word s) h (λ t q e. words_run line (number + 1) words t q e)
   where
-    next : (step : Step) (r : Result Passed VcdFault) → words_passed number words step.state ≡ r → onto (option_to_list step.edge) r ≡ Ok p
-        → ((t : State) (q : Passed) → words_passed number words t ≡ Ok q → run words t ≡ Some q) → run_onto (option_to_list step.edge) (run words step.state) ≡ Some p
+    next : (step : Step) (r : Result Passed CaptureFault) → words_read dump_form line (number + 1) words step.state ≡ r → onto (option_to_list step.edge) r ≡ Ok p
+        → ((t : State) (q : Passed) → words_read dump_form line (number + 1) words t ≡ Ok q → run words t ≡ Some q) → run_onto (option_to_list step.edge) (run words step.state) ≡ Some p
     next step (Err f) e k ih = cc
     next step (Ok q) e k ih =
         let is : record { edges = option_to_list step.edge ++ q.edges; state = q.state } ≡ p = cc in
         ap (run_onto (option_to_list step.edge)) (ih step.state q e) ∙ ap Some is
 
-    by : (st : Stepped) → step_passed number st (words_passed number words) ≡ Ok p → ((t : State) (q : Passed) → words_passed number words t ≡ Ok q → run words t ≡ Some q) → run_by st (run words) ≡ Some p
+    by : (st : Stepped) → word_read line (at_word number st) (words_read dump_form line (number + 1) words) ≡ Ok p
+        → ((t : State) (q : Passed) → words_read dump_form line (number + 1) words t ≡ Ok q → run words t ≡ Some q) → run_by st (run words) ≡ Some p
     by (Err c) k ih = cc
-    by (Ok step) k ih = next step (words_passed number words step.state) refl k ih
+    by (Ok step) k ih = next step (words_read dump_form line (number + 1) words step.state) refl k ih
 
-lines_run : (number : ℕ) (lines : List (List ℕ)) (s : State) (p : Passed) → lines_passed number lines s ≡ Ok p → (run (flat_map parts_of lines) s ≡ Some p) × (p.state.is_data ≡ true)
-lines_run number [] s p h = by s.is_data refl h
-  where
-    by : (c : Bool) → s.is_data ≡ c → if◌then◌else◌ {A = Result Passed VcdFault} c (Ok (record { edges = []; state = s })) (Err (record { line = number; cause = cause.End })) ≡ Ok p
-        → (run [] s ≡ Some p) × (p.state.is_data ≡ true)
-    by true e k = let is : record { edges = []; state = s } ≡ p = cc in (ap Some is, subst (λ (p : Passed). p.state.is_data ≡ true) is e)
-    by false e k = cc
-lines_run number (line ∷ lines) s p h = by (words_passed number (parts_of line) s) refl h (λ t q e. lines_run (number + 1) lines t q e)
-  where
-    next : (q : Passed) → words_passed number (parts_of line) s ≡ Ok q → (r : Result Passed VcdFault) → lines_passed (number + 1) lines q.state ≡ r → onto q.edges r ≡ Ok p
-        → ((t : State) (q : Passed) → lines_passed (number + 1) lines t ≡ Ok q → (run (flat_map parts_of lines) t ≡ Some q) × (q.state.is_data ≡ true))
-        → (run (parts_of line ++ flat_map parts_of lines) s ≡ Some p) × (p.state.is_data ≡ true)
-    next q f (Err x) e k ih = cc
-    next q f (Ok r) e k ih =
-        let is : record { edges = q.edges ++ r.edges; state = r.state } ≡ p = cc in
-        let more = ih q.state r e in (
-          run_append (parts_of line) (flat_map parts_of lines) s q r (words_run number (parts_of line) s q f) more.0 ∙ ap Some is,
-          subst (λ (p : Passed). p.state.is_data ≡ true) is more.1,
-        )
+-- a text that is read is what its words lead to
+record Runs (lines : List (List ℕ)) (s : State) (e : Captured) : Type 0 where
+  passed : Passed
+  runs : run (flat_map parts_of lines) s ≡ Some passed
+  over : passed.state.is_data ≡ true
+  is : e ≡ record { edges = passed.edges ++ option_to_list (last_edge passed.state.track); end = passed.state.track.at }
 
-    by : (r : Result Passed VcdFault) → words_passed number (parts_of line) s ≡ r → lines_on r (lines_passed (number + 1) lines) ≡ Ok p
-        → ((t : State) (q : Passed) → lines_passed (number + 1) lines t ≡ Ok q → (run (flat_map parts_of lines) t ≡ Some q) × (q.state.is_data ≡ true))
-        → (run (parts_of line ++ flat_map parts_of lines) s ≡ Some p) × (p.state.is_data ≡ true)
-    by (Err x) e k ih = cc
-    by (Ok q) e k ih = next q e (lines_passed (number + 1) lines q.state) refl k ih
+lines_run : (number : ℕ) (lines : List (List ℕ)) (s : State) (e : Captured) → lines_read dump_form number lines s ≡ Ok e → Runs lines s e
+lines_run number [] s e h = by s.is_data refl h
+  where
+    by : (c : Bool) → s.is_data ≡ c → end_read number s.track (end_by c s.track.at) ≡ Ok e → Runs [] s e
+    by true d k =
+        let is : record { edges = option_to_list (last_edge s.track); end = s.track.at } ≡ e = cc in
+        record { passed = record { edges = []; state = s }; runs = refl; over = d; is = sym is }
+    by false d k = cc
+lines_run number (line ∷ lines) s e h =
+    let l = line_onward dump_form number line lines s e h in
+    let more = lines_run (number + 1) lines l.passed.state l.rest l.read in
+    record {
+      passed = record { edges = l.passed.edges ++ more.passed.edges; state = more.passed.state };
+      runs = run_append (parts_of line) (flat_map parts_of lines) s l.passed more.passed (words_run number 0 (parts_of line) s l.passed l.is_passed) more.runs;
+      over = more.over;
+      is = l.is ∙ ap (λ (f : Captured). record { edges = l.passed.edges ++ f.edges; end = f.end }) more.is
+          ∙ ap (λ es. record { edges = es; end = more.passed.state.track.at }) (sym (append_assoc l.passed.edges more.passed.edges (option_to_list (last_edge more.passed.state.track))));
+    }
 
 -- empty words say nothing
 run_some : (words : List (List ℕ)) (s : State) (p : Passed) → run words s ≡ Some p → (run (filter is_some_word words) s ≡ Some p) × (list_all is_some_word (filter is_some_word words) ≡ true)
@@ -743,29 +752,22 @@ defined_ran (word ∷ words) name x part noted own candidate scale id p d all ra
         let r = ih l.place l.part_next l.noted l.own l.candidate l.scale_next l.id_next l.defines there (sym (ap (λ (t : Passed). t.state.is_data) same) ∙ over) in
         (r.0, l.same words ∙ r.1, subst (Final r.0) (sym same) r.2)
 
-sampled_by : (name text : List ℕ) (p : Passed) (e : Captured) → lines_passed 1 (lines_of text) (first_state name) ≡ Ok p → reported_by (Ok p) ≡ Ok e → (w : Wire) × (wire_in name (words_in text) ≡ Some w) × IsSampled w e
-sampled_by name text p e h k =
-    let is : record { edges = p.edges ++ option_to_list (last_edge p.state.track); end = p.state.track.at } ≡ e = cc in
-    let ran = lines_run 1 (lines_of text) (first_state name) p h in
-    let some = run_some (flat_map parts_of (lines_of text)) (first_state name) p ran.0 in
-    let f = defined_ran (words_in text) name section.Free None None None name None None p (refl, refl) some.1 some.0 ran.1 in
+pub dumps_are_sampled : DumpsAreSampled
+dumps_are_sampled name text e h =
+    let l = lines_run 1 (lines_of text) (first_state name) e h in
+    let p = l.passed in
+    let some = run_some (flat_map parts_of (lines_of text)) (first_state name) p l.runs in
+    let f = defined_ran (words_in text) name section.Free None None None name None None p (refl, refl) some.1 some.0 l.over in
     let cs = changes_in f.0.id 0 section.Skipped f.0.words in
     let edges = p.edges ++ option_to_list (last_edge p.state.track) in (
       f.0,
       f.1,
-      subst (IsSampled f.0) is (record {
+      subst (IsSampled f.0) (sym l.is) (record {
         line = λ u. records_line edges (samples_of f.0.scale cs) p.state.track.at f.2.records u ∙ sampled_so f.0.scale false cs u;
         end = f.2.end;
         capture = records_capture edges (samples_of f.0.scale cs) p.state.track.at f.2.early f.2.records;
       }),
     )
-
-pub dumps_are_sampled : DumpsAreSampled
-dumps_are_sampled name text e h = by (lines_passed 1 (lines_of text) (first_state name)) refl h
-  where
-    by : (r : Result Passed VcdFault) → lines_passed 1 (lines_of text) (first_state name) ≡ r → reported_by r ≡ Ok e → (w : Wire) × (wire_in name (words_in text) ≡ Some w) × IsSampled w e
-    by (Err f) k reported = cc
-    by (Ok p) k reported = sampled_by name text p e k reported
 
 -- what is read is a capture
 pub read_is_capture : (name text : List ℕ) (e : Captured) → edges_in name text ≡ Ok e → IsCapture e.edges e.end

@@ -1,13 +1,16 @@
 -- A Value Change Dump (IEEE 1364-2005, 18) of which one wire is the CEC line, and the edges that it reports. It is read word
 -- by word: the times of its changes, and the values of that wire. All else is passed over.
-use Rattle.std.specs.Prelude.{◌≡◌, ℕ, ◌+◌, ◌==◌, ◌&&◌, ◌||◌, Bool, true, false, if◌then◌else◌, List, [], ◌∷◌, ◌++◌, length, drop, slice_index, codes, Option, Some, None, Result, Ok, Err}
-use Rattle.std.specs.Option.{option_copied, option_to_list}
+use Rattle.std.specs.Prelude.{◌≡◌, ℕ, ◌+◌, ◌==◌, ◌&&◌, ◌||◌, Bool, true, false, if◌then◌else◌, List, [], ◌∷◌, length, drop, slice_index, codes, Option, Some, None, Result, Ok, Err}
+use Rattle.std.specs.Option.{option_copied}
 use Rattle.std.specs.List.{slice_split}
 use Rattle.std.specs.Str.{bytes_eq}
-use Rattle.cec_wave.specs.declared.Edge.{Edge}
 use Rattle.hdmi_core.specs.Lines.{lines_of}
 use Rattle.cec_signal.specs.Edges.{Captured}
-use Rattle.cec_signal.specs.Track.{Moved, first_track as line_begun, last_edge, track_move, with_level}
+use Rattle.cec_signal.specs.Track.{Moved, first_track as line_begun, track_move, with_level}
+use Rattle.cec_signal.specs.Reading.{Form, Step, at_word, lines_read}
+use Rattle.cec_signal.specs.declared.fault.Cause.{Cause}
+use Rattle.cec_signal.specs.declared.fault.Cause.TheVariants as cause
+use Rattle.cec_signal.specs.declared.fault.CaptureFault.{CaptureFault}
 use Rattle.cec_signal.specs.declared.track.Track.{Track}
 use Rattle.cec_vcd.specs.Scale.{counted_word, instant_of, unit_of}
 use Rattle.cec_vcd.specs.declared.scale.Count.{Count}
@@ -17,10 +20,7 @@ use Rattle.cec_vcd.specs.declared.reader.Field.{Field}
 use Rattle.cec_vcd.specs.declared.reader.Field.TheVariants as field
 use Rattle.cec_vcd.specs.declared.reader.Section.{Section}
 use Rattle.cec_vcd.specs.declared.reader.Section.TheVariants as section
-use Rattle.cec_vcd.specs.declared.reader.Cause.{Cause}
-use Rattle.cec_vcd.specs.declared.reader.Cause.TheVariants as cause
 use Rattle.cec_vcd.specs.declared.reader.Reader.{Reader}
-use Rattle.cec_vcd.specs.declared.reading.VcdFault.{VcdFault}
 
 -- ---- words
 
@@ -31,10 +31,6 @@ is_space b = (b == 32) || (b == 9) || (b == 13)
 -- the words of a line; between two spaces there is an empty word
 abbrev pub parts_of : List ℕ → List (List ℕ)
 parts_of line = slice_split is_space line
-
-abbrev pub parts_after : Option (List ℕ) → List (List ℕ)
-parts_after None = []
-parts_after (Some rest) = parts_of rest
 
 abbrev pub is_end : List ℕ → Bool
 is_end word = bytes_eq word (codes "$end")
@@ -74,20 +70,11 @@ first_state name = record {
 
 -- ---- what a word leads to
 
-pub record Step : Type 0 where
-  pub state : State
-  pub edge : Option Edge
-
 abbrev pub Stepped : Type 0
-Stepped = Result Step Cause
+Stepped = Result (Step State) Cause
 
 abbrev pub no_edge : State → Stepped
 no_edge s = Ok (record { state = s; edge = None })
-
--- what a call returned, and what it left
-abbrev pub Takes : Stepped → Result (Option Edge) Cause → State → Type 0
-Takes stepped (Ok edge) new = stepped ≡ Ok (record { state = new; edge = edge })
-Takes stepped (Err fault) new = stepped ≡ Err fault
 
 -- at 1, z and x nobody pulls the line low (own)
 abbrev pub is_high : ℕ → Bool
@@ -214,38 +201,20 @@ took word s = if length word == 0 then no_edge s else in_section s.section word 
 
 -- ---- a dump
 
-pub record Passed : Type 0 where
-  pub edges : List Edge
-  pub state : State
+-- a dump ends with its last time, after its definitions
+abbrev pub end_by : Bool → ℕ → Result ℕ Cause
+end_by true at = Ok at
+end_by false at = Err cause.End
 
--- these edges come before
-abbrev pub onto : List Edge → Result Passed VcdFault → Result Passed VcdFault
-onto edges (Ok p) = Ok (record { edges = edges ++ p.edges; state = p.state })
-onto edges (Err fault) = Err fault
-
-abbrev pub step_passed : ℕ → Stepped → (State → Result Passed VcdFault) → Result Passed VcdFault
-step_passed number (Err fault) more = Err (record { line = number; cause = fault })
-step_passed number (Ok step) more = onto (option_to_list step.edge) (more step.state)
-
--- the words of the line of this number
-abbrev pub words_passed : ℕ → List (List ℕ) → State → Result Passed VcdFault
-words_passed number [] s = Ok (record { edges = []; state = s })
-words_passed number (word ∷ words) s = step_passed number (took word s) (words_passed number words)
-
-abbrev pub lines_on : Result Passed VcdFault → (State → Result Passed VcdFault) → Result Passed VcdFault
-lines_on (Err fault) more = Err fault
-lines_on (Ok p) more = onto p.edges (more p.state)
-
--- lines of which the first has this number
-abbrev pub lines_passed : ℕ → List (List ℕ) → State → Result Passed VcdFault
-lines_passed number [] s = if s.is_data then Ok (record { edges = []; state = s }) else Err (record { line = number; cause = cause.End })
-lines_passed number (line ∷ lines) s = lines_on (words_passed number (parts_of line) s) (lines_passed (number + 1) lines)
-
--- a dump ends with its last time
-abbrev pub reported_by : Result Passed VcdFault → Result Captured VcdFault
-reported_by (Err fault) = Err fault
-reported_by (Ok p) = Ok (record { edges = p.edges ++ option_to_list (last_edge p.state.track); end = p.state.track.at })
+-- a dump is read word by word
+abbrev pub dump_form : Form State
+dump_form = record {
+  is_gap = is_space;
+  took = λ number word s. at_word number (took word s);
+  track = λ s. s.track;
+  ended = λ s. end_by s.is_data s.track.at;
+}
 
 -- what is read of a dump, and its wire of this name
-abbrev pub edges_in : List ℕ → List ℕ → Result Captured VcdFault
-edges_in name text = reported_by (lines_passed 1 (lines_of text) (first_state name))
+abbrev pub edges_in : List ℕ → List ℕ → Result Captured CaptureFault
+edges_in name text = lines_read dump_form 1 (lines_of text) (first_state name)

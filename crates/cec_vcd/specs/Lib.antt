@@ -2,4 +2,3 @@ pub mod Scale
 pub mod Dump
 pub mod Wire
 pub mod Text
-pub mod Reading

@@ -10,6 +10,5 @@ mod words;
 mod writing;
 
 pub use laws::{dumps_are_read_back, dumps_are_sampled};
-pub use reader::Cause;
-pub use reading::{VcdError, VcdFault, read_vcd};
+pub use reading::read_vcd;
 pub use writing::{add_changes, add_head, add_last, write_last};

@@ -1,35 +1,12 @@
 //! A reader of a dump, word by word.
-ghost use Rattle.std.specs.Prelude.{◌≡◌, ◌<◌, false, slice_index, Option, None};
-ghost use Rattle.cec_vcd.specs.Dump.{is_high, is_binary, is_other_value, is_mark, vector_value};
+ghost use Rattle.std.specs.Prelude.{◌≡◌, ◌<◌, false, slice_index, position, Option, None};
+ghost use Rattle.cec_vcd.specs.Dump.{is_high, is_binary, is_other_value, is_mark, is_space, vector_value};
 
 use crate::scale::{Count, Scale, counted_word, instant_of, unit_of};
-use cec_signal::Track;
+use crate::words::space_in;
+use cec_signal::{Cause, Slip, TakesWords, Track};
 use cec_wave::Edge;
 use hdmi_core::{after, byte_at};
-use thiserror::Error;
-
-/// What is wrong with a line of a dump.
-#[derive(Clone, Copy, Debug, PartialEq, Eq, Error)]
-pub enum Cause {
-    /// A word that is none of a dump.
-    #[error("word")]
-    Word,
-    /// The time scale is missing, or is none.
-    #[error("scale")]
-    Scale,
-    /// The wire is missing.
-    #[error("signal")]
-    Signal,
-    /// A time that is no number, or is past the limit.
-    #[error("time")]
-    Time,
-    /// A time that goes back.
-    #[error("order")]
-    Order,
-    /// The definitions do not end.
-    #[error("end")]
-    End,
-}
 
 /// What the next word of a variable's definition is.
 #[derive(Clone, Copy, Debug, PartialEq, Eq)]
@@ -118,9 +95,9 @@ pub struct Reader<'a> {
 }
 
 impl<'a> Reader<'a> {
-    ghost use Rattle.cec_vcd.specs.Dump.{Takes, first_state, after_name, change, definition, free, in_field, in_section, keyword, end_of_definitions, scalar, scale_begun, scale_made, state_of_reader, after_time, took, after_value};
+    ghost use Rattle.cec_signal.specs.Reading.{Takes};
+    ghost use Rattle.cec_vcd.specs.Dump.{first_state, after_name, change, definition, free, in_field, in_section, keyword, end_of_definitions, scalar, scale_begun, scale_made, state_of_reader, after_time, took, after_value};
     ghost use Rattle.cec_vcd.specs.Scale.{counted_word};
-    ghost use Rattle.cec_signal.specs.Track.{last_edge};
 
     /// A reader at the front of a dump.
     pub fn new(name: &'a [u8]) -> Self
@@ -341,8 +318,8 @@ impl<'a> Reader<'a> {
         Ok(None)
     }
 
-    /// Takes the next word, and returns the edge that is known by it.
-    pub fn take(&mut self, word: &'a [u8]) -> Result<Option<Edge>, Cause>
+    // Takes the next word, and returns the edge that is known by it.
+    fn take_word(&mut self, word: &'a [u8]) -> Result<Option<Edge>, Cause>
         ensures { Takes (took word.now (state_of_reader self.old)) result (state_of_reader self.new) }
     {
         if word.is_empty() {
@@ -350,25 +327,44 @@ impl<'a> Reader<'a> {
         }
         self.take_some(word)
     }
+}
 
-    /// Whether the definitions have ended.
-    pub fn is_over(&self) -> bool
-        ensures { result ≡ (state_of_reader self.now).is_data }
+impl<'a> TakesWords<'a> for Reader<'a> {
+    ghost use Rattle.cec_vcd.specs.Dump.{State as StateOf, dump_form, state_of_reader};
+
+    ghost State = { StateOf };
+
+    ghost state = { state_of_reader };
+
+    ghost form = { dump_form };
+
+    fn gap_in(line: &[u8]) -> Option<usize>
+        ensures { result ≡ position is_space line.now }
     {
-        self.is_data
+        space_in(line)
     }
 
-    /// The last instant.
-    pub fn end(&self) -> u64
-        ensures { result ≡ (state_of_reader self.now).track.at }
-    {
-        self.track.at()
+    fn take(&mut self, number: usize, word: &'a [u8]) -> Result<Option<Edge>, Slip> {
+        match self.take_word(word) {
+            Ok(edge) => Ok(edge),
+            Err(cause) => {
+                Err(Slip {
+                    cause,
+                    word: number,
+                })
+            }
+        }
     }
 
-    /// The edge at the last instant.
-    pub fn last(&self) -> Option<Edge>
-        ensures { result ≡ last_edge (state_of_reader self.now).track }
-    {
-        self.track.last()
+    fn track(&self) -> Track {
+        self.track
+    }
+
+    fn end(&self) -> Result<u64, Cause> {
+        if self.is_data {
+            Ok(self.track.at())
+        } else {
+            Err(Cause::End)
+        }
     }
 }

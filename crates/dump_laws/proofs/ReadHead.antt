@@ -6,7 +6,8 @@ use Rattle.cec_wave.specs.Bounds.{latest_instant}
 use Rattle.cec_signal.specs.Edges.{Captured}
 use Rattle.cec_signal.specs.Track.{first_track as line_begun}
 use Rattle.cec_signal.proofs.Texts.{shown}
-use Rattle.cec_vcd.specs.Dump.{State, first_state, edges_in, parts_of, words_passed}
+use Rattle.cec_signal.specs.Reading.{words_read}
+use Rattle.cec_vcd.specs.Dump.{State, dump_form, first_state, edges_in, parts_of}
 use Rattle.cec_vcd.specs.Text.{last}
 use Rattle.cec_vcd.specs.Wire.{Wire, wire_line}
 use Rattle.cec_vcd.specs.declared.scale.Scale.{Scale as ScaleOf}
@@ -23,7 +24,7 @@ use Rattle.dump_laws.proofs.Reading.{AllEnd, Reads, highs_read, line_ends, spans
 
 -- a line that is written out, and reports no edge
 reported_ends : (end : ℕ) (line rest : List ℕ) (s t : State) → list_all (λ c. not (c == 10)) line ≡ true
-    → ((number : ℕ) → words_passed number (parts_of line) s ≡ Ok (record { edges = []; state = t })) → AllEnd end rest t → AllEnd end (line ++ 10 ∷ rest) s
+    → ((number : ℕ) → words_read dump_form number 0 (parts_of line) s ≡ Ok (record { edges = []; state = t })) → AllEnd end rest t → AllEnd end (line ++ 10 ∷ rest) s
 reported_ends end line rest s t all h more = line_ends end line rest s t [] (shown (λ c. c == 10) line all) h more
 
 -- ---- where a reader of the definitions stands
@@ -54,7 +55,7 @@ declared asked candidate = record {
 -- ---- variables
 
 variable_passed : (asked candidate : List ℕ) (place : ℕ) (name : List ℕ) (number : ℕ) → IsName name
-    → words_passed number (variable_words place name) (declared asked candidate) ≡ Ok (record { edges = []; state = declared asked (id_of place ∷ []) })
+    → words_read dump_form number 0 (variable_words place name) (declared asked candidate) ≡ Ok (record { edges = []; state = declared asked (id_of place ∷ []) })
 variable_passed asked candidate place name number is = rw (id_end place, is.some, is.other) refl
 
 variable_ends : (end : ℕ) (asked candidate : List ℕ) (place : ℕ) (name rest : List ℕ) → IsName name → AllEnd end rest (declared asked (id_of place ∷ []))
@@ -62,7 +63,7 @@ variable_ends : (end : ℕ) (asked candidate : List ℕ) (place : ℕ) (name res
 variable_ends end asked candidate place name rest is more =
     subst (λ (t : List ℕ). AllEnd end t (declared asked candidate)) (sym (variable_text place name rest))
     (line_ends end (variable_line place name) rest (declared asked candidate) (declared asked (id_of place ∷ [])) [] (line_plain place name is)
-    (λ number. ap (λ ws. words_passed number ws (declared asked candidate)) (line_parts place name is) ∙ variable_passed asked candidate place name number is) more)
+    (λ number. ap (λ ws. words_read dump_form number 0 ws (declared asked candidate)) (line_parts place name is) ∙ variable_passed asked candidate place name number is) more)
 
 variables_end : (end : ℕ) (asked candidate : List ℕ) (place : ℕ) (names : List (List ℕ)) (rest : List ℕ) → All (λ name. is_word name ≡ true) names
     → ((last : List ℕ) → AllEnd end rest (declared asked last)) → AllEnd end (variables place names ++ rest) (declared asked candidate)
@@ -102,7 +103,7 @@ closing_ends end asked candidate count rest more =
 
 -- the line is found by its name, or as the first wire
 abbrev Finds : List ℕ → Type 0
-Finds asked = (number : ℕ) → words_passed number (parts_of (codes "$var wire 1 ! CEC $end")) (opened asked (Some micro)) ≡ Ok (record { edges = []; state = declared asked (33 ∷ []) })
+Finds asked = (number : ℕ) → words_read dump_form number 0 (parts_of (codes "$var wire 1 ! CEC $end")) (opened asked (Some micro)) ≡ Ok (record { edges = []; state = declared asked (33 ∷ []) })
 
 opening_ends : (end : ℕ) (asked rest : List ℕ) → Finds asked → AllEnd end rest (declared asked (33 ∷ [])) → AllEnd end (opening ++ rest) (first_state asked)
 opening_ends end asked rest finds more =

@@ -14,11 +14,12 @@ use Rattle.cec_signal.specs.Track.{Moved, differ, last_edge, track_move, with_le
 use Rattle.cec_signal.specs.declared.track.Track.{Track}
 use Rattle.cec_signal.proofs.Numbers.{number_again, some_length}
 use Rattle.cec_signal.proofs.Texts.{Lacks, line_before}
+use Rattle.cec_signal.specs.Reading.{at_word, lines_read, with_edges, words_read}
+use Rattle.cec_signal.proofs.Passing.{line_passed, word_taken}
 use Rattle.cec_vcd.specs.Scale.{instant_of}
-use Rattle.cec_vcd.specs.Dump.{State, no_edge, lines_passed, parts_of, after_time, timed_by, reported_by, took, words_passed}
+use Rattle.cec_vcd.specs.Dump.{State, after_time, dump_form, no_edge, parts_of, timed_by, took}
 use Rattle.cec_vcd.specs.Text.{last}
 use Rattle.cec_vcd.specs.declared.reader.Section.TheVariants as section
-use Rattle.cec_vcd.proofs.Passing.{before, line_reported, word_passed}
 use Rattle.cec_vcd.proofs.Texts.{time_line, time_parts, time_plain}
 use Rattle.cec_wires.specs.Wires.{change_text, changes_from, high_at_first, id_of, instant_text, turns, wires_text}
 use Rattle.dump_laws.specs.Dumps.{AreSpans, Span}
@@ -29,7 +30,7 @@ use Rattle.dump_laws.proofs.Changes.{ends_span, spans_text}
 -- what is left is read up to an end
 pub record Ends (end : ℕ) (text : List ℕ) (s : State) (number : ℕ) : Type 0 where
   pub edges : List Edge
-  pub is : reported_by (lines_passed number (lines_of text) s) ≡ Ok (record { edges = edges; end = end })
+  pub is : lines_read dump_form number (lines_of text) s ≡ Ok (record { edges = edges; end = end })
 
 abbrev pub AllEnd : ℕ → List ℕ → State → Type 0
 AllEnd end text s = (number : ℕ) → Ends end text s number
@@ -37,19 +38,19 @@ AllEnd end text s = (number : ℕ) → Ends end text s number
 -- ---- a line
 
 pub line_ends : (end : ℕ) (line rest : List ℕ) (s t : State) (edges : List Edge) → Lacks (λ c. c == 10) line
-    → ((number : ℕ) → words_passed number (parts_of line) s ≡ Ok (record { edges = edges; state = t })) → AllEnd end rest t → AllEnd end (line ++ 10 ∷ rest) s
+    → ((number : ℕ) → words_read dump_form number 0 (parts_of line) s ≡ Ok (record { edges = edges; state = t })) → AllEnd end rest t → AllEnd end (line ++ 10 ∷ rest) s
 line_ends end line rest s t edges plain h more number =
     let e = more (number + 1) in
     record {
       edges = edges ++ e.edges;
-      is = ap (λ ls. reported_by (lines_passed number ls s)) (line_before line rest plain) ∙ line_reported number line (lines_of rest) s t edges (h number) ∙ ap (before edges) e.is;
+      is = ap (λ ls. lines_read dump_form number ls s) (line_before line rest plain) ∙ line_passed dump_form number line (lines_of rest) s t edges (h number) ∙ ap (with_edges edges) e.is;
     }
 
 -- one word alone
 pub word_ends : (end : ℕ) (line rest : List ℕ) (s t : State) (edge : Option Edge) → Lacks (λ c. c == 10) line → parts_of line ≡ line ∷ [] → took line s ≡ Ok (record { state = t; edge = edge })
     → AllEnd end rest t → AllEnd end (line ++ 10 ∷ rest) s
 word_ends end line rest s t edge plain one h more =
-    line_ends end line rest s t (option_to_list edge ++ []) plain (λ number. ap (λ ws. words_passed number ws s) one ∙ word_passed number line [] s t edge h) more
+    line_ends end line rest s t (option_to_list edge ++ []) plain (λ number. ap (λ ws. words_read dump_form number 0 ws s) one ∙ word_taken dump_form number 0 line [] s (record { state = t; edge = edge }) (ap (at_word 0) h)) more
 
 -- ---- among the changes
 

@@ -3,6 +3,7 @@ use hdmi_core::Writes;
 use hdminet_program::program::program;
 use std::process::Abort;
 
+mod captures;
 mod explained;
 mod explanations;
 mod numbers;

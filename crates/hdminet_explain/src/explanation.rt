@@ -8,8 +8,8 @@ use hdmi_explain::lacks_line_feed;
 use hdmi_lines::WORD_TEXTS;
 use hdminet_help::Draft;
 use hdminet_marks::{
-    Fault, Input, Mark, Place, is_line_end, label_words, marked, place_of, plain, span_of, word_at,
-    word_count,
+    Fault, Gaps, Input, Mark, Place, gaps_of, is_line_end, label_words, marked, place_of, plain,
+    span_of, word_at,
 };
 use hdminet_meant::{add_meant, add_right_forms};
 use std::alloc::{AllocError, Global};
@@ -30,13 +30,16 @@ fn shown(alloc: Global, line: &[u8]) -> Result<String, AllocError> {
     draft.finish()
 }
 
+// The columns of a line that are shown.
+fn shown_part(line: &[u8]) -> &[u8] {
+    line.get(..COLUMNS).unwrap_or(line)
+}
+
 // Blanks, and `^` below the marked words.
-fn add_mark(draft: &mut Draft, before: usize, line: &str, mark: Mark) {
-    if mark.first < word_count(line) {
-        let begin = span_of(line, mark.first).begin;
-        let end = span_of(line, mark.last).end;
-        draft.add_times(before.saturating_add(begin), ' ');
-        draft.add_times(end.saturating_sub(begin), '^');
+fn add_mark(draft: &mut Draft, before: usize, line: &[u8], gaps: Gaps, mark: Mark) {
+    if let Some(span) = span_of(shown_part(line), gaps, mark.first, mark.last) {
+        draft.add_times(before.saturating_add(span.begin), ' ');
+        draft.add_times(span.end.saturating_sub(span.begin), '^');
         draft.add("\n");
     }
 }
@@ -62,7 +65,7 @@ fn add_head(draft: &mut Draft, place: Place<'_>) -> usize {
 }
 
 // The number and the text of a line, and the mark below its words.
-fn add_shown(draft: &mut Draft, place: Place<'_>, line: &str, mark: Option<Mark>) {
+fn add_shown(draft: &mut Draft, place: Place<'_>, line: &str, gaps: Gaps, mark: Option<Mark>) {
     let before = add_head(draft, place);
     let end = if place.line.len() > COLUMNS {
         " ..\n"
@@ -71,7 +74,7 @@ fn add_shown(draft: &mut Draft, place: Place<'_>, line: &str, mark: Option<Mark>
     };
     draft.add_all(&[line, end]);
     if let Some(mark) = mark {
-        add_mark(draft, before, line, mark);
+        add_mark(draft, before, place.line, gaps, mark);
     }
 }
 
@@ -91,6 +94,9 @@ fn add_word(
     let own = if labels > 0 { plain(what, line) } else { line };
     let number = mark.first.saturating_sub(labels);
     add_meant(draft, what, place, fault, own, number);
+    if gaps_of(fault) != Gaps::Spaces {
+        return;
+    }
     if let Some(word) = word_at(line, mark.first) {
         if mark.first > 0 && word.starts_with("#") {
             draft.add_line("`#` begins a remark at the start of a line alone");
@@ -102,7 +108,7 @@ fn add_word(
 // right in place of any such fault is of no use then.
 fn add_marked(draft: &mut Draft, what: Input, place: Place<'_>, fault: Fault, line: &str) -> bool {
     let mark = marked(what, fault, line);
-    add_shown(draft, place, line, mark);
+    add_shown(draft, place, line, gaps_of(fault), mark);
     add_hints(draft, of_line(place.line, line).as_slice());
     let is_said = add_right_forms(draft, what, place, fault, line);
     if let Some(mark) = mark {
@@ -121,7 +127,7 @@ fn is_unended(place: Place<'_>, fault: Fault, line: &str) -> bool {
 // What there is to say of a line that is shown so. Returns whether what would be right in place of any such fault is of no use.
 fn add_line(draft: &mut Draft, what: Input, place: Place<'_>, fault: Fault, line: &str) -> bool {
     if is_unended(place, fault, line) {
-        add_shown(draft, place, line, None);
+        add_shown(draft, place, line, Gaps::Spaces, None);
         return true;
     }
     let is_said = add_marked(draft, what, place, fault, line);

@@ -2,7 +2,7 @@
 use cec_asm::{ScriptCause, TopologyCause};
 use cec_dis::DisCause;
 use cec_expect::ExpectCause;
-use cec_formats::Cause;
+use cec_formats::{Cause, Form};
 use cec_text::AssembleError;
 use hdmi_blocks::EdidError;
 use hdmi_dump::DumpError;
@@ -80,11 +80,12 @@ pub enum Fault {
         line: u64,
         cause: DisCause,
     },
-    /// A line of a capture, with the word of an edge file.
+    /// A line of a capture in this form, which parts its words.
     Capture {
+        form: Form,
         line: u64,
         cause: Cause,
-        word: Option<usize>,
+        word: usize,
     },
     /// The bytes of an EDID, of the input or of a topology's line `edid`.
     Edid(EdidError),

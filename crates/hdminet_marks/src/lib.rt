@@ -16,6 +16,6 @@ pub use fault::{Fault, Input, RangeSlip};
 pub use grammar::{
     EXPECTATIONS, NETWORK, SCRIPT, STEPS, TEST, TOPOLOGY, fitting, is_value, missing, most_fitting,
 };
-pub use marks::{Mark, is_word, marked};
+pub use marks::{Mark, gaps_of, is_word, marked};
 pub use place::{Place, declared_by, is_line_end, kind_of, place_of};
-pub use words::{span_of, word_at, word_count};
+pub use words::{Gaps, span_of, word_at, word_count};

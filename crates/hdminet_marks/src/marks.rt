@@ -2,10 +2,10 @@
 use crate::edges::in_line;
 use crate::expectations::{after_label, label_words};
 use crate::fault::{Fault, Input};
-use crate::words::word_at;
+use crate::words::{Gaps, word_at};
 use cec_asm::ScriptCause;
 use cec_expect::ExpectCause;
-use cec_formats::Cause;
+use cec_formats::{Cause, Form};
 use cec_text::AssembleError;
 
 /// Words side by side in a line, by their numbers from 0.
@@ -90,12 +90,27 @@ fn in_expectation(cause: ExpectCause, word: usize) -> Option<Mark> {
     }
 }
 
-// A line of a capture. In each form it begins with its time.
-fn in_capture(cause: Cause, word: Option<usize>, line: &str) -> Option<Mark> {
-    match cause {
-        Cause::Line => in_line(line, word?),
-        Cause::Order => one(word.unwrap_or(0)),
-        Cause::Word | Cause::Scale | Cause::Signal | Cause::Time | Cause::Late | Cause::End => None,
+// A line of a capture. Where no name is the signal's, all names are at fault.
+fn in_capture(form: Form, cause: Cause, word: usize, line: &str) -> Option<Mark> {
+    match form {
+        Form::Edges if cause == Cause::Line => in_line(line, word),
+        Form::Csv if cause == Cause::Signal => from(word),
+        Form::Edges | Form::Vcd | Form::Pin | Form::Csv => one(word),
+    }
+}
+
+/// What parts the words of a fault's line.
+pub fn gaps_of(fault: Fault) -> Gaps {
+    match fault {
+        Fault::Capture {
+            form: Form::Vcd,
+            ..
+        } => Gaps::Blanks,
+        Fault::Capture {
+            form: Form::Csv,
+            ..
+        } => Gaps::Commas,
+        _ => Gaps::Spaces,
     }
 }
 
@@ -119,7 +134,12 @@ pub fn marked(what: Input, fault: Fault, line: &str) -> Option<Mark> {
         Fault::Range { word, .. } => one(word),
         Fault::Steps { word, .. } => one(word),
         Fault::Frame { cause, .. } => in_frame(cause),
-        Fault::Capture { cause, word, .. } => in_capture(cause, word, line),
+        Fault::Capture {
+            form,
+            cause,
+            word,
+            ..
+        } => in_capture(form, cause, word, line),
         Fault::Edid(_) | Fault::NoHdmiBlock => from(1),
         Fault::TextField { word, .. } => in_text(line, word),
         Fault::TextSyntax { .. } => one(0),

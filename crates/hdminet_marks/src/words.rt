@@ -18,14 +18,51 @@ pub fn word_count(line: &str) -> usize {
     line.split(' ').count()
 }
 
-/// Where a word of a line stands, or the last one, if there are fewer. An empty word has one column.
-pub fn span_of(line: &str, index: usize) -> Span {
-    let mut span = Span { begin: 0, end: 1 };
-    let mut begin = 0usize;
-    for word in line.split(' ').take(index.saturating_add(1)) {
-        let end = begin.saturating_add(word.len().max(1));
-        span = Span { begin, end };
-        begin = begin.saturating_add(word.len()).saturating_add(1);
+/// What parts the words of a line. Between two of them stands an empty word.
+#[derive(Clone, Copy, Debug, PartialEq, Eq)]
+pub enum Gaps {
+    Spaces,
+    /// Spaces, tabs and carriage returns.
+    Blanks,
+    Commas,
+}
+
+impl Gaps {
+    fn has(self, byte: u8) -> bool {
+        match self {
+            Gaps::Spaces => byte == b' ',
+            Gaps::Blanks => byte == b' ' || byte == b'\t' || byte == b'\r',
+            Gaps::Commas => byte == b',',
+        }
     }
-    span
+}
+
+// Columns from one up to another. An empty word has one column.
+fn columns(begin: usize, start: usize, end: usize) -> Span {
+    Span {
+        begin,
+        end: end.max(start.saturating_add(1)),
+    }
+}
+
+/// Where words of a line stand, from one on up to another, or up to the last one. Where the line has not so many, there is none.
+pub fn span_of(line: &[u8], gaps: Gaps, first: usize, last: usize) -> Option<Span> {
+    let mut word = 0usize;
+    let mut start = 0usize;
+    let mut begin = (first == 0).then_some(0usize);
+    let mut column = 0usize;
+    for byte in line {
+        if gaps.has(*byte) {
+            if word == last {
+                return Some(columns(begin?, start, column));
+            }
+            word = word.saturating_add(1);
+            start = column.saturating_add(1);
+            if word == first {
+                begin = Some(start);
+            }
+        }
+        column = column.saturating_add(1);
+    }
+    Some(columns(begin?, start, column))
 }

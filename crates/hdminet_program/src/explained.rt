@@ -1,11 +1,13 @@
 //! The faults of the program as they are explained.
+use crate::capture::form_of;
 use crate::fault::ProgramFault;
+use crate::parts::capture_parts;
 use cec_asm::ScriptCause;
 use cec_check::CheckError;
 use cec_dialogue::{ScriptEnd, SessionError};
 use cec_dis::DisError;
 use cec_expect::ExpectFault;
-use cec_formats::CaptureError;
+use cec_formats::{CaptureError, Form};
 use cec_run::emulate::EmulateError;
 use cec_sweep::{RangeCause, RangeFault};
 use cec_text::FrameLinesError;
@@ -31,6 +33,22 @@ pub fn input_of(choice: Choice) -> Input {
             Source::Dump => Input::Lines,
             Source::Text => Input::EdidText,
         },
+    }
+}
+
+/// The form of the capture that a choice takes from its input.
+pub fn form_in(choice: Choice, input: &[u8]) -> Form {
+    match choice {
+        Choice::Mon { form, .. } | Choice::Json(Objects::Capture { form, .. }) => {
+            form_of(form, input)
+        }
+        Choice::CheckCapture { form, .. } | Choice::Json(Objects::CaptureTest { form, .. }) => {
+            match capture_parts(input) {
+                Ok((_, taken)) => form_of(form, taken),
+                Err(_) => Form::Edges,
+            }
+        }
+        _ => Form::Edges,
     }
 }
 
@@ -137,9 +155,10 @@ fn of_hex(error: &DisError) -> Explained {
     }
 }
 
-fn of_capture(error: &CaptureError) -> Explained {
+fn of_capture(form: Form, error: &CaptureError) -> Explained {
     match error {
         CaptureError::Fault(fault) => Explained::Capture {
+            form,
             line: fault.line,
             cause: fault.cause,
             word: fault.word,
@@ -176,8 +195,8 @@ fn of_passing(error: &PassOnError) -> Explained {
     }
 }
 
-/// A fault as it is explained; None of what was done and is not as it was wanted.
-pub fn explained(fault: &ProgramFault) -> Option<Explained> {
+/// A fault as it is explained, where a capture has this form; None of what was done and is not as it was wanted.
+pub fn explained(form: Form, fault: &ProgramFault) -> Option<Explained> {
     let explained = match fault {
         ProgramFault::NotUtf8 => Explained::NotUtf8,
         ProgramFault::TooLong => Explained::InputTooLong,
@@ -197,7 +216,7 @@ pub fn explained(fault: &ProgramFault) -> Option<Explained> {
         },
         ProgramFault::Frames(error) => of_frames(error),
         ProgramFault::Dis(error) => of_hex(error),
-        ProgramFault::Capture(error) => of_capture(error),
+        ProgramFault::Capture(error) => of_capture(form, error),
         ProgramFault::EdidToText(error) => of_edid(error),
         ProgramFault::TextToHex(error) => of_edid_text(error),
         ProgramFault::Dump(error) => Explained::Dump(*error),

@@ -12,7 +12,7 @@ use crate::capture::{monitor, name_lost};
 use crate::capture_test::write_capture_test;
 use crate::edid::{edid, explain_lack, explain_rules};
 use crate::expectations::write_test;
-use crate::explained::{explained, input_of};
+use crate::explained::{explained, form_in, input_of};
 use crate::fault::ProgramFault;
 use crate::live::live;
 use crate::parts::{capture_parts, parted, parts};
@@ -429,7 +429,7 @@ fn explanation_of(
     fault: &ProgramFault,
     input: &[u8],
 ) -> Result<String, AllocError> {
-    let Some(typed) = explained(fault) else {
+    let Some(typed) = explained(form_in(choice, input), fault) else {
         return Ok(String::new(alloc));
     };
     let mut text = explain(alloc, input_of(choice), typed, input)?;

@@ -7,8 +7,8 @@ use Rattle.cec_csv.proofs.fields.column_in.Given as goal
 -- the column is one of what is left
 abbrev pub invariant-fields : goal.invariant-fields
 invariant-fields l = record {
-  so_far : column_from 0 l.signal (fields_after (option_copied l.initial.left)) ≡ column_from l.column l.signal (fields_after (option_copied l.left));
-  room : l.column + left_length (option_copied l.left) ≤ left_length (option_copied l.initial.left);
+  so_far : column_from 1 l.signal (fields_after (option_copied l.initial.left)) ≡ column_from l.column l.signal (fields_after (option_copied l.left));
+  room : l.column + left_length (option_copied l.left) ≤ left_length (option_copied l.initial.left) + 1;
 }
 
 abbrev pub decreases-fields : goal.decreases-fields
