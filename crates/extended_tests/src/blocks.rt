@@ -1,6 +1,7 @@
 //! Blocks and the lines below them.
 use arrayvec::ArrayVec;
-use hdmi_extended::{append_extended, append_vendor, luminance};
+use hdmi_extended::{append_extended, append_vendor};
+use hdmi_fields::luminance;
 use hdmi_meaning::Page;
 use std::process::Abort;
 
@@ -26,7 +27,7 @@ extended 0096|  YCC range selectable, preferred timing overscanned, IT formats o
 extended 003012|  preferred timing over- or underscanned, no IT formats, no CE formats, then in hex 12/
 extended 05ffff|  xvYCC601, xvYCC709, sYCC601, opYCC601, opRGB, BT2020cYCC, BT2020YCC, BT2020RGB, DCI-P3, ICtCp, sRGB, default RGB, gamut metadata 0, gamut metadata 1, gamut metadata 2, gamut metadata 3/
 extended 05e000|  BT2020cYCC, BT2020YCC, BT2020RGB/
-extended 060f01735a14|  traditional gamma SDR, traditional gamma HDR, SMPTE ST 2084, hybrid log-gamma, static metadata type 1, content up to 604 cd/m2, frames on average up to 351 cd/m2, least luminance by code 20/
+extended 060f01735a14|  traditional gamma SDR, traditional gamma HDR, SMPTE ST 2084, hybrid log-gamma, static metadata type 1, content up to 604 cd/m2, frames on average up to 351 cd/m2, down to 0.037 cd/m2/
 extended 060501|  traditional gamma SDR, SMPTE ST 2084, static metadata type 1/
 extended 0d10818291a0a1c1feffdb|  16: 1920x1080 at 60 Hz 16:9/  detailed timing 1/  detailed timing 2/  further timing 1/  further timing 16/  reserved/  193: 5120x2160 at 120 Hz 64:27/  first timing by a code of DMT/  reserved/  219: 4096x2160 at 120 Hz 256:135/
 extended 0e6160|  97: 3840x2160 at 60 Hz 16:9/  96: 3840x2160 at 50 Hz 16:9/
@@ -34,7 +35,7 @@ extended 0f|  each video code also in 4:2:0/
 extended 0f0b|  also in 4:2:0 the video codes at places 1 2 4/
 extended 0f0080|  also in 4:2:0 the video codes at places 16/
 extended 0f0100000000000102|  also in 4:2:0 the video codes at places 1 49, then in hex 02/
-vendor d85dc40178ff6fff3090ff6310|  HDMI Forum version 1, TMDS up to 600 MHz, SCDC, read request, cable status, CCBPCI, scrambling up to 340 MHz, 3D independent view, 3D dual view, 3D OSD disparity, FRL up to 12 Gbit/s on 4 lanes, UHD VIC, 4:2:0 at 48 bits a pixel, 4:2:0 at 36 bits a pixel, 4:2:0 at 30 bits a pixel/  ALLM, FVA, negative Mvrr, cinema VRR, Mdelta, QMS, FAPA in blanking, FAPA end extended, VRR from 48 to 144 Hz, DSC 1.2a, DSC in 4:2:0, QMS TFR max, QMS TFR min, DSC at each 1/16 bit a pixel, DSC at 16 bits, DSC at 12 bits, DSC at 10 bits, then in hex 6310/
+vendor d85dc40178ff6fff3090ff6310|  HDMI Forum version 1, TMDS up to 600 MHz, SCDC, read request, cable status, CCBPCI, scrambling up to 340 MHz, 3D independent view, 3D dual view, 3D OSD disparity, FRL up to 12 Gbit/s on 4 lanes, UHD VIC, 4:2:0 at 48 bits a pixel, 4:2:0 at 36 bits a pixel, 4:2:0 at 30 bits a pixel/  ALLM, FVA, negative Mvrr, cinema VRR, Mdelta, QMS, FAPA in blanking, FAPA end extended, VRR from 48 to 144 Hz, DSC 1.2a, DSC in 4:2:0, QMS TFR max, QMS TFR min, DSC at each 1/16 bit a pixel, DSC at 16 bits, DSC at 12 bits, DSC at 10 bits/  DSC over FRL at 12 Gbit/s on 4 lanes, DSC in 4 slices up to 340 MHz, DSC chunks of a line up to 17408 bytes/
 vendor d85dc40178800002|  HDMI Forum version 1, TMDS up to 600 MHz, SCDC/  ALLM/
 vendor d85dc401000000|  HDMI Forum version 1/
 vendor d85dc40100001001|  HDMI Forum version 1, FRL up to 3 Gbit/s on 3 lanes/  FAPA in blanking/
@@ -48,19 +49,33 @@ vendor d85dc401780000000064|  HDMI Forum version 1, TMDS up to 600 MHz/  VRR up 
 vendor d85dc401780000004000|  HDMI Forum version 1, TMDS up to 600 MHz/  VRR up to 256 Hz/
 vendor d85dc40178000000702c|  HDMI Forum version 1, TMDS up to 600 MHz/  VRR from 48 to 300 Hz/
 extended 79000001788060023090|  HDMI Forum version 1, TMDS up to 600 MHz, SCDC, FRL up to 12 Gbit/s on 4 lanes/  ALLM, VRR from 48 to 144 Hz/
-vendor 1a0000010203|  AMD/
+vendor 1a000001012890|  AMD FreeSync version 1.1, from 40 Hz to 144 Hz/
+vendor 1a00000201289000|  AMD FreeSync version 2.1, from 40 Hz to 144 Hz/
+vendor 1a0000020128900004735a2014|  AMD FreeSync version 2.1, from 40 Hz to 144 Hz, luminances without local dimming, up to 604 cd/m2, down to 0.752 cd/m2, without local dimming up to 100 cd/m2, down to 0.006 cd/m2/
+vendor 1a00000201289007fb00000000aabb|  AMD FreeSync version 2.1, from 40 Hz to 144 Hz, by MCCS with VCP code 07, reserved bits 03, reserved bits f8, then in hex aabb/
+vendor 1a0000|  AMD FreeSync/
 vendor 4b0400|  NVIDIA/
+vendor 4b040001|  NVIDIA, then in hex 01/
 vendor 6e0c00|  ASUS/
 vendor fa1000|  Apple/
 vendor b91400|  MStar/
 vendor 46d000|  Dolby/
+vendor 46d00012|  Dolby, then in hex 12/
 vendor 47e000|  InFocus/
 vendor 5c12ca|  Microsoft/
+vendor 5c12ca0361|  Microsoft version 3, for the desktop, by others, use case 1, then in hex 0361/
 vendor 123456|
-extended 0146d0004d4e|  Dolby Vision, then in hex 4d4e/
-extended 018b849001|  HDR10+, then in hex 01/
+extended 0146d0000701|  Dolby Vision version 0, then in hex 0701/
+extended 0146d0006701|  Dolby Vision version 3, then in hex 6701/
+extended 0146d00024180900ad5244a9230c|  Dolby Vision version 1, display management 3.x, up to 700 cd/m2, down to (4/127)^2 cd/m2, near P3-D65/  red 0.6758 0.3203, green 0.2656 0.6602, blue 0.1367 0.0469/
+extended 0146d0002319080aad5244a9230cee|  Dolby Vision version 1, display management 2.x, YCbCr 4:2:2 at 12 bits, 2160p60, global dimming, up to 700 cd/m2, down to (4/127)^2 cd/m2, near BT.709/  byte 4 is 0a, red 0.6758 0.3203, green 0.2656 0.6602, blue 0.1367 0.0469, then in hex ee/
+extended 0146d0002680016a4cfe98|  Dolby Vision version 1, display management 3.x, 2160p60, up to 3300 cd/m2, down to (0/127)^2 cd/m2, near P3-D65/  latency 2 (reserved), blue 0.1367 0.0391, green 0.1484 0.9961, red 0.6992 0.2500/
+extended 0146d000480a9d4a665d4a|  Dolby Vision version 2, display management 4.x, backlight from 75 cd/m2 on, least PQ code 20, greatest PQ code 3290, low latency, also over HDMI, reserved bits 04/  red 0.6680 0.2852, green 0.1445 0.6992, blue 0.1445 0.0391/
+extended 018b849001|  HDR10+ version 1/
+extended 018b84908d02|  HDR10+ version 1, other bits of byte 1 are 8c, then in hex 02/
 extended 01123456|
-extended 1146d00041|  Dolby audio, then in hex 41/
+extended 1146d00041|  Dolby audio version 2, height speakers, then in hex 41/
+extended 1146d000f280|  Dolby audio version 3, headphones alone, height speakers, surround speakers, centre speaker, then in hex f280/
 extended 02aabb|  VESA display device, then in hex aabb/
 extended 03|  VESA video timings/
 extended 0701|  dynamic HDR metadata, then in hex 01/
@@ -72,7 +87,9 @@ extended 200102|  InfoFrames, then in hex 0102/
 extended 2200|  DisplayID type VII timing, then in hex 00/
 extended 2300|  DisplayID type VIII timings, then in hex 00/
 extended 2a00|  DisplayID type X timings, then in hex 00/
-extended 7803|  count of extensions, then in hex 03/
+extended 7803|  count of extensions 3/
+extended 78|  count of extensions/
+extended 78ff02|  count of extensions 255, then in hex 02/
 extended 0403|
 extended 0a03|
 extended 2103|
@@ -116,6 +133,11 @@ extended 060001|  static metadata type 1/
 extended 06000020|  content up to 100 cd/m2/
 extended 0600000020|  frames on average up to 100 cd/m2/
 extended 060000000020|  least luminance by code 32/
+extended 060000ff0001|  content up to 12526 cd/m2, down to 0.002 cd/m2/
+extended 060000ff00ff|  content up to 12526 cd/m2, down to 125.257 cd/m2/
+extended 060000200020|  content up to 100 cd/m2, down to 0.016 cd/m2/
+extended 060000010001|  content up to 51 cd/m2, down to 0.000 cd/m2/
+extended 060000600080|  content up to 400 cd/m2, down to 1.008 cd/m2/
 extended 0040|  RGB range selectable, no IT formats, no CE formats/
 extended 0080|  YCC range selectable, no IT formats, no CE formats/
 extended 0010|  preferred timing overscanned, no IT formats, no CE formats/
@@ -167,7 +189,16 @@ vendor d85dc40100000000000010|  HDMI Forum version 1/  QMS TFR min/
 vendor d85dc40100000000000008|  HDMI Forum version 1/  DSC at each 1/16 bit a pixel/
 vendor d85dc40100000000000004|  HDMI Forum version 1/  DSC at 16 bits/
 vendor d85dc40100000000000002|  HDMI Forum version 1/  DSC at 12 bits/
-vendor d85dc40100000000000001|  HDMI Forum version 1/  DSC at 10 bits/";
+vendor d85dc40100000000000001|  HDMI Forum version 1/  DSC at 10 bits/
+vendor d85dc4010000000000000010|  HDMI Forum version 1/  DSC over FRL at 3 Gbit/s on 3 lanes/
+vendor d85dc4010000000000000052|  HDMI Forum version 1/  DSC over FRL at 10 Gbit/s on 4 lanes, DSC in 2 slices up to 340 MHz/
+vendor d85dc4010000000000000027|  HDMI Forum version 1/  DSC over FRL at 6 Gbit/s on 3 lanes, DSC in 16 slices up to 400 MHz/
+vendor d85dc4010000000000000035|  HDMI Forum version 1/  DSC over FRL at 6 Gbit/s on 4 lanes, DSC in 8 slices up to 400 MHz/
+vendor d85dc4010000000000000044|  HDMI Forum version 1/  DSC over FRL at 8 Gbit/s on 4 lanes, DSC in 8 slices up to 340 MHz/
+vendor d85dc4010000000000000066|  HDMI Forum version 1/  DSC over FRL at 12 Gbit/s on 4 lanes, DSC in 12 slices up to 400 MHz/
+vendor d85dc401000000000000007f|  HDMI Forum version 1/  DSC rate 7 (reserved), DSC slices 15 (reserved)/
+vendor d85dc4010000000000000001c0|  HDMI Forum version 1/  DSC in 1 slice up to 340 MHz, DSC chunks of a line up to 1024 bytes, reserved bits c0/
+vendor d85dc401000000000000000001ee|  HDMI Forum version 1/  DSC chunks of a line up to 2048 bytes, then in hex ee/";
 
 fn are_reported(rt: &(impl Abort + AllocGlobal), rows: &str) {
     for row in rows.lines() {
@@ -204,5 +235,60 @@ const LUMINANCES: &[(u8, u16)] = &[
 fn luminances_are_reported(rt: HostRuntime) {
     for (code, want) in LUMINANCES {
         assert_eq!(rt; luminance(*code), *want);
+    }
+}
+
+/// Blocks of displays and receivers whose every bit is told.
+const TOLD: &str = "\
+vendor d85dc401788003
+extended 00cf
+extended 05c000
+extended 060d01
+extended 0f030018
+extended 0146d00024180900ad5244a9230c
+extended 1146d0007000
+vendor d85dc40178ff6fff3090ff6310
+vendor 1a0000020128900004735a2014
+extended 018b849001
+extended 0146d000480a9d4a665d4a
+extended 0146d0002680016a4cfe98
+extended 060f01735a14
+extended 7803
+extended 0d8291";
+
+/// The bits of a byte.
+const WEIGHTS: &[u8] = &[1, 2, 4, 8, 16, 32, 64, 128];
+
+/// Where the bytes begin that a block's maker or tag does not take.
+fn own_bytes(word: &str, bytes: &[u8]) -> usize {
+    match bytes.first() {
+        Some(1 | 0x11) if word == "extended" => 4,
+        _ if word != "vendor" => 1,
+        _ => 3,
+    }
+}
+
+/// A block's lines are others once a bit of it is flipped.
+fn are_told(rt: &(impl Abort + AllocGlobal), block: &str) {
+    let (word, digits) = block.split_once(' ').expect(rt, "a block");
+    let bytes = hex::decode(rt.alloc(), digits).expect(rt, "hex digits");
+    let lines = reported(rt, block);
+    for place in own_bytes(word, &bytes)..bytes.len() {
+        for weight in WEIGHTS {
+            let mut other = hex::decode(rt.alloc(), digits).expect(rt, "hex digits");
+            if let Some(byte) = other.get_mut(place) {
+                *byte ^= *weight;
+            }
+            let digits = hex::encode(rt.alloc(), &other).expect(rt, "memory");
+            let flipped = format!(in rt.alloc(); "{word} {digits}").expect(rt, "memory");
+            assert!(rt; reported(rt, &flipped) != lines, "{flipped}");
+        }
+    }
+}
+
+#[test]
+fn each_bit_is_told(rt: HostRuntime) {
+    for block in TOLD.lines() {
+        are_told(&rt, block);
     }
 }

@@ -3,20 +3,33 @@ use Rattle.std.specs.Prelude.{ℕ, ◌==◌, if◌then◌else◌, List, [], drop
 use Rattle.hdmi_meaning.specs.Videos.{video_meanings}
 use Rattle.hdmi_extended.specs.Colours.{capability_meanings, colour_meanings, hdr_meanings}
 use Rattle.hdmi_extended.specs.Videos.{preference_meanings, map_meanings}
-use Rattle.hdmi_extended.specs.Makers.{identifier, maker_meanings, video_name, audio_name, named_meanings, tag_name, labelled_meanings}
+use Rattle.hdmi_extended.specs.Makers.{identifier, maker_name, named_meanings, tag_name, labelled_meanings}
 use Rattle.hdmi_extended.specs.Forum.{forum_meanings}
+use Rattle.hdmi_extended.specs.Counts.{count_meanings}
+use Rattle.hdmi_vendor.specs.Dolby.{dolby_meanings}
+use Rattle.hdmi_vendor.specs.Vendors.{plus_meanings, sound_meanings, soft_meanings}
+use Rattle.hdmi_vendor.specs.Sync.{sync_meanings}
+
+-- video and audio of a maker (CTA-861-G, sections 7.5.7 and 7.5.8)
+abbrev pub vendor_video : List ℕ → List (List ℕ)
+vendor_video p =
+    if identifier p == 0x00d046 then dolby_meanings (drop 3 p) else if identifier p == 0x90848b then plus_meanings (drop 3 p) else []
+
+abbrev pub vendor_audio : List ℕ → List (List ℕ)
+vendor_audio p = if identifier p == 0x00d046 then sound_meanings (drop 3 p) else []
 
 -- by the extended tag
 unfoldable pub tagged_meanings : ℕ → List ℕ → List (List ℕ)
 tagged_meanings tag p =
     if tag == 0x00 then capability_meanings p
-    else if tag == 0x01 then named_meanings (video_name (identifier p)) p
+    else if tag == 0x01 then vendor_video p
     else if tag == 0x05 then colour_meanings p
     else if tag == 0x06 then hdr_meanings p
     else if tag == 0x0d then preference_meanings p
     else if tag == 0x0e then video_meanings p
     else if tag == 0x0f then map_meanings p
-    else if tag == 0x11 then named_meanings (audio_name (identifier p)) p
+    else if tag == 0x11 then vendor_audio p
+    else if tag == 0x78 then count_meanings p
     else if tag == 0x79 then forum_meanings (drop 2 p)
     else labelled_meanings (tag_name tag) p
 
@@ -25,4 +38,8 @@ extended_meanings p = if length p == 0 then [] else tagged_meanings (slice_index
 
 -- by the identifier, of which C4-5D-D8 is the HDMI Forum's
 abbrev pub vendor_meanings : List ℕ → List (List ℕ)
-vendor_meanings p = if identifier p == 0xc45dd8 then forum_meanings (drop 3 p) else maker_meanings p
+vendor_meanings p =
+    if identifier p == 0xc45dd8 then forum_meanings (drop 3 p)
+    else if identifier p == 0x00001a then sync_meanings (drop 3 p)
+    else if identifier p == 0xca125c then soft_meanings (drop 3 p)
+    else named_meanings (maker_name (identifier p)) p

@@ -1,7 +1,7 @@
 -- What video capability, colorimetry and HDR blocks mean (CTA-861-G, sections 7.5.5, 7.5.6 and 7.5.13), of the bytes after the extended tag.
 use Rattle.std.specs.Prelude.{ℕ, ◌/◌, ◌%◌, ◌==◌, if◌then◌else◌, List, [], ◌∷◌, ◌++◌, drop, slice_index, codes}
 use Rattle.hdmi_meaning.specs.Notes.{Row, row, below, text_between, set_words, rest_words}
-use Rattle.hdmi_extended.specs.Luminance.{luminance}
+use Rattle.hdmi_fields.specs.Luminance.{luminance, least_words}
 
 -- ---- video capability: quantization ranges that can be chosen, and how pictures are scanned
 
@@ -82,15 +82,11 @@ metadata_rows =
 abbrev pub luminance_words : List ℕ → ℕ → List ℕ
 luminance_words name code = if code == 0 then [] else text_between name (luminance code) (codes " cd/m2")
 
--- the least luminance is the greatest one times the square of code / 255, a hundredth of it
-abbrev pub least_words : ℕ → List ℕ
-least_words code = if code == 0 then [] else text_between (codes ", least luminance by code ") code []
-
 -- bytes 3 to 5, as far as they are there, and what is left
 abbrev pub content_words : List ℕ → List ℕ
 content_words p =
     luminance_words (codes ", content up to ") (slice_index p 2) ++
-    (luminance_words (codes ", frames on average up to ") (slice_index p 3) ++ (least_words (slice_index p 4) ++ rest_words (drop 5 p)))
+    (luminance_words (codes ", frames on average up to ") (slice_index p 3) ++ (least_words (slice_index p 2) (slice_index p 4) ++ rest_words (drop 5 p)))
 
 abbrev pub hdr_words : List ℕ → List ℕ
 hdr_words p = set_words curve_rows (slice_index p 0) ++ (set_words metadata_rows (slice_index p 1) ++ content_words p)

@@ -1,6 +1,8 @@
 -- What a block of the HDMI Forum means (HDMI 2.1, sections 10.3.2 and 10.3.6), of the bytes from its version on.
-use Rattle.std.specs.Prelude.{ℕ, ◌+◌, ◌*◌, ◌/◌, ◌%◌, ◌==◌, if◌then◌else◌, List, [], ◌∷◌, ◌++◌, drop, slice_index, codes}
-use Rattle.hdmi_meaning.specs.Notes.{Row, row, below, text_between, set_words, rest_words}
+use Rattle.std.specs.Prelude.{ℕ, ◌+◌, ◌*◌, ◌/◌, ◌%◌, ◌==◌, if◌then◌else◌, List, [], ◌∷◌, ◌++◌, slice_index, codes}
+use Rattle.hdmi_meaning.specs.Notes.{Row, row, below, text_between, set_words}
+use Rattle.hdmi_fields.specs.Fields.{words, number, hex, block_meanings}
+use Rattle.hdmi_fields.specs.Fields.{Row as FieldRow, row as field}
 
 -- ---- the link: bytes 2 to 4
 
@@ -89,7 +91,28 @@ stream_rows =
 abbrev pub picture_words : List ℕ → List ℕ
 picture_words p =
     set_words picture_rows (slice_index p 4) ++
-    (vrr_words (slice_index p 5 % 64) (slice_index p 5 / 64 * 256 + slice_index p 6) ++ (set_words stream_rows (slice_index p 7) ++ rest_words (drop 8 p)))
+    (vrr_words (slice_index p 5 % 64) (slice_index p 5 / 64 * 256 + slice_index p 6) ++ set_words stream_rows (slice_index p 7))
+
+-- ---- compressed streams: bytes 9 and 10
+
+-- the greatest fixed rate link for them; slices of a line, each with a pixel clock; and how many bytes the chunks of a line have
+abbrev pub compression_rows : List FieldRow
+compression_rows =
+    field 8 1 16 16 (words (codes ", DSC rate ") ([] ∷ codes ", DSC over FRL at 3 Gbit/s on 3 lanes" ∷ codes ", DSC over FRL at 6 Gbit/s on 3 lanes" ∷ codes ", DSC over FRL at 6 Gbit/s on 4 lanes" ∷ codes ", DSC over FRL at 8 Gbit/s on 4 lanes" ∷ codes ", DSC over FRL at 10 Gbit/s on 4 lanes" ∷ codes ", DSC over FRL at 12 Gbit/s on 4 lanes" ∷ [])) ∷
+    field 8 1 1 16 (words (codes ", DSC slices ") ([] ∷ codes ", DSC in 1 slice up to 340 MHz" ∷ codes ", DSC in 2 slices up to 340 MHz" ∷ codes ", DSC in 4 slices up to 340 MHz" ∷ codes ", DSC in 8 slices up to 340 MHz" ∷ codes ", DSC in 8 slices up to 400 MHz" ∷ codes ", DSC in 12 slices up to 400 MHz" ∷ codes ", DSC in 16 slices up to 400 MHz" ∷ [])) ∷
+    field 9 1 1 64 (number (codes ", DSC chunks of a line up to ") 1024 1024 (codes " bytes")) ∷
+    field 9 1 64 4 (hex (codes ", reserved bits ") 64) ∷ []
+
+-- ---- all of it
+
+abbrev pub link_meanings : List ℕ → List (List ℕ)
+link_meanings p = below (link_words p)
+
+abbrev pub picture_meanings : List ℕ → List (List ℕ)
+picture_meanings p = below (picture_words p)
+
+abbrev pub compression_meanings : List ℕ → List (List ℕ)
+compression_meanings p = block_meanings [] compression_rows 10 p
 
 abbrev pub forum_meanings : List ℕ → List (List ℕ)
-forum_meanings p = below (link_words p) ++ below (picture_words p)
+forum_meanings p = link_meanings p ++ (picture_meanings p ++ compression_meanings p)

@@ -1,6 +1,6 @@
 pub mod Colours
-pub mod Luminance
 pub mod Videos
 pub mod Makers
 pub mod Forum
+pub mod Counts
 pub mod Blocks

@@ -2,15 +2,18 @@
 ghost use Rattle.std.specs.Prelude.{◌≡◌, ◌≤◌, ◌+◌, ◌++◌, length, flat_map};
 ghost use Rattle.arrayvec.specs.ArrayVec.{array_vec_len};
 ghost use Rattle.hdmi_meaning.specs.Notes.{own_line};
-ghost use Rattle.hdmi_extended.specs.Blocks.{extended_meanings, tagged_meanings, vendor_meanings};
+ghost use Rattle.hdmi_extended.specs.Blocks.{extended_meanings, tagged_meanings, vendor_audio, vendor_meanings, vendor_video};
 
 use crate::colours::{append_capability, append_colours, append_hdr};
+use crate::counts::append_count;
 use crate::forum::append_forum;
 use crate::makers::{
-    append_labelled, append_maker, append_named, audio_name, identifier, tag_name, video_name,
+    AMD, DOLBY, HDR10_PLUS, MICROSOFT, append_labelled, append_named, identifier, maker_name,
+    tag_name,
 };
 use crate::videos::{append_map, append_preferences};
 use hdmi_meaning::{PAGE, Page, after, append_video, byte_at};
+use hdmi_vendor::{append_dolby, append_plus, append_soft, append_sound, append_sync};
 
 /// The extended tags (CTA-861-G, table 56).
 const VIDEO_CAPABILITY: u8 = 0x00;
@@ -31,8 +34,33 @@ const VENDOR_AUDIO: u8 = 0x11;
 /// The extended tag of the HDMI Forum's sink capabilities (HDMI 2.1, section 10.3.6).
 const SINK_CAPABILITY: u8 = 0x79;
 
+/// The extended tag of the HDMI Forum's count of extensions (HDMI 2.1, section 10.3.7).
+const EXTENSION_COUNT: u8 = 0x78;
+
 /// The identifier of the HDMI Forum.
 const HDMI_FORUM: u32 = 0xc45dd8;
+
+fn append_vendor_video(page: &mut Page, payload: &[u8])
+    requires few { length payload.now ≤ 128 }
+    requires room { array_vec_len page.old + 4000 ≤ PAGE }
+    ensures { page.new.items ≡ page.old.items ++ flat_map own_line (vendor_video payload.now) }
+{
+    match identifier(payload) {
+        DOLBY => append_dolby(page, after(payload, 3)),
+        HDR10_PLUS => append_plus(page, after(payload, 3)),
+        _ => {}
+    }
+}
+
+fn append_vendor_audio(page: &mut Page, payload: &[u8])
+    requires few { length payload.now ≤ 128 }
+    requires room { array_vec_len page.old + 4000 ≤ PAGE }
+    ensures { page.new.items ≡ page.old.items ++ flat_map own_line (vendor_audio payload.now) }
+{
+    if identifier(payload) == DOLBY {
+        append_sound(page, after(payload, 3));
+    }
+}
 
 #[tactic(auto, unfolding(crate::specs::Blocks::tagged_meanings))]
 fn append_tagged(page: &mut Page, tag: u8, payload: &[u8])
@@ -42,13 +70,14 @@ fn append_tagged(page: &mut Page, tag: u8, payload: &[u8])
 {
     match tag {
         VIDEO_CAPABILITY => append_capability(page, payload),
-        VENDOR_VIDEO => append_named(page, video_name(identifier(payload)).as_bytes(), payload),
+        VENDOR_VIDEO => append_vendor_video(page, payload),
         COLORIMETRY => append_colours(page, payload),
         HDR_STATIC => append_hdr(page, payload),
         PREFERENCES => append_preferences(page, payload),
         VIDEO_420 => append_video(page, payload),
         MAP_420 => append_map(page, payload),
-        VENDOR_AUDIO => append_named(page, audio_name(identifier(payload)).as_bytes(), payload),
+        VENDOR_AUDIO => append_vendor_audio(page, payload),
+        EXTENSION_COUNT => append_count(page, payload),
         SINK_CAPABILITY => append_forum(page, after(payload, 2)),
         _ => append_labelled(page, tag_name(tag).as_bytes(), payload),
     }
@@ -71,9 +100,10 @@ pub fn append_vendor(page: &mut Page, bytes: &[u8])
     requires room { array_vec_len page.old + 16000 ≤ PAGE }
     ensures { page.new.items ≡ page.old.items ++ flat_map own_line (vendor_meanings bytes.now) }
 {
-    if identifier(bytes) == HDMI_FORUM {
-        append_forum(page, after(bytes, 3));
-    } else {
-        append_maker(page, bytes);
+    match identifier(bytes) {
+        HDMI_FORUM => append_forum(page, after(bytes, 3)),
+        AMD => append_sync(page, after(bytes, 3)),
+        MICROSOFT => append_soft(page, after(bytes, 3)),
+        maker => append_named(page, maker_name(maker).as_bytes(), bytes),
     }
 }

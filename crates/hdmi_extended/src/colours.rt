@@ -2,11 +2,11 @@
 ghost use Rattle.std.specs.Prelude.{◌≡◌, ◌≤◌, ◌+◌, ◌++◌, length, flat_map};
 ghost use Rattle.arrayvec.specs.ArrayVec.{array_vec_len};
 ghost use Rattle.hdmi_meaning.specs.Notes.{own_line, set_words};
-ghost use Rattle.hdmi_extended.specs.Colours.{capability_meanings, capability_words, colour_meanings, colour_rows, content_words, curve_rows, gamut_rows, hdr_meanings, hdr_words, least_words, luminance_words, metadata_rows, range_rows, scan_text, scan_words};
+ghost use Rattle.hdmi_extended.specs.Colours.{capability_meanings, capability_words, colour_meanings, colour_rows, content_words, curve_rows, gamut_rows, hdr_meanings, hdr_words, luminance_words, metadata_rows, range_rows, scan_text, scan_words};
 
-use crate::brightness::luminance;
 use arrayvec::ArrayVec;
 use hdmi_edid::append;
+use hdmi_fields::{append_least, luminance};
 use hdmi_meaning::{
     Bit, NOTE, Note, PAGE, Page, after, append_between, append_bits, append_rest, append_words,
     bit_rows, byte_at,
@@ -184,16 +184,6 @@ fn append_luminance(note: &mut Note, name: &[u8], code: u8)
     }
 }
 
-fn append_least(note: &mut Note, code: u8)
-    requires { array_vec_len note.old + 100 ≤ NOTE }
-    ensures items { note.new.items ≡ note.old.items ++ least_words code }
-    ensures len { array_vec_len note.new ≤ array_vec_len note.old + 60 }
-{
-    if code != 0 {
-        append_between(note, b", least luminance by code ", u64::from(code), b"");
-    }
-}
-
 fn append_contents(note: &mut Note, payload: &[u8])
     requires few { length payload.now ≤ 128 }
     requires room { array_vec_len note.old + 600 ≤ NOTE }
@@ -202,7 +192,7 @@ fn append_contents(note: &mut Note, payload: &[u8])
 {
     append_luminance(note, b", content up to ", byte_at(payload, 2));
     append_luminance(note, b", frames on average up to ", byte_at(payload, 3));
-    append_least(note, byte_at(payload, 4));
+    append_least(note, byte_at(payload, 2), byte_at(payload, 4));
     append_rest(note, after(payload, 5));
 }
 

@@ -2,13 +2,13 @@
 ghost use Rattle.std.specs.Prelude.{◌≡◌, ◌≤◌, ◌+◌, ◌*◌, ◌++◌, length, flat_map};
 ghost use Rattle.arrayvec.specs.ArrayVec.{array_vec_len};
 ghost use Rattle.hdmi_meaning.specs.Notes.{own_line, set_words};
-ghost use Rattle.hdmi_extended.specs.Forum.{alone_words, clock_words, depth_rows, fixed_words, forum_meanings, from_words, greatest_words, link_rows, link_words, picture_rows, picture_words, rate_words, stream_rows, vrr_words};
+ghost use Rattle.hdmi_extended.specs.Forum.{alone_words, clock_words, compression_meanings, compression_rows, depth_rows, fixed_words, forum_meanings, from_words, greatest_words, link_meanings, link_rows, link_words, picture_meanings, picture_rows, picture_words, rate_words, stream_rows, vrr_words};
 
 use arrayvec::ArrayVec;
 use hdmi_edid::append;
+use hdmi_fields::{Field, Says, append_block, choices, field_rows};
 use hdmi_meaning::{
-    Bit, NOTE, Note, PAGE, Page, after, append_between, append_bits, append_rest, append_words,
-    bit_rows, byte_at,
+    Bit, NOTE, Note, PAGE, Page, append_between, append_bits, append_words, bit_rows, byte_at,
 };
 
 /// A unit of the TMDS clock, in MHz.
@@ -52,6 +52,13 @@ const STREAMS: &[Bit] = bit_rows! {
     4 "DSC at 16 bits";
     2 "DSC at 12 bits";
     1 "DSC at 10 bits";
+};
+
+const COMPRESSION: &[Field] = field_rows! {
+    8 1 16 16 Says::Words { before: ", DSC rate ", texts: choices! { ""; ", DSC over FRL at 3 Gbit/s on 3 lanes"; ", DSC over FRL at 6 Gbit/s on 3 lanes"; ", DSC over FRL at 6 Gbit/s on 4 lanes"; ", DSC over FRL at 8 Gbit/s on 4 lanes"; ", DSC over FRL at 10 Gbit/s on 4 lanes"; ", DSC over FRL at 12 Gbit/s on 4 lanes"; } };
+    8 1 1 16 Says::Words { before: ", DSC slices ", texts: choices! { ""; ", DSC in 1 slice up to 340 MHz"; ", DSC in 2 slices up to 340 MHz"; ", DSC in 4 slices up to 340 MHz"; ", DSC in 8 slices up to 340 MHz"; ", DSC in 8 slices up to 400 MHz"; ", DSC in 12 slices up to 400 MHz"; ", DSC in 16 slices up to 400 MHz"; } };
+    9 1 1 64 Says::Number { before: ", DSC chunks of a line up to ", times: 1024, plus: 1024, after: " bytes" };
+    9 1 64 4 Says::Hex(", reserved bits ");
 };
 
 // Appends what the link can do.
@@ -193,9 +200,8 @@ fn append_vrr(note: &mut Note, least: u8, most: u16)
 }
 
 fn picture_note(payload: &[u8]) -> Note
-    requires { length payload.now ≤ 128 }
     ensures value { result.items ≡ picture_words payload.now }
-    ensures len { array_vec_len result ≤ 1100 }
+    ensures len { array_vec_len result ≤ 800 }
 {
     let mut words = ArrayVec::new();
     append_picture_bits(&mut words, byte_at(payload, 4));
@@ -203,17 +209,42 @@ fn picture_note(payload: &[u8]) -> Note
     let most = u16::from(rates / 64) * 256 + u16::from(byte_at(payload, 6));
     append_vrr(&mut words, rates % 64, most);
     append_stream_bits(&mut words, byte_at(payload, 7));
-    append_rest(&mut words, after(payload, 8));
     words
 }
 
-/// Appends what a block of the HDMI Forum means, of its bytes from the version on (HDMI 2.1, sections 10.3.2 and 10.3.6): a
-/// line of the link, and one of what pictures may do.
-pub fn append_forum(page: &mut Page, payload: &[u8])
-    requires few { length payload.now ≤ 128 }
-    requires room { array_vec_len page.old + 2000 ≤ PAGE }
-    ensures { page.new.items ≡ page.old.items ++ flat_map own_line (forum_meanings payload.now) }
+fn append_link(page: &mut Page, payload: &[u8])
+    requires { array_vec_len page.old + 1536 ≤ PAGE }
+    ensures items { page.new.items ≡ page.old.items ++ flat_map own_line (link_meanings payload.now) }
+    ensures len { array_vec_len page.new ≤ array_vec_len page.old + 1000 }
 {
     append_words(page, link_note(payload).as_slice());
+}
+
+fn append_pictures(page: &mut Page, payload: &[u8])
+    requires { array_vec_len page.old + 1536 ≤ PAGE }
+    ensures items { page.new.items ≡ page.old.items ++ flat_map own_line (picture_meanings payload.now) }
+    ensures len { array_vec_len page.new ≤ array_vec_len page.old + 1000 }
+{
     append_words(page, picture_note(payload).as_slice());
+}
+
+// Appends how streams are compressed, and what is left.
+fn append_compression(page: &mut Page, payload: &[u8])
+    requires few { length payload.now ≤ 128 }
+    requires room { array_vec_len page.old + 1536 ≤ PAGE }
+    ensures { page.new.items ≡ page.old.items ++ flat_map own_line (compression_meanings payload.now) }
+{
+    append_block(page, b"", COMPRESSION, 10, payload);
+}
+
+/// Appends what a block of the HDMI Forum means, of its bytes from the version on (HDMI 2.1, sections 10.3.2 and 10.3.6): a
+/// line of the link, one of what pictures may do, and one of how streams are compressed.
+pub fn append_forum(page: &mut Page, payload: &[u8])
+    requires few { length payload.now ≤ 128 }
+    requires room { array_vec_len page.old + 4000 ≤ PAGE }
+    ensures { page.new.items ≡ page.old.items ++ flat_map own_line (forum_meanings payload.now) }
+{
+    append_link(page, payload);
+    append_pictures(page, payload);
+    append_compression(page, payload);
 }

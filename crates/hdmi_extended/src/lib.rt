@@ -2,13 +2,10 @@
 #![tactic(auto)]
 
 mod blocks;
-mod brightness;
 mod colours;
+mod counts;
 mod forum;
-mod laws;
 mod makers;
 mod videos;
 
 pub use blocks::{append_extended, append_vendor};
-pub use brightness::{LUMINANCES, luminance};
-pub use laws::luminances_are_nearest;

@@ -2,13 +2,13 @@
 ghost use Rattle.std.specs.Prelude.{◌≡◌, ◌≤◌, ◌+◌, ◌++◌, length, flat_map};
 ghost use Rattle.arrayvec.specs.ArrayVec.{array_vec_len};
 ghost use Rattle.hdmi_meaning.specs.Notes.{own_line};
-ghost use Rattle.hdmi_extended.specs.Makers.{audio_name, identifier, maker_meanings, labelled_meanings, maker_name, named_meanings, tag_name, video_name};
+ghost use Rattle.hdmi_extended.specs.Makers.{identifier, labelled_meanings, maker_name, named_meanings, tag_name};
 
 use arrayvec::ArrayVec;
 use hdmi_edid::append;
 use hdmi_meaning::{Note, PAGE, Page, after, append_rest, append_words, byte_at};
 
-const AMD: u32 = 0x00001a;
+pub(crate) const AMD: u32 = 0x00001a;
 
 const NVIDIA: u32 = 0x00044b;
 
@@ -18,13 +18,13 @@ const APPLE: u32 = 0x0010fa;
 
 const MSTAR: u32 = 0x0014b9;
 
-const DOLBY: u32 = 0x00d046;
+pub(crate) const DOLBY: u32 = 0x00d046;
 
 const IN_FOCUS: u32 = 0x00e047;
 
-const HDR10_PLUS: u32 = 0x90848b;
+pub(crate) const HDR10_PLUS: u32 = 0x90848b;
 
-const MICROSOFT: u32 = 0xca125c;
+pub(crate) const MICROSOFT: u32 = 0xca125c;
 
 /// The identifier of a maker, whose lowest byte stands first.
 pub fn identifier(bytes: &[u8]) -> u32
@@ -35,42 +35,18 @@ pub fn identifier(bytes: &[u8]) -> u32
         + u32::from(byte_at(bytes, 2)) * 65536
 }
 
-fn maker_name(identifier: u32) -> &'static str
+/// The name of the maker of a vendor block, with a comma before it; nothing where it is not known.
+pub fn maker_name(identifier: u32) -> &'static str
     ensures value { result.now ≡ maker_name identifier }
     ensures short { length result.now ≤ 20 }
 {
     match identifier {
-        AMD => ", AMD",
         NVIDIA => ", NVIDIA",
         ASUS => ", ASUS",
         APPLE => ", Apple",
         MSTAR => ", MStar",
         DOLBY => ", Dolby",
         IN_FOCUS => ", InFocus",
-        MICROSOFT => ", Microsoft",
-        _ => "",
-    }
-}
-
-/// The name of what a vendor-specific video block is for, with a comma before it; nothing where it is not known.
-pub fn video_name(identifier: u32) -> &'static str
-    ensures value { result.now ≡ video_name identifier }
-    ensures short { length result.now ≤ 20 }
-{
-    match identifier {
-        DOLBY => ", Dolby Vision",
-        HDR10_PLUS => ", HDR10+",
-        _ => "",
-    }
-}
-
-/// The name of what a vendor-specific audio block is for, with a comma before it; nothing where it is not known.
-pub fn audio_name(identifier: u32) -> &'static str
-    ensures value { result.now ≡ audio_name identifier }
-    ensures short { length result.now ≤ 20 }
-{
-    match identifier {
-        DOLBY => ", Dolby audio",
         _ => "",
     }
 }
@@ -92,17 +68,8 @@ pub fn tag_name(tag: u8) -> &'static str
         0x22 => ", DisplayID type VII timing",
         0x23 => ", DisplayID type VIII timings",
         0x2a => ", DisplayID type X timings",
-        0x78 => ", count of extensions",
         _ => "",
     }
-}
-
-/// Appends the maker of a vendor block, where it is known.
-pub fn append_maker(page: &mut Page, payload: &[u8])
-    requires { array_vec_len page.old + 1536 ≤ PAGE }
-    ensures { page.new.items ≡ page.old.items ++ flat_map own_line (maker_meanings payload.now) }
-{
-    append_words(page, maker_name(identifier(payload)).as_bytes());
 }
 
 /// Appends a name, with a comma before it, and the bytes after a maker's identifier in hex; nothing without a name.

@@ -292,13 +292,14 @@ extended 0f030018
 extended 060d01
   traditional gamma SDR, SMPTE ST 2084, hybrid log-gamma, static metadata type 1
 extended 0146d00024180900ad5244a9230c
-  Dolby Vision, then in hex 24180900ad5244a9230c
+  Dolby Vision version 1, display management 3.x, up to 700 cd/m2, down to (4/127)^2 cd/m2, near P3-D65
+  red 0.6758 0.3203, green 0.2656 0.6602, blue 0.1367 0.0469
 extended 05c000
   BT2020YCC, BT2020RGB
 extended 00cf
   RGB range selectable, YCC range selectable, IT formats over- or underscanned, CE formats over- or underscanned
 extended 1146d0007000
-  Dolby audio, then in hex 7000
+  Dolby audio version 1, height speakers, surround speakers, centre speaker, then in hex 7000
 tail -
 ";
 
@@ -392,7 +393,8 @@ extended 060d01
 extended 0f030018
   also in 4:2:0 the video codes at places 1 2 20 21
 extended 0146d00024180900ad5244a9230c
-  Dolby Vision, then in hex 24180900ad5244a9230c
+  Dolby Vision version 1, display management 3.x, up to 700 cd/m2, down to (4/127)^2 cd/m2, near P3-D65
+  red 0.6758 0.3203, green 0.2656 0.6602, blue 0.1367 0.0469
 timing 8550 1360 432 768 27 64 112 3 6 1600 900 0 0 1e
   1360x768 at 60.015 Hz, 47.712 kHz, 85.50 MHz, +h +v, 1600 x 900 mm
 tail -

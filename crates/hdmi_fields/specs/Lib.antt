@@ -1,0 +1,3 @@
+pub mod Luminance
+pub mod Fields
+pub mod Places

@@ -1,0 +1,3 @@
+pub mod Dolby
+pub mod Vendors
+pub mod Sync

@@ -1,0 +1,10 @@
+//! What blocks of makers mean: Dolby, HDR10+, AMD and Microsoft.
+#![tactic(auto)]
+
+mod dolby;
+mod sync;
+mod vendors;
+
+pub use dolby::append_dolby;
+pub use sync::append_sync;
+pub use vendors::{append_plus, append_soft, append_sound};
