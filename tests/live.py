@@ -11,7 +11,7 @@ import sys
 TOP = os.path.dirname(os.path.dirname(os.path.realpath(__file__)))
 PROGRAM = os.path.realpath(sys.argv[1]) if len(sys.argv) > 1 else os.path.join(TOP, 'crates/hdminet/out/hdminet')
 ROOM = 'device tv tv 4\ndevice p1 player 0\nplug p1 tv 1\nscript\n'
-OWN = ('run', 'wait', 'show')
+OWN = ('run', 'wait', 'show', 'edge', 'edges')
 
 
 class Session:
@@ -20,7 +20,7 @@ class Session:
     def __init__(self, start):
         self.live = subprocess.Popen([PROGRAM, 'live'], stdin=subprocess.PIPE, stdout=subprocess.PIPE, stderr=subprocess.PIPE)
         self.send(start)
-        self.script, self.trace = [], []
+        self.script, self.trace, self.edges = [], [], []
 
     def send(self, text):
         self.live.stdin.write(text.encode())
@@ -43,7 +43,8 @@ class Session:
         self.send(line + '\n')
         told, answer = self.answer()
         self.script.append('' if line.split(' ')[0] in OWN or answer[:1] != '=' else line)
-        self.trace += told
+        self.trace += [line for line in told if line[0] != '~']
+        self.edges += [line for line in told if line[0] == '~']
         return answer
 
     def ended(self):
@@ -128,6 +129,8 @@ def is_trace(text, start):
                     now = int(answer.split()[1])
                     break
                 now = int(answer.split()[1])
+            elif kind == 3:
+                s.ask(numbers.choice(['edges on', 'edges off', 'edge x', 'edge %d' % now]))
             else:
                 now = numbers.randint(now, max(now, instant(line)))
                 s.ask('run to %d' % now)
@@ -159,6 +162,28 @@ def pulses_let_go():
     right = right and s.ask('run to 30000000') == '= 30000000\n' and s.ask('pulse 200000000 100') == '= 30000000\n'
     right = right and s.ask('end 200100000') == '= 200100000\n' and s.ended() == (0, '', '')
     return right and ' '.join(s.trace).count(' 200000000 200000100 ') == 1
+
+
+def edge_by_edge():
+    """A driver that asks for edge after edge has each edge of the run once, none at the horizon or later, and no round's line before
+    one of its edges; a pulse that it pulls in a round changes the edges that come."""
+    s = Session(ROOM)
+    right, horizon, steps = True, 0, 0
+    s.ask('at 500000 press p1 play')
+    while right and horizon < 1_000_000 and steps < 10_000:
+        before, many = horizon, len(s.edges)
+        if steps == 300:
+            s.ask('pulse %d 700' % horizon)
+        horizon = int(s.ask('edge 1000000').split()[1])
+        told = [int(line.split()[1]) for line in s.edges[many:]]
+        right = before <= horizon and len(told) <= 1 and all(before <= at == horizon - 1 for at in told)
+        steps += 1
+    right = right and s.ask('edge 999999').endswith(' past\n') and s.ask('edges on') == '= 1000000\n' and s.ask('end 1000000') == '= 1000000\n'
+    right = right and s.ended() == (0, '', '')
+    text = ROOM + ''.join(line + '\n' for line in s.script)
+    ran = subprocess.run([PROGRAM, 'run', '--edges'], input=text.encode(), stdout=subprocess.PIPE).stdout.decode()
+    edges = ['~ %s\n' % line for line in ran.split('\n') if line and not line.endswith(' end')]
+    return right and ' pulse ' in ' ' + text.replace('\n', ' ') and len(edges) > 200 and s.edges == edges and ''.join(s.trace) == run(text)
 
 
 def driver():
@@ -197,7 +222,7 @@ def main():
         sys.exit('live: no program at %s: start ./hdminet once' % PROGRAM)
     signal.alarm(600)
     passed = failed = 0
-    for test in [answers_at_once, ends_early, has_faults, closed, examples_cut, pulses_let_go, driver, device_under_test, claimed_twice, shell]:
+    for test in [answers_at_once, ends_early, has_faults, closed, examples_cut, pulses_let_go, edge_by_edge, driver, device_under_test, claimed_twice, shell]:
         if test():
             passed += 1
         else:

@@ -206,7 +206,7 @@ not_by until b s time h = by_test (is_by (max s.close time) (next_start s)) refl
 rounds : (end b : ℕ) (o : Option ℕ) → o ≡ Some b → b < end → round_turn end o ≡ Round b
 rounds end b o e l = let t : nat_lt b end ≡ true = grind (arith, nat_tests) in subst (λ x. round_turn end x ≡ Round b) (sym e) (rw t refl)
 
-round_same : (until end b : ℕ) (s : NetState) (xs events : List TimedEvent) (later : List Stretch) → turn_of until s (first_time xs) ≡ Round b → ComesFrom until events later end
+pub round_same : (until end b : ℕ) (s : NetState) (xs events : List TimedEvent) (later : List Stretch) → turn_of until s (first_time xs) ≡ Round b → ComesFrom until events later end
     → turn_of end (with_pulses later s) (first_time (xs ++ events)) ≡ Round b
 round_same until end b s xs events later h f = by_events xs events h f.scheduled
   where

@@ -37,3 +37,10 @@ late_by ended until begin close net goes_on late k =
 -- what is kept is what the next round gives
 pub known_outcome : (net at : NetState) (next : Option Outcome) (o : Outcome) → at ≡ net → next ≡ Some o → IsForeseen net next → IsForeseen at (Some o)
 known_outcome net at next o same is h = subst (λ (n : NetState). IsForeseen n (Some o)) (sym same) (subst (λ (x : Option Outcome). IsForeseen net x) is h)
+
+-- the round that comes next is the one that is kept
+pub known_round : (net : NetState) (next : Option Outcome) (o : Outcome) (begin : ℕ) → next_start net ≡ Some begin → next ≡ Some o → IsForeseen net next
+    → (outcome : Outcome) × (after : NetState) × IsWave outcome.wave × IsNextRound net begin outcome after × (o.wave ≡ outcome.wave)
+known_round net next o begin starts is h =
+    let k = subst (λ (x : Option Outcome). IsForeseen net x) is h in
+    (o, after_round net begin o, k.0, (k.1 begin starts).0, refl)

@@ -12,9 +12,9 @@ use Rattle.cec_session.specs.declared.answer.Refusal.TheVariants.{Past}
 use Rattle.cec_session.specs.declared.command.Command.{Command}
 use Rattle.cec_session.specs.declared.command.Command.TheVariants as commands
 use Rattle.cec_session.specs.declared.live.Step.{Step}
-use Rattle.cec_session.specs.declared.live.Step.TheVariants.{Refuse, Idle, Show, Go, Finish}
+use Rattle.cec_session.specs.declared.live.Step.TheVariants.{Refuse, Idle, Show, Go, Edge, Finish}
 use Rattle.cec_session.specs.Command.{command_of}
-use Rattle.cec_session.specs.Session.{Session, first_session, with_line_counted, standing, with_standing, standing_with, step_noted, step_by, is_late, after_to, after_wait, IsStepBy, IsDue}
+use Rattle.cec_session.specs.Session.{Session, first_session, with_line_counted, standing, with_standing, standing_with, step_noted, step_by, is_late, after_to, after_wait, IsEdgeStep, IsEdgeStepBy, IsStepBy, IsDue}
 use Rattle.cec_session.specs.Whole.{kept_line, IsLine, AreLines, SessionsReportTracesOf}
 use Rattle.cec_session.proofs.Extends.{line_extends}
 use Rattle.cec_session.proofs.Noting.{taken}
@@ -41,8 +41,9 @@ due_stays : (step : Step) (s t : Session) (text : List ℕ) → IsDue step s tex
 due_stays (Refuse refusal) s t text due = same_stays s t due.1
 due_stays Idle s t text due = same_stays s t due.1
 due_stays (Show device) s t text due = same_stays s t due.3
-due_stays Go s t text due = placed_stays s t due.1 due.4
-due_stays Finish s t text due = placed_stays s t due.1 due.4
+due_stays Go s t text due = placed_stays s t due.2 due.5
+due_stays Edge s t text due = placed_stays s t due.2 due.5
+due_stays Finish s t text due = placed_stays s t due.2 due.5
 
 wait_stays : (s : Session) (soon : Option ℕ) → Stays s (after_wait s soon)
 wait_stays s None = all_stays s
@@ -55,6 +56,14 @@ to_stays s (Some time) = by_test (nat_lt time s.horizon)
     by_test : (b : Bool) → Stays s (if b then s else record s { horizon = time })
     by_test true = all_stays s
     by_test false = record { tree = refl; lines = refl; notes = refl }
+
+edge_stays : (s : Session) (time : Option ℕ) (step : Step) (t : Session) → IsEdgeStep s time step t → Stays s t
+edge_stays s None step t (asks, stands) = same_stays s t stands
+edge_stays s (Some until) step t is = by_test (nat_lt until s.horizon) is
+  where
+    by_test : (b : Bool) → IsEdgeStepBy b s until step t → Stays s t
+    by_test true (asks, stands) = same_stays s t stands
+    by_test false (asks, to, edge, stands) = subst (λ (t : Session). Stays s t) (sym stands) (record { tree = refl; lines = refl; notes = refl })
 
 -- ---- how a line is read
 
@@ -97,6 +106,8 @@ step_reads s commands.Script line step t (read, is, asks, stands) = subst (λ (s
 step_reads s commands.Wait line step t (soon, is, asks, stands) = empty_reads s t (subst (λ (t : Session). Stays s t) (sym stands) (wait_stays s soon))
 step_reads s (commands.RunTo time) line step t (asks, stands) = empty_reads s t (subst (λ (t : Session). Stays s t) (sym stands) (to_stays s time))
 step_reads s (commands.Show device) line step t (asks, stands) = empty_reads s t (same_stays s t stands)
+step_reads s (commands.Edge time) line step t is = empty_reads s t (edge_stays s time step t is)
+step_reads s (commands.Edges edges) line step t (asks, stands) = empty_reads s t (subst (λ (t : Session). Stays s t) (sym stands) (record { tree = refl; lines = refl; notes = refl }))
 
 -- ---- all lines
 
@@ -156,6 +167,7 @@ kept_whole (Refuse refusal) line whole = All-nil (λ byte. byte ≢ 10)
 kept_whole Idle line whole = All-nil (λ byte. byte ≢ 10)
 kept_whole (Show device) line whole = All-nil (λ byte. byte ≢ 10)
 kept_whole Go line whole = whole
+kept_whole Edge line whole = whole
 kept_whole Finish line whole = whole
 
 line_whole : (command : Command) (step : Step) (line : List ℕ) → IsWhole line → IsWhole (kept_line command step line)
@@ -163,6 +175,8 @@ line_whole commands.Script step line whole = kept_whole step line whole
 line_whole commands.Wait step line whole = All-nil (λ byte. byte ≢ 10)
 line_whole (commands.RunTo time) step line whole = All-nil (λ byte. byte ≢ 10)
 line_whole (commands.Show device) step line whole = All-nil (λ byte. byte ≢ 10)
+line_whole (commands.Edge time) step line whole = All-nil (λ byte. byte ≢ 10)
+line_whole (commands.Edges edges) step line whole = All-nil (λ byte. byte ≢ 10)
 
 all_whole : (lines kept : List (List ℕ)) (s t : Session) (reported text : List ℕ) → AreLines lines s kept reported text t → All IsWhole lines → All IsWhole kept
 all_whole [] kept s t reported text (nothing, none, empty, same) whole = subst (λ (kept : List (List ℕ)). All IsWhole kept) (sym nothing) (All-nil IsWhole)

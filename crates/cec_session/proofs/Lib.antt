@@ -1,8 +1,12 @@
+pub mod Edging
 pub mod Extends
 pub mod Foreseeing
 pub mod Going
 pub mod HasText
 pub mod Noting
+mod SameEdges
+pub mod EdgesStay
+pub mod Taking
 pub mod Wholly
 pub mod Answering
 pub mod NoteCalls

@@ -20,16 +20,18 @@ use Rattle.causal_laws.specs.Certain.{ComesFrom, LeadsIf, LeadsBy, with_more}
 use Rattle.causal_laws.proofs.Apart.{faultless_are_apart}
 use Rattle.causal_laws.proofs.Certainty.{turns_stay_certain, reported_is_front}
 use Rattle.causal_laws.proofs.Before.{all_on}
+use Rattle.cec_asm.specs.declared.script.ScriptCause.TheVariants.{Number}
 use Rattle.cec_session.specs.declared.answer.Refusal.TheVariants.{Script, Past}
 use Rattle.cec_session.specs.declared.command.Command.{Command}
 use Rattle.cec_session.specs.declared.command.Command.TheVariants as commands
 use Rattle.cec_session.specs.declared.live.Step.{Step}
-use Rattle.cec_session.specs.declared.live.Step.TheVariants.{Refuse, Idle, Show, Go, Finish}
+use Rattle.cec_session.specs.declared.live.Step.TheVariants.{Refuse, Idle, Show, Go, Edge, Finish}
 use Rattle.cec_session.specs.Turns.{IsReported, Goes}
 use Rattle.cec_session.specs.Command.{command_of}
-use Rattle.cec_session.specs.Session.{Session, Standing, first_session, with_line_counted, standing, with_standing, standing_with, step_noted, step_by, step_to, after_to, step_wait, after_wait, step_show, is_late, is_past, refuses_pulse, ends_before, horizon_by, new_events, new_pulses, IsStepBy, IsDue}
+use Rattle.cec_session.specs.Session.{Session, Standing, first_session, with_line_counted, standing, with_standing, standing_with, step_noted, step_by, step_to, after_to, step_wait, after_wait, step_show, span_of, is_late, is_past, refuses_pulse, ends_before, horizon_by, new_events, new_pulses, IsEdgeStep, IsEdgeStepBy, IsStepBy, IsDue, SessionGoes}
 use Rattle.cec_session.specs.Whole.{reported_of, AreLines, SessionsReportFronts, SessionsReportTraces}
 use Rattle.cec_session.proofs.Extends.{line_extends}
+use Rattle.cec_session.proofs.Going.{goes_of}
 use Rattle.cec_session.proofs.Noting.{taken, drop_all}
 
 -- ---- while a session goes on
@@ -105,6 +107,7 @@ EndBy (Refuse refusal) s = s.notes.end ≡ None
 EndBy Idle s = s.notes.end ≡ None
 EndBy (Show device) s = s.notes.end ≡ None
 EndBy Go s = s.notes.end ≡ None
+EndBy Edge s = s.notes.end ≡ None
 
 record Asked (edid : Option Edid) (tree : List Node) (step : Step) (s : Session) (reported : List ℕ) : Type 0 where
   so_far : SoFar edid tree s reported
@@ -176,6 +179,22 @@ asked_show : (edid : Option Edid) (tree : List Node) (s : Session) (reported : L
 asked_show edid tree s reported None r going = record { so_far = r; ended = going }
 asked_show edid tree s reported (Some device) r going = record { so_far = r; ended = going }
 
+asked_edge : (edid : Option Edid) (tree : List Node) (s : Session) (reported : List ℕ) (time : Option ℕ) (step : Step) (t : Session) → SoFar edid tree s reported → s.notes.end ≡ None → IsEdgeStep s time step t
+    → Asked edid tree step t reported
+asked_edge edid tree s reported None step t r going (asks, stands) =
+    subst (λ (step : Step). Asked edid tree step t reported) (sym asks) (subst (λ (t : Session). Asked edid tree (Refuse (Script Number)) t reported) (sym stands) (record { so_far = r; ended = going }))
+asked_edge edid tree s reported (Some until) step t r going is = by_test (nat_lt until s.horizon) is
+  where
+    by_test : (b : Bool) → IsEdgeStepBy b s until step t → Asked edid tree step t reported
+    by_test true (asks, stands) =
+        subst (λ (step : Step). Asked edid tree step t reported) (sym asks) (subst (λ (t : Session). Asked edid tree (Refuse Past) t reported) (sym stands) (record { so_far = r; ended = going }))
+    by_test false (asks, to, edge, stands) =
+        subst (λ (step : Step). Asked edid tree step t reported) (sym asks) (subst (λ (t : Session). Asked edid tree Edge t reported) (sym stands)
+        (record { so_far = raised edid tree s reported (max s.horizon to) r (omega arith); ended = going }))
+
+asked_edges : (edid : Option Edid) (tree : List Node) (s : Session) (reported : List ℕ) (edges : Bool) → SoFar edid tree s reported → s.notes.end ≡ None → Asked edid tree Go (record s { edges = edges }) reported
+asked_edges edid tree s reported edges r going = record { so_far = record { edid_is = r.edid_is; turns = r.turns; leads = r.leads; sound = r.sound }; ended = going }
+
 asked_by : (edid : Option Edid) (tree : List Node) (s : Session) (reported line : List ℕ) (command : Command) (step : Step) (t : Session) → SoFar edid tree s reported → s.notes.end ≡ None
     → IsStepBy s command line step t → Asked edid tree step t reported
 asked_by edid tree s reported line commands.Script step t r going (read, is, asks, stands) =
@@ -190,6 +209,10 @@ asked_by edid tree s reported line (commands.RunTo time) step t r going (asks, s
 asked_by edid tree s reported line (commands.Show device) step t r going (asks, stands) =
     subst (λ (step : Step). Asked edid tree step t reported) (sym asks)
     (subst (λ (t : Session). Asked edid tree (step_show device) t reported) (sym stands) (asked_show edid tree s reported device r going))
+asked_by edid tree s reported line (commands.Edge time) step t r going is = asked_edge edid tree s reported time step t r going is
+asked_by edid tree s reported line (commands.Edges edges) step t r going (asks, stands) =
+    subst (λ (step : Step). Asked edid tree step t reported) (sym asks)
+    (subst (λ (t : Session). Asked edid tree Go t reported) (sym stands) (asked_edges edid tree s reported edges r going))
 
 counted : (edid : Option Edid) (tree : List Node) (s : Session) (reported : List ℕ) → SoFar edid tree s reported → SoFar edid tree (with_line_counted s) reported
 counted edid tree s reported r = record { edid_is = r.edid_is; turns = r.turns; leads = r.leads; sound = r.sound }
@@ -217,18 +240,24 @@ still : (edid : Option Edid) (tree : List Node) (s t : Session) (reported : List
 still edid tree s t reported r going same =
     subst (λ (t : Session). Reached edid tree t (reported ++ [])) (sym same) (subst (λ (text : List ℕ). Reached edid tree s text) (sym (append-nil reported)) (inl (r, going)))
 
+gone_reached : (edid : Option Edid) (tree : List Node) (s t : Session) (reported : List ℕ) (edges : Bool) (first own : List ℕ) (place : Config) → SoFar edid tree s reported → s.notes.end ≡ None
+    → SessionGoes edges false s first own place → t ≡ record s { place = place } → Reached edid tree t (reported ++ first)
+gone_reached edid tree s t reported edges first own place r going goes stands =
+    let here : Goes edid false s.horizon s.place first place =
+    subst (λ (e : Option Edid). Goes e false s.horizon s.place first place) r.edid_is (goes_of s.edid false (span_of edges false s) s.horizon s.place place first own goes) in
+    let all = all_on (IsReported false s.horizon) (Trace edid) s.horizon r.turns here.turns (start (first_net tree s.notes.pulses) s.notes.events) s.place place reported first r.leads here.leads in
+    subst (λ (t : Session). Reached edid tree t (reported ++ first)) (sym stands) (inl (record { edid_is = r.edid_is; turns = all.0; leads = all.1; sound = r.sound }, going))
+
 due_reached : (edid : Option Edid) (tree : List Node) (s t : Session) (reported text : List ℕ) (step : Step) → Asked edid tree step s reported → (due : IsDue step s text t) → Reached edid tree t (reported ++ reported_of step s text t due)
 due_reached edid tree s t reported text (Refuse refusal) a due = still edid tree s t reported a.so_far a.ended due.1
 due_reached edid tree s t reported text Idle a due = still edid tree s t reported a.so_far a.ended due.1
 due_reached edid tree s t reported text (Show device) a due = still edid tree s t reported a.so_far a.ended due.3
-due_reached edid tree s t reported text Go a (first, place, goes, is, stands) =
+due_reached edid tree s t reported text Go a (first, own, place, goes, is, stands) = gone_reached edid tree s t reported s.edges first own place a.so_far a.ended goes stands
+due_reached edid tree s t reported text Edge a (first, own, place, goes, is, stands) = gone_reached edid tree s t reported true first own place a.so_far a.ended goes stands
+due_reached edid tree s t reported text Finish a (first, own, place, goes, is, stands) =
     let r = a.so_far in
-    let here : Goes edid false s.horizon s.place first place = subst (λ (e : Option Edid). Goes e false s.horizon s.place first place) r.edid_is goes in
-    let all = all_on (IsReported false s.horizon) (Trace edid) s.horizon r.turns here.turns (start (first_net tree s.notes.pulses) s.notes.events) s.place place reported first r.leads here.leads in
-    subst (λ (t : Session). Reached edid tree t (reported ++ first)) (sym stands) (inl (record { edid_is = r.edid_is; turns = all.0; leads = all.1; sound = r.sound }, a.ended))
-due_reached edid tree s t reported text Finish a (first, place, goes, is, stands) =
-    let r = a.so_far in
-    let here : Goes edid true s.horizon s.place first place = subst (λ (e : Option Edid). Goes e true s.horizon s.place first place) r.edid_is goes in
+    let here : Goes edid true s.horizon s.place first place =
+    subst (λ (e : Option Edid). Goes e true s.horizon s.place first place) r.edid_is (goes_of s.edid true (span_of s.edges true s) s.horizon s.place place first own goes) in
     let before = any_turns (IsReported false s.horizon) edid s.horizon r.turns (start (first_net tree s.notes.pulses) s.notes.events) s.place reported r.leads in
     let all = all_on (IsReported true s.horizon) (Trace edid) s.horizon r.turns here.turns (start (first_net tree s.notes.pulses) s.notes.events) s.place place reported first before here.leads in
     let last = end_reported (Trace s.edid) s.horizon place.net in

@@ -29,14 +29,17 @@ use Rattle.cec_session.specs.declared.command.Command.TheVariants as commands
 use Rattle.cec_session.specs.declared.answer.Refusal.{Refusal}
 use Rattle.cec_session.specs.declared.answer.Refusal.TheVariants.{Script, Past}
 use Rattle.cec_session.specs.declared.live.Step.{Step}
-use Rattle.cec_session.specs.declared.live.Step.TheVariants.{Refuse, Idle, Show, Go, Finish}
+use Rattle.cec_session.specs.declared.live.Step.TheVariants.{Refuse, Idle, Show, Go, Edge, Finish}
 use Rattle.cec_session.specs.Command.{command_of}
-use Rattle.cec_session.specs.Turns.{Goes, IsWithin}
+use Rattle.cec_session.specs.declared.edges.Span.{Span}
+use Rattle.cec_session.specs.Edges.{first_edge}
+use Rattle.cec_session.specs.Turns.{GoesWith, IsWithin}
 
 -- ---- a session
 
 -- the television's EDID, the devices by their names, what the lines that were taken say, the instant before which all was told
--- and from which on more may come, how many lines came, and where the run stands
+-- and from which on more may come, how many lines came, where the run stands, whether edges are reported, and that instant as it
+-- was before the last line
 pub record Session : Type 0 where
   pub edid : Option Edid
   pub tree : List Node
@@ -44,14 +47,16 @@ pub record Session : Type 0 where
   pub horizon : ℕ
   pub lines : ℕ
   pub place : Config
+  pub edges : Bool
+  pub since : ℕ
 
 -- before its first line
 abbrev pub first_session : Option Edid → List Node → Session
-first_session edid tree = record { edid = edid; tree = tree; notes = no_notes; horizon = 0; lines = 0; place = start (first_net tree []) [] }
+first_session edid tree = record { edid = edid; tree = tree; notes = no_notes; horizon = 0; lines = 0; place = start (first_net tree []) []; edges = false; since = 0 }
 
--- a line has come; the count stays at its greatest value
+-- a line has come; the count stays at its greatest value, and what the line reports of edges begins at the horizon
 abbrev pub with_line_counted : Session → Session
-with_line_counted s = record s { lines = min (s.lines + 1) 18446744073709551615 }
+with_line_counted s = record s { lines = min (s.lines + 1) 18446744073709551615; since = s.horizon }
 
 -- ---- a line of the script
 
@@ -148,6 +153,31 @@ abbrev pub after_wait : Session → Option ℕ → Session
 after_wait s None = s
 after_wait s (Some time) = record s { horizon = max s.horizon time }
 
+-- ---- `edge T`
+
+-- the microsecond after the next edge of the line, or after what comes before that is over, an event that is applied or a round that
+-- closes; at most an instant, if nothing else comes
+abbrev pub edge_horizon : ℕ → ℕ → Option ℕ → ℕ
+edge_horizon until close None = min until (close + 1)
+edge_horizon until close (Some edge) = min until (edge + 1)
+
+abbrev pub IsEdgeBy : ℕ → ℕ → NetState → Turn → ℕ → Type 0
+IsEdgeBy from until net Stop to = to ≡ until
+IsEdgeBy from until net (Apply at) to = to ≡ at + 1
+IsEdgeBy from until net (Round begin) to =
+    (outcome : Outcome) × (after : NetState) × IsWave outcome.wave × IsNextRound net begin outcome after × (to ≡ edge_horizon until after.close (first_edge from outcome.wave))
+
+abbrev pub IsEdge : ℕ → ℕ → Config → ℕ → Type 0
+IsEdge from until c to = IsEdgeBy from until c.net (turn_at until c) to
+
+abbrev pub IsEdgeStepBy : Bool → Session → ℕ → Step → Session → Type 0
+IsEdgeStepBy true s until step t = (step ≡ Refuse Past) × (t ≡ s)
+IsEdgeStepBy false s until step t = (step ≡ Edge) × (to : ℕ) × IsEdge s.horizon until s.place to × (t ≡ record s { horizon = max s.horizon to })
+
+abbrev pub IsEdgeStep : Session → Option ℕ → Step → Session → Type 0
+IsEdgeStep s None step t = (step ≡ Refuse (Script Number)) × (t ≡ s)
+IsEdgeStep s (Some until) step t = IsEdgeStepBy (nat_lt until s.horizon) s until step t
+
 -- ---- `show NAME`
 
 abbrev pub step_show : Option ℕ → Step
@@ -162,6 +192,8 @@ IsStepBy s commands.Script line step t =
 IsStepBy s commands.Wait line step t = (soon : Option ℕ) × IsSoonest s.place soon × (step ≡ step_wait soon) × (t ≡ after_wait s soon)
 IsStepBy s (commands.RunTo time) line step t = (step ≡ step_to s time) × (t ≡ after_to s time)
 IsStepBy s (commands.Show device) line step t = (step ≡ step_show device) × (t ≡ s)
+IsStepBy s (commands.Edge time) line step t = IsEdgeStep s time step t
+IsStepBy s (commands.Edges edges) line step t = (step ≡ Go) × (t ≡ record s { edges = edges })
 
 -- each line counts, and asks for a step
 abbrev pub IsStep : Session → List ℕ → Step → Session → Type 0
@@ -183,16 +215,30 @@ idle_line horizon = codes "= " ++ (decimal horizon ++ codes " idle\n")
 abbrev pub refused_line : ℕ → Refusal → List ℕ
 refused_line line refusal = codes "! " ++ (decimal line ++ (codes " " ++ (refusal_cause refusal ++ codes "\n")))
 
--- Of each step: the text that is due, and the session after it. It goes on where time has gone on: the turns that are certain,
--- then the answer; at the end all that is left of the trace.
+-- the instants whose edges are reported where a session goes on: none, those from the horizon before the line on to the horizon, or
+-- all that are left
+abbrev pub span_of : Bool → Bool → Session → Span
+span_of false ended s = record { from = 0; until = 0 }
+span_of true false s = record { from = s.since; until = s.horizon }
+span_of true true s = record { from = s.since; until = 18446744073709551615 }
+
+-- a session goes on: what it reports in the trace, that text with the edges, where edges are reported, and where its run then stands
+abbrev pub SessionGoes : Bool → Bool → Session → List ℕ → List ℕ → Config → Type 0
+SessionGoes edges ended s reported text place = GoesWith s.edid ended (span_of edges ended s) s.horizon s.place reported text place
+
+-- Of each step: the text that is due, and the session after it. It goes on where time has gone on: the turns that are certain, with
+-- the edges that are, then the answer; at the end all that is left of the trace.
 abbrev pub IsDue : Step → Session → List ℕ → Session → Type 0
 IsDue (Refuse refusal) s text t = (text ≡ refused_line s.lines refusal) × (t ≡ s)
 IsDue Idle s text t = (text ≡ idle_line s.horizon) × (t ≡ s)
 IsDue (Show device) s text t = (shown : State) × (slice_get s.place.net.devices device ≡ Some shown) × (text ≡ codes "= " ++ state_line shown) × (t ≡ s)
-IsDue Go s text t = (reported : List ℕ) × (place : Config) × Goes s.edid false s.horizon s.place reported place × (text ≡ reported ++ taken_line s.horizon) × (t ≡ record s { place = place })
+IsDue Go s text t =
+    (reported : List ℕ) × (own : List ℕ) × (place : Config) × SessionGoes s.edges false s reported own place × (text ≡ own ++ taken_line s.horizon) × (t ≡ record s { place = place })
+IsDue Edge s text t =
+    (reported : List ℕ) × (own : List ℕ) × (place : Config) × SessionGoes true false s reported own place × (text ≡ own ++ taken_line s.horizon) × (t ≡ record s { place = place })
 IsDue Finish s text t =
-    (reported : List ℕ) × (place : Config) × Goes s.edid true s.horizon s.place reported place
-    × (text ≡ reported ++ (end_reported (Trace s.edid) s.horizon place.net ++ taken_line s.horizon)) × (t ≡ record s { place = place })
+    (reported : List ℕ) × (own : List ℕ) × (place : Config) × SessionGoes s.edges true s reported own place
+    × (text ≡ own ++ (end_reported (Trace s.edid) s.horizon place.net ++ taken_line s.horizon)) × (t ≡ record s { place = place })
 
 -- a step of a session has one text that is due, and one session after it
 abbrev pub StepsHaveOneText : Type 0
@@ -222,4 +268,5 @@ NamesShown count (Show device) = device < count
 NamesShown count (Refuse refusal) = Unit {0}
 NamesShown count Idle = Unit {0}
 NamesShown count Go = Unit {0}
+NamesShown count Edge = Unit {0}
 NamesShown count Finish = Unit {0}

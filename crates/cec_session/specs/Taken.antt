@@ -4,23 +4,22 @@ use Rattle.std.specs.Io.KnownBytes.{Appends}
 use Rattle.hdmi_core.specs.declared.sink.WriteFault.{WriteFault}
 use Rattle.hdmi_core.specs.Cut.{CutOff, WrittenText, reported_count}
 use Rattle.cec_run.specs.Run.{Config}
-use Rattle.cec_session.specs.Turns.{Goes}
 use Rattle.cec_session.specs.declared.live.Step.{Step}
 use Rattle.cec_session.specs.declared.live.LiveError.{LiveError}
 use Rattle.cec_session.specs.declared.live.LiveError.TheVariants.{Write, Memory}
-use Rattle.cec_session.specs.Session.{Session, with_line_counted, IsStep, IsDue}
+use Rattle.cec_session.specs.Session.{Session, SessionGoes, with_line_counted, IsStep, IsDue}
 
 -- the run stands at some place, and nothing else of the session has changed
 abbrev pub StandsSomewhere : Session → Session → Type 0
 StandsSomewhere s t = (place : Config) × (t ≡ record s { place = place })
 
--- a session went on: all turns that are reported from where it stood were written, and nothing else has changed; or a fault cut
--- their text off, which there is
-abbrev pub IsGone : Bool → Session → Session → Option (List ℕ) → Option (List ℕ) → Bool → Bool → Result ℕ WriteFault → Type 0
-IsGone ended s t old new was is (Ok reported) =
-    (text : List ℕ) × (place : Config) × Goes s.edid ended s.horizon s.place text place × (t ≡ record s { place = place }) × WrittenText old new was is text (Ok reported)
-IsGone ended s t old new was is (Err fault) =
-    ((text : List ℕ) × (place : Config) × Goes s.edid ended s.horizon s.place text place × CutOff old new text fault) × (is ≡ true) × StandsSomewhere s t
+-- a session went on: all turns that are reported from where it stood were written, with the edges or without, and nothing else has
+-- changed; or a fault cut their text off, which there is
+abbrev pub IsGone : Bool → Bool → Session → Session → Option (List ℕ) → Option (List ℕ) → Bool → Bool → Result ℕ WriteFault → Type 0
+IsGone edges ended s t old new was is (Ok count) =
+    (reported : List ℕ) × (text : List ℕ) × (place : Config) × SessionGoes edges ended s reported text place × (t ≡ record s { place = place }) × WrittenText old new was is text (Ok count)
+IsGone edges ended s t old new was is (Err fault) =
+    ((reported : List ℕ) × (text : List ℕ) × (place : Config) × SessionGoes edges ended s reported text place × CutOff old new text fault) × (is ≡ true) × StandsSomewhere s t
 
 -- what is due was written whole, or a fault cut it off; there is such a text, and one (`steps_have_one_text`)
 abbrev pub IsAnswered : Step → Session → Session → Option (List ℕ) → Option (List ℕ) → Bool → Bool → Result ℕ WriteFault → Type 0

@@ -17,18 +17,19 @@ use Rattle.causal_laws.specs.Causal.{BeginsWith, before_reported}
 use Rattle.cec_session.specs.declared.command.Command.{Command}
 use Rattle.cec_session.specs.declared.command.Command.TheVariants as commands
 use Rattle.cec_session.specs.declared.live.Step.{Step}
-use Rattle.cec_session.specs.declared.live.Step.TheVariants.{Refuse, Idle, Show, Go, Finish}
+use Rattle.cec_session.specs.declared.live.Step.TheVariants.{Refuse, Idle, Show, Go, Edge, Finish}
 use Rattle.cec_session.specs.Command.{command_of}
 use Rattle.cec_session.specs.Session.{Session, first_session, IsStep, IsDue}
 use Rattle.cec_wave.specs.Bounds.{most_pulses}
 
--- what is due of a step without its answer: lines of the trace
+-- what is due of a step without its answer and the edges: lines of the trace
 abbrev pub reported_of : (step : Step) (s : Session) (text : List ℕ) (t : Session) → IsDue step s text t → List ℕ
 reported_of (Refuse refusal) s text t due = []
 reported_of Idle s text t due = []
 reported_of (Show device) s text t due = []
 reported_of Go s text t due = due.0
-reported_of Finish s text t due = due.0 ++ end_reported (Trace s.edid) s.horizon due.1.net
+reported_of Edge s text t due = due.0
+reported_of Finish s text t due = due.0 ++ end_reported (Trace s.edid) s.horizon due.2.net
 
 -- a line of the script as it was taken, and an empty one where it was refused
 abbrev pub kept_by : Step → List ℕ → List ℕ
@@ -36,6 +37,7 @@ kept_by (Refuse refusal) line = []
 kept_by Idle line = []
 kept_by (Show device) line = []
 kept_by Go line = line
+kept_by Edge line = line
 kept_by Finish line = line
 
 -- the session's own lines are empty too
@@ -44,6 +46,8 @@ kept_line commands.Script step line = kept_by step line
 kept_line commands.Wait step line = []
 kept_line (commands.RunTo time) step line = []
 kept_line (commands.Show device) step line = []
+kept_line (commands.Edge time) step line = []
+kept_line (commands.Edges edges) step line = []
 
 -- A line of a session whose script has not ended: what of it is of the script, what was written, and what of that is of the
 -- trace.

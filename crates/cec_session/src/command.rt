@@ -3,7 +3,7 @@ ghost use Rattle.std.specs.Prelude.{◌≡◌};
 ghost use Rattle.std.specs.Option.{option_copied};
 ghost use Rattle.hdmi_core.specs.Words.{one_of, two_of, words_after};
 ghost use Rattle.cec_asm.specs.Script.{time_of};
-ghost use Rattle.cec_session.specs.Command.{command_of, run_words, show_words};
+ghost use Rattle.cec_session.specs.Command.{command_of, edge_words, edges_words, run_words, show_words};
 
 use cec_wave::LATEST_EVENT;
 use hdmi_core::{first_word, number_in, one_word, two_words};
@@ -20,6 +20,10 @@ pub enum Command {
     RunTo(Option<u64>),
     /// `show NAME`, with the device's number, where it has that name.
     Show(Option<usize>),
+    /// `edge T`, with the time, where it is one.
+    Edge(Option<u64>),
+    /// `edges on` or `edges off`: whether edges are reported.
+    Edges(bool),
 }
 
 fn time_in(word: &[u8]) -> Option<u64>
@@ -57,6 +61,32 @@ fn show_in(tree: &Tree<15>, rest: Option<&[u8]>) -> Command
     Command::Show(tree.device_named(name))
 }
 
+// What the word after `edge` asks for.
+fn edge_in(rest: Option<&[u8]>) -> Command
+    ensures { result ≡ edge_words (one_of (words_after (option_copied rest.entry))) }
+{
+    let Some(time) = one_word(rest) else {
+        return Command::Script;
+    };
+    Command::Edge(time_in(time))
+}
+
+// What the word after `edges` asks for.
+fn edges_in(rest: Option<&[u8]>) -> Command
+    ensures { result ≡ edges_words (one_of (words_after (option_copied rest.entry))) }
+{
+    let Some(word) = one_word(rest) else {
+        return Command::Script;
+    };
+    if word == b"on".as_slice() {
+        Command::Edges(true)
+    } else if word == b"off".as_slice() {
+        Command::Edges(false)
+    } else {
+        Command::Script
+    }
+}
+
 /// What a line asks for.
 pub(crate) fn command_in(tree: &Tree<15>, line: &[u8]) -> Command
     ensures { result ≡ command_of tree.now line.now }
@@ -69,6 +99,10 @@ pub(crate) fn command_in(tree: &Tree<15>, line: &[u8]) -> Command
         run_in(rest)
     } else if verb == b"show".as_slice() {
         show_in(tree, rest)
+    } else if verb == b"edge".as_slice() {
+        edge_in(rest)
+    } else if verb == b"edges".as_slice() {
+        edges_in(rest)
     } else {
         Command::Script
     }

@@ -1,5 +1,5 @@
 //! A network, and the round that comes next on it.
-ghost use Rattle.std.specs.Prelude.{◌≡◌, ◌≤◌, ◌<◌, [], length, slice_get, true, Some, None, Option, IfOk, IfSome, IsSome, MatchResult};
+ghost use Rattle.std.specs.Prelude.{◌≡◌, ℕ, List, ◌≤◌, ◌<◌, [], length, slice_get, true, Some, None, Option, IfOk, IfSome, IsSome, MatchResult};
 ghost use Rattle.cec_wave.specs.Line.{IsWave};
 ghost use Rattle.cec_wave.specs.Bounds.{latest_instant};
 ghost use Rattle.cec_wire.specs.declared.Outcome.{Outcome as OutcomeValue};
@@ -15,9 +15,11 @@ ghost use Rattle.hdmi_blocks.specs.Root.{HasAddress};
 ghost use Rattle.cec_text.specs.ReadingText.{is_complete};
 ghost use Rattle.cec_run.specs.declared.run.Reporting.TheVariants.{Trace};
 ghost use Rattle.cec_run.specs.Run.{RoundWritten, counted_event, counted_round, event_text, turn_of};
-ghost use Rattle.cec_session.specs.Turns.{AreAhead, IsForeseen, IsKept, IsRoundTaken};
+ghost use Rattle.cec_session.specs.Edges.{first_edge};
+ghost use Rattle.cec_session.specs.Turns.{AreAhead, HasEdges, IsForeseen, IsKept, IsRoundTaken, IsRoundWith};
 ghost use Rattle.hdmi_blocks.specs.declared.edid.Edid.{Edid as EdidValue};
 
+use crate::edges::{Span, first_edge, write_edges};
 use cec_asm::TimedEvent;
 use cec_device::Device;
 use cec_edges::EdgeWire;
@@ -29,10 +31,17 @@ use cec_trace::write_round;
 use cec_wave::Stretch;
 use cec_wire::Outcome;
 use hdmi_blocks::Edid;
-use hdmi_core::{Sink, WriteFault};
+use hdmi_core::{Sink, WriteFault, counted, cut_at};
 use hdmi_topo::Tree;
 use std::alloc::{AllocError, Global};
 use std::marker::Model;
+
+/// What becomes of the round that comes next: so much was written of it, and it is over or still on.
+#[derive(Clone, Copy, Debug, Drop)]
+pub(crate) enum RoundTaken {
+    Over(u128),
+    On(u128),
+}
 
 /// A network, and what its next round gives, once that was looked for. So a round that is not reported yet is run once, and not
 /// again with each line that comes. As a value it is the network.
@@ -246,13 +255,80 @@ impl Foreseen {
         foresee(&mut self.net, begin, &mut self.next, &mut self.is_known)
     }
 
+    /// The first edge of the next round, which begins at `begin`, at an instant or later.
+    pub fn next_edge(&mut self, begin: u64, from: u64) -> Option<u64>
+        requires early { self.old.close ≤ latest_instant }
+        requires begins { next_start self.old ≡ Some begin }
+        ensures same { self.new ≡ self.old }
+        ensures edge { (outcome : OutcomeValue) × (after : NetState) × IsWave outcome.wave × IsNextRound self.old begin outcome after × (result ≡ first_edge from outcome.wave) }
+    {
+        let _close = foresee(&mut self.net, begin, &mut self.next, &mut self.is_known);
+        let Some(outcome) = &self.next else {
+            unreachable!();
+        };
+        first_edge(from, outcome.wave.as_slice())
+    }
+
+    // Writes the edges of the next round, which begins at `begin`, that lie in a span.
+    fn write_edges<S: Sink>(
+        &mut self,
+        out: &mut S,
+        begin: u64,
+        span: Span,
+    ) -> Result<u128, WriteFault>
+        requires early { self.old.close ≤ latest_instant }
+        requires begins { next_start self.old ≡ Some begin }
+        ensures same { self.new ≡ self.old }
+        ensures edges { (edges : List ℕ) × HasEdges span begin self.old edges × WrittenText (S.contents out.old) (S.contents out.new) (S.is_stuck out.old) (S.is_stuck out.new) edges result }
+    {
+        let _close = foresee(&mut self.net, begin, &mut self.next, &mut self.is_known);
+        let Some(outcome) = &self.next else {
+            unreachable!();
+        };
+        write_edges(out, span, outcome.wave.as_slice())
+    }
+
+    /// Writes the edges of the next round, which begins at `begin`, that lie in a span, and takes it as
+    /// [`take_round`](Self::take_round).
+    ///
+    /// # Errors
+    ///
+    /// A `put` took none. Its count says how much was written.
+    pub fn take_round_with<S: Sink>(
+        &mut self,
+        out: &mut S,
+        totals: &mut Totals,
+        begin: u64,
+        until: u64,
+        ended: bool,
+        span: Span,
+    ) -> Result<RoundTaken, WriteFault>
+        requires starts { next_start self.old ≡ Some begin }
+        requires early { self.old.close ≤ latest_instant }
+        requires room { totals.old.rounds < 18446744073709551615 }
+        requires less { totals.old.complete ≤ totals.old.rounds }
+        ensures { (edid : Option EdidValue) → IsRoundWith edid ended until begin span self.old self.new totals.old totals.new (S.contents out.old) (S.contents out.new) (S.is_stuck out.old) (S.is_stuck out.new) result }
+    {
+        let edges = match self.write_edges(out, begin, span) {
+            Ok(count) => count,
+            Err(fault) => return Err(fault),
+        };
+        match self.take_round(out, totals, begin, until, ended) {
+            Ok(taken) => match taken {
+                Some(count) => Ok(RoundTaken::Over(counted(edges, count))),
+                None => Ok(RoundTaken::On(edges)),
+            },
+            Err(fault) => Err(cut_at(edges, fault)),
+        }
+    }
+
     /// Runs the next round, which begins at `begin`, where it closes before `until` or the script has ended, and writes its
     /// line. None, and nothing changes, where it closes then or later.
     ///
     /// # Errors
     ///
     /// A `put` took none. Its count says how much of the line was written.
-    pub fn take_round<S: Sink>(
+    fn take_round<S: Sink>(
         &mut self,
         out: &mut S,
         totals: &mut Totals,

@@ -1,4 +1,5 @@
 //! Laws of whole sessions.
+ghost use Rattle.cec_session.specs.EdgesStay.{EdgesStay};
 ghost use Rattle.cec_session.specs.Session.{StepsHaveOneText};
 ghost use Rattle.cec_session.specs.Whole.{SessionsReportFronts, SessionsReportTraces, SessionsReportTracesOf};
 
@@ -16,6 +17,12 @@ pub fn sessions_report_fronts()
 /// Once it has ended, that is the trace of the lines that were taken.
 pub fn sessions_report_traces()
     ensures { SessionsReportTraces }
+{}
+
+/// The edges of the round that is on which lie before the horizon are edges of that round in every run that may still come, all that
+/// it has before the horizon.
+pub fn edges_stay()
+    ensures { EdgesStay }
 {}
 
 /// What a session has reported is the trace that its topology has with its script, with the lines that were refused and the

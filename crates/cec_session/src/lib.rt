@@ -3,6 +3,7 @@
 
 mod answer;
 mod command;
+mod edges;
 mod foreseen;
 mod laws;
 mod live;
@@ -11,6 +12,7 @@ mod turns;
 
 pub use answer::Refusal;
 pub use laws::{
-    sessions_report_fronts, sessions_report_traces, sessions_report_traces_of, steps_have_one_text,
+    edges_stay, sessions_report_fronts, sessions_report_traces, sessions_report_traces_of,
+    steps_have_one_text,
 };
 pub use live::{Live, LiveError, Step};

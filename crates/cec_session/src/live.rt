@@ -5,9 +5,10 @@ ghost use Rattle.cec_session.specs.Session.{step_show};
 
 use crate::answer::{Refusal, write_idle, write_refused, write_shown, write_taken};
 use crate::command::{Command, command_in};
+use crate::edges::Span;
 use crate::foreseen::Foreseen;
 use crate::note::{events_after, note_line};
-use crate::turns::{go_on, soonest, write_last_lines};
+use crate::turns::{go_on, next_edge, soonest, write_last_lines};
 use cec_asm::{ScriptCause, ScriptDraft};
 use cec_run::{Totals, first_time};
 use cec_step_text::with_rest;
@@ -30,6 +31,8 @@ pub enum Step {
     Show(usize),
     /// The run goes on to the horizon.
     Go,
+    /// It goes on so, and edges are reported with this line.
+    Edge,
     /// The run goes on to its end.
     Finish,
 }
@@ -61,6 +64,10 @@ pub struct Live {
     horizon: u64,
     /// How many lines have come.
     lines: u64,
+    /// Whether edges are reported.
+    edges: bool,
+    /// The horizon before the last line: the edges before it were reported, or come no more.
+    since: u64,
 }
 
 impl Model for Live {
@@ -77,6 +84,8 @@ impl Model for Live {
       horizon = l.horizon;
       lines = l.lines;
       place = record { net = l.net; events = drop l.applied l.draft.events.items; totals = l.totals };
+      edges = l.edges;
+      since = l.since;
     } };
 
     ghost invariant = { λ l. IsReady (record {
@@ -86,6 +95,8 @@ impl Model for Live {
       horizon = l.horizon;
       lines = l.lines;
       place = record { net = l.net; events = drop l.applied l.draft.events.items; totals = l.totals };
+      edges = l.edges;
+      since = l.since;
     })
         × (l.applied ≤ length l.draft.events.items) };
 }
@@ -107,9 +118,9 @@ impl Live {
     ghost use Rattle.hdmi_core.specs.Cut.{WrittenText};
     ghost use Rattle.cec_run.specs.declared.run.Reporting.TheVariants.{Trace};
     ghost use Rattle.cec_run.specs.Run.{end_reported, start_reported};
-    ghost use Rattle.cec_session.specs.declared.live.Step.TheVariants.{Finish, Go, Idle, Refuse, Show};
+    ghost use Rattle.cec_session.specs.declared.live.Step.TheVariants.{Edge, Finish, Go, Idle, Refuse, Show};
     ghost use Rattle.cec_session.specs.Note.{IsSettled};
-    ghost use Rattle.cec_session.specs.Session.{IsSoonest, IsStep, NamesShown, after_to, after_wait, first_session, with_line_counted, standing, step_to, step_wait, taken_line, with_standing};
+    ghost use Rattle.cec_session.specs.Session.{IsEdgeStep, IsSoonest, IsStep, NamesShown, after_to, after_wait, first_session, span_of, with_line_counted, standing, step_to, step_wait, taken_line, with_standing};
     ghost use Rattle.cec_session.specs.Taken.{IsAnswered, IsGone, IsLineTaken, IsOfMemory};
 
     /// A run before its first line. The television's EDID, where it is given, has an HDMI block.
@@ -132,6 +143,8 @@ impl Live {
             totals: Totals::default(),
             horizon: 0,
             lines: 0,
+            edges: false,
+            since: 0,
         })
     }
 
@@ -200,6 +213,36 @@ impl Live {
         }
     }
 
+    // Takes `edge T`.
+    fn edge(&mut self, time: Option<u64>) -> Step
+        requires early { IfSome time (λ t. t ≤ latest_event) }
+        ensures { IsEdgeStep self.old time result self.new }
+    {
+        let Some(until) = time else {
+            return Step::Refuse(Refusal::Script(ScriptCause::Number));
+        };
+        if until < self.horizon {
+            return Step::Refuse(Refusal::Past);
+        }
+        let horizon = next_edge(
+            &mut self.net,
+            first_time(events_after(&self.draft, self.applied)),
+            self.horizon,
+            until,
+        );
+        self.horizon = self.horizon.max(horizon);
+        Step::Edge
+    }
+
+    // Has edges reported, or not.
+    fn report_edges(&mut self, edges: bool) -> Step
+        ensures step { result ≡ Go }
+        ensures after { self.new ≡ record self.old { edges = edges } }
+    {
+        self.edges = edges;
+        Step::Go
+    }
+
     // What a line asks for. None where memory ran out; then the line counts, and nothing else has changed.
     fn step(&mut self, line: &[u8]) -> Option<Step>
         requires going { self.old.notes.end ≡ None }
@@ -207,19 +250,36 @@ impl Live {
         ensures shown { IfSome result (λ step. NamesShown (length self.new.tree) step) }
     {
         self.lines = self.lines.saturating_add(1);
+        self.since = self.horizon;
         match command_in(&self.tree, line) {
             Command::Script => self.note(line),
             Command::Wait => Some(self.wait()),
             Command::RunTo(time) => Some(self.run_to(time)),
             Command::Show(device) => Some(shown(device)),
+            Command::Edge(time) => Some(self.edge(time)),
+            Command::Edges(edges) => Some(self.report_edges(edges)),
         }
     }
 
-    // Goes on, and writes what is reported.
-    fn go<S: Sink>(&mut self, out: &mut S, ended: bool) -> Result<u128, WriteFault>
-        ensures { IsGone ended self.old self.new (S.contents out.old) (S.contents out.new) (S.is_stuck out.old) (S.is_stuck out.new) result }
+    // The instants whose edges are reported.
+    fn span(&self, edges: bool, ended: bool) -> Span
+        ensures { result ≡ span_of edges ended self.now }
+    {
+        if !edges {
+            return Span { from: 0, until: 0 };
+        }
+        Span {
+            from: self.since,
+            until: if ended { u64::MAX } else { self.horizon },
+        }
+    }
+
+    // Goes on, and writes what is reported, with the edges or without.
+    fn go<S: Sink>(&mut self, out: &mut S, edges: bool, ended: bool) -> Result<u128, WriteFault>
+        ensures { IsGone edges ended self.old self.new (S.contents out.old) (S.contents out.new) (S.is_stuck out.old) (S.is_stuck out.new) result }
     {
         self.net.pulses_are_ahead();
+        let span = self.span(edges, ended);
         let mut applied = 0;
         let gone = go_on(
             out,
@@ -230,6 +290,7 @@ impl Live {
             &mut applied,
             self.horizon,
             ended,
+            span,
         );
         self.applied += applied;
         gone
@@ -268,8 +329,19 @@ impl Live {
     fn take_go<S: Sink>(&mut self, out: &mut S) -> Result<u128, WriteFault>
         ensures { IsAnswered Go self.old self.new (S.contents out.old) (S.contents out.new) (S.is_stuck out.old) (S.is_stuck out.new) result }
     {
-        match self.go(out, false) {
+        let edges = self.edges;
+        match self.go(out, edges, false) {
             Ok(count) => with_rest(count, self.write_answer(out)),
+            Err(fault) => Err(fault),
+        }
+    }
+
+    // Goes on to the horizon with the edges, and answers.
+    fn take_edge<S: Sink>(&mut self, out: &mut S) -> Result<u128, WriteFault>
+        ensures { IsAnswered Edge self.old self.new (S.contents out.old) (S.contents out.new) (S.is_stuck out.old) (S.is_stuck out.new) result }
+    {
+        match self.go(out, true, false) {
+            Ok(written) => with_rest(written, self.write_answer(out)),
             Err(fault) => Err(fault),
         }
     }
@@ -289,7 +361,8 @@ impl Live {
     fn take_finish<S: Sink>(&mut self, out: &mut S) -> Result<u128, WriteFault>
         ensures { IsAnswered Finish self.old self.new (S.contents out.old) (S.contents out.new) (S.is_stuck out.old) (S.is_stuck out.new) result }
     {
-        match self.go(out, true) {
+        let edges = self.edges;
+        match self.go(out, edges, true) {
             Ok(count) => with_rest(count, self.write_end(out)),
             Err(fault) => Err(fault),
         }
@@ -305,6 +378,7 @@ impl Live {
             Step::Idle => self.take_idle(out),
             Step::Show(device) => self.take_show(device, out),
             Step::Go => self.take_go(out),
+            Step::Edge => self.take_edge(out),
             Step::Finish => self.take_finish(out),
         }
     }

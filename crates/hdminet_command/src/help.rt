@@ -341,6 +341,9 @@ one is read. For each it writes what of the trace is certain by then, and one li
   run to T                sets the horizon to T microseconds: what is over before T is written
   wait                    sets it to where one more event or round is over, if nothing else comes
   show NAME               the answer is the state line of a device
+  edge T                  sets it to the microsecond after the line's next edge, which is reported,
+                          or to where an event or a round before it is over; at most to T
+  edges on, edges off     from now on edges are reported with every line, or not
   end T                   the rest of the trace; then the session is over
 Answers:
   = H                     the line is taken; the horizon
@@ -348,7 +351,9 @@ Answers:
   = state NAME ...        after `show`
   ! N CAUSE               line N after `script` is refused, for a cause of scripts, or last `past`:
                           it is for an instant before the horizon. It changes nothing
-Without the answers, what is written is the trace that `hdminet run` writes of the lines taken.
+An edge is a line `~ T 0` or `~ T 1`, the level that the line then has, above its round's line.
+Without the answers and the edges, what is written is the trace that `hdminet run` writes of the
+lines taken.
 At most 4096 pulses wait at a time: one that a round has taken counts no more once that is told.
 
 An example, `>` before what is sent:

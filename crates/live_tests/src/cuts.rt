@@ -1,6 +1,6 @@
 //! Scripts cut into sessions: without its answers, what a session wrote is the trace of the lines that were taken.
 use crate::pipes::{Wanted, end_of, lines_of, said_in};
-use crate::rooms::ROOMS;
+use crate::rooms::{ROOMS, parts};
 use cec_run::emulate::emulate;
 use hdmi_core::Writes;
 use std::process::Abort;
@@ -37,14 +37,6 @@ fn send(rt: &impl Abort, sent: &mut Vec<u8>, script: &mut Vec<u8>, line: &[u8], 
         script.extend_from_slice(line).expect(rt, "a line");
     }
     script.extend_from_slice(b"\n").expect(rt, "its end");
-}
-
-/// The text up to the line `script`, with it, and the text after it.
-fn parts(room: &str) -> (&str, &str) {
-    match room.split_once("\nscript\n") {
-        Some(parts) => parts,
-        None => (room, ""),
-    }
 }
 
 /// Sends up to three lines that a run's script has not: bad ones, remarks, and times up to this one.

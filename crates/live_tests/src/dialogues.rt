@@ -90,7 +90,7 @@ const PULSE: &str = "\
 ";
 
 /// What was said is the dialogue, and it ended so.
-fn is_said(rt: &(impl Abort + AllocGlobal), dialogue: &str, end: &str) {
+pub(crate) fn is_said(rt: &(impl Abort + AllocGlobal), dialogue: &str, end: &str) {
     let mut input = Vec::new(rt.alloc());
     for line in dialogue.as_bytes().split(|byte| *byte == b'\n') {
         if line.starts_with(b"> ") {

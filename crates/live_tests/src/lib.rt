@@ -6,6 +6,8 @@ mod cuts;
 #[cfg(test)]
 mod dialogues;
 #[cfg(test)]
+mod edges;
+#[cfg(test)]
 mod faults;
 #[cfg(test)]
 mod pipes;

@@ -97,8 +97,10 @@ pub(crate) fn said_in(
 pub(crate) enum Wanted {
     /// What was written.
     Written,
-    /// What was written without the answers.
+    /// What was written without the answers and the edges.
     Trace,
+    /// The edges.
+    Edges,
     /// The answers, and the last lines of a trace.
     Answers,
 }
@@ -110,7 +112,8 @@ fn is_answer(line: &[u8]) -> bool {
 fn is_wanted(wanted: Wanted, line: &[u8]) -> bool {
     match wanted {
         Wanted::Written => !line.starts_with(b"> "),
-        Wanted::Trace => !line.starts_with(b"> ") && !is_answer(line),
+        Wanted::Trace => !line.starts_with(b"> ") && !line.starts_with(b"~ ") && !is_answer(line),
+        Wanted::Edges => line.starts_with(b"~ "),
         Wanted::Answers => is_answer(line)
             || line.ends_with(b" end")
             || line.starts_with(b"state "),

@@ -115,3 +115,11 @@ at 100000 send tv 0>f standby
 end 400000
 ",
 ];
+
+/// The text up to the line `script`, with it, and the text after it.
+pub(crate) fn parts(room: &str) -> (&str, &str) {
+    match room.split_once("\nscript\n") {
+        Some(parts) => parts,
+        None => (room, ""),
+    }
+}

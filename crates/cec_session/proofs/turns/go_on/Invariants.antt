@@ -7,7 +7,7 @@ use Rattle.cec_session.proofs.turns.go_on.Given as goal
 -- what was written is told by the turns so far; the rest keeps the counts and times small
 abbrev pub invariant-turns : goal.invariant-turns
 invariant-turns g l = record {
-  reported : Told l.edid l.ended l.until (record { net = l.fn.net; events = l.events; totals = l.fn.totals }) (record { net = l.net; events = l.rest; totals = l.totals })
+  reported : Told l.edid l.ended l.span l.until (record { net = l.fn.net; events = l.events; totals = l.fn.totals }) (record { net = l.net; events = l.rest; totals = l.totals })
       (g.S.Sink.contents l.fn.out) (g.S.Sink.contents l.out) l.written;
   flag : g.S.Sink.is_stuck l.out ≡ g.S.Sink.is_stuck l.fn.out;
   rest : l.rest ≡ drop l.applied l.events;

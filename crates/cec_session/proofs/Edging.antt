@@ -1,0 +1,33 @@
+-- `edge T`, from what the calls give to what a session has.
+use Rattle.std.proofs.Common.{◌≡◌, ℕ, ◌<◌, ◌≤◌, ◌∙◌, max, Bool, true, false, nat_lt, Option, Some, sym, ap, ap₂, subst, arith}
+use Rattle.std.proofs.lemmas.Bool.Decides.{nat_tests}
+use Rattle.cec_wave.specs.Line.{IsWave}
+use Rattle.cec_wire.specs.declared.Outcome.{Outcome}
+use Rattle.cec_wire.proofs.OneOutcome.{one_outcome}
+use Rattle.cec_net.specs.Progress.{IsProgress}
+use Rattle.cec_net.specs.State.{NetState}
+use Rattle.cec_net.specs.Step.{IsNextRound, after_round, seats_of}
+use Rattle.cec_run.proofs.Turns.{same_outcome}
+use Rattle.cec_session.specs.Edges.{first_edge}
+use Rattle.cec_session.specs.declared.answer.Refusal.TheVariants.{Past}
+use Rattle.cec_session.specs.declared.live.Step.{Step}
+use Rattle.cec_session.specs.declared.live.Step.TheVariants.{Refuse, Edge}
+use Rattle.cec_session.specs.Session.{Session, edge_horizon, IsEdge, IsEdgeStep, IsEdgeStepBy}
+
+pub edge_past : (s t : Session) (until : ℕ) (step : Step) → until < s.horizon → step ≡ Refuse Past → t ≡ s → IsEdgeStep s (Some until) step t
+edge_past s t until step l asks stands = let e : nat_lt until s.horizon ≡ true = grind (arith, nat_tests) in subst (λ (b : Bool). IsEdgeStepBy b s until step t) (sym e) (asks, stands)
+
+pub edge_on : (s t : Session) (until to : ℕ) (step : Step) → s.horizon ≤ until → step ≡ Edge → IsEdge s.horizon until s.place to → t ≡ record s { horizon = max s.horizon to } → IsEdgeStep s (Some until) step t
+edge_on s t until to step l asks edge stands =
+    let e : nat_lt until s.horizon ≡ false = grind (arith, nat_tests) in subst (λ (b : Bool). IsEdgeStepBy b s until step t) (sym e) (asks, to, edge, stands)
+
+-- the first edge and the close are of one round
+pub edge_in_round : (net mid : NetState) (begin from until close to : ℕ) (edge : Option ℕ) → mid ≡ net
+    → (outcome : Outcome) × (after : NetState) × IsWave outcome.wave × IsNextRound net begin outcome after × (edge ≡ first_edge from outcome.wave)
+    → (outcome : Outcome) × (after : NetState) × IsWave outcome.wave × IsNextRound mid begin outcome after × IsProgress mid begin after × (close ≡ after.close) → to ≡ edge_horizon until close edge
+    → (outcome : Outcome) × (after : NetState) × IsWave outcome.wave × IsNextRound net begin outcome after × (to ≡ edge_horizon until after.close (first_edge from outcome.wave))
+edge_in_round net mid begin from until close to edge same (o, after, wave, next, first) (p, other, wave', next', progress, closes) is =
+    let there : IsNextRound net begin p other = subst (λ (n : NetState). IsNextRound n begin p other) same next' in
+    let one : o ≡ p = same_outcome o p (one_outcome (seats_of net begin) begin net.pulses o p wave wave' next.round there.round) in
+    let ends : other ≡ after = there.after_is ∙ ap (after_round net begin) (sym one) ∙ sym next.after_is in
+    (o, after, wave, next, is ∙ ap₂ (edge_horizon until) (closes ∙ ap (λ (n : NetState). n.close) ends) first)

@@ -1,0 +1,15 @@
+use Rattle.std.proofs.Common.{rules, ◌≡◌, ◌∙◌, Option, Some, sym, subst, ap}
+use Rattle.cec_net.specs.State.{NetState}
+use Rattle.cec_wire.specs.declared.Outcome.{Outcome}
+use Rattle.cec_session.specs.Turns.{IsForeseen}
+use Rattle.cec_session.specs.Edges.{first_edge}
+use Rattle.cec_session.proofs.Foreseeing.{known_outcome, known_round}
+use Rattle.cec_session.proofs.foreseen.Foreseen.next_edge.Goals as goal
+
+pub returns-clause-edge : goal.returns-clause-edge
+returns-clause-edge c =
+    let net : c.deref_mut.result.now ≡ c.args.self.now = c.deref_mut.ensures.value ∙ c.self.view_is in
+    let h : IsForeseen c.args.self.now c.foresee-close.new.next = subst (λ (n : NetState). IsForeseen n c.foresee-close.new.next) net c.foresee-close.ensures.kept in
+    let is : c.foresee-close.new.next ≡ Some c.in-Some.outcome = search rules in
+    let k = known_round c.args.self.now c.foresee-close.new.next c.in-Some.outcome c.args.begin c.requires.begins is h in
+    (k.0, k.1, k.2, k.3, c.first_edge.ensures ∙ ap (first_edge c.args.from) (c.as_slice.ensures.stretches ∙ k.4))
