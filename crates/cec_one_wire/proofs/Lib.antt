@@ -1,0 +1,6 @@
+pub mod Along
+pub mod Lows
+pub mod Senders
+pub mod By
+pub mod Goes
+pub mod Ticks
