@@ -4,3 +4,4 @@ pub mod Senders
 pub mod By
 pub mod Goes
 pub mod Ticks
+pub mod Ended

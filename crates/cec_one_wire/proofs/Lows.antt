@@ -250,7 +250,7 @@ sending_is_heard r s low begin t once stood from runs h b =
 
 -- ---- who acknowledges
 
-reached_so : (low : Line) (begin left : ℕ) (xs : List Slot) (bits : List Bool) (e : ℕ) → Reached low begin left xs bits e → wire.Reached low begin left xs bits e
+pub reached_so : (low : Line) (begin left : ℕ) (xs : List Slot) (bits : List Bool) (e : ℕ) → Reached low begin left xs bits e → wire.Reached low begin left xs bits e
 unfolding read_slots
 reached_so low begin left xs bits e r = record { goes = r.goes; reported = r.reported; over = over_so xs r.over }
   where
@@ -290,7 +290,7 @@ held_at seats low t Unsampled begin fall bits b s e m d =
     refl refl
 held_at seats low t Sampled begin fall bits b s e m d = absurd (m refl)
 
-take_most : (bits : List Bool) (x : Bool) → take (length (bits ++ x ∷ []) - 1) (bits ++ x ∷ []) ≡ bits
+pub take_most : (bits : List Bool) (x : Bool) → take (length (bits ++ x ∷ []) - 1) (bits ++ x ∷ []) ≡ bits
 take_most bits x = ap (λ n. take n (bits ++ x ∷ [])) (let e = length-append bits (x ∷ []) in let y : length (bits ++ x ∷ []) - 1 ≡ length bits = omega (arith, e) in y) ∙ taken bits
   where
     taken : (bs : List Bool) → take (length bs) (bs ++ x ∷ []) ≡ bs
@@ -349,7 +349,7 @@ held_silent seats low t begin fall bits s l =
     ends : after_slot low fall (last_ending s.before) ≡ Ends Silent (fall + 2751)
     ends = ap (after_slot low fall) s.plain ∙ ap (after_fall fall) (next_none low fall t 2750 s.slot.quiet (omega (arith, l)))
 
-bad_whole : (seats : List Seat) (t at until : ℕ) (b : Bool) → (let k : Known = record { slots = []; ended = if b then Some (record { ending = BadStart; at = at; until = until }) else None } in is_acknowledged seats k t || is_broken seats k t k.ended) ≡ nat_lt t 0
+pub bad_whole : (seats : List Seat) (t at until : ℕ) (b : Bool) → (let k : Known = record { slots = []; ended = if b then Some (record { ending = BadStart; at = at; until = until }) else None } in is_acknowledged seats k t || is_broken seats k t k.ended) ≡ nat_lt t 0
 bad_whole seats t at until true = let x : false ≡ nat_lt t 0 = grind (arith, nat_tests) in x
 bad_whole seats t at until false = let x : false ≡ nat_lt t 0 = grind (arith, nat_tests) in x
 

@@ -18,8 +18,9 @@ use Rattle.cec_wire.proofs.Polled.{reported_bits}
 use Rattle.cec_bits.proofs.Keeping.{before_heard, reported_heard}
 use Rattle.cec_wire.specs.declared.Seat.{Seat}
 use Rattle.cec_edges.specs.Listening.{IsReadOnce, AreSending}
-use Rattle.cec_one_wire.specs.Pulls.{until_of, held_in}
-use Rattle.cec_one_wire.specs.Wire.{IsAt, Ticked, until_by, goes_on, bits_in, ends_as, TickGoes, TickEnds}
+use Rattle.cec_one_wire.specs.Pulls.{until_of, held_in, IsHeld}
+use Rattle.cec_one_wire.specs.Wire.{IsAt, Ticked, until_by, goes_on, bits_in, ends_as, held_from, TickGoes, TickEnds, TickOver}
+use Rattle.cec_one_wire.proofs.Ended.{EndsHeld, ends_held}
 use Rattle.cec_one_wire.proofs.By.{GoesBy, goes_by}
 use Rattle.cec_one_wire.proofs.Senders.{all_later, all_told}
 use Rattle.cec_one_wire.proofs.Lows.{due_is_heard, runs_in_it, runs_there, begin_is}
@@ -125,3 +126,62 @@ tick_ends seats begin r new reported senders news bits held low t ending s k end
         ap (λ (bs : List Bool). bs ++ bits_in reported) (s.read.1 ∙ ap (λ (x : Hears). x.bits) same)
         ∙ sym (end_bits low begin t h.bits reported ending ended ends)
         ∙ reported_bits (t + 1) (reading_of low begin).until (reading_of low begin).slots (reading_spans low begin).reported (let u = until_at low begin in omega (arith, u, at))
+
+-- ---- and afterwards
+
+over_held : (seats : List Seat) (begin : ℕ) (r new : Receiver) (reported : Told) (senders news : List (Option Sender)) (bits : List Bool) (held : ℕ) (low : Line) (t : ℕ) (ending : Ending)
+    → IsAt seats begin r senders bits None held low t → Ticked seats begin r new reported senders news low t → ends_as reported ≡ Some ending → (u : ℕ) → t < u → IsHeld seats low begin u (held_from seats bits reported held t)
+over_held seats begin r new reported senders news bits held low t ending s k ends = by_told reported refl held_now ends
+  where
+    h : Hears
+    h = hears low t
+
+    same : heard_by r ≡ h
+    same = s.stood.keeps ∙ before_heard low t
+
+    runs : runs_in h.place h.begin ≡ Some begin
+    runs = runs_there low begin t s.once s.from s.read.0
+
+    begins : h.begin ≡ begin
+    begins = begin_is h.place h.begin begin runs
+
+    held_is : held_in seats h.place h.fall h.bits ≡ held
+    held_is = sym (s.read.2 ∙ ap (λ (x : Hears). held_in seats x.place x.fall x.bits) same)
+
+    bits_are : h.bits ≡ bits
+    bits_are = sym (s.read.1 ∙ ap (λ (x : Hears). x.bits) same)
+
+    held_now : EndsHeld seats low begin t held bits reported
+    held_now =
+        subst (λ x. EndsHeld seats low begin t held bits x) (sym (k.reported_is ∙ reported_heard low t))
+        (subst (λ (bs : List Bool). EndsHeld seats low begin t held bs (hear_in t (was_low low t) (low t) h).reported) bits_are
+        (subst (λ n. EndsHeld seats low begin t n h.bits (hear_in t (was_low low t) (low t) h).reported) held_is
+        (subst (λ n. EndsHeld seats low n t (held_in seats h.place h.fall h.bits) h.bits (hear_in t (was_low low t) (low t) h).reported) begins
+        (ends_held seats low t h.place h.begin h.fall h.bits begin (stands_at low t) runs))))
+
+    by_told : (x : Told) → reported ≡ x → EndsHeld seats low begin t held bits x → ends_as x ≡ Some ending → (u : ℕ) → t < u → IsHeld seats low begin u (held_from seats bits reported held t)
+    by_told Nothing e q n = cc
+    by_told (Bit slot value) e q n = cc
+    by_told (Last value x) e q n = subst (λ y. (u : ℕ) → t < u → IsHeld seats low begin u (held_from seats bits y held t)) (sym e) q
+    by_told (Ended x) e q n = subst (λ y. (u : ℕ) → t < u → IsHeld seats low begin u (held_from seats bits y held t)) (sym e) q
+
+pub tick_over : TickOver
+tick_over seats begin r new reported senders news bits held low t ending s k ends = record {
+  from = omega (arith, s.from);
+  once = s.once;
+  stood = record { keeps = k.stands.keeps ∙ ap (λ m. kept_before low m) (let x : suc t ≡ t + 1 = omega arith in x); level = k.stands.level.0 ∙ sym (was_now low t) };
+  whose = k.whose;
+  sending = sent_on seats begin r new reported senders news low t s.once s.from s.sending k reported refl;
+  read = (
+    omega (arith, e.0),
+    ap (λ x. end_by x t (until_by r None t)) (sym e.1) ∙ ap (λ n. end_by (reading_of low begin).ending n (until_by r None t)) (sym e.0) ∙ ap (λ n. end_by (reading_of low begin).ending (reading_of low begin).at n) (sym e.2),
+    e.3,
+    λ u l. over_held seats begin r new reported senders news bits held low t ending s k ends u (omega (arith, l)),
+  );
+}
+  where
+    end_by : Ending → ℕ → ℕ → End
+    end_by x at until = record { ending = x; at = at; until = until }
+
+    e : ((reading_of low begin).at ≡ t) × ((reading_of low begin).ending ≡ ending) × ((reading_of low begin).until ≡ until_by r None t) × (bits ++ bits_in reported ≡ bits_of (reading_of low begin))
+    e = tick_ends seats begin r new reported senders news bits held low t ending s k ends

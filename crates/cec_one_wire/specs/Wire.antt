@@ -1,6 +1,7 @@
 -- A wire that is one receiver, its senders, an instant up to which it is held, and the reading's bits and ending: where
 -- it stands on a round's line. (own)
-use Rattle.std.specs.Prelude.{◌≡◌, ◌≢◌, ℕ, ◌+◌, ◌-◌, ◌<◌, ◌≤◌, Bool, true, false, if◌then◌else◌, List, [], ◌∷◌, ◌++◌, Option, Some, None, All}
+use Rattle.std.specs.Prelude.{◌≡◌, ◌≢◌, ℕ, ◌+◌, ◌-◌, ◌<◌, ◌≤◌, Bool, true, false, ◌&&◌, if◌then◌else◌, List, [], ◌∷◌, ◌++◌, Option, Some, None, All}
+use Rattle.std.specs.List.{list_any}
 use Rattle.cec_wave.specs.declared.Stretch.{Stretch}
 use Rattle.cec_wave.specs.Line.{Line, was_low, IsWave}
 use Rattle.cec_bits.specs.declared.receiver.Receiver.{Receiver}
@@ -13,6 +14,7 @@ use Rattle.cec_bits.specs.Hears.{heard_by, wake_of, hear_in, reported_so}
 use Rattle.cec_bits.specs.Reading.{End, reading_of, bits_of}
 use Rattle.cec_bits.specs.Follows.{StoodBefore, StandsOn}
 use Rattle.cec_wire.specs.declared.Seat.{Seat}
+use Rattle.cec_wire.specs.Machine.{breaks_after, is_short}
 use Rattle.cec_edges.specs.Listening.{IsReadOnce, AreSenders, AreSending, AllHeard}
 use Rattle.cec_one_wire.specs.Line.{IsRoundLine, HaveBegun}
 use Rattle.cec_one_wire.specs.Pulls.{low_in, due_in, held_in, IsHeld}
@@ -88,6 +90,17 @@ abbrev pub TickEnds : Type 0
 TickEnds = (seats : List Seat) (begin : ℕ) (r new : Receiver) (reported : Told) (senders news : List (Option Sender)) (bits : List Bool) (held : ℕ) (low : ℕ → Bool) (t : ℕ) (ending : Ending)
     → IsAt seats begin r senders bits None held low t → Ticked seats begin r new reported senders news low t → ends_as reported ≡ Some ending
     → ((reading_of low begin).at ≡ t) × ((reading_of low begin).ending ≡ ending) × ((reading_of low begin).until ≡ until_by r None t) × (bits ++ bits_in reported ≡ bits_of (reading_of low begin))
+
+-- until when those who follow hold the line then: after a fall too early everybody who is plugged in and does not send (CEC 7.4)
+abbrev pub held_from : List Seat → List Bool → Told → ℕ → ℕ → ℕ
+held_from seats bits (Ended ending) held t = if is_short ending && list_any (breaks_after bits) seats then t + 3600 else held
+held_from seats bits _ held t = held
+
+-- and the wire stands a microsecond later
+abbrev pub TickOver : Type 0
+TickOver = (seats : List Seat) (begin : ℕ) (r new : Receiver) (reported : Told) (senders news : List (Option Sender)) (bits : List Bool) (held : ℕ) (low : ℕ → Bool) (t : ℕ) (ending : Ending)
+    → IsAt seats begin r senders bits None held low t → Ticked seats begin r new reported senders news low t → ends_as reported ≡ Some ending
+    → IsAt seats begin new news (bits ++ bits_in reported) (Some (record { ending = ending; at = t; until = until_by r None t })) (held_from seats bits reported held t) low (t + 1)
 
 -- ---- up to a wake
 

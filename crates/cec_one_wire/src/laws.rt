@@ -1,5 +1,5 @@
 //! Laws of a line that is heard by one receiver.
-ghost use Rattle.cec_one_wire.specs.Wire.{CalmTo, TickEnds, TickGoes, CalmStays, LowIsFound};
+ghost use Rattle.cec_one_wire.specs.Wire.{CalmTo, TickEnds, TickGoes, TickOver, CalmStays, LowIsFound};
 ghost use Rattle.cec_one_wire.specs.Pulls.{BitsAreHeard, DueIsHeard, HeldIsHeard, HeldWhenDue, LowIsHeard, SendingIsHeard};
 
 /// Where the senders stand on a round's line, the pull that is found of them, of those who follow and of the last pull
@@ -51,6 +51,11 @@ pub fn tick_goes()
 /// A tick that ends the reading gives its instant, its ending, its last microsecond and its bits.
 pub fn tick_ends()
     ensures { TickEnds }
+{}
+
+/// After a tick that ends the reading the wire stands, with the ending and until when those who follow hold the line.
+pub fn tick_over()
+    ensures { TickOver }
 {}
 
 /// Up to a wake the wire stands as it does.
