@@ -19,7 +19,7 @@ use Rattle.cec_edges.specs.Listening.{IsReadOnce, AreSending}
 use Rattle.cec_edges.specs.declared.listeners.Listeners.{Listeners}
 use Rattle.cec_one_wire.specs.Pulls.{Stands, until_of, IsHeld}
 use Rattle.cec_one_wire.specs.Wire.{IsRead, IsAt, until_by, LowIsFound, CalmStays, CalmTo}
-use Rattle.cec_one_wire.proofs.Senders.{all_later, all_told}
+use Rattle.cec_one_wire.proofs.Standing.{all_later, all_told}
 use Rattle.cec_one_wire.proofs.Lows.{low_is_heard, due_is_heard, held_when_due, runs_in_it}
 
 over_known : (low : Line) (begin t : ℕ) (end : End) → (reading_of low begin).at < t → end ≡ record { ending = (reading_of low begin).ending; at = (reading_of low begin).at; until = (reading_of low begin).until }

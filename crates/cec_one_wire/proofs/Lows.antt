@@ -80,7 +80,7 @@ past_pulls begin ended was t n (p ∷ q ∷ ps) later w i b =
     ∙ past_pulls begin ended was t (p.to + 1) (q ∷ ps) later w.2 (λ k d l. i (suc k) d (omega (arith, l))) (λ k d l. b (suc k) d (omega (arith, l)))
 
 -- of the pulls of a round the last that began is enough
-pulls_by_last : (begin : ℕ) (ended : Option End) (was : Bool) (t w : ℕ) (past later : List Stretch) (last : Option Stretch) → IsWave (past ++ later) → All (λ p. w ≤ p.from) later → t < w → HaveBegun begin past last t
+pub pulls_by_last : (begin : ℕ) (ended : Option End) (was : Bool) (t w : ℕ) (past later : List Stretch) (last : Option Stretch) → IsWave (past ++ later) → All (λ p. w ≤ p.from) later → t < w → HaveBegun begin past last t
     → list_any (pulse_pulls begin ended was t) (past ++ later) ≡ takes_last (until_of ended t) was t last
 pulls_by_last begin ended was t w past later last wave far near h =
     list_any-append (pulse_pulls begin ended was t) past later
@@ -139,7 +139,7 @@ low_is_heard seats begin past later last senders until held low told t w wave li
 
 -- ---- the reading that runs
 
-was_high : (low : Line) (begin : ℕ) → IsReadOnce low begin → (u : ℕ) → u ≤ begin → was_low low u ≡ false
+pub was_high : (low : Line) (begin : ℕ) → IsReadOnce low begin → (u : ℕ) → u ≤ begin → was_low low u ≡ false
 was_high low begin r zero l = let x : nat_lt 0 zero ≡ false = grind (arith, nat_tests) in ap (λ b. b && low (zero - 1)) x
 was_high low begin r (suc n) l = ap (λ b. nat_lt 0 (suc n) && b) (r.before (suc n - 1) (omega arith)) ∙ and_no (nat_lt 0 (suc n))
   where

@@ -19,10 +19,10 @@ use Rattle.cec_bits.proofs.Keeping.{before_heard, reported_heard}
 use Rattle.cec_wire.specs.declared.Seat.{Seat}
 use Rattle.cec_edges.specs.Listening.{IsReadOnce, AreSending}
 use Rattle.cec_one_wire.specs.Pulls.{until_of, held_in, IsHeld}
-use Rattle.cec_one_wire.specs.Wire.{IsAt, Ticked, until_by, goes_on, bits_in, ends_as, held_from, TickGoes, TickEnds, TickOver}
+use Rattle.cec_one_wire.specs.Wire.{IsAt, Ticked, until_by, goes_on, bits_in, ends_as, held_from, TickGoes, TickEnds, TickOver, TickAfter}
 use Rattle.cec_one_wire.proofs.Ended.{EndsHeld, ends_held}
 use Rattle.cec_one_wire.proofs.By.{GoesBy, goes_by}
-use Rattle.cec_one_wire.proofs.Senders.{all_later, all_told}
+use Rattle.cec_one_wire.proofs.Standing.{all_later, all_told, runs_after}
 use Rattle.cec_one_wire.proofs.Lows.{due_is_heard, runs_in_it, runs_there, begin_is}
 
 -- what t tells of the reading that runs
@@ -185,3 +185,17 @@ tick_over seats begin r new reported senders news bits held low t ending s k end
 
     e : ((reading_of low begin).at ≡ t) × ((reading_of low begin).ending ≡ ending) × ((reading_of low begin).until ≡ until_by r None t) × (bits ++ bits_in reported ≡ bits_of (reading_of low begin))
     e = tick_ends seats begin r new reported senders news bits held low t ending s k ends
+
+pub tick_after : TickAfter
+tick_after seats begin r new senders bits end held low t s k = record {
+  from = omega (arith, s.from);
+  once = s.once;
+  stood = record { keeps = k.keeps ∙ ap (λ m. kept_before low m) (let x : suc t ≡ t + 1 = omega arith in x); level = k.level.0 ∙ sym (was_now low t) };
+  whose = s.whose;
+  sending = all_later low begin t (t + 1) senders s.once (omega (arith, s.from)) (omega arith) (silent_one low t (nothing_after low begin t s.once s.from s.read.0)) s.sending;
+  read = (omega (arith, s.read.0), s.read.1, s.read.2, λ u l. s.read.3 u (omega (arith, l)));
+}
+  where
+    nothing_after : (line : Line) (b n : ℕ) → IsReadOnce line b → b < n → (reading_of line b).at < n → reported_at line n ≡ Nothing
+    nothing_after line b zero once from past = refl
+    nothing_after line b (suc n) once from past = ap (reported_in line (suc n)) (runs_after line b n once (omega (arith, from)) (omega (arith, past)))

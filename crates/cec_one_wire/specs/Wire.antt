@@ -17,7 +17,7 @@ use Rattle.cec_wire.specs.declared.Seat.{Seat}
 use Rattle.cec_wire.specs.Machine.{breaks_after, is_short}
 use Rattle.cec_edges.specs.Listening.{IsReadOnce, AreSenders, AreSending, AllHeard}
 use Rattle.cec_one_wire.specs.Line.{IsRoundLine, HaveBegun}
-use Rattle.cec_one_wire.specs.Pulls.{low_in, due_in, held_in, IsHeld}
+use Rattle.cec_one_wire.specs.Pulls.{pull_in, low_in, due_in, held_in, IsHeld}
 
 -- what the wire has of the reading: all while it runs is the receiver's; then its bits and its ending are kept
 abbrev pub IsRead : List Seat → ℕ → Receiver → List Bool → Option End → ℕ → Line → ℕ → Type 0
@@ -102,6 +102,11 @@ TickOver = (seats : List Seat) (begin : ℕ) (r new : Receiver) (reported : Told
     → IsAt seats begin r senders bits None held low t → Ticked seats begin r new reported senders news low t → ends_as reported ≡ Some ending
     → IsAt seats begin new news (bits ++ bits_in reported) (Some (record { ending = ending; at = t; until = until_by r None t })) (held_from seats bits reported held t) low (t + 1)
 
+-- Once it has ended, no tick changes more than where the receiver stands.
+abbrev pub TickAfter : Type 0
+TickAfter = (seats : List Seat) (begin : ℕ) (r new : Receiver) (senders : List (Option Sender)) (bits : List Bool) (end : End) (held : ℕ) (low : ℕ → Bool) (t : ℕ)
+    → IsAt seats begin r senders bits (Some end) held low t → StandsOn new low t → IsAt seats begin new senders bits (Some end) held low (t + 1)
+
 -- ---- up to a wake
 
 -- Where the line has no edge before an instant and the receiver does not wake before it, the wire stands there as it does.
@@ -109,3 +114,25 @@ abbrev pub CalmTo : Type 0
 CalmTo = (seats : List Seat) (begin : ℕ) (r : Receiver) (senders : List (Option Sender)) (bits : List Bool) (ended : Option End) (held : ℕ) (low : ℕ → Bool) (t n : ℕ)
     → IsAt seats begin r senders bits ended held low t → ((u : ℕ) → t ≤ u → u < t + n → low u ≡ r.was_low) → ((w : ℕ) → wake_of (heard_by r) ≡ Some w → t + n ≤ w)
     → IsAt seats begin r senders bits ended held low (t + n)
+
+-- ---- between two turns
+
+-- nothing that the wire waits for comes from t on before w
+pub record IsQuiet (r : Receiver) (senders : List (Option Sender)) (last : Option Stretch) (held t w : ℕ) : Type 0 where
+  pub sends : (u : ℕ) → t ≤ u → u < w → list_any (pull_in u) senders ≡ list_any (pull_in t) senders
+  pub pull : (p : Stretch) → last ≡ Some p → t < p.to → w ≤ p.to
+  pub holds : t < held → w ≤ held
+  pub wakes : (n : ℕ) → wake_of (heard_by r) ≡ Some n → w ≤ n
+
+-- as long as the line stays as it was, so does what the receiver is told
+abbrev pub ToldSo : Line → Line → Bool → ℕ → ℕ → Type 0
+ToldSo low told was t w = (u : ℕ) → t ≤ u → u < w → ((v : ℕ) → t ≤ v → v < u + 1 → low v ≡ was_low low t) → told u ≡ was
+
+-- Where nobody changes what he does from t on before w, and the line does not change at t, it has no edge before w, and the
+-- wire stands there as it does.
+abbrev pub Between : Type 0
+Between = (seats : List Seat) (begin : ℕ) (past later : List Stretch) (last : Option Stretch) (r : Receiver) (senders : List (Option Sender)) (bits : List Bool) (ended : Option End) (held : ℕ) (low told : ℕ → Bool) (t w : ℕ)
+    → IsWave (past ++ later) → IsRoundLine seats begin (past ++ later) low → All (λ p. w ≤ p.from) later → HaveBegun begin past last t
+    → reading_of told begin ≡ reading_of low begin → ToldSo low told r.was_low t w → IsAt seats begin r senders bits ended held told t → IsQuiet r senders last held t w
+    → low_in senders last (until_by r ended t) held (was_low low t) t ≡ was_low low t
+    → (n : ℕ) → t + n ≤ w → IsAt seats begin r senders bits ended held told (t + n) × ((u : ℕ) → t ≤ u → u < t + n → low u ≡ was_low low t)
