@@ -22,11 +22,11 @@ use Rattle.cec_bits.proofs.Ends.{ends_after}
 use Rattle.cec_bits.proofs.Keeping.{before_heard}
 use Rattle.cec_bits.proofs.Stood.{was_now}
 use Rattle.cec_wire.specs.declared.Seat.{Seat}
-use Rattle.cec_wire.specs.Round.{frames_of, is_within, is_acknowledged, is_broken}
+use Rattle.cec_wire.specs.Round.{frames_of, is_within, is_acknowledged, is_broken, pulled_by}
+use Rattle.cec_wire.proofs.Still.{high_before}
 use Rattle.cec_edges.specs.Listening.{IsReadOnce, IsSenderOf, SendsFor, AreBegun, AreSenders, IsSending, AreSending}
-use Rattle.cec_one_wire.specs.Line.{pulled_by}
 use Rattle.cec_one_wire.specs.Pulls.{pull_in, low_in, takes_last, held_in}
-use Rattle.cec_one_wire.specs.Told.{IsLone, FirstLow, FirstTicked, FirstTick}
+use Rattle.cec_one_wire.specs.Told.{FirstLow, FirstTicked, FirstTick}
 use Rattle.cec_one_wire.proofs.Lows.{pulls_by_last, was_high}
 
 -- ---- senders that begin
@@ -77,9 +77,9 @@ was_off low begin (suc n) h l = ap (λ b. nat_lt 0 (suc n) && b) (h (suc n - 1) 
 
 pub first_low : FirstLow
 unfolding nothing
-first_low seats begin past later last senders low w wave line lone far near begun h =
+first_low seats begin past later last senders low w wave line far near begun h =
     line begin
-    ∙ ap (λ b. pulled_by (frames_of seats) seats begin (past ++ later) b (known_at begin (reading_of low begin)) begin) (was_off low begin begin lone.before (omega arith))
+    ∙ ap (λ b. pulled_by (frames_of seats) seats begin (past ++ later) b (known_at begin (reading_of low begin)) begin) (was_off low begin begin (high_before seats begin (past ++ later) low line) (omega arith))
     ∙ ap (λ (k : Known). pulled_by (frames_of seats) seats begin (past ++ later) false k begin) (known_start_low low begin begin (omega arith) (λ u a b. absurd (omega arith)))
     ∙ ap (λ c. c || ((list_any (sender_pulls begin nothing begin) (frames_of seats) && true) || false)) (pulls_by_last begin None false begin w past later last wave far near begun)
     ∙ ap (λ c. takes_last begin false begin last || ((c && true) || false)) (all_first seats begin senders h)

@@ -28,12 +28,12 @@ use Rattle.cec_bits.proofs.Stood.{StandsIn, Knows, runs_in, stands_at}
 use Rattle.cec_bits.proofs.Keeping.{one_runs, before_heard, running_knows, runs_so}
 use Rattle.cec_bits.proofs.Sent.{pulls_so}
 use Rattle.cec_wire.specs.declared.Seat.{Seat}
-use Rattle.cec_wire.specs.Round.{frames_of, is_within, pulse_pulls, is_acknowledged, is_broken}
+use Rattle.cec_wire.specs.Round.{frames_of, is_within, pulse_pulls, is_acknowledged, is_broken, pulled_by}
 use Rattle.cec_wire.specs.Machine.{sends_after, acks_until}
 use Rattle.cec_wire.proofs.Holding.{acks_now}
 use Rattle.cec_wire.proofs.Walk as wire
 use Rattle.cec_edges.specs.Listening.{IsReadOnce, AreSenders, AreSending, SendsFor, IsSending}
-use Rattle.cec_one_wire.specs.Line.{pulled_by, last_of, HaveBegun}
+use Rattle.cec_one_wire.specs.Line.{last_of, HaveBegun}
 use Rattle.cec_one_wire.specs.Pulls.{pull_in, until_of, takes_last, low_in, Stands, LowIsHeard, BitsAreHeard, due_in, DueIsHeard, is_on, SendingIsHeard, IsHeld, held_in, HeldIsHeard, HeldWhenDue}
 
 -- ---- the last pull that began

@@ -9,6 +9,7 @@ use Rattle.cec_wire.specs.Falls.{AreRisingFrom}
 use Rattle.cec_wire.proofs.Early.{and_left}
 use Rattle.cec_wire.proofs.AnyFalls.{falls_are_read}
 use Rattle.cec_one_wire.specs.Told.{IsLone, RoomIsLeft}
+use Rattle.cec_one_wire.proofs.Told.{round_is_lone}
 
 after_begin : (low : Line) (begin u : ℕ) → IsLone low begin → is_fall low u ≡ true → begin ≤ u
 after_begin low begin u lone f = elim (cases_lt u begin) [
@@ -40,5 +41,6 @@ length-begins [] = refl
 length-begins (s ∷ ss) = ap suc (length-begins ss)
 
 pub room_is_left : RoomIsLeft
-room_is_left low begin wave lone w f =
+room_is_left seats begin pulses low wave line w f =
+    let lone = round_is_lone seats begin pulses low line in
     omega (arith, length-begins wave, falls_are_read low begin (map (λ s. s.from) wave) (from_begin low begin wave lone w f) (all_read low begin wave lone f))

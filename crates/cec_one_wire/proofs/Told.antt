@@ -11,8 +11,10 @@ use Rattle.cec_bits.specs.declared.After.TheVariants.{Next, Ends}
 use Rattle.cec_bits.specs.Reading.{Read, next_fall, next_rise, reading_of, read_start, read_slots, read_on, read_then, start_of, start_rise, start_fall, after_slot, after_fall, after_last, last_ending, sample, bit_sampled_at}
 use Rattle.cec_bits.proofs.Ends.{begin_by}
 use Rattle.cec_bits.proofs.Search.{first_in_agree, found_first}
+use Rattle.cec_wire.proofs.Still.{high_before}
+use Rattle.cec_wire.proofs.Afterwards.{no_fall_after}
 use Rattle.cec_edges.specs.Listening.{IsReadOnce}
-use Rattle.cec_one_wire.specs.Told.{is_high_for, told_of, IsLone, ToldAsItIs, ToldIsRead, ToldIsOnce}
+use Rattle.cec_one_wire.specs.Told.{is_high_for, told_of, IsLone, ToldAsItIs, ToldIsRead, RoundIsLone, ToldIsOnce}
 
 pub and_no : (b : Bool) → (b && false) ≡ false
 and_no true = refl
@@ -223,9 +225,15 @@ told_is_read low begin =
 fall_off : (p : Line) (u : ℕ) → 0 < u → p (u - 1) ≡ true → is_fall p u ≡ false
 fall_off p u l h = ap (λ b. p u && not b) (was_is p u l ∙ h) ∙ and_no (p u)
 
-pub told_is_once : ToldIsOnce
+pub round_is_lone : RoundIsLone
+round_is_lone seats begin pulses low line = record {
+  before = high_before seats begin pulses low line;
+  quiet = no_fall_after seats begin pulses low line;
+}
+
+lone_is_once : (low : Line) (begin : ℕ) → IsLone low begin → IsReadOnce (told_of low begin) begin
 unfolding is_high_for
-told_is_once low begin lone = record {
+lone_is_once low begin lone = record {
   before = λ u l. told_before low begin u l ∙ lone.before u l;
   first = told_low low begin begin (omega arith) (omega arith) (ap (is_high_for low begin) (let x : begin - begin ≡ zero = omega arith in x));
   quiet = λ u l. quiet u (subst (λ (r : Read). r.until < u) (told_is_read low begin) l);
@@ -249,3 +257,6 @@ told_is_once low begin lone = record {
         by_high m false h = as_it_is
             (told_since low begin u (omega (arith, after)) (ap (λ n. is_high_for low begin n) (let x : u - begin ≡ u - 1 + 1 - begin = omega (arith, after) in x) ∙ high_more low begin (u - 1) (omega (arith, after)) ∙ ap (λ b. not (low (u - 1)) && b) h ∙ and_no (not (low (u - 1)))))
             (told_since low begin (u - 1) (omega (arith, after)) h)
+
+pub told_is_once : ToldIsOnce
+told_is_once seats begin pulses low line = lone_is_once low begin (round_is_lone seats begin pulses low line)

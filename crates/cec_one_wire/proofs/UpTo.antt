@@ -13,7 +13,8 @@ use Rattle.cec_bits.specs.Hears.{Hears, heard_by, wake_of}
 use Rattle.cec_bits.specs.Reading.{End, reading_of}
 use Rattle.cec_bits.proofs.Ends.{until_by as until_at}
 use Rattle.cec_wire.specs.declared.Seat.{Seat}
-use Rattle.cec_one_wire.specs.Line.{last_of, IsRoundLine, HaveBegun}
+use Rattle.cec_wire.specs.Round.{IsRoundLine}
+use Rattle.cec_one_wire.specs.Line.{last_of, HaveBegun}
 use Rattle.cec_one_wire.specs.Pulls.{pull_in, due_in, low_in, takes_last}
 use Rattle.cec_one_wire.specs.Wire.{IsAt, IsRead, until_by, IsQuiet, ToldSo, Between}
 use Rattle.cec_one_wire.proofs.Goes.{low_is_found, calm_stays}

@@ -13,10 +13,10 @@ use Rattle.cec_bits.specs.Reading.{End, known_at, reading_of}
 use Rattle.cec_bits.specs.Sending.{known_bits, is_whole, pull_of, SenderStood}
 use Rattle.cec_bits.specs.Follows.{StoodBefore}
 use Rattle.cec_wire.specs.declared.Seat.{Seat}
-use Rattle.cec_wire.specs.Round.{is_acknowledged, is_broken}
+use Rattle.cec_wire.specs.Round.{is_acknowledged, is_broken, IsRoundLine}
 use Rattle.cec_wire.specs.Machine.{sends_after, acks_until}
 use Rattle.cec_edges.specs.Listening.{IsReadOnce, AreSenders, AreSending}
-use Rattle.cec_one_wire.specs.Line.{IsRoundLine, HaveBegun}
+use Rattle.cec_one_wire.specs.Line.{HaveBegun}
 
 -- a seat's sender pulls at t
 abbrev pub pull_in : ℕ → Option Sender → Bool

@@ -9,8 +9,9 @@ use Rattle.cec_bits.specs.Reading.{reading_of}
 use Rattle.cec_bits.specs.Follows.{StoodBefore}
 use Rattle.cec_bits.specs.Hears.{heard_by, wake_of, hear_in, reported_so, rest}
 use Rattle.cec_wire.specs.declared.Seat.{Seat}
+use Rattle.cec_wire.specs.Round.{IsRoundLine}
 use Rattle.cec_edges.specs.Listening.{IsReadOnce, AreBegun}
-use Rattle.cec_one_wire.specs.Line.{IsRoundLine, HaveBegun}
+use Rattle.cec_one_wire.specs.Line.{HaveBegun}
 use Rattle.cec_one_wire.specs.Pulls.{low_in}
 use Rattle.cec_one_wire.specs.Wire.{IsAt, ToldSo}
 
@@ -37,14 +38,18 @@ pub record IsLone (low : Line) (begin : ℕ) : Type 0 where
   pub before : (u : ℕ) → u < begin → low u ≡ false
   pub quiet : (u : ℕ) → (reading_of low begin).until < u → is_fall low u ≡ false
 
+-- A round's line is such.
+abbrev pub RoundIsLone : Type 0
+RoundIsLone = (seats : List Seat) (begin : ℕ) (pulses : List Stretch) (low : ℕ → Bool) → IsRoundLine seats begin pulses low → IsLone low begin
+
 -- So it has that reading alone.
 abbrev pub ToldIsOnce : Type 0
-ToldIsOnce = (low : ℕ → Bool) (begin : ℕ) → IsLone low begin → IsReadOnce (told_of low begin) begin
+ToldIsOnce = (seats : List Seat) (begin : ℕ) (pulses : List Stretch) (low : ℕ → Bool) → IsRoundLine seats begin pulses low → IsReadOnce (told_of low begin) begin
 
 -- In the round's first microsecond nothing is known yet: the line is low where a sender or a pull begins.
 abbrev pub FirstLow : Type 0
 FirstLow = (seats : List Seat) (begin : ℕ) (past later : List Stretch) (last : Option Stretch) (senders : List (Option Sender)) (low : ℕ → Bool) (w : ℕ)
-    → IsWave (past ++ later) → IsRoundLine seats begin (past ++ later) low → IsLone low begin → All (λ p. w ≤ p.from) later → begin < w → HaveBegun begin past last begin
+    → IsWave (past ++ later) → IsRoundLine seats begin (past ++ later) low → All (λ p. w ≤ p.from) later → begin < w → HaveBegun begin past last begin
     → AreBegun seats begin senders → low begin ≡ low_in senders last begin 0 false begin
 
 -- a receiver that keeps nothing hears the fall at `begin`
@@ -70,4 +75,4 @@ ToldNow = (low : ℕ → Bool) (begin : ℕ) (r : Receiver) (t : ℕ) → IsRead
 
 -- Such a line has room in a wave: it falls where a slot of its one reading falls, and nowhere else.
 abbrev pub RoomIsLeft : Type 0
-RoomIsLeft = (low : ℕ → Bool) (begin : ℕ) (wave : List Stretch) → IsLone low begin → IsWave wave → All (λ s. is_fall low s.from ≡ true) wave → length wave ≤ 162
+RoomIsLeft = (seats : List Seat) (begin : ℕ) (pulses : List Stretch) (low : ℕ → Bool) (wave : List Stretch) → IsRoundLine seats begin pulses low → IsWave wave → All (λ s. is_fall low s.from ≡ true) wave → length wave ≤ 162

@@ -14,9 +14,10 @@ use Rattle.cec_bits.specs.Hears.{heard_by, wake_of, hear_in, reported_so}
 use Rattle.cec_bits.specs.Reading.{End, reading_of, bits_of}
 use Rattle.cec_bits.specs.Follows.{StoodBefore, StandsOn}
 use Rattle.cec_wire.specs.declared.Seat.{Seat}
+use Rattle.cec_wire.specs.Round.{IsRoundLine}
 use Rattle.cec_wire.specs.Machine.{breaks_after, is_short}
 use Rattle.cec_edges.specs.Listening.{IsReadOnce, AreSenders, AreSending, AllHeard}
-use Rattle.cec_one_wire.specs.Line.{IsRoundLine, HaveBegun}
+use Rattle.cec_one_wire.specs.Line.{HaveBegun}
 use Rattle.cec_one_wire.specs.Pulls.{pull_in, low_in, due_in, held_in, IsHeld}
 
 -- what the wire has of the reading: all while it runs is the receiver's; then its bits and its ending are kept

@@ -2,7 +2,7 @@
 ghost use Rattle.cec_one_wire.specs.Wire.{Between, CalmTo, TickAfter, TickEnds, TickGoes, TickOver, CalmStays, LowIsFound};
 ghost use Rattle.cec_one_wire.specs.Pulls.{BitsAreHeard, DueIsHeard, HeldIsHeard, HeldWhenDue, LowIsHeard, SendingIsHeard};
 ghost use Rattle.cec_one_wire.specs.States.{FollowersAreHeard, HeldGoes, StatesAreFates};
-ghost use Rattle.cec_one_wire.specs.Told.{FirstLow, FirstTick, RoomIsLeft, ToldAsItIs, ToldIsOnce, ToldIsRead, ToldNow, ToldStays};
+ghost use Rattle.cec_one_wire.specs.Told.{FirstLow, FirstTick, RoomIsLeft, RoundIsLone, ToldAsItIs, ToldIsOnce, ToldIsRead, ToldNow, ToldStays};
 
 /// Where the senders stand on a round's line, the pull that is found of them, of those who follow and of the last pull
 /// is that line's next microsecond.
@@ -75,6 +75,11 @@ pub fn told_is_read()
     ensures { ToldIsRead }
 {}
 
+/// A round's line is high before its round, and does not fall after its reading.
+pub fn round_is_lone()
+    ensures { RoundIsLone }
+{}
+
 /// A round's line is told with one reading.
 pub fn told_is_once()
     ensures { ToldIsOnce }
@@ -120,7 +125,7 @@ pub fn told_stays()
     ensures { ToldStays }
 {}
 
-/// A line of one reading has room in a wave.
+/// A round's line has room in a wave.
 pub fn room_is_left()
     ensures { RoomIsLeft }
 {}
