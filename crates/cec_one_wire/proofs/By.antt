@@ -1,31 +1,14 @@
 -- How long a sender goes on, told by told.
-use Rattle.std.proofs.Common.{◌≡◌, ℕ, zero, suc, ◌+◌, ◌-◌, ◌*◌, ◌%◌, ◌==◌, ◌<◌, ◌≤◌, Bool, true, false, not, ◌&&◌, nat_lt, nat_le, if◌then◌else◌, List, [], ◌∷◌, ◌++◌, length, length-append, slice_index_or, is_none, inl, inr, Option, Some, None, refl, arith, ap, ◌∙◌, sym, subst}
-use mathlib.Core.Bool.{beq}
-use Rattle.std.specs.List.{find, range_with_len}
-use Rattle.std.proofs.Math.ListN.{get_or-append}
-use Rattle.std.proofs.Math.Seq.{get_or-append_seam}
-use Rattle.std.proofs.lemmas.Bool.{cases_lt}
-use Rattle.std.proofs.lemmas.Bool.Decides.{nat_tests}
-use Rattle.cec_wave.specs.Line.{Line, line_of, was_low}
-use Rattle.cec_wave.specs.Sender.{sender_stretches}
-use Rattle.cec_frame.specs.Bits.{frame_bits}
+use Rattle.std.proofs.Common.{◌≡◌, ℕ, ◌+◌, ◌==◌, Bool, true, false, not, nat_lt, if◌then◌else◌, List, [], ◌∷◌, ◌++◌, length, Option, Some, None, refl}
 use Rattle.cec_frame.specs.declared.Ending.{Ending}
 use Rattle.cec_frame.specs.declared.Ending.TheVariants.{Short, Silent, BadStart}
 use Rattle.cec_bits.specs.declared.receiver.ReceiverState.{ReceiverState}
 use Rattle.cec_bits.specs.declared.receiver.ReceiverState.TheVariants.{Rest, StartLow, StartHigh, Unsampled, Sampled}
 use Rattle.cec_bits.specs.declared.receiver.Told.{Told}
 use Rattle.cec_bits.specs.declared.receiver.Told.TheVariants.{Nothing, Bit, Last, Ended}
-use Rattle.cec_bits.specs.declared.sender.SenderState.{SenderState}
-use Rattle.cec_bits.specs.declared.sender.SenderState.TheVariants.{Sending, Out, Stopped}
-use Rattle.cec_bits.specs.Reading.{Known, known_at, reading_of, last_ending}
-use Rattle.cec_bits.specs.Hears.{Hears, Heard, reported_so, rest, starts, sample_as, hear_at, hear_in, hears}
-use Rattle.cec_bits.specs.Kept.{running_of, reported_at}
-use Rattle.cec_bits.specs.Sends.{sent_in, takes_all, is_out_there, after_reported}
-use Rattle.cec_bits.specs.Sending.{bit_read, destination, is_whole, is_out_by, out_by, out_slot, state_by, state_before, may_pull, goes_on, sender_pulls, IsBefore, StopsAt}
-use Rattle.cec_bits.proofs.Causes.{nothing, known_start_low}
-use Rattle.cec_bits.proofs.Ends.{until_by, ends_after}
-use Rattle.cec_bits.proofs.Stood.{StandsIn, runs_in, Knows, KnowsEnd, step, stands_at}
-use Rattle.cec_bits.proofs.Keeping.{running_knows, runs_so, reported_heard}
+use Rattle.cec_bits.specs.Reading.{last_ending}
+use Rattle.cec_bits.specs.Hears.{Hears, Heard, reported_so, rest, starts, sample_as, hear_at}
+use Rattle.cec_bits.proofs.Stood.{runs_in}
 
 -- ---- what a microsecond leads to, while the reading runs
 

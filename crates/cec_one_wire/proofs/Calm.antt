@@ -1,11 +1,9 @@
 -- What the receiver is told stays as it is as long as the line does.
-use Rattle.std.proofs.Common.{◌≡◌, ℕ, zero, suc, ◌+◌, ◌-◌, ◌<◌, ◌≤◌, Bool, true, false, not, ◌&&◌, ◌||◌, nat_lt, nat_le, if◌then◌else◌, List, [], ◌∷◌, ◌⊎◌, inl, inr, Option, Some, None, refl, arith, ap, ◌∙◌, sym, subst}
+use Rattle.std.proofs.Common.{◌≡◌, ℕ, zero, suc, ◌+◌, ◌-◌, ◌<◌, ◌≤◌, Bool, true, false, not, ◌&&◌, ◌||◌, nat_lt, nat_le, if◌then◌else◌, [], ◌⊎◌, inl, inr, Some, refl, arith, ap, ◌∙◌, sym}
 use Rattle.std.proofs.lemmas.Bool.{cases_lt}
 use Rattle.std.proofs.lemmas.Bool.Decides.{nat_tests}
 use Rattle.cec_wave.specs.Line.{Line, was_low}
-use Rattle.cec_bits.specs.declared.receiver.ReceiverState.{ReceiverState}
 use Rattle.cec_bits.specs.declared.receiver.ReceiverState.TheVariants.{StartLow}
-use Rattle.cec_bits.specs.declared.receiver.Receiver.{Receiver}
 use Rattle.cec_frame.specs.declared.Ending.TheVariants.{BadStart}
 use Rattle.cec_bits.specs.declared.receiver.Told.TheVariants.{Nothing, Ended}
 use Rattle.cec_bits.specs.Hears.{Hears, Heard, heard_by, wake_of, hear_in, hears, hears_with, reported_so, starts}
@@ -13,7 +11,7 @@ use Rattle.cec_bits.proofs.Keeping.{before_heard}
 use Rattle.cec_edges.specs.Listening.{IsReadOnce}
 use Rattle.cec_one_wire.specs.Told.{is_high_for, told_of, ToldStays, ToldNow}
 use Rattle.cec_one_wire.proofs.First.{begins_so}
-use Rattle.cec_one_wire.proofs.Told.{and_no, or_no, was_is, all_high, high_more, told_since, told_low, told_late}
+use Rattle.cec_one_wire.proofs.Told.{and_no, or_no, was_is, all_high, told_since, told_low, told_late}
 
 -- a receiver that is told low since the begin waits for the start bit's rise
 start_stays : (told : Line) (begin k : ℕ) → IsReadOnce told begin → begin + 1 + k ≤ begin + 3901 → ((u : ℕ) → begin ≤ u → u < begin + 1 + k → told u ≡ true)

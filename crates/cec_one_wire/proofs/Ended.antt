@@ -1,23 +1,21 @@
 -- Until when those who follow hold the line once the reading has ended.
-use Rattle.std.proofs.Common.{◌≡◌, ℕ, zero, suc, ◌+◌, ◌-◌, ◌%◌, ◌<◌, ◌≤◌, Bool, true, false, not, ◌&&◌, ◌||◌, nat_lt, if◌then◌else◌, ◌==◌, List, [], ◌∷◌, ◌++◌, length, slice_index_or, take, append-nil, ◌⊎◌, inl, inr, Option, Some, None, Result, Ok, Err, min, refl, arith, ap, ◌∙◌, sym, subst}
-use Rattle.std.specs.List.{list_any, filter_map}
+use Rattle.std.proofs.Common.{◌≡◌, ℕ, suc, ◌+◌, ◌-◌, ◌%◌, ◌<◌, ◌≤◌, Bool, true, false, not, ◌&&◌, ◌||◌, nat_lt, if◌then◌else◌, ◌==◌, List, [], ◌∷◌, ◌++◌, length, slice_index_or, take, append-nil, ◌⊎◌, inl, inr, Option, Some, None, Result, Ok, Err, min, refl, arith, ap, ◌∙◌, sym, subst}
+use Rattle.std.specs.List.{list_any}
 use Rattle.std.specs.Option.{option_to_list}
 use Rattle.std.proofs.lemmas.Bool.{cases_lt}
 use Rattle.std.proofs.lemmas.Bool.Decides.{nat_tests}
-use Rattle.cec_wave.specs.Line.{Line, was_low, is_fall, is_rise}
+use Rattle.cec_wave.specs.Line.{Line, is_fall, is_rise}
 use Rattle.cec_frame.specs.declared.Ending.{Ending}
 use Rattle.cec_frame.specs.declared.Ending.TheVariants.{Complete, Short, Silent, BadStart, Long}
 use Rattle.cec_bits.specs.declared.After.TheVariants.{Next, Ends}
-use Rattle.cec_bits.specs.declared.receiver.Receiver.{Receiver}
 use Rattle.cec_bits.specs.declared.receiver.ReceiverState.{ReceiverState}
 use Rattle.cec_bits.specs.declared.receiver.ReceiverState.TheVariants.{Rest, StartLow, StartHigh, Unsampled, Sampled}
 use Rattle.cec_bits.specs.declared.receiver.Told.{Told}
 use Rattle.cec_bits.specs.declared.receiver.Told.TheVariants.{Nothing, Bit, Last, Ended}
-use Rattle.cec_bits.specs.Reading.{End, Known, Slot, Read, known_at, known_slot, bit_sampled_at, sample, next_fall, next_rise, reading_of, read_start, read_slots, read_on, start_of, start_rise, start_fall, after_slot, after_fall, after_last, last_ending, last_heard}
+use Rattle.cec_bits.specs.Reading.{End, Known, Slot, Read, known_at, known_slot, bit_sampled_at, sample, next_fall, reading_of, read_start, read_slots, start_of, start_rise, start_fall, after_slot, after_fall, after_last, last_ending, last_heard}
 use Rattle.cec_bits.specs.Hears.{Hears, Heard, reported_so, rest, starts, sample_as, hear_at}
 use Rattle.cec_bits.specs.Sending.{known_bits}
 use Rattle.cec_bits.proofs.AlongBy.{quiet_sample, reported_more}
-use Rattle.cec_bits.proofs.CausesBy.{IsPlain, last_plain}
 use Rattle.cec_bits.proofs.Causes.{start_risen}
 use Rattle.cec_bits.proofs.Search.{first_in_none, first_in_some}
 use Rattle.cec_bits.proofs.Stood.{StandsIn, runs_in}

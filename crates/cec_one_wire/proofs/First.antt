@@ -1,20 +1,16 @@
 -- The first microsecond of a round.
-use Rattle.std.proofs.Common.{◌≡◌, ℕ, zero, suc, ◌+◌, ◌-◌, ◌<◌, ◌≤◌, Bool, true, false, not, ◌&&◌, ◌||◌, nat_lt, nat_le, if◌then◌else◌, List, [], ◌∷◌, ◌++◌, is_none, Option, Some, None, refl, arith, ap, ◌∙◌, sym, subst}
+use Rattle.std.proofs.Common.{◌≡◌, ℕ, zero, suc, ◌+◌, ◌-◌, ◌<◌, ◌≤◌, Bool, true, false, not, ◌&&◌, ◌||◌, nat_lt, nat_le, List, [], ◌∷◌, ◌++◌, Option, Some, None, refl, arith, ap, ◌∙◌, sym}
 use Rattle.std.specs.List.{list_any, filter_map, cons_option}
 use Rattle.std.proofs.lemmas.Bool.Decides.{nat_tests}
 use Rattle.cec_wave.specs.Line.{Line, line_of, was_low}
 use Rattle.cec_wave.specs.Sender.{sender_stretches}
 use Rattle.cec_frame.specs.Bits.{frame_bits}
-use Rattle.cec_bits.specs.declared.receiver.ReceiverState.{ReceiverState}
-use Rattle.cec_bits.specs.declared.receiver.ReceiverState.TheVariants.{Rest, StartLow}
-use Rattle.cec_bits.specs.declared.receiver.Receiver.{Receiver}
-use Rattle.cec_bits.specs.declared.receiver.Told.{Told}
-use Rattle.cec_bits.specs.declared.receiver.Told.TheVariants.{Nothing}
+use Rattle.cec_bits.specs.declared.receiver.ReceiverState.TheVariants.{StartLow}
 use Rattle.cec_bits.specs.declared.sender.Sender.{Sender}
 use Rattle.cec_bits.specs.declared.sender.SenderState.{SenderState}
 use Rattle.cec_bits.specs.declared.sender.SenderState.TheVariants.{Sending}
 use Rattle.cec_bits.specs.Reading.{Known, known_at, reading_of}
-use Rattle.cec_bits.specs.Hears.{Hears, Heard, heard_by, hear_in, hears, hears_with, reported_so, rest, starts}
+use Rattle.cec_bits.specs.Hears.{Hears, Heard, heard_by, hear_in, hears, hears_with, rest, starts}
 use Rattle.cec_bits.specs.Kept.{kept_before}
 use Rattle.cec_bits.specs.Sending.{out_slot, state_by, state_before, may_pull, pull_of, sender_pulls, SenderStood}
 use Rattle.cec_bits.proofs.Causes.{nothing, known_start_low}
@@ -22,11 +18,11 @@ use Rattle.cec_bits.proofs.Ends.{ends_after}
 use Rattle.cec_bits.proofs.Keeping.{before_heard}
 use Rattle.cec_bits.proofs.Stood.{was_now}
 use Rattle.cec_wire.specs.declared.Seat.{Seat}
-use Rattle.cec_wire.specs.Round.{frames_of, is_within, is_acknowledged, is_broken, pulled_by}
+use Rattle.cec_wire.specs.Round.{frames_of, pulled_by}
 use Rattle.cec_wire.proofs.Still.{high_before}
 use Rattle.cec_edges.specs.Listening.{IsReadOnce, IsSenderOf, SendsFor, AreBegun, AreSenders, IsSending, AreSending}
-use Rattle.cec_one_wire.specs.Pulls.{pull_in, low_in, takes_last, held_in}
-use Rattle.cec_one_wire.specs.Told.{FirstLow, FirstTicked, FirstTick}
+use Rattle.cec_one_wire.specs.Pulls.{pull_in, takes_last, held_in}
+use Rattle.cec_one_wire.specs.Told.{FirstLow, FirstTick}
 use Rattle.cec_one_wire.proofs.Lows.{pulls_by_last, was_high}
 
 -- ---- senders that begin

@@ -1,25 +1,21 @@
 -- The wire goes from microsecond to microsecond.
-use Rattle.std.proofs.Common.{◌≡◌, ◌≢◌, ℕ, zero, suc, ◌+◌, ◌-◌, ◌==◌, ◌<◌, ◌≤◌, Bool, true, false, ◌||◌, nat_lt, if◌then◌else◌, List, [], ◌∷◌, ◌++◌, Option, Some, None, refl, arith, ap, ◌∙◌, sym, subst}
-use Rattle.std.specs.List.{list_any}
+use Rattle.std.proofs.Common.{◌≡◌, ℕ, zero, suc, ◌+◌, ◌==◌, ◌<◌, ◌≤◌, Bool, true, false, nat_lt, if◌then◌else◌, List, Option, Some, None, refl, arith, ap, ◌∙◌, sym, subst}
 use Rattle.std.proofs.lemmas.Bool.Decides.{nat_tests}
 use Rattle.cec_wave.specs.Line.{Line, was_low}
 use Rattle.cec_bits.specs.declared.receiver.Receiver.{Receiver}
-use Rattle.cec_bits.specs.declared.receiver.Told.{Told}
 use Rattle.cec_bits.specs.declared.receiver.Told.TheVariants.{Nothing}
 use Rattle.cec_bits.specs.declared.sender.Sender.{Sender}
 use Rattle.cec_frame.specs.declared.Ending.{Ending}
 use Rattle.cec_bits.specs.Hears.{heard_by, wake_of}
-use Rattle.cec_bits.specs.Reading.{End, Known, known_at, reading_of}
-use Rattle.cec_bits.specs.Kept.{Sample, kept_before, reported_with, reported_in, reported_at, sample_in, running_of}
-use Rattle.cec_bits.specs.Follows.{StoodBefore}
+use Rattle.cec_bits.specs.Reading.{End, known_at, reading_of}
+use Rattle.cec_bits.specs.Kept.{Sample, kept_before, reported_with, reported_in, reported_at, sample_in}
 use Rattle.cec_bits.proofs.Ends.{until_by as until_at}
 use Rattle.cec_bits.proofs.Following.{stood_calm, once_so}
 use Rattle.cec_wire.specs.declared.Seat.{Seat}
-use Rattle.cec_edges.specs.Listening.{IsReadOnce, AreSending}
-use Rattle.cec_edges.specs.declared.listeners.Listeners.{Listeners}
+use Rattle.cec_edges.specs.Listening.{IsReadOnce}
 use Rattle.cec_one_wire.specs.Pulls.{Stands, until_of, IsHeld}
 use Rattle.cec_one_wire.specs.Wire.{IsRead, IsAt, until_by, LowIsFound, CalmStays, CalmTo}
-use Rattle.cec_one_wire.proofs.Standing.{all_later, all_told}
+use Rattle.cec_one_wire.proofs.Standing.{all_later}
 use Rattle.cec_one_wire.proofs.Lows.{low_is_heard, due_is_heard, held_when_due, runs_in_it}
 
 over_known : (low : Line) (begin t : ℕ) (end : End) → (reading_of low begin).at < t → end ≡ record { ending = (reading_of low begin).ending; at = (reading_of low begin).at; until = (reading_of low begin).until }

@@ -1,20 +1,16 @@
 -- What a wire finds of the next microsecond is what the round's rule says.
-use Rattle.std.proofs.Common.{◌≡◌, ◌≢◌, ℕ, zero, suc, ◌+◌, ◌-◌, ◌<◌, ◌≤◌, Bool, true, false, not, ◌&&◌, ◌||◌, nat_lt, nat_le, List, [], ◌∷◌, ◌++◌, length, length-append, slice_index_or, take, Option, Some, None, IsSome, is_none, if◌then◌else◌, ◌==◌, Result, Ok, Err, min, refl, arith, ap, ◌∙◌, sym, subst}
+use Rattle.std.proofs.Common.{◌≡◌, ◌≢◌, ℕ, zero, suc, ◌+◌, ◌-◌, ◌<◌, ◌≤◌, Bool, true, false, not, ◌&&◌, ◌||◌, nat_lt, nat_le, List, [], ◌∷◌, ◌++◌, length, length-append, slice_index_or, take, Option, Some, None, IsSome, is_none, if◌then◌else◌, ◌==◌, Err, min, refl, arith, ap, ◌∙◌, sym, subst}
 use Rattle.std.specs.List.{list_any, filter_map, cons_option, All}
 use Rattle.std.proofs.lemmas.Bool.Decides.{nat_tests}
 use Rattle.cec_wave.specs.declared.Stretch.{Stretch}
 use Rattle.cec_wave.specs.Line.{Line, was_low, is_fall, IsWave, IsWaveFrom}
 use Rattle.std.proofs.lemmas.List.Folds.{list_any-append, list_any_none}
-use Rattle.cec_bits.specs.declared.receiver.Receiver.{Receiver}
 use Rattle.cec_bits.specs.declared.sender.Sender.{Sender}
 use Rattle.cec_frame.specs.declared.Ending.{Ending}
 use Rattle.cec_frame.specs.declared.Ending.TheVariants.{Silent, BadStart}
 use Rattle.cec_frame.specs.Bits.{frame_bits}
-use Rattle.cec_bits.specs.declared.sender.SenderState.{SenderState}
-use Rattle.cec_bits.specs.declared.sender.SenderState.TheVariants.{Sending, Out, Stopped}
-use Rattle.cec_bits.specs.Reading.{End, Known, Read, Slot, known_at, known_slot, bit_sampled_at, reading_of, read_start, start_of, start_fall, after_slot, after_fall, last_ending, last_heard, read_slots}
-use Rattle.cec_bits.specs.declared.After.{After}
-use Rattle.cec_bits.specs.declared.After.TheVariants.{Next, Ends}
+use Rattle.cec_bits.specs.Reading.{End, Known, Read, Slot, known_at, known_slot, bit_sampled_at, reading_of, read_start, start_of, start_fall, after_slot, after_fall, last_ending, read_slots}
+use Rattle.cec_bits.specs.declared.After.TheVariants.{Ends}
 use Rattle.cec_bits.proofs.Search.{first_in_none}
 use Rattle.cec_bits.proofs.Causes.{known_start_low, known_start_high, known_in_slot, start_risen, nothing}
 use Rattle.cec_one_wire.proofs.Along.{AreOver, Reached, over_sampled, next_none, ends_so, known_ending}
@@ -22,19 +18,18 @@ use Rattle.cec_bits.specs.declared.receiver.ReceiverState.{ReceiverState}
 use Rattle.cec_bits.specs.declared.receiver.ReceiverState.TheVariants.{Rest, StartLow, StartHigh, Unsampled, Sampled}
 use Rattle.cec_bits.specs.Hears.{Hears, heard_by, hears}
 use Rattle.cec_bits.specs.Kept.{running_of}
-use Rattle.cec_bits.specs.Follows.{StoodBefore}
 use Rattle.cec_bits.specs.Sending.{known_bits, is_whole, out_by, state_by, sender_pulls, pull_of, SenderStood}
 use Rattle.cec_bits.proofs.Stood.{StandsIn, Knows, runs_in, stands_at}
 use Rattle.cec_bits.proofs.Keeping.{one_runs, before_heard, running_knows, runs_so}
 use Rattle.cec_bits.proofs.Sent.{pulls_so}
 use Rattle.cec_wire.specs.declared.Seat.{Seat}
 use Rattle.cec_wire.specs.Round.{frames_of, is_within, pulse_pulls, is_acknowledged, is_broken, pulled_by}
-use Rattle.cec_wire.specs.Machine.{sends_after, acks_until}
+use Rattle.cec_wire.specs.Machine.{acks_until}
 use Rattle.cec_wire.proofs.Holding.{acks_now}
 use Rattle.cec_wire.proofs.Walk as wire
 use Rattle.cec_edges.specs.Listening.{IsReadOnce, AreSenders, AreSending, SendsFor, IsSending}
 use Rattle.cec_one_wire.specs.Line.{last_of, HaveBegun}
-use Rattle.cec_one_wire.specs.Pulls.{pull_in, until_of, takes_last, low_in, Stands, LowIsHeard, BitsAreHeard, due_in, DueIsHeard, is_on, SendingIsHeard, IsHeld, held_in, HeldIsHeard, HeldWhenDue}
+use Rattle.cec_one_wire.specs.Pulls.{pull_in, until_of, takes_last, low_in, LowIsHeard, BitsAreHeard, due_in, DueIsHeard, is_on, SendingIsHeard, IsHeld, held_in, HeldIsHeard, HeldWhenDue}
 
 -- ---- the last pull that began
 

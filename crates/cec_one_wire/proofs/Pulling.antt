@@ -1,5 +1,5 @@
 -- How long what senders pull stays as it is.
-use Rattle.std.proofs.Common.{◌≡◌, ℕ, ◌-◌, ◌<◌, ◌≤◌, Bool, ◌||◌, List, [], ◌∷◌, length, take, drop, slice_index_or, Option, refl, arith, ap, ◌∙◌, sym, subst}
+use Rattle.std.proofs.Common.{◌≡◌, ℕ, ◌-◌, ◌<◌, ◌≤◌, ◌||◌, List, [], ◌∷◌, length, take, drop, slice_index_or, Option, refl, arith, ap, ◌∙◌, sym, subst}
 use Rattle.std.specs.List.{list_any}
 use Rattle.cec_bits.specs.declared.sender.Sender.{Sender}
 use Rattle.cec_one_wire.specs.Pulls.{pull_in}

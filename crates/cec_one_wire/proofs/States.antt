@@ -1,5 +1,5 @@
 -- What the senders' states say.
-use Rattle.std.proofs.Common.{◌≡◌, ℕ, zero, suc, ◌+◌, ◌-◌, ◌%◌, ◌==◌, ◌<◌, ◌≤◌, Bool, true, false, not, ◌&&◌, ◌||◌, nat_lt, nat_le, if◌then◌else◌, List, [], ◌∷◌, ◌++◌, length, take, is_none, Option, Some, None, refl, arith, ap, ◌∙◌, sym, subst}
+use Rattle.std.proofs.Common.{◌≡◌, ℕ, zero, suc, ◌+◌, ◌==◌, ◌<◌, ◌≤◌, Bool, true, false, not, ◌&&◌, ◌||◌, nat_lt, nat_le, if◌then◌else◌, List, [], ◌∷◌, ◌++◌, length, Option, Some, None, refl, arith, ap, ◌∙◌, sym, subst}
 use Rattle.std.specs.List.{list_any, find, range_with_len}
 use Rattle.std.proofs.lemmas.Bool.Decides.{nat_tests}
 use Rattle.cec_wave.specs.Line.{Line}
@@ -7,17 +7,14 @@ use Rattle.cec_frame.specs.declared.Ending.{Ending}
 use Rattle.cec_frame.specs.declared.Ending.TheVariants.{Short, Silent, BadStart}
 use Rattle.cec_frame.specs.Bits.{frame_bits}
 use Rattle.cec_bits.specs.declared.receiver.Receiver.{Receiver}
-use Rattle.cec_bits.specs.declared.receiver.ReceiverState.{ReceiverState}
 use Rattle.cec_bits.specs.declared.receiver.ReceiverState.TheVariants.{Rest, StartLow, StartHigh, Unsampled, Sampled}
-use Rattle.cec_bits.specs.declared.receiver.Told.{Told}
-use Rattle.cec_bits.specs.declared.receiver.Told.TheVariants.{Nothing, Bit, Last, Ended}
+use Rattle.cec_bits.specs.declared.receiver.Told.TheVariants.{Nothing, Ended}
 use Rattle.cec_bits.specs.declared.sender.Sender.{Sender}
 use Rattle.cec_bits.specs.declared.sender.SenderState.{SenderState}
-use Rattle.cec_bits.specs.declared.sender.SenderState.TheVariants.{Sending, Out, Stopped}
 use Rattle.cec_bits.specs.Follows.{StoodBefore}
-use Rattle.cec_bits.specs.Hears.{Hears, Heard, reported_so, rest, starts, sample_as, hear_at}
-use Rattle.cec_bits.specs.Reading.{End, Known, Read, known_at, reading_of, bits_of, last_ending}
-use Rattle.cec_bits.specs.Sending.{destination, is_whole, known_bits, is_out_by, out_by, out_slot, state_by, state_before, SenderStood}
+use Rattle.cec_bits.specs.Hears.{Heard, reported_so, rest, starts, sample_as}
+use Rattle.cec_bits.specs.Reading.{Read, reading_of, bits_of, last_ending}
+use Rattle.cec_bits.specs.Sending.{destination, is_whole, is_out_by, out_by, out_slot, state_by, state_before, SenderStood}
 use Rattle.cec_bits.proofs.Ends.{until_by as until_at}
 use Rattle.cec_wire.specs.declared.Seat.{Seat}
 use Rattle.cec_wire.specs.declared.Loser.{Loser}
@@ -27,8 +24,8 @@ use Rattle.cec_wire.proofs.Spans.{reading_spans}
 use Rattle.cec_wire.proofs.Polled.{reported_bits}
 use Rattle.cec_edges.specs.Listening.{IsReadOnce, AreSenders, AreSending, SendsFor, IsSending}
 use Rattle.cec_one_wire.specs.Pulls.{is_on, held_in}
-use Rattle.cec_one_wire.specs.Wire.{IsAt, IsRead, goes_on}
-use Rattle.cec_one_wire.specs.States.{is_sending_on, acks_to, breaks_by, out_at, out_in, stays_at, survivor_at, survivors_of, losers_of, FollowersAreHeard, HeldGoes, StatesAreFates}
+use Rattle.cec_one_wire.specs.Wire.{goes_on}
+use Rattle.cec_one_wire.specs.States.{acks_to, breaks_by, out_at, out_in, stays_at, survivor_at, survivors_of, losers_of, FollowersAreHeard, HeldGoes, StatesAreFates}
 use Rattle.cec_one_wire.proofs.Lows.{sending_is_heard, take_most}
 use Rattle.cec_one_wire.proofs.Standing.{over_state}
 

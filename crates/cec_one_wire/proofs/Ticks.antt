@@ -1,5 +1,5 @@
 -- A tick leaves the wire where the line stands.
-use Rattle.std.proofs.Common.{◌≡◌, ◌≢◌, ℕ, zero, suc, ◌+◌, ◌-◌, ◌==◌, ◌<◌, ◌≤◌, Bool, true, false, not, ◌&&◌, nat_lt, if◌then◌else◌, List, [], ◌∷◌, ◌++◌, append-nil, Option, Some, None, refl, arith, ap, ◌∙◌, sym, subst}
+use Rattle.std.proofs.Common.{◌≡◌, ◌≢◌, ℕ, zero, suc, ◌+◌, ◌==◌, ◌<◌, ◌≤◌, Bool, true, false, not, ◌&&◌, nat_lt, if◌then◌else◌, List, ◌++◌, append-nil, Option, Some, None, refl, arith, ap, ◌∙◌, sym, subst}
 use Rattle.std.proofs.lemmas.Bool.Decides.{nat_tests}
 use Rattle.cec_wave.specs.Line.{Line, was_low}
 use Rattle.cec_frame.specs.declared.Ending.{Ending}
@@ -7,11 +7,11 @@ use Rattle.cec_bits.specs.declared.receiver.Receiver.{Receiver}
 use Rattle.cec_bits.specs.declared.receiver.Told.{Told}
 use Rattle.cec_bits.specs.declared.receiver.Told.TheVariants.{Nothing, Bit, Last, Ended}
 use Rattle.cec_bits.specs.declared.sender.Sender.{Sender}
-use Rattle.cec_bits.specs.Hears.{Hears, Heard, heard_by, hear_in, hears, reported_so}
+use Rattle.cec_bits.specs.Hears.{Hears, Heard, heard_by, hear_in, hears}
 use Rattle.cec_bits.specs.Reading.{End, known_at, reading_of, read_slots, bits_of}
-use Rattle.cec_bits.specs.Kept.{Sample, kept_before, reported_with, reported_in, reported_at, sample_in, running_of}
+use Rattle.cec_bits.specs.Kept.{Sample, kept_before, reported_with, reported_in, reported_at, sample_in}
 use Rattle.cec_bits.proofs.Ends.{until_by as until_at}
-use Rattle.cec_bits.proofs.Stood.{runs_in, was_now, Knows, KnowsEnd, step, stands_at}
+use Rattle.cec_bits.proofs.Stood.{runs_in, was_now, KnowsEnd, step, stands_at}
 use Rattle.cec_bits.specs.Sending.{known_bits}
 use Rattle.cec_wire.proofs.Spans.{reading_spans}
 use Rattle.cec_wire.proofs.Polled.{reported_bits}

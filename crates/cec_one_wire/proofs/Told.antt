@@ -1,5 +1,5 @@
 -- A round's line as its receiver is told it.
-use Rattle.std.proofs.Common.{◌≡◌, ℕ, zero, suc, ◌+◌, ◌-◌, ◌<◌, ◌≤◌, Bool, true, false, not, ◌&&◌, ◌||◌, nat_lt, nat_le, if◌then◌else◌, List, [], ◌∷◌, ◌++◌, ◌⊎◌, inl, inr, Option, Some, None, Result, Ok, Err, refl, arith, ap, ◌∙◌, sym, subst}
+use Rattle.std.proofs.Common.{◌≡◌, ℕ, zero, suc, ◌+◌, ◌-◌, ◌<◌, ◌≤◌, Bool, true, false, not, ◌&&◌, ◌||◌, nat_lt, nat_le, if◌then◌else◌, List, [], ◌++◌, inl, inr, Option, Some, None, Result, Ok, Err, refl, arith, ap, ◌∙◌, sym, subst}
 use Rattle.std.specs.Option.{option_to_list}
 use Rattle.std.proofs.lemmas.Bool.{cases_lt}
 use Rattle.std.proofs.lemmas.Bool.Decides.{nat_tests}
@@ -8,7 +8,7 @@ use Rattle.cec_frame.specs.declared.Ending.{Ending}
 use Rattle.cec_frame.specs.declared.Ending.TheVariants.{Short}
 use Rattle.cec_bits.specs.declared.After.{After}
 use Rattle.cec_bits.specs.declared.After.TheVariants.{Next, Ends}
-use Rattle.cec_bits.specs.Reading.{Read, next_fall, next_rise, reading_of, read_start, read_slots, read_on, read_then, start_of, start_rise, start_fall, after_slot, after_fall, after_last, last_ending, sample, bit_sampled_at}
+use Rattle.cec_bits.specs.Reading.{Read, next_fall, next_rise, reading_of, read_start, read_slots, read_on, read_then, start_rise, start_fall, after_slot, after_fall, after_last, last_ending, sample, bit_sampled_at}
 use Rattle.cec_bits.proofs.Ends.{begin_by}
 use Rattle.cec_bits.proofs.Search.{first_in_agree, found_first}
 use Rattle.cec_wire.proofs.Still.{high_before}

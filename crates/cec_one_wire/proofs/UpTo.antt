@@ -1,22 +1,21 @@
 -- The wire stands as it does until somebody changes what he does.
-use Rattle.std.proofs.Common.{◌≡◌, ◌≢◌, ℕ, zero, suc, ◌+◌, ◌-◌, ◌==◌, ◌<◌, ◌≤◌, Bool, true, false, not, ◌&&◌, ◌||◌, nat_lt, nat_le, if◌then◌else◌, ◌⊎◌, inl, inr, List, [], ◌∷◌, ◌++◌, Option, Some, None, refl, arith, ap, ◌∙◌, sym, subst}
+use Rattle.std.proofs.Common.{◌≡◌, ℕ, zero, suc, ◌+◌, ◌-◌, ◌<◌, ◌≤◌, Bool, true, false, ◌&&◌, ◌||◌, nat_lt, nat_le, if◌then◌else◌, inl, inr, List, [], ◌∷◌, Option, Some, None, refl, arith, ap, ◌∙◌, sym, subst}
 use Rattle.std.specs.List.{list_any, All}
 use Rattle.std.proofs.lemmas.Bool.Decides.{nat_tests}
 use Rattle.std.proofs.lemmas.Bool.{cases_lt}
 use Rattle.cec_wave.specs.declared.Stretch.{Stretch}
-use Rattle.cec_wave.specs.Line.{Line, was_low, IsWave}
+use Rattle.cec_wave.specs.Line.{Line, was_low}
 use Rattle.cec_bits.specs.declared.receiver.Receiver.{Receiver}
 use Rattle.cec_bits.specs.declared.receiver.ReceiverState.{ReceiverState}
 use Rattle.cec_bits.specs.declared.receiver.ReceiverState.TheVariants.{Rest, StartLow, StartHigh, Unsampled, Sampled}
 use Rattle.cec_bits.specs.declared.sender.Sender.{Sender}
-use Rattle.cec_bits.specs.Hears.{Hears, heard_by, wake_of}
+use Rattle.cec_bits.specs.Hears.{heard_by, wake_of}
 use Rattle.cec_bits.specs.Reading.{End, reading_of}
 use Rattle.cec_bits.proofs.Ends.{until_by as until_at}
 use Rattle.cec_wire.specs.declared.Seat.{Seat}
-use Rattle.cec_wire.specs.Round.{IsRoundLine}
 use Rattle.cec_one_wire.specs.Line.{last_of, HaveBegun}
 use Rattle.cec_one_wire.specs.Pulls.{pull_in, due_in, low_in, takes_last}
-use Rattle.cec_one_wire.specs.Wire.{IsAt, IsRead, until_by, IsQuiet, ToldSo, Between}
+use Rattle.cec_one_wire.specs.Wire.{IsAt, IsRead, until_by, IsQuiet, Between}
 use Rattle.cec_one_wire.proofs.Goes.{low_is_found, calm_stays}
 
 -- a receiver that is due at u wakes at u

@@ -1,13 +1,12 @@
 -- What the senders' states say: who follows, and who is still sending and who is out at the end. (own)
-use Rattle.std.specs.Prelude.{◌≡◌, ◌≢◌, ℕ, ◌+◌, ◌<◌, ◌≤◌, Bool, true, false, not, ◌&&◌, ◌||◌, if◌then◌else◌, List, [], ◌∷◌, ◌++◌, Option, Some, None}
-use Rattle.cec_wave.specs.Line.{Line}
+use Rattle.std.specs.Prelude.{◌≡◌, ◌≢◌, ℕ, ◌+◌, Bool, true, false, not, ◌&&◌, ◌||◌, if◌then◌else◌, List, [], ◌∷◌, ◌++◌, Option, Some, None}
 use Rattle.cec_bits.specs.declared.receiver.Receiver.{Receiver}
 use Rattle.cec_bits.specs.declared.receiver.ReceiverState.{ReceiverState}
 use Rattle.cec_bits.specs.declared.receiver.ReceiverState.TheVariants.{Rest, StartLow}
 use Rattle.cec_bits.specs.declared.sender.Sender.{Sender}
 use Rattle.cec_bits.specs.declared.sender.SenderState.{SenderState}
 use Rattle.cec_bits.specs.declared.sender.SenderState.TheVariants.{Out}
-use Rattle.cec_bits.specs.Hears.{Hears, hear_at}
+use Rattle.cec_bits.specs.Hears.{hear_at}
 use Rattle.cec_bits.specs.Reading.{End, reading_of}
 use Rattle.cec_bits.specs.Sending.{destination}
 use Rattle.cec_wire.specs.declared.Seat.{Seat}
