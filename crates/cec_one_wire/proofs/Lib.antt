@@ -1,0 +1,15 @@
+pub mod Along
+pub mod Lows
+pub mod Standing
+pub mod By
+pub mod Goes
+pub mod Ticks
+pub mod Ended
+pub mod Told
+pub mod UpTo
+pub mod First
+pub mod States
+pub mod Pulling
+pub mod Begins
+pub mod Calm
+pub mod Room

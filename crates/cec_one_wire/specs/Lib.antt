@@ -1,0 +1,5 @@
+pub mod Line
+pub mod Pulls
+pub mod Wire
+pub mod Told
+pub mod States
