@@ -1,10 +1,10 @@
 -- The file of a line is read back.
-use Rattle.std.proofs.Common.{◌≡◌, ℕ, suc, ◌+◌, ◌-◌, ◌*◌, ◌/◌, ◌%◌, ◌<◌, ◌≤◌, ◌==◌, ◌||◌, not, Bool, true, false, cond, nat_lt, nat_le, List, [], ◌∷◌, ◌++◌, length, take, drop, slice_index, Option, Some, None, Result, Ok, Err, codes, refl, sym, ap, subst, ◌∙◌, arith, append-nil, append_assoc, length-append}
+use Rattle.std.proofs.Common.{◌≡◌, ℕ, zero, suc, ◌+◌, ◌-◌, ◌*◌, ◌/◌, ◌%◌, ◌<◌, ◌≤◌, ◌==◌, ◌||◌, not, Bool, true, false, if◌then◌else◌, cond, nat_lt, nat_le, List, [], ◌∷◌, ◌++◌, length, take, drop, slice_index, Option, Some, None, Result, Ok, Err, codes, refl, sym, ap, subst, ◌∙◌, arith, append-nil, append_assoc, length-append}
 use Rattle.std.proofs.Math.Seq.{take-append_seam, drop-append-add}
 use Rattle.std.specs.Fmt.{decimal}
 use Rattle.std.specs.List.{list_all}
 use Rattle.std.specs.Option.{option_to_list}
-use Rattle.std.specs.Char.{digit_value}
+use Rattle.std.specs.Char.{digit_value, is_ascii_digit}
 use Rattle.std.specs.Str.Parse.{AllDigits}
 use Rattle.std.proofs.lemmas.Fmt.{decimal_is_IsNumeral, decimal_nonempty}
 use Rattle.std.proofs.lemmas.Bool.{false≢true}
@@ -17,7 +17,7 @@ use Rattle.cec_wave.specs.Line.{covers, line_of, IsWaveFrom}
 use Rattle.hdmi_core.specs.Lines.{lines_of}
 use Rattle.hdmi_core.specs.Number.{number_of}
 use Rattle.cec_signal.specs.Edges.{Captured, edges_of}
-use Rattle.cec_signal.specs.Seconds.{decimals_of, nine_digits}
+use Rattle.cec_signal.specs.Seconds.{decimals_of, nine, nine_digits}
 use Rattle.cec_signal.specs.Track.{differ}
 use Rattle.cec_signal.proofs.Decimals.{decimals_again}
 use Rattle.cec_signal.proofs.Moving as moving
@@ -28,6 +28,7 @@ use Rattle.cec_signal.proofs.Texts.{line_before}
 use Rattle.cec_signal.specs.Reading.{at_word, lines_read, with_edges}
 use Rattle.cec_signal.specs.declared.fault.CaptureFault.{CaptureFault}
 use Rattle.cec_signal.proofs.Passing.{alone, whole}
+use Rattle.cec_csv.specs.Clock.{cut_decimals}
 use Rattle.cec_csv.specs.Csv.{csv_form, dot_in, edges_in, fields_of, instant_of, level_by, moved_by, moved_to, nanos_by, nanos_of, named_read, row_by, row_in, row_of, signed_by, since, since_by, time_of, took, took_by, with_row, without_return, word_at_fault}
 use Rattle.cec_csv.specs.Text.{changes, head, row_line, row_text, stretch_text, CsvFilesAreReadBack}
 use Rattle.cec_csv.specs.declared.row.Time.{Time}
@@ -100,6 +101,16 @@ no_minus : (ds more : List ℕ) → 0 < length ds → AllDigits 10 ds → (slice
 no_minus [] more some h = absurd (omega arith)
 no_minus (c ∷ cs) more some h = no_byte 45 c h.0 (omega arith)
 
+-- the decimals that are written are nine
+was_taken : (b : Bool) (x y : ℕ) → (if b then Some x else None) ≡ Some y → b ≡ true
+was_taken true x y h = refl
+was_taken false x y h = cc
+
+cut_again : (n : ℕ) → n < 1000000 → cut_decimals (nine_digits n) ≡ Some (n * 1000)
+cut_again n low =
+    ap (λ b. if b then decimals_of (nine_digits n) else None) (was_taken (list_all is_ascii_digit (nine_digits n)) (nine (nine_digits n)) (n * 1000) (decimals_again n low))
+    ∙ decimals_again n low
+
 small_by : (whole below : ℕ) → whole ≤ 9999999999 → below ≤ 999999999 → (nat_lt 9999999999 whole || nat_lt 999999999 below) ≡ false
 small_by whole below h k = grind (arith, nat_tests)
 
@@ -111,17 +122,36 @@ nanos_ok t low =
     let front : take (length (decimal s)) (seconds t) ≡ decimal s = take-append_seam (decimal s) (46 ∷ nine_digits n) in
     let back : drop (length (decimal s) + 1) (seconds t) ≡ nine_digits n = drop-append-add (decimal s) (46 ∷ nine_digits n) 1 in
     let few : (nat_lt 9999999999 s || nat_lt 999999999 (n * 1000)) ≡ false = small_by s (n * 1000) (omega arith) (omega arith) in
-    ap (λ k. nanos_by (number_of (take k (seconds t))) (decimals_of (drop (k + 1) (seconds t)))) dot
-    ∙ ap (λ l. nanos_by (number_of l) (decimals_of (drop (length (decimal s) + 1) (seconds t)))) front
-    ∙ ap (λ l. nanos_by (number_of (decimal s)) (decimals_of l)) back
-    ∙ ap (λ o. nanos_by o (decimals_of (nine_digits n))) (number_again s (omega arith))
-    ∙ ap (nanos_by (Some s)) (decimals_again n (omega arith))
+    ap (λ k. nanos_by (number_of (take k (seconds t))) (cut_decimals (drop (k + 1) (seconds t)))) dot
+    ∙ ap (λ l. nanos_by (number_of l) (cut_decimals (drop (length (decimal s) + 1) (seconds t)))) front
+    ∙ ap (λ l. nanos_by (number_of (decimal s)) (cut_decimals l)) back
+    ∙ ap (λ o. nanos_by o (cut_decimals (nine_digits n))) (number_again s (omega arith))
+    ∙ ap (nanos_by (Some s)) (cut_again n (omega arith))
     ∙ rw few refl
+
+-- and are no time of the day
+no_letter : (c : ℕ) → digit_value c < 10 → (c == 84) ≡ false
+no_letter c h = grind (arith, nat_tests)
+
+no_digit : (d : ℕ) → d < 10 → (48 + d == 84) ≡ false
+no_digit d h = grind (arith, nat_tests)
+
+letters_lack : (t : ℕ) → t ≤ 2000000000000 → Lacks 84 (seconds t)
+letters_lack t low =
+    let n = t % 1000000 in
+    All-append (λ c. (c == 84) ≡ false) (decimal (t / 1000000)) (46 ∷ nine_digits n) (texts.digits_lack (λ c. c == 84) (decimal (t / 1000000)) no_letter (digits_of t low))
+    (shown 84 (46 ∷ nine_digits n)
+    (rw (no_digit (n / 100000 % 10) (omega arith), no_digit (n / 10000 % 10) (omega arith), no_digit (n / 1000 % 10) (omega arith), no_digit (n / 100 % 10) (omega arith), no_digit (n / 10 % 10) (omega arith), no_digit (n % 10) (omega arith)) refl))
+
+none_at : (xs : List ℕ) (k : ℕ) → Lacks 84 xs → (slice_index xs k == 84) ≡ false
+none_at [] k h = refl
+none_at (x ∷ xs) zero h = h 0 x (omega arith)
+none_at (x ∷ xs) (suc k) h = none_at xs k (λ j d low. h (suc j) d (omega (arith, low)))
 
 time_ok : (t : ℕ) → t ≤ 2000000000000 → time_of (seconds t) ≡ Some (time_at t)
 time_ok t low =
     let plus : (slice_index (seconds t) 0 == 45) ≡ false = no_minus (decimal (t / 1000000)) (46 ∷ nine_digits (t % 1000000)) (decimal_nonempty (t / 1000000) (omega arith)) (digits_of t low) in
-    rw plus (ap (signed_by false) (nanos_ok t low))
+    rw (none_at (seconds t) 10 (letters_lack t low), plus) (ap (signed_by false) (nanos_ok t low))
 
 -- of a level
 record IsLevel (level : ℕ) (low : Bool) : Type 0 where

@@ -1,5 +1,5 @@
 -- Comma-separated values as Saleae's Logic exports them: a line of names, of which the first is that of the time, and then a
--- row a change: seconds with up to nine decimals, perhaps below zero, and a level a channel.
+-- row a change: seconds with decimals, perhaps below zero, or the time of the day; and a level a channel.
 use Rattle.std.specs.Prelude.{◌≡◌, ℕ, suc, zero, ◌+◌, ◌-◌, ◌*◌, ◌/◌, ◌==◌, ◌&&◌, ◌||◌, not, min, Bool, true, false, nat_lt, nat_le, if◌then◌else◌, List, [], ◌∷◌, length, take, drop, slice_index, codes, Option, Some, None, Result, Ok, Err}
 use Rattle.std.specs.Option.{is_none, is_some}
 use Rattle.std.specs.List.{position_or_len, slice_split}
@@ -8,12 +8,12 @@ use Rattle.cec_wave.specs.Bounds.{latest_instant}
 use Rattle.hdmi_core.specs.Lines.{lines_of}
 use Rattle.hdmi_core.specs.Number.{number_of}
 use Rattle.cec_signal.specs.Edges.{Captured}
-use Rattle.cec_signal.specs.Seconds.{decimals_of}
 use Rattle.cec_signal.specs.Track.{Moved, first_track as line_begun, differ, track_move, with_level}
 use Rattle.cec_signal.specs.Reading.{Form, Step, at_word, lines_read}
 use Rattle.cec_signal.specs.declared.fault.Cause.{Cause}
 use Rattle.cec_signal.specs.declared.fault.Cause.TheVariants as cause
 use Rattle.cec_signal.specs.declared.fault.CaptureFault.{CaptureFault}
+use Rattle.cec_csv.specs.Clock.{clock_fraction, clock_seconds, cut_decimals}
 use Rattle.cec_csv.specs.declared.row.Row.{Row}
 use Rattle.cec_csv.specs.declared.row.Time.{Time}
 use Rattle.cec_csv.specs.declared.reader.Reader.{Reader}
@@ -65,9 +65,9 @@ nanos_by (Some whole) (Some nanos) = if nat_lt 9999999999 whole || nat_lt 999999
 abbrev pub dot_in : List ℕ → ℕ
 dot_in text = position_or_len (λ b. b == 46) text
 
--- whole seconds of ten digits at most, and perhaps a dot and up to nine decimals, in nanoseconds
+-- whole seconds of ten digits at most, and perhaps a dot and decimals, in nanoseconds
 abbrev pub nanos_of : List ℕ → Option ℕ
-nanos_of word = nanos_by (number_of (take (dot_in word) word)) (decimals_of (drop (dot_in word + 1) word))
+nanos_of word = nanos_by (number_of (take (dot_in word) word)) (cut_decimals (drop (dot_in word + 1) word))
 
 abbrev pub signed_time : Bool → ℕ → Time
 signed_time is_minus nanos = record { is_below = is_minus && nat_lt 0 nanos; nanos = nanos }
@@ -76,8 +76,19 @@ abbrev pub signed_by : Bool → Option ℕ → Option Time
 signed_by is_minus None = None
 signed_by is_minus (Some nanos) = Some (signed_time is_minus nanos)
 
+abbrev pub seconds_of : List ℕ → Option Time
+seconds_of word = if slice_index word 0 == 45 then signed_by true (nanos_of (drop 1 word)) else signed_by false (nanos_of word)
+
+abbrev pub clock_of : List ℕ → Option Time
+clock_of word = signed_by false (nanos_by (clock_seconds word) (clock_fraction word))
+
+abbrev pub time_by : Bool → List ℕ → Option Time
+time_by true word = clock_of word
+time_by false word = seconds_of word
+
+-- a time of the day has the letter T after its date
 abbrev pub time_of : List ℕ → Option Time
-time_of word = if slice_index word 0 == 45 then signed_by true (nanos_of (drop 1 word)) else signed_by false (nanos_of word)
+time_of word = time_by (slice_index word 10 == 84) word
 
 abbrev pub level_of : List ℕ → Option Bool
 level_of field = if bytes_eq field (codes "0") then Some true else if bytes_eq field (codes "1") then Some false else None

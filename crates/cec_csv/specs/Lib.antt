@@ -1,3 +1,4 @@
+pub mod Clock
 pub mod Csv
 pub mod Sampling
 pub mod Text

@@ -2,6 +2,7 @@
 //! file to the edges of the line.
 #![tactic(auto)]
 
+mod clock;
 mod fields;
 mod laws;
 mod reader;

@@ -1,9 +1,9 @@
 //! A row: a time and a level.
 ghost use Rattle.std.specs.Prelude.{◌≡◌, ◌+◌, ◌*◌, ◌<◌};
-ghost use Rattle.cec_csv.specs.Csv.{field_at, fields_of, instant_of, level_by, level_of, nanos_of, row_of, signed_time, since, time_in, time_of, word_at_fault};
+ghost use Rattle.cec_csv.specs.Csv.{clock_of, field_at, fields_of, instant_of, level_by, level_of, nanos_by, nanos_of, row_of, seconds_of, signed_time, since, time_in, time_of, word_at_fault};
 
+use crate::clock::{clock_fraction, clock_seconds, cut_decimals};
 use crate::fields::{field_at, field_without_space, first_field, without_return};
-use cec_signal::decimals_in;
 use cec_wave::LATEST_INSTANT;
 use hdmi_core::{after, before, byte_at, len_before, number_in};
 
@@ -12,6 +12,9 @@ const MOST_SECONDS: u64 = 9_999_999_999;
 
 /// The most nanoseconds below a second.
 const MOST_NANOS: u64 = 999_999_999;
+
+/// Where the letter T stands in a time of the day.
+const PLACE_OF_T: usize = 10;
 
 /// A time in nanoseconds from 0, or before it.
 #[derive(Clone, Copy, Debug, PartialEq, Eq)]
@@ -27,17 +30,26 @@ pub struct Row {
     pub low: bool,
 }
 
-// Nanoseconds of whole seconds of ten digits at most, and perhaps a dot and up to nine decimals.
-fn nanos_of(word: &[u8]) -> Option<u64>
-    ensures { result ≡ nanos_of word.now }
+// The nanoseconds of whole seconds and those below a second.
+fn nanos_by(whole: Option<u64>, nanos: Option<u64>) -> Option<u64>
+    ensures { result ≡ nanos_by whole nanos }
 {
-    let dot = len_before(word, b'.');
-    let whole = number_in(before(word, dot))?;
-    let nanos = decimals_in(after(word, dot + 1))?;
+    let (whole, nanos) = (whole?, nanos?);
     if whole > MOST_SECONDS || nanos > MOST_NANOS {
         return None;
     }
     Some(whole * 1_000_000_000 + nanos)
+}
+
+// Nanoseconds of whole seconds of ten digits at most, and perhaps a dot and decimals, of which nine are read.
+fn nanos_of(word: &[u8]) -> Option<u64>
+    ensures { result ≡ nanos_of word.now }
+{
+    let dot = len_before(word, b'.');
+    nanos_by(
+        number_in(before(word, dot)),
+        cut_decimals(after(word, dot + 1)),
+    )
 }
 
 fn signed_time(is_minus: bool, nanos: u64) -> Time
@@ -49,9 +61,9 @@ fn signed_time(is_minus: bool, nanos: u64) -> Time
     }
 }
 
-// A time, perhaps with a minus before it.
-fn time_of(word: &[u8]) -> Option<Time>
-    ensures { result ≡ time_of word.now }
+// Seconds, perhaps with a minus before them.
+fn seconds_of(word: &[u8]) -> Option<Time>
+    ensures { result ≡ seconds_of word.now }
 {
     if byte_at(word, 0) == b'-' {
         let nanos = nanos_of(after(word, 1))?;
@@ -59,6 +71,25 @@ fn time_of(word: &[u8]) -> Option<Time>
     } else {
         let nanos = nanos_of(word)?;
         Some(signed_time(false, nanos))
+    }
+}
+
+// A time of the day.
+fn clock_of(word: &[u8]) -> Option<Time>
+    ensures { result ≡ clock_of word.now }
+{
+    let nanos = nanos_by(clock_seconds(word), clock_fraction(word))?;
+    Some(signed_time(false, nanos))
+}
+
+// A time of the day, or seconds.
+fn time_of(word: &[u8]) -> Option<Time>
+    ensures { result ≡ time_of word.now }
+{
+    if byte_at(word, PLACE_OF_T) == b'T' {
+        clock_of(word)
+    } else {
+        seconds_of(word)
     }
 }
 
