@@ -59,7 +59,7 @@ Examples, of which the folder examples/ has the inputs and outputs:
 Faults go to standard error, as `hdminet: script line 3: word`; with --explain indented lines follow.
 
 Exit status: 0 done; 1 input refused, or a test failed; 2 command line refused; 3 a read or write fault,
-or input past 1048576 bytes; 4 no memory; 5 an EDID breaks a rule.";
+or input past 1048576 bytes; 4 no memory; 5 an EDID fails --check.";
 
 pub const RUN_ABOUT: &str = "Runs a topology and a script, and prints the trace (the default)";
 
@@ -186,7 +186,7 @@ pub const CHECK_FLAGS: &[(&str, &str)] = &[
     ),
     (
         "json",
-        "Prints each line of the report as an object of JSON; not with --trace or --plain",
+        "Prints each line of the report as an object of JSON; not with --plain",
     ),
     ("capture", "Tests a capture in place of a run"),
 ];

@@ -75,7 +75,7 @@ fn limit_of(choice: Choice) -> usize {
 #[derive(Drop)]
 pub struct Ended<W> {
     /// The exit status: 0 done, 1 input refused, an event of a strict run refused or a test failed, 2 command line refused, 3 a
-    /// read or write fault or input past its limit, 4 no memory, 5 an EDID breaks a rule.
+    /// read or write fault or input past its limit, 4 no memory, 5 an EDID fails a rule.
     pub status: u8,
     /// The sink that it wrote to.
     pub out: W,
