@@ -25,7 +25,7 @@ use Rattle.cec_signal.proofs.Texts.{line_before}
 use Rattle.cec_signal.specs.Reading.{at_word, lines_read, with_edges}
 use Rattle.cec_signal.specs.declared.fault.CaptureFault.{CaptureFault}
 use Rattle.cec_signal.proofs.Passing.{alone, whole}
-use Rattle.cec_pin.specs.Pin.{first_reader, code_of, dot_in, event_by, event_cut, event_of, fraction_of, after_event, instant_of, moved_by, moved_to, nanos_by, pin_form, took, word_at_fault}
+use Rattle.cec_pin.specs.Pin.{first_reader, code_of, dot_in, event_by, event_by_start, event_cut, event_of, fraction_of, after_event, instant_of, moved_by, moved_to, nanos_by, pin_form, took, word_at_fault}
 use Rattle.cec_pin.specs.Text.{event_line, event_text, head, round_text, stretch_text, PinFilesAreReadBack}
 use Rattle.cec_pin.specs.declared.reader.Reader.{Reader}
 
@@ -104,12 +104,17 @@ line_plain t level low other =
     high : (d : ℕ) → (48 + d == 10) ≡ false
     high d = grind (arith, nat_tests)
 
+none_before : (nanos : ℕ) → nat_lt nanos 0 ≡ false
+none_before nanos = grind (arith, nat_tests)
+
 event_stood : (t level : ℕ) (low : Bool) (at : ℕ) (was is : Bool) → t ≤ 2000000000000 → ((nanos : ℕ) → event_by (Some nanos) (code_of (level ∷ [])) ≡ Some (record { nanos = nanos; low = Some low }))
     → took (event_line t level) (stood at was is) ≡ moved_to (Some t) (Some low) (stood at was is)
 event_stood t level low at was is early code =
     let digits = (decimal_is_IsNumeral (t / 1000000) (omega arith)).0.1 in
     let reported : is_skipped (event_line t level) ≡ false = skipped_by (decimal (t / 1000000)) _ (decimal_nonempty (t / 1000000) (omega arith)) digits in
-    rw reported (ap (λ e. after_event e (stood at was is)) (event_ok t level (Some low) early code) ∙ ap (λ i. moved_to i (Some low) (stood at was is)) (instant_ok t early))
+    rw reported (ap (λ e. after_event e (stood at was is)) (event_ok t level (Some low) early code)
+    ∙ ap (λ c. event_by_start c (record { nanos = t / 1000000 * 1000000000 + t % 1000000 * 1000; low = Some low }) (stood at was is)) (none_before (t / 1000000 * 1000000000 + t % 1000000 * 1000))
+    ∙ ap (λ i. moved_to i (Some low) (stood at was is)) (instant_ok t early))
 
 event_taken : (t level : ℕ) (low : Bool) (k : Reader) → k ≡ stood k.track.at k.track.was_low k.track.is_low → t ≤ 2000000000000 → ((nanos : ℕ) → event_by (Some nanos) (code_of (level ∷ [])) ≡ Some (record { nanos = nanos; low = Some low }))
     → took (event_line t level) k ≡ moved_to (Some t) (Some low) k

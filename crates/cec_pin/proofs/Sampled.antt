@@ -11,7 +11,7 @@ use Rattle.cec_signal.specs.declared.track.Track.{Track}
 use Rattle.cec_signal.proofs.Recording.{Records, moved_at, records_capture, records_end, records_level, records_line, records_moved}
 use Rattle.cec_signal.specs.Reading.{Step, lines_read}
 use Rattle.cec_signal.proofs.Passing.{onward, whole, without_word}
-use Rattle.cec_pin.specs.Pin.{Stepped, first_reader, edges_in, event_of, after_event, track_with_level, moved_by, moved_to, pin_form, reader_with_start, start_in_comment, took, word_at_fault}
+use Rattle.cec_pin.specs.Pin.{Stepped, first_reader, edges_in, event_by_start, event_of, after_event, track_with_level, moved_by, moved_to, pin_form, reader_with_start, start_in_comment, took, word_at_fault}
 use Rattle.cec_pin.specs.Sampling.{Level, PinFilesAreSampled, event_in, last_time, level_by, level_of, level_reported, levels_in, or_start, start_after, time_by}
 use Rattle.cec_pin.specs.declared.line.Event.{Event}
 use Rattle.cec_pin.specs.declared.reader.Reader.{Reader}
@@ -52,7 +52,7 @@ GoesBy old (Err c) start time level = Unit {0}
 GoesBy old (Ok step) start time level = Goes old step start time level
 
 event_goes : (r : Reader) (e : Event) → GoesBy r.track (after_event (Some e) r) r.start (e.nanos - r.start) (level_reported (e.nanos - r.start) e.low)
-event_goes r e = late (nat_lt 2000000000000000 (e.nanos - r.start)) refl
+event_goes r e = by (nat_lt e.nanos r.start)
   where
     reported : (low : Option Bool) (m : Moved) → track_move (rounded (e.nanos - r.start)) r.track ≡ Some m → e.nanos - r.start ≤ 2000000000000000
         → Goes r.track (record { state = record { start = r.start; track = track_with_level low m.track }; edge = m.edge }) r.start (e.nanos - r.start) (level_reported (e.nanos - r.start) low)
@@ -84,6 +84,10 @@ event_goes r e = late (nat_lt 2000000000000000 (e.nanos - r.start)) refl
         → GoesBy r.track (moved_to (if c then None else Some (rounded (e.nanos - r.start))) e.low r) r.start (e.nanos - r.start) (level_reported (e.nanos - r.start) e.low)
     late true h = tt
     late false h = moves (track_move (rounded (e.nanos - r.start)) r.track) refl (grind (arith, nat_tests))
+
+    by : (c : Bool) → GoesBy r.track (event_by_start c e r) r.start (e.nanos - r.start) (level_reported (e.nanos - r.start) e.low)
+    by true = tt
+    by false = late (nat_lt 2000000000000000 (e.nanos - r.start)) refl
 
 line_goes : (r : Reader) (line : List ℕ) (time : ℕ) → r.track.at ≡ rounded time → r.track.at ≤ 2000000000000
     → GoesBy r.track (took line r) (start_after line r.start) (time_by r.start (event_in line) time) (level_by r.start (event_in line))

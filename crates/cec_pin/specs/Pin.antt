@@ -57,7 +57,7 @@ event_cut seconds rest = if slice_index rest 9 == 32 then event_by (nanos_of sec
 abbrev pub event_of : List ℕ → Option Event
 event_of line = event_cut (take (dot_in line) line) (drop (dot_in line + 1) line)
 
--- microseconds from the start on, rounded up, within the limit of a capture; what is before the start is at it
+-- microseconds from the start on, rounded up, within the limit of a capture
 abbrev pub instant_of : ℕ → ℕ → Option ℕ
 instant_of start nanos = if nat_lt 2000000000000000 (nanos - start) then None else Some ((nanos - start + 999) / 1000)
 
@@ -89,9 +89,14 @@ abbrev pub moved_to : Option ℕ → Option Bool → Reader → Stepped
 moved_to None low r = Err cause.Late
 moved_to (Some u) low r = moved_by (track_move u r.track) low r
 
+-- no event comes before the start
+abbrev pub event_by_start : Bool → Event → Reader → Stepped
+event_by_start true e r = Err cause.Order
+event_by_start false e r = moved_to (instant_of r.start e.nanos) e.low r
+
 abbrev pub after_event : Option Event → Reader → Stepped
 after_event None r = Err cause.Word
-after_event (Some e) r = moved_to (instant_of r.start e.nanos) e.low r
+after_event (Some e) r = event_by_start (nat_lt e.nanos r.start) e r
 
 abbrev pub reader_with_start : Option ℕ → Reader → Reader
 reader_with_start None r = r

@@ -27,7 +27,7 @@ abbrev pub level_reported : ℕ → Option Bool → Option Level
 level_reported since None = None
 level_reported since (Some low) = Some (record { since = since; low = low })
 
--- an event before the start is at it; events of other pins give no level
+-- events of other pins give no level
 abbrev pub level_by : ℕ → Option Event → Option Level
 level_by start None = None
 level_by start (Some e) = level_reported (e.nanos - start) e.low

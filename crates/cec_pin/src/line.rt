@@ -70,7 +70,7 @@ pub fn event_of(line: &[u8]) -> Option<Event>
     event_cut(before(line, dot), after(line, dot + 1))
 }
 
-/// The microseconds from the start to an event, rounded up, within the limit. An event before the start is at it.
+/// The microseconds from the start to an event that does not come before it, rounded up, within the limit.
 pub fn instant_of(start: u128, nanos: u128) -> Option<u64>
     ensures { result ≡ instant_of start nanos }
 {

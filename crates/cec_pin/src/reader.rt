@@ -1,7 +1,7 @@
 //! A reader of a file of pin events, line by line.
-ghost use Rattle.std.specs.Prelude.{◌≡◌};
+ghost use Rattle.std.specs.Prelude.{◌≡◌, Some};
 
-use crate::line::{event_of, instant_of, start_in_comment, word_at_fault};
+use crate::line::{Event, event_of, instant_of, start_in_comment, word_at_fault};
 use cec_signal::{Cause, Slip, TakesWords, Track, no_gap};
 use cec_wave::Edge;
 use hdmi_core::is_skipped;
@@ -16,7 +16,7 @@ pub struct Reader {
 
 impl Reader {
     ghost use Rattle.cec_signal.specs.Reading.{Takes};
-    ghost use Rattle.cec_pin.specs.Pin.{first_reader, moved_to, took};
+    ghost use Rattle.cec_pin.specs.Pin.{after_event, first_reader, moved_to, took};
 
     /// A reader at the front of a file.
     pub fn new() -> Self
@@ -46,6 +46,16 @@ impl Reader {
         }
     }
 
+    // An event, which comes at the start or later.
+    fn take_event(&mut self, event: Event) -> Result<Option<Edge>, Cause>
+        ensures { Takes (after_event (Some event) self.old) result self.new }
+    {
+        if event.nanos < self.start {
+            return Err(Cause::Order);
+        }
+        self.go_to(instant_of(self.start, event.nanos), event.low)
+    }
+
     // Takes the next line, and returns the edge that is known by it.
     fn take_line(&mut self, line: &[u8]) -> Result<Option<Edge>, Cause>
         ensures { Takes (took line.now self.old) result self.new }
@@ -58,7 +68,7 @@ impl Reader {
         }
         match event_of(line) {
             None => Err(Cause::Word),
-            Some(event) => self.go_to(instant_of(self.start, event.nanos), event.low),
+            Some(event) => self.take_event(event),
         }
     }
 }
