@@ -20,13 +20,15 @@ use Rattle.cec_remarks.specs.declared.counts.Count.{Count}
 use Rattle.cec_remarks.specs.declared.free.TooSoon.{TooSoon}
 use Rattle.cec_remarks.specs.declared.requests.Request.{Request}
 use Rattle.cec_remarks.specs.declared.series.Series.{Series}
-use Rattle.cec_audit.specs.Lines.{count_text, counts_text, drive_text, drive_word, failure_text, failure_word, if_late, kind_text, late_text, limit_word, misfit_line, misfit_text, misfits_text, moved_text, request_text, series_text, soon_text, spread_text, timing_text, unknown_text, widths_text}
-use Rattle.cec_remarks.specs.Attempts.{failure_of}
+use Rattle.cec_remarks.specs.declared.sources.Mention.{Mention}
+use Rattle.cec_audit.specs.Lines.{answer_text, answered_text, answers_text, claim_text, claims_text, count_text, counts_text, drive_text, drive_word, failure_text, failure_word, if_answered, if_given_up, if_late, kind_text, late_text, limit_word, misfit_line, misfit_text, misfits_text, moved_text, request_text, series_text, soon_text, spread_text, timing_text, unless_reported, widths_text}
+use Rattle.cec_remarks.specs.Attempts.{failure_of, tries_again}
 use Rattle.cec_remarks.specs.Frames.{delivered_frame, sender}
-use Rattle.cec_remarks.specs.Free.{too_soon}
-use Rattle.cec_remarks.specs.Places.{moved_from, unknown_source}
-use Rattle.cec_remarks.specs.Requests.{is_late}
+use Rattle.cec_remarks.specs.Free.{free_before, too_soon}
+use Rattle.cec_remarks.specs.Places.{moved_from}
+use Rattle.cec_remarks.specs.Requests.{is_answer, is_given_up, is_late, waited}
 use Rattle.cec_remarks.specs.Series.{series_over}
+use Rattle.cec_remarks.specs.Sources.{is_unreported}
 use Rattle.cec_timing.specs.Spreads.{no_widths, with_slots}
 use Rattle.cec_audit.specs.Audit.{Tape, after, after_all, audit_text, come_to, drive_of, first_tape, is_folded, lows_of, reading_misfits, remarks_text, summary_text, times_text, line_and_remarks, reported_all}
 use Rattle.cec_audit.proofs.Plain.{plain_codes, plain_decimal, plain_hex, plain_more, plain_nibble, plain_phys}
@@ -147,16 +149,37 @@ moved_remarks initiator None = no_remarks
 moved_remarks initiator (Some p) =
     one_remark (moved_text initiator (Some p)) (refl, refl, closed_more (nibble_text (initiator % 16)) (plain_nibble (initiator % 16)) (lit (codes " reported ") refl (closed_more (phys_text p) (plain_phys p) (lit (codes " before") refl closed))))
 
-unknown_remarks : (o : Option Phys) → AreRemarks (unknown_text o)
-unknown_remarks None = no_remarks
-unknown_remarks (Some p) = one_remark (unknown_text (Some p)) (refl, refl, lit (codes "nobody reported ") refl (closed_more (phys_text p) (plain_phys p) closed))
+unless : (b : Bool) (text : List ℕ) → AreRemarks text → AreRemarks (if b then text else [])
+unless true text h = h
+unless false text h = no_remarks
+
+claim_remark : (m : Mention) → AreRemarks (claim_text m)
+claim_remark m = one_remark (claim_text m) (refl, refl, lit (codes "nobody reported ") refl (closed_more (phys_text m.phys) (plain_phys m.phys) (lit (codes " of ") refl (dec m.since closed))))
+
+claims_remarks : (reported active : List Mention) → AreRemarks (claims_text reported active)
+claims_remarks reported [] = no_remarks
+claims_remarks reported (m ∷ ms) = more_remarks (unless (is_unreported reported m.phys) (claim_text m) (claim_remark m)) (claims_remarks reported ms)
+
+request_remark : (r : Request) → AreRemarks (request_text r)
+request_remark r =
+    one_remark (request_text r) (refl, refl, lit (codes "no answer to ") refl (closed_more (nibble_text (r.initiator % 16)) (plain_nibble (r.initiator % 16)) (lit (codes ">") refl (closed_more (nibble_text (r.destination % 16)) (plain_nibble (r.destination % 16)) (lit (codes " ") refl (closed_more (hex_text r.opcode) (plain_hex r.opcode) (lit (codes " of ") refl (dec r.since closed))))))))
 
 late_remark : (begin : ℕ) (r : Request) → AreRemarks (if_late begin r)
-late_remark begin r = by (is_late begin r)
+late_remark begin r = unless (is_late begin r) (request_text r) (request_remark r)
+
+answered_remark : (wait : ℕ) → AreRemarks (answered_text wait)
+answered_remark wait = one_remark (answered_text wait) (refl, refl, lit (codes "answered after ") refl (dec wait (lit (codes ", at most 1000000") refl closed)))
+
+answer_remark : (begin : ℕ) (frame : List ℕ) (r : Request) → AreRemarks (answer_text begin frame r)
+answer_remark begin frame r = by (is_answer frame r)
   where
-    by : (b : Bool) → AreRemarks (if b then request_text r else [])
-    by true = one_remark (request_text r) (refl, refl, lit (codes "no answer to ") refl (closed_more (nibble_text (r.initiator % 16)) (plain_nibble (r.initiator % 16)) (lit (codes ">") refl (closed_more (nibble_text (r.destination % 16)) (plain_nibble (r.destination % 16)) (lit (codes " ") refl (closed_more (hex_text r.opcode) (plain_hex r.opcode) (lit (codes " of ") refl (dec r.since closed))))))))
-    by false = no_remarks
+    by : (b : Bool) → AreRemarks (if b then if_answered begin r else if_given_up begin frame r)
+    by true = unless (is_late begin r) (answered_text (waited begin r)) (answered_remark (waited begin r))
+    by false = unless (is_given_up begin frame r) (request_text r) (request_remark r)
+
+answers_remarks : (begin : ℕ) (frame : List ℕ) (waiting : List Request) → AreRemarks (answers_text begin frame waiting)
+answers_remarks begin frame [] = no_remarks
+answers_remarks begin frame (r ∷ rs) = more_remarks (answer_remark begin frame r) (answers_remarks begin frame rs)
 
 late_remarks : (begin : ℕ) (waiting : List Request) → AreRemarks (late_text begin waiting)
 late_remarks begin [] = no_remarks
@@ -207,7 +230,9 @@ counts_remarks initiator (c ∷ counts) = more_remarks (count_remarks initiator 
 
 summary_remarks : (end : ℕ) (t : Tape) → AreRemarks (summary_text end t)
 summary_remarks end t =
-    more_remarks (more_remarks (more_remarks (one_remark (codes "  all readings\n") (refl, refl, lit (codes "all readings") refl closed)) (late_remarks end t.waiting)) (counts_remarks 0 t.counts)) (widths_remarks t.widths)
+    more_remarks
+    (more_remarks
+    (more_remarks (more_remarks (one_remark (codes "  all readings\n") (refl, refl, lit (codes "all readings") refl closed)) (late_remarks end t.waiting)) (claims_remarks t.sources.reported.items t.sources.active.items)) (counts_remarks 0 t.counts)) (widths_remarks t.widths)
 
 -- ---- below a reading
 
@@ -224,12 +249,12 @@ times t x =
     (more_remarks
     (more_remarks
     (more_remarks
-    (more_remarks (series_remarks (series_over t.series x.reported.ending)) (late_remarks x.begin t.waiting)) (soon_remarks (too_soon t.before x.reported.ending x.reported.bits (x.begin - t.place.since)))) (folded_remarks t.series x (lows_of x t.place))) (drive_remarks (drive_of x t.place))) (failure_remarks (failure_of t.attempts x.reported.bits))
+    (more_remarks (series_remarks (series_over t.series x.reported.ending)) (answers_remarks x.begin (delivered_frame x) t.waiting)) (soon_remarks (too_soon t.previous x (tries_again t.attempts x.reported.bits)))) (folded_remarks t.series x (lows_of x t.place))) (drive_remarks (drive_of x t.place))) (failure_remarks (failure_of t.attempts x.begin (free_before t.previous x.begin) x.reported.bits))
 
 below : (timing : Bool) (t : Tape) (x : Listed) → AreRemarks (remarks_text timing t x)
 below timing t x =
     more_remarks
-    (more_remarks (times t x) (more_remarks (moved_remarks (sender (delivered_frame x)) (moved_from (delivered_frame x) t.places)) (unknown_remarks (unknown_source (delivered_frame x) t.places)))) (timing_remarks timing (with_slots x.reported.ending x.reported.bits 0 (lows_of x t.place) no_widths))
+    (more_remarks (times t x) (moved_remarks (sender (delivered_frame x)) (moved_from (delivered_frame x) t.places))) (timing_remarks timing (with_slots x.reported.ending x.reported.bits 0 (lows_of x t.place) no_widths))
 
 kept_from : (timing : Bool) (t : Tape) (xs : List Listed) (end : List ℕ) → AreRemarks end → AreKept xs (reported_all timing t xs ++ end)
 kept_from timing t [] end h = h

@@ -17,7 +17,9 @@ use Rattle.cec_remarks.specs.declared.counts.Count.{Count}
 use Rattle.cec_remarks.specs.declared.free.TooSoon.{TooSoon}
 use Rattle.cec_remarks.specs.declared.requests.Request.{Request}
 use Rattle.cec_remarks.specs.declared.series.Series.{Series}
-use Rattle.cec_remarks.specs.Requests.{is_late}
+use Rattle.cec_remarks.specs.declared.sources.Mention.{Mention}
+use Rattle.cec_remarks.specs.Requests.{is_answer, is_given_up, is_late, waited}
+use Rattle.cec_remarks.specs.Sources.{is_unreported}
 
 -- bad starts in a row, folded: `  after 7 bad-start since 1000`
 abbrev pub series_text : Option Series → List ℕ
@@ -79,10 +81,16 @@ abbrev pub moved_text : ℕ → Option Phys → List ℕ
 moved_text initiator None = []
 moved_text initiator (Some phys) = concat (codes "  " ∷ nibble_text (initiator % 16) ∷ codes " reported " ∷ phys_text phys ∷ codes " before\n" ∷ [])
 
--- an active source that nobody reported: `  nobody reported 2.0.0.0`
-abbrev pub unknown_text : Option Phys → List ℕ
-unknown_text None = []
-unknown_text (Some phys) = concat (codes "  nobody reported " ∷ phys_text phys ∷ codes "\n" ∷ [])
+-- an active source that nobody reported: `  nobody reported 2.0.0.0 of 599150`
+abbrev pub claim_text : Mention → List ℕ
+claim_text m = concat (codes "  nobody reported " ∷ phys_text m.phys ∷ codes " of " ∷ decimal m.since ∷ codes "\n" ∷ [])
+
+abbrev pub unless_reported : List Mention → Mention → List ℕ
+unless_reported reported m = if is_unreported reported m.phys then claim_text m else []
+
+abbrev pub claims_text : List Mention → List Mention → List ℕ
+claims_text reported [] = []
+claims_text reported (m ∷ ms) = unless_reported reported m ++ claims_text reported ms
 
 -- ---- requests that were not answered: `  no answer to 4>0 8f of 1051150`
 
@@ -96,6 +104,23 @@ if_late begin r = if is_late begin r then request_text r else []
 abbrev pub late_text : ℕ → List Request → List ℕ
 late_text begin [] = []
 late_text begin (r ∷ rs) = if_late begin r ++ late_text begin rs
+
+-- by a frame that may answer it, in a second at most (CEC 9.2): `  answered after 1199000, at most 1000000`
+abbrev pub answered_text : ℕ → List ℕ
+answered_text wait = concat (codes "  answered after " ∷ decimal wait ∷ codes ", at most 1000000\n" ∷ [])
+
+abbrev pub if_answered : ℕ → Request → List ℕ
+if_answered begin r = if is_late begin r then answered_text (waited begin r) else []
+
+abbrev pub if_given_up : ℕ → List ℕ → Request → List ℕ
+if_given_up begin frame r = if is_given_up begin frame r then request_text r else []
+
+abbrev pub answer_text : ℕ → List ℕ → Request → List ℕ
+answer_text begin frame r = if is_answer frame r then if_answered begin r else if_given_up begin frame r
+
+abbrev pub answers_text : ℕ → List ℕ → List Request → List ℕ
+answers_text begin frame [] = []
+answers_text begin frame (r ∷ rs) = answer_text begin frame r ++ answers_text begin frame rs
 
 -- ---- widths
 

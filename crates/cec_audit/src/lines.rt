@@ -1,11 +1,11 @@
 //! The lines of remarks.
 ghost use Rattle.std.specs.Prelude.{◌≡◌, ◌+◌, ◌<◌, ◌≤◌, length};
-ghost use Rattle.cec_audit.specs.Lines.{count_text, counts_text, drive_text, drive_word, failure_text, failure_word, if_late, kind_text, late_text, limit_word, misfit_line, misfit_text, misfits_text, moved_text, series_text, soon_text, spread_text, unknown_text, widths_text};
+ghost use Rattle.cec_audit.specs.Lines.{answer_text, answers_text, answered_text, claim_text, claims_text, count_text, counts_text, drive_text, drive_word, failure_text, failure_word, if_answered, if_given_up, if_late, kind_text, late_text, limit_word, misfit_line, misfit_text, misfits_text, moved_text, request_text, series_text, soon_text, spread_text, unless_reported, widths_text};
 ghost use Rattle.cec_audit.specs.Progress.{WritesOn};
 
 use crate::progress::Progress;
 use cec_frame::Ending;
-use cec_remarks::{Count, Failure, Request, Series, TooSoon};
+use cec_remarks::{Count, Failure, Mention, Request, Series, Sources, TooSoon};
 use cec_timing::{DRIVE, Kind, Low, Misfit, Spread, Widths, low_misfit, total_misfit};
 use hdmi_core::{Phys, Piece, Sink};
 
@@ -214,28 +214,43 @@ pub(crate) fn write_moved<S: Sink>(
     );
 }
 
-pub(crate) fn write_unknown<S: Sink>(unknown: Option<Phys>, progress: &mut Progress, out: &mut S)
-    ensures { WritesOn (S.contents out.old) (S.contents out.new) (S.is_stuck out.old) (S.is_stuck out.new) (unknown_text unknown) progress.old.so_far progress.new.so_far }
+fn write_claim<S: Sink>(sources: &Sources, claim: Mention, progress: &mut Progress, out: &mut S)
+    ensures { WritesOn (S.contents out.old) (S.contents out.new) (S.is_stuck out.old) (S.is_stuck out.new) (unless_reported sources.now.reported.items claim) progress.old.so_far progress.new.so_far }
 {
-    let Some(phys) = unknown else {
+    if !sources.is_unreported(claim.phys) {
         return;
-    };
+    }
     progress.line(
         out,
         &[
             Piece::Text("  nobody reported "),
-            Piece::Phys(phys),
+            Piece::Phys(claim.phys),
+            Piece::Text(" of "),
+            Piece::Decimal(claim.since),
             Piece::Text("\n"),
         ],
     );
 }
 
-fn write_if_late<S: Sink>(begin: u64, request: Request, progress: &mut Progress, out: &mut S)
-    ensures { WritesOn (S.contents out.old) (S.contents out.new) (S.is_stuck out.old) (S.is_stuck out.new) (if_late begin request) progress.old.so_far progress.new.so_far }
+/// Writes the addresses of active sources that nobody reported.
+pub(crate) fn write_claims<S: Sink>(
+    sources: &Sources,
+    claims: &[Mention],
+    progress: &mut Progress,
+    out: &mut S,
+)
+    ensures { WritesOn (S.contents out.old) (S.contents out.new) (S.is_stuck out.old) (S.is_stuck out.new) (claims_text sources.now.reported.items claims.now) progress.old.so_far progress.new.so_far }
 {
-    if !request.is_late(begin) {
+    let [claim, claims @ ..] = claims else {
         return;
-    }
+    };
+    write_claim(sources, *claim, progress, out);
+    write_claims(sources, claims, progress, out);
+}
+
+fn write_request<S: Sink>(request: Request, progress: &mut Progress, out: &mut S)
+    ensures { WritesOn (S.contents out.old) (S.contents out.new) (S.is_stuck out.old) (S.is_stuck out.new) (request_text request) progress.old.so_far progress.new.so_far }
+{
     progress.line(
         out,
         &[
@@ -250,6 +265,86 @@ fn write_if_late<S: Sink>(begin: u64, request: Request, progress: &mut Progress,
             Piece::Text("\n"),
         ],
     );
+}
+
+fn write_if_late<S: Sink>(begin: u64, request: Request, progress: &mut Progress, out: &mut S)
+    ensures { WritesOn (S.contents out.old) (S.contents out.new) (S.is_stuck out.old) (S.is_stuck out.new) (if_late begin request) progress.old.so_far progress.new.so_far }
+{
+    if !request.is_late(begin) {
+        return;
+    }
+    write_request(request, progress, out);
+}
+
+fn write_if_given_up<S: Sink>(
+    begin: u64,
+    frame: &[u8],
+    request: Request,
+    progress: &mut Progress,
+    out: &mut S,
+)
+    ensures { WritesOn (S.contents out.old) (S.contents out.new) (S.is_stuck out.old) (S.is_stuck out.new) (if_given_up begin frame.now request) progress.old.so_far progress.new.so_far }
+{
+    if !request.is_given_up(begin, frame) {
+        return;
+    }
+    write_request(request, progress, out);
+}
+
+fn write_answered<S: Sink>(wait: u64, progress: &mut Progress, out: &mut S)
+    ensures { WritesOn (S.contents out.old) (S.contents out.new) (S.is_stuck out.old) (S.is_stuck out.new) (answered_text wait) progress.old.so_far progress.new.so_far }
+{
+    progress.line(
+        out,
+        &[
+            Piece::Text("  answered after "),
+            Piece::Decimal(wait),
+            Piece::Text(", at most 1000000\n"),
+        ],
+    );
+}
+
+fn write_if_answered<S: Sink>(begin: u64, request: Request, progress: &mut Progress, out: &mut S)
+    ensures { WritesOn (S.contents out.old) (S.contents out.new) (S.is_stuck out.old) (S.is_stuck out.new) (if_answered begin request) progress.old.so_far progress.new.so_far }
+{
+    if !request.is_late(begin) {
+        return;
+    }
+    write_answered(request.waited(begin), progress, out);
+}
+
+fn write_answer<S: Sink>(
+    begin: u64,
+    frame: &[u8],
+    request: Request,
+    progress: &mut Progress,
+    out: &mut S,
+)
+    ensures { WritesOn (S.contents out.old) (S.contents out.new) (S.is_stuck out.old) (S.is_stuck out.new) (answer_text begin frame.now request) progress.old.so_far progress.new.so_far }
+{
+    if request.is_answer(frame) {
+        write_if_answered(begin, request, progress, out);
+        return;
+    }
+    write_if_given_up(begin, frame, request, progress, out);
+}
+
+/// Writes which requests a frame answers too late, and which stay without an answer, of those that wait when its reading
+/// begins.
+pub(crate) fn write_answers<S: Sink>(
+    begin: u64,
+    frame: &[u8],
+    waiting: &[Request],
+    progress: &mut Progress,
+    out: &mut S,
+)
+    ensures { WritesOn (S.contents out.old) (S.contents out.new) (S.is_stuck out.old) (S.is_stuck out.new) (answers_text begin frame.now waiting.now) progress.old.so_far progress.new.so_far }
+{
+    let [request, waiting @ ..] = waiting else {
+        return;
+    };
+    write_answer(begin, frame, *request, progress, out);
+    write_answers(begin, frame, waiting, progress, out);
 }
 
 /// Writes the requests that have waited for more than a second at an instant.

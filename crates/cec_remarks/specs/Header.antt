@@ -26,6 +26,10 @@ is_to_all bits = destination_of bits == 15
 abbrev pub goes_on : List Bool → Bool
 goes_on bits = nat_lt 8 (length bits) && not (slice_index_or bits 8 false)
 
+-- a header alone, by which a device is polled: its end-of-message bit was read 1
+abbrev pub is_poll : List Bool → Bool
+is_poll bits = slice_index_or bits 8 false
+
 -- A poll of its own address asks whether anybody has it: nobody is to acknowledge it (CEC 10.2.1). A header that is cut off
 -- before its end-of-message bit may be one (own); what goes on after its header is none.
 abbrev pub seeks_address : List Bool → Bool

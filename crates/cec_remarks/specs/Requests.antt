@@ -1,6 +1,6 @@
 -- Requests and what answers them (CEC 13, the messages of each feature; CEC 9.2: an answer comes within a second of the
 -- request; CEC 12.3: a device may answer a direct message by Feature Abort).
-use Rattle.std.specs.Prelude.{ℕ, ◌==◌, Bool, not, nat_lt, ◌&&◌, ◌||◌, if◌then◌else◌, List, [], ◌∷◌, ◌++◌, length, slice_index, Option, Some, None}
+use Rattle.std.specs.Prelude.{ℕ, ◌-◌, ◌==◌, Bool, not, nat_lt, ◌&&◌, ◌||◌, if◌then◌else◌, List, [], ◌∷◌, ◌++◌, length, slice_index, Option, Some, None}
 use Rattle.cec_timing.specs.Spreads.{sum_of}
 use Rattle.cec_remarks.specs.declared.requests.Request.{Request}
 use Rattle.cec_remarks.specs.Frames.{opcode_of, receiver, sender}
@@ -44,6 +44,16 @@ is_answer frame r = not (nat_lt (length frame) 2) && ((sender frame == r.destina
 abbrev pub is_late : ℕ → Request → Bool
 is_late begin r = nat_lt (sum_of r.since 1000000) begin
 
+abbrev pub waited : ℕ → Request → ℕ
+waited begin r = begin - r.since
+
+-- A late answer is looked for until five seconds have passed, or until the same is asked again (own).
+abbrev pub asks_again : List ℕ → Request → Bool
+asks_again frame r = not (nat_lt (length frame) 2) && ((sender frame == r.initiator) && ((receiver frame == r.destination) && (opcode_of frame == r.opcode)))
+
+abbrev pub is_given_up : ℕ → List ℕ → Request → Bool
+is_given_up begin frame r = nat_lt (sum_of r.since 5000000) begin || (is_late begin r && asks_again frame r)
+
 -- ---- the requests that wait for an answer
 
 abbrev pub unless_over : Bool → Request → List Request
@@ -51,7 +61,7 @@ unless_over over r = if over then [] else r ∷ []
 
 -- after a reading that begins then, by the frame that it delivered
 abbrev pub is_over : ℕ → List ℕ → Request → Bool
-is_over begin frame r = is_late begin r || is_answer frame r
+is_over begin frame r = is_answer frame r || is_given_up begin frame r
 
 abbrev pub left_waiting : ℕ → List ℕ → List Request → List Request
 left_waiting begin frame [] = []

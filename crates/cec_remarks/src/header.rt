@@ -2,7 +2,7 @@
 ghost use Rattle.std.specs.Prelude.{◌≡◌, ◌+◌, ◌*◌, ◌<◌, ◌≤◌, length, false, slice_index_or};
 ghost use Rattle.cec_frame.specs.Blocks.{bit_value};
 ghost use Rattle.cec_text.specs.ReadingText.{is_complete};
-ghost use Rattle.cec_remarks.specs.Header.{destination_of, failed_block, goes_on, initiator_of, is_delivered, is_taken, is_to_all, nibble_at, seeks_address};
+ghost use Rattle.cec_remarks.specs.Header.{destination_of, failed_block, goes_on, initiator_of, is_delivered, is_poll, is_taken, is_to_all, nibble_at, seeks_address};
 
 use cec_frame::{Addr, Ending};
 
@@ -62,6 +62,13 @@ fn goes_on(bits: &[bool]) -> bool
     ensures { result ≡ goes_on bits.now }
 {
     bits.len() > HEADER && !bit_at(bits, HEADER)
+}
+
+/// Whether it is a header alone: its end-of-message bit was read 1 (CEC 6.1.2).
+pub(crate) fn is_poll(bits: &[bool]) -> bool
+    ensures { result ≡ is_poll bits.now }
+{
+    bit_at(bits, HEADER)
 }
 
 /// Whether it polls its own address (CEC 10.2.1).

@@ -11,11 +11,13 @@ mod header;
 mod places;
 mod requests;
 mod series;
+mod sources;
 
 pub use attempts::{Attempts, Failure};
 pub use counts::{Count, Counts, count_reading, no_counts};
 pub use frames::{delivered_frame, sender};
-pub use free::{Before, TooSoon, is_bad_start};
-pub use places::{Places, moved_from, no_places, note_report, unknown_source};
+pub use free::{Previous, TooSoon, is_bad_start};
+pub use places::{Places, moved_from, no_places, note_report};
 pub use requests::{Request, WAITING, Waiting, after_frame};
 pub use series::Series;
+pub use sources::{Mention, Sources};

@@ -1,7 +1,7 @@
 //! Requests that wait for an answer.
 ghost use Rattle.std.specs.Prelude.{◌≡◌, ◌+◌, ◌≤◌, ◌<◌, ◌++◌, length};
 ghost use Rattle.cec_remarks.specs.Frames.{opcode_of, receiver, sender};
-ghost use Rattle.cec_remarks.specs.Requests.{after_frame, answer_to, is_answer, is_late, is_over, left_waiting, reaches, refuses, request_of, unless_over, with_request};
+ghost use Rattle.cec_remarks.specs.Requests.{after_frame, answer_to, asks_again, is_answer, is_given_up, is_late, is_over, left_waiting, reaches, refuses, request_of, unless_over, waited, with_request};
 
 use crate::frames::{opcode_of, receiver, sender};
 use arrayvec::ArrayVec;
@@ -10,6 +10,9 @@ use hdmi_core::byte_at;
 
 /// The longest time in which an answer comes (CEC 9.2), in microseconds.
 const ANSWER: u64 = 1_000_000;
+
+/// How long an answer that is late is looked for, in microseconds.
+const PATIENCE: u64 = 5_000_000;
 
 /// The opcode of Feature Abort (CEC 12.3).
 const FEATURE_ABORT: u8 = 0x00;
@@ -87,8 +90,8 @@ impl Request {
             && byte_at(frame, 2) == self.opcode
     }
 
-    // Whether a frame answers it.
-    fn is_answer(self, frame: &[u8]) -> bool
+    /// Whether a frame answers it.
+    pub fn is_answer(self, frame: &[u8]) -> bool
         ensures { result ≡ is_answer frame.now self }
     {
         if frame.len() < 2 || sender(frame) != self.destination {
@@ -104,10 +107,34 @@ impl Request {
         self.since.saturating_add(ANSWER) < begin
     }
 
+    /// How long it had waited by an instant, in microseconds.
+    pub fn waited(self, begin: u64) -> u64
+        ensures { result ≡ waited begin self }
+    {
+        begin.saturating_sub(self.since)
+    }
+
+    fn asks_again(self, frame: &[u8]) -> bool
+        ensures { result ≡ asks_again frame.now self }
+    {
+        frame.len() >= 2
+            && sender(frame) == self.initiator
+            && receiver(frame) == self.destination
+            && opcode_of(frame) == self.opcode
+    }
+
+    /// Whether it stays without an answer: five seconds have passed by an instant, or more than one, and it is asked again.
+    pub fn is_given_up(self, begin: u64, frame: &[u8]) -> bool
+        ensures { result ≡ is_given_up begin frame.now self }
+    {
+        self.since.saturating_add(PATIENCE) < begin
+            || (self.is_late(begin) && self.asks_again(frame))
+    }
+
     fn is_over(self, begin: u64, frame: &[u8]) -> bool
         ensures { result ≡ is_over begin frame.now self }
     {
-        self.is_late(begin) || self.is_answer(frame)
+        self.is_answer(frame) || self.is_given_up(begin, frame)
     }
 }
 

@@ -62,10 +62,10 @@ abbrev AreBefore : ℕ → List Edge → Type 0
 AreBefore t [] = Unit {0}
 AreBefore t (e ∷ es) = (e.at < t) × AreBefore t es
 
-passed : (t since : ℕ) (old more : List Edge) → AreBefore t old → Later t more → (gone_to t since (old ++ more)).edges ≡ more
-passed t since [] [] h l = refl
-passed t since [] (e ∷ more) h l = let k : t ≤ e.at = l in let x : nat_lt e.at t ≡ false = grind (arith, nat_tests) in rw x refl
-passed t since (e ∷ old) more h l = let a : e.at < t = h.0 in let x : nat_lt e.at t ≡ true = grind (arith, nat_tests) in rw x (passed t e.at old more h.1 l)
+passed : (t : ℕ) (old more : List Edge) → AreBefore t old → Later t more → gone_to t (old ++ more) ≡ more
+passed t [] [] h l = refl
+passed t [] (e ∷ more) h l = let k : t ≤ e.at = l in let x : nat_lt e.at t ≡ false = grind (arith, nat_tests) in rw x refl
+passed t (e ∷ old) more h l = let a : e.at < t = h.0 in let x : nat_lt e.at t ≡ true = grind (arith, nat_tests) in rw x (passed t old more h.1 l)
 
 slots_before : (t fall : ℕ) (bits : List Bool) → fall + 2400 * length bits ≤ t → AreBefore t (edges_of (slot_stretches fall bits))
 slots_before t fall [] h = tt
@@ -138,17 +138,17 @@ old_before o (p ∷ os) h =
     subst (λ (w : List Stretch). AreBefore p.reading.begin (edges_of w)) (sym h.0.wave)
     (let l : o.reading.begin + 9300 + 2400 * length o.reading.bits.items ≤ p.reading.begin = h.1.0 in sender_before p.reading.begin o.reading.begin o.reading.bits.items (omega (arith, l)))
 
-pub rounds_in_time : (os : List Outcome) → AreTimed os → (t : Tape) (old : List Edge) → t.place.edges ≡ old ++ edges_of (run_wave os) → OldBefore old os → AreInTime t (map outcome_listed os)
+pub rounds_in_time : (os : List Outcome) → AreTimed os → (t : Tape) (old : List Edge) → t.place ≡ old ++ edges_of (run_wave os) → OldBefore old os → AreInTime t (map outcome_listed os)
 rounds_in_time [] h t old left past = tt
 rounds_in_time (o ∷ os) h t old left past = (
-  unfolded (is_folded t.series o.reading.ending) _ (round_remarks o os h (come_to (outcome_listed o) t).place.edges here),
+  unfolded (is_folded t.series o.reading.ending) _ (round_remarks o os h (come_to (outcome_listed o) t).place here),
   rounds_in_time os h.2 (after (outcome_listed o) t) (edges_of o.wave) here (old_before o os h),
 )
   where
-    here : (come_to (outcome_listed o) t).place.edges ≡ edges_of o.wave ++ edges_of (run_wave os)
+    here : (come_to (outcome_listed o) t).place ≡ edges_of o.wave ++ edges_of (run_wave os)
     here =
-        ap (λ (es : List Edge). (gone_to o.reading.begin t.place.since es).edges) left
-        ∙ passed o.reading.begin t.place.since old (edges_of (run_wave (o ∷ os))) past (first_edge o.reading.begin (o ∷ os) h (omega arith))
+        ap (λ (es : List Edge). gone_to o.reading.begin es) left
+        ∙ passed o.reading.begin old (edges_of (run_wave (o ∷ os))) past (first_edge o.reading.begin (o ∷ os) h (omega arith))
         ∙ edges_more o.wave (run_wave os)
 
 -- ---- a run
