@@ -109,7 +109,7 @@ const WIDTHS: &[Case] = &[
 const ATTEMPTS: &[Case] = &[
     (
         "@100000 S 0 1 0 0 0 0 0 0 0 1 @133300 S 0 1 0 0 0 0 0 0 0 1 @166600 S 0 1 0 0 0 0 0 0 0 1 @199900 S 0 1 0 0 0 0 0 0 0 1 @233200 S 0 1 0 0 0 0 0 0 0 1 @266500 S 0 1 0 0 0 0 0 0 0 1 @299800 S 0 1 0 0 0 0 0 0 0 1",
-        "100000 128851 silent 0100000001\n  block 1 not acknowledged, attempt 1\n133300 162151 silent 0100000001\n  block 1 not acknowledged, attempt 2\n166600 195451 silent 0100000001\n  block 1 not acknowledged, attempt 3\n199900 228751 silent 0100000001\n  block 1 not acknowledged, attempt 4\n233200 262051 silent 0100000001\n  block 1 not acknowledged, attempt 5\n266500 295351 silent 0100000001\n  block 1 not acknowledged, attempt 6\n299800 328651 silent 0100000001\n  block 1 not acknowledged, attempt 7 of at most 6\n",
+        "100000 128851 silent 0100000001\n  read 4>0\n  block 1 not acknowledged, attempt 1\n133300 162151 silent 0100000001\n  read 4>0\n  block 1 not acknowledged, attempt 2\n166600 195451 silent 0100000001\n  read 4>0\n  block 1 not acknowledged, attempt 3\n199900 228751 silent 0100000001\n  read 4>0\n  block 1 not acknowledged, attempt 4\n233200 262051 silent 0100000001\n  read 4>0\n  block 1 not acknowledged, attempt 5\n266500 295351 silent 0100000001\n  read 4>0\n  block 1 not acknowledged, attempt 6\n299800 328651 silent 0100000001\n  read 4>0\n  block 1 not acknowledged, attempt 7 of at most 6\n",
     ),
     (
         "@100000 S 0 1 0 0 0 0 0 0 1 1 @200000 S 0 1 0 0 0 0 0 0 1 0 @300000 S 0 1 0 0 0 0 0 0 1 1",
@@ -134,7 +134,7 @@ const ATTEMPTS: &[Case] = &[
     ),
     (
         "@100000 S 0 1 0 0 0 1 0 0 0 1",
-        "100000 128851 silent 0100010001\n  block 1 not acknowledged, attempt 1\n",
+        "100000 128851 silent 0100010001\n  read 4>4\n  block 1 not acknowledged, attempt 1\n",
     ),
     // a header that breaks before its end-of-message bit may be a poll
     (
@@ -144,27 +144,27 @@ const ATTEMPTS: &[Case] = &[
     // the frame that is sent again gets further, and is then another one
     (
         "@100000 S 0 1 0 0 0 0 0 0 0 1 @133300 S 0 1 0 0 0 0 0 0 0 0 0 0 0 0 0 1 0 0 1 1 @190600 S 0 1 0 0 0 0 0 0 0 0 0 0 0 0 1 1 0 1 1 1",
-        "100000 128851 silent 0100000001\n  block 1 not acknowledged, attempt 1\n133300 184450 complete 4>0 image-view-on nack\n  block 2 not acknowledged, attempt 2\n190600 241750 complete 4>0 text-view-on nack\n  block 2 not acknowledged, attempt 1\n",
+        "100000 128851 silent 0100000001\n  read 4>0\n  block 1 not acknowledged, attempt 1\n133300 184450 complete 4>0 image-view-on nack\n  block 2 not acknowledged, attempt 2\n190600 241750 complete 4>0 text-view-on nack\n  block 2 not acknowledged, attempt 1\n",
     ),
     // a frame that broke is sent again
     (
         "@100000 S 0 1 0 0 0 0 0 0 0 0 1 @138100 S 0 1 0 0 0 0 0 0 0 1",
-        "100000 131251 silent 01000000001\n138100 166951 silent 0100000001\n  block 1 not acknowledged, attempt 2\n",
+        "100000 131251 silent 01000000001\n  read 4>0\n138100 166951 silent 0100000001\n  read 4>0\n  block 1 not acknowledged, attempt 2\n",
     ),
     // another initiator sends between two attempts
     (
         "@100000 S 0 1 0 0 0 0 0 0 0 1 @133300 =80 @166600 S 0 1 0 0 0 0 0 0 0 1",
-        "100000 128851 silent 0100000001\n  block 1 not acknowledged, attempt 1\n133300 160450 complete 8>0 ack\n166600 195451 silent 0100000001\n  block 1 not acknowledged, attempt 2\n",
+        "100000 128851 silent 0100000001\n  read 4>0\n  block 1 not acknowledged, attempt 1\n133300 160450 complete 8>0 ack\n166600 195451 silent 0100000001\n  read 4>0\n  block 1 not acknowledged, attempt 2\n",
     ),
     // the line was free for a microsecond less than five bit periods, and for five
     (
         "@100000 S 0 1 0 0 0 0 0 0 0 1 @138099 S 0 1 0 0 0 0 0 0 0 1 @176199 S 0 1 0 0 0 0 0 0 0 1",
-        "100000 128851 silent 0100000001\n  block 1 not acknowledged, attempt 1\n138099 166950 silent 0100000001\n  block 1 not acknowledged, attempt 2\n176199 205050 silent 0100000001\n  block 1 not acknowledged, attempt 1\n",
+        "100000 128851 silent 0100000001\n  read 4>0\n  block 1 not acknowledged, attempt 1\n138099 166950 silent 0100000001\n  read 4>0\n  block 1 not acknowledged, attempt 2\n176199 205050 silent 0100000001\n  read 4>0\n  block 1 not acknowledged, attempt 1\n",
     ),
     // so it was before another initiator's frame
     (
         "@100000 S 0 1 0 0 0 0 0 0 0 1 @138100 =80 @171400 S 0 1 0 0 0 0 0 0 0 1",
-        "100000 128851 silent 0100000001\n  block 1 not acknowledged, attempt 1\n138100 165250 complete 8>0 ack\n171400 200251 silent 0100000001\n  block 1 not acknowledged, attempt 1\n",
+        "100000 128851 silent 0100000001\n  read 4>0\n  block 1 not acknowledged, attempt 1\n138100 165250 complete 8>0 ack\n171400 200251 silent 0100000001\n  read 4>0\n  block 1 not acknowledged, attempt 1\n",
     ),
 ];
 
@@ -305,33 +305,145 @@ const REQUESTS: &[Case] = &[
     ),
     // asked by another device, of another device, and for something else, it is not asked again
     (
-        "@100000 =408f @1200000 =508f @1300000 =458f @1400000 =4046 @1500000 =040090",
-        "100000 151150 complete 4>0 give-device-power-status ack\n1200000 1251150 complete 5>0 give-device-power-status ack\n1300000 1351150 complete 4>5 give-device-power-status ack\n1400000 1451150 complete 4>0 give-osd-name ack\n1500000 1575150 complete 0>4 feature-abort :90 ack\n",
+        "@100000 =408f @1200000 =508f @1300000 =458f @1400000 =4046 @1500000 =04009000",
+        "100000 151150 complete 4>0 give-device-power-status ack\n1200000 1251150 complete 5>0 give-device-power-status ack\n1300000 1351150 complete 4>5 give-device-power-status ack\n1400000 1451150 complete 4>0 give-osd-name ack\n1500000 1599150 complete 0>4 feature-abort 90 unrecognized ack\n",
     ),
 ];
 
 /// Each request that is known and its answer (CEC 13): Give OSD Name, System Audio Mode Request, Give Audio Status, Give System
 /// Audio Mode Status, Give Physical Address, Give Device Vendor ID, Menu Request, Give Device Power Status, Get Menu Language,
 /// Get CEC Version. Answers to one device, and to all.
-const ANSWERS: &[(&str, &str)] = &[
-    ("46", "0447"),
-    ("70", "0f72"),
-    ("71", "047a"),
-    ("7d", "047e"),
-    ("83", "0f84"),
-    ("8c", "0f87"),
-    ("8d", "048e"),
-    ("8f", "0490"),
-    ("91", "0f32"),
-    ("9f", "049e"),
+const ANSWERS: &[(&str, &str, &str)] = &[
+    ("46", "", "044741"),
+    ("70", "", "0f7201"),
+    ("71", "", "047a32"),
+    ("7d", "", "047e01"),
+    ("83", "", "0f84000000"),
+    ("8c", "", "0f87000001"),
+    ("8d", "00", "048e00"),
+    ("8f", "", "049000"),
+    ("91", "", "0f32656e67"),
+    ("9f", "", "049e05"),
 ];
 
 /// What is no answer to Give Device Power Status from 4 to 0: an answer from another device, to another one, to another
 /// request, a Feature Abort of another opcode, from another device, to another one, and a header alone.
-const NO_ANSWERS: &[&str] = &["5490", "0590", "0447", "040046", "54008f", "05008f", "04"];
+const NO_ANSWERS: &[&str] = &[
+    "549000", "059000", "044741", "04004600", "54008f00", "05008f00", "04",
+];
 
-/// What is no request, or has no answer: a frame to all, a header alone, Image View On.
-const NO_REQUESTS: &[&str] = &["4f8f", "40", "4004"];
+/// What is no request, or has no answer: from an unregistered device, a header alone, Image View On, Give Features, CDC Message,
+/// Set Audio Volume Level.
+const NO_REQUESTS: &[&str] = &["f08f", "f0ff", "40", "4004", "40a5", "40f8", "407301"];
+
+/// What is to be refused: Abort, and opcodes that no version of the standard has, at the borders of those that later ones have.
+const REFUSED: &[&str] = &["ff", "11", "a4", "a9", "f7", "f9"];
+
+/// How messages come, and how many operands they have.
+const MESSAGES: &[(&str, &str)] = &[
+    ("40821000", "  to one device, only for all|"),
+    ("4f821000", ""),
+    ("4f04", "  to all, only for one device|"),
+    ("4004", ""),
+    ("4036", ""),
+    ("4f36", ""),
+    ("0f9000", ""),
+    ("049000", ""),
+    ("4f8f", "  to all, only for one device|"),
+    ("4f84", "  operands 0, at least 3|"),
+    ("4f841000", "  operands 2, at least 3|"),
+    ("4f84100004", ""),
+    ("4f8410000400", ""),
+    ("4070", ""),
+    ("40701000", ""),
+    ("4089", ""),
+    ("4f40", ""),
+    (
+        "408210",
+        "  to one device, only for all|  operands 1, at least 2|",
+    ),
+];
+
+/// Low drives that begin while the line is low, at their borders; not in a start bit.
+const DRIVES: &[Case] = &[
+    (
+        "@100000 S 0 3359/900",
+        "100000 109651 silent 00\n  slot 2 block 1 bit 2 low 3359 not 1300..1700\n",
+    ),
+    (
+        "@100000 S 0 3360/900",
+        "100000 109651 silent 00\n  slot 2 block 1 bit 2 low 3360 not 1300..1700\n  low drive for 3360\n",
+    ),
+    (
+        "@100000 S 0 5540/900",
+        "100000 109651 silent 00\n  slot 2 block 1 bit 2 low 5540 not 1300..1700\n  low drive for 5540\n",
+    ),
+    (
+        "@100000 S 0 5541/900",
+        "100000 109651 silent 00\n  slot 2 block 1 bit 2 low 5541 not 1300..1700\n",
+    ),
+    (
+        "@100000 S 0 1 0 0 0 0 0 0 1 3700/900",
+        "100000 127150 complete 4>0 ack\n  slot 10 block 1 bit 10 low 3700 not 1300..1700\n  low drive for 3700\n",
+    ),
+    (
+        "@100000 3950/900",
+        "100000 103901 bad-start -\n  start low 3950 not 3500..3900\n",
+    ),
+];
+
+/// What is read of frames that end after whole blocks: header and opcode, named or not; and what the standard calls what is left
+/// as bytes.
+const NOTES: &[Case] = &[
+    (
+        "@100000 S 0 0 0 0 1 0 0 0 0 1",
+        "100000 128851 silent 0000100001\n  read 0>8\n  block 1 not acknowledged, attempt 1\n",
+    ),
+    (
+        "@100000 S 0 1 0 0 1 1 1 1 0 1 0 0 1 1 0 1 1 0 0 1 0",
+        "100000 155251 silent 010011110100110110010\n  read 4>f standby\n",
+    ),
+    (
+        "@100000 S 0 1 0 0 0 0 0 0 0 0 1 0 1 0 0 1 0 1 0 0 1",
+        "100000 155251 silent 010000000010100101001\n  read 4>0 op-a5\n",
+    ),
+    (
+        "@100000 S 0 1 0 0 0 0 0 0 0",
+        "100000 126451 silent 010000000\n",
+    ),
+    (
+        "@100000 =40a5",
+        "100000 151150 complete 4>0 op-a5 : ack\n  # give-features\n",
+    ),
+    (
+        "@100000 =049002",
+        "100000 175150 complete 0>4 report-power-status :02 ack\n  # standby-to-on\n",
+    ),
+];
+
+/// Frames that break off after a whole block that was taken, in one, after one that was not, and by a low drive.
+const UNFINISHED: &[Case] = &[
+    (
+        "@100000 S 0 1 0 0 0 0 0 0 0 0",
+        "100000 128851 silent 0100000000\n  read 4>0\n  ends after block 1 without EOM\n",
+    ),
+    (
+        "@100000 S 0 1 0 0 1 1 1 1 0 1 0 0 1 1 0 1 1 0 0 1",
+        "100000 152851 silent 01001111010011011001\n  read 4>f standby\n  ends after block 2 without EOM\n",
+    ),
+    (
+        "@100000 S 0 1 0 0 0 0 0 0 0 0 0",
+        "100000 131251 silent 01000000000\n  read 4>0\n",
+    ),
+    (
+        "@100000 S 0 1 0 0 0 0 0 0 0 1",
+        "100000 128851 silent 0100000001\n  read 4>0\n  block 1 not acknowledged, attempt 1\n",
+    ),
+    (
+        "@100000 S 0 1 0 0 0 0 0 0 0 3700/900",
+        "100000 128851 silent 0100000000\n  read 4>0\n  slot 10 block 1 bit 10 low 3700 not 1300..1700\n  low drive for 3700\n",
+    ),
+];
 
 /// Report Physical Address of 1.0.0.0 and then of 2.0.0.0 from 4, and Active Source of 2.0.0.0 and of 3.0.0.0, which nobody
 /// reports up to the end.
@@ -354,7 +466,10 @@ const PLACES: &[(&str, &str)] = &[
     ),
     ("@100000 =ff84100004 @300000 =ff84200004", ""),
     ("@100000 =ff84100004 @300000 =4f821000", ""),
-    ("@100000 =4f8410 @300000 =4f84200004", ""),
+    (
+        "@100000 =4f8410 @300000 =4f84200004",
+        "  operands 1, at least 3|",
+    ),
 ];
 
 /// Active sources, and who reports their addresses, before or after: once each is remarked that nobody reports.
@@ -401,6 +516,11 @@ fn remarks(rt: &(impl Abort + AllocGlobal), case: &Case) {
     assert_eq!(rt; before, case.1);
 }
 
+/// What was read, in words.
+fn is_note(line: &str) -> bool {
+    line.starts_with("  read ") || line.starts_with("  # ")
+}
+
 /// The remarks alone, before the summary, each ended by `|`.
 fn remarked(rt: &(impl Abort + AllocGlobal), words: &str) -> String {
     let text = audited(rt, words, false);
@@ -409,7 +529,7 @@ fn remarked(rt: &(impl Abort + AllocGlobal), words: &str) -> String {
         if line == "  all readings" {
             break;
         }
-        if line.starts_with("  ") {
+        if line.starts_with("  ") && !is_note(line) {
             lines.push_str(line).ok().expect(rt, "a line");
             lines.push_str("|").ok().expect(rt, "a line");
         }
@@ -444,10 +564,15 @@ fn after_request(rt: &(impl Abort + AllocGlobal), request: &str, frame: &str) ->
 
 #[test]
 fn answers(rt: HostRuntime) {
-    for (request, answer) in ANSWERS {
-        let asked = format!(in rt.alloc(); "40{request}").expect(&rt, "a frame");
-        let aborted = format!(in rt.alloc(); "0400{request}").expect(&rt, "a frame");
-        let want = format!(in rt.alloc(); "  no answer to 4>0 {request} of 151150|").expect(
+    for (request, operands, answer) in ANSWERS {
+        let asked = format!(in rt.alloc(); "40{request}{operands}").expect(&rt, "a frame");
+        let aborted = format!(in rt.alloc(); "0400{request}00").expect(&rt, "a frame");
+        let end = if operands.is_empty() {
+            151_150
+        } else {
+            175_150
+        };
+        let want = format!(in rt.alloc(); "  no answer to 4>0 {request} of {end}|").expect(
             &rt, "a line",
         );
         assert_eq!(rt; after_request(&rt, asked.as_str(), answer).as_str(), "");
@@ -460,6 +585,66 @@ fn answers(rt: HostRuntime) {
             want.as_str()
         );
     }
+}
+
+#[test]
+fn refusals(rt: HostRuntime) {
+    for opcode in REFUSED {
+        let asked = format!(in rt.alloc(); "40{opcode}").expect(&rt, "a frame");
+        let aborted = format!(in rt.alloc(); "0400{opcode}00").expect(&rt, "a frame");
+        let want = format!(in rt.alloc(); "  no answer to 4>0 {opcode} of 151150|").expect(
+            &rt, "a line",
+        );
+        assert_eq!(rt;
+            after_request(&rt, asked.as_str(), aborted.as_str()).as_str(),
+            ""
+        );
+        assert_eq!(rt;
+            after_request(&rt, asked.as_str(), "049000").as_str(),
+            want.as_str()
+        );
+    }
+}
+
+#[test]
+fn messages(rt: HostRuntime) {
+    for (frame, want) in MESSAGES {
+        let words = format!(in rt.alloc(); "@100000 ={frame}").expect(&rt, "words");
+        let reported = remarked(&rt, words.as_str());
+        assert_eq!(rt; reported.as_str(), *want);
+    }
+}
+
+#[test]
+fn drives(rt: HostRuntime) {
+    for case in DRIVES {
+        remarks(&rt, case);
+    }
+}
+
+#[test]
+fn notes(rt: HostRuntime) {
+    for case in NOTES {
+        remarks(&rt, case);
+    }
+}
+
+#[test]
+fn unfinished(rt: HostRuntime) {
+    for case in UNFINISHED {
+        remarks(&rt, case);
+    }
+    let mut words = String::from_str(rt.alloc(), "@100000 S").expect(&rt, "words");
+    for _ in 0..16 {
+        words
+            .push_str(" 0 1 0 0 0 0 0 0 0 0")
+            .ok()
+            .expect(&rt, "words");
+    }
+    assert_eq!(rt;
+        remarked(&rt, words.as_str()).as_str(),
+        "  ends after block 16 without EOM|"
+    );
 }
 
 #[test]
@@ -674,7 +859,9 @@ fn bad_starts(rt: HostRuntime) {
 /// The lines that do not begin with a space are those that a monitor writes of the same line's edge file.
 #[test]
 fn keeps_readings(rt: HostRuntime) {
-    for cases in [WIDTHS, ATTEMPTS, FREE, SERIES, REQUESTS, ADDRESSES] {
+    for cases in [
+        WIDTHS, ATTEMPTS, FREE, SERIES, REQUESTS, ADDRESSES, DRIVES, UNFINISHED, NOTES,
+    ] {
         for case in cases {
             keeps(&rt, case);
         }

@@ -10,9 +10,11 @@ use Rattle.cec_signal.specs.Edges.{Captured, line_of_edges}
 use Rattle.cec_timing.specs.declared.low.Low.{Low}
 use Rattle.cec_timing.specs.declared.spread.Widths.{Widths}
 use Rattle.cec_timing.specs.Lows.{first_low, gone_to, lows_before, place_of}
-use Rattle.cec_timing.specs.Misfits.{low_drive}
+use Rattle.cec_timing.specs.Misfits.{drive_within, low_drive}
 use Rattle.cec_timing.specs.Spreads.{no_widths, sum_of, with_slots}
-use Rattle.cec_mon.specs.Watch.{listed_line}
+use Rattle.cec_frame.specs.Blocks.{frame_in}
+use Rattle.cec_dis.specs.Remark.{remark}
+use Rattle.cec_mon.specs.Watch.{listed_line, reading_as}
 use Rattle.cec_remarks.specs.declared.attempts.Attempts.{Attempts}
 use Rattle.cec_audit.specs.declared.auditor.Auditor.{Auditor}
 use Rattle.cec_remarks.specs.declared.counts.Count.{Count}
@@ -24,7 +26,9 @@ use Rattle.cec_remarks.specs.Attempts.{after_attempt, failure_of, no_attempts, t
 use Rattle.cec_remarks.specs.Counts.{no_counts, with_reading}
 use Rattle.cec_remarks.specs.Frames.{delivered_frame, sender}
 use Rattle.cec_remarks.specs.Free.{free_before, is_bad_start, no_previous, previous_with, too_soon}
-use Rattle.cec_audit.specs.Lines.{answers_text, claims_text, counts_text, drive_text, failure_text, late_text, misfits_text, moved_text, series_text, soon_text, timing_text, widths_text}
+use Rattle.cec_audit.specs.Lines.{answers_text, claims_text, counts_text, drive_text, failure_text, head_text, late_text, misfits_text, missing_text, moved_text, named_text, receivers_text, series_text, soon_text, timing_text, unfinished_text, widths_text, within_text}
+use Rattle.cec_remarks.specs.Header.{head_read, unfinished}
+use Rattle.cec_remarks.specs.Messages.{missed_receivers, missing_operands}
 use Rattle.cec_remarks.specs.Places.{moved_from, no_places, with_places}
 use Rattle.cec_remarks.specs.Requests.{after_frame}
 use Rattle.cec_remarks.specs.Series.{after_start, no_series, series_over}
@@ -79,21 +83,42 @@ drive_by ending (Some low) = low_drive ending low
 abbrev pub drive_of : Listed → List Edge → Option ℕ
 drive_of x edges = drive_by x.reported.ending (first_low (gone_to x.reported.at edges))
 
+-- the block after which it breaks off, where no low drive breaks it
+abbrev pub unless_driven : Option ℕ → Option ℕ → Option ℕ
+unless_driven None block = block
+unless_driven (Some width) block = None
+
+abbrev pub unfinished_of : Listed → List Low → Option ℕ
+unfinished_of x lows = unless_driven (drive_within lows) (unfinished x.reported.ending x.reported.bits)
+
 -- what there is to remark of what was before it, of its times and its blocks
 abbrev pub times_text : Tape → Listed → List ℕ
 times_text t x =
     series_text (series_over t.series x.reported.ending) ++ answers_text x.begin (delivered_frame x) t.waiting
     ++ soon_text (too_soon t.previous x (tries_again t.attempts x.reported.bits)) ++ reading_misfits t.series x (lows_of x t.place) ++ drive_text (drive_of x t.place)
+    ++ within_text (drive_within (lows_of x t.place)) ++ unfinished_text (unfinished_of x (lows_of x t.place))
     ++ failure_text (failure_of t.attempts x.begin (free_before t.previous x.begin) x.reported.bits)
+
+-- what the standard calls what the line leaves as bytes
+abbrev pub named_in : Option (List ℕ) → Option (List ℕ)
+named_in None = None
+named_in (Some frame) = remark frame
+
+abbrev pub named_of : Listed → Option (List ℕ)
+named_of x = named_in (frame_in (reading_as x))
+
+-- what was read, in words
+abbrev pub notes_text : Listed → List ℕ
+notes_text x = head_text (head_read x.reported.ending x.reported.bits) ++ named_text (named_of x)
 
 -- of what it says
 abbrev pub frame_text : Tape → List ℕ → List ℕ
-frame_text t frame = moved_text (sender frame) (moved_from frame t.places)
+frame_text t frame = moved_text (sender frame) (moved_from frame t.places) ++ receivers_text (missed_receivers frame) ++ missing_text (missing_operands frame)
 
 -- what there is to remark, in order
 abbrev pub remarks_text : Bool → Tape → Listed → List ℕ
 remarks_text timing t x =
-    times_text t x ++ frame_text t (delivered_frame x) ++ timing_text timing (with_slots x.reported.ending x.reported.bits 0 (lows_of x t.place) no_widths)
+    notes_text x ++ times_text t x ++ frame_text t (delivered_frame x) ++ timing_text timing (with_slots x.reported.ending x.reported.bits 0 (lows_of x t.place) no_widths)
 
 -- what is kept of it
 abbrev pub tape_after : Listed → Tape → Tape

@@ -15,11 +15,35 @@ use Rattle.cec_timing.specs.Misfits.{fits, low_misfit, total_misfit, window}
 use Rattle.cec_remarks.specs.declared.attempts.Failure.{Failure}
 use Rattle.cec_remarks.specs.declared.counts.Count.{Count}
 use Rattle.cec_remarks.specs.declared.free.TooSoon.{TooSoon}
+use Rattle.cec_text.specs.FrameText.{opcode_text}
+use Rattle.cec_remarks.specs.declared.header.Head.{Head}
+use Rattle.cec_remarks.specs.declared.messages.Missing.{Missing}
+use Rattle.cec_remarks.specs.declared.messages.Receivers.{Receivers}
+use Rattle.cec_remarks.specs.declared.messages.Receivers.TheVariants.{OneDevice, AllDevices}
 use Rattle.cec_remarks.specs.declared.requests.Request.{Request}
 use Rattle.cec_remarks.specs.declared.series.Series.{Series}
 use Rattle.cec_remarks.specs.declared.sources.Mention.{Mention}
 use Rattle.cec_remarks.specs.Requests.{is_answer, is_given_up, is_late, waited}
 use Rattle.cec_remarks.specs.Sources.{is_unreported}
+
+-- ---- notes: no remarks, but words for what was read
+
+-- what the standard calls an opcode or an operand that a reading leaves as bytes: `  # give-features`
+abbrev pub named_text : Option (List ℕ) → List ℕ
+named_text None = []
+named_text (Some name) = concat (codes "  # " ∷ name ∷ codes "\n" ∷ [])
+
+-- a reading that ends after whole blocks: `  read 0>8`, `  read 4>0 image-view-on`
+abbrev pub head_line : Head → Option ℕ → List ℕ
+head_line h None = concat (codes "  read " ∷ nibble_text (h.initiator % 16) ∷ codes ">" ∷ nibble_text (h.destination % 16) ∷ codes "\n" ∷ [])
+head_line h (Some opcode) =
+    concat (codes "  read " ∷ nibble_text (h.initiator % 16) ∷ codes ">" ∷ nibble_text (h.destination % 16) ∷ codes " " ∷ opcode_text opcode ∷ codes "\n" ∷ [])
+
+abbrev pub head_text : Option Head → List ℕ
+head_text None = []
+head_text (Some h) = head_line h h.opcode
+
+-- ---- times and blocks
 
 -- bad starts in a row, folded: `  after 7 bad-start since 1000`
 abbrev pub series_text : Option Series → List ℕ
@@ -61,6 +85,16 @@ abbrev pub drive_text : Option ℕ → List ℕ
 drive_text None = []
 drive_text (Some width) = concat (codes "  low drive " ∷ decimal width ∷ drive_word width ∷ [])
 
+-- a low drive that began while the line was low: `  low drive for 3700`
+abbrev pub within_text : Option ℕ → List ℕ
+within_text None = []
+within_text (Some width) = concat (codes "  low drive for " ∷ decimal width ∷ codes "\n" ∷ [])
+
+-- a frame that breaks off between two blocks: `  ends after block 1 without EOM`
+abbrev pub unfinished_text : Option ℕ → List ℕ
+unfinished_text None = []
+unfinished_text (Some block) = concat (codes "  ends after block " ∷ decimal block ∷ codes " without EOM\n" ∷ [])
+
 -- a block that was not acknowledged, or refused: `  block 1 not acknowledged, attempt 2`; past the sixth attempt, the first
 -- and five more (CEC 7.1), ` of at most 6` follows
 abbrev pub failure_word : Bool → List ℕ
@@ -80,6 +114,20 @@ failure_text (Some f) = concat (codes "  block " ∷ decimal f.block ∷ failure
 abbrev pub moved_text : ℕ → Option Phys → List ℕ
 moved_text initiator None = []
 moved_text initiator (Some phys) = concat (codes "  " ∷ nibble_text (initiator % 16) ∷ codes " reported " ∷ phys_text phys ∷ codes " before\n" ∷ [])
+
+-- a message that came to others than it is for
+abbrev pub receivers_word : Receivers → List ℕ
+receivers_word OneDevice = codes "  to all, only for one device\n"
+receivers_word AllDevices = codes "  to one device, only for all\n"
+
+abbrev pub receivers_text : Option Receivers → List ℕ
+receivers_text None = []
+receivers_text (Some receivers) = concat (receivers_word receivers ∷ [])
+
+-- fewer operands than the opcode has, in bytes: `  operands 1, at least 2`
+abbrev pub missing_text : Option Missing → List ℕ
+missing_text None = []
+missing_text (Some m) = concat (codes "  operands " ∷ decimal m.count ∷ codes ", at least " ∷ decimal m.least ∷ codes "\n" ∷ [])
 
 -- an active source that nobody reported: `  nobody reported 2.0.0.0 of 599150`
 abbrev pub claim_text : Mention → List ℕ

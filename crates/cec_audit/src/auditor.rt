@@ -1,8 +1,8 @@
 //! What is remarked of one reading after another.
 ghost use Rattle.std.specs.Prelude.{◌≡◌, ◌≤◌, length, option_map};
-ghost use Rattle.std.specs.Option.{option_to_list};
+ghost use Rattle.std.specs.Option.{option_copied, option_to_list};
 ghost use Rattle.cec_bits.specs.Reports.{listed_as};
-ghost use Rattle.cec_audit.specs.Audit.{after, after_all, come_to, drive_of, falls_until, first_tape, frame_text, is_folded, lows_of, tape_after, reading_misfits, remarks_text, summary_text, tape_of, times_text, line_and_remarks, reported_all};
+ghost use Rattle.cec_audit.specs.Audit.{after, after_all, come_to, drive_of, falls_until, first_tape, frame_text, is_folded, lows_of, named_of, notes_text, tape_after, reading_misfits, remarks_text, summary_text, tape_of, times_text, line_and_remarks, reported_all, unfinished_of, unless_driven};
 ghost use Rattle.cec_remarks.specs.Frames.{delivered_frame};
 ghost use Rattle.cec_audit.specs.Lines.{timing_text};
 ghost use Rattle.cec_audit.specs.Progress.{WritesOn};
@@ -11,17 +11,20 @@ ghost use Rattle.cec_timing.specs.Spreads.{no_widths, with_slots};
 ghost use Rattle.cec_wave.specs.Bounds.{most_sent};
 
 use crate::lines::{
-    write_answers, write_claims, write_counts, write_drive, write_failure, write_late,
-    write_misfits, write_moved, write_series, write_soon, write_widths,
+    write_answers, write_claims, write_counts, write_drive, write_failure, write_head, write_late,
+    write_misfits, write_missing, write_moved, write_named, write_receivers, write_series,
+    write_soon, write_unfinished, write_widths, write_within,
 };
 use crate::progress::Progress;
 use arrayvec::ArrayVec;
+use cec_dis::remark;
 use cec_frame::{Ending, Reading};
 use cec_remarks::{
     Attempts, Counts, Places, Previous, Series, Sources, Waiting, after_frame, count_reading,
-    delivered_frame, is_bad_start, moved_from, no_counts, no_places, note_report, sender,
+    delivered_frame, head_read, is_bad_start, missed_receivers, missing_operands, moved_from,
+    no_counts, no_places, note_report, sender, unfinished,
 };
-use cec_timing::{Cursor, Low, Widths, first_low, low_drive, lows_before};
+use cec_timing::{Cursor, Low, Widths, drive_within, first_low, low_drive, lows_before};
 use cec_wave::{Edge, MOST_SENT};
 use hdmi_core::{Piece, Sink};
 
@@ -65,6 +68,42 @@ fn drive_of(reading: &Reading, cursor: &Cursor) -> Option<u64>
         None => None,
         Some(low) => low_drive(reading.ending, low),
     }
+}
+
+fn unless_driven(drive: Option<u64>, block: Option<usize>) -> Option<usize>
+    ensures { result ≡ unless_driven drive block }
+{
+    match drive {
+        None => block,
+        Some(_) => None,
+    }
+}
+
+fn unfinished_of(reading: &Reading, lows: &[Low]) -> Option<usize>
+    ensures { result ≡ unfinished_of (listed_as reading.now) lows.now }
+{
+    unless_driven(
+        drive_within(lows),
+        unfinished(reading.ending, &reading.bits),
+    )
+}
+
+// What the standard calls what the line of a reading leaves as bytes.
+fn named_of(reading: &Reading) -> Option<&'static str>
+    ensures { option_copied result ≡ named_of (listed_as reading.now) }
+{
+    match reading.frame() {
+        None => None,
+        Some(frame) => remark(&frame),
+    }
+}
+
+// What was read, in words.
+fn write_notes<S: Sink>(reading: &Reading, progress: &mut Progress, out: &mut S)
+    ensures { WritesOn (S.contents out.old) (S.contents out.new) (S.is_stuck out.old) (S.is_stuck out.new) (notes_text (listed_as reading.now)) progress.old.so_far progress.new.so_far }
+{
+    write_head(head_read(reading.ending, &reading.bits), progress, out);
+    write_named(named_of(reading), progress, out);
 }
 
 // Whether a reading's widths are left out: it is a bad start after another one.
@@ -166,6 +205,8 @@ impl<'a> Auditor<'a> {
         write_soon(self.previous.too_soon(reading, again), progress, out);
         write_reading_misfits(self.series, reading, lows, progress, out);
         write_drive(drive_of(reading, &self.cursor), progress, out);
+        write_within(drive_within(lows), progress, out);
+        write_unfinished(unfinished_of(reading, lows), progress, out);
         write_failure(
             self.attempts.failure_of(reading.begin, free, &reading.bits),
             progress,
@@ -184,6 +225,8 @@ impl<'a> Auditor<'a> {
             progress,
             out,
         );
+        write_receivers(missed_receivers(frame), progress, out);
+        write_missing(missing_operands(frame), progress, out);
     }
 
     // What there is to remark of a reading.
@@ -202,6 +245,7 @@ impl<'a> Auditor<'a> {
         ensures { WritesOn (S.contents out.old) (S.contents out.new) (S.is_stuck out.old) (S.is_stuck out.new)
             (remarks_text timing (tape_of self.now) (listed_as reading.now)) progress.old.so_far progress.new.so_far }
     {
+        write_notes(reading, progress, out);
         self.write_times(reading, lows, frame, progress, out);
         self.write_frame(frame, progress, out);
         write_reading_widths(timing, reading, lows, progress, out);

@@ -7,3 +7,4 @@ pub mod Frames
 pub mod Requests
 pub mod Places
 pub mod Sources
+pub mod Messages
