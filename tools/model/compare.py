@@ -1,6 +1,6 @@
 #!/usr/bin/env python3
 """python3 compare.py PROGRAM KIND COUNT START: random inputs of KIND through PROGRAM and the model; prints differences.
-KIND: run feat wire edges mon step asm edid edtext check ways expect sweep json odd."""
+KIND: run feat wire edges mon audit step asm edid edtext check ways expect sweep json odd."""
 import os, random, re, subprocess, sys, time
 import wire, edid, net, sweep
 from model import model
@@ -17,7 +17,10 @@ def prog(program, args, data):
         return 'timeout', b'', ''
     e = p.stderr.decode('latin1').split('\n')[0]
     f = e[9:] if e.startswith('hdminet: ') else ('?' + e if e else '')
-    return p.returncode, p.stdout, f
+    out = p.stdout
+    if '--audit' in args or '--timing' in args:     # what the standard calls what is left as bytes is not in the model
+        out = b''.join(line for line in out.splitlines(True) if not line.startswith(b'  # '))
+    return p.returncode, out, f
 
 
 def differs(program, args, data):
@@ -543,6 +546,50 @@ def gen_mon(r):
     return ['mon', '--from', 'edges'], '\n'.join(ls) + r.choice(['\n', '\n', ''])
 
 
+def gen_frame_slots(r, frame, takes, at):
+    """the edges of a frame from `at` on, as the emulator would send it, block by block while it is taken; and its last fall"""
+    lines = ['%d 0' % at, '%d 1' % (at + 3700)]
+    e = at + 4500
+    for k, byte in enumerate(frame):
+        bits = [byte >> i & 1 for i in range(7, -1, -1)] + [int(k == len(frame) - 1)]
+        ack = takes and k < takes
+        bits.append((0 if ack else 1) if frame[0] & 15 != 15 else (1 if ack else 0))
+        for bit in bits:
+            lines += ['%d 0' % e, '%d 1' % (e + (600 if bit else 1500))]
+            e += 2400
+        if not ack: break
+    return lines, e - 2400
+
+
+def gen_audit(r):
+    """frames that are tried again, answered late, too soon, to others than they are for; or any edges"""
+    flags = r.choice([['--audit'], ['--audit'], ['--timing'], ['--audit', '--timing']])
+    if r.random() < .3:
+        args, text = gen_mon(r)
+        return args + flags, text
+    lines, at = [], r.choice([0, 20000, 100000])
+    frame = None
+    few = [bytes([a << 4 | b]) + f for a, b, f in [(r.choice([0, 1, 4, 4, 5, 15]), r.choice([0, 1, 4, 5, 15]), r.choice(
+        [b'', b'\x8f', b'\x90\0', b'\x46', b'\x47A', b'\0\x8f\0', b'\0\xff\4', b'\xff', b'\x11', b'\xa5', b'\x36', b'\x84\x10\0\4', b'\x84 \0\4', b'\x82\x10\0',
+         b'\x82 \0', b'\x70', b'\x41', b'\x04', bytes([r.randrange(256)])])) for _ in range(r.choice([2, 3, 5]))]]
+    for _ in range(r.choice([3, 8, 15])):
+        frame = r.choice(few) if frame is None or r.random() < .6 else frame
+        more, last = gen_frame_slots(r, frame, r.choice([0, 1, len(frame), len(frame)]), at)
+        if r.random() < .1: more = more[:2 * r.randrange(1, len(more) // 2 + 1)]
+        if r.random() < .1:         # held low in the last slot
+            t = int(more[-2].split()[0])
+            more[-1] = '%d 1' % (t + r.choice([1699, 1701, 3359, 3360, 3600, 5540, 5541, 9000]))
+        lines += more
+        last, edge = int(more[-2].split()[0]), int(more[-1].split()[0])
+        gap = r.choice([7200] * 3 + [7199, 8100, 11999, 12000, 12001, 16799, 16800, 16801, 900000, 1000000, 1050000, 4900000, 5100000, 3000])
+        at = max(edge + 1, last + gap + r.choice([0, 0, 0, 1, 600, 1500]))
+        if r.random() < .1:
+            lines += ['%d 0' % at, '%d 1' % (at + r.choice([40, 600, 1500, 2599, 2600, 3950]))]
+            at += r.choice([5000, 12000, 20000])
+    lines.append('%d end' % (at + r.choice([0, 3000, 1000000, 1100000])))
+    return ['mon', '--from', 'edges'] + flags, '\n'.join(lines) + '\n'
+
+
 def gen_step(r):
     k = r.random()
     if k < .4: a, t = gen_wire(r)
@@ -856,7 +903,7 @@ def small_run(r):
 
 
 ODD = [gen_run, small_run, small_run, gen_asm, gen_edidcmd, gen_edtext, gen_mon, gen_step, gen_expect]
-GEN = dict(ops=gen_ops, amp=gen_amp, run=gen_run, feat=gen_feat, wire=gen_wire, edges=gen_edges, mon=gen_mon, step=gen_step, asm=gen_asm, edid=gen_edidcmd, edtext=gen_edtext, check=gen_check, ways=gen_ways, expect=gen_expect, sweep=gen_sweep, json=gen_json, odd=gen_odd)
+GEN = dict(ops=gen_ops, amp=gen_amp, run=gen_run, feat=gen_feat, wire=gen_wire, edges=gen_edges, mon=gen_mon, audit=gen_audit, step=gen_step, asm=gen_asm, edid=gen_edidcmd, edtext=gen_edtext, check=gen_check, ways=gen_ways, expect=gen_expect, sweep=gen_sweep, json=gen_json, odd=gen_odd)
 
 
 def main():

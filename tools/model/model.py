@@ -1,7 +1,7 @@
 #!/usr/bin/env python3
 """python3 model.py SUB [flag] < input: the model as a program; fault text on standard error."""
 import sys
-import check, net, objects, sweep, wire, edid
+import audit, check, net, objects, sweep, wire, edid
 
 LIMIT = 1048576
 
@@ -18,6 +18,7 @@ def model(args, data):
     if sub == 'run': return net.run(data, '--edges' in args)
     if sub == 'check': return sweep.check(data)
     if sub == 'step': return net.step(data)
+    if sub == 'mon' and ('--audit' in args or '--timing' in args): return audit.audit(data, '--timing' in args)
     if sub == 'mon': return wire.mon(data)
     if sub == 'asm': return wire.asm(data)
     if sub == 'edid' and '--text' in args:

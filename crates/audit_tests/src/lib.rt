@@ -5,3 +5,5 @@
 mod audits;
 #[cfg(test)]
 mod captures;
+#[cfg(test)]
+mod kinds;

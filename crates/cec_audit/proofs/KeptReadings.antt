@@ -1,5 +1,5 @@
 -- The remarks of an audit are lines that begin with two spaces.
-use Rattle.std.proofs.Common.{◌≡◌, ℕ, ◌+◌, ◌/◌, ◌%◌, ◌==◌, ◌-◌, ◌&&◌, Bool, true, false, not, nat_lt, if◌then◌else◌, List, [], ◌∷◌, ◌++◌, Option, None, Some, codes, refl, sym, ap, subst, ◌∙◌, append-nil, append_assoc}
+use Rattle.std.proofs.Common.{◌≡◌, ℕ, ◌+◌, ◌/◌, ◌%◌, ◌==◌, ◌-◌, ◌&&◌, Bool, true, false, not, nat_lt, if◌then◌else◌, List, [], ◌∷◌, ◌++◌, Option, None, Some, option_and_then, slice_get, codes, refl, sym, ap, subst, ◌∙◌, append-nil, append_assoc}
 use Rattle.std.specs.Fmt.{decimal}
 use Rattle.std.specs.List.{flat_map, list_all}
 use Rattle.std.proofs.lemmas.Grind.{flat_map-append}
@@ -14,21 +14,36 @@ use Rattle.cec_timing.specs.declared.misfit.Kind.TheVariants.{Low, Total}
 use Rattle.cec_timing.specs.declared.misfit.Misfit.{Misfit}
 use Rattle.cec_timing.specs.declared.spread.Spread.{Spread}
 use Rattle.cec_timing.specs.declared.spread.Widths.{Widths}
-use Rattle.cec_timing.specs.Misfits.{fits, low_misfit, total_misfit, window}
+use Rattle.cec_timing.specs.Misfits.{drive_within, fits, low_misfit, total_misfit, window}
 use Rattle.cec_remarks.specs.declared.attempts.Failure.{Failure}
 use Rattle.cec_remarks.specs.declared.counts.Count.{Count}
 use Rattle.cec_remarks.specs.declared.free.TooSoon.{TooSoon}
+use Rattle.std.proofs.lemmas.Bool.{false≢true}
+use Rattle.cec_dis.specs.Remark.{abort_reasons, audio_rates, deck_states, device_types, first_of, more_names, more_words, operand_remark, place_of, play_modes, powers, record_sources, record_states, remark, timer_cleared, tuner_requests, user_controls, versions}
+use Rattle.cec_opcode.specs.WordSets.{NamedByte, word_of}
+use Rattle.cec_text.specs.FrameText.{opcode_text}
+use Rattle.cec_frame.specs.Blocks.{frame_in}
+use Rattle.cec_mon.specs.Watch.{reading_as}
+use Rattle.cec_remarks.specs.declared.header.Head.{Head}
+use Rattle.cec_remarks.specs.Header.{head_read}
+use Rattle.cec_audit.proofs.OneLine.{PlainIf, plain_opcode, shown, worded}
+use Rattle.cec_remarks.specs.declared.messages.Missing.{Missing}
+use Rattle.cec_remarks.specs.declared.messages.Receivers.{Receivers}
+use Rattle.cec_remarks.specs.declared.messages.Receivers.TheVariants.{OneDevice, AllDevices}
 use Rattle.cec_remarks.specs.declared.requests.Request.{Request}
+use Rattle.cec_remarks.specs.Messages.{missed_receivers, missing_operands}
 use Rattle.cec_remarks.specs.declared.series.Series.{Series}
-use Rattle.cec_audit.specs.Lines.{count_text, counts_text, drive_text, drive_word, failure_text, failure_word, if_late, kind_text, late_text, limit_word, misfit_line, misfit_text, misfits_text, moved_text, request_text, series_text, soon_text, spread_text, timing_text, unknown_text, widths_text}
-use Rattle.cec_remarks.specs.Attempts.{failure_of}
+use Rattle.cec_remarks.specs.declared.sources.Mention.{Mention}
+use Rattle.cec_audit.specs.Lines.{answer_text, answered_text, answers_text, claim_text, claims_text, count_text, counts_text, drive_text, drive_word, failure_text, failure_word, head_line, head_text, if_answered, if_given_up, if_late, kind_text, late_text, limit_word, misfit_line, misfit_text, misfits_text, missing_text, moved_text, named_text, receivers_text, receivers_word, request_text, series_text, soon_text, spread_text, timing_text, unfinished_text, unless_reported, widths_text, within_text}
+use Rattle.cec_remarks.specs.Attempts.{failure_of, tries_again}
 use Rattle.cec_remarks.specs.Frames.{delivered_frame, sender}
-use Rattle.cec_remarks.specs.Free.{too_soon}
-use Rattle.cec_remarks.specs.Places.{moved_from, unknown_source}
-use Rattle.cec_remarks.specs.Requests.{is_late}
+use Rattle.cec_remarks.specs.Free.{free_before, too_soon}
+use Rattle.cec_remarks.specs.Places.{moved_from}
+use Rattle.cec_remarks.specs.Requests.{is_answer, is_given_up, is_late, waited}
 use Rattle.cec_remarks.specs.Series.{series_over}
+use Rattle.cec_remarks.specs.Sources.{is_unreported}
 use Rattle.cec_timing.specs.Spreads.{no_widths, with_slots}
-use Rattle.cec_audit.specs.Audit.{Tape, after, after_all, audit_text, come_to, drive_of, first_tape, is_folded, lows_of, reading_misfits, remarks_text, summary_text, times_text, line_and_remarks, reported_all}
+use Rattle.cec_audit.specs.Audit.{Tape, after, after_all, audit_text, come_to, drive_of, first_tape, is_folded, lows_of, reading_misfits, remarks_text, summary_text, times_text, line_and_remarks, named_in, named_of, notes_text, reported_all, unfinished_of}
 use Rattle.cec_audit.proofs.Plain.{plain_codes, plain_decimal, plain_hex, plain_more, plain_nibble, plain_phys}
 use Rattle.cec_audit.specs.Kept.{AllRemarks, AreKept, AreRemarks, IsClosed, IsPlain, IsRemark}
 
@@ -71,6 +86,65 @@ more_remarks {a} {b} x y = record {
   each = all_more x.lines y.lines x.each y.each;
   same = ap (λ (l : List ℕ). l ++ b) x.same ∙ ap (λ (l : List ℕ). flat_map (λ (line : List ℕ). line) x.lines ++ l) y.same ∙ sym (flat_map-append (λ (line : List ℕ). line) x.lines y.lines);
 }
+
+-- ---- notes
+
+head_lines : (h : Head) (o : Option ℕ) → AreRemarks (head_line h o)
+head_lines h None =
+    one_remark (head_line h None) (refl, refl, lit (codes "read ") refl (closed_more (nibble_text (h.initiator % 16)) (plain_nibble (h.initiator % 16)) (lit (codes ">") refl (closed_more (nibble_text (h.destination % 16)) (plain_nibble (h.destination % 16)) closed))))
+head_lines h (Some opcode) =
+    one_remark (head_line h (Some opcode)) (
+      refl,
+      refl,
+      lit (codes "read ") refl (closed_more (nibble_text (h.initiator % 16)) (plain_nibble (h.initiator % 16)) (lit (codes ">") refl (closed_more (nibble_text (h.destination % 16)) (plain_nibble (h.destination % 16)) (lit (codes " ") refl (closed_more (opcode_text opcode) (plain_opcode opcode) closed))))),
+    )
+
+head_remarks : (o : Option Head) → AreRemarks (head_text o)
+head_remarks None = no_remarks
+head_remarks (Some h) = head_lines h h.opcode
+
+abbrev Shown : List NamedByte → Type 0
+Shown table = list_all (λ w. shown w.text) table ≡ true
+
+if_shown : (b : Bool) (table others : List NamedByte) → Shown table → Shown others → Shown (if b then table else others)
+if_shown true table others h k = h
+if_shown false table others h k = k
+
+more_shown : (code : ℕ) → Shown (more_words code)
+more_shown code =
+    if_shown (code == 0x00) abort_reasons _ refl
+    (if_shown (code == 0x08) tuner_requests _ refl
+    (if_shown (code == 0x09) record_sources _ refl
+    (if_shown (code == 0x0a) record_states _ refl
+    (if_shown (code == 0x1b) deck_states _ refl
+    (if_shown (code == 0x41) play_modes _ refl
+    (if_shown (code == 0x43) timer_cleared _ refl
+    (if_shown (code == 0x44) user_controls _ refl
+    (if_shown (code == 0x84) device_types _ refl
+    (if_shown (code == 0x90) powers _ refl
+    (if_shown (code == 0x9a) audio_rates _ refl
+    (if_shown (code == 0x9e) versions _ refl refl)))))))))))
+
+first_plain : (a b : Option (List ℕ)) → PlainIf a → PlainIf b → PlainIf (first_of a b)
+first_plain None b h k = k
+first_plain (Some a) b h k = h
+
+operand_plain : (code : ℕ) (o : Option ℕ) → PlainIf (option_and_then (λ byte. word_of (more_words code) byte) o)
+operand_plain code None = tt
+operand_plain code (Some byte) = worded (more_words code) (more_shown code) byte
+
+named_plain : (o : Option (List ℕ)) → PlainIf (named_in o)
+named_plain None = tt
+named_plain (Some []) = tt
+named_plain (Some (header ∷ [])) = tt
+named_plain (Some (header ∷ code ∷ operands)) = first_plain (word_of more_names code) (operand_remark code operands) (worded more_names refl code) (operand_plain code (slice_get operands (place_of code)))
+
+named_remarks : (o : Option (List ℕ)) → PlainIf o → AreRemarks (named_text o)
+named_remarks None h = no_remarks
+named_remarks (Some name) h = one_remark (named_text (Some name)) (refl, refl, lit (codes "# ") refl (closed_more name h closed))
+
+notes : (x : Listed) → AreRemarks (notes_text x)
+notes x = more_remarks (head_remarks (head_read x.reported.ending x.reported.bits)) (named_remarks (named_of x) (named_plain (frame_in (reading_as x))))
 
 -- ---- each kind of remark
 
@@ -126,6 +200,23 @@ drive_remarks : (o : Option ℕ) → AreRemarks (drive_text o)
 drive_remarks None = no_remarks
 drive_remarks (Some width) = one_remark (drive_text (Some width)) (refl, refl, lit (codes "low drive ") refl (dec width (last (drive_closed width))))
 
+within_remarks : (o : Option ℕ) → AreRemarks (within_text o)
+within_remarks None = no_remarks
+within_remarks (Some width) = one_remark (within_text (Some width)) (refl, refl, lit (codes "low drive for ") refl (dec width closed))
+
+unfinished_remarks : (o : Option ℕ) → AreRemarks (unfinished_text o)
+unfinished_remarks None = no_remarks
+unfinished_remarks (Some block) = one_remark (unfinished_text (Some block)) (refl, refl, lit (codes "ends after block ") refl (dec block (lit (codes " without EOM") refl closed)))
+
+receivers_remarks : (o : Option Receivers) → AreRemarks (receivers_text o)
+receivers_remarks None = no_remarks
+receivers_remarks (Some OneDevice) = one_remark (receivers_text (Some OneDevice)) (refl, refl, lit (codes "to all, only for one device") refl closed)
+receivers_remarks (Some AllDevices) = one_remark (receivers_text (Some AllDevices)) (refl, refl, lit (codes "to one device, only for all") refl closed)
+
+missing_remarks : (o : Option Missing) → AreRemarks (missing_text o)
+missing_remarks None = no_remarks
+missing_remarks (Some m) = one_remark (missing_text (Some m)) (refl, refl, lit (codes "operands ") refl (dec m.count (lit (codes ", at least ") refl (dec m.least closed))))
+
 limit_closed : (attempt : ℕ) → IsClosed (limit_word attempt)
 limit_closed attempt = by (nat_lt 6 attempt)
   where
@@ -147,16 +238,37 @@ moved_remarks initiator None = no_remarks
 moved_remarks initiator (Some p) =
     one_remark (moved_text initiator (Some p)) (refl, refl, closed_more (nibble_text (initiator % 16)) (plain_nibble (initiator % 16)) (lit (codes " reported ") refl (closed_more (phys_text p) (plain_phys p) (lit (codes " before") refl closed))))
 
-unknown_remarks : (o : Option Phys) → AreRemarks (unknown_text o)
-unknown_remarks None = no_remarks
-unknown_remarks (Some p) = one_remark (unknown_text (Some p)) (refl, refl, lit (codes "nobody reported ") refl (closed_more (phys_text p) (plain_phys p) closed))
+unless : (b : Bool) (text : List ℕ) → AreRemarks text → AreRemarks (if b then text else [])
+unless true text h = h
+unless false text h = no_remarks
+
+claim_remark : (m : Mention) → AreRemarks (claim_text m)
+claim_remark m = one_remark (claim_text m) (refl, refl, lit (codes "nobody reported ") refl (closed_more (phys_text m.phys) (plain_phys m.phys) (lit (codes " of ") refl (dec m.since closed))))
+
+claims_remarks : (reported active : List Mention) → AreRemarks (claims_text reported active)
+claims_remarks reported [] = no_remarks
+claims_remarks reported (m ∷ ms) = more_remarks (unless (is_unreported reported m.phys) (claim_text m) (claim_remark m)) (claims_remarks reported ms)
+
+request_remark : (r : Request) → AreRemarks (request_text r)
+request_remark r =
+    one_remark (request_text r) (refl, refl, lit (codes "no answer to ") refl (closed_more (nibble_text (r.initiator % 16)) (plain_nibble (r.initiator % 16)) (lit (codes ">") refl (closed_more (nibble_text (r.destination % 16)) (plain_nibble (r.destination % 16)) (lit (codes " ") refl (closed_more (hex_text r.opcode) (plain_hex r.opcode) (lit (codes " of ") refl (dec r.since closed))))))))
 
 late_remark : (begin : ℕ) (r : Request) → AreRemarks (if_late begin r)
-late_remark begin r = by (is_late begin r)
+late_remark begin r = unless (is_late begin r) (request_text r) (request_remark r)
+
+answered_remark : (wait : ℕ) → AreRemarks (answered_text wait)
+answered_remark wait = one_remark (answered_text wait) (refl, refl, lit (codes "answered after ") refl (dec wait (lit (codes ", at most 1000000") refl closed)))
+
+answer_remark : (begin : ℕ) (frame : List ℕ) (r : Request) → AreRemarks (answer_text begin frame r)
+answer_remark begin frame r = by (is_answer frame r)
   where
-    by : (b : Bool) → AreRemarks (if b then request_text r else [])
-    by true = one_remark (request_text r) (refl, refl, lit (codes "no answer to ") refl (closed_more (nibble_text (r.initiator % 16)) (plain_nibble (r.initiator % 16)) (lit (codes ">") refl (closed_more (nibble_text (r.destination % 16)) (plain_nibble (r.destination % 16)) (lit (codes " ") refl (closed_more (hex_text r.opcode) (plain_hex r.opcode) (lit (codes " of ") refl (dec r.since closed))))))))
-    by false = no_remarks
+    by : (b : Bool) → AreRemarks (if b then if_answered begin r else if_given_up begin frame r)
+    by true = unless (is_late begin r) (answered_text (waited begin r)) (answered_remark (waited begin r))
+    by false = unless (is_given_up begin frame r) (request_text r) (request_remark r)
+
+answers_remarks : (begin : ℕ) (frame : List ℕ) (waiting : List Request) → AreRemarks (answers_text begin frame waiting)
+answers_remarks begin frame [] = no_remarks
+answers_remarks begin frame (r ∷ rs) = more_remarks (answer_remark begin frame r) (answers_remarks begin frame rs)
 
 late_remarks : (begin : ℕ) (waiting : List Request) → AreRemarks (late_text begin waiting)
 late_remarks begin [] = no_remarks
@@ -207,7 +319,9 @@ counts_remarks initiator (c ∷ counts) = more_remarks (count_remarks initiator 
 
 summary_remarks : (end : ℕ) (t : Tape) → AreRemarks (summary_text end t)
 summary_remarks end t =
-    more_remarks (more_remarks (more_remarks (one_remark (codes "  all readings\n") (refl, refl, lit (codes "all readings") refl closed)) (late_remarks end t.waiting)) (counts_remarks 0 t.counts)) (widths_remarks t.widths)
+    more_remarks
+    (more_remarks
+    (more_remarks (more_remarks (one_remark (codes "  all readings\n") (refl, refl, lit (codes "all readings") refl closed)) (late_remarks end t.waiting)) (claims_remarks t.sources.reported.items t.sources.active.items)) (counts_remarks 0 t.counts)) (widths_remarks t.widths)
 
 -- ---- below a reading
 
@@ -224,12 +338,16 @@ times t x =
     (more_remarks
     (more_remarks
     (more_remarks
-    (more_remarks (series_remarks (series_over t.series x.reported.ending)) (late_remarks x.begin t.waiting)) (soon_remarks (too_soon t.before x.reported.ending x.reported.bits (x.begin - t.place.since)))) (folded_remarks t.series x (lows_of x t.place))) (drive_remarks (drive_of x t.place))) (failure_remarks (failure_of t.attempts x.reported.bits))
+    (more_remarks
+    (more_remarks
+    (more_remarks (series_remarks (series_over t.series x.reported.ending)) (answers_remarks x.begin (delivered_frame x) t.waiting)) (soon_remarks (too_soon t.previous x (tries_again t.attempts x.reported.bits)))) (folded_remarks t.series x (lows_of x t.place))) (drive_remarks (drive_of x t.place)))
+    (within_remarks (drive_within (lows_of x t.place)))) (unfinished_remarks (unfinished_of x (lows_of x t.place)))) (failure_remarks (failure_of t.attempts x.begin (free_before t.previous x.begin) x.reported.bits))
 
 below : (timing : Bool) (t : Tape) (x : Listed) → AreRemarks (remarks_text timing t x)
 below timing t x =
     more_remarks
-    (more_remarks (times t x) (more_remarks (moved_remarks (sender (delivered_frame x)) (moved_from (delivered_frame x) t.places)) (unknown_remarks (unknown_source (delivered_frame x) t.places)))) (timing_remarks timing (with_slots x.reported.ending x.reported.bits 0 (lows_of x t.place) no_widths))
+    (more_remarks (more_remarks (notes x) (times t x))
+    (more_remarks (more_remarks (moved_remarks (sender (delivered_frame x)) (moved_from (delivered_frame x) t.places)) (receivers_remarks (missed_receivers (delivered_frame x)))) (missing_remarks (missing_operands (delivered_frame x))))) (timing_remarks timing (with_slots x.reported.ending x.reported.bits 0 (lows_of x t.place) no_widths))
 
 kept_from : (timing : Bool) (t : Tape) (xs : List Listed) (end : List ℕ) → AreRemarks end → AreKept xs (reported_all timing t xs ++ end)
 kept_from timing t [] end h = h

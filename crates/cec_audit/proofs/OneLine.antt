@@ -25,11 +25,11 @@ use Rattle.cec_audit.proofs.Plain.{plain_codes, plain_decimal, plain_hex, plain_
 
 -- ---- parts that may be missing
 
-abbrev PlainIf : Option (List ℕ) → Type 0
+abbrev pub PlainIf : Option (List ℕ) → Type 0
 PlainIf None = Unit {0}
 PlainIf (Some text) = IsPlain text
 
-abbrev shown : List ℕ → Bool
+abbrev pub shown : List ℕ → Bool
 shown text = list_all (λ c. not (c == 10)) text
 
 or_else : (o : Option (List ℕ)) (other : List ℕ) → PlainIf o → IsPlain other → IsPlain (unwrap_or o other)
@@ -55,10 +55,10 @@ named (r ∷ table) h code = by (shown r.name) (r.code == code) refl h (named ta
     by true false e k more = more k code
     by false found e k more = absurd (false≢true k)
 
-plain_opcode : (code : ℕ) → IsPlain (opcode_text code)
+pub plain_opcode : (code : ℕ) → IsPlain (opcode_text code)
 plain_opcode code = or_else (name_of code) (codes "op-" ++ hex_text code) (named rows refl code) (plain_more (codes "op-") (hex_text code) (plain_codes (codes "op-") refl) (plain_hex code))
 
-worded : (table : List WordRow) → list_all (λ w. shown w.text) table ≡ true → (byte : ℕ) → PlainIf (word_of table byte)
+pub worded : (table : List WordRow) → list_all (λ w. shown w.text) table ≡ true → (byte : ℕ) → PlainIf (word_of table byte)
 worded [] h byte = tt
 worded (w ∷ table) h byte = by (shown w.text) (w.code == byte) refl h (worded table)
   where

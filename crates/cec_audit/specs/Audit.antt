@@ -1,6 +1,6 @@
 -- The audit of a capture: below the line of each reading what there is to remark, in order, and at the end the widths of
 -- all readings (own).
-use Rattle.std.specs.Prelude.{ℕ, ◌-◌, Bool, nat_lt, ◌&&◌, if◌then◌else◌, List, [], ◌∷◌, ◌++◌, Option, Some, None, codes}
+use Rattle.std.specs.Prelude.{ℕ, Bool, nat_lt, ◌&&◌, if◌then◌else◌, List, [], ◌∷◌, ◌++◌, Option, Some, None, codes}
 use Rattle.hdmi_core.specs.declared.phys.Phys.{Phys}
 use Rattle.cec_wave.specs.declared.Edge.{Edge}
 use Rattle.cec_frame.specs.declared.Ending.{Ending}
@@ -9,48 +9,54 @@ use Rattle.cec_bits.specs.Readings.{Listed, readings_of}
 use Rattle.cec_signal.specs.Edges.{Captured, line_of_edges}
 use Rattle.cec_timing.specs.declared.low.Low.{Low}
 use Rattle.cec_timing.specs.declared.spread.Widths.{Widths}
-use Rattle.cec_timing.specs.Lows.{EdgePosition, first_low, gone_to, lows_before, place_at, place_of}
-use Rattle.cec_timing.specs.Misfits.{low_drive}
+use Rattle.cec_timing.specs.Lows.{first_low, gone_to, lows_before, place_of}
+use Rattle.cec_timing.specs.Misfits.{drive_within, low_drive}
 use Rattle.cec_timing.specs.Spreads.{no_widths, sum_of, with_slots}
-use Rattle.cec_mon.specs.Watch.{listed_line}
+use Rattle.cec_frame.specs.Blocks.{frame_in}
+use Rattle.cec_dis.specs.Remark.{remark}
+use Rattle.cec_mon.specs.Watch.{listed_line, reading_as}
 use Rattle.cec_remarks.specs.declared.attempts.Attempts.{Attempts}
 use Rattle.cec_audit.specs.declared.auditor.Auditor.{Auditor}
 use Rattle.cec_remarks.specs.declared.counts.Count.{Count}
-use Rattle.cec_remarks.specs.declared.free.Before.{Before}
-use Rattle.cec_remarks.specs.declared.free.Before.TheVariants.{Nothing}
+use Rattle.cec_remarks.specs.declared.free.Previous.{Previous}
 use Rattle.cec_remarks.specs.declared.requests.Request.{Request}
 use Rattle.cec_remarks.specs.declared.series.Series.{Series}
-use Rattle.cec_remarks.specs.Attempts.{after_attempt, failure_of, no_attempts}
+use Rattle.cec_remarks.specs.declared.sources.Sources.{Sources}
+use Rattle.cec_remarks.specs.Attempts.{after_attempt, failure_of, no_attempts, tries_again}
 use Rattle.cec_remarks.specs.Counts.{no_counts, with_reading}
 use Rattle.cec_remarks.specs.Frames.{delivered_frame, sender}
-use Rattle.cec_remarks.specs.Free.{before_of, is_bad_start, too_soon}
-use Rattle.cec_audit.specs.Lines.{counts_text, drive_text, failure_text, late_text, misfits_text, moved_text, series_text, soon_text, timing_text, unknown_text, widths_text}
-use Rattle.cec_remarks.specs.Places.{moved_from, no_places, unknown_source, with_places}
+use Rattle.cec_remarks.specs.Free.{free_before, is_bad_start, no_previous, previous_with, too_soon}
+use Rattle.cec_audit.specs.Lines.{answers_text, claims_text, counts_text, drive_text, failure_text, head_text, late_text, misfits_text, missing_text, moved_text, named_text, receivers_text, series_text, soon_text, timing_text, unfinished_text, widths_text, within_text}
+use Rattle.cec_remarks.specs.Header.{head_read, unfinished}
+use Rattle.cec_remarks.specs.Messages.{missed_receivers, missing_operands}
+use Rattle.cec_remarks.specs.Places.{moved_from, no_places, with_places}
 use Rattle.cec_remarks.specs.Requests.{after_frame}
 use Rattle.cec_remarks.specs.Series.{after_start, no_series, series_over}
+use Rattle.cec_remarks.specs.Sources.{no_sources, with_sources}
 
 -- ---- what is kept of the readings so far
 
 pub record Tape : Type 0 where
-  pub place : EdgePosition
-  pub before : Before
+  pub place : List Edge
+  pub previous : Previous
   pub attempts : Attempts
   pub series : Series
   pub waiting : List Request
   pub places : List (Option Phys)
+  pub sources : Sources
   pub counts : List Count
   pub widths : Widths
 
 abbrev pub tape_of : Auditor → Tape
-tape_of a = record { place = place_of a.cursor; before = a.before; attempts = a.attempts; series = a.series; waiting = a.waiting.items; places = a.places; counts = a.counts; widths = a.widths }
+tape_of a = record { place = place_of a.cursor; previous = a.previous; attempts = a.attempts; series = a.series; waiting = a.waiting.items; places = a.places; sources = a.sources; counts = a.counts; widths = a.widths }
 
 -- before all readings of a capture
 abbrev pub first_tape : List Edge → Tape
-first_tape edges = record { place = place_at 0 edges; before = Nothing; attempts = no_attempts; series = no_series; waiting = []; places = no_places; counts = no_counts; widths = no_widths }
+first_tape edges = record { place = edges; previous = no_previous; attempts = no_attempts; series = no_series; waiting = []; places = no_places; sources = no_sources; counts = no_counts; widths = no_widths }
 
 -- its edges are passed over up to the fall of a reading
 abbrev pub come_to : Listed → Tape → Tape
-come_to x t = record t { place = gone_to x.begin t.place.since t.place.edges }
+come_to x t = record t { place = gone_to x.begin t.place }
 
 -- ---- a reading
 
@@ -59,8 +65,8 @@ abbrev pub falls_until : Ending → ℕ → ℕ
 falls_until Open at = sum_of at 1
 falls_until _ at = at
 
-abbrev pub lows_of : Listed → EdgePosition → List Low
-lows_of x p = lows_before (falls_until x.reported.ending x.reported.at) p.edges
+abbrev pub lows_of : Listed → List Edge → List Low
+lows_of x edges = lows_before (falls_until x.reported.ending x.reported.at) edges
 
 -- the widths that are out of their windows: of bad starts in a row those of the first one
 abbrev pub is_folded : Series → Ending → Bool
@@ -74,33 +80,56 @@ abbrev pub drive_by : Ending → Option Low → Option ℕ
 drive_by ending None = None
 drive_by ending (Some low) = low_drive ending low
 
-abbrev pub drive_of : Listed → EdgePosition → Option ℕ
-drive_of x p = drive_by x.reported.ending (first_low (gone_to x.reported.at p.since p.edges).edges)
+abbrev pub drive_of : Listed → List Edge → Option ℕ
+drive_of x edges = drive_by x.reported.ending (first_low (gone_to x.reported.at edges))
+
+-- the block after which it breaks off, where no low drive breaks it
+abbrev pub unless_driven : Option ℕ → Option ℕ → Option ℕ
+unless_driven None block = block
+unless_driven (Some width) block = None
+
+abbrev pub unfinished_of : Listed → List Low → Option ℕ
+unfinished_of x lows = unless_driven (drive_within lows) (unfinished x.reported.ending x.reported.bits)
 
 -- what there is to remark of what was before it, of its times and its blocks
 abbrev pub times_text : Tape → Listed → List ℕ
 times_text t x =
-    series_text (series_over t.series x.reported.ending) ++ late_text x.begin t.waiting ++ soon_text (too_soon t.before x.reported.ending x.reported.bits (x.begin - t.place.since))
-    ++ reading_misfits t.series x (lows_of x t.place) ++ drive_text (drive_of x t.place) ++ failure_text (failure_of t.attempts x.reported.bits)
+    series_text (series_over t.series x.reported.ending) ++ answers_text x.begin (delivered_frame x) t.waiting
+    ++ soon_text (too_soon t.previous x (tries_again t.attempts x.reported.bits)) ++ reading_misfits t.series x (lows_of x t.place) ++ drive_text (drive_of x t.place)
+    ++ within_text (drive_within (lows_of x t.place)) ++ unfinished_text (unfinished_of x (lows_of x t.place))
+    ++ failure_text (failure_of t.attempts x.begin (free_before t.previous x.begin) x.reported.bits)
+
+-- what the standard calls what the line leaves as bytes
+abbrev pub named_in : Option (List ℕ) → Option (List ℕ)
+named_in None = None
+named_in (Some frame) = remark frame
+
+abbrev pub named_of : Listed → Option (List ℕ)
+named_of x = named_in (frame_in (reading_as x))
+
+-- what was read, in words
+abbrev pub notes_text : Listed → List ℕ
+notes_text x = head_text (head_read x.reported.ending x.reported.bits) ++ named_text (named_of x)
 
 -- of what it says
 abbrev pub frame_text : Tape → List ℕ → List ℕ
-frame_text t frame = moved_text (sender frame) (moved_from frame t.places) ++ unknown_text (unknown_source frame t.places)
+frame_text t frame = moved_text (sender frame) (moved_from frame t.places) ++ receivers_text (missed_receivers frame) ++ missing_text (missing_operands frame)
 
 -- what there is to remark, in order
 abbrev pub remarks_text : Bool → Tape → Listed → List ℕ
 remarks_text timing t x =
-    times_text t x ++ frame_text t (delivered_frame x) ++ timing_text timing (with_slots x.reported.ending x.reported.bits 0 (lows_of x t.place) no_widths)
+    notes_text x ++ times_text t x ++ frame_text t (delivered_frame x) ++ timing_text timing (with_slots x.reported.ending x.reported.bits 0 (lows_of x t.place) no_widths)
 
 -- what is kept of it
 abbrev pub tape_after : Listed → Tape → Tape
 tape_after x t = record {
   place = t.place;
-  before = before_of x.reported.ending x.reported.bits;
-  attempts = after_attempt t.attempts x.reported.ending x.reported.bits;
+  previous = previous_with t.previous x (lows_of x t.place);
+  attempts = after_attempt t.attempts x (free_before t.previous x.begin);
   series = after_start t.series x.reported.ending x.begin;
   waiting = after_frame x.begin x.reported.at (delivered_frame x) t.waiting;
   places = with_places (delivered_frame x) t.places;
+  sources = with_sources (delivered_frame x) x.reported.at t.sources;
   counts = with_reading x.reported.ending x.reported.bits t.counts;
   widths = with_slots x.reported.ending x.reported.bits 0 (lows_of x t.place) t.widths;
 }
@@ -122,10 +151,10 @@ abbrev pub reported_all : Bool → Tape → List Listed → List ℕ
 reported_all timing t [] = []
 reported_all timing t (x ∷ xs) = line_and_remarks timing t x ++ reported_all timing (after x t) xs
 
--- what there is to say of all readings up to an end: the requests that were not answered, the frames of each initiator, and
--- the widths
+-- what there is to say of all readings up to an end: the requests that were not answered, the addresses that nobody reported,
+-- the frames of each initiator, and the widths
 abbrev pub summary_text : ℕ → Tape → List ℕ
-summary_text end t = codes "  all readings\n" ++ late_text end t.waiting ++ counts_text 0 t.counts ++ widths_text t.widths
+summary_text end t = codes "  all readings\n" ++ late_text end t.waiting ++ claims_text t.sources.reported.items t.sources.active.items ++ counts_text 0 t.counts ++ widths_text t.widths
 
 -- the whole of a capture: its readings, one after another, and what there is to say of all
 abbrev pub audit_text : Bool → Captured → List ℕ

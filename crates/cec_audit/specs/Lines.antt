@@ -15,9 +15,35 @@ use Rattle.cec_timing.specs.Misfits.{fits, low_misfit, total_misfit, window}
 use Rattle.cec_remarks.specs.declared.attempts.Failure.{Failure}
 use Rattle.cec_remarks.specs.declared.counts.Count.{Count}
 use Rattle.cec_remarks.specs.declared.free.TooSoon.{TooSoon}
+use Rattle.cec_text.specs.FrameText.{opcode_text}
+use Rattle.cec_remarks.specs.declared.header.Head.{Head}
+use Rattle.cec_remarks.specs.declared.messages.Missing.{Missing}
+use Rattle.cec_remarks.specs.declared.messages.Receivers.{Receivers}
+use Rattle.cec_remarks.specs.declared.messages.Receivers.TheVariants.{OneDevice, AllDevices}
 use Rattle.cec_remarks.specs.declared.requests.Request.{Request}
 use Rattle.cec_remarks.specs.declared.series.Series.{Series}
-use Rattle.cec_remarks.specs.Requests.{is_late}
+use Rattle.cec_remarks.specs.declared.sources.Mention.{Mention}
+use Rattle.cec_remarks.specs.Requests.{is_answer, is_given_up, is_late, waited}
+use Rattle.cec_remarks.specs.Sources.{is_unreported}
+
+-- ---- notes: no remarks, but words for what was read
+
+-- what the standard calls an opcode or an operand that a reading leaves as bytes: `  # give-features`
+abbrev pub named_text : Option (List ℕ) → List ℕ
+named_text None = []
+named_text (Some name) = concat (codes "  # " ∷ name ∷ codes "\n" ∷ [])
+
+-- a reading that ends after whole blocks: `  read 0>8`, `  read 4>0 image-view-on`
+abbrev pub head_line : Head → Option ℕ → List ℕ
+head_line h None = concat (codes "  read " ∷ nibble_text (h.initiator % 16) ∷ codes ">" ∷ nibble_text (h.destination % 16) ∷ codes "\n" ∷ [])
+head_line h (Some opcode) =
+    concat (codes "  read " ∷ nibble_text (h.initiator % 16) ∷ codes ">" ∷ nibble_text (h.destination % 16) ∷ codes " " ∷ opcode_text opcode ∷ codes "\n" ∷ [])
+
+abbrev pub head_text : Option Head → List ℕ
+head_text None = []
+head_text (Some h) = head_line h h.opcode
+
+-- ---- times and blocks
 
 -- bad starts in a row, folded: `  after 7 bad-start since 1000`
 abbrev pub series_text : Option Series → List ℕ
@@ -59,6 +85,16 @@ abbrev pub drive_text : Option ℕ → List ℕ
 drive_text None = []
 drive_text (Some width) = concat (codes "  low drive " ∷ decimal width ∷ drive_word width ∷ [])
 
+-- a low drive that began while the line was low: `  low drive for 3700`
+abbrev pub within_text : Option ℕ → List ℕ
+within_text None = []
+within_text (Some width) = concat (codes "  low drive for " ∷ decimal width ∷ codes "\n" ∷ [])
+
+-- a frame that breaks off between two blocks: `  ends after block 1 without EOM`
+abbrev pub unfinished_text : Option ℕ → List ℕ
+unfinished_text None = []
+unfinished_text (Some block) = concat (codes "  ends after block " ∷ decimal block ∷ codes " without EOM\n" ∷ [])
+
 -- a block that was not acknowledged, or refused: `  block 1 not acknowledged, attempt 2`; past the sixth attempt, the first
 -- and five more (CEC 7.1), ` of at most 6` follows
 abbrev pub failure_word : Bool → List ℕ
@@ -79,10 +115,30 @@ abbrev pub moved_text : ℕ → Option Phys → List ℕ
 moved_text initiator None = []
 moved_text initiator (Some phys) = concat (codes "  " ∷ nibble_text (initiator % 16) ∷ codes " reported " ∷ phys_text phys ∷ codes " before\n" ∷ [])
 
--- an active source that nobody reported: `  nobody reported 2.0.0.0`
-abbrev pub unknown_text : Option Phys → List ℕ
-unknown_text None = []
-unknown_text (Some phys) = concat (codes "  nobody reported " ∷ phys_text phys ∷ codes "\n" ∷ [])
+-- a message that came to others than it is for
+abbrev pub receivers_word : Receivers → List ℕ
+receivers_word OneDevice = codes "  to all, only for one device\n"
+receivers_word AllDevices = codes "  to one device, only for all\n"
+
+abbrev pub receivers_text : Option Receivers → List ℕ
+receivers_text None = []
+receivers_text (Some receivers) = concat (receivers_word receivers ∷ [])
+
+-- fewer operands than the opcode has, in bytes: `  operands 1, at least 2`
+abbrev pub missing_text : Option Missing → List ℕ
+missing_text None = []
+missing_text (Some m) = concat (codes "  operands " ∷ decimal m.count ∷ codes ", at least " ∷ decimal m.least ∷ codes "\n" ∷ [])
+
+-- an active source that nobody reported: `  nobody reported 2.0.0.0 of 599150`
+abbrev pub claim_text : Mention → List ℕ
+claim_text m = concat (codes "  nobody reported " ∷ phys_text m.phys ∷ codes " of " ∷ decimal m.since ∷ codes "\n" ∷ [])
+
+abbrev pub unless_reported : List Mention → Mention → List ℕ
+unless_reported reported m = if is_unreported reported m.phys then claim_text m else []
+
+abbrev pub claims_text : List Mention → List Mention → List ℕ
+claims_text reported [] = []
+claims_text reported (m ∷ ms) = unless_reported reported m ++ claims_text reported ms
 
 -- ---- requests that were not answered: `  no answer to 4>0 8f of 1051150`
 
@@ -96,6 +152,23 @@ if_late begin r = if is_late begin r then request_text r else []
 abbrev pub late_text : ℕ → List Request → List ℕ
 late_text begin [] = []
 late_text begin (r ∷ rs) = if_late begin r ++ late_text begin rs
+
+-- by a frame that may answer it, in a second at most (CEC 9.2): `  answered after 1199000, at most 1000000`
+abbrev pub answered_text : ℕ → List ℕ
+answered_text wait = concat (codes "  answered after " ∷ decimal wait ∷ codes ", at most 1000000\n" ∷ [])
+
+abbrev pub if_answered : ℕ → Request → List ℕ
+if_answered begin r = if is_late begin r then answered_text (waited begin r) else []
+
+abbrev pub if_given_up : ℕ → List ℕ → Request → List ℕ
+if_given_up begin frame r = if is_given_up begin frame r then request_text r else []
+
+abbrev pub answer_text : ℕ → List ℕ → Request → List ℕ
+answer_text begin frame r = if is_answer frame r then if_answered begin r else if_given_up begin frame r
+
+abbrev pub answers_text : ℕ → List ℕ → List Request → List ℕ
+answers_text begin frame [] = []
+answers_text begin frame (r ∷ rs) = answer_text begin frame r ++ answers_text begin frame rs
 
 -- ---- widths
 

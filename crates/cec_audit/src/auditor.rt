@@ -1,8 +1,8 @@
 //! What is remarked of one reading after another.
 ghost use Rattle.std.specs.Prelude.{◌≡◌, ◌≤◌, length, option_map};
-ghost use Rattle.std.specs.Option.{option_to_list};
+ghost use Rattle.std.specs.Option.{option_copied, option_to_list};
 ghost use Rattle.cec_bits.specs.Reports.{listed_as};
-ghost use Rattle.cec_audit.specs.Audit.{after, after_all, come_to, drive_of, falls_until, first_tape, frame_text, is_folded, lows_of, tape_after, reading_misfits, remarks_text, summary_text, tape_of, times_text, line_and_remarks, reported_all};
+ghost use Rattle.cec_audit.specs.Audit.{after, after_all, come_to, drive_of, falls_until, first_tape, frame_text, is_folded, lows_of, named_of, notes_text, tape_after, reading_misfits, remarks_text, summary_text, tape_of, times_text, line_and_remarks, reported_all, unfinished_of, unless_driven};
 ghost use Rattle.cec_remarks.specs.Frames.{delivered_frame};
 ghost use Rattle.cec_audit.specs.Lines.{timing_text};
 ghost use Rattle.cec_audit.specs.Progress.{WritesOn};
@@ -11,17 +11,20 @@ ghost use Rattle.cec_timing.specs.Spreads.{no_widths, with_slots};
 ghost use Rattle.cec_wave.specs.Bounds.{most_sent};
 
 use crate::lines::{
-    write_counts, write_drive, write_failure, write_late, write_misfits, write_moved, write_series,
-    write_soon, write_unknown, write_widths,
+    write_answers, write_claims, write_counts, write_drive, write_failure, write_head, write_late,
+    write_misfits, write_missing, write_moved, write_named, write_receivers, write_series,
+    write_soon, write_unfinished, write_widths, write_within,
 };
 use crate::progress::Progress;
 use arrayvec::ArrayVec;
+use cec_dis::remark;
 use cec_frame::{Ending, Reading};
 use cec_remarks::{
-    Attempts, Before, Counts, Places, Series, Waiting, after_frame, count_reading, delivered_frame,
-    is_bad_start, moved_from, no_counts, no_places, note_report, sender, unknown_source,
+    Attempts, Counts, Places, Previous, Series, Sources, Waiting, after_frame, count_reading,
+    delivered_frame, head_read, is_bad_start, missed_receivers, missing_operands, moved_from,
+    no_counts, no_places, note_report, sender, unfinished,
 };
-use cec_timing::{Cursor, Low, Widths, first_low, low_drive, lows_before};
+use cec_timing::{Cursor, Low, Widths, drive_within, first_low, low_drive, lows_before};
 use cec_wave::{Edge, MOST_SENT};
 use hdmi_core::{Piece, Sink};
 
@@ -30,11 +33,12 @@ use hdmi_core::{Piece, Sink};
 pub(crate) struct Auditor<'a> {
     // the capture's edges from the fall of the last reading on
     cursor: Cursor<'a>,
-    before: Before,
+    previous: Previous,
     attempts: Attempts,
     series: Series,
     waiting: Waiting,
     places: Places,
+    sources: Sources,
     counts: Counts,
     widths: Widths,
 }
@@ -64,6 +68,42 @@ fn drive_of(reading: &Reading, cursor: &Cursor) -> Option<u64>
         None => None,
         Some(low) => low_drive(reading.ending, low),
     }
+}
+
+fn unless_driven(drive: Option<u64>, block: Option<usize>) -> Option<usize>
+    ensures { result ≡ unless_driven drive block }
+{
+    match drive {
+        None => block,
+        Some(_) => None,
+    }
+}
+
+fn unfinished_of(reading: &Reading, lows: &[Low]) -> Option<usize>
+    ensures { result ≡ unfinished_of (listed_as reading.now) lows.now }
+{
+    unless_driven(
+        drive_within(lows),
+        unfinished(reading.ending, &reading.bits),
+    )
+}
+
+// What the standard calls what the line of a reading leaves as bytes.
+fn named_of(reading: &Reading) -> Option<&'static str>
+    ensures { option_copied result ≡ named_of (listed_as reading.now) }
+{
+    match reading.frame() {
+        None => None,
+        Some(frame) => remark(&frame),
+    }
+}
+
+// What was read, in words.
+fn write_notes<S: Sink>(reading: &Reading, progress: &mut Progress, out: &mut S)
+    ensures { WritesOn (S.contents out.old) (S.contents out.new) (S.is_stuck out.old) (S.is_stuck out.new) (notes_text (listed_as reading.now)) progress.old.so_far progress.new.so_far }
+{
+    write_head(head_read(reading.ending, &reading.bits), progress, out);
+    write_named(named_of(reading), progress, out);
 }
 
 // Whether a reading's widths are left out: it is a bad start after another one.
@@ -125,11 +165,12 @@ impl<'a> Auditor<'a> {
     {
         Auditor {
             cursor: Cursor::new(edges),
-            before: Before::Nothing,
+            previous: Previous::new(),
             attempts: Attempts::new(),
             series: Series::new(),
             waiting: Waiting::new(),
             places: no_places(),
+            sources: Sources::new(),
             counts: no_counts(),
             widths: Widths::new(),
         }
@@ -147,25 +188,30 @@ impl<'a> Auditor<'a> {
         &self,
         reading: &Reading,
         lows: &[Low],
+        frame: &[u8],
         progress: &mut Progress,
         out: &mut S,
     )
         requires lows { lows.now ≡ lows_of (listed_as reading.now) (tape_of self.now).place }
         requires few { length lows.now ≤ most_sent }
+        requires frame { frame.now ≡ delivered_frame (listed_as reading.now) }
         ensures { WritesOn (S.contents out.old) (S.contents out.new) (S.is_stuck out.old) (S.is_stuck out.new)
             (times_text (tape_of self.now) (listed_as reading.now)) progress.old.so_far progress.new.so_far }
     {
-        let free = reading.begin.saturating_sub(self.cursor.since());
+        let free = self.previous.free_before(reading.begin);
+        let again = self.attempts.tries_again(&reading.bits);
         write_series(self.series.over(reading.ending), progress, out);
-        write_late(reading.begin, &self.waiting, progress, out);
-        write_soon(
-            self.before.too_soon(reading.ending, &reading.bits, free),
+        write_answers(reading.begin, frame, &self.waiting, progress, out);
+        write_soon(self.previous.too_soon(reading, again), progress, out);
+        write_reading_misfits(self.series, reading, lows, progress, out);
+        write_drive(drive_of(reading, &self.cursor), progress, out);
+        write_within(drive_within(lows), progress, out);
+        write_unfinished(unfinished_of(reading, lows), progress, out);
+        write_failure(
+            self.attempts.failure_of(reading.begin, free, &reading.bits),
             progress,
             out,
         );
-        write_reading_misfits(self.series, reading, lows, progress, out);
-        write_drive(drive_of(reading, &self.cursor), progress, out);
-        write_failure(self.attempts.failure_of(&reading.bits), progress, out);
     }
 
     // What there is to remark of what a frame says.
@@ -179,7 +225,8 @@ impl<'a> Auditor<'a> {
             progress,
             out,
         );
-        write_unknown(unknown_source(frame, &self.places), progress, out);
+        write_receivers(missed_receivers(frame), progress, out);
+        write_missing(missing_operands(frame), progress, out);
     }
 
     // What there is to remark of a reading.
@@ -198,7 +245,8 @@ impl<'a> Auditor<'a> {
         ensures { WritesOn (S.contents out.old) (S.contents out.new) (S.is_stuck out.old) (S.is_stuck out.new)
             (remarks_text timing (tape_of self.now) (listed_as reading.now)) progress.old.so_far progress.new.so_far }
     {
-        self.write_times(reading, lows, progress, out);
+        write_notes(reading, progress, out);
+        self.write_times(reading, lows, frame, progress, out);
         self.write_frame(frame, progress, out);
         write_reading_widths(timing, reading, lows, progress, out);
     }
@@ -210,11 +258,13 @@ impl<'a> Auditor<'a> {
         requires frame { frame.now ≡ delivered_frame (listed_as reading.now) }
         ensures { tape_of self.new ≡ tape_after (listed_as reading.now) (tape_of self.old) }
     {
-        self.before = Before::after(reading.ending, &reading.bits);
-        self.attempts.note(reading.ending, &reading.bits);
+        let free = self.previous.free_before(reading.begin);
+        self.attempts.note(reading, free);
+        self.previous = self.previous.with(reading, lows);
         self.series = self.series.with(reading.ending, reading.begin);
         self.waiting = after_frame(reading.begin, reading.at, frame, &self.waiting);
         note_report(frame, &mut self.places);
+        self.sources.note(frame, reading.at);
         count_reading(reading.ending, &reading.bits, &mut self.counts);
         self.widths.add(reading.ending, &reading.bits, 0, lows);
     }
@@ -264,6 +314,7 @@ impl<'a> Auditor<'a> {
     {
         progress.line(out, &[Piece::Text("  all readings\n")]);
         write_late(end, &self.waiting, progress, out);
+        write_claims(&self.sources, self.sources.active(), progress, out);
         write_counts(0, &self.counts, progress, out);
         write_widths(self.widths, progress, out);
     }

@@ -1,16 +1,123 @@
 //! The lines of remarks.
-ghost use Rattle.std.specs.Prelude.{◌≡◌, ◌+◌, ◌<◌, ◌≤◌, length};
-ghost use Rattle.cec_audit.specs.Lines.{count_text, counts_text, drive_text, drive_word, failure_text, failure_word, if_late, kind_text, late_text, limit_word, misfit_line, misfit_text, misfits_text, moved_text, series_text, soon_text, spread_text, unknown_text, widths_text};
+ghost use Rattle.std.specs.Prelude.{◌≡◌, ◌+◌, ◌<◌, ◌≤◌, None, Some, length};
+ghost use Rattle.std.specs.Option.{option_copied};
+ghost use Rattle.cec_opcode.specs.Table.{name_of};
+ghost use Rattle.cec_audit.specs.Lines.{answer_text, answers_text, answered_text, claim_text, claims_text, count_text, counts_text, drive_text, drive_word, failure_text, failure_word, head_line, head_text, if_answered, if_given_up, if_late, kind_text, late_text, limit_word, misfit_line, misfit_text, misfits_text, missing_text, moved_text, named_text, named_text, receivers_text, receivers_word, request_text, series_text, soon_text, spread_text, unfinished_text, unless_reported, widths_text, within_text};
 ghost use Rattle.cec_audit.specs.Progress.{WritesOn};
 
 use crate::progress::Progress;
 use cec_frame::Ending;
-use cec_remarks::{Count, Failure, Request, Series, TooSoon};
+use cec_opcode::name;
+use cec_remarks::{
+    Count, Failure, Head, Mention, Missing, Receivers, Request, Series, Sources, TooSoon,
+};
 use cec_timing::{DRIVE, Kind, Low, Misfit, Spread, Widths, low_misfit, total_misfit};
 use hdmi_core::{Phys, Piece, Sink};
 
 /// The first attempt, and five retransmissions (CEC 7.1).
 const ATTEMPTS: u64 = 6;
+
+/// Writes what the standard calls what a line leaves as bytes.
+pub(crate) fn write_named<S: Sink>(
+    named: Option<&'static str>,
+    progress: &mut Progress,
+    out: &mut S,
+)
+    ensures { WritesOn (S.contents out.old) (S.contents out.new) (S.is_stuck out.old) (S.is_stuck out.new) (named_text (option_copied named.entry)) progress.old.so_far progress.new.so_far }
+{
+    let Some(text) = named else {
+        return;
+    };
+    progress.line(
+        out,
+        &[Piece::Text("  # "), Piece::Text(text), Piece::Text("\n")],
+    );
+}
+
+fn write_header<S: Sink>(head: Head, progress: &mut Progress, out: &mut S)
+    ensures { WritesOn (S.contents out.old) (S.contents out.new) (S.is_stuck out.old) (S.is_stuck out.new) (head_line head None) progress.old.so_far progress.new.so_far }
+{
+    progress.line(
+        out,
+        &[
+            Piece::Text("  read "),
+            Piece::Nibble(head.initiator),
+            Piece::Text(">"),
+            Piece::Nibble(head.destination),
+            Piece::Text("\n"),
+        ],
+    );
+}
+
+fn write_head_of_name<S: Sink>(
+    head: Head,
+    opcode: u8,
+    text: &str,
+    progress: &mut Progress,
+    out: &mut S,
+)
+    requires { name_of opcode ≡ Some text.now }
+    ensures { WritesOn (S.contents out.old) (S.contents out.new) (S.is_stuck out.old) (S.is_stuck out.new) (head_line head (Some opcode)) progress.old.so_far progress.new.so_far }
+{
+    progress.line(
+        out,
+        &[
+            Piece::Text("  read "),
+            Piece::Nibble(head.initiator),
+            Piece::Text(">"),
+            Piece::Nibble(head.destination),
+            Piece::Text(" "),
+            Piece::Text(text),
+            Piece::Text("\n"),
+        ],
+    );
+}
+
+fn write_head_of_byte<S: Sink>(head: Head, opcode: u8, progress: &mut Progress, out: &mut S)
+    requires { name_of opcode ≡ None }
+    ensures { WritesOn (S.contents out.old) (S.contents out.new) (S.is_stuck out.old) (S.is_stuck out.new) (head_line head (Some opcode)) progress.old.so_far progress.new.so_far }
+{
+    progress.line(
+        out,
+        &[
+            Piece::Text("  read "),
+            Piece::Nibble(head.initiator),
+            Piece::Text(">"),
+            Piece::Nibble(head.destination),
+            Piece::Text(" op-"),
+            Piece::HexByte(opcode),
+            Piece::Text("\n"),
+        ],
+    );
+}
+
+fn write_head_line<S: Sink>(head: Head, opcode: u8, progress: &mut Progress, out: &mut S)
+    ensures { WritesOn (S.contents out.old) (S.contents out.new) (S.is_stuck out.old) (S.is_stuck out.new) (head_line head (Some opcode)) progress.old.so_far progress.new.so_far }
+{
+    match name(opcode) {
+        None => write_head_of_byte(head, opcode, progress, out),
+        Some(text) => write_head_of_name(head, opcode, text, progress, out),
+    }
+}
+
+fn write_head_by<S: Sink>(head: Head, opcode: Option<u8>, progress: &mut Progress, out: &mut S)
+    ensures { WritesOn (S.contents out.old) (S.contents out.new) (S.is_stuck out.old) (S.is_stuck out.new) (head_line head opcode) progress.old.so_far progress.new.so_far }
+{
+    match opcode {
+        None => write_header(head, progress, out),
+        Some(opcode) => write_head_line(head, opcode, progress, out),
+    }
+}
+
+/// Writes the header and the opcode of a reading that ends after whole blocks.
+pub(crate) fn write_head<S: Sink>(head: Option<Head>, progress: &mut Progress, out: &mut S)
+    ensures { WritesOn (S.contents out.old) (S.contents out.new) (S.is_stuck out.old) (S.is_stuck out.new) (head_text head) progress.old.so_far progress.new.so_far }
+{
+    let Some(head) = head else {
+        return;
+    };
+    write_head_by(head, head.opcode, progress, out);
+}
 
 pub(crate) fn write_series<S: Sink>(series: Option<Series>, progress: &mut Progress, out: &mut S)
     ensures { WritesOn (S.contents out.old) (S.contents out.new) (S.is_stuck out.old) (S.is_stuck out.new) (series_text series) progress.old.so_far progress.new.so_far }
@@ -153,6 +260,38 @@ pub(crate) fn write_drive<S: Sink>(drive: Option<u64>, progress: &mut Progress, 
     );
 }
 
+pub(crate) fn write_within<S: Sink>(drive: Option<u64>, progress: &mut Progress, out: &mut S)
+    ensures { WritesOn (S.contents out.old) (S.contents out.new) (S.is_stuck out.old) (S.is_stuck out.new) (within_text drive) progress.old.so_far progress.new.so_far }
+{
+    let Some(width) = drive else {
+        return;
+    };
+    progress.line(
+        out,
+        &[
+            Piece::Text("  low drive for "),
+            Piece::Decimal(width),
+            Piece::Text("\n"),
+        ],
+    );
+}
+
+pub(crate) fn write_unfinished<S: Sink>(block: Option<usize>, progress: &mut Progress, out: &mut S)
+    ensures { WritesOn (S.contents out.old) (S.contents out.new) (S.is_stuck out.old) (S.is_stuck out.new) (unfinished_text block) progress.old.so_far progress.new.so_far }
+{
+    let Some(block) = block else {
+        return;
+    };
+    progress.line(
+        out,
+        &[
+            Piece::Text("  ends after block "),
+            Piece::Decimal(block as u64),
+            Piece::Text(" without EOM\n"),
+        ],
+    );
+}
+
 fn failure_word(refused: bool) -> &'static str
     ensures { result.now ≡ failure_word refused }
 {
@@ -214,28 +353,83 @@ pub(crate) fn write_moved<S: Sink>(
     );
 }
 
-pub(crate) fn write_unknown<S: Sink>(unknown: Option<Phys>, progress: &mut Progress, out: &mut S)
-    ensures { WritesOn (S.contents out.old) (S.contents out.new) (S.is_stuck out.old) (S.is_stuck out.new) (unknown_text unknown) progress.old.so_far progress.new.so_far }
+fn receivers_word(receivers: Receivers) -> &'static str
+    ensures { result.now ≡ receivers_word receivers }
 {
-    let Some(phys) = unknown else {
+    match receivers {
+        Receivers::OneDevice => "  to all, only for one device\n",
+        Receivers::AllDevices => "  to one device, only for all\n",
+    }
+}
+
+pub(crate) fn write_receivers<S: Sink>(
+    receivers: Option<Receivers>,
+    progress: &mut Progress,
+    out: &mut S,
+)
+    ensures { WritesOn (S.contents out.old) (S.contents out.new) (S.is_stuck out.old) (S.is_stuck out.new) (receivers_text receivers) progress.old.so_far progress.new.so_far }
+{
+    let Some(receivers) = receivers else {
+        return;
+    };
+    progress.line(out, &[Piece::Text(receivers_word(receivers))]);
+}
+
+pub(crate) fn write_missing<S: Sink>(missing: Option<Missing>, progress: &mut Progress, out: &mut S)
+    ensures { WritesOn (S.contents out.old) (S.contents out.new) (S.is_stuck out.old) (S.is_stuck out.new) (missing_text missing) progress.old.so_far progress.new.so_far }
+{
+    let Some(missing) = missing else {
         return;
     };
     progress.line(
         out,
         &[
-            Piece::Text("  nobody reported "),
-            Piece::Phys(phys),
+            Piece::Text("  operands "),
+            Piece::Decimal(missing.count as u64),
+            Piece::Text(", at least "),
+            Piece::Decimal(missing.least as u64),
             Piece::Text("\n"),
         ],
     );
 }
 
-fn write_if_late<S: Sink>(begin: u64, request: Request, progress: &mut Progress, out: &mut S)
-    ensures { WritesOn (S.contents out.old) (S.contents out.new) (S.is_stuck out.old) (S.is_stuck out.new) (if_late begin request) progress.old.so_far progress.new.so_far }
+fn write_claim<S: Sink>(sources: &Sources, claim: Mention, progress: &mut Progress, out: &mut S)
+    ensures { WritesOn (S.contents out.old) (S.contents out.new) (S.is_stuck out.old) (S.is_stuck out.new) (unless_reported sources.now.reported.items claim) progress.old.so_far progress.new.so_far }
 {
-    if !request.is_late(begin) {
+    if !sources.is_unreported(claim.phys) {
         return;
     }
+    progress.line(
+        out,
+        &[
+            Piece::Text("  nobody reported "),
+            Piece::Phys(claim.phys),
+            Piece::Text(" of "),
+            Piece::Decimal(claim.since),
+            Piece::Text("\n"),
+        ],
+    );
+}
+
+/// Writes the addresses of active sources that nobody reported.
+pub(crate) fn write_claims<S: Sink>(
+    sources: &Sources,
+    claims: &[Mention],
+    progress: &mut Progress,
+    out: &mut S,
+)
+    ensures { WritesOn (S.contents out.old) (S.contents out.new) (S.is_stuck out.old) (S.is_stuck out.new) (claims_text sources.now.reported.items claims.now) progress.old.so_far progress.new.so_far }
+{
+    let [claim, claims @ ..] = claims else {
+        return;
+    };
+    write_claim(sources, *claim, progress, out);
+    write_claims(sources, claims, progress, out);
+}
+
+fn write_request<S: Sink>(request: Request, progress: &mut Progress, out: &mut S)
+    ensures { WritesOn (S.contents out.old) (S.contents out.new) (S.is_stuck out.old) (S.is_stuck out.new) (request_text request) progress.old.so_far progress.new.so_far }
+{
     progress.line(
         out,
         &[
@@ -250,6 +444,86 @@ fn write_if_late<S: Sink>(begin: u64, request: Request, progress: &mut Progress,
             Piece::Text("\n"),
         ],
     );
+}
+
+fn write_if_late<S: Sink>(begin: u64, request: Request, progress: &mut Progress, out: &mut S)
+    ensures { WritesOn (S.contents out.old) (S.contents out.new) (S.is_stuck out.old) (S.is_stuck out.new) (if_late begin request) progress.old.so_far progress.new.so_far }
+{
+    if !request.is_late(begin) {
+        return;
+    }
+    write_request(request, progress, out);
+}
+
+fn write_if_given_up<S: Sink>(
+    begin: u64,
+    frame: &[u8],
+    request: Request,
+    progress: &mut Progress,
+    out: &mut S,
+)
+    ensures { WritesOn (S.contents out.old) (S.contents out.new) (S.is_stuck out.old) (S.is_stuck out.new) (if_given_up begin frame.now request) progress.old.so_far progress.new.so_far }
+{
+    if !request.is_given_up(begin, frame) {
+        return;
+    }
+    write_request(request, progress, out);
+}
+
+fn write_answered<S: Sink>(wait: u64, progress: &mut Progress, out: &mut S)
+    ensures { WritesOn (S.contents out.old) (S.contents out.new) (S.is_stuck out.old) (S.is_stuck out.new) (answered_text wait) progress.old.so_far progress.new.so_far }
+{
+    progress.line(
+        out,
+        &[
+            Piece::Text("  answered after "),
+            Piece::Decimal(wait),
+            Piece::Text(", at most 1000000\n"),
+        ],
+    );
+}
+
+fn write_if_answered<S: Sink>(begin: u64, request: Request, progress: &mut Progress, out: &mut S)
+    ensures { WritesOn (S.contents out.old) (S.contents out.new) (S.is_stuck out.old) (S.is_stuck out.new) (if_answered begin request) progress.old.so_far progress.new.so_far }
+{
+    if !request.is_late(begin) {
+        return;
+    }
+    write_answered(request.waited(begin), progress, out);
+}
+
+fn write_answer<S: Sink>(
+    begin: u64,
+    frame: &[u8],
+    request: Request,
+    progress: &mut Progress,
+    out: &mut S,
+)
+    ensures { WritesOn (S.contents out.old) (S.contents out.new) (S.is_stuck out.old) (S.is_stuck out.new) (answer_text begin frame.now request) progress.old.so_far progress.new.so_far }
+{
+    if request.is_answer(frame) {
+        write_if_answered(begin, request, progress, out);
+        return;
+    }
+    write_if_given_up(begin, frame, request, progress, out);
+}
+
+/// Writes which requests a frame answers too late, and which stay without an answer, of those that wait when its reading
+/// begins.
+pub(crate) fn write_answers<S: Sink>(
+    begin: u64,
+    frame: &[u8],
+    waiting: &[Request],
+    progress: &mut Progress,
+    out: &mut S,
+)
+    ensures { WritesOn (S.contents out.old) (S.contents out.new) (S.is_stuck out.old) (S.is_stuck out.new) (answers_text begin frame.now waiting.now) progress.old.so_far progress.new.so_far }
+{
+    let [request, waiting @ ..] = waiting else {
+        return;
+    };
+    write_answer(begin, frame, *request, progress, out);
+    write_answers(begin, frame, waiting, progress, out);
 }
 
 /// Writes the requests that have waited for more than a second at an instant.

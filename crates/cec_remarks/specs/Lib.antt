@@ -6,3 +6,5 @@ pub mod Counts
 pub mod Frames
 pub mod Requests
 pub mod Places
+pub mod Sources
+pub mod Messages

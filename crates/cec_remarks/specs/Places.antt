@@ -1,5 +1,5 @@
 -- The physical addresses that devices report (CEC 10.1, Report Physical Address; CEC 11.2, Active Source).
-use Rattle.std.specs.Prelude.{ℕ, ◌==◌, Bool, false, nat_lt, ◌&&◌, ◌||◌, if◌then◌else◌, List, [], ◌∷◌, length, replicate, slice_index, slice_index_or, slice_set, Option, Some, None}
+use Rattle.std.specs.Prelude.{ℕ, ◌==◌, Bool, nat_lt, ◌&&◌, if◌then◌else◌, List, length, replicate, slice_index, slice_index_or, slice_set, Option, Some, None}
 use Rattle.hdmi_core.specs.declared.phys.Phys.{Phys}
 use Rattle.cec_remarks.specs.Frames.{opcode_of, sender}
 
@@ -25,7 +25,7 @@ with_report initiator (Some phys) places = slice_set places initiator (Some phys
 abbrev pub with_places : List ℕ → List (Option Phys) → List (Option Phys)
 with_places frame places = with_report (sender frame) (reported_address frame) places
 
--- ---- two addresses for one device: `  1 reported_address 1.0.0.0 before`
+-- ---- two addresses for one device
 
 abbrev pub same_phys : Phys → Phys → Bool
 same_phys a b = (a.high == b.high) && (a.low == b.low)
@@ -41,20 +41,3 @@ other_by initiator (Some phys) places = if initiator == 15 then None else other_
 
 abbrev pub moved_from : List ℕ → List (Option Phys) → Option Phys
 moved_from frame places = other_by (sender frame) (reported_address frame) places
-
--- ---- an active source that nobody reported: `  nobody reported_address 2.0.0.0`
-
-abbrev pub is_place : Option Phys → Phys → Bool
-is_place None phys = false
-is_place (Some place) phys = same_phys place phys
-
-abbrev pub is_reported : List (Option Phys) → Phys → Bool
-is_reported [] phys = false
-is_reported (place ∷ places) phys = is_place place phys || is_reported places phys
-
-abbrev pub unknown_by : Option Phys → List (Option Phys) → Option Phys
-unknown_by None places = None
-unknown_by (Some phys) places = if is_reported places phys then None else Some phys
-
-abbrev pub unknown_source : List ℕ → List (Option Phys) → Option Phys
-unknown_source frame places = unknown_by (claimed_address frame) places

@@ -1,16 +1,14 @@
 //! The physical addresses that devices report.
 ghost use Rattle.std.specs.Prelude.{◌≡◌, ◌<◌, None};
 ghost use Rattle.cec_remarks.specs.Frames.{sender};
-ghost use Rattle.cec_remarks.specs.Places.{is_place, is_reported, moved_from, no_places, other_than, phys_in, same_phys, unknown_source, with_places};
+ghost use Rattle.cec_remarks.specs.Places.{moved_from, no_places, other_than, phys_in, same_phys, with_places};
 
 use crate::frames::{opcode_of, sender};
 use cec_frame::Addr;
 use hdmi_core::{Phys, byte_at};
 
-/// The opcodes of Report Physical Address and Active Source.
-const REPORT: u8 = 0x84;
-
-const ACTIVE_SOURCE: u8 = 0x82;
+/// The opcode of Report Physical Address.
+pub(crate) const REPORT: u8 = 0x84;
 
 /// What each logical address reported last.
 pub type Places = [Option<Phys>; 16];
@@ -22,8 +20,8 @@ pub fn no_places() -> Places
     [None; 16]
 }
 
-// The address in a frame of this opcode.
-fn phys_in(opcode: u8, frame: &[u8]) -> Option<Phys>
+/// The address in a frame of this opcode.
+pub(crate) fn phys_in(opcode: u8, frame: &[u8]) -> Option<Phys>
     ensures { result ≡ phys_in opcode frame.now }
 {
     if opcode_of(frame) != opcode || frame.len() < 4 {
@@ -35,7 +33,7 @@ fn phys_in(opcode: u8, frame: &[u8]) -> Option<Phys>
     })
 }
 
-fn same_phys(one: Phys, other: Phys) -> bool
+pub(crate) fn same_phys(one: Phys, other: Phys) -> bool
     ensures { result ≡ same_phys one other }
 {
     one.high == other.high && one.low == other.low
@@ -67,39 +65,6 @@ pub fn moved_from(frame: &[u8], places: &Places) -> Option<Phys>
                 return None;
             }
             other_than(places[initiator as usize], phys)
-        }
-    }
-}
-
-fn is_place(place: Option<Phys>, phys: Phys) -> bool
-    ensures { result ≡ is_place place phys }
-{
-    match place {
-        None => false,
-        Some(place) => same_phys(place, phys),
-    }
-}
-
-fn is_reported(places: &[Option<Phys>], phys: Phys) -> bool
-    ensures { result ≡ is_reported places.now phys }
-{
-    let [place, places @ ..] = places else {
-        return false;
-    };
-    is_place(*place, phys) || is_reported(places, phys)
-}
-
-/// The address that an active source has, where nobody reported it.
-pub fn unknown_source(frame: &[u8], places: &Places) -> Option<Phys>
-    ensures { result ≡ unknown_source frame.now places.now }
-{
-    match phys_in(ACTIVE_SOURCE, frame) {
-        None => None,
-        Some(phys) => {
-            if is_reported(places, phys) {
-                return None;
-            }
-            Some(phys)
         }
     }
 }

@@ -1,18 +1,25 @@
 //! Requests that wait for an answer.
 ghost use Rattle.std.specs.Prelude.{◌≡◌, ◌+◌, ◌≤◌, ◌<◌, ◌++◌, length};
 ghost use Rattle.cec_remarks.specs.Frames.{opcode_of, receiver, sender};
-ghost use Rattle.cec_remarks.specs.Requests.{after_frame, answer_to, is_answer, is_late, is_over, left_waiting, reaches, refuses, request_of, unless_over, with_request};
+ghost use Rattle.cec_remarks.specs.Requests.{after_frame, answer_to, asks_again, is_answer, is_given_up, is_late, is_later, is_opcode, is_over, is_to_refuse, left_waiting, reaches, refuses, request_of, unless_over, waited, with_request};
 
 use crate::frames::{opcode_of, receiver, sender};
 use arrayvec::ArrayVec;
 use cec_frame::Addr;
+use cec_opcode::name;
 use hdmi_core::byte_at;
 
 /// The longest time in which an answer comes (CEC 9.2), in microseconds.
 const ANSWER: u64 = 1_000_000;
 
+/// How long an answer that is late is looked for, in microseconds.
+const PATIENCE: u64 = 5_000_000;
+
 /// The opcode of Feature Abort (CEC 12.3).
 const FEATURE_ABORT: u8 = 0x00;
+
+/// The opcode of Abort (CEC 12.3), which a device refuses.
+const ABORT: u8 = 0xff;
 
 /// The most requests that wait at once.
 pub const WAITING: usize = 16;
@@ -23,8 +30,8 @@ pub struct Request {
     pub initiator: u8,
     pub destination: u8,
     pub opcode: u8,
-    /// The opcode of its answer.
-    pub answer: u8,
+    /// The opcode of its answer. Without one it is to be refused.
+    pub answer: Option<u8>,
     /// Where its reading ended.
     pub since: u64,
 }
@@ -50,24 +57,52 @@ fn answer_to(opcode: u8) -> Option<u8>
     }
 }
 
+// Whether only a later version of the standard has an opcode.
+fn is_later(opcode: u8) -> bool
+    ensures { result ≡ is_later opcode }
+{
+    opcode == 0x73 || (opcode >= 0xa5 && opcode <= 0xa8) || opcode == 0xf8
+}
+
+// Whether an opcode is Abort, or one that no version of the standard has.
+fn is_to_refuse(opcode: u8) -> bool
+    ensures { result ≡ is_to_refuse opcode }
+{
+    match name(opcode) {
+        None => opcode == ABORT || !is_later(opcode),
+        Some(_) => opcode == ABORT,
+    }
+}
+
 // The request that a frame is, whose reading ended then.
 fn request_of(frame: &[u8], since: u64) -> Option<Request>
     ensures { result ≡ request_of frame.now since }
 {
+    let initiator = sender(frame);
     let destination = receiver(frame);
-    if frame.len() < 2 || destination == Addr::BROADCAST {
+    if frame.len() < 2 || destination == Addr::BROADCAST || initiator == Addr::BROADCAST {
         return None;
     }
     let opcode = opcode_of(frame);
-    match answer_to(opcode) {
-        None => None,
-        Some(answer) => Some(Request {
-            initiator: sender(frame),
-            destination,
-            opcode,
-            answer,
-            since,
-        }),
+    let answer = answer_to(opcode);
+    if answer.is_none() && !is_to_refuse(opcode) {
+        return None;
+    }
+    Some(Request {
+        initiator,
+        destination,
+        opcode,
+        answer,
+        since,
+    })
+}
+
+fn is_opcode(opcode: u8, answer: Option<u8>) -> bool
+    ensures { result ≡ is_opcode opcode answer }
+{
+    match answer {
+        None => false,
+        Some(answer) => opcode == answer,
     }
 }
 
@@ -87,14 +122,14 @@ impl Request {
             && byte_at(frame, 2) == self.opcode
     }
 
-    // Whether a frame answers it.
-    fn is_answer(self, frame: &[u8]) -> bool
+    /// Whether a frame answers it.
+    pub fn is_answer(self, frame: &[u8]) -> bool
         ensures { result ≡ is_answer frame.now self }
     {
         if frame.len() < 2 || sender(frame) != self.destination {
             return false;
         }
-        (opcode_of(frame) == self.answer && self.reaches(frame)) || self.refuses(frame)
+        (is_opcode(opcode_of(frame), self.answer) && self.reaches(frame)) || self.refuses(frame)
     }
 
     /// Whether more than a second has passed by an instant.
@@ -104,10 +139,34 @@ impl Request {
         self.since.saturating_add(ANSWER) < begin
     }
 
+    /// How long it had waited by an instant, in microseconds.
+    pub fn waited(self, begin: u64) -> u64
+        ensures { result ≡ waited begin self }
+    {
+        begin.saturating_sub(self.since)
+    }
+
+    fn asks_again(self, frame: &[u8]) -> bool
+        ensures { result ≡ asks_again frame.now self }
+    {
+        frame.len() >= 2
+            && sender(frame) == self.initiator
+            && receiver(frame) == self.destination
+            && opcode_of(frame) == self.opcode
+    }
+
+    /// Whether it stays without an answer: five seconds have passed by an instant, or more than one, and it is asked again.
+    pub fn is_given_up(self, begin: u64, frame: &[u8]) -> bool
+        ensures { result ≡ is_given_up begin frame.now self }
+    {
+        self.since.saturating_add(PATIENCE) < begin
+            || (self.is_late(begin) && self.asks_again(frame))
+    }
+
     fn is_over(self, begin: u64, frame: &[u8]) -> bool
         ensures { result ≡ is_over begin frame.now self }
     {
-        self.is_late(begin) || self.is_answer(frame)
+        self.is_answer(frame) || self.is_given_up(begin, frame)
     }
 }
 

@@ -7,21 +7,14 @@ use Rattle.cec_wave.specs.Bounds.{most_sent}
 
 -- ---- a place among edges
 
--- the edges that are left, and the instant of the last one before them, or 0
-pub record EdgePosition : Type 0 where
-  pub since : ℕ
-  pub edges : List Edge
-
-abbrev pub place_at : ℕ → List Edge → EdgePosition
-place_at since edges = record { since = since; edges = edges }
-
-abbrev pub place_of : Cursor → EdgePosition
-place_of c = place_at c.since c.edges.now
+-- the edges that are left
+abbrev pub place_of : Cursor → List Edge
+place_of c = c.edges.now
 
 -- the edges before an instant are passed over
-abbrev pub gone_to : ℕ → ℕ → List Edge → EdgePosition
-gone_to begin since [] = place_at since []
-gone_to begin since (e ∷ es) = if nat_lt e.at begin then gone_to begin e.at es else place_at since (e ∷ es)
+abbrev pub gone_to : ℕ → List Edge → List Edge
+gone_to begin [] = []
+gone_to begin (e ∷ es) = if nat_lt e.at begin then gone_to begin es else e ∷ es
 
 -- ---- low stretches
 

@@ -1,6 +1,6 @@
 -- Which widths of a reading are out of their windows (CEC 5.2.1: start bit; 5.2.2: data bits; 7.4: the low drive that
 -- breaks a message, 1.4 to 1.6 nominal bit periods). Widths in microseconds.
-use Rattle.std.specs.Prelude.{ℕ, ◌-◌, ◌==◌, Bool, true, false, not, nat_lt, nat_le, ◌&&◌, if◌then◌else◌, List, length, slice_index_or, Option, Some, None}
+use Rattle.std.specs.Prelude.{ℕ, ◌-◌, ◌==◌, Bool, true, false, not, nat_lt, nat_le, ◌&&◌, if◌then◌else◌, List, [], ◌∷◌, length, slice_index_or, Option, Some, None}
 use Rattle.cec_frame.specs.declared.Ending.{Ending}
 use Rattle.cec_frame.specs.declared.Ending.TheVariants.{Complete, Short, Long}
 use Rattle.cec_timing.specs.declared.low.Low.{Low as LowOf}
@@ -73,3 +73,25 @@ drive_by fall (Some rise) = if nat_lt 1700 (rise - fall) then Some (rise - fall)
 abbrev pub low_drive : Ending → LowOf → Option ℕ
 low_drive Short low = drive_by low.fall low.rise
 low_drive _ low = None
+
+-- A low drive that begins while the line is low makes one low stretch of both: as long as a drive at least, and at most by a
+-- bit's low period longer (CEC 5.2.2, 7.4; that it is told by its length is own). It ends the frame, so that it is the last
+-- slot's. The first low stretch of a reading is the start bit.
+abbrev pub last_of : Option LowOf → List LowOf → Option LowOf
+last_of last [] = last
+last_of last (low ∷ lows) = last_of (Some low) lows
+
+abbrev pub last_slot : List LowOf → Option LowOf
+last_slot [] = None
+last_slot (start ∷ lows) = last_of None lows
+
+abbrev pub long_by : ℕ → Option ℕ → Option ℕ
+long_by fall None = None
+long_by fall (Some rise) = if fits (window 3360 5540) (rise - fall) then Some (rise - fall) else None
+
+abbrev pub long_low : Option LowOf → Option ℕ
+long_low None = None
+long_low (Some low) = long_by low.fall low.rise
+
+abbrev pub drive_within : List LowOf → Option ℕ
+drive_within lows = long_low (last_slot lows)

@@ -1,5 +1,5 @@
 -- The least, greatest and mean of widths (own).
-use Rattle.std.specs.Prelude.{ℕ, ◌+◌, ◌-◌, ◌==◌, Bool, min, max, if◌then◌else◌, List, [], ◌∷◌, length, Option, Some, None}
+use Rattle.std.specs.Prelude.{ℕ, ◌+◌, ◌-◌, ◌==◌, Bool, false, not, nat_le, ◌||◌, min, max, if◌then◌else◌, List, [], ◌∷◌, length, Option, Some, None}
 use Rattle.cec_frame.specs.declared.Ending.{Ending}
 use Rattle.cec_timing.specs.declared.low.Low.{Low}
 use Rattle.cec_timing.specs.declared.spread.Spread.{Spread}
@@ -49,9 +49,19 @@ with_low bits slot width w =
 abbrev pub with_total : ℕ → Option ℕ → Widths → Widths
 with_total slot width w = if slot == 0 then record w { start_total = with_some width w.start_total } else record w { total = with_some width w.total }
 
+-- A start bit is low for 3,700 (CEC 5.2.1), and no bit for longer than a 0, for 1,500 (CEC 5.2.2): a reading begins with one
+-- where its first low stretch is nearer to that (own). What follows a break begins with a data bit.
+abbrev pub is_start : ℕ → Option ℕ → Bool
+is_start fall None = false
+is_start fall (Some rise) = nat_le 2600 (rise - fall)
+
+abbrev pub counts : ℕ → Low → Bool
+counts slot low = not (slot == 0) || is_start low.fall low.rise
+
 -- with those of a slot; slot 0 is the start bit
 abbrev pub with_slot : Ending → List Bool → ℕ → Low → Widths → Widths
-with_slot ending bits slot low w = with_total slot (total_to ending (length bits) slot low.fall low.next) (with_low bits slot (width_to low.fall low.rise) w)
+with_slot ending bits slot low w =
+    if counts slot low then with_total slot (total_to ending (length bits) slot low.fall low.next) (with_low bits slot (width_to low.fall low.rise) w) else w
 
 -- with those of the slots from one on
 abbrev pub with_slots : Ending → List Bool → ℕ → List Low → Widths → Widths

@@ -1,6 +1,6 @@
 //! Which widths are out of their windows.
 ghost use Rattle.std.specs.Prelude.{◌≡◌, ◌-◌, ◌<◌};
-ghost use Rattle.cec_timing.specs.Misfits.{fits, has_all, is_total, low_drive, low_misfit, low_window, misfit_of, slot_bit, total_misfit, total_window};
+ghost use Rattle.cec_timing.specs.Misfits.{drive_within, fits, has_all, is_total, last_of, last_slot, long_by, long_low, low_drive, low_misfit, low_window, misfit_of, slot_bit, total_misfit, total_window};
 
 use crate::low::Low;
 use cec_frame::Ending;
@@ -36,6 +36,12 @@ const BIT_TOTAL: Window = Window {
 pub const DRIVE: Window = Window {
     least: 3_360,
     greatest: 3_840,
+};
+
+/// A low drive that begins while the line is low, with what is low before it: at most a bit's low period (CEC 5.2.2, 7.4).
+const DRIVE_WITHIN: Window = Window {
+    least: 3_360,
+    greatest: 5_540,
 };
 
 /// The shortest signal free time (CEC 9.1): a fall that comes as late begins something else.
@@ -180,5 +186,50 @@ pub fn low_drive(ending: Ending, low: Low) -> Option<u64>
             }
         }
         _ => None,
+    }
+}
+
+fn last_of(last: Option<Low>, lows: &[Low]) -> Option<Low>
+    ensures { result ≡ last_of last lows.now }
+{
+    let [low, lows @ ..] = lows else {
+        return last;
+    };
+    last_of(Some(*low), lows)
+}
+
+fn last_slot(lows: &[Low]) -> Option<Low>
+    ensures { result ≡ last_slot lows.now }
+{
+    let [_, lows @ ..] = lows else {
+        return None;
+    };
+    last_of(None, lows)
+}
+
+fn long_by(fall: u64, rise: Option<u64>) -> Option<u64>
+    ensures { result ≡ long_by fall rise }
+{
+    match rise {
+        None => None,
+        Some(rise) => {
+            let width = rise.saturating_sub(fall);
+            if DRIVE_WITHIN.fits(width) {
+                Some(width)
+            } else {
+                None
+            }
+        }
+    }
+}
+
+/// How long the line stayed low in the last slot of a reading of these low stretches, where that is as long as a low drive that
+/// began while the line was low (CEC 7.4). The first low stretch is the start bit.
+pub fn drive_within(lows: &[Low]) -> Option<u64>
+    ensures { result ≡ drive_within lows.now }
+{
+    match last_slot(lows) {
+        None => None,
+        Some(low) => long_by(low.fall, low.rise),
     }
 }

@@ -1,10 +1,14 @@
 //! The least, greatest and mean of widths.
 ghost use Rattle.std.specs.Prelude.{◌≡◌, ◌+◌, ◌-◌, ◌<◌, length, min};
-ghost use Rattle.cec_timing.specs.Spreads.{no_widths, total_to, width_to, with_low, with_slot, with_slots, with_some, with_total, with_width};
+ghost use Rattle.cec_timing.specs.Spreads.{counts, is_start, no_widths, total_to, width_to, with_low, with_slot, with_slots, with_some, with_total, with_width};
 
 use crate::low::Low;
 use crate::misfit::{is_total, slot_bit};
 use cec_frame::Ending;
+
+/// What is low for as long is nearer to a start bit, low for 3,700, than to a 0, low for 1,500 (CEC 5.2.1, 5.2.2), in
+/// microseconds.
+const NEAR_START: u64 = 2_600;
 
 /// The least and greatest of widths, their count and their sum, in microseconds. Of no width all are 0.
 #[derive(Clone, Copy, Debug, PartialEq, Eq)]
@@ -18,7 +22,7 @@ pub struct Spread {
 /// The widths of the start bits and of the slots of readings.
 #[derive(Clone, Copy, Debug, PartialEq, Eq)]
 pub struct Widths {
-    /// Start bits, from the fall to the rise.
+    /// Start bits, from the fall to the rise: where a reading begins with a low stretch of 2,600 or more.
     pub start_low: Spread,
     /// Start bits, from the fall to that of the first slot.
     pub start_total: Spread,
@@ -94,6 +98,21 @@ fn total_to(ending: Ending, last: u64, slot: u64, fall: u64, next: Option<u64>) 
     }
 }
 
+fn is_start(low: Low) -> bool
+    ensures { result ≡ is_start low.fall low.rise }
+{
+    match low.rise {
+        None => false,
+        Some(rise) => rise.saturating_sub(low.fall) >= NEAR_START,
+    }
+}
+
+fn counts(slot: u64, low: Low) -> bool
+    ensures { result ≡ counts slot low }
+{
+    slot != 0 || is_start(low)
+}
+
 impl Widths {
     /// Of no reading.
     pub const NONE: Widths = Widths {
@@ -134,10 +153,14 @@ impl Widths {
         }
     }
 
+    // Adds a slot's widths; those of a start bit where it is low for as long as one.
     fn add_slot(&mut self, ending: Ending, bits: &[bool], slot: u64, low: Low)
         requires { slot < 1000 }
         ensures { self.new ≡ with_slot ending bits.now slot low self.old }
     {
+        if !counts(slot, low) {
+            return;
+        }
         self.add_low(bits, slot, width_to(low.fall, low.rise));
         self.add_total(
             slot,

@@ -236,9 +236,51 @@ ends_closed low e bits ending at h = by_last (last_ending bits) refl h
     by_last None none k = by_fall (next_fall low e 2750) k
     by_last (Some x) some k = by_end x some (next_fall low e 1050) k
 
+-- and no fall breaks it
+whole_last : (nine eom end : Bool) (x : Ending) → (if nine then (if eom then Some Complete else if end then Some Long else None) else None) ≡ Some x → x ≢ Short
+whole_last true true end x h = λ s. (let e : Some Complete ≡ Some Short = h ∙ ap (λ (y : Ending). Some y) s in cc)
+whole_last true false true x h = λ s. (let e : Some Long ≡ Some Short = h ∙ ap (λ (y : Ending). Some y) s in cc)
+whole_last true false false x h = cc
+whole_last false eom end x h = cc
+
+ends_whole_so : (x ending : Ending) (a at : ℕ) → Ends x a ≡ Ends ending at → x ≢ Short → ending ≢ Short
+ends_whole_so x ending a at same h = subst P same h
+  where
+    P : After → Type 0
+    P (Next f) = Unit {0}
+    P (Ends z c) = z ≢ Short
+
+silent_whole : Silent ≢ Short
+silent_whole = λ s. cc
+
+ends_whole : (low : Line) (e : ℕ) (bits : List Bool) (ending : Ending) (at : ℕ) → ((u : ℕ) → e < u → u < e + 2400 → is_fall low u ≡ false) → after_slot low e (last_ending bits) ≡ Ends ending at → ending ≢ Short
+ends_whole low e bits ending at quiet h = by_last (last_ending bits) refl h
+  where
+    by_time : (f : ℕ) (b : Bool) → e < f → is_fall low f ≡ true → nat_lt f (e + 2050) ≡ b → (if b then Ends Short f else Next f) ≡ Ends ending at → ending ≢ Short
+    by_time f true after falls early k = let lt : f < e + 2050 = grind (arith, nat_tests) in absurd (false≢true (sym (quiet f after (omega arith)) ∙ falls))
+    by_time f false after falls late k = cc
+
+    by_fall : (o : Option ℕ) → next_fall low e 2750 ≡ o → after_fall e o ≡ Ends ending at → ending ≢ Short
+    by_fall None none k = ends_whole_so Silent ending (e + 2751) at k silent_whole
+    by_fall (Some f) found k = let d = found_first (is_fall low) (e + 1) 2750 f found in by_time f (nat_lt f (e + 2050)) (omega (arith, d.after)) d.passes refl k
+
+    by_end : (x : Ending) → last_ending bits ≡ Some x → (o : Option ℕ) → next_fall low e 1050 ≡ o → after_last e x o ≡ Ends ending at → ending ≢ Short
+    by_end x some None none k = ends_whole_so x ending (e + 1050) at k (whole_last (length bits % 10 == 9) (slice_index_or bits (length bits - 1) false) (length bits == 159) x some)
+    by_end x some (Some f) found k =
+        let d = found_first (is_fall low) (e + 1) 1050 f found in
+        absurd (false≢true (sym (quiet f (omega (arith, d.after)) (omega (arith, d.within))) ∙ d.passes))
+
+    by_last : (o : Option Ending) → last_ending bits ≡ o → after_slot low e o ≡ Ends ending at → ending ≢ Short
+    by_last None none k = by_fall (next_fall low e 2750) refl k
+    by_last (Some x) some k = by_end x some (next_fall low e 1050) refl k
+
+pub record IsOwnEnding (ending : Ending) : Type 0 where
+  pub closed : ending ≢ Open
+  pub whole : ending ≢ Short
+
 -- it ends after its last slot has fallen, and has a slot
 abbrev IsEndOf : ℕ → List Bool → Read → Type 0
-IsEndOf e bits r = (e + 2400 * length bits < r.at + 2400) × (0 < length bits) × (r.ending ≢ Open)
+IsEndOf e bits r = (e + 2400 * length bits < r.at + 2400) × (0 < length bits) × IsOwnEnding r.ending
 
 abbrev reported_slots : Read → List Bool
 reported_slots r = filter_map (λ (s : Slot). s.bit) r.slots
@@ -268,7 +310,7 @@ slots_end seats begin low c (suc left) xs bits e s all some =
     by_after bit d (Ends ending at) h ih =
         let over : IsOver low e at (last_heard ending at) = ends_over low e bits ending at (quiet_slot seats begin low c (suc left) xs bits e s) h in
         let later = over.later in
-        (omega (arith, later), omega arith, ends_closed low e bits ending at h)
+        (omega (arith, later), omega arith, record { closed = ends_closed low e bits ending at h; whole = ends_whole low e bits ending at (quiet_slot seats begin low c (suc left) xs bits e s) h })
 
     by_bit : (bit : Bool) × SlotLow low e bit → (a : After) → after_slot low e (last_ending bits) ≡ a → More → EndsLater low left (bits ++ option_to_list (bit_sampled_at low e)) e (bit_sampled_at low e) (after_slot low e (last_ending bits))
     by_bit d a h ih =
@@ -444,7 +486,7 @@ rounds_are_nominal seats begin o frames wave r h =
 
 -- its reading ends after its last slot has fallen, and has a slot
 pub ends_later : (seats : List Seat) (begin : ℕ) (o : Outcome) → AreFrames seats → IsRound seats begin [] o → list_any (λ s. is_some s.sends) seats ≡ true
-    → (begin + 2100 + 2400 * length o.reading.bits.items < o.reading.at) × (0 < length o.reading.bits.items) × (o.reading.ending ≢ Open)
+    → (begin + 2100 + 2400 * length o.reading.bits.items < o.reading.at) × (0 < length o.reading.bits.items) × IsOwnEnding o.reading.ending
 ends_later seats begin o frames r h =
     let there = d.0 in
     let bits : o.reading.bits.items ≡ reported_slots (read_slots low 160 [] (begin + 4500)) = r.bits ∙ ap (λ (q : Result ℕ ℕ). bits_of (read_start low begin q)) (starts seats begin low s) in
@@ -452,7 +494,7 @@ ends_later seats begin o frames r h =
     let ending : o.reading.ending ≡ (read_slots low 160 [] (begin + 4500)).ending = r.ending ∙ ap (λ (q : Result ℕ ℕ). (read_start low begin q).ending) (starts seats begin low s) in
     let count : length o.reading.bits.items ≡ length (reported_slots (read_slots low 160 [] (begin + 4500))) = ap length bits in
     let some = d.1 in
-    (omega (arith, there, count, at), omega (arith, some, count), subst (λ (x : Ending). x ≢ Open) (sym ending) d.2)
+    (omega (arith, there, count, at), omega (arith, some, count), subst (λ (x : Ending). IsOwnEnding x) (sym ending) d.2)
   where
     low : Line
     low = line_of o.wave

@@ -1,5 +1,5 @@
 -- Runs without pulses, round by round.
-use Rattle.std.proofs.Common.{◌≡◌, ◌≢◌, ℕ, ◌+◌, ◌-◌, ◌*◌, ◌<◌, ◌≤◌, Bool, true, false, ◌||◌, nat_lt, if◌then◌else◌, List, [], ◌∷◌, ◌++◌, length, slice_index_or, map, inl, inr, Option, Some, None, is_some, refl, arith, ap, ◌∙◌, sym, subst}
+use Rattle.std.proofs.Common.{◌≡◌, ◌≢◌, ℕ, zero, suc, ◌+◌, ◌-◌, ◌*◌, ◌<◌, ◌≤◌, Bool, true, false, not, ◌&&◌, ◌||◌, nat_lt, if◌then◌else◌, List, [], ◌∷◌, ◌++◌, length, slice_index_or, map, take, ◌⊎◌, inl, inr, Option, Some, None, is_some, refl, arith, ap, ◌∙◌, sym, subst}
 use Rattle.std.specs.List.{filter, list_any, cons_option}
 use Rattle.std.proofs.lemmas.Bool.{cases_lt, false≢true}
 use Rattle.std.proofs.lemmas.Bool.Decides.{nat_tests}
@@ -10,11 +10,17 @@ use Rattle.cec_wave.specs.Sender.{slot_stretches, sender_stretches}
 use Rattle.cec_frame.specs.declared.Ending.{Ending}
 use Rattle.cec_frame.specs.declared.Ending.TheVariants.{Complete, Short, Silent, BadStart, Long, Open}
 use Rattle.cec_bits.specs.Reading.{reading_of}
-use Rattle.cec_bits.specs.Readings.{IsLone}
+use Rattle.cec_bits.specs.Readings.{IsLone, Listed}
 use Rattle.cec_bits.proofs.Ends.{at_by}
 use Rattle.cec_signal.specs.Edges.{edges_of}
-use Rattle.cec_timing.specs.Lows.{gone_to, lows_before}
-use Rattle.cec_audit.specs.Audit.{Tape, after, come_to, falls_until, first_tape, is_folded}
+use Rattle.cec_timing.specs.declared.low.Low.{Low as LowOf}
+use Rattle.cec_timing.specs.Lows.{gone_to, low_at, lows_before, lows_in}
+use Rattle.cec_remarks.specs.declared.free.Before.TheVariants.{Nothing}
+use Rattle.cec_remarks.specs.declared.free.Previous.{Previous}
+use Rattle.cec_remarks.specs.declared.free.TooSoon.{TooSoon}
+use Rattle.cec_remarks.specs.Attempts.{tries_again}
+use Rattle.cec_remarks.specs.Free.{before_of, final_bit, final_by, free_before, free_due, is_bad_start, last_fall, previous_with, too_soon}
+use Rattle.cec_audit.specs.Audit.{Tape, after, come_to, falls_until, first_tape, is_folded, lows_of}
 use Rattle.cec_audit.specs.Lines.{misfits_text}
 use Rattle.cec_wire.specs.declared.Seat.{Seat}
 use Rattle.cec_wire.specs.declared.Outcome.{Outcome}
@@ -33,10 +39,10 @@ use Rattle.cec_net.specs.Line.{Move, Happens, Goes, GoesFrom, Moves, rounds_of, 
 use Rattle.cec_net.proofs.Framed.{framed-applied, framed-round, seats_fit}
 use Rattle.cec_net.proofs.Lines.{begun, kept}
 use Rattle.cec_net.proofs.Progress.{Led, led}
-use Rattle.timing_laws.specs.Times.{AreInTime}
+use Rattle.timing_laws.specs.Times.{AreFree, AreInTime, AsksForMore}
 use Rattle.timing_laws.proofs.Slots.{no_pulses}
-use Rattle.timing_laws.proofs.Nominal.{ends_later, rounds_are_nominal}
-use Rattle.timing_laws.proofs.Widths.{Later, sender_remarks}
+use Rattle.timing_laws.proofs.Nominal.{IsOwnEnding, ends_later, rounds_are_nominal}
+use Rattle.timing_laws.proofs.Widths.{Later, none_later, sender_remarks}
 
 -- ---- rounds of nominal times, one after another
 
@@ -45,6 +51,7 @@ pub record IsTimed (o : Outcome) : Type 0 where
   pub some : 0 < length o.reading.bits.items
   pub ends : o.reading.begin + 2100 + 2400 * length o.reading.bits.items < o.reading.at
   pub closed : o.reading.ending ≢ Open
+  pub whole : o.reading.ending ≢ Short
 
 -- each begins a signal free time after the one before, whose reading is over
 abbrev pub Apart : Outcome → List Outcome → Type 0
@@ -62,10 +69,10 @@ abbrev AreBefore : ℕ → List Edge → Type 0
 AreBefore t [] = Unit {0}
 AreBefore t (e ∷ es) = (e.at < t) × AreBefore t es
 
-passed : (t since : ℕ) (old more : List Edge) → AreBefore t old → Later t more → (gone_to t since (old ++ more)).edges ≡ more
-passed t since [] [] h l = refl
-passed t since [] (e ∷ more) h l = let k : t ≤ e.at = l in let x : nat_lt e.at t ≡ false = grind (arith, nat_tests) in rw x refl
-passed t since (e ∷ old) more h l = let a : e.at < t = h.0 in let x : nat_lt e.at t ≡ true = grind (arith, nat_tests) in rw x (passed t e.at old more h.1 l)
+passed : (t : ℕ) (old more : List Edge) → AreBefore t old → Later t more → gone_to t (old ++ more) ≡ more
+passed t [] [] h l = refl
+passed t [] (e ∷ more) h l = let k : t ≤ e.at = l in let x : nat_lt e.at t ≡ false = grind (arith, nat_tests) in rw x refl
+passed t (e ∷ old) more h l = let a : e.at < t = h.0 in let x : nat_lt e.at t ≡ true = grind (arith, nat_tests) in rw x (passed t old more h.1 l)
 
 slots_before : (t fall : ℕ) (bits : List Bool) → fall + 2400 * length bits ≤ t → AreBefore t (edges_of (slot_stretches fall bits))
 slots_before t fall [] h = tt
@@ -138,18 +145,146 @@ old_before o (p ∷ os) h =
     subst (λ (w : List Stretch). AreBefore p.reading.begin (edges_of w)) (sym h.0.wave)
     (let l : o.reading.begin + 9300 + 2400 * length o.reading.bits.items ≤ p.reading.begin = h.1.0 in sender_before p.reading.begin o.reading.begin o.reading.bits.items (omega (arith, l)))
 
-pub rounds_in_time : (os : List Outcome) → AreTimed os → (t : Tape) (old : List Edge) → t.place.edges ≡ old ++ edges_of (run_wave os) → OldBefore old os → AreInTime t (map outcome_listed os)
+come_here : (o : Outcome) (os : List Outcome) → AreTimed (o ∷ os) → (t : Tape) (old : List Edge) → t.place ≡ old ++ edges_of (run_wave (o ∷ os)) → OldBefore old (o ∷ os)
+    → (come_to (outcome_listed o) t).place ≡ edges_of o.wave ++ edges_of (run_wave os)
+come_here o os h t old left past =
+    ap (λ (es : List Edge). gone_to o.reading.begin es) left
+    ∙ passed o.reading.begin old (edges_of (run_wave (o ∷ os))) past (first_edge o.reading.begin (o ∷ os) h (omega arith))
+    ∙ edges_more o.wave (run_wave os)
+
+pub rounds_in_time : (os : List Outcome) → AreTimed os → (t : Tape) (old : List Edge) → t.place ≡ old ++ edges_of (run_wave os) → OldBefore old os → AreInTime t (map outcome_listed os)
 rounds_in_time [] h t old left past = tt
 rounds_in_time (o ∷ os) h t old left past = (
-  unfolded (is_folded t.series o.reading.ending) _ (round_remarks o os h (come_to (outcome_listed o) t).place.edges here),
+  unfolded (is_folded t.series o.reading.ending) _ (round_remarks o os h (come_to (outcome_listed o) t).place here),
   rounds_in_time os h.2 (after (outcome_listed o) t) (edges_of o.wave) here (old_before o os h),
 )
   where
-    here : (come_to (outcome_listed o) t).place.edges ≡ edges_of o.wave ++ edges_of (run_wave os)
-    here =
-        ap (λ (es : List Edge). (gone_to o.reading.begin t.place.since es).edges) left
-        ∙ passed o.reading.begin t.place.since old (edges_of (run_wave (o ∷ os))) past (first_edge o.reading.begin (o ∷ os) h (omega arith))
-        ∙ edges_more o.wave (run_wave os)
+    here : (come_to (outcome_listed o) t).place ≡ edges_of o.wave ++ edges_of (run_wave os)
+    here = come_here o os h t old left past
+
+-- ---- the free time before a round
+
+-- low stretches that fall by an instant
+abbrev AreFallsBy : ℕ → List LowOf → Type 0
+AreFallsBy m [] = Unit {0}
+AreFallsBy m (low ∷ lows) = (low.fall ≤ m) × AreFallsBy m lows
+
+falls_take : (n m : ℕ) (lows : List LowOf) → AreFallsBy m lows → AreFallsBy m (take n lows)
+falls_take zero m lows h = tt
+falls_take (suc n) m [] h = tt
+falls_take (suc n) m (low ∷ lows) h = (h.0, falls_take n m lows h.1)
+
+last_by : (m begin : ℕ) (lows : List LowOf) → begin ≤ m → AreFallsBy m lows → last_fall begin lows ≤ m
+last_by m begin [] b h = b
+last_by m begin (low ∷ lows) b h = last_by m low.fall lows h.0 h.1
+
+low_falls : (m fall rise : ℕ) (es : List Edge) → fall ≤ m → (low_at fall (record { at = rise; low = false } ∷ es)).fall ≤ m
+low_falls m fall rise [] h = h
+low_falls m fall rise (e ∷ es) h = h
+
+falls_more : (m until fall rise : ℕ) (es : List Edge) → fall ≤ m → AreFallsBy m (lows_in until es) → AreFallsBy m (lows_in until (record { at = fall; low = true } ∷ record { at = rise; low = false } ∷ es))
+falls_more m until fall rise es h more = by (nat_lt fall until)
+  where
+    by : (b : Bool) → AreFallsBy m (if b then low_at fall (record { at = rise; low = false } ∷ es) ∷ lows_in until es else [])
+    by true = (low_falls m fall rise es h, more)
+    by false = tt
+
+slots_fall_by : (m until : ℕ) (rest : List Edge) (bits : List Bool) (fall : ℕ) → fall + 2400 * length bits ≤ m + 2400 → Later until rest → AreFallsBy m (lows_in until (edges_of (slot_stretches fall bits) ++ rest))
+slots_fall_by m until rest [] fall h l = subst (λ (ls : List LowOf). AreFallsBy m ls) (sym (none_later until rest l)) tt
+slots_fall_by m until rest (true ∷ bits) fall h l =
+    falls_more m until fall (fall + 600) (edges_of (slot_stretches (fall + 2400) bits) ++ rest) (omega (arith, h)) (slots_fall_by m until rest bits (fall + 2400) (omega (arith, h)) l)
+slots_fall_by m until rest (false ∷ bits) fall h l =
+    falls_more m until fall (fall + 1500) (edges_of (slot_stretches (fall + 2400) bits) ++ rest) (omega (arith, h)) (slots_fall_by m until rest bits (fall + 2400) (omega (arith, h)) l)
+
+sender_falls_by : (m until : ℕ) (rest : List Edge) (bits : List Bool) (begin : ℕ) → begin + 2100 + 2400 * length bits ≤ m → Later until rest → AreFallsBy m (lows_in until (edges_of (sender_stretches begin bits) ++ rest))
+sender_falls_by m until rest bits begin h l =
+    falls_more m until begin (begin + 3700) (edges_of (slot_stretches (begin + 4500) bits) ++ rest) (omega (arith, h)) (slots_fall_by m until rest bits (begin + 4500) (omega (arith, h)) l)
+
+-- the final bit of a round begins 2,400 before its last slot would be over
+final_is : (ending : Ending) (at last : ℕ) → ending ≢ Short → final_by ending at last ≡ last
+final_is Complete at last h = refl
+final_is Short at last h = absurd (h refl)
+final_is Silent at last h = refl
+final_is BadStart at last h = refl
+final_is Long at last h = refl
+final_is Open at last h = refl
+
+final_by_round : (o : Outcome) (os : List Outcome) → AreTimed (o ∷ os) → (edges : List Edge) → edges ≡ edges_of o.wave ++ edges_of (run_wave os)
+    → final_bit (outcome_listed o) (lows_of (outcome_listed o) edges) ≤ o.reading.begin + 2100 + 2400 * length o.reading.bits.items
+final_by_round o os h edges e =
+    let same : final_bit (outcome_listed o) (lows_of (outcome_listed o) edges) ≡ last_fall o.reading.begin (lows_of (outcome_listed o) edges) =
+    final_is o.reading.ending o.reading.at (last_fall o.reading.begin (lows_of (outcome_listed o) edges)) h.0.whole in
+    let by : last_fall o.reading.begin (lows_of (outcome_listed o) edges) ≤ m = last_by m o.reading.begin (lows_of (outcome_listed o) edges) (omega arith) (falls_take 161 m (lows_in until edges) falls) in
+    omega (arith, same, by)
+  where
+    m : ℕ
+    m = o.reading.begin + 2100 + 2400 * length o.reading.bits.items
+
+    until : ℕ
+    until = falls_until o.reading.ending o.reading.at
+
+    u : falls_until o.reading.ending o.reading.at ≡ o.reading.at
+    u = until_is o.reading.ending o.reading.at h.0.closed
+
+    falls : AreFallsBy m (lows_in until edges)
+    falls =
+        subst (λ (es : List Edge). AreFallsBy m (lows_in until es)) (sym (e ∙ ap (λ (w : List Stretch). edges_of w ++ edges_of (run_wave os)) h.0.wave))
+        (sender_falls_by m until (edges_of (run_wave os)) o.reading.bits.items o.reading.begin (omega arith) (first_edge until os h.2 (next_by until (o.reading.at + 1) os (omega (arith, u)) (apart_over o os h.1))))
+
+-- the frame before began its final bit three periods earlier, if there was one
+abbrev IsPast : Previous → ℕ → Type 0
+IsPast p begin = (p.frame ≡ Nothing) ⊎ (p.final_bit + 7200 ≤ begin)
+
+asks_more : (p : Previous) (x : Listed) (again : Bool) → IsPast p x.begin → AsksForMore (too_soon p x again)
+asks_more p x again h = by (not (is_bad_start x.reported.ending)) (nat_lt (free_before p x.begin) (free_due p.frame x.reported.bits again)) refl
+  where
+    more : free_before p x.begin < free_due p.frame x.reported.bits again → 7200 < free_due p.frame x.reported.bits again
+    more lt = elim h [
+      | inl none ↦ (let zero : free_due p.frame x.reported.bits again ≡ 0 = ap (λ f. free_due f x.reported.bits again) none in absurd (omega (arith, zero, lt)))
+      | inr far ↦ (let free : free_before p x.begin ≡ x.begin - p.final_bit = refl in omega (arith, far, lt, free))
+    ]
+
+    by : (known soon : Bool) → nat_lt (free_before p x.begin) (free_due p.frame x.reported.bits again) ≡ soon
+        → AsksForMore (if known && soon then Some (record { free = free_before p x.begin; due = free_due p.frame x.reported.bits again }) else None)
+    by true true e = more (let lt : free_before p x.begin < free_due p.frame x.reported.bits again = grind (arith, nat_tests) in lt)
+    by true false e = tt
+    by false soon e = tt
+
+abbrev PastNext : Previous → List Outcome → Type 0
+PastNext p [] = Unit {0}
+PastNext p (o ∷ os) = IsPast p o.reading.begin
+
+past_next : (o : Outcome) (os : List Outcome) → AreTimed (o ∷ os) → (p : Previous) (edges : List Edge) → edges ≡ edges_of o.wave ++ edges_of (run_wave os) → IsPast p o.reading.begin
+    → PastNext (previous_with p (outcome_listed o) (lows_of (outcome_listed o) edges)) os
+past_next o [] h p edges e past = tt
+past_next o (next ∷ os) h p edges e past = by (is_bad_start o.reading.ending)
+  where
+    apart : o.reading.begin + 9300 + 2400 * length o.reading.bits.items ≤ next.reading.begin
+    apart = h.1.0
+
+    final : final_bit (outcome_listed o) (lows_of (outcome_listed o) edges) ≤ o.reading.begin + 2100 + 2400 * length o.reading.bits.items
+    final = final_by_round o (next ∷ os) h edges e
+
+    later : IsPast p next.reading.begin
+    later = elim past [
+      | inl none ↦ inl none
+      | inr far ↦ inr (omega (arith, far, apart))
+    ]
+
+    by : (bad : Bool)
+        → IsPast (if bad then p else record { frame = before_of o.reading.ending o.reading.bits.items; final_bit = final_bit (outcome_listed o) (lows_of (outcome_listed o) edges) }) next.reading.begin
+    by true = later
+    by false = inr (omega (arith, final, apart))
+
+pub rounds_free : (os : List Outcome) → AreTimed os → (t : Tape) (old : List Edge) → t.place ≡ old ++ edges_of (run_wave os) → OldBefore old os → PastNext t.previous os → AreFree t (map outcome_listed os)
+rounds_free [] h t old left past free = tt
+rounds_free (o ∷ os) h t old left past free = (
+  asks_more t.previous (outcome_listed o) (tries_again t.attempts o.reading.bits.items) free,
+  rounds_free os h.2 (after (outcome_listed o) t) (edges_of o.wave) here (old_before o os h) (past_next o os h t.previous (come_to (outcome_listed o) t).place here free),
+)
+  where
+    here : (come_to (outcome_listed o) t).place ≡ edges_of o.wave ++ edges_of (run_wave os)
+    here = come_here o os h t old left past
 
 -- ---- a run
 
@@ -174,7 +309,8 @@ timed s begin o framed none g = record {
   wave = rounds_are_nominal (seats_of s begin) begin o (seats_fit s begin framed) g.wave round sends ∙ ap (λ (b : ℕ). sender_stretches b o.reading.bits.items) (sym g.round.starts);
   some = later.1;
   ends = let a = later.0 in let b : o.reading.begin ≡ begin = g.round.starts in omega (arith, a, b);
-  closed = later.2;
+  closed = later.2.closed;
+  whole = later.2.whole;
 }
   where
     round : IsRound (seats_of s begin) begin [] o
@@ -186,7 +322,7 @@ timed s begin o framed none g = record {
     sends : list_any (λ (x : Seat). is_some x.sends) (seats_of s begin) ≡ true
     sends = sends_any (seats_of s begin) lead.frame lead.sent
 
-    later : (begin + 2100 + 2400 * length o.reading.bits.items < o.reading.at) × (0 < length o.reading.bits.items) × (o.reading.ending ≢ Open)
+    later : (begin + 2100 + 2400 * length o.reading.bits.items < o.reading.at) × (0 < length o.reading.bits.items) × IsOwnEnding o.reading.ending
     later = ends_later (seats_of s begin) begin o (seats_fit s begin framed) round sends
 
 -- the last slot falls before the line comes to rest
@@ -260,9 +396,16 @@ runs_are_timed s t (Goes begin o ∷ ms) framed none m = (
     left = ap (filter (λ (p : Stretch). nat_lt o.rest p.from)) none
 
 -- nothing is past when an audit begins
-pub first_in_time : (os : List Outcome) → AreTimed os → AreInTime (first_tape (edges_of (run_wave os))) (map outcome_listed os)
-first_in_time os h = rounds_in_time os h (first_tape (edges_of (run_wave os))) [] refl (none os)
+pub first_in_time : (os : List Outcome) → AreTimed os → AreInTime (first_tape (edges_of (run_wave os))) (map outcome_listed os) × AreFree (first_tape (edges_of (run_wave os))) (map outcome_listed os)
+first_in_time os h = (
+  rounds_in_time os h (first_tape (edges_of (run_wave os))) [] refl (none os),
+  rounds_free os h (first_tape (edges_of (run_wave os))) [] refl (none os) (no_frame os),
+)
   where
     none : (xs : List Outcome) → OldBefore [] xs
     none [] = tt
     none (x ∷ xs) = tt
+
+    no_frame : (xs : List Outcome) → PastNext (first_tape (edges_of (run_wave os))).previous xs
+    no_frame [] = tt
+    no_frame (x ∷ xs) = inl refl

@@ -32,7 +32,7 @@ use Rattle.cec_run.proofs.WholeLine.{lines_are_of_the_rounds}
 use Rattle.capture_laws.specs.Formats.{IsReadAs}
 use Rattle.capture_laws.proofs.Formats.{is_capture, lines_are_read_back}
 use Rattle.capture_laws.proofs.ReadBack.{same_line}
-use Rattle.timing_laws.specs.Times.{AreInTime, KeepsTimes, RunsKeepTheirTimes}
+use Rattle.timing_laws.specs.Times.{AreFree, AreInTime, KeepsTimes, RunsKeepTheirTimes}
 use Rattle.timing_laws.proofs.Slots.{no_pulses}
 use Rattle.timing_laws.proofs.Runs.{AreTimed, first_in_time, runs_are_timed}
 
@@ -118,5 +118,5 @@ runs_keep_their_times format tree events end text totals framed reported limit =
 
     in_time : KeepsTimes c
     in_time =
-        subst (λ (xs : List Listed). AreInTime (first_tape c.edges) xs) (sym readings)
-        (subst (λ (ss : List Stretch). AreInTime (first_tape (edges_of ss)) (map outcome_listed os)) (waves_flat os) (first_in_time os (reported_timed (Line format) tree events end text totals framed reported)))
+        subst (λ (xs : List Listed). AreInTime (first_tape c.edges) xs × AreFree (first_tape c.edges) xs) (sym readings)
+        (subst (λ (ss : List Stretch). AreInTime (first_tape (edges_of ss)) (map outcome_listed os) × AreFree (first_tape (edges_of ss)) (map outcome_listed os)) (waves_flat os) (first_in_time os (reported_timed (Line format) tree events end text totals framed reported)))

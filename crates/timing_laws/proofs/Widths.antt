@@ -91,7 +91,7 @@ last_low bits slot fall rise (e ∷ rest) h = h
 
 -- ---- the slots of a sender
 
-none_later : (until : ℕ) (rest : List Edge) → Later until rest → lows_in until rest ≡ []
+pub none_later : (until : ℕ) (rest : List Edge) → Later until rest → lows_in until rest ≡ []
 none_later until [] l = refl
 none_later until (f ∷ []) l = let k : until ≤ f.at = l in let x : nat_lt f.at until ≡ false = grind (arith, nat_tests) in rw x refl
 none_later until (f ∷ r ∷ es) l = let k : until ≤ f.at = l in let x : nat_lt f.at until ≡ false = grind (arith, nat_tests) in rw x refl

@@ -1,10 +1,14 @@
--- A run without pulses keeps the times of the standard (CEC 5.2.1, 5.2.2): no width is out of its window.
-use Rattle.std.specs.Prelude.{◌≡◌, ℕ, ◌≤◌, List, [], ◌∷◌}
+-- A run without pulses keeps the times of the standard (CEC 5.2.1, 5.2.2, 9.1): no width is out of its window, and no frame
+-- begins before three bit periods have passed since the start of the final bit of the one before.
+use Rattle.std.specs.Prelude.{◌≡◌, ℕ, ◌<◌, ◌≤◌, List, [], ◌∷◌, Option, Some, None}
 use Rattle.cec_wave.specs.Bounds.{latest_event}
 use Rattle.hdmi_topo.specs.Node.{Node}
 use Rattle.cec_bits.specs.Readings.{Listed, readings_of}
 use Rattle.cec_signal.specs.Edges.{Captured, line_of_edges}
 use Rattle.cec_audit.specs.Audit.{Tape, after, come_to, first_tape, lows_of, reading_misfits}
+use Rattle.cec_remarks.specs.declared.free.TooSoon.{TooSoon}
+use Rattle.cec_remarks.specs.Attempts.{tries_again}
+use Rattle.cec_remarks.specs.Free.{too_soon}
 use Rattle.cec_net.specs.State.{first_net}
 use Rattle.cec_asm.specs.Script.{AreFramedEvents}
 use Rattle.cec_asm.specs.declared.script.TimedEvent.{TimedEvent}
@@ -19,11 +23,20 @@ abbrev pub AreInTime : Tape → List Listed → Type 0
 AreInTime t [] = Unit {0}
 AreInTime t (x ∷ xs) = (reading_misfits (come_to x t).series x (lows_of x (come_to x t).place) ≡ []) × AreInTime (after x t) xs
 
+-- what it remarks of the free time before a frame asks for more than three bit periods
+abbrev pub AsksForMore : Option TooSoon → Type 0
+AsksForMore None = Unit {0}
+AsksForMore (Some s) = 7200 < s.due
+
+abbrev pub AreFree : Tape → List Listed → Type 0
+AreFree t [] = Unit {0}
+AreFree t (x ∷ xs) = AsksForMore (too_soon (come_to x t).previous x (tries_again (come_to x t).attempts x.reported.bits)) × AreFree (after x t) xs
+
 abbrev pub KeepsTimes : Captured → Type 0
-KeepsTimes c = AreInTime (first_tape c.edges) (readings_of (line_of_edges c.edges) c.end)
+KeepsTimes c = AreInTime (first_tape c.edges) (readings_of (line_of_edges c.edges) c.end) × AreFree (first_tape c.edges) (readings_of (line_of_edges c.edges) c.end)
 
 -- The line of a run without pulses, within the limit of scripts and written in any format, is read as a capture of which an audit
--- remarks no width.
+-- remarks no width, and of free times none but what asks for five or seven bit periods.
 abbrev pub RunsKeepTheirTimes : Type 0
 RunsKeepTheirTimes = (format : Format) (tree : List Node) (events : List TimedEvent) (end : ℕ) (text : List ℕ) (totals : Totals)
     → AreFramedEvents events → IsRunText (Line format) end (start (first_net tree []) events) text totals → end ≤ latest_event

@@ -441,7 +441,7 @@ const CAPTURE_AUDIT: &str = "\
 400000 407251 silent 1
   all readings
   from 0: 1 taken, 1 not taken, 0 broken
-  start low 400..3700 mean 2875 of 4
+  start low 3700..3700 mean 3700 of 3
   start total 4500..4500 mean 4500 of 3
   one low 600..600 mean 600 of 15
   zero low 1500..1500 mean 1500 of 46

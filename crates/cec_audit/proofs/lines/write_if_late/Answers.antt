@@ -7,4 +7,4 @@ use Rattle.cec_audit.proofs.lines.write_if_late.Goals as goal
 pub returns : goal.returns
 returns g c =
     let late : is_late c.args.begin c.args.request ≡ true = sym c.is_late.ensures ∙ c.if-not-is_late.false in
-    writes_as (ap (λ (b : Bool). if b then request_text c.args.request else []) (sym late)) c.line.ensures
+    writes_as (ap (λ (b : Bool). if b then request_text c.args.request else []) (sym late)) c.write_request.ensures

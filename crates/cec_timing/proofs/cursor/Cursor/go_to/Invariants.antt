@@ -4,7 +4,7 @@ use Rattle.cec_timing.proofs.cursor.Cursor.go_to.Given as goal
 
 -- what is left to pass over
 abbrev pub invariant-edges : goal.invariant-edges
-invariant-edges l = gone_to l.begin l.self.since l.self.edges.now ≡ gone_to l.begin l.initial.self.since l.initial.self.edges.now
+invariant-edges l = gone_to l.begin l.self.edges.now ≡ gone_to l.begin l.initial.self.edges.now
 
 abbrev pub decreases-edges : goal.decreases-edges
 decreases-edges l = length l.self.edges.now
