@@ -1,5 +1,5 @@
 -- `edge T`, from what the calls give to what a session has.
-use Rattle.std.proofs.Common.{◌≡◌, ℕ, ◌<◌, ◌≤◌, ◌∙◌, max, Bool, true, false, nat_lt, Option, Some, sym, ap, ap₂, subst, arith}
+use Rattle.std.proofs.Common.{◌≡◌, ℕ, ◌<◌, ◌≤◌, ◌∙◌, ◌++◌, ◌∷◌, [], max, Bool, true, false, nat_lt, if◌then◌else◌, List, Option, Some, refl, sym, ap, ap₂, subst, arith}
 use Rattle.std.proofs.lemmas.Bool.Decides.{nat_tests}
 use Rattle.cec_wave.specs.Line.{IsWave}
 use Rattle.cec_wire.specs.declared.Outcome.{Outcome}
@@ -8,7 +8,9 @@ use Rattle.cec_net.specs.Progress.{IsProgress}
 use Rattle.cec_net.specs.State.{NetState}
 use Rattle.cec_net.specs.Step.{IsNextRound, after_round, seats_of}
 use Rattle.cec_run.proofs.Turns.{same_outcome}
-use Rattle.cec_session.specs.Edges.{first_edge}
+use Rattle.cec_wave.specs.declared.Stretch.{Stretch}
+use Rattle.cec_session.specs.declared.edges.Span.{Span}
+use Rattle.cec_session.specs.Edges.{edge_line, edge_reported, edges_reported, first_edge, is_in}
 use Rattle.cec_session.specs.declared.answer.Refusal.TheVariants.{Past}
 use Rattle.cec_session.specs.declared.live.Step.{Step}
 use Rattle.cec_session.specs.declared.live.Step.TheVariants.{Refuse, Edge}
@@ -31,3 +33,14 @@ edge_in_round net mid begin from until close to edge same (o, after, wave, next,
     let one : o ≡ p = same_outcome o p (one_outcome (seats_of net begin) begin net.pulses o p wave wave' next.round there.round) in
     let ends : other ≡ after = there.after_is ∙ ap (after_round net begin) (sym one) ∙ sym next.after_is in
     (o, after, wave, next, is ∙ ap₂ (edge_horizon until) (closes ∙ ap (λ (n : NetState). n.close) ends) first)
+
+-- ---- a span with no instant has no edge
+
+not_in : (span : Span) (at : ℕ) → span.until ≤ span.from → is_in span at ≡ false
+not_in span at empty = grind (arith, nat_tests)
+
+pub no_edges : (span : Span) (wave : List Stretch) → span.until ≤ span.from → edges_reported span wave ≡ []
+no_edges span [] empty = refl
+no_edges span (s ∷ wave) empty =
+    let none : (at level : ℕ) → edge_reported span at level ≡ [] = λ at level. ap (λ (b : Bool). if b then edge_line at level else []) (not_in span at empty) in
+    ap₂ (λ (x y : List ℕ). x ++ y) (ap₂ (λ (x y : List ℕ). x ++ y) (none s.from 0) (none s.to 1)) (no_edges span wave empty)

@@ -57,12 +57,8 @@ fn write_stretch<S: Sink>(out: &mut S, span: Span, stretch: Stretch) -> Result<u
     }
 }
 
-/// Writes the edges of a round that lie in the span, by its low stretches.
-///
-/// # Errors
-///
-/// A `put` took none. Its count says how much was written.
-pub(crate) fn write_edges<S: Sink>(
+// Writes the edges of the stretches that lie in the span.
+fn write_stretches<S: Sink>(
     out: &mut S,
     span: Span,
     stretches: &[Stretch],
@@ -77,6 +73,24 @@ pub(crate) fn write_edges<S: Sink>(
         }
     }
     Ok(written)
+}
+
+/// Writes the edges of a round that lie in the span, by its low stretches. Where the span has no instant they are not looked at.
+///
+/// # Errors
+///
+/// A `put` took none. Its count says how much was written.
+pub(crate) fn write_edges<S: Sink>(
+    out: &mut S,
+    span: Span,
+    stretches: &[Stretch],
+) -> Result<u128, WriteFault>
+    ensures { WrittenText (S.contents out.old) (S.contents out.new) (S.is_stuck out.old) (S.is_stuck out.new) (edges_reported span stretches.now) result }
+{
+    if span.until <= span.from {
+        return Ok(0);
+    }
+    write_stretches(out, span, stretches)
 }
 
 /// The first edge of a round at an instant or later, by its low stretches.

@@ -9,7 +9,7 @@ use Rattle.hdmi_edtext.specs.Lines.{edid_lines}
 use Rattle.hdmi_edtext.specs.Refusal.{IsFirstBad, IsRefusal, IsFirstUnfit, IsFaultAt, MayStand, AreAlike, HasAlike, HasLike, first_word, first_words, word_count}
 use Rattle.hdmi_lines.specs.Text.{word_text, line_text}
 use Rattle.hdmi_edtext.specs.Words.{place_of, has_words, FitsAt}
-use Rattle.hdmi_edtext.specs.declared.draft.EdidDraft.{EdidDraft}
+use Rattle.hdmi_edtext.specs.Draft.{Draft}
 use Rattle.hdmi_blocks.specs.declared.edid.Edid.{Edid}
 use Rattle.hdmi_lines.specs.declared.line.Line.{Line}
 use Rattle.hdmi_lines.specs.declared.line.Keyword.{Keyword}
@@ -24,7 +24,7 @@ use Rattle.hdmi_lines.proofs.OneWord.{one_word}
 use Rattle.hdmi_edtext.proofs.Stands.{stands}
 use Rattle.hdmi_edtext.proofs.WordTexts.{front_text, first_is, words_are, with_feed, same_front, formed_words}
 
-may_stand_so : (d : EdidDraft) (line : List ℕ) → AreReported (draft_lines d) → HasAlike (map line_text (draft_lines d)) line → MayStand (place_of d) line
+may_stand_so : (d : Draft) (line : List ℕ) → AreReported (draft_lines d) → HasAlike (map line_text (draft_lines d)) line → MayStand (place_of d) line
 may_stand_so d line reported h =
     let e = h.0 in
     let a = h.1.1.1.1 in
@@ -42,7 +42,7 @@ may_stand_so d line reported h =
     }
 
 -- up to its word at fault there is a line like this one
-like_it : (d : EdidDraft) (line : List ℕ) (k : ℕ) → (m : MayStand (place_of d) line) → IsFirstUnfit m.word m.front k → HasLike k (map line_text (draft_lines d)) line
+like_it : (d : Draft) (line : List ℕ) (k : ℕ) → (m : MayStand (place_of d) line) → IsFirstUnfit m.word m.front k → HasLike k (map line_text (draft_lines d)) line
 like_it d line k m u =
     let s = likes d m.word m.front k m.begins m.words m.first u in
     let e = s.follows.0 in
@@ -80,7 +80,7 @@ none_other k w front l u good fit is count shared false v =
     ap (λ xs. get_or xs 0 []) one
 
 -- and there is none with that word too
-none_like : (d : EdidDraft) (line : List ℕ) (k : ℕ) → (m : MayStand (place_of d) line) → IsFirstUnfit m.word m.front k → AreReported (draft_lines d) → ((e : Edid) (later : List (List ℕ)) → Next e (draft_lines d) line later → ⊥)
+none_like : (d : Draft) (line : List ℕ) (k : ℕ) → (m : MayStand (place_of d) line) → IsFirstUnfit m.word m.front k → AreReported (draft_lines d) → ((e : Edid) (later : List (List ℕ)) → Next e (draft_lines d) line later → ⊥)
     → HasLike (k + 1) (map line_text (draft_lines d)) line → ⊥
 none_like d line k m u reported none h =
     let e = h.0 in
@@ -100,7 +100,7 @@ none_like d line k m u reported none h =
     none e (map line_text n.later) (record { here = n.here; later = n.later; lines = n.lines; text = text; texts = refl; formed = n.formed })
 
 -- a line at fault
-pub refusal : (d : EdidDraft) (all : List (List ℕ)) (line : List ℕ) (more : List (List ℕ)) (n : ℕ) (x : TextError) → AreReported (draft_lines d) → all ≡ map line_text (draft_lines d) ++ line ∷ more
+pub refusal : (d : Draft) (all : List (List ℕ)) (line : List ℕ) (more : List (List ℕ)) (n : ℕ) (x : TextError) → AreReported (draft_lines d) → all ≡ map line_text (draft_lines d) ++ line ∷ more
     → n ≡ length (draft_lines d) + 1 → ((e : Edid) (later : List (List ℕ)) → Next e (draft_lines d) line later → ⊥) → IsFaultAt (place_of d) line n x → IsRefusal all x
 refusal d all line more n (Syntax k) reported h count none f =
     let bad : IsFirstBad all k = record {
@@ -129,7 +129,7 @@ refusal d all line more n (Field k word) reported h count none f =
 refusal d all line more n Memory reported h count none f = absurd f
 
 -- the end of a text that is too short
-pub refusal_at_end : (d : EdidDraft) (all : List (List ℕ)) (n : ℕ) → AreReported (draft_lines d) → all ≡ map line_text (draft_lines d) ++ []
+pub refusal_at_end : (d : Draft) (all : List (List ℕ)) (n : ℕ) → AreReported (draft_lines d) → all ≡ map line_text (draft_lines d) ++ []
     → n ≡ length (draft_lines d) + 1 → ((e : Edid) → edid_lines e ≡ draft_lines d → ⊥) → IsRefusal all (Syntax n)
 refusal_at_end d all n reported h count none =
     let bad : IsFirstBad all n = record {

@@ -1,5 +1,5 @@
 -- The lines of a base block, one after the other.
-use Rattle.std.proofs.Common.{◌≡◌, ℕ, zero, suc, ◌+◌, ◌-◌, ◌<◌, List, [], ◌∷◌, ◌++◌, length, map, take, set, true, Option, Some, None, MatchOption, slice_get, ap, arith, refl, sym, ◌∙◌, length-append, append_assoc, append-nil}
+use Rattle.std.proofs.Common.{◌≡◌, ℕ, zero, suc, ◌+◌, ◌-◌, ◌<◌, List, [], ◌∷◌, ◌++◌, length, map, take, set, Bool, true, false, Option, Some, MatchBool, slice_get, ap, arith, refl, sym, ◌∙◌, length-append, append_assoc, append-nil}
 use Rattle.std.proofs.lemmas.List.{length-map, take-append-le, length-set}
 use Rattle.std.proofs.lemmas.Option.{slice_get_within}
 use Rattle.std.proofs.Math.Seq.{take-append-add}
@@ -85,10 +85,10 @@ pub head_is : (b : Base) (n k : ℕ) (l m : Line) → n ≡ k → slice_get (hea
 head_is b n k l m e f g =
     let same : Path (Option Line) (Some m) (Some l) = sym f ∙ ap (slice_get (head_lines b)) (sym e) ∙ g in cc
 
-pub lift_head : (r : Option Base) (n : ℕ) (l : Line) (P : Base → Type 0) → n < 11 → MatchOption r ((b : Base) → slice_get (head_lines b) n ≡ Some l → ⊥) P
-    → MatchOption r ((b : Base) → slice_get (base_lines b) n ≡ Some l → ⊥) P
-lift_head None n l P h k = λ b e. k b (head_got b n l h e)
-lift_head (Some x) n l P h k = k
+pub lift_head : (r : Bool) (n : ℕ) (l : Line) (P : Type 0) → n < 11 → MatchBool r P ((b : Base) → slice_get (head_lines b) n ≡ Some l → ⊥)
+    → MatchBool r P ((b : Base) → slice_get (base_lines b) n ≡ Some l → ⊥)
+lift_head false n l P h k = λ b e. k b (head_got b n l h e)
+lift_head true n l P h k = k
 
 -- other established timings
 pub established_fit : (b : Base) (xs : List ℕ) → are_bytes xs ≡ true

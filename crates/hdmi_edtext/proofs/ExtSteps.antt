@@ -1,5 +1,5 @@
 -- What a line adds to an extension.
-use Rattle.std.proofs.Common.{◌≡◌, ℕ, zero, suc, ◌+◌, ◌-◌, ◌<◌, ◌⊎◌, inl, inr, true, false, Option, Some, None, MatchOption, List, [], ◌∷◌, ◌++◌, length, map, replicate, flat_map, ap, arith, refl, sym, ◌∙◌, append_assoc}
+use Rattle.std.proofs.Common.{◌≡◌, ℕ, zero, suc, ◌+◌, ◌-◌, ◌<◌, ◌⊎◌, inl, inr, true, false, List, [], ◌∷◌, ◌++◌, length, map, replicate, flat_map, ap, ap₂, arith, refl, sym, ◌∙◌, append_assoc}
 use Rattle.hdmi_edid.proofs.Bytes.{are_bytes-append, are_bytes-cons}
 use Rattle.hdmi_edid.proofs.PartLemmas.{both}
 use Rattle.hdmi_edid.specs.Timing.{timing_bytes}
@@ -11,9 +11,7 @@ use Rattle.hdmi_cta.specs.declared.block.DataBlock.{DataBlock}
 use Rattle.hdmi_edtext.specs.Drafts.{whole_lines, draft_lines, opened_lines, Follows, BlockFits, TimingFits, TailFits}
 use Rattle.hdmi_edtext.specs.Lines.{bytes_without_zeros, bytes_line, block_line, timing_line, tail_line}
 use Rattle.hdmi_edtext.specs.Tails.{padded_bytes, fills, ends}
-use Rattle.hdmi_edtext.specs.declared.draft.Opened.{Opened}
-use Rattle.hdmi_edtext.specs.declared.draft.Whole.{Whole}
-use Rattle.hdmi_edtext.specs.declared.draft.EdidDraft.TheVariants.{Opened as OfOpened}
+use Rattle.hdmi_edtext.specs.Draft.{Opened, Whole, OfOpened}
 use Rattle.hdmi_lines.specs.declared.line.Line.{Line}
 use Rattle.hdmi_lines.specs.declared.line.Keyword.TheVariants.{Cta, CtaNone, Tail}
 use Rattle.hdmi_edtext.proofs.Fronts.{opened_next, length-timings}
@@ -83,10 +81,6 @@ no_bare bytes tail l is not len e =
     clash : true ≡ false → ⊥
     clash h = cc
 
-pub lift : {X : Type 0} (r : Option X) (A B : Type 0) (P Q : X → Type 0) → (A → B) → ((x : X) → P x → Q x) → MatchOption r A P → MatchOption r B Q
-lift None A B P Q f g h = f h
-lift (Some x) A B P Q f g h = g x h
-
 -- the tail of an open block
 pub tail_whole : (o : Opened) (bytes tail : List ℕ) → ends o.left bytes ≡ true → tail ≡ padded_bytes o.left bytes
     → length (flat_map block_bytes o.blocks.items) + length (flat_map timing_bytes o.timings.items) + length tail ≡ 123
@@ -113,6 +107,19 @@ tail_reported o bytes tail h e =
     ap (λ l. whole_lines o.whole ++ (bytes_line Cta (o.flags ∷ []) ∷ (bs ++ (ts ++ (l ∷ []))))) line
     ∙ ap (λ ls. whole_lines o.whole ++ (bytes_line Cta (o.flags ∷ []) ∷ ls)) (sym (append_assoc bs ts (bytes_line Tail bytes ∷ [])))
     ∙ sym (append_assoc (whole_lines o.whole) (opened_lines o) (bytes_line Tail bytes ∷ []))
+
+-- the same of lists that were taken out of it
+pub taken_whole : (o : Opened) (blocks : List DataBlock) (timings : List DetailedTiming) (bytes tail : List ℕ) → blocks ≡ o.blocks.items → timings ≡ o.timings.items
+    → ends o.left bytes ≡ true → tail ≡ padded_bytes o.left bytes → length (flat_map block_bytes blocks) + length (flat_map timing_bytes timings) + length tail ≡ 123
+taken_whole o blocks timings bytes tail of_blocks of_timings h e =
+    ap₂ (λ (bs : List DataBlock) (ts : List DetailedTiming). length (flat_map block_bytes bs) + length (flat_map timing_bytes ts) + length tail) of_blocks of_timings ∙ tail_whole o bytes tail h e
+
+pub taken_reported : (o : Opened) (blocks : List DataBlock) (timings : List DetailedTiming) (bytes tail : List ℕ) → blocks ≡ o.blocks.items → timings ≡ o.timings.items
+    → ends o.left bytes ≡ true → tail ≡ padded_bytes o.left bytes
+    → whole_lines o.whole ++ (bytes_line Cta (o.flags ∷ []) ∷ (map block_line blocks ++ (map timing_line timings ++ (tail_line tail ∷ [])))) ≡ draft_lines (OfOpened o) ++ bytes_line Tail bytes ∷ []
+taken_reported o blocks timings bytes tail of_blocks of_timings h e =
+    ap₂ (λ (bs : List DataBlock) (ts : List DetailedTiming). whole_lines o.whole ++ (bytes_line Cta (o.flags ∷ []) ∷ (map block_line bs ++ (map timing_line ts ++ (tail_line tail ∷ []))))) of_blocks of_timings
+    ∙ tail_reported o bytes tail h e
 
 pub bare_whole : (bytes tail : List ℕ) → fills 123 bytes ≡ true → tail ≡ padded_bytes 123 bytes → length tail ≡ 123
 bare_whole bytes tail h e = ap length e ∙ length-padded 123 bytes (fills_is 123 bytes h).fits

@@ -7,7 +7,7 @@ use Rattle.hdmi_lines.specs.Formed.{Formed}
 use Rattle.hdmi_edtext.specs.Lines.{edid_lines, edid_text}
 use Rattle.hdmi_edtext.specs.Refusal.{IsFirstBad, SomeBegins, NoneFollows, line_texts}
 use Rattle.hdmi_lines.specs.Text.{line_text}
-use Rattle.hdmi_edtext.specs.declared.draft.EdidDraft.{EdidDraft}
+use Rattle.hdmi_edtext.specs.Draft.{Draft}
 use Rattle.hdmi_blocks.specs.declared.edid.Edid.{Edid}
 use Rattle.hdmi_lines.specs.declared.line.Line.{Line}
 use Rattle.hdmi_edtext.proofs.CutTexts.{joined, joined_lines, lines_again}
@@ -78,20 +78,20 @@ lines_so ls new l line all more h is text =
 pub count_so : (ls new : List Line) (l : Line) (n : ℕ) → n ≡ length ls + 1 → new ≡ ls ++ l ∷ [] → n + 1 ≡ length new + 1
 count_so ls new l n h is = let len = length-append ls (l ∷ []) in let same = ap length is in omega (arith, len, same, h)
 
-pub few_reported : (d : EdidDraft) → length (draft_lines d) ≤ 398
+pub few_reported : (d : Draft) → length (draft_lines d) ≤ 398
 few_reported d =
     let l = live d in
     let same = ap length l.1.1 in
     omega (arith, same, few_parts l.0.base l.0.extensions.items l.0.few, length-append (draft_lines d) l.1.0)
 
-pub some_begins : (d : EdidDraft) → SomeBegins (map line_text (draft_lines d))
+pub some_begins : (d : Draft) → SomeBegins (map line_text (draft_lines d))
 some_begins d = let l = live d in (l.0, (map line_text l.1.0, ap (map line_text) l.1.1 ∙ map-append line_text (draft_lines d) l.1.0))
 
 pub counted : (ls : List Line) (n : ℕ) → n ≡ length ls + 1 → n ≡ length (map line_text ls) + 1
 counted ls n h = let len = length-map ls line_text in omega (arith, len, h)
 
 -- where no EDID goes on so, a line is bad
-pub bad_by : (d : EdidDraft) (all : List (List ℕ)) (line : List ℕ) (more : List (List ℕ)) (n : ℕ) → AreReported (draft_lines d) → all ≡ map line_text (draft_lines d) ++ line ∷ more
+pub bad_by : (d : Draft) (all : List (List ℕ)) (line : List ℕ) (more : List (List ℕ)) (n : ℕ) → AreReported (draft_lines d) → all ≡ map line_text (draft_lines d) ++ line ∷ more
     → n ≡ length (draft_lines d) + 1 → ((e : Edid) (later : List (List ℕ)) → Next e (draft_lines d) line later → ⊥) → IsFirstBad all n
 bad_by d all line more n reported h count none = record {
   before = map line_text (draft_lines d);
@@ -124,7 +124,7 @@ all_reported e ls reported h = let r = reported e [] (h ∙ sym (append-nil (map
     go (l ∷ rest) k t = let len = ap length t in absurd (omega (arith, len))
 
 -- the text ends too early
-pub unfinished : (d : EdidDraft) (all : List (List ℕ)) (n : ℕ) → AreReported (draft_lines d) → all ≡ map line_text (draft_lines d) ++ []
+pub unfinished : (d : Draft) (all : List (List ℕ)) (n : ℕ) → AreReported (draft_lines d) → all ≡ map line_text (draft_lines d) ++ []
     → n ≡ length (draft_lines d) + 1 → ((e : Edid) → edid_lines e ≡ draft_lines d → ⊥) → IsFirstBad all n
 unfinished d all n reported h count none = record {
   before = map line_text (draft_lines d);

@@ -15,9 +15,7 @@ use Rattle.hdmi_cta.specs.declared.raw.Ext.TheVariants.{Cta as OfCta, Bare as Of
 use Rattle.hdmi_cta.specs.declared.raw.RawExt.{RawExt}
 use Rattle.hdmi_edtext.specs.Drafts.{whole_lines, draft_lines, opened_lines, Follows, BlockFits, TimingFits, TailFits}
 use Rattle.hdmi_edtext.specs.Lines.{base_lines, bytes_line, block_line, timing_line, tail_line, ext_lines, cta_lines, edid_lines}
-use Rattle.hdmi_edtext.specs.declared.draft.Opened.{Opened}
-use Rattle.hdmi_edtext.specs.declared.draft.Whole.{Whole}
-use Rattle.hdmi_edtext.specs.declared.draft.EdidDraft.TheVariants.{Opened as OfOpened}
+use Rattle.hdmi_edtext.specs.Draft.{Opened, Whole, OfOpened}
 use Rattle.hdmi_blocks.specs.declared.edid.Edid.{Edid}
 use Rattle.hdmi_lines.specs.declared.line.Line.{Line}
 use Rattle.hdmi_lines.specs.declared.line.Keyword.{Keyword}

@@ -28,9 +28,7 @@ use Rattle.hdmi_edtext.specs.Drafts.{draft_lines, Follows}
 use Rattle.hdmi_edtext.specs.Lines.{numbers_line, standard_line, timing_line, base_lines, block_line}
 use Rattle.hdmi_edtext.specs.Refusal.{first_word, first_words, word_count, IsFirstUnfit}
 use Rattle.hdmi_edtext.specs.Words.{place_of, in_base, at_ext, is_tail_word, in_timings, in_blocks, may_begin, has_words, number_fits, FitsAt}
-use Rattle.hdmi_edtext.specs.declared.draft.EdidDraft.{EdidDraft}
-use Rattle.hdmi_edtext.specs.declared.draft.EdidDraft.TheVariants.{Begun, Whole as OfWhole, Opened as OfOpened, Bare as OfBare}
-use Rattle.hdmi_edtext.specs.declared.draft.Opened.{Opened}
+use Rattle.hdmi_edtext.specs.Draft.{Draft, OfBegun as Begun, OfWhole, OfOpened, OfBare, Opened}
 use Rattle.hdmi_edtext.specs.declared.place.NextLine.TheVariants.{AtExt, AtEnd, InBlocks, InTimings}
 use Rattle.hdmi_edtext.proofs.FirstWords.{Agree, is_less, shared, words_front, first_of, numbers_front, timed_front, address_front}
 use Rattle.hdmi_edtext.proofs.Fits.{NumberAt}
@@ -286,7 +284,7 @@ at_first zero h e = absurd (omega arith)
 at_first (suc n) h e = single n e
 
 -- the first word alone
-first_like : (d : EdidDraft) (w : Keyword) (front : List ℕ) → may_begin (place_of d) w ≡ true → has_words (form_of w) (word_count front) ≡ true → first_word front ≡ word_text w → Like (draft_lines d) w front 1
+first_like : (d : Draft) (w : Keyword) (front : List ℕ) → may_begin (place_of d) w ≡ true → has_words (form_of w) (word_count front) ≡ true → first_word front ≡ word_text w → Like (draft_lines d) w front 1
 first_like d w front begins words first =
     let s = samples d w (word_count front) begins words in
     let good = follows_good (draft_lines d) s.line s.follows in
@@ -371,10 +369,10 @@ whole_words : (v : Bool) (w : Keyword) (text : List ℕ) → may_begin (cond v A
 whole_words true w text at f = ext_words w text at f
 whole_words false w text at f = clash at
 
-pub likes : (d : EdidDraft) (w : Keyword) (front : List ℕ) (k : ℕ) → may_begin (place_of d) w ≡ true → has_words (form_of w) (word_count front) ≡ true → first_word front ≡ word_text w → IsFirstUnfit w front k → Like (draft_lines d) w front k
+pub likes : (d : Draft) (w : Keyword) (front : List ℕ) (k : ℕ) → may_begin (place_of d) w ≡ true → has_words (form_of w) (word_count front) ≡ true → first_word front ≡ word_text w → IsFirstUnfit w front k → Like (draft_lines d) w front k
 likes d w front k begins words first u = cases (nat_lt 1 k) refl
   where
-    several : (d : EdidDraft) → may_begin (place_of d) w ≡ true → 1 < k → k < word_count front → Right w front k → get_or (words_of front) 0 [] ≡ word_text w → Like (draft_lines d) w front k
+    several : (d : Draft) → may_begin (place_of d) w ≡ true → 1 < k → k < word_count front → Right w front k → get_or (words_of front) 0 [] ≡ word_text w → Like (draft_lines d) w front k
     several (Begun d) at more less f begin = begun_like d.base d.number k w front d.few at words begin f more less
     several (OfOpened o) at more less f begin = opened_like o k w front at words begin f more less
     several (OfWhole whole) at more less f begin = absurd (whole_words (nat_lt (length whole.extensions.items) 3) w (get_or (words_of front) 1 []) at (f 1 (omega arith) more))

@@ -13,11 +13,7 @@ use Rattle.hdmi_cta.specs.declared.raw.Ext.{Ext as AnyExt}
 use Rattle.hdmi_cta.specs.declared.raw.Ext.TheVariants.{Cta as OfCta, Bare as OfBare}
 use Rattle.hdmi_edtext.specs.Drafts.{whole_lines, draft_lines, opened_lines}
 use Rattle.hdmi_edtext.specs.Lines.{base_lines, bytes_line, block_line, timing_line, tail_line, ext_lines, edid_lines}
-use Rattle.hdmi_edtext.specs.declared.draft.EdidDraft.{EdidDraft}
-use Rattle.hdmi_edtext.specs.declared.draft.EdidDraft.TheVariants.{Begun, Whole as OfWhole, Opened as OfOpened, Bare as OfHeaded}
-use Rattle.hdmi_edtext.specs.declared.draft.Opened.{Opened}
-use Rattle.hdmi_edtext.specs.declared.draft.Headed.{Headed}
-use Rattle.hdmi_edtext.specs.declared.draft.Whole.{Whole}
+use Rattle.hdmi_edtext.specs.Draft.{Draft, OfBegun as Begun, OfWhole, OfOpened, OfBare as OfHeaded, Opened, Headed, Whole}
 use Rattle.hdmi_blocks.specs.declared.edid.Edid.{Edid}
 use Rattle.hdmi_lines.specs.declared.line.Line.{Line}
 use Rattle.hdmi_lines.specs.declared.line.Keyword.TheVariants.{Cta, CtaNone}
@@ -109,7 +105,7 @@ zeros_alone d =
     let c : BareBlock = record { flags = d.flags; tail = replicate 123 0; whole = refl; bytes_fit = fit } in
     (with_ext d.whole d.room (OfBare c), with_ext_lines d.whole d.room (OfBare c) ∙ sym (append_assoc (whole_lines d.whole) (bytes_line CtaNone (d.flags ∷ []) ∷ []) (tail_line (replicate 123 0) ∷ [])))
 
-pub live : (d : EdidDraft) → Begins (draft_lines d)
+pub live : (d : Draft) → Begins (draft_lines d)
 live (Begun d) = (alone d.base, (drop d.number (base_lines d.base), alone_lines d.base ∙ sym (take-append-drop d.number (base_lines d.base))))
 live (OfWhole w) = (edid_of w, ([], edid_of_lines w ∙ sym (append-nil (whole_lines w))))
 live (OfOpened o) = let z = zeros_after o in (z.0, (tail_line (replicate o.left 0) ∷ [], z.1))

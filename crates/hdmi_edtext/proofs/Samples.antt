@@ -22,11 +22,7 @@ use Rattle.hdmi_edtext.specs.Drafts.{whole_lines, draft_lines, opened_lines, Fol
 use Rattle.hdmi_lines.specs.Formed.{form_of}
 use Rattle.hdmi_edtext.specs.Lines.{standard_line, descriptor_line, head_lines, base_lines, bytes_line, block_line, timing_line, tail_line}
 use Rattle.hdmi_edtext.specs.Words.{place_of, in_base, at_ext, in_timings, in_blocks, may_begin, has_words}
-use Rattle.hdmi_edtext.specs.declared.draft.EdidDraft.{EdidDraft}
-use Rattle.hdmi_edtext.specs.declared.draft.EdidDraft.TheVariants.{Begun, Whole as OfWhole, Opened as OfOpened, Bare as OfBare}
-use Rattle.hdmi_edtext.specs.declared.draft.Headed.{Headed}
-use Rattle.hdmi_edtext.specs.declared.draft.Whole.{Whole}
-use Rattle.hdmi_edtext.specs.declared.draft.Opened.{Opened}
+use Rattle.hdmi_edtext.specs.Draft.{Draft, OfBegun as Begun, OfWhole, OfOpened, OfBare, Headed, Whole, Opened}
 use Rattle.hdmi_lines.specs.declared.line.Fields.{Fields}
 use Rattle.hdmi_lines.specs.declared.line.Fields.TheVariants.{Nothing, Letters, Numbers, Timed, Bytes, Address, Quoted}
 use Rattle.hdmi_lines.specs.declared.line.Line.{Line}
@@ -328,7 +324,7 @@ bare_sample d m Tail at count =
     two_words (draft_lines (OfBare d)) Tail m (tail_line (replicate 123 0)) (z.0, ([], z.1)) refl refl count
 bare_sample d m w at count = absurd (clash at)
 
-pub samples : (d : EdidDraft) (w : Keyword) (m : ℕ) → may_begin (place_of d) w ≡ true → has_words (form_of w) m ≡ true → Sample (draft_lines d) w m
+pub samples : (d : Draft) (w : Keyword) (m : ℕ) → may_begin (place_of d) w ≡ true → has_words (form_of w) m ≡ true → Sample (draft_lines d) w m
 samples (Begun d) w m at count = begun_sample d.base d.number m w d.few at count
 samples (OfWhole whole) w m at count = whole_sample whole m w at count
 samples (OfOpened o) w m at count = opened_sample o m w at count

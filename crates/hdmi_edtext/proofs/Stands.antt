@@ -15,9 +15,7 @@ use Rattle.hdmi_edtext.specs.Drafts.{draft_lines, Follows, BlockFits, TimingFits
 use Rattle.hdmi_edtext.specs.Lines.{bytes_line, standard_line, descriptor_line, base_lines, address_line, payload_line, block_line, ext_lines}
 use Rattle.hdmi_cta.specs.Hdmi.{has_identifier}
 use Rattle.hdmi_edtext.specs.Words.{place_of, in_base, at_ext, in_timings, in_blocks, may_begin}
-use Rattle.hdmi_edtext.specs.declared.draft.EdidDraft.{EdidDraft}
-use Rattle.hdmi_edtext.specs.declared.draft.EdidDraft.TheVariants.{Begun, Whole as OfWhole, Opened as OfOpened, Bare as OfBare}
-use Rattle.hdmi_edtext.specs.declared.draft.Opened.{Opened}
+use Rattle.hdmi_edtext.specs.Draft.{Draft, OfBegun as Begun, OfWhole, OfOpened, OfBare, Opened}
 use Rattle.hdmi_lines.specs.declared.line.Line.{Line}
 use Rattle.hdmi_lines.specs.declared.line.Keyword.TheVariants.{Standard, Vendor}
 use Rattle.hdmi_edtext.specs.declared.place.NextLine.TheVariants.{AtExt, AtEnd, InBlocks, InTimings}
@@ -117,7 +115,7 @@ opened_stands o l (inr x) = let t = timing_stands o.left l x in at (length o.tim
     at true h k = k
     at false h k = h
 
-pub stands : (d : EdidDraft) (l : Line) → Follows (draft_lines d) l → may_begin (place_of d) l.word ≡ true
+pub stands : (d : Draft) (l : Line) → Follows (draft_lines d) l → may_begin (place_of d) l.word ≡ true
 stands (Begun d) l f = let a = begun_next d.base d.number l d.few f in from_at (base_lines a.0) 0 d.number d.number l (base_from a.0) (omega arith) a.1
 stands (OfWhole w) l f =
     let x = ext_of f.0 w l f.1.0 f.1.1 in

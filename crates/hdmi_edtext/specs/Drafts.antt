@@ -4,11 +4,13 @@ use Rattle.hdmi_edid.specs.declared.timing.Timing.{Timing}
 use Rattle.hdmi_cta.specs.Block.{block_bytes}
 use Rattle.hdmi_cta.specs.Cta.{is_tail}
 use Rattle.hdmi_cta.specs.declared.block.DataBlock.{DataBlock}
-use Rattle.hdmi_edtext.specs.Lines.{base_lines, block_line, bytes_line, timing_line, tail_line, ext_lines, edid_lines}
+use Rattle.hdmi_edtext.specs.Lines.{base_lines, block_line, bytes_line, timing_line, tail_line, ext_lines, part_lines, edid_lines}
+use Rattle.hdmi_edid.specs.declared.base.Base.{Base}
+use Rattle.hdmi_cta.specs.declared.raw.Ext.{Ext}
+use Rattle.hdmi_edtext.specs.Draft.{Draft, OfBegun, OfWhole, OfOpened, OfBare, Opened, Whole, draft_by}
 use Rattle.hdmi_edtext.specs.declared.draft.EdidDraft.{EdidDraft}
-use Rattle.hdmi_edtext.specs.declared.draft.EdidDraft.TheVariants.{Begun as OfBegun, Whole as OfWhole, Opened as OfOpened, Bare as OfBare}
-use Rattle.hdmi_edtext.specs.declared.draft.Opened.{Opened}
-use Rattle.hdmi_edtext.specs.declared.draft.Whole.{Whole}
+use Rattle.hdmi_edtext.specs.declared.stage.Stage.{Stage}
+use Rattle.hdmi_edtext.specs.declared.stage.Stage.TheVariants.{Begun as AtBase, Whole as AtWhole, Opened as AtOpened, Bare as AtBare}
 use Rattle.hdmi_blocks.specs.declared.edid.Edid.{Edid}
 use Rattle.hdmi_lines.specs.declared.line.Line.{Line}
 use Rattle.hdmi_lines.specs.declared.line.Keyword.TheVariants.{Cta, CtaNone}
@@ -21,11 +23,25 @@ whole_lines w = base_lines w.base ++ flat_map ext_lines w.extensions.items
 abbrev pub opened_lines : Opened → List Line
 opened_lines o = bytes_line Cta (o.flags ∷ []) ∷ (map block_line o.blocks.items ++ map timing_line o.timings.items)
 
-abbrev pub draft_lines : EdidDraft → List Line
+abbrev pub draft_lines : Draft → List Line
 draft_lines (OfBegun d) = take d.number (base_lines d.base)
 draft_lines (OfWhole w) = whole_lines w
 draft_lines (OfOpened o) = whole_lines o.whole ++ opened_lines o
 draft_lines (OfBare d) = whole_lines d.whole ++ (bytes_line CtaNone (d.flags ∷ []) ∷ [])
+
+-- the draft that stands in a place
+abbrev pub draft_of : EdidDraft → Draft
+draft_of d = draft_by d.stage d.base d.extensions d.blocks d.timings d.fits
+
+-- its lines, by its parts
+abbrev pub lines_at : Stage → Base → List Ext → List DataBlock → List Timing → List Line
+lines_at (AtBase number) base exts blocks timings = take number (base_lines base)
+lines_at AtWhole base exts blocks timings = part_lines base exts
+lines_at (AtOpened flags left) base exts blocks timings = part_lines base exts ++ (bytes_line Cta (flags ∷ []) ∷ (map block_line blocks ++ map timing_line timings))
+lines_at (AtBare flags) base exts blocks timings = part_lines base exts ++ (bytes_line CtaNone (flags ∷ []) ∷ [])
+
+abbrev pub lines_so_far : EdidDraft → List Line
+lines_so_far d = lines_at d.stage d.base d.extensions.items d.blocks.items d.timings.items
 
 -- the lines of some EDID begin so, and go on with this line
 abbrev pub Follows : List Line → Line → Type 0

@@ -3,8 +3,7 @@ use Rattle.std.specs.Prelude.{◌≡◌, ℕ, ◌-◌, ◌%◌, ◌<◌, ◌==�
 use Rattle.std.specs.Fmt.{decimal}
 use Rattle.hdmi_core.specs.Piece.{phys_text}
 use Rattle.hdmi_core.specs.declared.phys.Phys.{Phys}
-use Rattle.hdmi_edtext.specs.declared.draft.EdidDraft.{EdidDraft}
-use Rattle.hdmi_edtext.specs.declared.draft.EdidDraft.TheVariants.{Begun, Whole, Opened, Bare}
+use Rattle.hdmi_edtext.specs.Draft.{Draft, OfBegun, OfWhole, OfOpened, OfBare}
 use Rattle.hdmi_lines.specs.declared.line.Form.{Form}
 use Rattle.hdmi_lines.specs.declared.line.Form.TheVariants.{Empty, Three, One, Two, Eight, Unused, Timing as OfTiming, Hex, Address, Quoted}
 use Rattle.hdmi_lines.specs.declared.line.Keyword.{Keyword}
@@ -13,11 +12,11 @@ use Rattle.hdmi_edtext.specs.declared.place.NextLine.{NextLine}
 use Rattle.hdmi_edtext.specs.declared.place.NextLine.TheVariants.{InBase, AtExt, InBlocks, InTimings, AtTail, AtEnd}
 
 -- where a draft's next line stands
-abbrev pub place_of : EdidDraft → NextLine
-place_of (Begun d) = InBase d.number
-place_of (Whole w) = if nat_lt (length w.extensions.items) 3 then AtExt else AtEnd
-place_of (Opened o) = if length o.timings.items == 0 then InBlocks o.left else InTimings o.left
-place_of (Bare d) = AtTail
+abbrev pub place_of : Draft → NextLine
+place_of (OfBegun d) = InBase d.number
+place_of (OfWhole w) = if nat_lt (length w.extensions.items) 3 then AtExt else AtEnd
+place_of (OfOpened o) = if length o.timings.items == 0 then InBlocks o.left else InTimings o.left
+place_of (OfBare d) = AtTail
 
 -- the line of a base block with this number
 abbrev pub in_base : ℕ → Keyword → Bool

@@ -1,5 +1,5 @@
 //! Each line of a base block adds to it.
-ghost use Rattle.std.specs.Prelude.{◌≡◌, ◌+◌, ◌<◌, ◌++◌, ◌∷◌, [], Some, MatchOption, slice_get, take};
+ghost use Rattle.std.specs.Prelude.{◌≡◌, ◌+◌, ◌<◌, ◌++◌, ◌∷◌, [], Some, MatchBool, slice_get, take};
 ghost use Rattle.hdmi_edid.specs.declared.base.Base.{Base as BaseValue};
 ghost use Rattle.hdmi_edtext.specs.Lines.{head_lines, base_lines};
 
@@ -47,144 +47,145 @@ pub fn blank() -> Base {
     }
 }
 
-/// The base block with one of the first six lines.
-fn put_product(mut base: Base, number: usize, line: &Line) -> Option<Base>
+/// One of the first six lines of a base block.
+fn put_product(base: &mut Base, number: usize, line: &Line) -> bool
     requires { number < 6 }
-    ensures { MatchOption result
-        ((b : BaseValue) → slice_get (head_lines b) number ≡ Some line.now → ⊥)
-        (λ b. take (number + 1) (base_lines b) ≡ take number (base_lines base) ++ line.now ∷ []) }
+    ensures { MatchBool result
+        (take (number + 1) (base_lines base.new) ≡ take number (base_lines base.old) ++ line.now ∷ [])
+        ((b : BaseValue) → slice_get (head_lines b) number ≡ Some line.now → ⊥) }
 {
     match number {
         0 => {
             let Some(revision) = revision_of(line) else {
-                return None;
+                return false;
             };
             base.revision = revision;
-            Some(base)
+            true
         }
         1 => {
             let Some(maker) = maker_of(line) else {
-                return None;
+                return false;
             };
             base.maker = maker;
-            Some(base)
+            true
         }
         2 => {
             let Some(product) = one_number(line, Keyword::Product, 0xffff) else {
-                return None;
+                return false;
             };
             base.product = product as u16;
-            Some(base)
+            true
         }
         3 => {
             let Some(serial) = one_number(line, Keyword::Serial, u32::MAX) else {
-                return None;
+                return false;
             };
             base.serial = serial;
-            Some(base)
+            true
         }
         4 => {
             let Some((week, year)) = two_numbers(line, Keyword::Made, 1990, 2245) else {
-                return None;
+                return false;
             };
             base.week = week;
             base.year = year as u16;
-            Some(base)
+            true
         }
         _ => {
             let Some(input) = one_byte(line, Keyword::Input) else {
-                return None;
+                return false;
             };
             base.input = input;
-            Some(base)
+            true
         }
     }
 }
 
-/// The base block with one of the next five lines.
-fn put_display(mut base: Base, number: usize, line: &Line) -> Option<Base>
+/// One of the next five lines.
+fn put_display(base: &mut Base, number: usize, line: &Line) -> bool
     requires least { 5 < number }
     requires most { number < 11 }
-    ensures { MatchOption result
-        ((b : BaseValue) → slice_get (head_lines b) number ≡ Some line.now → ⊥)
-        (λ b. take (number + 1) (base_lines b) ≡ take number (base_lines base) ++ line.now ∷ []) }
+    ensures { MatchBool result
+        (take (number + 1) (base_lines base.new) ≡ take number (base_lines base.old) ++ line.now ∷ [])
+        ((b : BaseValue) → slice_get (head_lines b) number ≡ Some line.now → ⊥) }
 {
     match number {
         6 => {
             let Some((width, height)) = two_numbers(line, Keyword::Size, 0, 255) else {
-                return None;
+                return false;
             };
             base.width = width;
             base.height = height as u8;
-            Some(base)
+            true
         }
         7 => {
             let Some(gamma) = one_number(line, Keyword::Gamma, 255) else {
-                return None;
+                return false;
             };
             base.gamma = gamma as u8;
-            Some(base)
+            true
         }
         8 => {
             let Some(features) = one_byte(line, Keyword::Features) else {
-                return None;
+                return false;
             };
             base.features = features;
-            Some(base)
+            true
         }
         9 => {
             let Some(chroma) = chroma_of(line) else {
-                return None;
+                return false;
             };
             base.chroma = chroma;
-            Some(base)
+            true
         }
         _ => {
             let Some(established) = three_bytes(line, Keyword::Established) else {
-                return None;
+                return false;
             };
             base.established = established;
-            Some(base)
+            true
         }
     }
 }
 
-/// The base block with the line of a standard timing.
-fn put_standard(mut base: Base, number: usize, line: &Line) -> Option<Base>
+/// The line of a standard timing.
+fn put_standard(base: &mut Base, number: usize, line: &Line) -> bool
     requires least { 10 < number }
     requires most { number < 19 }
-    ensures { MatchOption result
-        ((b : BaseValue) → slice_get (base_lines b) number ≡ Some line.now → ⊥)
-        (λ b. take (number + 1) (base_lines b) ≡ take number (base_lines base) ++ line.now ∷ []) }
+    ensures { MatchBool result
+        (take (number + 1) (base_lines base.new) ≡ take number (base_lines base.old) ++ line.now ∷ [])
+        ((b : BaseValue) → slice_get (base_lines b) number ≡ Some line.now → ⊥) }
 {
     let Some(standard) = standard_of(line) else {
-        return None;
+        return false;
     };
     base.standard[number - 11] = standard;
-    Some(base)
+    true
 }
 
-/// The base block with the line of a descriptor.
-fn put_descriptor(mut base: Base, number: usize, line: &Line) -> Option<Base>
+/// The line of a descriptor.
+fn put_descriptor(base: &mut Base, number: usize, line: &Line) -> bool
     requires least { 18 < number }
     requires most { number < 23 }
-    ensures { MatchOption result
-        ((b : BaseValue) → slice_get (base_lines b) number ≡ Some line.now → ⊥)
-        (λ b. take (number + 1) (base_lines b) ≡ take number (base_lines base) ++ line.now ∷ []) }
+    ensures { MatchBool result
+        (take (number + 1) (base_lines base.new) ≡ take number (base_lines base.old) ++ line.now ∷ [])
+        ((b : BaseValue) → slice_get (base_lines b) number ≡ Some line.now → ⊥) }
 {
     let Some(descriptor) = descriptor_of(line) else {
-        return None;
+        return false;
     };
     base.descriptors[number - 19] = descriptor;
-    Some(base)
+    true
 }
 
-/// The base block with one of its 23 lines, where some base block has that line there.
-pub fn put_base(base: Base, number: usize, line: &Line) -> Option<Base>
+/// One of the 23 lines of a base block, where some base block has that line there. Returns whether one has; else nothing
+/// has changed.
+pub fn put_base(base: &mut Base, number: usize, line: &Line) -> bool
     requires { number < 23 }
-    ensures { MatchOption result
-        ((b : BaseValue) → slice_get (base_lines b) number ≡ Some line.now → ⊥)
-        (λ b. take (number + 1) (base_lines b) ≡ take number (base_lines base) ++ line.now ∷ []) }
+    ensures { MatchBool result
+        (take (number + 1) (base_lines base.new) ≡ take number (base_lines base.old) ++ line.now ∷ [])
+        ((b : BaseValue) → slice_get (base_lines b) number ≡ Some line.now → ⊥) }
 {
     if number < 6 {
         put_product(base, number, line)

@@ -73,10 +73,9 @@ pub fn parse_text(_alloc: Global, text: &[u8]) -> Result<Edid, TextError>
         let Some(read) = read_line(line) else {
             return Err(fault(place, line, number));
         };
-        let Some(next) = draft.put(&read) else {
+        if !draft.put(&read) {
             return Err(fault(place, line, number));
-        };
-        draft = next;
+        }
         rest = more;
         number += 1;
     }

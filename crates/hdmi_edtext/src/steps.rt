@@ -1,70 +1,52 @@
 //! Each line adds to a draft.
-ghost use Rattle.std.specs.Prelude.{◌≡◌, ◌⊎◌, ◌<◌, ◌∷◌, [], ◌++◌, false, true, MatchOption, length};
+ghost use Rattle.std.specs.Prelude.{◌≡◌, ◌⊎◌, ◌<◌, ◌∷◌, [], ◌++◌, ◌≤◌, false, true, MatchBool, MatchOption, length};
 ghost use Rattle.arrayvec.specs.ArrayVec.{array_vec_len};
 ghost use Rattle.hdmi_cta.specs.Block.{block_bytes};
 ghost use Rattle.hdmi_cta.specs.declared.raw.RawExt.{RawExt as RawValue};
-ghost use Rattle.hdmi_edtext.specs.Drafts.{whole_lines, draft_lines, Follows, BlockFits, TimingFits, TailFits};
-ghost use Rattle.hdmi_edtext.specs.Lines.{block_line, timing_line, bytes_line, ext_lines, edid_lines};
+ghost use Rattle.hdmi_edtext.specs.Drafts.{draft_lines, draft_of, lines_so_far, Follows, BlockFits, TimingFits, TailFits};
+ghost use Rattle.hdmi_edtext.specs.Lines.{block_line, timing_line, bytes_line, ext_lines, part_lines, edid_lines};
 ghost use Rattle.hdmi_edtext.specs.Tails.{padded_bytes, fills, ends};
 ghost use Rattle.hdmi_edtext.specs.Words.{place_of};
 ghost use Rattle.hdmi_blocks.specs.declared.edid.Edid.{Edid as EdidValue};
 
 use crate::base_steps::{blank, put_base};
-use crate::draft::{Begun, EdidDraft, Headed, Opened, Whole};
+use crate::draft::EdidDraft;
 use crate::line_to_block::block_of;
 use crate::line_to_value::{array_from, bytes_of, one_byte, timing_of};
 use crate::place::NextLine;
+use crate::stage::Stage;
 use crate::tail::{filled, tail_of};
 use arrayvec::ArrayVec;
 use hdmi_blocks::Edid;
 use hdmi_cta::{Bare, Cta, DataBlock, Ext, RawExt, read_ext};
-use hdmi_edid::Timing;
+use hdmi_edid::{Base, Timing};
 use hdmi_lines::{Keyword, Line};
+use std::mem;
 
-/// The draft with one more line of the base block.
-fn put_begun(begun: Begun, line: &Line) -> Option<EdidDraft>
-    ensures { MatchOption result (Follows (draft_lines (EdidDraft.Begun begun)) line.now → ⊥) (λ d. draft_lines d ≡ draft_lines (EdidDraft.Begun begun) ++ line.now ∷ []) }
+/// One more line of the base block, of which so many were read.
+fn put_begun(draft: &mut EdidDraft, number: usize, line: &Line) -> bool
+    requires { draft.old.stage ≡ Stage.Begun number }
+    ensures { MatchBool result (lines_so_far draft.new ≡ lines_so_far draft.old ++ line.now ∷ []) (Follows (lines_so_far draft.old) line.now → ⊥) }
 {
-    let Begun { base, number } = begun;
-    let Some(base) = put_base(base, number, line) else {
-        return None;
-    };
-    if number < 22 {
-        Some(EdidDraft::Begun(Begun {
-            base,
-            number: number + 1,
-        }))
-    } else {
-        Some(EdidDraft::Whole(Whole {
-            base,
-            extensions: ArrayVec::new(),
-        }))
+    if !put_base(&mut draft.base, number, line) {
+        return false;
     }
+    if number < 22 {
+        draft.stage = Stage::Begun(number + 1);
+        return true;
+    }
+    draft.stage = Stage::Whole;
+    true
 }
 
 /// The EDID of these blocks.
-fn edid_of(whole: Whole) -> Edid
-    ensures { edid_lines result ≡ whole_lines whole }
+fn edid_of(base: Base, extensions: ArrayVec<Ext, 3>) -> Edid
+    requires { length extensions.items ≤ 3 }
+    ensures { edid_lines result ≡ part_lines base extensions.items }
 {
-    let Whole {
-        mut base,
-        extensions,
-    } = whole;
+    let mut base = base;
     base.extensions = extensions.len() as u8;
     Edid { base, extensions }
-}
-
-/// The draft with one more whole extension.
-fn with_extension(whole: Whole, ext: Ext) -> EdidDraft
-    requires { array_vec_len whole.extensions < 3 }
-    ensures { draft_lines result ≡ whole_lines whole ++ ext_lines ext }
-{
-    let Whole {
-        base,
-        mut extensions,
-    } = whole;
-    extensions.push(ext);
-    EdidDraft::Whole(Whole { base, extensions })
 }
 
 /// The extension of no known form that a line gives.
@@ -83,136 +65,137 @@ fn raw_ext_of(line: &Line) -> Option<RawExt>
     }
 }
 
-/// The draft with the first line of an extension, where there is room for one.
-fn put_whole(whole: Whole, line: &Line) -> Option<EdidDraft>
-    ensures { MatchOption result (Follows (draft_lines (EdidDraft.Whole whole)) line.now → ⊥) (λ d. draft_lines d ≡ draft_lines (EdidDraft.Whole whole) ++ line.now ∷ []) }
+/// Opens a CTA block.
+fn open(draft: &mut EdidDraft, flags: u8)
+    requires whole { draft.old.stage ≡ Stage.Whole }
+    requires room { length draft.old.extensions.items < 3 }
+    ensures { lines_so_far draft.new ≡ lines_so_far draft.old ++ bytes_line Keyword.Cta (flags ∷ []) ∷ [] }
 {
-    if whole.extensions.len() == 3 {
-        return None;
+    draft.blocks.clear();
+    draft.timings.clear();
+    draft.stage = Stage::Opened { flags, left: 123 };
+}
+
+/// One more whole extension.
+fn put_extension(draft: &mut EdidDraft, ext: Ext)
+    requires { length draft.old.extensions.items < 3 }
+    ensures { lines_so_far draft.new ≡ part_lines draft.old.base draft.old.extensions.items ++ ext_lines ext }
+{
+    draft.extensions.push(ext);
+    draft.stage = Stage::Whole;
+}
+
+/// The first line of an extension, where there is room for one.
+fn put_whole(draft: &mut EdidDraft, line: &Line) -> bool
+    requires { draft.old.stage ≡ Stage.Whole }
+    ensures { MatchBool result (lines_so_far draft.new ≡ lines_so_far draft.old ++ line.now ∷ []) (Follows (lines_so_far draft.old) line.now → ⊥) }
+{
+    if draft.extensions.len() == 3 {
+        return false;
     }
     if let Some(flags) = one_byte(line, Keyword::Cta) {
-        return Some(EdidDraft::Opened(Opened {
-            whole,
-            flags,
-            blocks: ArrayVec::new(),
-            timings: ArrayVec::new(),
-            left: 123,
-        }));
+        open(draft, flags);
+        return true;
     }
     if let Some(flags) = one_byte(line, Keyword::CtaNone) {
-        return Some(EdidDraft::Bare(Headed { whole, flags }));
+        draft.stage = Stage::Bare(flags);
+        return true;
     }
     let Some(raw) = raw_ext_of(line) else {
-        return None;
+        return false;
     };
-    Some(with_extension(whole, Ext::Raw(raw)))
+    put_extension(draft, Ext::Raw(raw));
+    true
 }
 
-/// The draft with a data block, where there is room.
-fn put_block(opened: Opened, block: DataBlock) -> Option<EdidDraft>
-    requires { array_vec_len opened.timings ≡ 0 }
-    ensures { MatchOption result (opened.left < length (block_bytes block)) (λ d. draft_lines d ≡ draft_lines (EdidDraft.Opened opened) ++ block_line block ∷ []) }
+/// A data block, where there is room.
+fn put_block(draft: &mut EdidDraft, flags: u8, left: usize, block: DataBlock) -> bool
+    requires opened { draft.old.stage ≡ Stage.Opened flags left }
+    requires first { array_vec_len draft.old.timings ≡ 0 }
+    ensures { MatchBool result (lines_so_far draft.new ≡ lines_so_far draft.old ++ block_line block ∷ []) (left < length (block_bytes block)) }
 {
     let len = block.payload.len() + 1;
-    if opened.left < len {
-        return None;
+    if left < len {
+        return false;
     }
-    let Opened {
-        whole,
+    draft.blocks.push(block);
+    draft.stage = Stage::Opened {
         flags,
-        mut blocks,
-        timings,
-        left,
-    } = opened;
-    blocks.push(block);
-    Some(EdidDraft::Opened(Opened {
-        whole,
-        flags,
-        blocks,
-        timings,
         left: left - len,
-    }))
-}
-
-/// The draft with a timing, where there is room.
-fn put_timing(opened: Opened, timing: Timing) -> Option<EdidDraft>
-    ensures { MatchOption result (opened.left < 18) (λ d. draft_lines d ≡ draft_lines (EdidDraft.Opened opened) ++ timing_line timing ∷ []) }
-{
-    if opened.left < 18 {
-        return None;
-    }
-    let Opened {
-        whole,
-        flags,
-        blocks,
-        mut timings,
-        left,
-    } = opened;
-    timings.push(timing);
-    Some(EdidDraft::Opened(Opened {
-        whole,
-        flags,
-        blocks,
-        timings,
-        left: left - 18,
-    }))
-}
-
-/// The draft with a tail, where it ends the block.
-fn put_tail(opened: Opened, bytes: &[u8]) -> Option<EdidDraft>
-    ensures { MatchOption result (ends opened.left bytes.now ≡ false) (λ d. draft_lines d ≡ draft_lines (EdidDraft.Opened opened) ++ bytes_line Keyword.Tail bytes.now ∷ []) }
-{
-    let Some(tail) = tail_of(opened.left, bytes) else {
-        return None;
     };
-    let Opened {
-        whole,
+    true
+}
+
+/// A timing, where there is room.
+fn put_timing(draft: &mut EdidDraft, flags: u8, left: usize, timing: Timing) -> bool
+    requires { draft.old.stage ≡ Stage.Opened flags left }
+    ensures { MatchBool result (lines_so_far draft.new ≡ lines_so_far draft.old ++ timing_line timing ∷ []) (left < 18) }
+{
+    if left < 18 {
+        return false;
+    }
+    draft.timings.push(timing);
+    draft.stage = Stage::Opened {
         flags,
-        blocks,
-        timings,
-        ..
-    } = opened;
+        left: left - 18,
+    };
+    true
+}
+
+/// A tail, where it ends the block.
+fn put_tail(draft: &mut EdidDraft, flags: u8, left: usize, bytes: &[u8]) -> bool
+    requires { draft.old.stage ≡ Stage.Opened flags left }
+    ensures { MatchBool result (lines_so_far draft.new ≡ lines_so_far draft.old ++ bytes_line Keyword.Tail bytes.now ∷ []) (ends left bytes.now ≡ false) }
+{
+    let Some(tail) = tail_of(left, bytes) else {
+        return false;
+    };
     let cta = Cta {
         flags,
-        blocks,
-        timings,
+        blocks: mem::replace(&mut draft.blocks, ArrayVec::new()),
+        timings: mem::replace(&mut draft.timings, ArrayVec::new()),
         tail,
     };
-    Some(with_extension(whole, Ext::Cta(cta)))
+    draft.stage = Stage::Whole;
+    put_extension(draft, Ext::Cta(cta));
+    true
 }
 
-/// The draft with a timing or the tail.
-fn put_after_blocks(opened: Opened, line: &Line) -> Option<EdidDraft>
-    ensures { MatchOption result (TimingFits opened.left line.now ⊎ TailFits opened.left line.now → ⊥) (λ d. draft_lines d ≡ draft_lines (EdidDraft.Opened opened) ++ line.now ∷ []) }
+/// A timing or the tail.
+fn put_after_blocks(draft: &mut EdidDraft, flags: u8, left: usize, line: &Line) -> bool
+    requires { draft.old.stage ≡ Stage.Opened flags left }
+    ensures { MatchBool result (lines_so_far draft.new ≡ lines_so_far draft.old ++ line.now ∷ []) (TimingFits left line.now ⊎ TailFits left line.now → ⊥) }
 {
     if let Some(timing) = timing_of(line) {
-        return put_timing(opened, timing);
+        return put_timing(draft, flags, left, timing);
     }
     let Some(bytes) = bytes_of(line, Keyword::Tail) else {
-        return None;
+        return false;
     };
-    put_tail(opened, bytes)
+    put_tail(draft, flags, left, bytes)
 }
 
-/// The draft with a data block, a timing or the tail.
-fn put_in_blocks(opened: Opened, line: &Line) -> Option<EdidDraft>
-    requires { array_vec_len opened.timings ≡ 0 }
-    ensures { MatchOption result (BlockFits opened.left line.now ⊎ (TimingFits opened.left line.now ⊎ TailFits opened.left line.now) → ⊥) (λ d. draft_lines d ≡ draft_lines (EdidDraft.Opened opened) ++ line.now ∷ []) }
+/// A data block, a timing or the tail.
+fn put_in_blocks(draft: &mut EdidDraft, flags: u8, left: usize, line: &Line) -> bool
+    requires opened { draft.old.stage ≡ Stage.Opened flags left }
+    requires first { array_vec_len draft.old.timings ≡ 0 }
+    ensures { MatchBool result (lines_so_far draft.new ≡ lines_so_far draft.old ++ line.now ∷ []) (BlockFits left line.now ⊎ (TimingFits left line.now ⊎ TailFits left line.now) → ⊥) }
 {
     match block_of(line) {
-        Some(block) => put_block(opened, block),
-        None => put_after_blocks(opened, line),
+        Some(block) => put_block(draft, flags, left, block),
+        None => put_after_blocks(draft, flags, left, line),
     }
 }
 
-/// The draft with one more line of a CTA block. Its data blocks stand before its timings.
-fn put_opened(opened: Opened, line: &Line) -> Option<EdidDraft>
-    ensures { MatchOption result (Follows (draft_lines (EdidDraft.Opened opened)) line.now → ⊥) (λ d. draft_lines d ≡ draft_lines (EdidDraft.Opened opened) ++ line.now ∷ []) }
+/// One more line of a CTA block. Its data blocks stand before its timings.
+fn put_opened(draft: &mut EdidDraft, flags: u8, left: usize, line: &Line) -> bool
+    requires { draft.old.stage ≡ Stage.Opened flags left }
+    ensures { MatchBool result (lines_so_far draft.new ≡ lines_so_far draft.old ++ line.now ∷ []) (Follows (lines_so_far draft.old) line.now → ⊥) }
 {
-    if opened.timings.is_empty() {
-        put_in_blocks(opened, line)
+    if draft.timings.is_empty() {
+        put_in_blocks(draft, flags, left, line)
     } else {
-        put_after_blocks(opened, line)
+        put_after_blocks(draft, flags, left, line)
     }
 }
 
@@ -229,68 +212,78 @@ fn bare_of(flags: u8, bytes: &[u8]) -> Option<Bare>
     })
 }
 
-/// The draft with the tail that stands alone.
-fn put_bare(headed: Headed, line: &Line) -> Option<EdidDraft>
-    ensures { MatchOption result (Follows (draft_lines (EdidDraft.Bare headed)) line.now → ⊥) (λ d. draft_lines d ≡ draft_lines (EdidDraft.Bare headed) ++ line.now ∷ []) }
+/// The tail that stands alone.
+fn put_bare(draft: &mut EdidDraft, flags: u8, line: &Line) -> bool
+    requires { draft.old.stage ≡ Stage.Bare flags }
+    ensures { MatchBool result (lines_so_far draft.new ≡ lines_so_far draft.old ++ line.now ∷ []) (Follows (lines_so_far draft.old) line.now → ⊥) }
 {
-    let Headed { whole, flags } = headed;
     let Some(bytes) = bytes_of(line, Keyword::Tail) else {
-        return None;
+        return false;
     };
     let Some(bare) = bare_of(flags, bytes) else {
-        return None;
+        return false;
     };
-    Some(with_extension(whole, Ext::Bare(bare)))
+    put_extension(draft, Ext::Bare(bare));
+    true
 }
 
 impl EdidDraft {
     /// No lines.
     pub fn new() -> EdidDraft
-        ensures { draft_lines result ≡ [] }
+        ensures { draft_lines (draft_of result) ≡ [] }
     {
-        EdidDraft::Begun(Begun {
+        EdidDraft {
             base: blank(),
-            number: 0,
-        })
+            extensions: ArrayVec::new(),
+            blocks: ArrayVec::new(),
+            timings: ArrayVec::new(),
+            stage: Stage::Begun(0),
+        }
     }
 
     /// Where the next line stands.
     pub fn place(&self) -> NextLine
-        ensures { result ≡ place_of self.now }
+        ensures { result ≡ place_of (draft_of self.now) }
     {
-        match self {
-            EdidDraft::Begun(begun) => NextLine::InBase(begun.number),
-            EdidDraft::Whole(whole) if whole.extensions.len() < 3 => NextLine::AtExt,
-            EdidDraft::Whole(_) => NextLine::AtEnd,
-            EdidDraft::Opened(opened) if opened.timings.is_empty() => NextLine::InBlocks(
-                opened.left,
-            ),
-            EdidDraft::Opened(opened) => NextLine::InTimings(opened.left),
-            EdidDraft::Bare(_) => NextLine::AtTail,
+        match self.stage {
+            Stage::Begun(number) => NextLine::InBase(number),
+            Stage::Whole => {
+                if self.extensions.len() < 3 {
+                    NextLine::AtExt
+                } else {
+                    NextLine::AtEnd
+                }
+            }
+            Stage::Opened { left, .. } => {
+                if self.timings.is_empty() {
+                    NextLine::InBlocks(left)
+                } else {
+                    NextLine::InTimings(left)
+                }
+            }
+            Stage::Bare(_) => NextLine::AtTail,
         }
     }
 
-    /// The draft with one more line, where some EDID's lines go on with it.
-    pub fn put(self, line: &Line) -> Option<EdidDraft>
-        ensures { MatchOption result (Follows (draft_lines self) line.now → ⊥) (λ d. draft_lines d ≡ draft_lines self ++ line.now ∷ []) }
+    /// Takes one more line, where some EDID's lines go on with it. Returns whether some do; else the lines are those before.
+    pub fn put(&mut self, line: &Line) -> bool
+        ensures { MatchBool result (draft_lines (draft_of self.new) ≡ draft_lines (draft_of self.old) ++ line.now ∷ []) (Follows (draft_lines (draft_of self.old)) line.now → ⊥) }
     {
-        match self {
-            EdidDraft::Begun(begun) => put_begun(begun, line),
-            EdidDraft::Whole(whole) => put_whole(whole, line),
-            EdidDraft::Opened(opened) => put_opened(opened, line),
-            EdidDraft::Bare(headed) => put_bare(headed, line),
+        match self.stage {
+            Stage::Begun(number) => put_begun(self, number, line),
+            Stage::Whole => put_whole(self, line),
+            Stage::Opened { flags, left } => put_opened(self, flags, left, line),
+            Stage::Bare(flags) => put_bare(self, flags, line),
         }
     }
 
     /// The EDID whose lines these are all.
     pub fn finish(self) -> Option<Edid>
-        ensures { MatchOption result ((e : EdidValue) → edid_lines e ≡ draft_lines self → ⊥) (λ e. edid_lines e ≡ draft_lines self) }
+        ensures { MatchOption result ((e : EdidValue) → edid_lines e ≡ draft_lines (draft_of self) → ⊥) (λ e. edid_lines e ≡ draft_lines (draft_of self)) }
     {
-        match self {
-            EdidDraft::Whole(whole) => Some(edid_of(whole)),
-            EdidDraft::Begun(_) => None,
-            EdidDraft::Opened(_) => None,
-            EdidDraft::Bare(_) => None,
+        match self.stage {
+            Stage::Whole => Some(edid_of(self.base, self.extensions)),
+            _ => None,
         }
     }
 }

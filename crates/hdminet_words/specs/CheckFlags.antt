@@ -2,8 +2,8 @@
 use Rattle.std.specs.Prelude.{ℕ, List, [], ◌∷◌, Bool, Option, Some, None, if◌then◌else◌, true, false, codes, not, ◌&&◌, ◌||◌, is_some, unwrap_or, option_and_then, is_none}
 use Rattle.std.specs.Option.{option_map}
 use Rattle.std.specs.Str.{bytes_eq}
-use Rattle.hdmi_core.specs.Number.{number_of}
 use Rattle.hdminet_words.specs.Joined.{joined}
+use Rattle.hdminet_words.specs.Micros.{micros_of}
 use Rattle.hdminet_words.specs.MonFlags.{form_of, has_names}
 use Rattle.hdminet_words.specs.declared.check_flags.CheckFlags.{CheckFlags}
 use Rattle.hdminet_words.specs.declared.choice.Asked.{Asked}
@@ -20,7 +20,7 @@ use Rattle.hdminet_words.specs.declared.mon_flags.MonValue.TheVariants.{From, Si
 abbrev pub with_check_value : CheckFlags → MonValue → List ℕ → Option CheckFlags
 with_check_value flags From word = option_map (λ form. record flags { form = Some form; waits = None }) (form_of word)
 with_check_value flags Signal word = Some (record flags { named = true; waits = None })
-with_check_value flags Glitch word = option_map (λ glitch. record flags { glitch = Some glitch; waits = None }) (number_of word)
+with_check_value flags Glitch word = option_map (λ glitch. record flags { glitch = Some glitch; waits = None }) (micros_of word)
 
 -- the flags with one more; each stands once at most
 abbrev pub with_check_flag : CheckFlags → List ℕ → Option CheckFlags

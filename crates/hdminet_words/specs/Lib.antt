@@ -1,4 +1,5 @@
 pub mod Joined
+pub mod Micros
 pub mod RunFlags
 pub mod CheckFlags
 pub mod MonFlags

@@ -2,8 +2,8 @@
 use Rattle.std.specs.Prelude.{ℕ, List, [], ◌∷◌, Bool, Option, Some, None, if◌then◌else◌, true, false, codes, not, ◌&&◌, ◌||◌, is_some, unwrap_or, option_and_then, take, drop, is_none}
 use Rattle.std.specs.Option.{option_map, option_or}
 use Rattle.std.specs.Str.{bytes_eq}
-use Rattle.hdmi_core.specs.Number.{number_of}
 use Rattle.hdminet_words.specs.Joined.{joined}
+use Rattle.hdminet_words.specs.Micros.{micros_of}
 use Rattle.hdminet_words.specs.declared.choice.Asked.{Asked}
 use Rattle.hdminet_words.specs.declared.choice.Choice.{Choice}
 use Rattle.hdminet_words.specs.declared.choice.Choice.TheVariants.{Mon, Json}
@@ -29,7 +29,7 @@ form_of word =
 abbrev pub with_mon_value : MonFlags → MonValue → List ℕ → Option MonFlags
 with_mon_value flags From word = option_map (λ form. record flags { form = Some form; waits = None }) (form_of word)
 with_mon_value flags Signal word = Some (record flags { named = true; waits = None })
-with_mon_value flags Glitch word = option_map (λ glitch. record flags { glitch = Some glitch; waits = None }) (number_of word)
+with_mon_value flags Glitch word = option_map (λ glitch. record flags { glitch = Some glitch; waits = None }) (micros_of word)
 
 -- the flags with one more; each stands once at most, and those that exclude one another not together
 abbrev pub with_mon_flag : MonFlags → List ℕ → Option MonFlags

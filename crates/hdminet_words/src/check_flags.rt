@@ -4,8 +4,8 @@ ghost use Rattle.hdminet_words.specs.CheckFlags.{capture_choice, check_asked, ch
 
 use crate::choice::{Asked, Choice, Form, Objects, TestView};
 use crate::joined::joined;
+use crate::micros::micros_of;
 use crate::mon_flags::{MonValue, form_of, has_names};
-use hdmi_core::number_in;
 
 /// The flags that `check` was given.
 #[derive(Clone, Copy, Debug)]
@@ -57,7 +57,7 @@ fn with_check_value(flags: CheckFlags, value: MonValue, word: &str) -> Option<Ch
             ..flags
         }),
         MonValue::Glitch => {
-            let glitch = number_in(word.as_bytes())?;
+            let glitch = micros_of(word.as_bytes())?;
             Some(CheckFlags {
                 glitch: Some(glitch),
                 waits: None,

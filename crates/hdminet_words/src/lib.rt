@@ -6,6 +6,7 @@ mod choice;
 mod edid_flags;
 mod joined;
 mod line;
+mod micros;
 mod mon_flags;
 mod run_flags;
 mod subcommand;

@@ -4,7 +4,8 @@ ghost use Rattle.hdminet_words.specs.MonFlags.{form_of, has_names, is_misfit, jo
 
 use crate::choice::{Asked, Choice, Form, Objects, Report};
 use crate::joined::joined;
-use hdmi_core::{after, before, number_in};
+use crate::micros::micros_of;
+use hdmi_core::{after, before};
 
 /// A flag of a capture that a value follows.
 #[derive(Clone, Copy, Debug)]
@@ -78,7 +79,7 @@ fn with_mon_value(flags: MonFlags, value: MonValue, word: &str) -> Option<MonFla
             ..flags
         }),
         MonValue::Glitch => {
-            let glitch = number_in(word.as_bytes())?;
+            let glitch = micros_of(word.as_bytes())?;
             Some(MonFlags {
                 glitch: Some(glitch),
                 waits: None,

@@ -146,6 +146,7 @@ check --capture --from wav
 check --capture --from
 check --capture --signal CEC --from pin
 check --capture --glitch few
+check --capture --glitch 18446744073709551616
 check --edges
 check --strict
 check --trace --plain
@@ -189,6 +190,8 @@ mon --signal CEC --from pin
 mon --signal CEC --from edges
 mon --signal A --signal B
 mon --glitch few
+mon --glitch 18446744073709551616
+mon --glitch 36893488147419103232
 mon --from-idle --from-start
 mon --from-idle --audit
 mon --timing --from-start

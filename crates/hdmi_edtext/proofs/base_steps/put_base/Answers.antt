@@ -5,8 +5,8 @@ use Rattle.hdmi_edtext.proofs.base_steps.put_base.Goals as goal
 
 pub returns-then-number-lt6 : goal.returns-then-number-lt6
 returns-then-number-lt6 c =
-    lift_head c.put_product.result c.args.number c.args.line.now (λ b. take (c.args.number + 1) (base_lines b) ≡ take c.args.number (base_lines c.args.base) ++ c.args.line.now ∷ []) (omega arith) c.put_product.ensures
+    lift_head c.put_product.result c.args.number c.args.line.now (take (c.args.number + 1) (base_lines c.put_product.new.base) ≡ take c.args.number (base_lines c.args.base.now) ++ c.args.line.now ∷ []) (omega arith) c.put_product.ensures
 
 pub returns-then-number-lt11 : goal.returns-then-number-lt11
 returns-then-number-lt11 c =
-    lift_head c.put_display.result c.args.number c.args.line.now (λ b. take (c.args.number + 1) (base_lines b) ≡ take c.args.number (base_lines c.args.base) ++ c.args.line.now ∷ []) (omega arith) c.put_display.ensures
+    lift_head c.put_display.result c.args.number c.args.line.now (take (c.args.number + 1) (base_lines c.put_display.new.base) ≡ take c.args.number (base_lines c.args.base.now) ++ c.args.line.now ∷ []) (omega arith) c.put_display.ensures

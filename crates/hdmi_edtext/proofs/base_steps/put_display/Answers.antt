@@ -15,4 +15,4 @@ pub returns-in_default-chroma_of : goal.returns-in_default-chroma_of
 returns-in_default-chroma_of c = λ b e. c.in_default-chroma_of.ensures b.chroma (head_is b c.args.number 9 c.args.line.now _ (omega arith) refl e)
 
 pub invariant_of-base-in_default-clause-bytes_fit : goal.invariant_of-base-in_default-clause-bytes_fit
-invariant_of-base-in_default-clause-bytes_fit c = established_fit c.args.base c.in-Some-three_bytes.established c.in-Some-three_bytes.ensures.1
+invariant_of-base-in_default-clause-bytes_fit c = established_fit c.args.base.now c.in-Some-three_bytes.established c.in-Some-three_bytes.ensures.1

@@ -8,6 +8,6 @@ returns-in_default c = λ b e. let s = standard_got b c.args.number c.args.line.
 
 pub returns : goal.returns
 returns c =
-    let eight = c.args.base.eight in
-    set_line standard_line (head_lines c.args.base) (map descriptor_line c.args.base.descriptors) c.args.base.standard (c.args.number - 11) c.args.number c.in-Some.standard c.args.line.now
+    let eight = c.args.base.now.eight in
+    set_line standard_line (head_lines c.args.base.now) (map descriptor_line c.args.base.now.descriptors) c.args.base.now.standard (c.args.number - 11) c.args.number c.in-Some.standard c.args.line.now
     (omega arith) (omega (arith, eight)) c.in-Some.ensures

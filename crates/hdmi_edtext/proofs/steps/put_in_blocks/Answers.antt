@@ -1,24 +1,26 @@
 use Rattle.std.proofs.Common.{◌≡◌, ◌<◌, ◌⊎◌, ◌++◌, ◌∷◌, [], length, ap, ◌∙◌}
 use Rattle.hdmi_cta.specs.Block.{block_bytes}
-use Rattle.hdmi_edtext.specs.Drafts.{draft_lines, BlockFits, TimingFits, TailFits}
+use Rattle.hdmi_edtext.specs.Drafts.{lines_so_far, BlockFits, TimingFits, TailFits}
 use Rattle.hdmi_edtext.specs.Lines.{block_line}
-use Rattle.hdmi_edtext.specs.declared.draft.EdidDraft.TheVariants.{Opened}
-use Rattle.hdmi_edtext.proofs.ExtSteps.{lift, no_block, no_block_line}
+use Rattle.hdmi_edtext.proofs.ExtSteps.{no_block, no_block_line}
+use Rattle.hdmi_edtext.proofs.Places.{lift_bool}
 use Rattle.hdmi_edtext.proofs.steps.put_in_blocks.Goals as goal
 
 pub returns-in-Some : goal.returns-in-Some
 returns-in-Some c =
-    let o = c.args.opened in
     let l = c.args.line.now in
+    let left = c.args.left in
     let b = c.in-Some.block in
-    lift c.put_block.result (o.left < length (block_bytes b)) (BlockFits o.left l ⊎ (TimingFits o.left l ⊎ TailFits o.left l) → ⊥)
-    (λ d. draft_lines d ≡ draft_lines (Opened o) ++ block_line b ∷ []) (λ d. draft_lines d ≡ draft_lines (Opened o) ++ l ∷ [])
-    (λ less. no_block o.left b l c.in-Some.ensures less) (λ d e. e ∙ ap (λ x. draft_lines (Opened o) ++ x ∷ []) c.in-Some.ensures) c.put_block.ensures
+    let old = lines_so_far c.args.draft.now in
+    let new = lines_so_far c.put_block.new.draft in
+    lift_bool c.put_block.result (new ≡ old ++ block_line b ∷ []) (left < length (block_bytes b)) (new ≡ old ++ l ∷ []) (BlockFits left l ⊎ (TimingFits left l ⊎ TailFits left l) → ⊥)
+    (λ e. e ∙ ap (λ x. old ++ x ∷ []) c.in-Some.ensures) (λ less. no_block left b l c.in-Some.ensures less) c.put_block.ensures
 
 pub returns-in-None : goal.returns-in-None
 returns-in-None c =
-    let o = c.args.opened in
     let l = c.args.line.now in
-    lift c.put_after_blocks.result (TimingFits o.left l ⊎ TailFits o.left l → ⊥) (BlockFits o.left l ⊎ (TimingFits o.left l ⊎ TailFits o.left l) → ⊥)
-    (λ d. draft_lines d ≡ draft_lines (Opened o) ++ l ∷ []) (λ d. draft_lines d ≡ draft_lines (Opened o) ++ l ∷ [])
-    (λ not. no_block_line o.left l c.in-None.ensures not) (λ d e. e) c.put_after_blocks.ensures
+    let left = c.args.left in
+    let old = lines_so_far c.args.draft.now in
+    let new = lines_so_far c.put_after_blocks.new.draft in
+    lift_bool c.put_after_blocks.result (new ≡ old ++ l ∷ []) (TimingFits left l ⊎ TailFits left l → ⊥) (new ≡ old ++ l ∷ []) (BlockFits left l ⊎ (TimingFits left l ⊎ TailFits left l) → ⊥)
+    (λ e. e) (λ not. no_block_line left l c.in-None.ensures not) c.put_after_blocks.ensures

@@ -1,13 +1,22 @@
-use Rattle.std.proofs.Common.{◌≡◌, length, arith}
+use Rattle.std.proofs.Common.{◌≡◌, ◌++◌, ◌∷◌, [], length, arith, ap, ◌∙◌}
+use Rattle.hdmi_edtext.specs.Drafts.{lines_so_far, whole_lines, Follows}
+use Rattle.hdmi_edtext.specs.declared.stage.Stage.TheVariants.{Whole as AtWhole}
 use Rattle.hdmi_edtext.proofs.Fronts.{full_next, whole_next}
+use Rattle.hdmi_edtext.proofs.Places.{fits_at, follows, lines_are, whole_at}
 use Rattle.hdmi_edtext.proofs.steps.put_whole.Goals as goal
 
 pub returns-then-len-eq3 : goal.returns-then-len-eq3
 returns-then-len-eq3 c =
+    let d = c.args.draft.now in
     let len = c.len.ensures.value in
     let test = c.if-len-eq3.true in
-    let full : length c.args.whole.extensions.items ≡ 3 = omega (arith, len, test) in
-    λ f. full_next c.args.whole c.args.line.now full f
+    let full : length d.extensions.items ≡ 3 = omega (arith, len, test) in
+    let w = whole_at d c.requires in
+    λ f. full_next w c.args.line.now full (follows (lines_so_far d) (whole_lines w) c.args.line.now (lines_are d AtWhole c.requires) f)
 
 pub returns-in_default-raw_ext_of : goal.returns-in_default-raw_ext_of
-returns-in_default-raw_ext_of c = λ f. whole_next c.args.whole c.args.line.now c.in_default.ensures c.in_default-one_byte.ensures c.in_default-raw_ext_of.ensures f
+returns-in_default-raw_ext_of c =
+    let d = c.args.draft.now in
+    let w = whole_at d c.requires in
+    λ f. whole_next w c.args.line.now c.in_default.ensures c.in_default-one_byte.ensures c.in_default-raw_ext_of.ensures
+    (follows (lines_so_far d) (whole_lines w) c.args.line.now (lines_are d AtWhole c.requires) f)

@@ -1,13 +1,11 @@
-use Rattle.std.proofs.Common.{ap, ◌∙◌}
-use Rattle.hdmi_edtext.specs.Drafts.{draft_lines}
-use Rattle.hdmi_edtext.proofs.Fronts.{begun_not_all, opened_not_all, bare_not_all}
+use Rattle.std.proofs.Common.{◌≡◌, sym, ◌∙◌}
+use Rattle.hdmi_edtext.specs.Drafts.{draft_of}
+use Rattle.hdmi_edtext.specs.declared.stage.Stage.TheVariants.{Whole as AtWhole}
+use Rattle.hdmi_edtext.proofs.Places.{lines_are, not_all, same_lines, whole_stage}
 use Rattle.hdmi_edtext.proofs.draft.EdidDraft.finish.Goals as goal
 
-pub returns-in-Begun : goal.returns-in-Begun
-returns-in-Begun c = λ e h. begun_not_all c.in-Begun.field-0.base c.in-Begun.field-0.number e c.in-Begun.field-0.few (h ∙ ap draft_lines c.in-Begun.is)
+pub returns-in-Whole : goal.returns-in-Whole
+returns-in-Whole c = c.edid_of.ensures ∙ sym (same_lines c.args.self ∙ lines_are c.args.self AtWhole c.in-Whole.is)
 
-pub returns-in-Opened : goal.returns-in-Opened
-returns-in-Opened c = λ e h. opened_not_all c.in-Opened.field-0 e (h ∙ ap draft_lines c.in-Opened.is)
-
-pub returns-in-Bare : goal.returns-in-Bare
-returns-in-Bare c = λ e h. bare_not_all c.in-Bare.field-0.whole c.in-Bare.field-0.flags e (h ∙ ap draft_lines c.in-Bare.is)
+pub returns-in_default : goal.returns-in_default
+returns-in_default c = λ e all. not_all (draft_of c.args.self) e (λ whole. c.in_default.not-Whole (whole_stage c.args.self whole)) all

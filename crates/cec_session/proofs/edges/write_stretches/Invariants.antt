@@ -3,7 +3,7 @@ use Rattle.std.specs.List.{flat_map}
 use Rattle.std.specs.Io.KnownBytes.{Appends}
 use Rattle.hdmi_core.specs.Cut.{reported_count}
 use Rattle.cec_session.specs.Edges.{stretch_reported}
-use Rattle.cec_session.proofs.edges.write_edges.Given as goal
+use Rattle.cec_session.proofs.edges.write_stretches.Given as goal
 
 -- the edges of the stretches so far are written
 abbrev pub invariant-loop-stretch : goal.invariant-loop-stretch
