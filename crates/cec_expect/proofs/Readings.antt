@@ -1,5 +1,5 @@
 -- What the line of a reading says is a text that the line of a round can have.
-use Rattle.std.proofs.Common.{◌≡◌, ℕ, zero, suc, ◌+◌, ◌-◌, ◌*◌, ◌/◌, ◌%◌, ◌<◌, ◌≤◌, ◌==◌, nat_lt, nat_le, ◌&&◌, ◌||◌, not, ◌⊎◌, inl, inr, Bool, true, false, if◌then◌else◌, codes, length, take, drop, map, List, [], ◌∷◌, ◌++◌, Option, Some, None, refl, sym, ap, subst, ◌∙◌, arith, rules, slice_get, true≢false}
+use Rattle.std.proofs.Common.{◌≡◌, ℕ, zero, suc, ◌+◌, ◌/◌, ◌%◌, ◌<◌, ◌≤◌, ◌==◌, nat_lt, nat_le, ◌&&◌, ◌⊎◌, inl, inr, Bool, true, false, if◌then◌else◌, codes, length, take, drop, map, List, [], ◌∷◌, ◌++◌, Option, Some, None, refl, sym, ap, subst, ◌∙◌, arith, rules, slice_get, true≢false}
 use Rattle.std.proofs.lemmas.Bool.{cases_lt}
 use Rattle.std.specs.Prelude.{find, option_map, unwrap_or, decimal}
 use Rattle.std.specs.List.{flat_map, list_all}
@@ -25,8 +25,8 @@ use Rattle.cec_expect.specs.Parts.{IsTextOf, has}
 use Rattle.cec_expect.specs.Said.{IsSaid, bitless_parts, bits_parts, ending_word, header_parts, literal, opcode_parts, operand_parts, quoted_parts, raw_parts, sender_parts, verdict_parts, worded_parts}
 use Rattle.cec_expect.specs.declared.part.Part.{Part}
 use Rattle.cec_expect.specs.declared.part.Part.TheVariants.{Byte, One, Many, Word, Opcode}
-use Rattle.cec_expect.specs.declared.part.Class.TheVariants.{Hex, Directed, Digit, Bit, Letter, Quotable, Unspaced}
-use Rattle.cec_expect.proofs.Meeting.{and_both, first_of, second_of, append_none, or_left, or_right}
+use Rattle.cec_expect.specs.declared.part.Class.TheVariants.{Hex, Directed, Digit, Bit, Unspaced}
+use Rattle.cec_expect.proofs.Meeting.{and_both, first_of, second_of, append_none}
 
 -- ---- parts
 

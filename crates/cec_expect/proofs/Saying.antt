@@ -1,5 +1,5 @@
 -- A pattern is met by what the line of a round can say exactly where it is found to be.
-use Rattle.std.proofs.Common.{◌≡◌, ℕ, zero, suc, ◌<◌, ◌==◌, ◌||◌, ◌⊎◌, inl, inr, Bool, true, false, List, [], ◌∷◌, ◌++◌, Some, refl, sym, ap, subst, ◌∙◌, arith, slice_get, true≢false, ◌≤◌}
+use Rattle.std.proofs.Common.{◌≡◌, ℕ, zero, suc, ◌<◌, ◌||◌, ◌⊎◌, inl, inr, Bool, true, false, List, [], ◌∷◌, ◌++◌, Some, refl, sym, subst, arith, slice_get, true≢false, ◌≤◌}
 use Rattle.std.proofs.lemmas.Bool.{cases_lt}
 use Rattle.std.specs.List.{list_any}
 use Rattle.cec_frame.specs.declared.Ending.{Ending}
@@ -7,7 +7,7 @@ use Rattle.cec_frame.specs.declared.Ending.TheVariants.{Complete, Short, Silent,
 use Rattle.cec_opcode.specs.Table.{operands_of}
 use Rattle.cec_expect.specs.Fits.{fits}
 use Rattle.cec_expect.specs.Laws.{PatternsAreMet}
-use Rattle.cec_expect.specs.Parts.{IsTextOf, is_met}
+use Rattle.cec_expect.specs.Parts.{is_met}
 use Rattle.cec_expect.specs.Said.{IsEndingSaid, IsFrameSaid, IsPollSaid, IsSaid, any_below, bitless_parts, bits_parts, header_parts, is_complete_met, is_ending_met, is_opcode_met, is_operand_met, is_poll_met, is_said, opcode_parts, raw_parts, verdict_parts, worded_parts}
 use Rattle.cec_expect.specs.declared.part.Part.{Part}
 use Rattle.cec_expect.proofs.Meeting.{any_only, any_some, decides, either, or_left, or_right}

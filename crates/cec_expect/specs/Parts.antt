@@ -1,5 +1,5 @@
 -- Texts as parts, and which patterns a text of such parts meets (own).
-use Rattle.std.specs.Prelude.{◌≡◌, ℕ, ◌+◌, ◌==◌, nat_le, ◌&&◌, ◌||◌, not, Bool, true, false, if◌then◌else◌, length, List, [], ◌∷◌, ◌++◌, slice_get, Some}
+use Rattle.std.specs.Prelude.{◌≡◌, ℕ, ◌+◌, ◌==◌, nat_le, ◌&&◌, ◌||◌, not, Bool, true, if◌then◌else◌, length, List, [], ◌∷◌, ◌++◌, slice_get, Some}
 use Rattle.std.specs.List.{list_all, list_any}
 use Rattle.cec_opcode.specs.WordSets.{NamedByte, words_of}
 use Rattle.cec_opcode.specs.declared.word_set.WordSet.{WordSet}

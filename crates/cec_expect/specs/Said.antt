@@ -10,7 +10,6 @@ use Rattle.cec_opcode.specs.declared.operand.Operand.{Operand}
 use Rattle.cec_opcode.specs.declared.operand.Operand.TheVariants as operand
 use Rattle.cec_opcode.specs.declared.operand.Operands.{Operands}
 use Rattle.cec_opcode.specs.declared.operand.Operands.TheVariants as operands
-use Rattle.cec_opcode.specs.declared.word_set.WordSet.{WordSet}
 use Rattle.cec_text.specs.ReadingText.{verdict_by}
 use Rattle.cec_expect.specs.Parts.{IsTextOf, is_met}
 use Rattle.cec_expect.specs.declared.part.Part.{Part}
