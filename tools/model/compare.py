@@ -1,8 +1,8 @@
 #!/usr/bin/env python3
 """python3 compare.py PROGRAM KIND COUNT START: random inputs of KIND through PROGRAM and the model; prints differences.
-KIND: run feat wire edges mon audit step asm edid edtext check ways expect sweep json odd."""
+KIND: run feat wire edges mon audit step asm edid edtext check ways met expect sweep json odd."""
 import os, random, re, subprocess, sys, time
-import wire, edid, net, sweep
+import wire, edid, expectations, net, patterns, sweep
 from model import model
 
 
@@ -714,10 +714,10 @@ def star(r, word):
 
 
 def gen_pattern(r, line):
-    """a pattern near what a round's line says, seldom an empty one or one with too many stars"""
+    """a pattern near what a round's line says, seldom an empty one, one with too many stars, or one that no line meets"""
     while True:
         text = near_pattern(r, line)
-        if 1 <= len(text) <= 160 and text.count('*') <= 4 or r.random() < .05: return text
+        if 1 <= len(text) <= 160 and text.count('*') <= 4 and patterns.is_met(text.encode()) or r.random() < .02: return text
 
 
 def near_pattern(r, line):
@@ -735,6 +735,30 @@ def near_pattern(r, line):
     elif k < .12: text += r.choice([' ', ' *', '*', ' -', 'x', '#', '\\'])
     elif k < .14: text = r.choice(['*', '* *', '* * * *', '* * * * *', 'short', 'silent', 'bad-start', 'bad-start -', 'complete', 'long', '4>f', '*>f active-source', '* by *', 'x' * r.choice([159, 160, 161])])
     return text
+
+
+def said(r):
+    """what the line of a round may say, whoever sends"""
+    if r.random() < .15:
+        text = r.choice(['short', 'silent', 'bad-start', 'long']) + ' ' + (''.join(r.choice('01') for _ in range(r.randrange(1, 20))) if r.random() < .7 else '-')
+    else:
+        frame = gen_frame(r)
+        text = '%s %s' % (frame, r.choice(['ok', 'refused'] if frame[2] == 'f' else ['ack', 'nack']))
+    return '%s by %s out %s' % (text, r.choice(['tv', 'p1', 'tv,p1']), r.choice(['-', 'p1@7']))
+
+
+def gen_met(r):
+    """one pattern near what some round says, often with a byte changed: a line that some of a hundred such texts meets is not refused"""
+    while True:
+        text = near_pattern(r, '0 0 ' + said(r))
+        if text and r.random() < .5:
+            i = r.randrange(len(text))
+            text = text[:i] + r.choice('abcdefx0159 :.->"-_F') + text[i + (r.random() < .7):]
+        if 1 <= len(text) <= 160 and text.count('*') <= 4: break
+    if not patterns.is_met(text.encode('latin1', 'replace')):
+        # The model by places against the meaning of a pattern.
+        assert not any(expectations.fits(text.encode('latin1', 'replace'), said(r).encode()) for _ in range(100)), text
+    return ['check'], 'device tv tv 4\nscript\nexpect from 0 to 1 %s\nend 1\n' % text
 
 
 def gen_window(r, lines, labels, end, near):
@@ -903,7 +927,7 @@ def small_run(r):
 
 
 ODD = [gen_run, small_run, small_run, gen_asm, gen_edidcmd, gen_edtext, gen_mon, gen_step, gen_expect]
-GEN = dict(ops=gen_ops, amp=gen_amp, run=gen_run, feat=gen_feat, wire=gen_wire, edges=gen_edges, mon=gen_mon, audit=gen_audit, step=gen_step, asm=gen_asm, edid=gen_edidcmd, edtext=gen_edtext, check=gen_check, ways=gen_ways, expect=gen_expect, sweep=gen_sweep, json=gen_json, odd=gen_odd)
+GEN = dict(ops=gen_ops, met=gen_met, amp=gen_amp, run=gen_run, feat=gen_feat, wire=gen_wire, edges=gen_edges, mon=gen_mon, audit=gen_audit, step=gen_step, asm=gen_asm, edid=gen_edidcmd, edtext=gen_edtext, check=gen_check, ways=gen_ways, expect=gen_expect, sweep=gen_sweep, json=gen_json, odd=gen_odd)
 
 
 def main():

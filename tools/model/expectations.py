@@ -1,5 +1,6 @@
 """Expectations of scripts and their report: a plain model."""
 import re
+import patterns
 from net import Fault, Run, load, parse_script, parse_topology, parts
 from wire import T_LIMIT, lines_of, number, skipped
 
@@ -85,7 +86,7 @@ def parse_expectation(n, text, label, body, names, end):
     return ['word']
 
 
-ORDER = ['word', 'number', 'name', 'label', 'order']
+ORDER = ['word', 'number', 'name', 'label', 'order', 'pattern']
 
 
 def expectations(script, names, end):
@@ -110,6 +111,8 @@ def expectations(script, names, end):
             elif it.kind != 'state' and it.of is not None:
                 if it.of not in labels or it.kind == 'refused' and labels[it.of] is None:
                     causes.append('label')
+            if it and (it.kind == 'rounds' and not patterns.is_met(it.pattern) or it.kind == 'refused' and it.word not in patterns.REFUSALS):
+                causes.append('pattern')
         if causes:
             raise Fault('script line %d: %s' % (n, min(causes, key=ORDER.index)))
         if label is not None:

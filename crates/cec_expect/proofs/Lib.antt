@@ -1,2 +1,6 @@
 pub mod Parted
 pub mod Tabled
+pub mod Meeting
+pub mod Fronts
+pub mod Saying
+pub mod Readings

@@ -1,6 +1,6 @@
 -- Labels of a script, and its first line at fault (own). Lines count from 1. A label is a word that is not empty, stands on one
 -- line alone, before an event, a pulse or an expectation, and above those that name it; of a refusal it is an event's. A window does not end before it begins. The device of
--- a state is one of the topology, and its time is not past the end.
+-- a state is one of the topology, and its time is not past the end. Some line of a round meets a pattern.
 use Rattle.std.specs.Prelude.{ℕ, ◌+◌, ◌==◌, nat_lt, ◌&&◌, not, codes, Bool, true, false, if◌then◌else◌, length, List, [], ◌∷◌, Option, Some, None, Result, Ok, Err}
 use Rattle.std.specs.Str.{bytes_eq}
 use Rattle.std.specs.List.{list_any}
@@ -11,10 +11,11 @@ use Rattle.hdmi_core.specs.Number.{number_of}
 use Rattle.cec_expect.specs.Line.{label_in, unlabelled_words, is_event, is_labelable}
 use Rattle.cec_expect.specs.Fault.{after_label, at_word}
 use Rattle.cec_expect.specs.Form.{Form, Window, form_in, in_window}
+use Rattle.cec_expect.specs.Said.{is_said, unmet_word}
 use Rattle.cec_expect.specs.Form.Form.{Other, Rounds, State, Refused}
 use Rattle.cec_expect.specs.Form.Window.{Within, From}
 use Rattle.cec_expect.specs.declared.fault.LineFault.{LineFault}
-use Rattle.cec_expect.specs.declared.form.ExpectCause.TheVariants.{Word, Name, Label, Order}
+use Rattle.cec_expect.specs.declared.form.ExpectCause.TheVariants.{Word, Name, Label, Order, Unmet}
 use Rattle.cec_expect.specs.declared.form.Quantity.{Quantity}
 use Rattle.cec_expect.specs.declared.faults.ExpectFault.{ExpectFault}
 
@@ -89,11 +90,29 @@ abbrev pub window_fault : List ℕ → ℕ → Quantity → Window → Option Li
 window_fault script number quantity (Within duration name) = if is_above number (line_of_label script name) then None else Some (in_window quantity 3 Label)
 window_fault script number quantity (From from to) = if nat_lt to from then Some (in_window quantity 3 Order) else None
 
+-- no line of a round meets the pattern
+abbrev pub pattern_fault : Quantity → List ℕ → Option LineFault
+pattern_fault quantity pattern = if is_said pattern then None else Some (in_window quantity (4 + unmet_word pattern) Unmet)
+
+abbrev pub or_fault : Option LineFault → Option LineFault → Option LineFault
+or_fault None other = other
+or_fault (Some fault) other = Some fault
+
+-- the words with which events are refused
+abbrev pub is_refusal : List ℕ → Bool
+is_refusal word =
+    list_any (bytes_eq word) (codes "port-range" ∷ codes "port-taken" ∷ codes "not-loose" ∷ codes "loop" ∷ codes "not-plugged" ∷ codes "not-for-kind" ∷ codes "off-wire" ∷ codes "queue-full" ∷ codes "own-address" ∷ codes "no-address" ∷ [])
+
+-- the label is no event's above, or no event is refused with this word
+abbrev pub refusal_fault : List ℕ → ℕ → List ℕ → List ℕ → Option LineFault
+refusal_fault script number name word =
+    if is_above number (event_labelled script name) then (if is_refusal word then None else Some (at_word 3 Unmet)) else Some (at_word 2 Label)
+
 abbrev pub form_fault : List ℕ → ℕ → Form → Option LineFault
 form_fault script number Other = None
-form_fault script number (Rounds quantity window pattern) = window_fault script number quantity window
+form_fault script number (Rounds quantity window pattern) = or_fault (window_fault script number quantity window) (pattern_fault quantity pattern)
 form_fault script number (State time device words) = if ends_before script time then Some (at_word 2 Order) else None
-form_fault script number (Refused name word) = if is_above number (event_labelled script name) then None else Some (at_word 2 Label)
+form_fault script number (Refused name word) = refusal_fault script number name word
 
 -- it names a device that is not declared
 abbrev pub is_strange : List ℕ → Form → Bool

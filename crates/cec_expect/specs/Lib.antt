@@ -1,6 +1,9 @@
 pub mod Fits
+pub mod Parts
+pub mod Said
 pub mod Line
 pub mod Fault
 pub mod Form
 pub mod Faults
 pub mod Labels
+pub mod Laws

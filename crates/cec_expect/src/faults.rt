@@ -5,12 +5,13 @@ ghost use Rattle.hdmi_core.specs.Words.{words_after, words_of};
 ghost use Rattle.cec_expect.specs.Fault.{IsNear, after_label};
 ghost use Rattle.cec_expect.specs.Form.{IsForm, form_as, window_of};
 ghost use Rattle.cec_expect.specs.Line.{unlabelled_words};
-ghost use Rattle.cec_expect.specs.Faults.{declared_in, end_in, ends_before, first_fault, form_fault, is_above, is_declared, is_line, is_named, is_own_label, is_past, is_strange, labelled_form, line_fault, window_fault};
+ghost use Rattle.cec_expect.specs.Faults.{declared_in, end_in, ends_before, first_fault, form_fault, is_above, is_declared, is_line, is_named, is_own_label, is_past, is_refusal, is_strange, labelled_form, line_fault, or_fault, pattern_fault, refusal_fault, window_fault};
 
 use crate::fault::{LineFault, after_label, at_word};
 use crate::form::{ExpectCause, Form, Quantity, Window, form_in, in_window};
 use crate::labels::Labels;
 use crate::line::{is_labelable, unlabelled};
+use crate::said::{is_said, unmet_word};
 use hdmi_core::{first_line, first_word, number_in};
 use std::alloc::{AllocError, Global};
 use thiserror::Error;
@@ -148,6 +149,62 @@ fn window_fault(
     }
 }
 
+fn pattern_fault(quantity: Quantity, pattern: &[u8]) -> Option<LineFault>
+    ensures value { result ≡ pattern_fault quantity pattern.now }
+    ensures near { IfSome result IsNear }
+{
+    if is_said(pattern) {
+        None
+    } else {
+        Some(in_window(quantity, 4 + unmet_word(pattern), ExpectCause::Unmet))
+    }
+}
+
+fn rounds_fault(
+    labels: &Labels<'_>,
+    number: u64,
+    quantity: Quantity,
+    window: Window,
+    pattern: &[u8],
+) -> Option<LineFault>
+    ensures value { result ≡ or_fault (window_fault labels.now.script.now number quantity (window_of window.entry)) (pattern_fault quantity pattern.now) }
+    ensures near { IfSome result IsNear }
+{
+    match window_fault(labels, number, quantity, window) {
+        Some(fault) => Some(fault),
+        None => pattern_fault(quantity, pattern),
+    }
+}
+
+// Whether an event can be refused with a word.
+fn is_refusal(word: &[u8]) -> bool
+    ensures { result ≡ is_refusal word.now }
+{
+    word == b"port-range".as_slice()
+        || word == b"port-taken".as_slice()
+        || word == b"not-loose".as_slice()
+        || word == b"loop".as_slice()
+        || word == b"not-plugged".as_slice()
+        || word == b"not-for-kind".as_slice()
+        || word == b"off-wire".as_slice()
+        || word == b"queue-full".as_slice()
+        || word == b"own-address".as_slice()
+        || word == b"no-address".as_slice()
+}
+
+fn refusal_fault(labels: &Labels<'_>, number: u64, name: &[u8], word: &[u8]) -> Option<LineFault>
+    ensures value { result ≡ refusal_fault labels.now.script.now number name.now word.now }
+    ensures near { IfSome result IsNear }
+{
+    if !is_above(number, labels.event_of(name)) {
+        Some(at_word(2, ExpectCause::Label))
+    } else if is_refusal(word) {
+        None
+    } else {
+        Some(at_word(3, ExpectCause::Unmet))
+    }
+}
+
 fn form_fault(labels: &Labels<'_>, number: u64, form: Form) -> Option<LineFault>
     ensures value { result ≡ form_fault labels.now.script.now number (form_as form.entry) }
     ensures near { IfSome result IsNear }
@@ -157,8 +214,8 @@ fn form_fault(labels: &Labels<'_>, number: u64, form: Form) -> Option<LineFault>
         Form::Rounds {
             quantity,
             window,
-            ..
-        } => window_fault(labels, number, quantity, window),
+            pattern,
+        } => rounds_fault(labels, number, quantity, window, pattern),
         Form::State { time, .. } => {
             if ends_before(labels.script, time) {
                 Some(at_word(2, ExpectCause::Order))
@@ -166,13 +223,7 @@ fn form_fault(labels: &Labels<'_>, number: u64, form: Form) -> Option<LineFault>
                 None
             }
         }
-        Form::Refused { label, .. } => {
-            if is_above(number, labels.event_of(label)) {
-                None
-            } else {
-                Some(at_word(2, ExpectCause::Label))
-            }
-        }
+        Form::Refused { label, word } => refusal_fault(labels, number, label, word),
     }
 }
 

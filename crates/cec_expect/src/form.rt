@@ -33,6 +33,9 @@ pub enum ExpectCause {
     /// The window ends before it begins, or the time of a state is past the end.
     #[error("order")]
     Order,
+    /// A pattern that no line of a round meets, a word that no line of a state has, or one with which no event is refused.
+    #[error("pattern")]
+    Unmet,
 }
 
 /// The most bytes of a pattern.
@@ -104,7 +107,7 @@ fn window_word(quantity: Quantity) -> usize
 
 /// The word at fault that stands so many after the first one of a window.
 pub(crate) fn in_window(quantity: Quantity, after: usize, cause: ExpectCause) -> LineFault
-    requires few { after ≤ 4 }
+    requires few { after < 2 ^ 63 + 8 }
     ensures value { result ≡ in_window quantity after cause }
     ensures near { IsNear result }
 {

@@ -5,12 +5,17 @@ mod fault;
 mod faults;
 mod form;
 mod labels;
+mod laws;
 mod line;
+mod part;
 mod pattern;
+mod said;
 
 pub use fault::{LineFault, after_label, at_word};
 pub use faults::{ExpectFault, fault_among, first_fault};
 pub use form::{ExpectCause, Form, Quantity, Window, exact_number, form_in};
 pub use labels::Labels;
+pub use laws::{patterns_are_met, readings_are_said};
 pub use line::{Labelled, cut_script, onset_in, plain_part, plain_script, unlabelled};
 pub use pattern::fits;
+pub use said::is_said;

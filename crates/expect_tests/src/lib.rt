@@ -7,3 +7,5 @@ mod cases;
 mod limits;
 #[cfg(test)]
 mod rows;
+#[cfg(test)]
+mod said;

@@ -110,7 +110,25 @@ expect state 18446744073709551616 tv on|end 10 => line 1: number at 2
 expect from 1 to 2 short |end 10 => line 1: word at 5
 expect once from 1 to 2 4>0 image-view-on  |end 10 => line 1: word at 6
 expect from 1 to 2  short|end 10 => line 1: word at 5
-expect from 1 to 2 4>0 set-osd-name \"a  b\"|end 10 => none";
+expect from 1 to 2 4>0 set-osd-name \"a  b\"|end 10 => none
+expect from 1 to 2 film|end 10 => line 1: pattern at 5
+expect from 1 to 2 complete 4>f active-source|end 10 => line 1: pattern at 5
+expect none from 1 to 2 4>F active-source|end 10 => line 1: pattern at 6
+expect none from 1 to 2 4>f active-sourc|end 10 => line 1: pattern at 7
+expect once from 1 to 2 4>f active_source 1.0.0.0|end 10 => line 1: pattern at 7
+expect from 1 to 2 4>f active-source 1.0.0.0 ack|end 10 => line 1: pattern at 8
+at 5 press p1 play|label b expect none from 1 to 2 4>0 image-view-on ok => line 2: pattern at 10
+expect from 1 to 2 4>0 report-power-status onn|end 10 => line 1: pattern at 7
+expect from 1 to 2 4>f  active-source|end 10 => line 1: pattern at 6
+expect from 1 to 2 short 2|end 10 => line 1: pattern at 6
+expect from 1 to 2 4>f active-source ok|end 10 => line 1: pattern at 7
+expect from 1 to 2 4>0 active-source 1.0.0.0 ack|end 10 => none
+at 5 press p1 play|expect within 1 of a film => line 2: label at 4
+expect from 2 to 1 film|end 10 => line 1: order at 4
+label a at 5 press p1 play|expect refused a nonsense => line 2: pattern at 3
+label a at 5 press p1 play|label b expect refused a not-for-kinds => line 2: pattern at 5
+label a at 5 press p1 play|expect refused b nonsense => line 2: label at 2
+label a at 5 press p1 play|expect refused a no-address => none";
 
 /// A line, and what is left of it in the plain script.
 pub(crate) const PLAIN: &str = "\
@@ -157,7 +175,7 @@ label no expect none within 200000 of film *>f active-source
 label slip at 1500000 press tv eject
 expect refused slip not-for-kind
 at 1600000 press tv eject
-expect none within 5 of no \\#
+expect none within 5 of no 4>0 set-osd-name \"\\#*
 expect refused slip off-wire
 expect once from 0 to 400000 *>f report-physical-address
 end 2000000
@@ -174,7 +192,7 @@ not ok 5 - line 6: label no expect none within 200000 of film *>f active-source
 # seen 1 from 1000000 to 1200000
 # 1068400 1167550 complete 4>f active-source 1.0.0.0 ok by p1 out -
 ok 6 - line 8: expect refused slip not-for-kind
-not ok 7 - line 10: expect none within 5 of no \\\\\\#
+not ok 7 - line 10: expect none within 5 of no 4>0 set-osd-name \"\\\\\\#*
 # no instant
 not ok 8 - line 11: expect refused slip off-wire
 not ok 9 - line 12: expect once from 0 to 400000 *>f report-physical-address

@@ -284,6 +284,7 @@ nothing is written then. CAUSE is the first of these that applies:
   label      a label that is empty or stands above already; one that no line above has; for a refusal, one
              that is no event's
   order      a window ends before it begins, or the time of a state is past `end`
+  pattern    the line of no round meets the pattern; no event is refused with the word
   range      more than 1000000 instants, or a second range
 The faults of a range come first of all; a script that is refused at an instant T of it has ` at T` after
 its fault. With --capture they are `no capture line`, `line N: CAUSE` of the capture as those of hdminet

@@ -72,6 +72,9 @@ fn of_expectation(cause: ExpectCause) -> &'static str {
         ExpectCause::Order => {
             "a window does not end before it begins: U is T or later; the time of a state is not past `end`"
         }
+        ExpectCause::Unmet => {
+            "PATTERN begins as what some round says in the trace after its times, without `complete`: `4>f active-source 1.0.0.0 ok`, `short 0`; a frame to one address has `ack` or `nack`, one to `f` has `ok` or `refused`; an event is refused with port-range, port-taken, not-loose, loop, not-plugged, not-for-kind, off-wire, queue-full, own-address or no-address"
+        }
     }
 }
 

@@ -86,7 +86,8 @@ fn in_expectation(cause: ExpectCause, word: usize) -> Option<Mark> {
         | ExpectCause::Number
         | ExpectCause::Name
         | ExpectCause::Label
-        | ExpectCause::Order => one(word),
+        | ExpectCause::Order
+        | ExpectCause::Unmet => one(word),
     }
 }
 

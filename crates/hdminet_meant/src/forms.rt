@@ -183,7 +183,11 @@ fn add_expectation(draft: &mut Draft, what: Input, cause: ExpectCause, line: &st
         ExpectCause::Word | ExpectCause::Pattern => {
             add_forms(draft, forms_of(what), as_form(what, line));
         }
-        ExpectCause::Number | ExpectCause::Name | ExpectCause::Label | ExpectCause::Order => {}
+        ExpectCause::Number
+        | ExpectCause::Name
+        | ExpectCause::Label
+        | ExpectCause::Order
+        | ExpectCause::Unmet => {}
     }
 }
 

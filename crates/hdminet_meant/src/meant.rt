@@ -31,6 +31,52 @@ const OTHER_KINDS: &[(&str, &str)] = &[
     ("hub", "switch"),
 ];
 
+/// Words of a round's line that stand for themselves.
+const ROUND_WORDS: &[&str] = &[
+    "short",
+    "silent",
+    "bad-start",
+    "long",
+    "open",
+    "ack",
+    "nack",
+    "ok",
+    "refused",
+    "by",
+    "out",
+];
+
+/// The words with which events are refused.
+const REFUSALS: &[&str] = &[
+    "port-range",
+    "port-taken",
+    "not-loose",
+    "loop",
+    "not-plugged",
+    "not-for-kind",
+    "off-wire",
+    "queue-full",
+    "own-address",
+    "no-address",
+];
+
+/// The sets of words that stand for an operand of a frame.
+const OPERAND_WORDS: &[WordSet] = &[
+    WordSet::Reason,
+    WordSet::Power,
+    WordSet::OnOff,
+    WordSet::DeviceType,
+    WordSet::StatusRequest,
+    WordSet::DeckInfo,
+    WordSet::PlayMode,
+    WordSet::DeckControl,
+    WordSet::Display,
+    WordSet::MenuRequest,
+    WordSet::MenuState,
+    WordSet::Version,
+    WordSet::UserControl,
+];
+
 /// The words that mute, audio and arc take.
 const SWITCHES: &[&str] = &["on", "off"];
 
@@ -80,15 +126,36 @@ fn add_nearest_of(draft: &mut Draft, forms: &[&[&str]], word: &str) -> bool {
     false
 }
 
-// The first name of an opcode that a word may have been meant for.
-fn add_nearest_opcode(draft: &mut Draft, word: &str) {
+// The first name of an opcode that a word may have been meant for. Returns whether there is one.
+fn add_nearest_opcode(draft: &mut Draft, word: &str) -> bool {
     for code in 0..=u8::MAX {
         if let Some(near) = name(code) {
             if add_near(draft, near, word) {
-                return;
+                return true;
             }
         }
     }
+    false
+}
+
+// The first word of an operand that a word may have been meant for. Returns whether there is one.
+fn add_nearest_operand(draft: &mut Draft, word: &str) -> bool {
+    for set in OPERAND_WORDS {
+        for operand in set.words() {
+            if add_near(draft, operand.text, word) {
+                return true;
+            }
+        }
+    }
+    false
+}
+
+// What a word of a pattern that no round's line meets, or one with which no event is refused, may have been meant for.
+fn add_nearest_of_round(draft: &mut Draft, word: &str) {
+    let _ = add_nearest_opcode(draft, word)
+        || add_nearest(draft, ROUND_WORDS, word)
+        || add_nearest(draft, REFUSALS, word)
+        || add_nearest_operand(draft, word);
 }
 
 // The first code of a remote control that a word may have been meant for.
@@ -210,7 +277,9 @@ fn of_script_word(draft: &mut Draft, what: Input, line: &str, word: &str, number
 // What the name of a frame's opcode may have been meant for.
 fn of_frame(draft: &mut Draft, cause: AssembleError, word: &str) {
     match cause {
-        AssembleError::Name => add_nearest_opcode(draft, word),
+        AssembleError::Name => {
+            let _ = add_nearest_opcode(draft, word);
+        }
         AssembleError::Address
         | AssembleError::TooLong
         | AssembleError::Count
@@ -253,6 +322,7 @@ fn of_expectation(draft: &mut Draft, place: Place<'_>, cause: ExpectCause, word:
             let _ = add_nearest_name(draft, place, word);
         }
         ExpectCause::Number => add_number(draft, word),
+        ExpectCause::Unmet => add_nearest_of_round(draft, word),
         ExpectCause::Word | ExpectCause::Pattern | ExpectCause::Order => {
             let _ = add_nearest_of(draft, EXPECTATIONS, word);
         }

@@ -102,6 +102,7 @@ expect_more expects.Number = omega arith
 expect_more expects.Name = omega arith
 expect_more expects.Label = omega arith
 expect_more expects.Order = omega arith
+expect_more expects.Unmet = omega arith
 
 check_more : (error : CheckError) → 1 < (check_answer error).code
 check_more (checks.Emulate error) = run_more error

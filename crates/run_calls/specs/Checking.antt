@@ -20,6 +20,7 @@ expect_code expects.Number = ExpectNumber
 expect_code expects.Name = ScriptName
 expect_code expects.Label = ExpectLabel
 expect_code expects.Order = ExpectOrder
+expect_code expects.Unmet = ExpectWord
 
 -- a write into memory fails where memory runs out
 abbrev pub check_answer : CheckError → Answer

@@ -38,6 +38,7 @@ fn expect_code(cause: ExpectCause) -> Code
         ExpectCause::Name => Code::ScriptName,
         ExpectCause::Label => Code::ExpectLabel,
         ExpectCause::Order => Code::ExpectOrder,
+        ExpectCause::Unmet => Code::ExpectWord,
     }
 }
 

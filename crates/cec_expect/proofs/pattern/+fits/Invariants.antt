@@ -1,5 +1,4 @@
-use Rattle.std.proofs.Common.{◌+◌, ◌-◌, length}
-use Rattle.cec_expect.specs.Fits.{fits}
+use Rattle.std.proofs.Common.{◌+◌, length}
 use Rattle.cec_expect.proofs.pattern.+fits.Given as goal
 
 abbrev pub decreases-fits : goal.decreases-fits

@@ -1,0 +1,12 @@
+//! Laws of patterns.
+ghost use Rattle.cec_expect.specs.Laws.{PatternsAreMet, ReadingsAreSaid};
+
+/// A pattern is refused exactly where no text that the line of a round can have meets it.
+pub fn patterns_are_met()
+    ensures { PatternsAreMet }
+{}
+
+/// Whatever is read, and whoever sends, what the line of the round says is a text that `patterns_are_met` speaks of.
+pub fn readings_are_said()
+    ensures { ReadingsAreSaid }
+{}
