@@ -280,6 +280,8 @@ def capture_is_drawn(t, b):
     t.holds("its remark", "⚠ 1" in bad["verdict"], bad["verdict"])
     b.js("testing.app.select(testing.rowOf(' bad-start '))")
     t.holds("the remark in words", "start low 400 not 3500..3900" in b.js("testing.panel()"), b.js("testing.panel()"))
+    b.js("testing.app.select(testing.rowOf(' complete 0>0 '))")
+    t.holds("who polls for an address has none yet", "a device without an address" in b.js("testing.panel()"), b.js("testing.panel()"))
     broadcast = drawn(b, "0>f report-physical-address 0.0.0.0 tv ok")
     t.same("a lane is an address", [broadcast["cls"], broadcast["senders"]], ["ok", ["0"]])
     # What a run has not: readings that go on at the end, that begin before the line was idle, and that are too long
@@ -339,6 +341,8 @@ def failures_are_drawn(t, b):
     show(b, os.path.join(EXAMPLES, "race.sweep"))
     t.same("a sweep is a bar for each test", b.js("document.querySelectorAll('#space svg').length"), 2)
     t.same("and four stretches in each", b.js("document.querySelectorAll('#space svg rect').length"), 8)
+    t.holds("its bars are as wide as there is room", b.js("(box => box.scrollWidth <= box.clientWidth)(document.getElementById('chart'))"))
+    t.same("and a line for each stretch", b.js("document.querySelectorAll('#panel tr').length"), 5)
 
 
 def keys_reach_all(t, b):
