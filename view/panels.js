@@ -6,7 +6,7 @@ import { counted, duration, html, link, seconds, svg, table } from './elements.j
 import { asciiOf, senderOf } from './model.js';
 import { acknowledgersOf, blockOf, freeBefore, isWithin, lowWindow, partOf, slotsOf, WINDOWS } from './slots.js';
 import { asText } from './texts.js';
-import { addressName, CAUSES, meaningOf, opcodeName, partyName } from './words.js';
+import { addressInWords, CAUSES, meaningOf, partyName } from './words.js';
 
 const MOST_LISTED = 500;
 const PAGE_OF_TABLE = 200;
@@ -93,8 +93,8 @@ function blocks(model, round) {
   const isBroadcast = round.destination === 'f';
   const isOfText = /^..(47|64|67|32)/.test(round.bytes);
   const meaning = (byte, i) => {
-    if (i === 0) return `${addressName(byte[0])} to ${isBroadcast ? 'all' : addressName(byte[1])}`;
-    if (i === 1) return opcodeName(byte) || 'no name';
+    if (i === 0) return `${addressInWords(byte[0])} to ${isBroadcast ? 'all' : addressInWords(byte[1])}`;
+    if (i === 1) return model.names.get(byte) || '';
     const code = parseInt(byte, 16);
     return isOfText && code >= 0x20 && code < 0x7f ? `'${String.fromCharCode(code)}'` : '';
   };
@@ -161,7 +161,7 @@ function drawEvent(app, model, row) {
     html('h2', {}, row.text),
     html('p', {}, html('span', { class: 'tag event' }, 'event'), ' ', answer, ` at ${o.at} µs.`),
     html('p', {}, `Line ${o.scriptLine} of the script.`),
-    !model.room && dim('Give the page the room\'s text too, to see what the line says.'),
+    !model.room && dim('Give the page the objects of run --json --room, or the room\'s text too, to see what the line says.'),
     html('h3', {}, 'Line'), html('pre', {}, o.line),
   ];
 }
@@ -338,7 +338,7 @@ function drawDevices(app, model) {
     if (Array.isArray(value)) return value.map(one => one ?? '–').join('+');
     if (typeof value === 'object') {
       const opcode = asText(value.opcode);
-      return `${opcodeName(opcode) || opcode} from ${asText(value.initiator)}`;
+      return `${model.names.get(opcode) || opcode} from ${asText(value.initiator)}`;
     }
     return value;
   };
@@ -420,6 +420,7 @@ x.net                                                         what the events sa
 ./hdminet check --json < x.test > report.jsonl                a report of tests
 ./hdminet mon --json --from-start < capture.vcd > x.jsonl     a capture: also capture.vcd itself
 ./hdminet mon --audit < capture.vcd > audit.txt               and what the audit remarks
+./hdminet dis --meaning < frames.hex > x.meant                what frames mean, by their bytes in hex
 ./hdminet edid --meaning < tv.edid > tv.meaning               an EDID`;
 
 export function help() {

@@ -25,14 +25,14 @@ use Rattle.cec_audit.proofs.Plain.{plain_codes, plain_decimal, plain_hex, plain_
 
 -- ---- parts that may be missing
 
-abbrev PlainIf : Option (List ℕ) → Type 0
+abbrev pub PlainIf : Option (List ℕ) → Type 0
 PlainIf None = Unit {0}
 PlainIf (Some text) = IsPlain text
 
-abbrev shown : List ℕ → Bool
+abbrev pub shown : List ℕ → Bool
 shown text = list_all (λ c. not (c == 10)) text
 
-or_else : (o : Option (List ℕ)) (other : List ℕ) → PlainIf o → IsPlain other → IsPlain (unwrap_or o other)
+pub or_else : (o : Option (List ℕ)) (other : List ℕ) → PlainIf o → IsPlain other → IsPlain (unwrap_or o other)
 or_else None other h k = k
 or_else (Some text) other h k = h
 
@@ -45,7 +45,7 @@ spaced (Some text) h = (blank.0, h)
 
 -- ---- tables
 
-named : (table : List Row) → list_all (λ r. shown r.name) table ≡ true → (code : ℕ) → PlainIf (option_map (λ r. r.name) (find (λ r. r.code == code) table))
+pub named : (table : List Row) → list_all (λ r. shown r.name) table ≡ true → (code : ℕ) → PlainIf (option_map (λ r. r.name) (find (λ r. r.code == code) table))
 named [] h code = tt
 named (r ∷ table) h code = by (shown r.name) (r.code == code) refl h (named table)
   where
@@ -58,7 +58,7 @@ named (r ∷ table) h code = by (shown r.name) (r.code == code) refl h (named ta
 plain_opcode : (code : ℕ) → IsPlain (opcode_text code)
 plain_opcode code = or_else (name_of code) (codes "op-" ++ hex_text code) (named rows refl code) (plain_more (codes "op-") (hex_text code) (plain_codes (codes "op-") refl) (plain_hex code))
 
-worded : (table : List WordRow) → list_all (λ w. shown w.text) table ≡ true → (byte : ℕ) → PlainIf (word_of table byte)
+pub worded : (table : List WordRow) → list_all (λ w. shown w.text) table ≡ true → (byte : ℕ) → PlainIf (word_of table byte)
 worded [] h byte = tt
 worded (w ∷ table) h byte = by (shown w.text) (w.code == byte) refl h (worded table)
   where
@@ -191,7 +191,7 @@ plain_operands_text form xs = or_else (operand_words form xs) (raw_text xs) (pla
 plain_header : (header : ℕ) → IsPlain (header_text header)
 plain_header header = plain_more (nibble_text (header / 16)) (codes ">" ++ nibble_text (header % 16)) (plain_nibble (header / 16)) (plain_more (codes ">") (nibble_text (header % 16)) (plain_codes (codes ">") refl) (plain_nibble (header % 16)))
 
-plain_frame : (frame : List ℕ) → IsPlain (frame_text frame)
+pub plain_frame : (frame : List ℕ) → IsPlain (frame_text frame)
 plain_frame [] = tt
 plain_frame (header ∷ []) = plain_header header
 plain_frame (header ∷ code ∷ operands) =
