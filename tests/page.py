@@ -280,6 +280,8 @@ def capture_is_drawn(t, b):
     t.holds("its remark", "⚠ 1" in bad["verdict"], bad["verdict"])
     b.js("testing.app.select(testing.rowOf(' bad-start '))")
     t.holds("the remark in words", "start low 400 not 3500..3900" in b.js("testing.panel()"), b.js("testing.panel()"))
+    b.js("testing.app.select(testing.rowOf(' complete 0>0 '))")
+    t.holds("who polls for an address has none yet", "a device without an address" in b.js("testing.panel()"), b.js("testing.panel()"))
     broadcast = drawn(b, "0>f report-physical-address 0.0.0.0 tv ok")
     t.same("a lane is an address", [broadcast["cls"], broadcast["senders"]], ["ok", ["0"]])
     # What a run has not: readings that go on at the end, that begin before the line was idle, and that are too long
@@ -339,6 +341,8 @@ def failures_are_drawn(t, b):
     show(b, os.path.join(EXAMPLES, "race.sweep"))
     t.same("a sweep is a bar for each test", b.js("document.querySelectorAll('#space svg').length"), 2)
     t.same("and four stretches in each", b.js("document.querySelectorAll('#space svg rect').length"), 8)
+    t.holds("its bars are as wide as there is room", b.js("(box => box.scrollWidth <= box.clientWidth)(document.getElementById('chart'))"))
+    t.same("and a line for each stretch", b.js("document.querySelectorAll('#panel tr').length"), 5)
 
 
 def keys_reach_all(t, b):
@@ -585,6 +589,32 @@ def files_may_be_dropped(t, b):
     t.same("pasted objects are a new run", b.js("testing.app.model.states.length"), 5)
 
 
+def sentences_are_the_programs(t, b):
+    """What a frame means is the program's sentence, with a capital; a page without it has the frame's text. A room is known by its
+    objects."""
+    room = example("four-players.net")
+    objects = program(room, "run", "--json", "--room")
+    frames = [json.loads(line) for line in objects.splitlines() if '"type":"round"' in line]
+    complete = [frame for frame in frames if frame["ending"] == "complete"]
+    said = program("".join(frame["bytes"] + "\n" for frame in complete), "dis", "--meaning").splitlines()
+    sentences = [line[2].upper() + line[3:] for line in said if line.startswith("  ")]
+    meanings = "testing.app.model.rounds.filter(o => o.ending === 'complete').map(o => hdminet.meaningOf(o, testing.app.model))"
+    out = os.path.join(ROOM, "sentences.html")
+    subprocess.run([os.path.join(TOP, "tools/page"), os.path.join(EXAMPLES, "four-players.net"), "-o", out], check=True)
+    b.open(out)
+    b.js(HELPERS)
+    shown = [re.sub(r" \([a-z]+[0-9]*\)|( Nobody answers.*| Somebody acknowledges.*)$", "", text).rstrip(".") for text in b.js(meanings)]
+    t.same("sentences", shown, sentences)
+    b.open(BARE)
+    b.js(HELPERS)
+    b.js(f"testing.app.load([{{ name: 'x', text: {json.dumps(objects)} }}])")
+    t.same("no sentences", [text.split(" Nobody")[0].split(" Somebody")[0] for text in b.js(meanings)], [o["frame"] for o in complete])
+    t.same("devices of the objects", b.js("testing.app.model.room.devices.map(one => one.name)"),
+           [line.split(" ")[1] for line in room.splitlines() if line.startswith("device ")])
+    t.same("events of the objects", b.js("testing.app.model.events.map(row => row.text)"),
+           [line.split(" ", 2)[2] for line in room.splitlines() if line.startswith("at ")])
+
+
 def pages_are_made(t, b):
     """tools/page and tools/look: no page where the file is refused, one that opens where it is not, and no network."""
     missing = os.path.join(ROOM, "missing.html")
@@ -691,7 +721,8 @@ def sources_are_plain(t, _):
 
 ALL = [sources_are_plain, verdicts_are_drawn, colours_differ, retries_are_folded, wave_is_drawn, other_lines_are_noticed,
        capture_is_drawn, failures_are_drawn, keys_reach_all, mouse_works, hostile_inputs_are_harmless,
-       inferences_are_the_programs, dumps_are_read, files_may_be_dropped, pages_are_made, examples_have_pages,
+       inferences_are_the_programs, sentences_are_the_programs, dumps_are_read, files_may_be_dropped, pages_are_made,
+       examples_have_pages,
        long_runs_are_fast]
 
 

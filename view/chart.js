@@ -335,10 +335,11 @@ class RowPicture {
     this.add(svg('text', place, row.text));
   }
   drawPoll(x) {
-    const { row, y } = this;
+    const { row, y, chart } = this;
     this.path('arrow', `M${x} ${y - 5}h16a5 5 0 0 1 0 10h-9`);
     this.path('solid', `M${x + 1} ${y + 5}l8 -4v8z`);
-    this.add(svg('text', { class: 'label', x: x + 26, y: y + 4 }, row.text));
+    if (x + 26 + widthOf(row.text) < chart.laneEnd) this.add(svg('text', { class: 'label', x: x + 26, y: y + 4 }, row.text));
+    else this.drawLabel(row.text, x, y - 8); // at the right border it stands above
   }
   drawArrow(x) {
     const { row, y, chart } = this;

@@ -1,7 +1,8 @@
 // One model of all texts: lanes, rows in order of time, rounds, tests, the wave. Nothing here draws.
 // What the program does not write is inferred here, and docs/picture.md lists it: addresses over time, who receives, attempts.
 
-import { asList, asText, kindOf, lowerBound, readAudit, readDump, readEdges, readObjects, readRoom, smoothed } from './texts.js';
+import { asList, asText, kindOf, lowerBound, readAudit, readDump, readEdges, readObjects } from './texts.js';
+import { readRoom, readSentences, smoothed } from './texts.js';
 import { addressName } from './words.js';
 
 /* The logical addresses that each kind polls, by unit (docs/behaviour.md). A combo has two units. */
@@ -19,7 +20,8 @@ export const isWave = text => ['dump', 'edges'].includes(kindOf(text));
 export function build(texts) {
   const model = {
     title: '', objects: [], tests: [], stretches: [], meanings: [], faults: [], lanes: [], rows: [], rounds: [], states: [],
-    ports: [], events: [], wave: null, room: null, audit: null, findings: [], isCapture: false, end: 1,
+    ports: [], events: [], sentences: new Map(), names: new Map(), wave: null, room: null, audit: null, findings: [],
+    isCapture: false, end: 1,
   };
   const waves = [];
   for (const one of texts) {
@@ -29,6 +31,7 @@ export function build(texts) {
     else if (kind === 'room') model.room = readRoom(one.text);
     else if (kind === 'audit') model.audit = readAudit(one.text);
     else if (kind === 'meaning') model.meanings.push(one);
+    else if (kind === 'sentences') readSentences(one.text, model.sentences);
     else if (kind === 'findings') model.findings.push(...one.text.split('\n').filter(Boolean));
     else if (kind === 'plain') model.faults.push(`${one.name}: a plain text of the program; give the flag --json`);
     else if (kind === 'empty') model.faults.push(`${one.name}: empty`);
@@ -40,6 +43,7 @@ export function build(texts) {
   model.isCapture = !model.objects.some(o => o.type === 'round') && model.objects.some(o => o.type === 'reading');
   addLanes(model);
   addRows(model);
+  for (const { bytes, frame } of model.rounds) if (bytes.length > 2) model.names.set(bytes.slice(2, 4), frame.split(' ')[1]);
   model.rounds.sort((a, b) => a.begin - b.begin);
   model.end = Math.max(...model.rows.slice(-3).map(row => row.until || row.at), 1);
   addTests(model);

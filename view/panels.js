@@ -6,7 +6,7 @@ import { counted, duration, html, link, seconds, svg, table } from './elements.j
 import { asciiOf, senderOf } from './model.js';
 import { acknowledgersOf, blockOf, freeBefore, isWithin, lowWindow, partOf, slotsOf, WINDOWS } from './slots.js';
 import { asText } from './texts.js';
-import { addressName, CAUSES, meaningOf, opcodeName, partyName } from './words.js';
+import { addressInWords, CAUSES, meaningOf, partyName } from './words.js';
 
 const MOST_LISTED = 500;
 const PAGE_OF_TABLE = 200;
@@ -70,11 +70,13 @@ function partiesAndTimes(model, row) {
   const name = lane => partyName(model, lane, round.begin);
   const both = lanes => lanes.map(name).join(' and ');
   const unknown = model.isCapture && senderOf(round) ? `address ${senderOf(round)}` : '–';
-  const nobody = `address ${row.destination}, which nobody here holds`;
+  const isSeeker = model.isCapture && row.cls === 'poll'; // it has no address yet, so no lane is its own
+  const sender = isSeeker ? 'a device without an address' : row.from.length > 0 ? both(row.from) : unknown;
+  const nobody = `address ${row.destination}${round.verdict === 'ack' ? '' : ', which nobody here holds'}`;
   const before = model.rounds[model.rounds.indexOf(round) - 1];
   const attempts = row.folded ? `1 to ${row.folded.length}, folded (Enter unfolds)` : String(row.attempt);
   return [
-    ['From', row.from.length > 0 ? both(row.from) : unknown],
+    ['From', sender],
     row.destination && ['To', row.destination === 'f' ? 'all' : row.to.length > 0 ? both(row.to) : nobody],
     row.losers.length > 0 && ['Out', row.losers.map(loser => whyStopped(model, loser)).join('; ')],
     (row.attempt > 1 || row.folded) && ['Attempt', attempts],
@@ -91,8 +93,8 @@ function blocks(model, round) {
   const isBroadcast = round.destination === 'f';
   const isOfText = /^..(47|64|67|32)/.test(round.bytes);
   const meaning = (byte, i) => {
-    if (i === 0) return `${addressName(byte[0])} to ${isBroadcast ? 'all' : addressName(byte[1])}`;
-    if (i === 1) return opcodeName(byte) || 'no name';
+    if (i === 0) return `${addressInWords(byte[0])} to ${isBroadcast ? 'all' : addressInWords(byte[1])}`;
+    if (i === 1) return model.names.get(byte) || '';
     const code = parseInt(byte, 16);
     return isOfText && code >= 0x20 && code < 0x7f ? `'${String.fromCharCode(code)}'` : '';
   };
@@ -106,6 +108,8 @@ function blocks(model, round) {
   const pulse = isByPulse && html('p', { class: 'bad' }, 'A pulse from outside alone pulled an acknowledge slot.');
   return [html('h3', {}, 'Blocks'), table(rows), pulse];
 }
+
+const span = (least, most) => (least === most ? String(least) : `${least}..${most}`);
 
 /* Which widths of a round are in the windows of CEC 5.2, and each slot as a table. */
 function widths(model, round) {
@@ -130,7 +134,7 @@ function widths(model, round) {
   });
   const rows = kinds.filter(kind => kind.seen.length > 0).map(({ name, window, seen }) => {
     const isIn = seen.every(width => isWithin(width, window));
-    return [name, `${Math.min(...seen)}..${Math.max(...seen)}`, window.join('..'), isIn ? 'in' : bad('out')];
+    return [name, span(Math.min(...seen), Math.max(...seen)), window.join('..'), isIn ? 'in' : bad('out')];
   });
   const free = freeBefore(model, round);
   const asked = free >= 7200 ? ' (7200 to send again, 12000 for a new initiator, 16800 for the last one)' : '';
@@ -157,7 +161,7 @@ function drawEvent(app, model, row) {
     html('h2', {}, row.text),
     html('p', {}, html('span', { class: 'tag event' }, 'event'), ' ', answer, ` at ${o.at} µs.`),
     html('p', {}, `Line ${o.scriptLine} of the script.`),
-    !model.room && dim('Give the page the room\'s text too, to see what the line says.'),
+    !model.room && dim('Give the page the objects of run --json --room, or the room\'s text too, to see what the line says.'),
     html('h3', {}, 'Line'), html('pre', {}, o.line),
   ];
 }
@@ -259,34 +263,35 @@ function drawReport(app, model) {
     tests.length > 0 && html('p', {}, count),
     ordered.map(test => [testButton(app, test), app.banded === test && testDetails(app, test)]),
     tests.length > 0 && model.rounds.length === 0 && dim(alone),
-    stretches.length > 0 && drawSweep(model, 370),
+    stretches.length > 0 && stretchTable(model),
   ];
 }
 
 /* A sweep: a bar for each test over the range of instants. */
-export function drawSweep(model, width) {
-  const { stretches, room } = model;
-  const from = stretches[0].from;
-  const to = stretches[stretches.length - 1].to;
-  const x = instant => ((instant - from) / (to - from || 1)) * (width - 3);
-  const tests = Array.from({ length: stretches[0].holds.length }, (_, i) => i);
-  const verdict = holds => (holds ? 'holds' : 'fails');
-  const bar = test => svg('svg', { width, height: 26, role: 'img', 'aria-label': `test ${test + 1}` }, stretches.map(stretch => {
+const BAR_WIDTH = 1000;
+export function drawSweep({ stretches, room }) {
+  const { from } = stretches[0];
+  const { to } = stretches[stretches.length - 1];
+  const x = instant => ((instant - from) / (to - from || 1)) * (BAR_WIDTH - 5);
+  const shape = { class: 'sweep', viewBox: `0 0 ${BAR_WIDTH} 20`, preserveAspectRatio: 'none', role: 'img' };
+  const bar = test => svg('svg', { ...shape, 'aria-label': `test ${test + 1}` }, stretches.map(stretch => {
     const holds = stretch.holds[test];
-    const place = { x: x(stretch.from), y: 2, width: Math.max(x(stretch.to) - x(stretch.from), 3), height: 20 };
-    const title = svg('title', {}, `${verdict(holds)} from ${stretch.from} to ${stretch.to}`);
+    const place = { x: x(stretch.from), y: 0, width: Math.max(x(stretch.to) - x(stretch.from), 5), height: 20 };
+    const title = svg('title', {}, `${holds ? 'holds' : 'fails'} from ${stretch.from} to ${stretch.to}`);
     return svg('rect', { ...place, style: `fill:var(--${holds ? 'ack' : 'broken'})` }, title);
   }));
   const expectation = test => (room && room.expectations[test] ? `  ${room.expectations[test]}` : '');
-  const mark = holds => (holds ? '✓ holds' : bad('✗ fails'));
   return [
     html('h3', {}, `Sweep, ${from} to ${to} µs`),
-    tests.map(test => [html('div', { class: 'mono' }, `test ${test + 1}${expectation(test)}`), bar(test)]),
-    table(
-      stretches.map(stretch => [`${stretch.from}..${stretch.to}`, ...stretch.holds.map(mark)]),
-      ['instants', ...tests.map(test => `test ${test + 1}`)],
-    ),
+    stretches[0].holds.map((_, test) => [html('div', { class: 'mono' }, `test ${test + 1}${expectation(test)}`), bar(test)]),
+    html('div', { class: 'ends dim' }, html('span', {}, `${from} µs`), html('span', {}, `${to} µs`)),
   ];
+}
+/* The same in words. */
+function stretchTable({ stretches }) {
+  const mark = holds => (holds ? '✓ holds' : bad('✗ fails'));
+  const rows = stretches.map(({ from, to, holds }) => [span(from, to), ...holds.map(mark)]);
+  return table(rows, ['instants, µs', ...stretches[0].holds.map((_, test) => `test ${test + 1}`)]);
 }
 
 /* The rows of the chart as a table, for a screen reader too: a page of them, from the one that is selected on. */
@@ -333,7 +338,7 @@ function drawDevices(app, model) {
     if (Array.isArray(value)) return value.map(one => one ?? '–').join('+');
     if (typeof value === 'object') {
       const opcode = asText(value.opcode);
-      return `${opcodeName(opcode) || opcode} from ${asText(value.initiator)}`;
+      return `${model.names.get(opcode) || opcode} from ${asText(value.initiator)}`;
     }
     return value;
   };
@@ -415,6 +420,7 @@ x.net                                                         what the events sa
 ./hdminet check --json < x.test > report.jsonl                a report of tests
 ./hdminet mon --json --from-start < capture.vcd > x.jsonl     a capture: also capture.vcd itself
 ./hdminet mon --audit < capture.vcd > audit.txt               and what the audit remarks
+./hdminet dis --meaning < frames.hex > x.meant                what frames mean, by their bytes in hex
 ./hdminet edid --meaning < tv.edid > tv.meaning               an EDID`;
 
 export function help() {

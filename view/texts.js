@@ -8,6 +8,7 @@ export function kindOf(text) {
   if (/^(\$|META )/.test(first)) return 'dump';
   if (/^edid 1\.\d/.test(first)) return 'meaning';
   if (/^(warn|fail) [a-z-]+/.test(first)) return 'findings';
+  if (/^[0-9a-f]>[0-9a-f]( |$)/.test(first)) return 'sentences';
   if (/^TAP version|^\d+ event \d|^\d+ port \w/.test(first)) return 'plain';
   if (/^\d+ \d+ (complete|short|silent|bad-start|long|open|joined) /.test(first)) {
     return /\n {2}\S/.test(text) ? 'audit' : 'plain';
@@ -20,6 +21,23 @@ export function kindOf(text) {
 export const asText = value => (value === null || value === undefined ? '' : String(value));
 const asNumber = value => (typeof value === 'number' && Number.isFinite(value) ? value : null);
 export const asList = value => (Array.isArray(value) ? value : []);
+
+const emptyRoom = () => ({ devices: [], plugs: [], script: new Map(), expectations: [] });
+
+/* An object of `run --json --room` that stands before the trace. */
+function addHead({ type, device, kind, parent, port }, room) {
+  if (type === 'device') room.devices.push({ name: device, kind });
+  if (type === 'plug') room.plugs.push([device, parent, port]);
+}
+
+/* The sentences of `dis --meaning` by the text of their frame. A remark after the text is not a part of it. */
+export function readSentences(text, sentences) {
+  let frame = '';
+  for (const line of text.split('\n')) {
+    if (line.startsWith('  ')) sentences.set(frame, line.slice(2));
+    else frame = line.replace(/ # [^ "]+$/, '');
+  }
+}
 
 /* Objects of JSON, one a line (docs/formats.md, "Objects of JSON"), put into a model. */
 export function readObjects(text, model) {
@@ -51,8 +69,11 @@ export function readObjects(text, model) {
       test.window = object;
     } else if (object.type === 'stretch') {
       model.stretches.push(object);
+    } else if (['device', 'plug', 'edid', 'pulse'].includes(object.type)) {
+      addHead(object, (model.room ||= emptyRoom()));
     } else {
       object.line = object.line.replace(/^# /, ''); // as it stands in a report
+      if (object.text) (model.room ||= emptyRoom()).script.set(object.scriptLine, `at ${object.at} ${object.text}`);
       (inReport && test && object.type !== 'plan' ? test.seen : model.objects).push(object);
     }
   });
@@ -72,7 +93,8 @@ function cleaned(o) {
     case 'event': {
       const at = asNumber(o.at);
       const scriptLine = asNumber(o.script_line);
-      return at === null ? null : { type, line, at, scriptLine, verdict: asText(o.verdict), cause: asText(o.cause) };
+      if (at === null) return null;
+      return { type, line, at, scriptLine, verdict: asText(o.verdict), cause: asText(o.cause), text: asText(o.text) };
     }
     case 'port': {
       const at = asNumber(o.at);
@@ -93,6 +115,12 @@ function cleaned(o) {
       return { type, line, from: asNumber(o.from), to: asNumber(o.to), seen: asNumber(o.seen) };
     case 'stretch':
       return { type, line, from: asNumber(o.from), to: asNumber(o.to), holds: asList(o.holds) };
+    case 'device':
+      return { type, line, device: asText(o.device), kind: asText(o.kind) };
+    case 'plug':
+      return { type, line, device: asText(o.device), parent: asText(o.parent), port: asText(o.port) };
+    case 'edid':
+    case 'pulse':
     case 'version':
     case 'trace':
     case 'plan':
@@ -243,7 +271,7 @@ export function smoothed(changes, shortest) {
 export function readRoom(text) {
   const lines = text.split('\n');
   const at = lines.indexOf('script');
-  const room = { devices: [], plugs: [], script: new Map(), expectations: [] };
+  const room = emptyRoom();
   for (const line of lines.slice(0, at)) {
     const words = line.split(' ');
     if (words[0] === 'device') room.devices.push({ name: asText(words[1]), kind: asText(words[2]) });

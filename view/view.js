@@ -241,7 +241,7 @@ class App {
     const { rows, stretches, tests, meanings } = this.model;
     if (rows.length > 0) return html('p', { class: 'empty dim' }, 'No row meets the search.');
     if (this.isReading) return html('p', { class: 'empty dim' }, 'The data is being read ..');
-    if (stretches.length > 0) return html('div', { class: 'empty' }, drawSweep(this.model, 700));
+    if (stretches.length > 0) return html('div', { class: 'empty' }, drawSweep(this.model));
     if (tests.length > 0 || meanings.length > 0) return html('p', { class: 'empty dim' }, 'No rounds: the data is at the right.');
     return html(
       'div', { class: 'empty' },

@@ -918,7 +918,8 @@ def gen_odd(r):
 def gen_json(r):
     """lines of runs, of captures and of reports as objects"""
     a, d = r.choice([gen_run, gen_feat, gen_wire, gen_mon, gen_expect])(r)
-    return [w for w in a if w != '--edges'] + ['--json'], d
+    room = r.choice([[], ['--room']]) if a[:1] == ['run'] else []
+    return [w for w in a if w != '--edges'] + ['--json'] + room, d
 
 
 def small_run(r):

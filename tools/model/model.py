@@ -12,7 +12,9 @@ def model(args, data):
         return 3, b'', 'input too long'
     sub = args[0] if args else 'run'
     if '--json' in args:
-        status, out, fault = model([word for word in args if word != '--json'], data)
+        status, out, fault = model([word for word in args if word not in ('--json', '--room')], data)
+        if '--room' in args:
+            return status, objects.room_objects(data, out) if out else b'', fault
         told_of = objects.told_of if sub != 'check' else objects.report_told_of if out.startswith(b'TAP') else objects.stretch_told_of
         return status, objects.objects(out, told_of), fault
     if sub == 'run': return net.run(data, '--edges' in args)

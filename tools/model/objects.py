@@ -108,3 +108,29 @@ def stretch_told_of(line):
 def objects(text, told=told_of):
     """the objects of a text's lines"""
     return ''.join(json.dumps({'line': line, **told(line)}, separators=(',', ':')) + '\n' for line in text.decode().splitlines()).encode()
+
+
+HEADS = {'device': (('device', str), ('kind', str), ('ports', int)), 'plug': (('device', str), ('parent', str), ('port', int)),
+         'edid': (('edid', str),), 'pulse': (('at', int), ('width', int))}
+
+
+def head_told_of(line):
+    kind, *words = line.split(' ')
+    return {'type': kind, **{name: shape(word) for (name, shape), word in zip(HEADS[kind], words)}}
+
+
+def room_objects(data, out):
+    """the objects of a run with its room: its devices, plugs, EDID and pulses, then the trace, each event with its line"""
+    lines = data.decode('latin1').split('\n')
+    script = lines[lines.index('script') + 1:]
+    heads = [line for line in lines if line.split(' ')[0] in HEADS]
+
+    def told(line):
+        found = told_of(line)
+        if found['type'] == 'event':
+            text = script[found['script_line'] - 1].split(' ', 2)[2]
+            verb, device = text.split(' ')[:2]
+            found.update(verb=verb, device=device, text=text)
+        return found
+
+    return objects('\n'.join(heads).encode(), head_told_of) + objects(out, told)

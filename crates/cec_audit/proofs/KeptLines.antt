@@ -31,7 +31,7 @@ closing : (line rest : List ℕ) → (line ++ 10 ∷ []) ++ rest ≡ line ++ 10 
 closing line rest = append_assoc line (10 ∷ []) rest
 
 -- a line that begins so is left out, or stays
-by_line : (line rest : List ℕ) (b : Bool) → is_remark line ≡ b → IsPlain line → without_remarks ((line ++ 10 ∷ []) ++ rest) ≡ (if b then without_remarks rest else (line ++ 10 ∷ []) ++ without_remarks rest)
+pub by_line : (line rest : List ℕ) (b : Bool) → is_remark line ≡ b → IsPlain line → without_remarks ((line ++ 10 ∷ []) ++ rest) ≡ (if b then without_remarks rest else (line ++ 10 ∷ []) ++ without_remarks rest)
 by_line line rest b e h =
     ap without_remarks (closing line rest)
     ∙ ap (λ (ls : List (List ℕ)). flat_map (λ (l : List ℕ). l ++ 10 ∷ []) (filter (λ (l : List ℕ). not (is_remark l)) ls)) (one_line line rest h)
@@ -43,7 +43,7 @@ by_line line rest b e h =
     chosen true = refl
     chosen false = refl
 
-remark_gone : (line rest : List ℕ) → IsRemark line → without_remarks (line ++ rest) ≡ without_remarks rest
+pub remark_gone : (line rest : List ℕ) → IsRemark line → without_remarks (line ++ rest) ≡ without_remarks rest
 remark_gone [] rest h = absurd h
 remark_gone (a ∷ []) rest h = absurd h
 remark_gone (a ∷ b ∷ more) rest h =

@@ -32,7 +32,7 @@ PlainIf (Some text) = IsPlain text
 abbrev pub shown : List ℕ → Bool
 shown text = list_all (λ c. not (c == 10)) text
 
-or_else : (o : Option (List ℕ)) (other : List ℕ) → PlainIf o → IsPlain other → IsPlain (unwrap_or o other)
+pub or_else : (o : Option (List ℕ)) (other : List ℕ) → PlainIf o → IsPlain other → IsPlain (unwrap_or o other)
 or_else None other h k = k
 or_else (Some text) other h k = h
 
@@ -45,7 +45,7 @@ spaced (Some text) h = (blank.0, h)
 
 -- ---- tables
 
-named : (table : List Row) → list_all (λ r. shown r.name) table ≡ true → (code : ℕ) → PlainIf (option_map (λ r. r.name) (find (λ r. r.code == code) table))
+pub named : (table : List Row) → list_all (λ r. shown r.name) table ≡ true → (code : ℕ) → PlainIf (option_map (λ r. r.name) (find (λ r. r.code == code) table))
 named [] h code = tt
 named (r ∷ table) h code = by (shown r.name) (r.code == code) refl h (named table)
   where
@@ -191,7 +191,7 @@ plain_operands_text form xs = or_else (operand_words form xs) (raw_text xs) (pla
 plain_header : (header : ℕ) → IsPlain (header_text header)
 plain_header header = plain_more (nibble_text (header / 16)) (codes ">" ++ nibble_text (header % 16)) (plain_nibble (header / 16)) (plain_more (codes ">") (nibble_text (header % 16)) (plain_codes (codes ">") refl) (plain_nibble (header % 16)))
 
-plain_frame : (frame : List ℕ) → IsPlain (frame_text frame)
+pub plain_frame : (frame : List ℕ) → IsPlain (frame_text frame)
 plain_frame [] = tt
 plain_frame (header ∷ []) = plain_header header
 plain_frame (header ∷ code ∷ operands) =

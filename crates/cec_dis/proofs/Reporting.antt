@@ -4,7 +4,7 @@ use Rattle.std.specs.List.{flat_map}
 use Rattle.hdmi_core.specs.Adds.{Adds, Tally}
 use Rattle.hdmi_core.specs.Lines.{lines_of}
 use Rattle.hdmi_core.proofs.Adding.{cut_short, nothing, then}
-use Rattle.cec_dis.specs.Lines.{fault_of, first_fault, line_frame, line_text}
+use Rattle.cec_dis.specs.Lines.{fault_of, first_fault, line_frame}
 use Rattle.cec_dis.specs.declared.bytes.DisCause.{DisCause}
 
 -- one more line without a fault
@@ -21,27 +21,27 @@ fault_at text rest after current number cause same parts read =
     same ∙ ap (first_fault number) parts ∙ ap (λ r. fault_of number r (first_fault (number + 1) (lines_of after))) read
 
 -- the lines added so far, and what is left
-pub record Put (lines : List (List ℕ)) (rest : List ℕ) (old now : Tally) : Type 0 where
+pub record Put (f : List ℕ → List ℕ) (lines : List (List ℕ)) (rest : List ℕ) (old now : Tally) : Type 0 where
   pub done : List ℕ
-  pub parts : flat_map line_text lines ≡ done ++ flat_map line_text (lines_of rest)
+  pub parts : flat_map f lines ≡ done ++ flat_map f (lines_of rest)
   pub so_far : Adds old now done
 
-pub put_none : (text : List ℕ) (a : Tally) → Put (lines_of text) text a a
-put_none text a = record { done = []; parts = refl; so_far = nothing a }
+pub put_none : (f : List ℕ → List ℕ) (text : List ℕ) (a : Tally) → Put f (lines_of text) text a a
+put_none f text a = record { done = []; parts = refl; so_far = nothing a }
 
-pub put_more : (lines : List (List ℕ)) (rest after current : List ℕ) (a b c : Tally) → Put lines rest a b → lines_of rest ≡ current ∷ lines_of after
-    → Adds b c (line_text current) → Put lines after a c
-put_more lines rest after current a b c k split added = record {
-  done = k.done ++ line_text current;
-  parts = k.parts ∙ ap (λ ls. k.done ++ flat_map line_text ls) split ∙ sym (append_assoc k.done (line_text current) (flat_map line_text (lines_of after)));
-  so_far = then a b c k.done (line_text current) k.so_far added;
+pub put_more : (f : List ℕ → List ℕ) (lines : List (List ℕ)) (rest after current : List ℕ) (a b c : Tally) → Put f lines rest a b → lines_of rest ≡ current ∷ lines_of after
+    → Adds b c (f current) → Put f lines after a c
+put_more f lines rest after current a b c k split added = record {
+  done = k.done ++ f current;
+  parts = k.parts ∙ ap (λ ls. k.done ++ flat_map f ls) split ∙ sym (append_assoc k.done (f current) (flat_map f (lines_of after)));
+  so_far = then a b c k.done (f current) k.so_far added;
 }
 
 -- a fault cuts the rest off
-pub put_short : (lines : List (List ℕ)) (rest : List ℕ) (a b : Tally) → Put lines rest a b → b.failed ≡ true → Adds a b (flat_map line_text lines)
-put_short lines rest a b k failed = subst (Adds a b) (sym k.parts) (cut_short a b k.done (flat_map line_text (lines_of rest)) failed k.so_far)
+pub put_short : (f : List ℕ → List ℕ) (lines : List (List ℕ)) (rest : List ℕ) (a b : Tally) → Put f lines rest a b → b.failed ≡ true → Adds a b (flat_map f lines)
+put_short f lines rest a b k failed = subst (Adds a b) (sym k.parts) (cut_short a b k.done (flat_map f (lines_of rest)) failed k.so_far)
 
-pub put_whole : (lines : List (List ℕ)) (rest : List ℕ) (a b : Tally) → Put lines rest a b → lines_of rest ≡ [] → Adds a b (flat_map line_text lines)
-put_whole lines rest a b k over =
-    let whole : flat_map line_text lines ≡ k.done = k.parts ∙ ap (λ ls. k.done ++ flat_map line_text ls) over ∙ append-nil k.done in
+pub put_whole : (f : List ℕ → List ℕ) (lines : List (List ℕ)) (rest : List ℕ) (a b : Tally) → Put f lines rest a b → lines_of rest ≡ [] → Adds a b (flat_map f lines)
+put_whole f lines rest a b k over =
+    let whole : flat_map f lines ≡ k.done = k.parts ∙ ap (λ ls. k.done ++ flat_map f ls) over ∙ append-nil k.done in
     subst (Adds a b) (sym whole) k.so_far

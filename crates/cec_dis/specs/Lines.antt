@@ -48,17 +48,17 @@ abbrev pub first_fault : ℕ → List (List ℕ) → Option DisFault
 first_fault number [] = None
 first_fault number (line ∷ lines) = fault_of number (line_frame line) (first_fault (number + 1) lines)
 
--- All lines have frames, and their lines are written, whole or their front up to a fault; or the first that has none is
+-- All lines have frames, and what each gives is written, whole or their front up to a fault; or the first that has none is
 -- returned, and nothing is written.
-abbrev pub Answers : Option (List ℕ) → Option (List ℕ) → Bool → Bool → List (List ℕ) → Result (Unit {0}) DisError → Type 0
-Answers old new was is lines (Ok n) =
-    (first_fault 1 lines ≡ None) × Appends old new (flat_map line_text lines) × (is ≡ was)
-Answers old new was is lines (Err (Write fault)) =
-    (first_fault 1 lines ≡ None) × CutOff old new (flat_map line_text lines) fault × (is ≡ true)
-Answers old new was is lines (Err (Line fault)) =
+abbrev pub Answers : (List ℕ → List ℕ) → Option (List ℕ) → Option (List ℕ) → Bool → Bool → List (List ℕ) → Result (Unit {0}) DisError → Type 0
+Answers text_of old new was is lines (Ok n) =
+    (first_fault 1 lines ≡ None) × Appends old new (flat_map text_of lines) × (is ≡ was)
+Answers text_of old new was is lines (Err (Write fault)) =
+    (first_fault 1 lines ≡ None) × CutOff old new (flat_map text_of lines) fault × (is ≡ true)
+Answers text_of old new was is lines (Err (Line fault)) =
     (first_fault 1 lines ≡ Some fault) × (new ≡ old) × (is ≡ was)
 
--- their lines are written, whole or their front up to a fault
-abbrev pub WritesLines : Option (List ℕ) → Option (List ℕ) → Bool → Bool → List (List ℕ) → Result (Unit {0}) WriteFault → Type 0
-WritesLines old new was is lines (Ok n) = Appends old new (flat_map line_text lines) × (is ≡ was)
-WritesLines old new was is lines (Err fault) = CutOff old new (flat_map line_text lines) fault × (is ≡ true)
+-- what lines give is written, whole or its front up to a fault
+abbrev pub WritesLines : (List ℕ → List ℕ) → Option (List ℕ) → Option (List ℕ) → Bool → Bool → List (List ℕ) → Result (Unit {0}) WriteFault → Type 0
+WritesLines text_of old new was is lines (Ok n) = Appends old new (flat_map text_of lines) × (is ≡ was)
+WritesLines text_of old new was is lines (Err fault) = CutOff old new (flat_map text_of lines) fault × (is ≡ true)

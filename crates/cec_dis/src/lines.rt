@@ -31,8 +31,12 @@ pub enum DisError {
     Write(WriteFault),
 }
 
-// The frame of a line, unless the line is skipped.
-fn line_frame(line: &[u8]) -> Result<Option<Frame>, DisCause>
+/// The frame of a line, unless the line is skipped.
+///
+/// # Errors
+///
+/// The line has no frame, and why.
+pub fn line_frame(line: &[u8]) -> Result<Option<Frame>, DisCause>
     ensures { result ≡ line_frame line.now }
 {
     if is_skipped(line) {
@@ -44,8 +48,12 @@ fn line_frame(line: &[u8]) -> Result<Option<Frame>, DisCause>
     }
 }
 
-// Looks for a line that has no frame.
-fn check_lines(text: &[u8]) -> Result<(), DisFault>
+/// Looks for a line that has no frame.
+///
+/// # Errors
+///
+/// The first such line, and why.
+pub fn check_lines(text: &[u8]) -> Result<(), DisFault>
     ensures { MatchResult result
         (λ _. first_fault 1 (lines_of text.now) ≡ None)
         (λ fault. first_fault 1 (lines_of text.now) ≡ Some fault) }
@@ -74,7 +82,8 @@ fn add_with_remark<'a, S: Sink>(out: &mut Counted<'_, S>, text: &'a [u8], word: 
     ]);
 }
 
-fn add_frame<S: Sink>(out: &mut Counted<'_, S>, frame: &Frame)
+/// Adds the text of a frame as a line, with a remark after it where the text leaves as bytes what the standard has a word for.
+pub fn add_frame<S: Sink>(out: &mut Counted<'_, S>, frame: &Frame)
     ensures { Adds out.old out.new (frame_line frame.now) }
 {
     let text = frame_text(frame);
@@ -111,7 +120,7 @@ fn add_lines<S: Sink>(out: &mut Counted<'_, S>, text: &[u8])
 }
 
 fn write_lines<S: Sink>(text: &[u8], out: &mut S) -> Result<(), WriteFault>
-    ensures { WritesLines (S.contents out.old) (S.contents out.new) (S.is_stuck out.old) (S.is_stuck out.new) (lines_of text.now) result }
+    ensures { WritesLines line_text (S.contents out.old) (S.contents out.new) (S.is_stuck out.old) (S.is_stuck out.new) (lines_of text.now) result }
 {
     let mut lines = Counted::new(out);
     add_lines(&mut lines, text);
@@ -134,7 +143,7 @@ fn write_lines<S: Sink>(text: &[u8], out: &mut S) -> Result<(), WriteFault>
 /// are skipped, but counted. `Write` where the sink takes no more: then the front of the texts was written, as long as it
 /// says.
 pub fn dis_lines<S: Sink>(text: &[u8], out: &mut S) -> Result<(), DisError>
-    ensures { Answers (S.contents out.old) (S.contents out.new) (S.is_stuck out.old) (S.is_stuck out.new) (lines_of text.now) result }
+    ensures { Answers line_text (S.contents out.old) (S.contents out.new) (S.is_stuck out.old) (S.is_stuck out.new) (lines_of text.now) result }
 {
     if let Err(fault) = check_lines(text) {
         return Err(DisError::Line(fault));

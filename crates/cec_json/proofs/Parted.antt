@@ -83,7 +83,7 @@ bytes_are line rest reported text bytes a b c are = subst (λ (t : List ℕ). Ar
 
 -- ---- line after line
 
-in_order_more : (Is : List ℕ → List ℕ → Type 0) (lines : List (List ℕ)) (line objects text : List ℕ) → AreInOrder Is lines objects → Is line text → AreInOrder Is (lines ++ line ∷ []) (objects ++ text)
+pub in_order_more : (Is : List ℕ → List ℕ → Type 0) (lines : List (List ℕ)) (line objects text : List ℕ) → AreInOrder Is lines objects → Is line text → AreInOrder Is (lines ++ line ∷ []) (objects ++ text)
 in_order_more Is [] line objects text none is = (text, [], is, refl, rw none (sym (append-nil text)))
 in_order_more Is (l ∷ lines) line objects text are is =
     (are.0, are.1 ++ text, are.2, in_order_more Is lines line are.1 text are.3 is, rw are.4 (append_assoc are.0 are.1 text))

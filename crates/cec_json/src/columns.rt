@@ -97,12 +97,7 @@ pub fn write_field<S: Sink>(
 }
 
 /// Writes a field for each of the first words, of which one with a name has its value after `=`.
-pub(crate) fn write_fields<S: Sink>(
-    columns: &[Column],
-    text: &[u8],
-    progress: &mut Progress,
-    out: &mut S,
-)
+pub fn write_fields<S: Sink>(columns: &[Column], text: &[u8], progress: &mut Progress, out: &mut S)
     ensures { WritesOn (S.contents out.old) (S.contents out.new) (S.is_stuck out.old) (S.is_stuck out.new) (fields (map column_parts columns.now) text.now) progress.old.so_far progress.new.so_far }
 {
     let [column, columns @ ..] = columns else {

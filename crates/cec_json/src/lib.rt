@@ -10,7 +10,7 @@ mod parts;
 mod progress;
 mod values;
 
-pub use columns::{write_field, write_lead};
+pub use columns::{Column, write_field, write_fields, write_lead};
 pub use held::Held;
 pub use laws::{lines_are_read_back, one_line_an_object};
 pub use lines::write_objects;

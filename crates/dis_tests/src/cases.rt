@@ -1,6 +1,7 @@
 //! Each row through the call that the program makes.
-use crate::rows::{REFUSED, REMARKS, SPELLINGS, USER_CONTROLS};
+use crate::rows::{MEANINGS, REFUSED, REMARKS, SPELLINGS, USER_CONTROLS};
 use cec_dis::{DisError, dis_lines};
+use cec_meaning::dis_with_meaning;
 use hdmi_core::Writes;
 use std::io::{self, ErrorKind, Write};
 use std::process::Abort;
@@ -32,6 +33,35 @@ fn spellings_are_read(rt: HostRuntime) {
     are_reported(&rt, SPELLINGS, "\n", "");
     are_reported(&rt, REMARKS, "\n", "");
     are_reported(&rt, USER_CONTROLS, "\n", "");
+}
+
+/// What is written of a text with the meanings of its frames, or why nothing is.
+fn meant(rt: &(impl Abort + AllocGlobal), text: &str) -> String {
+    let mut out = Vec::new(rt.alloc());
+    match dis_with_meaning(text.as_bytes(), &mut Writes::new(&mut out)) {
+        Ok(()) => String::from_utf8(out).expect(rt, "a text"),
+        Err(error) => format!(in rt.alloc(); "{error}").expect(rt, "a refusal"),
+    }
+}
+
+#[test]
+fn frames_mean_what_they_say(rt: HostRuntime) {
+    for line in MEANINGS.lines() {
+        let (input, want) = line.split_once(" => ").expect(&rt, line);
+        let text = reported(&rt, input);
+        let whole = format!(in rt.alloc(); "{text}  {want}\n").expect(&rt, line);
+        holds(&rt, meant(&rt, input) == whole, line);
+    }
+}
+
+#[test]
+fn meanings_stand_below_their_frames(rt: HostRuntime) {
+    let text = "# a capture\n44\n\n4f a6 06\n";
+    let want =
+        "4>4\n  a device asks whether it may be Playback Device 1\n4>f op-a6 :06 # report-features\n  Playback Device 1 sends all devices op-a6: report-features (operands 06)\n";
+    holds(&rt, meant(&rt, text).as_str() == want, text);
+    let text = "44\n4g\n";
+    holds(&rt, meant(&rt, text).as_str() == "line 2: digit", text);
 }
 
 #[test]
@@ -80,12 +110,23 @@ impl Write for Narrow {
 }
 
 /// A writer with this much room gets the front of the text that fits, and its length is the count of the fault.
-fn is_cut_off(rt: &(impl Abort + AllocGlobal), text: &str, want: &str, room: usize) -> bool {
+fn is_cut_off(
+    rt: &(impl Abort + AllocGlobal),
+    text: &str,
+    meaning: bool,
+    want: &str,
+    room: usize,
+) -> bool {
     let mut out = Narrow {
         bytes: Vec::new(rt.alloc()),
         room,
     };
-    let done = dis_lines(text.as_bytes(), &mut Writes::new(&mut out));
+    let mut sink = Writes::new(&mut out);
+    let done = if meaning {
+        dis_with_meaning(text.as_bytes(), &mut sink)
+    } else {
+        dis_lines(text.as_bytes(), &mut sink)
+    };
     let count = match done {
         Ok(()) => want.len() as u128,
         Err(DisError::Write(fault)) => fault.count,
@@ -99,6 +140,12 @@ fn a_writer_that_fails_has_the_front(rt: HostRuntime) {
     let text = "4f a6 06\n# none\n44\n";
     let want = "4>f op-a6 :06 # report-features\n4>4\n";
     for room in 0..=want.len() {
-        holds(&rt, is_cut_off(&rt, text, want, room), want);
+        holds(&rt, is_cut_off(&rt, text, false, want, room), want);
+    }
+    let text = "4f a6 06\n# none\n44\n";
+    let want =
+        "4>f op-a6 :06 # report-features\n  Playback Device 1 sends all devices op-a6: report-features (operands 06)\n4>4\n  a device asks whether it may be Playback Device 1\n";
+    for room in 0..=want.len() {
+        holds(&rt, is_cut_off(&rt, text, true, want, room), want);
     }
 }

@@ -154,7 +154,9 @@ fn add_asm<'a>(
 
 // Adds the command that reads frames in hex.
 fn add_dis<'a>(alloc: Global, program: Command<'a>) -> Result<Command<'a>, AllocError> {
-    program.subcommand(plain_command(alloc, "dis", help::DIS_ABOUT, help::DIS_HELP))
+    let dis = plain_command(alloc, "dis", help::DIS_ABOUT, help::DIS_HELP);
+    let dis = with_flags(alloc, dis, help::DIS_FLAGS)?;
+    program.subcommand(dis)
 }
 
 // Adds the command that reads captures.

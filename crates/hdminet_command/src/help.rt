@@ -74,6 +74,10 @@ pub const RUN_FLAGS: &[(&str, &str)] = &[
         "Prints each line of the trace as an object of JSON; not with --edges",
     ),
     (
+        "room",
+        "With --json, objects of the topology and of the pulses come first, and events have their line",
+    ),
+    (
         "drives",
         "With --edges --as vcd, the dump also has a wire for each device and one for the pulses",
     ),
@@ -93,7 +97,7 @@ pub const RUN_VALUES: &[(&str, &str, &str)] = &[(
 pub const RUN_RULES: &str = "
   --as takes vcd, pin or csv, and goes with --edges alone
   --drives goes with --edges --as vcd alone
-  --json goes without --edges
+  --json goes without --edges; --room goes with --json alone
 ";
 
 pub const RUN_HELP: &str = "\
@@ -413,6 +417,11 @@ brackets may be left out:";
 
 pub const DIS_ABOUT: &str = "Writes CEC frames in hex as texts";
 
+pub const DIS_FLAGS: &[(&str, &str)] = &[(
+    "meaning",
+    "Prints below each frame what it means, in plain words",
+)];
+
 pub const DIS_HELP: &str = "\
 The input has the bytes of a frame a line, in hex: header, opcode and operands. Lines that are empty or
 begin with `#` are skipped, but counted. The output has the text of each frame in a line, as
@@ -427,6 +436,11 @@ An example, and what it gives:
   44               4>4
   4f:82:10:00      4>f active-source 1.0.0.0
   40 41 24         4>0 play forward
+
+With --meaning a line follows each frame, indented by two spaces, that says what it means in plain
+words: who asks, tells or sends what to whom, and what its operands say.
+  40 41 24         4>0 play forward
+                     Playback Device 1 asks TV to play: forward
 
 The fault is `line N: CAUSE` with the first line that has no frame; nothing is written then. CAUSE is
   digit      something else than hex digits and what may stand between bytes

@@ -10,9 +10,9 @@ pub all_held : (old new : Option (List ℕ)) (bytes text : List ℕ) → old ≡
 all_held old new bytes text e f a = rw (e, f) at a
 
 pub objects_done : (objects : Objects) (name input bytes text : List ℕ) (old new before after : Option (List ℕ)) → WritesLines objects name input old new → old ≡ Some [] → new ≡ Some bytes
-    → AreObjectsOf objects bytes text → Appends before after text → Writes (Json objects) name input before after
+    → AreObjectsOf objects input bytes text → Appends before after text → Writes (Json objects) name input before after
 objects_done objects name input bytes text old new before after lines e f are now = (
   text,
-  (lines.0, lines.1, subst (λ (t : List ℕ). AreObjectsOf objects t text) (all_held old new bytes lines.0 e f lines.2) are),
+  (lines.0, lines.1, subst (λ (t : List ℕ). AreObjectsOf objects input t text) (all_held old new bytes lines.0 e f lines.2) are),
   now,
 )

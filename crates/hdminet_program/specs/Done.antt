@@ -8,9 +8,11 @@ use Rattle.cec_driven.specs.Emulate.{IsDrivesOf}
 use Rattle.cec_json.specs.Object.{AreObjects}
 use Rattle.cec_line.specs.declared.format.Format.{Format}
 use Rattle.cec_line.specs.declared.format.Format.TheVariants as formats
+use Rattle.cec_meaning.specs.Lines.{meant_text}
 use Rattle.cec_report_json.specs.Object.{AreReportObjects}
 use Rattle.cec_report_json.specs.declared.object.Report.{Report as ReportKind}
 use Rattle.cec_report_json.specs.declared.object.Report.TheVariants as kinds
+use Rattle.cec_room_json.specs.Room.{AreRoomObjects}
 use Rattle.cec_run.specs.Emulate.{IsLineOf, IsTraceOf}
 use Rattle.cec_run.specs.declared.run.Totals.{Totals}
 use Rattle.cec_step.specs.StepRun.{AreStepsOf}
@@ -89,6 +91,7 @@ report_view true = Traced
 -- the lines of which there are objects
 abbrev pub AreLines : Objects → List ℕ → List ℕ → List ℕ → Type 0
 AreLines (of.Trace strict) name input text = (totals : Totals) × IsRunDone input text totals × (strict ≡ true → totals.refused ≡ 0)
+AreLines (of.Room strict) name input text = (totals : Totals) × IsRunDone input text totals × (strict ≡ true → totals.refused ≡ 0)
 AreLines (of.Capture form glitch report) name input text = IsHeard (form_of form input) name glitch (report_of report (form_of form input)) input text
 AreLines (of.Test traced) name input text = IsTestDone (report_view traced) input text
 AreLines (of.CaptureTest form glitch) name input text = IsCaptureTest form name glitch input text
@@ -101,16 +104,32 @@ WritesLines objects name input old new = (text : List ℕ) × AreLines objects n
 abbrev pub report_kind : List ℕ → ReportKind
 report_kind lines = if bytes_eq (take 3 lines) (codes "TAP") then kinds.Expectations else kinds.Sweep
 
+-- a text is the objects of the room that the input spells, and of these lines of its trace
+pub record AreRoomDone (input lines text : List ℕ) : Type 0 where
+  pub topology : List ℕ
+  pub script : List ℕ
+  pub parts : IsRunInput input topology script
+  pub objects : AreRoomObjects topology script lines text
+
+abbrev pub WritesRoom : List ℕ → List ℕ → Option (List ℕ) → Option (List ℕ) → Type 0
+WritesRoom input lines old new = (text : List ℕ) × AreRoomDone input lines text × Appends old new text
+
 -- a text is the objects of these lines
-abbrev pub AreObjectsOf : Objects → List ℕ → List ℕ → Type 0
-AreObjectsOf (of.Trace strict) lines text = AreObjects (lines_of lines) text
-AreObjectsOf (of.Capture form glitch report) lines text = AreObjects (lines_of lines) text
-AreObjectsOf (of.Test traced) lines text = AreReportObjects (report_kind lines) (lines_of lines) text
-AreObjectsOf (of.CaptureTest form glitch) lines text = AreReportObjects kinds.Expectations (lines_of lines) text
+abbrev pub AreObjectsOf : Objects → List ℕ → List ℕ → List ℕ → Type 0
+AreObjectsOf (of.Trace strict) input lines text = AreObjects (lines_of lines) text
+AreObjectsOf (of.Room strict) input lines text = AreRoomDone input lines text
+AreObjectsOf (of.Capture form glitch report) input lines text = AreObjects (lines_of lines) text
+AreObjectsOf (of.Test traced) input lines text = AreReportObjects (report_kind lines) (lines_of lines) text
+AreObjectsOf (of.CaptureTest form glitch) input lines text = AreReportObjects kinds.Expectations (lines_of lines) text
 
 -- they are written, and nothing else
-abbrev pub WritesObjects : Objects → List ℕ → Option (List ℕ) → Option (List ℕ) → Type 0
-WritesObjects objects lines old new = (text : List ℕ) × AreObjectsOf objects lines text × Appends old new text
+abbrev pub WritesObjects : Objects → List ℕ → List ℕ → Option (List ℕ) → Option (List ℕ) → Type 0
+WritesObjects objects input lines old new = (text : List ℕ) × AreObjectsOf objects input lines text × Appends old new text
+
+-- what is written of a line of hex: the frame's text, and below it what it means or not
+abbrev pub dis_text : Bool → List ℕ → List ℕ
+dis_text false = line_text
+dis_text true = meant_text
 
 -- The text that a choice makes of an input; of a capture, of the wire of a name. A strict run is one whose events were all
 -- taken.
@@ -121,9 +140,9 @@ IsDone (CheckCapture form glitch) name input text = IsCaptureTest form name glit
 IsDone Step name input text = AreStepsDone input text
 IsDone Live name input text = IsLiveDone input text
 IsDone Asm name input text = (frames : List (List ℕ)) × AreTextsOf (lines_of_frames (lines_of input)) frames × (text ≡ flat_map frame_line frames)
-IsDone Dis name input text = (first_fault 1 (lines_of input) ≡ None) × (text ≡ flat_map line_text (lines_of input))
+IsDone (Dis meaning) name input text = (first_fault 1 (lines_of input) ≡ None) × (text ≡ flat_map (dis_text meaning) (lines_of input))
 IsDone (Mon form glitch report) name input text = IsHeard (form_of form input) name glitch (report_of report (form_of form input)) input text
-IsDone (Json objects) name input text = (lines : List ℕ) × AreLines objects name input lines × AreObjectsOf objects lines text
+IsDone (Json objects) name input text = (lines : List ℕ) × AreLines objects name input lines × AreObjectsOf objects input lines text
 IsDone (Edid source view) name input text = (bytes : List ℕ) × IsRead source input bytes × IsShown view bytes text
 
 -- a choice is done for an input: its text is written, and nothing else

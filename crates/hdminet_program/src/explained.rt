@@ -23,11 +23,14 @@ pub fn input_of(choice: Choice) -> Input {
         Choice::CheckCapture { .. } | Choice::Json(Objects::CaptureTest { .. }) => {
             Input::CaptureTest
         }
-        Choice::Run { .. } | Choice::Step | Choice::Json(Objects::Trace { .. }) => Input::Network,
+        Choice::Run { .. }
+        | Choice::Step
+        | Choice::Json(Objects::Trace { .. } | Objects::Room { .. }) => Input::Network,
         Choice::Live => Input::Session,
-        Choice::Asm | Choice::Dis | Choice::Mon { .. } | Choice::Json(Objects::Capture { .. }) => {
-            Input::Lines
-        }
+        Choice::Asm
+        | Choice::Dis { .. }
+        | Choice::Mon { .. }
+        | Choice::Json(Objects::Capture { .. }) => { Input::Lines }
         Choice::Edid { source, .. } => match source {
             Source::Bytes => Input::EdidBytes,
             Source::Dump => Input::Lines,

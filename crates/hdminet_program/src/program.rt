@@ -2,7 +2,7 @@
 ghost use Rattle.std.specs.Prelude.{◌≡◌, ◌≢◌, ◌<◌, true, [], OnOk, IfOk, Ok, map, string_bytes};
 ghost use Rattle.std.specs.Io.KnownBytes.{Keeps};
 ghost use Rattle.hdmi_core.specs.Buffered.{below};
-ghost use Rattle.hdminet_program.specs.Done.{AreServed, IsAllOf, IsHelp, IsServed, Writes, WritesLine, WritesLines, WritesObjects, report_kind, report_view};
+ghost use Rattle.hdminet_program.specs.Done.{AreServed, IsAllOf, IsHelp, IsServed, Writes, WritesLine, WritesLines, WritesObjects, WritesRoom, report_kind, report_view};
 ghost use Rattle.hdminet_program.specs.CaptureTests.{WritesCaptureTest};
 ghost use Rattle.hdminet_program.specs.Captures.{name_of};
 ghost use Rattle.hdminet_program.specs.Live.{Lives};
@@ -22,7 +22,9 @@ use cec_dis::dis_lines;
 use cec_driven::emulate_drives;
 use cec_json::{Held, write_objects};
 use cec_line::Format;
+use cec_meaning::dis_with_meaning;
 use cec_report_json::{Report as ReportKind, write_report_objects};
+use cec_room_json::write_room_objects;
 use cec_run::Totals;
 use cec_run::emulate::emulate;
 use cec_run::line::emulate_line;
@@ -57,6 +59,7 @@ fn limit_of(choice: Choice) -> usize {
         | Choice::CheckCapture { form: None, .. }
         | Choice::Json(
             Objects::Trace { .. }
+            | Objects::Room { .. }
             | Objects::Test { .. }
             | Objects::Capture { form: None, .. }
             | Objects::CaptureTest { form: None, .. },
@@ -66,7 +69,7 @@ fn limit_of(choice: Choice) -> usize {
         | Choice::Step
         | Choice::Live
         | Choice::Asm
-        | Choice::Dis
+        | Choice::Dis { .. }
         | Choice::Edid { .. } => LIMIT,
     }
 }
@@ -193,12 +196,35 @@ fn step<W: Sink>(alloc: Global, input: &[u8], out: &mut W) -> Result<Option<Tota
     Ok(None)
 }
 
-#[inline(never)]
-fn disassemble<W: Sink>(input: &[u8], out: &mut W) -> Result<Option<Totals>, ProgramFault>
-    ensures { OnOk result (Writes Choice.Dis [] input.now (W.contents out.old) (W.contents out.new)) }
+// Writes the texts of frames.
+fn write_frames<W: Sink>(input: &[u8], out: &mut W) -> Result<Option<Totals>, ProgramFault>
+    ensures { OnOk result (Writes (Choice.Dis false) [] input.now (W.contents out.old) (W.contents out.new)) }
 {
     dis_lines(input, out)?;
     Ok(None)
+}
+
+// Writes the texts of frames, and what they mean.
+fn write_meanings<W: Sink>(input: &[u8], out: &mut W) -> Result<Option<Totals>, ProgramFault>
+    ensures { OnOk result (Writes (Choice.Dis true) [] input.now (W.contents out.old) (W.contents out.new)) }
+{
+    dis_with_meaning(input, out)?;
+    Ok(None)
+}
+
+#[inline(never)]
+fn disassemble<W: Sink>(
+    meaning: bool,
+    input: &[u8],
+    out: &mut W,
+) -> Result<Option<Totals>, ProgramFault>
+    ensures { OnOk result (Writes (Choice.Dis meaning) [] input.now (W.contents out.old) (W.contents out.new)) }
+{
+    if meaning {
+        write_meanings(input, out)
+    } else {
+        write_frames(input, out)
+    }
 }
 
 #[inline(never)]
@@ -232,6 +258,7 @@ fn write_lines<W: Sink>(
 {
     match objects {
         Objects::Trace { strict } => run(alloc, strict, input, out),
+        Objects::Room { strict } => run(alloc, strict, input, out),
         Objects::Capture {
             form,
             glitch,
@@ -258,16 +285,27 @@ fn report_kind(lines: &[u8]) -> ReportKind
     }
 }
 
+// Writes the objects of the lines of a trace, with those of its room.
+fn write_room<W: Sink>(input: &[u8], lines: &[u8], out: &mut W) -> Result<(), ProgramFault>
+    ensures { OnOk result (WritesRoom input.now lines.now (W.contents out.old) (W.contents out.new)) }
+{
+    let (topology, script) = parts(input)?;
+    write_room_objects(topology, script, lines, out)?;
+    Ok(())
+}
+
 // Writes the objects of lines.
 fn write_objects_of<W: Sink>(
     objects: Objects,
+    input: &[u8],
     lines: &[u8],
     out: &mut W,
 ) -> Result<(), ProgramFault>
-    ensures { OnOk result (WritesObjects objects lines.now (W.contents out.old) (W.contents out.new)) }
+    ensures { OnOk result (WritesObjects objects input.now lines.now (W.contents out.old) (W.contents out.new)) }
 {
     match objects {
         Objects::Trace { .. } => Ok(write_objects(lines, out)?),
+        Objects::Room { .. } => write_room(input, lines, out),
         Objects::Capture { .. } => Ok(write_objects(lines, out)?),
         Objects::Test { .. } => Ok(write_report_objects(report_kind(lines), lines, out)?),
         Objects::CaptureTest { .. } => {
@@ -292,7 +330,7 @@ fn write_json<W: Sink>(
     if held.is_full() {
         return Err(ProgramFault::Memory(AllocError));
     }
-    write_objects_of(objects, held.bytes(), out)?;
+    write_objects_of(objects, input, held.bytes(), out)?;
     done
 }
 
@@ -323,7 +361,7 @@ fn perform<W: Sink>(
         Choice::Step => step(alloc, input, out),
         Choice::Live => unreachable!(),
         Choice::Asm => assemble(input, out),
-        Choice::Dis => disassemble(input, out),
+        Choice::Dis { meaning } => disassemble(meaning, input, out),
         Choice::Mon {
             form,
             glitch,

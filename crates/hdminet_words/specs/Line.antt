@@ -3,6 +3,7 @@ use Rattle.std.specs.Prelude.{ℕ, List, [], ◌∷◌, Option, Some, None, if�
 use Rattle.std.specs.Option.{option_map, option_or}
 use Rattle.std.specs.Str.{bytes_eq}
 use Rattle.hdminet_words.specs.CheckFlags.{check_asked, check_flags}
+use Rattle.hdminet_words.specs.DisFlags.{dis_asked, dis_flags}
 use Rattle.hdminet_words.specs.EdidFlags.{edid_asked, edid_flags}
 use Rattle.hdminet_words.specs.MonFlags.{mon_asked, mon_flags}
 use Rattle.hdminet_words.specs.RunFlags.{run_asked, run_flags}
@@ -33,12 +34,12 @@ only_explained choice words = None
 
 -- what a subcommand with these flags asks for
 abbrev pub asked_of : Subcommand → List (List ℕ) → Option Asked
-asked_of Run words = option_and_then run_asked (run_flags (record { edges = false; format = None; drives = false; strict = false; json = false; explains = false; waits = false }) words)
+asked_of Run words = option_and_then run_asked (run_flags (record { edges = false; format = None; drives = false; strict = false; json = false; room = false; explains = false; waits = false }) words)
 asked_of Check words = option_and_then check_asked (check_flags (record { plain = false; trace = false; json = false; capture = false; form = None; named = false; glitch = None; explains = false; waits = None }) words)
 asked_of Step words = only_explained choices.Step words
 asked_of Live words = only_explained choices.Live words
 asked_of Asm words = only_explained choices.Asm words
-asked_of Dis words = only_explained choices.Dis words
+asked_of Dis words = option_map dis_asked (dis_flags (record { meaning = false; explains = false }) words)
 asked_of Mon words = option_and_then mon_asked (mon_flags (record { form = None; named = false; glitch = None; start = None; audit = false; timing = false; json = false; explains = false; waits = None }) words)
 asked_of Edid words =
     option_and_then edid_asked (edid_flags (record { source = None; wanted = None; address = None; port = None; amplified = false; explains = false; waits = None }) words)

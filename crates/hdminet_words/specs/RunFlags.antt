@@ -27,6 +27,7 @@ one_run_flag flags word =
     else if bytes_eq word (codes "--drives") && not flags.drives then Some (record flags { drives = true })
     else if bytes_eq word (codes "--strict") && not flags.strict then Some (record flags { strict = true })
     else if bytes_eq word (codes "--json") && not flags.json then Some (record flags { json = true })
+    else if bytes_eq word (codes "--room") && not flags.room then Some (record flags { room = true })
     else if bytes_eq word (codes "--explain") && not flags.explains then Some (record flags { explains = true })
     else None
 
@@ -66,12 +67,13 @@ with_drives true listing = None
 with_drives false listing = listing
 
 -- what is done with the run
-abbrev pub run_choice : Bool → Listing → Bool → Choice
-run_choice true listing strict = Json (objects.Trace strict)
-run_choice false listing strict = Run listing strict
+abbrev pub run_choice : Bool → Bool → Listing → Bool → Choice
+run_choice true true listing strict = Json (objects.Room strict)
+run_choice true false listing strict = Json (objects.Trace strict)
+run_choice false room listing strict = Run listing strict
 
 -- what they ask for; objects are those of the trace
 abbrev pub run_asked : RunFlags → Option Asked
 run_asked flags =
-    if flags.waits || (flags.edges && flags.json) then None
-    else option_map (λ listing. record { choice = run_choice flags.json listing flags.strict; explains = flags.explains }) (with_drives flags.drives (run_listing flags.edges flags.format))
+    if flags.waits || (flags.edges && flags.json) || (flags.room && not flags.json) then None
+    else option_map (λ listing. record { choice = run_choice flags.json flags.room listing flags.strict; explains = flags.explains }) (with_drives flags.drives (run_listing flags.edges flags.format))

@@ -62,6 +62,10 @@ pub enum Objects {
     Trace {
         strict: bool,
     },
+    /// The same, after the lines of the topology and the pulses of the script, and with each event's line of the script.
+    Room {
+        strict: bool,
+    },
     /// The lines of a capture.
     Capture {
         form: Option<Form>,
@@ -147,8 +151,10 @@ pub enum Choice {
     Live,
     /// The bytes of frames, from their texts.
     Asm,
-    /// The texts of frames, from their bytes in hex.
-    Dis,
+    /// The texts of frames, from their bytes in hex, and below each, where it is wanted, what it means.
+    Dis {
+        meaning: bool,
+    },
     /// What a capture reports. Its first line reports its form where none is given; pulses and gaps shorter than so many
     /// microseconds are passed over; and where no report is given, that is by the form.
     Mon {

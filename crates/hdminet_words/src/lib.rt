@@ -3,6 +3,7 @@
 
 mod check_flags;
 mod choice;
+mod dis_flags;
 mod edid_flags;
 mod joined;
 mod line;

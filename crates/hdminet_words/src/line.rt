@@ -4,6 +4,7 @@ ghost use Rattle.hdminet_words.specs.Line.{asked_after, asked_as, asked_by, aske
 
 use crate::check_flags::{CheckFlags, check_asked, check_flags};
 use crate::choice::{Asked, Choice};
+use crate::dis_flags::{DisFlags, dis_asked, dis_flags};
 use crate::edid_flags::{EdidFlags, edid_asked, edid_flags};
 use crate::mon_flags::{MonFlags, mon_asked, mon_flags};
 use crate::run_flags::{RunFlags, run_asked, run_flags};
@@ -36,7 +37,7 @@ fn asked_of(subcommand: Subcommand, words: &[String]) -> Option<Asked>
         Subcommand::Step => only_explained(Choice::Step, words),
         Subcommand::Live => only_explained(Choice::Live, words),
         Subcommand::Asm => only_explained(Choice::Asm, words),
-        Subcommand::Dis => only_explained(Choice::Dis, words),
+        Subcommand::Dis => Some(dis_asked(dis_flags(DisFlags::NONE, words)?)),
         Subcommand::Mon => mon_asked(&mon_flags(MonFlags::NONE, words)?),
         Subcommand::Edid => edid_asked(&edid_flags(EdidFlags::NONE, words)?),
     }

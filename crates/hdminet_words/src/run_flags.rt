@@ -15,6 +15,8 @@ pub struct RunFlags {
     pub drives: bool,
     pub strict: bool,
     pub json: bool,
+    /// Whether the objects have the room and the script too.
+    pub room: bool,
     pub explains: bool,
     /// Whether the word of a format comes next.
     pub waits: bool,
@@ -28,6 +30,7 @@ impl RunFlags {
         drives: false,
         strict: false,
         json: false,
+        room: false,
         explains: false,
         waits: false,
     };
@@ -82,6 +85,10 @@ fn with_run_flag(flags: RunFlags, word: &str) -> Option<RunFlags>
             json: true,
             ..flags
         }),
+        "--room" if !flags.room => Some(RunFlags {
+            room: true,
+            ..flags
+        }),
         "--explain" if !flags.explains => Some(RunFlags {
             explains: true,
             ..flags
@@ -126,10 +133,12 @@ pub fn run_flags(flags: RunFlags, words: &[String]) -> Option<RunFlags>
 }
 
 // What is done with a run.
-fn run_choice(json: bool, listing: Listing, strict: bool) -> Choice
-    ensures { result ≡ run_choice json listing strict }
+fn run_choice(json: bool, room: bool, listing: Listing, strict: bool) -> Choice
+    ensures { result ≡ run_choice json room listing strict }
 {
-    if json {
+    if json && room {
+        Choice::Json(Objects::Room { strict })
+    } else if json {
         Choice::Json(Objects::Trace { strict })
     } else {
         Choice::Run { listing, strict }
@@ -137,12 +146,13 @@ fn run_choice(json: bool, listing: Listing, strict: bool) -> Choice
 }
 
 /// What `run` with these flags asks for: `--as` goes with `--edges` alone, `--drives` with `--edges --as vcd`, and `--json`
-/// without `--edges`.
+/// without `--edges`, `--room` with `--json`.
 pub fn run_asked(flags: &RunFlags) -> Option<Asked>
     ensures { result ≡ run_asked flags.now }
 {
     let listing = match flags.format {
-        _ if flags.waits || (flags.edges && flags.json) => return None,
+        _ if flags.waits || (flags.edges && flags.json) || (flags.room && !flags.json) =>
+            return None,
         Some(Listing::Vcd) if flags.edges && flags.drives => Listing::Drives,
         _ if flags.drives => return None,
         Some(format) if flags.edges => format,
@@ -151,7 +161,7 @@ pub fn run_asked(flags: &RunFlags) -> Option<Asked>
         None => Listing::Trace,
     };
     Some(Asked {
-        choice: run_choice(flags.json, listing, flags.strict),
+        choice: run_choice(flags.json, flags.room, listing, flags.strict),
         explains: flags.explains,
     })
 }

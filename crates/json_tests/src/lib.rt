@@ -8,4 +8,6 @@ mod report_rows;
 #[cfg(test)]
 mod reports;
 #[cfg(test)]
+mod rooms;
+#[cfg(test)]
 mod rows;

@@ -16,6 +16,8 @@ run --help =>   at 1000000 press p1 play
 run --help => --edges
 run --help => --strict
 run --help => --json
+run --help => --room
+dis --help => --meaning
 mon --help => --json
 check --help =>   expect refused NAME WORD 
 check --help =>   ok 2 - line 3: expect once within 200000 of on 4>f active-source 1.0.0.0 ok
@@ -124,6 +126,12 @@ run --edges --edges
 run --strict --strict
 mon --strict
 run --json --json
+run --room
+run --edges --room
+run --json --room --room
+dis --meaning --meaning
+dis --json
+asm --meaning
 run --json --edges
 run --edges --as vcd --json
 mon --json --audit

@@ -258,6 +258,22 @@ const FIRST_PATH_OBJECTS: &str = "\
 {\"line\":\"1500000 end\",\"type\":\"end\",\"at\":1500000}
 ";
 
+const FIRST_PATH_ROOM: &str = "\
+{\"line\":\"device tv tv 4\",\"type\":\"device\",\"device\":\"tv\",\"kind\":\"tv\",\"ports\":4}
+{\"line\":\"device p1 player 0\",\"type\":\"device\",\"device\":\"p1\",\"kind\":\"player\",\"ports\":0}
+{\"line\":\"plug p1 tv 1\",\"type\":\"plug\",\"device\":\"p1\",\"parent\":\"tv\",\"port\":1}
+{\"line\":\"12000 39150 complete 0>0 nack by tv out -\",\"type\":\"round\",\"begin\":12000,\"close\":39150,\"ending\":\"complete\",\"frame\":\"0>0\",\"initiator\":\"0\",\"destination\":\"0\",\"bytes\":\"00\",\"verdict\":\"nack\",\"by\":[\"tv\"],\"out\":[]}
+{\"line\":\"50705 77855 complete 4>4 nack by p1 out -\",\"type\":\"round\",\"begin\":50705,\"close\":77855,\"ending\":\"complete\",\"frame\":\"4>4\",\"initiator\":\"4\",\"destination\":\"4\",\"bytes\":\"44\",\"verdict\":\"nack\",\"by\":[\"p1\"],\"out\":[]}
+{\"line\":\"89405 212555 complete 0>f report-physical-address 0.0.0.0 tv ok by tv out -\",\"type\":\"round\",\"begin\":89405,\"close\":212555,\"ending\":\"complete\",\"frame\":\"0>f report-physical-address 0.0.0.0 tv\",\"initiator\":\"0\",\"destination\":\"f\",\"bytes\":\"0f84000000\",\"verdict\":\"ok\",\"by\":[\"tv\"],\"out\":[]}
+{\"line\":\"224105 347255 complete 4>f report-physical-address 1.0.0.0 playback ok by p1 out -\",\"type\":\"round\",\"begin\":224105,\"close\":347255,\"ending\":\"complete\",\"frame\":\"4>f report-physical-address 1.0.0.0 playback\",\"initiator\":\"4\",\"destination\":\"f\",\"bytes\":\"4f84100004\",\"verdict\":\"ok\",\"by\":[\"p1\"],\"out\":[]}
+{\"line\":\"1000000 event 1 ok\",\"type\":\"event\",\"at\":1000000,\"script_line\":1,\"verdict\":\"ok\",\"cause\":null,\"verb\":\"press\",\"device\":\"p1\",\"text\":\"press p1 play\"}
+{\"line\":\"1000000 1051150 complete 4>0 image-view-on ack by p1 out -\",\"type\":\"round\",\"begin\":1000000,\"close\":1051150,\"ending\":\"complete\",\"frame\":\"4>0 image-view-on\",\"initiator\":\"4\",\"destination\":\"0\",\"bytes\":\"4004\",\"verdict\":\"ack\",\"by\":[\"p1\"],\"out\":[]}
+{\"line\":\"1068400 1167550 complete 4>f active-source 1.0.0.0 ok by p1 out -\",\"type\":\"round\",\"begin\":1068400,\"close\":1167550,\"ending\":\"complete\",\"frame\":\"4>f active-source 1.0.0.0\",\"initiator\":\"4\",\"destination\":\"f\",\"bytes\":\"4f821000\",\"verdict\":\"ok\",\"by\":[\"p1\"],\"out\":[]}
+{\"line\":\"state tv tv 0 0.0.0.0 on active=1.0.0.0 path=1.0.0.0 deck=1a menu=off audio=off volume=20 mute=off arc=off sel=- lang=656e67 osd=- held=- heard=4:84:10 sub=- queue=0 dropped=0\",\"type\":\"state\",\"device\":\"tv\",\"kind\":\"tv\",\"logical_addresses\":[\"0\"],\"physical_address\":\"0.0.0.0\",\"power\":\"on\",\"active_source\":\"1.0.0.0\",\"path\":\"1.0.0.0\",\"deck\":\"1a\",\"menu\":false,\"system_audio\":false,\"volume\":20,\"mute\":false,\"audio_return_channel\":false,\"selected_port\":null,\"menu_language\":\"656e67\",\"osd_text\":null,\"held_key\":null,\"heard\":{\"initiator\":\"4\",\"opcode\":\"84\",\"first_operand\":\"10\"},\"subscriber\":null,\"queued\":0,\"dropped\":0}
+{\"line\":\"state p1 player 4 1.0.0.0 on active=1.0.0.0 path=1.0.0.0 deck=11 menu=off audio=off volume=20 mute=off arc=off sel=- lang=656e67 osd=- held=- heard=0:84:00 sub=- queue=0 dropped=0\",\"type\":\"state\",\"device\":\"p1\",\"kind\":\"player\",\"logical_addresses\":[\"4\"],\"physical_address\":\"1.0.0.0\",\"power\":\"on\",\"active_source\":\"1.0.0.0\",\"path\":\"1.0.0.0\",\"deck\":\"11\",\"menu\":false,\"system_audio\":false,\"volume\":20,\"mute\":false,\"audio_return_channel\":false,\"selected_port\":null,\"menu_language\":\"656e67\",\"osd_text\":null,\"held_key\":null,\"heard\":{\"initiator\":\"0\",\"opcode\":\"84\",\"first_operand\":\"00\"},\"subscriber\":null,\"queued\":0,\"dropped\":0}
+{\"line\":\"1500000 end\",\"type\":\"end\",\"at\":1500000}
+";
+
 const ARBITRATION_STEPS: &str = "\
 # Two devices send at once, and the one with the lower address goes on: an arbitration edge by edge.
 device tv tv 4
@@ -420,6 +436,19 @@ const CEC_CLIENT_FRAMES: &str = "\
 4>4
 ";
 
+const CEC_CLIENT_MEANT: &str = "\
+0>f report-physical-address 0.0.0.0 tv
+  TV tells all devices its physical address and its type: 0.0.0.0, tv
+4>f active-source 1.0.0.0
+  Playback Device 1 tells all devices that it is the active source, at 1.0.0.0
+4>0 play forward
+  Playback Device 1 asks TV to play: forward
+4>0 report-power-status :02 # standby-to-on
+  Playback Device 1 tells TV its power: standby-to-on (operands 02)
+4>4
+  a device asks whether it may be Playback Device 1
+";
+
 const RUNS: &[Case<'static>] = &[
     Case {
         name: "first-path",
@@ -470,6 +499,12 @@ const RUNS: &[Case<'static>] = &[
         want: FIRST_PATH_OBJECTS,
     },
     Case {
+        name: "room of first-path",
+        line: "run --json --room",
+        input: FIRST_PATH_NET,
+        want: FIRST_PATH_ROOM,
+    },
+    Case {
         name: "arbitration",
         line: "step",
         input: ARBITRATION_STEPS,
@@ -500,6 +535,12 @@ const TEXTS: &[Case<'static>] = &[
         line: "dis",
         input: CEC_CLIENT_LOG,
         want: CEC_CLIENT_FRAMES,
+    },
+    Case {
+        name: "meaning of cec-client",
+        line: "dis --meaning",
+        input: CEC_CLIENT_LOG,
+        want: CEC_CLIENT_MEANT,
     },
 ];
 

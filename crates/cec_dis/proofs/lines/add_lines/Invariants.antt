@@ -1,10 +1,11 @@
 use Rattle.std.proofs.Common.{length}
 use Rattle.hdmi_core.specs.Lines.{lines_of}
+use Rattle.cec_dis.specs.Lines.{line_text}
 use Rattle.cec_dis.proofs.Reporting.{Put}
 use Rattle.cec_dis.proofs.lines.add_lines.Given as goal
 
 abbrev pub invariant-lines : goal.invariant-lines
-invariant-lines g l = Put (lines_of l.text) l.rest l.fn.out l.out
+invariant-lines g l = Put line_text (lines_of l.text) l.rest l.fn.out l.out
 
 abbrev pub decreases-lines : goal.decreases-lines
 decreases-lines g l = length l.rest

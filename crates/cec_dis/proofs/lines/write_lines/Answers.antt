@@ -14,7 +14,7 @@ returns-in-Ok g c =
     let old = g.S.Sink.contents c.args.out.now in
     let was = g.S.Sink.is_stuck c.args.out.now in
     loan_ended g.S.Sink.contents g.S.Sink.is_stuck c.args.out.now _ c.into_sink-below.result.now _ c.into_sink-below.result.ghost_name c.new-lines.result c.add_lines.new.out text
-    (λ (k : Option (List ℕ)) (s : Bool). WritesLines old k was s lines (Ok tt))
+    (λ (k : Option (List ℕ)) (s : Bool). WritesLines line_text old k was s lines (Ok tt))
     c.new-lines.ensures c.add_lines.ensures
     (λ added. let whole = subst (λ (r : Result ℕ WriteFault). WrittenText old c.add_lines.new.out.known was c.add_lines.new.out.stuck text r) c.in-Ok.is (c.written-written.ensures.text _ _ _ text added) in (whole.1, whole.2))
     c.into_sink-below.ensures.loan c.into_sink-below.ensures.known c.into_sink-below.ensures.stuck (search rules)
@@ -26,7 +26,7 @@ returns-in-Err g c =
     let old = g.S.Sink.contents c.args.out.now in
     let was = g.S.Sink.is_stuck c.args.out.now in
     loan_ended g.S.Sink.contents g.S.Sink.is_stuck c.args.out.now _ c.into_sink-below.result.now _ c.into_sink-below.result.ghost_name c.new-lines.result c.add_lines.new.out text
-    (λ (k : Option (List ℕ)) (s : Bool). WritesLines old k was s lines (Err c.in-Err.fault))
+    (λ (k : Option (List ℕ)) (s : Bool). WritesLines line_text old k was s lines (Err c.in-Err.fault))
     c.new-lines.ensures c.add_lines.ensures
     (λ added. subst (λ (r : Result ℕ WriteFault). WrittenText old c.add_lines.new.out.known was c.add_lines.new.out.stuck text r) c.in-Err.is (c.written-written.ensures.text _ _ _ text added))
     c.into_sink-below.ensures.loan c.into_sink-below.ensures.known c.into_sink-below.ensures.stuck (search rules)

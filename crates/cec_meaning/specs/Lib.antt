@@ -1,0 +1,5 @@
+pub mod Addresses
+pub mod Sentences
+pub mod Meaning
+pub mod Lines
+pub mod Named

@@ -1,0 +1,53 @@
+-- Without the meanings the texts are left.
+use Rattle.std.proofs.Common.{◌≡◌, ℕ, ◌+◌, ◌/◌, ◌%◌, ◌==◌, Bool, true, false, nat_lt, if◌then◌else◌, Option, None, Some, Result, Ok, Err, List, [], ◌∷◌, ◌++◌, append-nil, append_assoc, codes, refl, sym, ap, ◌∙◌, arith}
+use Rattle.std.specs.List.{flat_map}
+use Rattle.std.proofs.lemmas.Bool.Decides.{nat_tests}
+use Rattle.cec_text.specs.FrameText.{frame_text, header_text}
+use Rattle.cec_audit.specs.Kept.{IsPlain, is_remark, without_remarks}
+use Rattle.cec_audit.proofs.KeptLines.{by_line, remark_gone}
+use Rattle.cec_audit.proofs.OneLine.{PlainIf, plain_frame}
+use Rattle.cec_audit.proofs.Plain.{plain_codes, plain_more}
+use Rattle.cec_dis.specs.Lines.{frame_line, line_frame, line_text, remark_text, reported_line}
+use Rattle.cec_dis.specs.Remark.{remark}
+use Rattle.cec_dis.specs.declared.bytes.DisCause.{DisCause}
+use Rattle.cec_meaning.specs.Lines.{meant_frame, meant_read, meant_text}
+use Rattle.cec_meaning.specs.Meaning.{meaning_line}
+use Rattle.dis_laws.specs.Kept.{MeaningsKeepTheTexts}
+use Rattle.dis_laws.proofs.Meanings.{meaning_remark}
+use Rattle.dis_laws.proofs.Words.{plain_remark}
+
+glyph : (n : ℕ) → ((if nat_lt n 10 then 48 + n else 87 + n) == 32) ≡ false
+glyph n = by (nat_lt n 10)
+  where
+    by : (b : Bool) → ((if b then 48 + n else 87 + n) == 32) ≡ false
+    by true = grind (arith, nat_tests)
+    by false = grind (arith, nat_tests)
+
+begins : (frame rest : List ℕ) → is_remark (frame_text frame ++ remark_text (remark frame)) ≡ false
+begins [] rest = refl
+begins (header ∷ []) rest = glyph (header / 16)
+begins (header ∷ code ∷ operands) rest = glyph (header / 16)
+
+plain_end : (w : Option (List ℕ)) → PlainIf w → IsPlain (remark_text w)
+plain_end None h = tt
+plain_end (Some w) h = plain_more (codes " # ") w (plain_codes (codes " # ") refl) h
+
+frame_stays : (frame rest : List ℕ) → without_remarks (frame_line frame ++ rest) ≡ frame_line frame ++ without_remarks rest
+frame_stays frame rest =
+    by_line (frame_text frame ++ remark_text (remark frame)) rest false (begins frame rest)
+    (plain_more (frame_text frame) (remark_text (remark frame)) (plain_frame frame) (plain_end (remark frame) (plain_remark frame)))
+
+meaning_gone : (frame rest : List ℕ) → without_remarks (meaning_line frame ++ rest) ≡ without_remarks rest
+meaning_gone [] rest = refl
+meaning_gone (header ∷ others) rest = remark_gone (meaning_line (header ∷ others)) rest (meaning_remark header others)
+
+one_kept : (read : Result (Option (List ℕ)) DisCause) (rest : List ℕ) → without_remarks (meant_read read ++ rest) ≡ reported_line read ++ without_remarks rest
+one_kept (Ok None) rest = refl
+one_kept (Ok (Some frame)) rest =
+    ap without_remarks (append_assoc (frame_line frame) (meaning_line frame) rest) ∙ frame_stays frame (meaning_line frame ++ rest) ∙ ap (λ (t : List ℕ). frame_line frame ++ t) (meaning_gone frame rest)
+one_kept (Err cause) rest = refl
+
+pub meanings_keep_the_texts : MeaningsKeepTheTexts
+meanings_keep_the_texts [] = refl
+meanings_keep_the_texts (line ∷ lines) =
+    one_kept (line_frame line) (flat_map meant_text lines) ∙ ap (λ (t : List ℕ). line_text line ++ t) (meanings_keep_the_texts lines)
