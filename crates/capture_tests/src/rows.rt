@@ -34,6 +34,10 @@ vcd: HEAD|#0|$comment 0! $end|#5|0!|#6 => 5f end 6
 vcd: HEAD|#5|0 !|#6|1 !|#7 => 5f 6r end 7
 # Causes, with their lines and words; between two spaces stands an empty word.
 vcd: HEAD|#0|q! => line 5: word 0
+vcd: HEAD|#0|bogus => line 5: word 0
+vcd: HEAD|#0|b ! => line 5: word 0
+vcd: HEAD|#0|b012 ! => line 5: word 0
+vcd: HEAD|#0|b01xzXZ $|#7|B0 !|#9 => 7f end 9
 vcd: $timescale 1 us $end|$var wire 1 $end => line 2: word 3
 vcd: $timescale 2 us $end => line 1: scale 1
 vcd: $timescale 1 min $end => line 1: scale 2

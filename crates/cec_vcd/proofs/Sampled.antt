@@ -19,7 +19,7 @@ use Rattle.cec_signal.specs.declared.fault.Cause.TheVariants as cause
 use Rattle.cec_signal.specs.declared.fault.CaptureFault.{CaptureFault}
 use Rattle.cec_signal.proofs.Passing.{line_onward}
 use Rattle.cec_vcd.specs.Scale.{count_times, counted_word, instant_of, micros, of_unit, unit_of, within}
-use Rattle.cec_vcd.specs.Dump.{State, Stepped, dump_form, end_by, first_state, edges_in, free, in_field, in_section, is_binary, is_end, is_high, is_mark, is_none, is_other_value, no_edge, keyword, end_of_definitions, named_by, parts_of, scalar, scale_begun, scale_made, scale_made_by, after_time, timed_by, took, after_value, vector_value}
+use Rattle.cec_vcd.specs.Dump.{State, Stepped, dump_form, end_by, first_state, edges_in, free, in_field, in_section, is_end, is_high, is_mark, is_vector, is_none, is_other_value, no_edge, keyword, end_of_definitions, named_by, parts_of, scalar, scale_begun, scale_made, scale_made_by, after_time, timed_by, took, after_value, vector_value}
 use Rattle.cec_vcd.specs.Wire.{Change, Part, Wire, DumpsAreSampled, IsSampled, change_by, change_of, changes_in, femtoseconds, first_of, id_after, is_alone, is_by, is_scalar, is_some_word, last_tick, level_of, scale_after, scale_by, section_after, tick_after, unit_in, unit_made, wire_by, wire_end, wire_from, wire_in, words_in}
 use Rattle.cec_vcd.specs.declared.scale.Count.{Count}
 use Rattle.cec_vcd.specs.declared.scale.Count.TheVariants.{One, Ten, Hundred}
@@ -182,13 +182,13 @@ free_goes k word t tick at early = dollar (first word == 36) refl
     real true = quiet k (section.Value None) t tick at early
     real false = tt
 
-    binary : (c : Bool) → is_binary (first word) ≡ c → (first word == 36) ≡ false → (first word == 35) ≡ false → (first word == 48) ≡ false → is_high (first word) ≡ false → FreeGoes k word t tick
+    binary : (c : Bool) → is_vector word ≡ c → (first word == 36) ≡ false → (first word == 35) ≡ false → (first word == 48) ≡ false → is_high (first word) ≡ false → FreeGoes k word t tick
     binary true e h36 h35 h48 high = rw (h36, h35, h48, high, e) (quiet k (section.Value (vector_value word)) t tick at early)
     binary false e h36 h35 h48 high = rw (h36, h35, h48, high, e) (real (is_other_value (first word)))
 
     high : (c : Bool) → is_high (first word) ≡ c → (first word == 36) ≡ false → (first word == 35) ≡ false → (first word == 48) ≡ false → FreeGoes k word t tick
     high true e h36 h35 h48 = rw (h36, h35, h48, e) (scalar_goes k false (drop 1 word) t tick at early)
-    high false e h36 h35 h48 = binary (is_binary (first word)) refl h36 h35 h48 e
+    high false e h36 h35 h48 = binary (is_vector word) refl h36 h35 h48 e
 
     zero_byte : (c : Bool) → (first word == 48) ≡ c → (first word == 36) ≡ false → (first word == 35) ≡ false → FreeGoes k word t tick
     zero_byte true e h36 h35 = rw (same_byte (first word) 48 e) (scalar_goes k true (drop 1 word) t tick at early)
@@ -214,7 +214,7 @@ among_after section.Free word = by (first word == 36) (is_mark word) (first word
   where
     by : (a b c d e : Bool)
         → IsAmong (if a then (if b then section.Free else section.Skipped) else if c then section.Free else if d then (if e then section.Value (Some (first word == 48)) else section.Free)
-        else section.Value (if is_binary (first word) then vector_value word else None))
+        else section.Value (if is_vector word then vector_value word else None))
     by true true c d e = tt
     by true false c d e = tt
     by false b true d e = tt

@@ -1,8 +1,8 @@
 -- A Value Change Dump (IEEE 1364-2005, 18) of which one wire is the CEC line, and the edges that it reports. It is read word
 -- by word: the times of its changes, and the values of that wire. All else is passed over.
-use Rattle.std.specs.Prelude.{◌≡◌, ℕ, ◌+◌, ◌==◌, ◌&&◌, ◌||◌, Bool, true, false, if◌then◌else◌, List, [], ◌∷◌, length, drop, slice_index, codes, Option, Some, None, Result, Ok, Err}
+use Rattle.std.specs.Prelude.{◌≡◌, ℕ, ◌+◌, ◌==◌, ◌&&◌, ◌||◌, Bool, true, false, nat_lt, if◌then◌else◌, List, [], ◌∷◌, length, drop, slice_index, codes, Option, Some, None, Result, Ok, Err}
 use Rattle.std.specs.Option.{option_copied}
-use Rattle.std.specs.List.{slice_split}
+use Rattle.std.specs.List.{list_all, slice_split}
 use Rattle.std.specs.Str.{bytes_eq}
 use Rattle.hdmi_core.specs.Lines.{lines_of}
 use Rattle.cec_signal.specs.Edges.{Captured}
@@ -80,9 +80,12 @@ no_edge s = Ok (record { state = s; edge = None })
 abbrev pub is_high : ℕ → Bool
 is_high b = (b == 49) || (b == 122) || (b == 90) || (b == 120) || (b == 88)
 
--- a vector of bits: b
-abbrev pub is_binary : ℕ → Bool
-is_binary b = (b == 98) || (b == 66)
+abbrev pub is_bit : ℕ → Bool
+is_bit b = (b == 48) || is_high b
+
+-- a vector of bits: b, and one bit or more
+abbrev pub is_vector : List ℕ → Bool
+is_vector word = ((slice_index word 0 == 98) || (slice_index word 0 == 66)) && (nat_lt 0 (length (drop 1 word)) && list_all is_bit (drop 1 word))
 
 -- a real number or a string: r, s
 abbrev pub is_other_value : ℕ → Bool
@@ -149,7 +152,7 @@ change b word s =
     if b == 35 then instant_by s.scale (drop 1 word) s
     else if b == 48 then no_edge (scalar true (drop 1 word) s)
     else if is_high b then no_edge (scalar false (drop 1 word) s)
-    else if is_binary b then no_edge (record s { section = section.Value (vector_value word) })
+    else if is_vector word then no_edge (record s { section = section.Value (vector_value word) })
     else if is_other_value b then no_edge (record s { section = section.Value None })
     else Err cause.Word
 

@@ -8,7 +8,7 @@ use Rattle.hdmi_core.specs.Lines.{lines_of}
 use Rattle.hdmi_core.specs.Number.{value_of}
 use Rattle.cec_signal.specs.Edges.{Captured, IsCapture, line_of_edges}
 use Rattle.cec_vcd.specs.Scale.{count_times, counted_word, micros, unit_of}
-use Rattle.cec_vcd.specs.Dump.{edges_in, is_binary, is_end, is_high, is_mark, parts_of, vector_value}
+use Rattle.cec_vcd.specs.Dump.{edges_in, is_end, is_high, is_mark, is_vector, parts_of, vector_value}
 use Rattle.cec_vcd.specs.declared.scale.Count.{Count}
 use Rattle.cec_vcd.specs.declared.scale.Unit.{Unit as UnitOf}
 use Rattle.cec_vcd.specs.declared.scale.Unit.TheVariants.{Second, Millisecond, Microsecond, Nanosecond, Picosecond, Femtosecond}
@@ -111,7 +111,7 @@ section_after section.Free word =
     if slice_index word 0 == 36 then (if is_mark word then section.Free else section.Skipped)
     else if slice_index word 0 == 35 then section.Free
     else if is_scalar word then (if is_alone word then section.Value (Some (slice_index word 0 == 48)) else section.Free)
-    else section.Value (if is_binary (slice_index word 0) then vector_value word else None)
+    else section.Value (if is_vector word then vector_value word else None)
 section_after section.Skipped word = if is_end word then section.Free else section.Skipped
 section_after _ word = section.Free
 

@@ -1,6 +1,7 @@
 //! A reader of a dump, word by word.
 ghost use Rattle.std.specs.Prelude.{◌≡◌, ◌<◌, false, slice_index, position, Option, None};
-ghost use Rattle.cec_vcd.specs.Dump.{is_high, is_binary, is_other_value, is_mark, is_space, vector_value};
+ghost use Rattle.std.specs.List.{list_all};
+ghost use Rattle.cec_vcd.specs.Dump.{is_bit, is_high, is_other_value, is_mark, is_space, is_vector, vector_value};
 
 use crate::scale::{Count, Scale, counted_word, instant_of, unit_of};
 use crate::words::space_in;
@@ -42,11 +43,20 @@ fn is_high(byte: u8) -> bool
     byte == b'1' || byte == b'z' || byte == b'Z' || byte == b'x' || byte == b'X'
 }
 
-// Whether a byte begins a vector of bits.
-fn is_binary(byte: u8) -> bool
-    ensures { result ≡ is_binary byte }
+// Whether these are bits of a vector.
+fn are_bits(bits: &[u8]) -> bool
+    ensures { result ≡ list_all is_bit bits.now }
 {
-    byte == b'b' || byte == b'B'
+    bits.iter().all(|bit| *bit == b'0' || is_high(*bit))
+}
+
+// Whether a word is a vector of bits.
+fn is_vector(word: &[u8]) -> bool
+    ensures { result ≡ is_vector word.now }
+{
+    let mark = byte_at(word, 0);
+    let bits = after(word, 1);
+    (mark == b'b' || mark == b'B') && (!bits.is_empty() && are_bits(bits))
 }
 
 // Whether a byte begins a real number or a string.
@@ -211,7 +221,7 @@ impl<'a> Reader<'a> {
             self.set_scalar(true, after(word, 1));
         } else if is_high(mark) {
             self.set_scalar(false, after(word, 1));
-        } else if is_binary(mark) {
+        } else if is_vector(word) {
             self.section = Section::Value(vector_value(word));
         } else if is_other_value(mark) {
             self.section = Section::Value(None);
