@@ -14,13 +14,13 @@ use Rattle.cec_bits.specs.Readings.{IsLone, Listed}
 use Rattle.cec_bits.proofs.Ends.{at_by}
 use Rattle.cec_signal.specs.Edges.{edges_of}
 use Rattle.cec_timing.specs.declared.low.Low.{Low as LowOf}
-use Rattle.cec_timing.specs.Lows.{gone_to, low_at, lows_before, lows_in}
+use Rattle.cec_timing.specs.Lows.{first_low, gone_to, low_at, lows_before, lows_in}
 use Rattle.cec_remarks.specs.declared.free.Before.TheVariants.{Nothing}
 use Rattle.cec_remarks.specs.declared.free.Previous.{Previous}
 use Rattle.cec_remarks.specs.declared.free.TooSoon.{TooSoon}
 use Rattle.cec_remarks.specs.Attempts.{tries_again}
 use Rattle.cec_remarks.specs.Free.{before_of, final_bit, final_by, free_before, free_due, is_bad_start, last_fall, previous_with, too_soon}
-use Rattle.cec_audit.specs.Audit.{Tape, after, come_to, falls_until, first_tape, is_folded, lows_of}
+use Rattle.cec_audit.specs.Audit.{Tape, after, come_to, drive_by, falls_until, first_tape, is_folded, lows_of}
 use Rattle.cec_audit.specs.Lines.{misfits_text}
 use Rattle.cec_wire.specs.declared.Seat.{Seat}
 use Rattle.cec_wire.specs.declared.Outcome.{Outcome}
@@ -145,6 +145,16 @@ old_before o (p ∷ os) h =
     subst (λ (w : List Stretch). AreBefore p.reading.begin (edges_of w)) (sym h.0.wave)
     (let l : o.reading.begin + 9300 + 2400 * length o.reading.bits.items ≤ p.reading.begin = h.1.0 in sender_before p.reading.begin o.reading.begin o.reading.bits.items (omega (arith, l)))
 
+-- nobody breaks it by a fall too early
+undriven : (ending : Ending) (o : Option LowOf) → ending ≢ Short → drive_by ending o ≡ None
+undriven ending None h = refl
+undriven Complete (Some low) h = refl
+undriven Short (Some low) h = absurd (h refl)
+undriven Silent (Some low) h = refl
+undriven BadStart (Some low) h = refl
+undriven Long (Some low) h = refl
+undriven Open (Some low) h = refl
+
 come_here : (o : Outcome) (os : List Outcome) → AreTimed (o ∷ os) → (t : Tape) (old : List Edge) → t.place ≡ old ++ edges_of (run_wave (o ∷ os)) → OldBefore old (o ∷ os)
     → (come_to (outcome_listed o) t).place ≡ edges_of o.wave ++ edges_of (run_wave os)
 come_here o os h t old left past =
@@ -156,6 +166,7 @@ pub rounds_in_time : (os : List Outcome) → AreTimed os → (t : Tape) (old : L
 rounds_in_time [] h t old left past = tt
 rounds_in_time (o ∷ os) h t old left past = (
   unfolded (is_folded t.series o.reading.ending) _ (round_remarks o os h (come_to (outcome_listed o) t).place here),
+  undriven o.reading.ending (first_low (gone_to o.reading.at (come_to (outcome_listed o) t).place)) h.0.whole,
   rounds_in_time os h.2 (after (outcome_listed o) t) (edges_of o.wave) here (old_before o os h),
 )
   where
