@@ -1,5 +1,5 @@
 -- Runs without pulses, round by round.
-use Rattle.std.proofs.Common.{◌≡◌, ◌≢◌, ℕ, zero, suc, ◌+◌, ◌-◌, ◌*◌, ◌<◌, ◌≤◌, Bool, true, false, not, ◌&&◌, ◌||◌, nat_lt, if◌then◌else◌, List, [], ◌∷◌, ◌++◌, length, slice_index_or, map, take, ◌⊎◌, inl, inr, Option, Some, None, is_some, refl, arith, ap, ◌∙◌, sym, subst}
+use Rattle.std.proofs.Common.{◌≡◌, ◌≢◌, ℕ, zero, suc, ◌+◌, ◌-◌, ◌*◌, ◌<◌, ◌≤◌, Bool, true, false, not, ◌&&◌, ◌||◌, nat_le, nat_lt, if◌then◌else◌, List, [], ◌∷◌, ◌++◌, length, slice_index_or, map, take, ◌⊎◌, inl, inr, Option, Some, None, is_some, refl, arith, ap, ◌∙◌, sym, subst}
 use Rattle.std.specs.List.{filter, list_any, cons_option}
 use Rattle.std.proofs.lemmas.Bool.{cases_lt, false≢true}
 use Rattle.std.proofs.lemmas.Bool.Decides.{nat_tests}
@@ -14,13 +14,14 @@ use Rattle.cec_bits.specs.Readings.{IsLone, Listed}
 use Rattle.cec_bits.proofs.Ends.{at_by}
 use Rattle.cec_signal.specs.Edges.{edges_of}
 use Rattle.cec_timing.specs.declared.low.Low.{Low as LowOf}
-use Rattle.cec_timing.specs.Lows.{gone_to, low_at, lows_before, lows_in}
+use Rattle.cec_timing.specs.Lows.{first_low, gone_to, low_at, lows_before, lows_in}
+use Rattle.cec_timing.specs.Misfits.{drive_within, last_of, long_by, long_low}
 use Rattle.cec_remarks.specs.declared.free.Before.TheVariants.{Nothing}
 use Rattle.cec_remarks.specs.declared.free.Previous.{Previous}
 use Rattle.cec_remarks.specs.declared.free.TooSoon.{TooSoon}
 use Rattle.cec_remarks.specs.Attempts.{tries_again}
 use Rattle.cec_remarks.specs.Free.{before_of, final_bit, final_by, free_before, free_due, is_bad_start, last_fall, previous_with, too_soon}
-use Rattle.cec_audit.specs.Audit.{Tape, after, come_to, falls_until, first_tape, is_folded, lows_of}
+use Rattle.cec_audit.specs.Audit.{Tape, after, come_to, drive_by, falls_until, first_tape, is_folded, lows_of}
 use Rattle.cec_audit.specs.Lines.{misfits_text}
 use Rattle.cec_wire.specs.declared.Seat.{Seat}
 use Rattle.cec_wire.specs.declared.Outcome.{Outcome}
@@ -145,6 +146,16 @@ old_before o (p ∷ os) h =
     subst (λ (w : List Stretch). AreBefore p.reading.begin (edges_of w)) (sym h.0.wave)
     (let l : o.reading.begin + 9300 + 2400 * length o.reading.bits.items ≤ p.reading.begin = h.1.0 in sender_before p.reading.begin o.reading.begin o.reading.bits.items (omega (arith, l)))
 
+-- nobody breaks it by a fall too early
+undriven : (ending : Ending) (o : Option LowOf) → ending ≢ Short → drive_by ending o ≡ None
+undriven ending None h = refl
+undriven Complete (Some low) h = refl
+undriven Short (Some low) h = absurd (h refl)
+undriven Silent (Some low) h = refl
+undriven BadStart (Some low) h = refl
+undriven Long (Some low) h = refl
+undriven Open (Some low) h = refl
+
 come_here : (o : Outcome) (os : List Outcome) → AreTimed (o ∷ os) → (t : Tape) (old : List Edge) → t.place ≡ old ++ edges_of (run_wave (o ∷ os)) → OldBefore old (o ∷ os)
     → (come_to (outcome_listed o) t).place ≡ edges_of o.wave ++ edges_of (run_wave os)
 come_here o os h t old left past =
@@ -152,10 +163,74 @@ come_here o os h t old left past =
     ∙ passed o.reading.begin old (edges_of (run_wave (o ∷ os))) past (first_edge o.reading.begin (o ∷ os) h (omega arith))
     ∙ edges_more o.wave (run_wave os)
 
+-- nor within a low: no slot is low for as long
+abbrev AreBrief : List LowOf → Type 0
+AreBrief [] = Unit {0}
+AreBrief (low ∷ lows) = (long_by low.fall low.rise ≡ None) × AreBrief lows
+
+brief_take : (n : ℕ) (lows : List LowOf) → AreBrief lows → AreBrief (take n lows)
+brief_take zero lows h = tt
+brief_take (suc n) [] h = tt
+brief_take (suc n) (low ∷ lows) h = (h.0, brief_take n lows h.1)
+
+last_brief : (o : Option LowOf) (lows : List LowOf) → long_low o ≡ None → AreBrief lows → long_low (last_of o lows) ≡ None
+last_brief o [] h k = h
+last_brief o (low ∷ lows) h k = last_brief (Some low) lows k.0 k.1
+
+brief_width : (fall rise : ℕ) → rise ≤ fall + 1500 → long_by fall (Some rise) ≡ None
+brief_width fall rise l = let x : nat_le 3360 (rise - fall) ≡ false = grind (arith, nat_tests) in rw x refl
+
+brief_low : (fall rise : ℕ) (es : List Edge) → rise ≤ fall + 1500 → long_by (low_at fall (record { at = rise; low = false } ∷ es)).fall (low_at fall (record { at = rise; low = false } ∷ es)).rise ≡ None
+brief_low fall rise [] l = brief_width fall rise l
+brief_low fall rise (e ∷ es) l = brief_width fall rise l
+
+brief_more : (until fall rise : ℕ) (es : List Edge) → rise ≤ fall + 1500 → AreBrief (lows_in until es) → AreBrief (lows_in until (record { at = fall; low = true } ∷ record { at = rise; low = false } ∷ es))
+brief_more until fall rise es l more = by (nat_lt fall until)
+  where
+    by : (b : Bool) → AreBrief (if b then low_at fall (record { at = rise; low = false } ∷ es) ∷ lows_in until es else [])
+    by true = (brief_low fall rise es l, more)
+    by false = tt
+
+slots_brief : (until : ℕ) (rest : List Edge) (bits : List Bool) (fall : ℕ) → Later until rest → AreBrief (lows_in until (edges_of (slot_stretches fall bits) ++ rest))
+slots_brief until rest [] fall l = subst (λ (ls : List LowOf). AreBrief ls) (sym (none_later until rest l)) tt
+slots_brief until rest (true ∷ bits) fall l = brief_more until fall (fall + 600) (edges_of (slot_stretches (fall + 2400) bits) ++ rest) (omega arith) (slots_brief until rest bits (fall + 2400) l)
+slots_brief until rest (false ∷ bits) fall l = brief_more until fall (fall + 1500) (edges_of (slot_stretches (fall + 2400) bits) ++ rest) (omega arith) (slots_brief until rest bits (fall + 2400) l)
+
+within_take : (n : ℕ) (start : LowOf) (lows : List LowOf) → AreBrief lows → drive_within (take n (start ∷ lows)) ≡ None
+within_take zero start lows h = refl
+within_take (suc n) start lows h = last_brief None (take n lows) refl (brief_take n lows h)
+
+within_none : (n : ℕ) → drive_within (take n []) ≡ None
+within_none zero = refl
+within_none (suc n) = refl
+
+sender_within : (n until : ℕ) (rest : List Edge) (bits : List Bool) (begin : ℕ) → Later until rest → drive_within (take n (lows_in until (edges_of (sender_stretches begin bits) ++ rest))) ≡ None
+sender_within n until rest bits begin l = by (nat_lt begin until)
+  where
+    slots : List Edge
+    slots = edges_of (slot_stretches (begin + 4500) bits) ++ rest
+
+    by : (b : Bool) → drive_within (take n (if b then low_at begin (record { at = begin + 3700; low = false } ∷ slots) ∷ lows_in until slots else [])) ≡ None
+    by true = within_take n (low_at begin (record { at = begin + 3700; low = false } ∷ slots)) (lows_in until slots) (slots_brief until rest bits (begin + 4500) l)
+    by false = within_none n
+
+round_within : (o : Outcome) (os : List Outcome) → AreTimed (o ∷ os) → (edges : List Edge) → edges ≡ edges_of o.wave ++ edges_of (run_wave os) → drive_within (lows_of (outcome_listed o) edges) ≡ None
+round_within o os h edges e =
+    ap (λ (es : List Edge). drive_within (lows_before until es)) (e ∙ ap (λ (w : List Stretch). edges_of w ++ edges_of (run_wave os)) h.0.wave)
+    ∙ sender_within 161 until (edges_of (run_wave os)) o.reading.bits.items o.reading.begin (first_edge until os h.2 (next_by until (o.reading.at + 1) os (omega (arith, u)) (apart_over o os h.1)))
+  where
+    until : ℕ
+    until = falls_until o.reading.ending o.reading.at
+
+    u : falls_until o.reading.ending o.reading.at ≡ o.reading.at
+    u = until_is o.reading.ending o.reading.at h.0.closed
+
 pub rounds_in_time : (os : List Outcome) → AreTimed os → (t : Tape) (old : List Edge) → t.place ≡ old ++ edges_of (run_wave os) → OldBefore old os → AreInTime t (map outcome_listed os)
 rounds_in_time [] h t old left past = tt
 rounds_in_time (o ∷ os) h t old left past = (
   unfolded (is_folded t.series o.reading.ending) _ (round_remarks o os h (come_to (outcome_listed o) t).place here),
+  undriven o.reading.ending (first_low (gone_to o.reading.at (come_to (outcome_listed o) t).place)) h.0.whole,
+  round_within o os h (come_to (outcome_listed o) t).place here,
   rounds_in_time os h.2 (after (outcome_listed o) t) (edges_of o.wave) here (old_before o os h),
 )
   where

@@ -5,7 +5,8 @@ use Rattle.cec_wave.specs.Bounds.{latest_event}
 use Rattle.hdmi_topo.specs.Node.{Node}
 use Rattle.cec_bits.specs.Readings.{Listed, readings_of}
 use Rattle.cec_signal.specs.Edges.{Captured, line_of_edges}
-use Rattle.cec_audit.specs.Audit.{Tape, after, come_to, first_tape, lows_of, reading_misfits}
+use Rattle.cec_timing.specs.Misfits.{drive_within}
+use Rattle.cec_audit.specs.Audit.{Tape, after, come_to, drive_of, first_tape, lows_of, reading_misfits}
 use Rattle.cec_remarks.specs.declared.free.TooSoon.{TooSoon}
 use Rattle.cec_remarks.specs.Attempts.{tries_again}
 use Rattle.cec_remarks.specs.Free.{too_soon}
@@ -18,10 +19,10 @@ use Rattle.cec_run.specs.declared.run.Totals.{Totals}
 use Rattle.cec_run.specs.Run.{start, IsRunText}
 use Rattle.capture_laws.specs.Formats.{IsReadText}
 
--- an audit that goes from reading to reading remarks no width
+-- an audit that goes from reading to reading remarks no width, and no low drive, after a fall too early or within a low
 abbrev pub AreInTime : Tape → List Listed → Type 0
 AreInTime t [] = Unit {0}
-AreInTime t (x ∷ xs) = (reading_misfits (come_to x t).series x (lows_of x (come_to x t).place) ≡ []) × AreInTime (after x t) xs
+AreInTime t (x ∷ xs) = (reading_misfits (come_to x t).series x (lows_of x (come_to x t).place) ≡ []) × (drive_of x (come_to x t).place ≡ None) × (drive_within (lows_of x (come_to x t).place) ≡ None) × AreInTime (after x t) xs
 
 -- what it remarks of the free time before a frame asks for more than three bit periods
 abbrev pub AsksForMore : Option TooSoon → Type 0
@@ -36,7 +37,7 @@ abbrev pub KeepsTimes : Captured → Type 0
 KeepsTimes c = AreInTime (first_tape c.edges) (readings_of (line_of_edges c.edges) c.end) × AreFree (first_tape c.edges) (readings_of (line_of_edges c.edges) c.end)
 
 -- The line of a run without pulses, within the limit of scripts and written in any format, is read as a capture of which an audit
--- remarks no width, and of free times none but what asks for five or seven bit periods.
+-- remarks no width, no low drive, and of free times none but what asks for five or seven bit periods.
 abbrev pub RunsKeepTheirTimes : Type 0
 RunsKeepTheirTimes = (format : Format) (tree : List Node) (events : List TimedEvent) (end : ℕ) (text : List ℕ) (totals : Totals)
     → AreFramedEvents events → IsRunText (Line format) end (start (first_net tree []) events) text totals → end ≤ latest_event

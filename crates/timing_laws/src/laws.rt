@@ -9,7 +9,7 @@ pub fn rounds_are_nominal()
 {}
 
 /// The line of a run without pulses, written in any format, is read as a capture of which an audit remarks no width: each
-/// start bit and bit is low for as long as the standard allows, and the next one falls in time (CEC 5.2.1, 5.2.2). What it
+/// start bit and bit is low for as long as the standard allows, and the next one falls in time (CEC 5.2.1, 5.2.2), so that no low drive is remarked (CEC 7.4). What it
 /// remarks of signal free times asks for more than three bit periods: no frame begins sooner after the start of the final bit of
 /// the one before (CEC 9.1).
 pub fn runs_keep_their_times()
