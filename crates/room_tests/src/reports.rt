@@ -52,11 +52,18 @@ fn expectations_are_refused_by_numbers(rt: HostRuntime) {
     }
 }
 
-/// A script that expects a round with a pattern of so many bytes.
+/// A script that expects a round with a pattern of so many bytes: a star, or bits that were read.
 fn pattern_of(rt: &(impl Abort + AllocGlobal), length: u32) -> String {
     let mut script = String::from_str(rt.alloc(), "expect from 1 to 2 ").expect(rt, "a script");
-    for _ in 0..length {
-        script.push('a').expect(rt, "a pattern");
+    if length < 7 {
+        for _ in 0..length {
+            script.push('*').expect(rt, "a pattern");
+        }
+    } else {
+        script.push_str("short ").expect(rt, "a pattern");
+        for _ in 6..length {
+            script.push('1').expect(rt, "a pattern");
+        }
     }
     script.push_str("\nend 10\n").expect(rt, "a script");
     script
@@ -239,6 +246,7 @@ fn causes_of_expectations_have_numbers(rt: HostRuntime) {
     expectation(&rt, ExpectCause::Name, 82);
     expectation(&rt, ExpectCause::Label, 92);
     expectation(&rt, ExpectCause::Order, 93);
+    expectation(&rt, ExpectCause::Unmet, 90);
 }
 
 // What is written stands in memory, so that a write fails for want of memory alone.
