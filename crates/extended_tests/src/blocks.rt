@@ -1,19 +1,24 @@
 //! Blocks and the lines below them.
 use arrayvec::ArrayVec;
+use hdmi_displayid::append_displayid;
 use hdmi_extended::{append_extended, append_vendor};
 use hdmi_fields::luminance;
 use hdmi_meaning::Page;
 use std::process::Abort;
 
-/// The lines below a block, each with `/` after it: a vendor block or an extended block in hex.
+/// The video codes of the EDID that a map is of.
+const CODES: &[u8] = &[97, 96, 16, 31, 4, 19, 5, 20, 3, 2, 18, 32, 33, 34, 93, 95];
+
+/// The lines below a block, each with `/` after it: a vendor block, an extended block or a section of DisplayID in hex.
 fn reported(rt: &(impl Abort + AllocGlobal), block: &str) -> String {
     let (word, digits) = block.split_once(' ').expect(rt, "a block");
     let bytes = hex::decode(rt.alloc(), digits).expect(rt, "hex digits");
     let mut page: Page = ArrayVec::new();
     if bytes.len() <= 128 {
         match word {
+            "displayid" => append_displayid(&mut page, &bytes),
             "vendor" => append_vendor(&mut page, &bytes),
-            _ => append_extended(&mut page, &bytes),
+            _ => append_extended(&mut page, CODES, &bytes),
         }
     }
     let text = std::str::from_utf8(page.as_slice()).expect(rt, "a text");
@@ -29,12 +34,12 @@ extended 05ffff|  xvYCC601, xvYCC709, sYCC601, opYCC601, opRGB, BT2020cYCC, BT20
 extended 05e000|  BT2020cYCC, BT2020YCC, BT2020RGB/
 extended 060f01735a14|  traditional gamma SDR, traditional gamma HDR, SMPTE ST 2084, hybrid log-gamma, static metadata type 1, content up to 604 cd/m2, frames on average up to 351 cd/m2, down to 0.037 cd/m2/
 extended 060501|  traditional gamma SDR, SMPTE ST 2084, static metadata type 1/
-extended 0d10818291a0a1c1feffdb|  16: 1920x1080 at 60 Hz 16:9/  detailed timing 1/  detailed timing 2/  further timing 1/  further timing 16/  reserved/  193: 5120x2160 at 120 Hz 64:27/  first timing by a code of DMT/  reserved/  219: 4096x2160 at 120 Hz 256:135/
+extended 0d10818291a0a1c1feffdb|  16: 1920x1080 at 60 Hz 16:9/  detailed timing 1/  detailed timing 2/  further timing 1/  further timing 16/  161: reserved/  193: 5120x2160 at 120 Hz 64:27/  first timing by a code of DMT/  255: reserved/  219: 4096x2160 at 120 Hz 256:135/
 extended 0e6160|  97: 3840x2160 at 60 Hz 16:9/  96: 3840x2160 at 50 Hz 16:9/
 extended 0f|  each video code also in 4:2:0/
-extended 0f0b|  also in 4:2:0 the video codes at places 1 2 4/
-extended 0f0080|  also in 4:2:0 the video codes at places 16/
-extended 0f0100000000000102|  also in 4:2:0 the video codes at places 1 49, then in hex 02/
+extended 0f0b|  97: 3840x2160 at 60 Hz 16:9, also in 4:2:0/  96: 3840x2160 at 50 Hz 16:9, also in 4:2:0/  31: 1920x1080 at 50 Hz 16:9, also in 4:2:0/
+extended 0f0080|  95: 3840x2160 at 30 Hz 16:9, also in 4:2:0/
+extended 0f0100000000000102|  97: 3840x2160 at 60 Hz 16:9, also in 4:2:0/  place 49: no code, also in 4:2:0/  place 58: no code, also in 4:2:0/
 vendor d85dc40178ff6fff3090ff6310|  HDMI Forum version 1, TMDS up to 600 MHz, SCDC, read request, cable status, CCBPCI, scrambling up to 340 MHz, 3D independent view, 3D dual view, 3D OSD disparity, FRL up to 12 Gbit/s on 4 lanes, UHD VIC, 4:2:0 at 48 bits a pixel, 4:2:0 at 36 bits a pixel, 4:2:0 at 30 bits a pixel/  ALLM, FVA, negative Mvrr, cinema VRR, Mdelta, QMS, FAPA in blanking, FAPA end extended, VRR from 48 to 144 Hz, DSC 1.2a, DSC in 4:2:0, QMS TFR max, QMS TFR min, DSC at each 1/16 bit a pixel, DSC at 16 bits, DSC at 12 bits, DSC at 10 bits/  DSC over FRL at 12 Gbit/s on 4 lanes, DSC in 4 slices up to 340 MHz, DSC chunks of a line up to 17408 bytes/
 vendor d85dc40178800002|  HDMI Forum version 1, TMDS up to 600 MHz, SCDC/  ALLM/
 vendor d85dc401000000|  HDMI Forum version 1/
@@ -49,6 +54,8 @@ vendor d85dc401780000000064|  HDMI Forum version 1, TMDS up to 600 MHz/  VRR up 
 vendor d85dc401780000004000|  HDMI Forum version 1, TMDS up to 600 MHz/  VRR up to 256 Hz/
 vendor d85dc40178000000702c|  HDMI Forum version 1, TMDS up to 600 MHz/  VRR from 48 to 300 Hz/
 extended 79000001788060023090|  HDMI Forum version 1, TMDS up to 600 MHz, SCDC, FRL up to 12 Gbit/s on 4 lanes/  ALLM, VRR from 48 to 144 Hz/
+extended 7900ff01788060023090|  byte 2 is ff/  HDMI Forum version 1, TMDS up to 600 MHz, SCDC, FRL up to 12 Gbit/s on 4 lanes/  ALLM, VRR from 48 to 144 Hz/
+extended 790180017880|  byte 1 is 01, byte 2 is 80/  HDMI Forum version 1, TMDS up to 600 MHz, SCDC/
 vendor 1a000001012890|  AMD FreeSync version 1.1, from 40 Hz to 144 Hz/
 vendor 1a00000201289000|  AMD FreeSync version 2.1, from 40 Hz to 144 Hz/
 vendor 1a0000020128900004735a2014|  AMD FreeSync version 2.1, from 40 Hz to 144 Hz, luminances without local dimming, up to 604 cd/m2, down to 0.752 cd/m2, without local dimming up to 100 cd/m2, down to 0.006 cd/m2/
@@ -149,16 +156,16 @@ extended 0002|  no IT formats, CE formats underscanned/
 extended 0030|  preferred timing over- or underscanned, no IT formats, no CE formats/
 extended 000c|  IT formats over- or underscanned, no CE formats/
 extended 0003|  no IT formats, CE formats over- or underscanned/
-extended 0f0001|  also in 4:2:0 the video codes at places 9/
-extended 0f0002|  also in 4:2:0 the video codes at places 10/
-extended 0f0004|  also in 4:2:0 the video codes at places 11/
-extended 0f0008|  also in 4:2:0 the video codes at places 12/
-extended 0f0010|  also in 4:2:0 the video codes at places 13/
-extended 0f0020|  also in 4:2:0 the video codes at places 14/
-extended 0f0040|  also in 4:2:0 the video codes at places 15/
-extended 0f0080|  also in 4:2:0 the video codes at places 16/
-extended 0d7f80818f90919f|  127: 5120x2160 at 100 Hz 64:27/  reserved/  detailed timing 1/  detailed timing 15/  detailed timing 16/  further timing 1/  further timing 15/
-extended 0da0a1c0c1fdfeff|  further timing 16/  reserved/  reserved/  193: 5120x2160 at 120 Hz 64:27/  253: reserved/  first timing by a code of DMT/  reserved/";
+extended 0f0001|  3: 720x480 at 60 Hz 16:9, also in 4:2:0/
+extended 0f0002|  2: 720x480 at 60 Hz 4:3, also in 4:2:0/
+extended 0f0004|  18: 720x576 at 50 Hz 16:9, also in 4:2:0/
+extended 0f0008|  32: 1920x1080 at 24 Hz 16:9, also in 4:2:0/
+extended 0f0010|  33: 1920x1080 at 25 Hz 16:9, also in 4:2:0/
+extended 0f0020|  34: 1920x1080 at 30 Hz 16:9, also in 4:2:0/
+extended 0f0040|  93: 3840x2160 at 24 Hz 16:9, also in 4:2:0/
+extended 0f0080|  95: 3840x2160 at 30 Hz 16:9, also in 4:2:0/
+extended 0d7f80818f90919f|  127: 5120x2160 at 100 Hz 64:27/  128: reserved/  detailed timing 1/  detailed timing 15/  detailed timing 16/  further timing 1/  further timing 15/
+extended 0da0a1c0c1fdfeff|  further timing 16/  161: reserved/  192: reserved/  193: 5120x2160 at 120 Hz 64:27/  253: reserved/  first timing by a code of DMT/  255: reserved/";
 
 /// Each bit of the HDMI Forum's block alone.
 const FORUM_BITS: &str = "\
@@ -200,6 +207,17 @@ vendor d85dc401000000000000007f|  HDMI Forum version 1/  DSC rate 7 (reserved), 
 vendor d85dc4010000000000000001c0|  HDMI Forum version 1/  DSC in 1 slice up to 340 MHz, DSC chunks of a line up to 1024 bytes, reserved bits c0/
 vendor d85dc401000000000000000001ee|  HDMI Forum version 1/  DSC chunks of a line up to 2048 bytes, then in hex ee/";
 
+/// Sections of DisplayID, without the zeros after their data.
+const SECTIONS: &str = "\
+displayid 70121700000300144cd00084ff0e9f002f801f006f083d0002000400|  version 1.2, 23 bytes of data, an extension/  3840x2160 at 59.997 Hz, 533.250 MHz, h blanking 160, offset 48, width 32, +h, v blanking 62, offset 3, width 5, -v, preferred, 16:9/
+displayid 7020170201220014011b0884ff0e9f002f801f006f083d0002000400|  version 2.0, 23 bytes of data, a generic display, 1 further sections/  3840x2160 at 59.766 Hz, 531.202 MHz, h blanking 160, offset 48, width 32, +h, v blanking 62, offset 3, width 5, -v, preferred, 16:9/
+displayid 7012190000120016821010007f076f08000000000044454c341278563412|  version 1.2, 25 bytes of data, an extension/  tiles, in one enclosure, one alone scaled, 2 across, 1 down, column 2, row 1, 1920x2160 pixels, then in hex 000000000044454c341278563412/
+displayid 70120f030001000ce803c201000f700891784e79|  version 1.2, 15 bytes of data, a stand-alone display/  parameters, 1000 x 450 in tenths of 1 mm, 3840x2160 pixels, audio, power management, deinterlacing, gamma code 120, aspect 1.7800, native 10 bits a colour, overall 8 bits a colour/
+displayid 70120703000f0004a4120103|  version 1.2, 7 bytes of data, a stand-alone display/  display interface, DisplayPort, links 4, version 1.2, then in hex 0103/
+displayid 70121c090029001000112233445566778899aabbccddeeff7f0001aa0000000000|  version 1.2, 28 bytes of data, product type 9 (reserved)/  container, then in hex 00112233445566778899aabbccddeeff/  data block 7f, then in hex aa/
+displayid 70121a000000000344454c0700010126000101810002200103000201020300|  version 1.2, 26 bytes of data, an extension/  product, then in hex 44454c/  timings by codes of DMT, then in hex 01/  interface features, then in hex 01/  data blocks of CTA-861, then in hex 2001/  then in hex 0102/  then in hex 0300/
+displayid 701214000012000d6a3221c57f076f08010000000001000101|  version 1.2, 20 bytes of data, an extension/  tiles, with bezels, reserved bits 20, some alone at their place, one alone scaled, 4 across, 3 down, column 3, row 2, high bits c5, 1920x2160 pixels, then in hex 0100000000/  data block 01, then in hex 01/";
+
 fn are_reported(rt: &(impl Abort + AllocGlobal), rows: &str) {
     for row in rows.lines() {
         let (block, want) = row.split_once('|').expect(rt, "a row");
@@ -211,6 +229,11 @@ fn are_reported(rt: &(impl Abort + AllocGlobal), rows: &str) {
 #[test]
 fn blocks_are_reported(rt: HostRuntime) {
     are_reported(&rt, ROWS);
+}
+
+#[test]
+fn sections_are_reported(rt: HostRuntime) {
+    are_reported(&rt, SECTIONS);
 }
 
 #[test]
@@ -254,7 +277,40 @@ extended 0146d000480a9d4a665d4a
 extended 0146d0002680016a4cfe98
 extended 060f01735a14
 extended 7803
-extended 0d8291";
+extended 0d8291
+displayid 70121700000300144cd00084ff0e9f002f801f006f083d0002000400
+displayid 70120f030001000ce803c201000f700891784e79
+displayid 70120703000f0004a4120103
+displayid 701214000012000d6a3221c57f076f08010000000001000101
+vendor 5c12ca02e5000102030405060708090a0b0c0d0e0f
+vendor 5c12ca01
+vendor d85dc401
+vendor 1a00000201289000
+extended 00cf01
+extended 05c00001
+extended 060d
+extended 060d0180
+extended 060f01735a1455
+extended 0146d00001a5
+extended 018b8490017f
+extended 02aa55
+extended 0355
+extended 070401000201
+extended 08105500
+extended 0daa55
+extended 0e6160df
+extended 0f0102030405060708090a0b0c0d0e0f1011
+extended 1146d00070
+extended 1146d000700055
+extended 1201000000
+extended 13cfffffff
+extended 146001
+extended 2040aa
+extended 220055aa
+extended 230055
+extended 2a00aa55
+extended 780301
+extended 79000001788003";
 
 /// The bits of a byte.
 const WEIGHTS: &[u8] = &[1, 2, 4, 8, 16, 32, 64, 128];

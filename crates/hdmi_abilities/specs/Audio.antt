@@ -1,7 +1,8 @@
--- What a short audio descriptor means (CTA-861-G, section 7.5.2).
+-- What a short audio descriptor means (CTA-861-G, section 7.5.2; byte 3 of Enhanced AC-3 and of MAT, and extensions 14 and 15: CTA-861-H).
 use Rattle.std.specs.Prelude.{ℕ, ◌+◌, ◌*◌, ◌/◌, ◌%◌, ◌==◌, ◌&&◌, ◌||◌, nat_le, Bool, if◌then◌else◌, List, [], ◌∷◌, ◌++◌, codes}
 use Rattle.hex.specs.Hex.{encode_lower}
 use Rattle.hdmi_meaning.specs.Notes.{Row, row, text_between, counted_text, spaced_words}
+use Rattle.hdmi_fields.specs.Fields.{Row as FieldRow, row as field, word, words, number, hex, field_words}
 
 -- byte 1, bits 6 to 3
 abbrev pub format_number : ℕ → ℕ
@@ -40,6 +41,8 @@ extension_name n =
     else if n == 11 then codes "MPEG-H 3D"
     else if n == 12 then codes "AC-4"
     else if n == 13 then codes "linear PCM 3D"
+    else if n == 14 then codes "Auro-Cx"
+    else if n == 15 then codes "MPEG-D USAC"
     else codes "reserved extension"
 
 abbrev pub audio_name : ℕ → ℕ → List ℕ
@@ -90,19 +93,81 @@ bit_rate_text third = text_between (codes ", up to ") (8 * third) (codes " kbit/
 abbrev pub other_text : ℕ → List ℕ
 other_text third = codes ", byte 3 is " ++ encode_lower (third ∷ [])
 
-abbrev pub has_sizes : ℕ → ℕ → Bool
-has_sizes first third = (format_number first == 1) || ((format_number first == 15) && (extension_number third == 13))
+-- Enhanced AC-3: objects, which are Dolby Atmos
+abbrev pub joint_rows : List FieldRow
+joint_rows =
+    field 0 1 1 4 (words [] ([] ∷ codes ", joint object coding (Dolby Atmos)" ∷ codes ", joint object coding with ACMOD 28 alone" ∷ codes ", joint object coding (Dolby Atmos), also with ACMOD 28" ∷ [])) ∷
+    field 0 1 4 64 (hex (codes ", reserved bits ") 4) ∷ []
+
+-- MAT, which carries TrueHD: with bit 0 object audio and channels too, which are Dolby Atmos
+abbrev pub mat_rows : List FieldRow
+mat_rows =
+    field 0 1 1 4 (words [] (codes ", TrueHD alone" ∷ codes ", objects and channels (Dolby Atmos), hash needed" ∷ codes ", TrueHD alone, no hash needed" ∷ codes ", objects and channels (Dolby Atmos), no hash needed" ∷ [])) ∷
+    field 0 1 4 64 (hex (codes ", reserved bits ") 4) ∷ []
+
+-- WMA Pro
+abbrev pub profile_rows : List FieldRow
+profile_rows =
+    field 0 1 1 8 (number (codes ", profile ") 1 0 []) ∷
+    field 0 1 8 32 (hex (codes ", reserved bits ") 8) ∷ []
+
+-- MPEG-4 HE AAC, its second version, and AAC LC; and those with MPEG Surround
+abbrev pub frame_rows : List FieldRow
+frame_rows =
+    field 0 1 2 4 (words [] ([] ∷ codes ", frames of 960 samples" ∷ codes ", frames of 1024 samples" ∷ codes ", frames of 1024 and of 960 samples" ∷ [])) ∷
+    field 0 1 1 2 (hex (codes ", reserved bits ") 1) ∷ []
+
+abbrev pub surround_rows : List FieldRow
+surround_rows =
+    field 0 1 2 4 (words [] ([] ∷ codes ", frames of 960 samples" ∷ codes ", frames of 1024 samples" ∷ codes ", frames of 1024 and of 960 samples" ∷ [])) ∷
+    field 0 1 1 2 (words [] (codes ", surround implicit" ∷ codes ", surround implicit and explicit" ∷ [])) ∷ []
+
+-- MPEG-H 3D: the level
+abbrev pub level_rows : List FieldRow
+level_rows =
+    field 0 1 1 8 (words (codes ", level ") ([] ∷ codes ", level 1" ∷ codes ", level 2" ∷ codes ", level 3" ∷ codes ", level 4" ∷ codes ", level 5" ∷ [])) ∷ []
+
+-- the bits above the sizes of linear PCM are reserved
+abbrev pub pcm_text : ℕ → List ℕ
+pcm_text third = if third / 8 == 0 then [] else codes ", reserved bits " ++ encode_lower (third / 8 * 8 ∷ [])
+
+-- of format 15, by the extension
+abbrev pub extended_third : ℕ → List ℕ
+extended_third third =
+    if nat_le 4 (extension_number third) && nat_le (extension_number third) 6 then field_words frame_rows (third ∷ [])
+    else if (extension_number third == 8) || (extension_number third == 10) then field_words surround_rows (third ∷ [])
+    else if extension_number third == 11 then field_words level_rows (third ∷ [])
+    else if extension_number third == 13 then sizes_text third
+    else other_text third
 
 abbrev pub third_text : ℕ → ℕ → List ℕ
 third_text first third =
-    if has_sizes first third then sizes_text third
+    if format_number first == 1 then sizes_text third ++ pcm_text third
     else if nat_le 2 (format_number first) && nat_le (format_number first) 8 then bit_rate_text third
+    else if format_number first == 10 then field_words joint_rows (third ∷ [])
+    else if format_number first == 12 then field_words mat_rows (third ∷ [])
+    else if format_number first == 14 then field_words profile_rows (third ∷ [])
+    else if format_number first == 15 then extended_third third
     else other_text third
+
+-- bit 7 of bytes 1 and 2, but of linear PCM 3D, and bits 2 to 0 of byte 1 where they indicate no channels
+abbrev pub spare_first : ℕ → ℕ → ℕ
+spare_first first third =
+    if (format_number first == 15) && ((extension_number third == 11) || (extension_number third == 12)) then first / 128 * 128 + first % 8 else first / 128 * 128
+
+abbrev pub is_spare : ℕ → ℕ → Bool
+is_spare spare second = (spare == 0) && (second / 128 == 0)
+
+abbrev pub spare_bits : ℕ → ℕ → List ℕ
+spare_bits spare second = if is_spare spare second then [] else codes ", reserved bits " ++ encode_lower (spare ∷ second / 128 * 128 ∷ [])
+
+abbrev pub spare_text : ℕ → ℕ → ℕ → List ℕ
+spare_text first second third = if (format_number first == 15) && (extension_number third == 13) then [] else spare_bits (spare_first first third) second
 
 -- ---- all of it
 
 abbrev pub audio_text : ℕ → ℕ → ℕ → List ℕ
-audio_text first second third = audio_name first third ++ (channels_text first second third ++ (rates_text second ++ third_text first third))
+audio_text first second third = audio_name first third ++ (channels_text first second third ++ (rates_text second ++ (third_text first third ++ spare_text first second third)))
 
 -- three bytes a format
 abbrev pub audio_meanings : List ℕ → List (List ℕ)

@@ -1,4 +1,5 @@
 pub mod Audio
 pub mod Speakers
 pub mod Flags
+pub mod Stereo
 pub mod Hdmi

@@ -1,4 +1,4 @@
--- What a speaker allocation data block means (CTA-861-G, section 7.5.3).
+-- What a speaker allocation data block means (CTA-861-G, section 7.5.3, and bit 20 of CTA-861-H).
 use Rattle.std.specs.Prelude.{ℕ, ◌+◌, ◌*◌, List, [], ◌∷◌, ◌++◌, drop, slice_index, codes}
 use Rattle.hdmi_meaning.specs.Notes.{Row, row, below, set_words, rest_words}
 
@@ -24,7 +24,11 @@ speaker_rows =
     row 65536 (codes "TpBL TpBR") ∷
     row 131072 (codes "BtFC") ∷
     row 262144 (codes "BtFL BtFR") ∷
-    row 524288 (codes "TpLS TpRS") ∷ []
+    row 524288 (codes "TpLS TpRS") ∷
+    row 1048576 (codes "LSd RSd") ∷
+    row 2097152 (codes "reserved speaker 21") ∷
+    row 4194304 (codes "reserved speaker 22") ∷
+    row 8388608 (codes "reserved speaker 23") ∷ []
 
 -- three bytes, the lowest first; a byte that is not there is 0
 abbrev pub speaker_bits : List ℕ → ℕ

@@ -1,15 +1,16 @@
 //! What an HDMI block, the vendor specific data block of HDMI (VSDB), means (HDMI 1.4, section 8.3.2).
-ghost use Rattle.std.specs.Prelude.{◌≡◌, ◌≤◌, ◌<◌, ◌+◌, ◌*◌, ◌++◌, length, drop, map, flat_map};
+ghost use Rattle.std.specs.Prelude.{◌≡◌, ◌≤◌, ◌<◌, ◌+◌, ◌*◌, ◌%◌, ◌++◌, length, take, map, flat_map, slice_index};
 ghost use Rattle.arrayvec.specs.ArrayVec.{array_vec_len};
 ghost use Rattle.hdmi_meaning.specs.Notes.{own_line, when, set_words};
-ghost use Rattle.hdmi_abilities.specs.Hdmi.{also_text, depth_text, tmds_text, content_rows, capability_words, capability_meanings, latency_text, named_latency, latency_words, latency_meanings, same_code, hdmi_text, image_text, video_words, structure_rows, structure_bits, has_structures, left_meanings, structure_line, structure_meanings, stereo_meanings, code_meanings, flag_part, code_part, stereo_part, video_meanings, after_meanings, plain_latencies, interlaced_latencies, video_part, hdmi_meanings};
+ghost use Rattle.hdmi_abilities.specs.Hdmi.{also_text, depth_text, tmds_text, content_rows, capability_words, capability_meanings, latency_text, named_latency, latency_words, latency_meanings, same_code, hdmi_text, image_text, low_text, multi_text, format_count, stereo_count, counts_text, over_text, over_words, spare_text, video_words, after_codes, left_meanings, code_meanings, flag_part, code_part, stereo_part, spare_part, video_meanings, after_meanings, plain_latencies, interlaced_latencies, video_part, hdmi_meanings};
 
+use crate::stereo::append_stereo;
 use arrayvec::ArrayVec;
 use hdmi_edid::append;
 use hdmi_meaning::{
     Bit, NOTE, Note, PAGE, Page, after, append_between, append_bits, append_code, append_decimal,
-    append_line, append_rest, append_spaced, append_word, append_words, before, bit_rows, byte_at,
-    is_set,
+    append_line, append_named_hex, append_rest, append_spaced, append_word, append_words, before,
+    bit_rows, byte_at, is_set,
 };
 
 /// A unit of the TMDS clock, in MHz.
@@ -40,17 +41,7 @@ const CONTENTS: &[Bit] = bit_rows! {
     2 "photo content";
     4 "cinema content";
     8 "game content";
-};
-
-const STRUCTURES: &[Bit] = bit_rows! {
-    1 "3D frame packing";
-    2 "3D field alternative";
-    4 "3D line alternative";
-    8 "3D side by side (full)";
-    16 "3D L + depth";
-    32 "3D L + depth + graphics";
-    64 "3D top and bottom";
-    256 "3D side by side (half)";
+    16 "reserved bit 4";
 };
 
 fn also_text(bits: u8) -> &'static str
@@ -108,17 +99,28 @@ fn append_when(note: &mut Note, is_there: bool, word: &[u8])
     }
 }
 
+// Appends reserved bits of the flags.
+fn append_spare(note: &mut Note, bits: u8)
+    requires { array_vec_len note.old + 60 ≤ NOTE }
+    ensures items { note.new.items ≡ note.old.items ++ spare_text bits }
+    ensures len { array_vec_len note.new ≤ array_vec_len note.old + 18 }
+{
+    if bits / 2 % 4 != 0 {
+        append_named_hex(note, b", reserved bits ", &[bits / 2 % 4 * 2]);
+    }
+}
+
 fn append_contents(note: &mut Note, bits: u32)
-    requires { array_vec_len note.old + 160 ≤ NOTE }
+    requires { array_vec_len note.old + 200 ≤ NOTE }
     ensures items { note.new.items ≡ note.old.items ++ set_words content_rows bits }
-    ensures len { array_vec_len note.new ≤ array_vec_len note.old + 160 }
+    ensures len { array_vec_len note.new ≤ array_vec_len note.old + 200 }
 {
     append_bits(note, CONTENTS, bits);
 }
 
 fn capability_note(bits: u8, clock: u8, presence: u8) -> Note
     ensures value { result.items ≡ capability_words bits clock presence }
-    ensures len { array_vec_len result ≤ 411 }
+    ensures len { array_vec_len result ≤ 469 }
 {
     let mut words = ArrayVec::new();
     append_when(&mut words, is_set(u32::from(bits), AI), b"AI");
@@ -128,15 +130,16 @@ fn capability_note(bits: u8, clock: u8, presence: u8) -> Note
         is_set(u32::from(bits), DUAL_LINK),
         b"dual-link DVI",
     );
+    append_spare(&mut words, bits);
     append_tmds(&mut words, clock);
     append_contents(&mut words, u32::from(presence));
     words
 }
 
 fn append_capabilities(page: &mut Page, bytes: &[u8])
-    requires { array_vec_len page.old + 420 ≤ PAGE }
+    requires { array_vec_len page.old + 470 ≤ PAGE }
     ensures items { page.new.items ≡ page.old.items ++ flat_map own_line (capability_meanings bytes.now) }
-    ensures len { array_vec_len page.new ≤ array_vec_len page.old + 420 }
+    ensures len { array_vec_len page.new ≤ array_vec_len page.old + 470 }
 {
     let words = capability_note(byte_at(bytes, 0), byte_at(bytes, 1), byte_at(bytes, 2));
     append_words(page, words.as_slice());
@@ -149,7 +152,6 @@ fn append_latency(note: &mut Note, latency: u8)
 {
     match latency {
         0 => append(note, b" unknown"),
-        255 => append(note, b" none"),
         1..=251 => {
             append(note, b" ");
             append_decimal(note, 2 * (u64::from(latency) - 1));
@@ -160,35 +162,47 @@ fn append_latency(note: &mut Note, latency: u8)
 }
 
 #[tactic(auto, unfolding(crate::specs::Hdmi::named_latency))]
-fn append_named_latency(note: &mut Note, name: &[u8], latency: u8)
+fn append_named_latency(note: &mut Note, name: &[u8], none: &[u8], latency: u8)
     requires short { length name.now ≤ 30 }
+    requires short_none { length none.now ≤ 30 }
     requires room { array_vec_len note.old + 54 ≤ NOTE }
-    ensures items { note.new.items ≡ note.old.items ++ named_latency name.now latency }
+    ensures items { note.new.items ≡ note.old.items ++ named_latency name.now none.now latency }
     ensures len { array_vec_len note.new ≤ array_vec_len note.old + 54 }
 {
-    append(note, name);
-    append_latency(note, latency);
+    if latency == 255 {
+        append(note, none);
+    } else {
+        append(note, name);
+        append_latency(note, latency);
+    }
 }
 
-fn latency_note(name: &[u8], bytes: &[u8]) -> Note
-    requires { length name.now ≤ 30 }
-    ensures value { result.items ≡ latency_words name.now bytes.now }
+fn latency_note(name: &[u8], none: &[u8], bytes: &[u8]) -> Note
+    requires short { length name.now ≤ 30 }
+    requires short_none { length none.now ≤ 30 }
+    ensures value { result.items ≡ latency_words name.now none.now bytes.now }
     ensures len { array_vec_len result ≤ 108 }
 {
     let mut words = ArrayVec::new();
-    append_named_latency(&mut words, name, byte_at(bytes, 0));
-    append_named_latency(&mut words, b", audio latency", byte_at(bytes, 1));
+    append_named_latency(&mut words, name, none, byte_at(bytes, 0));
+    append_named_latency(
+        &mut words,
+        b", audio latency",
+        b", no audio",
+        byte_at(bytes, 1),
+    );
     words
 }
 
-fn append_latencies(page: &mut Page, reported: bool, name: &[u8], bytes: &[u8])
+fn append_latencies(page: &mut Page, reported: bool, name: &[u8], none: &[u8], bytes: &[u8])
     requires short { length name.now ≤ 30 }
+    requires short_none { length none.now ≤ 30 }
     requires room { array_vec_len page.old + 109 ≤ PAGE }
-    ensures items { page.new.items ≡ page.old.items ++ flat_map own_line (latency_meanings reported name.now bytes.now) }
+    ensures items { page.new.items ≡ page.old.items ++ flat_map own_line (latency_meanings reported name.now none.now bytes.now) }
     ensures len { array_vec_len page.new ≤ array_vec_len page.old + 109 }
 {
     if reported && 2 <= bytes.len() {
-        append_words(page, latency_note(name, bytes).as_slice());
+        append_words(page, latency_note(name, none, bytes).as_slice());
     }
 }
 
@@ -237,13 +251,37 @@ fn image_text(size: u8) -> &'static str
     }
 }
 
+fn multi_text(form: u8) -> &'static str
+    ensures value { result.now ≡ multi_text form }
+    ensures short { length result.now ≤ 34 }
+{
+    match form {
+        1 => ", 3D of the first 16 codes",
+        2 => ", 3D of some of the first 16 codes",
+        3 => ", 3D in a reserved form",
+        _ => "",
+    }
+}
+
+fn append_low(note: &mut Note, flags: u8)
+    requires { array_vec_len note.old + 60 ≤ NOTE }
+    ensures items { note.new.items ≡ note.old.items ++ low_text flags }
+    ensures len { array_vec_len note.new ≤ array_vec_len note.old + 18 }
+{
+    if flags % 8 != 0 {
+        append_named_hex(note, b", reserved bits ", &[flags % 8]);
+    }
+}
+
 fn video_note(flags: u8) -> Note
     ensures value { result.items ≡ video_words flags }
-    ensures len { array_vec_len result ≤ 64 }
+    ensures len { array_vec_len result ≤ 116 }
 {
     let mut words = ArrayVec::new();
     append_when(&mut words, is_set(u32::from(flags), STEREO), b"3D");
+    append(&mut words, multi_text(flags / 32 % 4).as_bytes());
     append(&mut words, image_text(flags / 8 % 4).as_bytes());
+    append_low(&mut words, flags);
     words
 }
 
@@ -257,72 +295,6 @@ fn append_left(page: &mut Page, bytes: &[u8])
     append_words(page, words.as_slice());
 }
 
-fn structure_bits(bytes: &[u8]) -> u32
-    ensures { result ≡ structure_bits bytes.now }
-{
-    u32::from(byte_at(bytes, 0)) * 256 + u32::from(byte_at(bytes, 1))
-}
-
-fn append_structure_bits(note: &mut Note, bits: u32)
-    requires { array_vec_len note.old + 320 ≤ NOTE }
-    ensures items { note.new.items ≡ note.old.items ++ set_words structure_rows bits }
-    ensures len { array_vec_len note.new ≤ array_vec_len note.old + 320 }
-{
-    append_bits(note, STRUCTURES, bits);
-}
-
-fn structure_note(bytes: &[u8]) -> Note
-    ensures value { result.items ≡ set_words structure_rows (structure_bits bytes.now) }
-    ensures len { array_vec_len result ≤ 320 }
-{
-    let mut words = ArrayVec::new();
-    append_structure_bits(&mut words, structure_bits(bytes));
-    words
-}
-
-fn append_structure_line(page: &mut Page, bytes: &[u8])
-    requires { array_vec_len page.old + 321 ≤ PAGE }
-    ensures items { page.new.items ≡ page.old.items ++ flat_map own_line (structure_line bytes.now) }
-    ensures len { array_vec_len page.new ≤ array_vec_len page.old + 321 }
-{
-    append_words(page, structure_note(bytes).as_slice());
-}
-
-fn append_after_structures(page: &mut Page, bytes: &[u8])
-    requires few { length bytes.now ≤ 128 }
-    requires room { array_vec_len page.old + 271 ≤ PAGE }
-    ensures { page.new.items ≡ page.old.items ++ flat_map own_line (left_meanings (drop 2 bytes.now)) }
-{
-    append_left(page, after(bytes, 2));
-}
-
-fn append_structures(page: &mut Page, bytes: &[u8])
-    requires few { length bytes.now ≤ 128 }
-    requires room { array_vec_len page.old + 592 ≤ PAGE }
-    ensures { page.new.items ≡ page.old.items ++ flat_map own_line (structure_meanings bytes.now) }
-{
-    append_structure_line(page, bytes);
-    append_after_structures(page, bytes);
-}
-
-fn has_structures(flags: u8, bytes: &[u8]) -> bool
-    ensures { result ≡ has_structures flags bytes.now }
-{
-    (flags / 32 % 4 == 1 || flags / 32 % 4 == 2) && 2 <= bytes.len()
-}
-
-fn append_stereo(page: &mut Page, flags: u8, bytes: &[u8])
-    requires few { length bytes.now ≤ 128 }
-    requires room { array_vec_len page.old + 592 ≤ PAGE }
-    ensures { page.new.items ≡ page.old.items ++ flat_map own_line (stereo_meanings flags bytes.now) }
-{
-    if has_structures(flags, bytes) {
-        append_structures(page, bytes);
-    } else {
-        append_left(page, bytes);
-    }
-}
-
 fn append_codes(page: &mut Page, count: u8, bytes: &[u8])
     requires few { count < 8 }
     requires room { array_vec_len page.old + 856 ≤ PAGE }
@@ -332,12 +304,59 @@ fn append_codes(page: &mut Page, count: u8, bytes: &[u8])
     append_hdmi_codes(page, before(bytes, usize::from(count)));
 }
 
-fn append_flag_part(page: &mut Page, bytes: &[u8])
-    requires { array_vec_len page.old + 65 ≤ PAGE }
-    ensures items { page.new.items ≡ page.old.items ++ flat_map own_line (flag_part bytes.now) }
-    ensures len { array_vec_len page.new ≤ array_vec_len page.old + 65 }
+fn append_format_count(note: &mut Note, formats: u64)
+    requires { array_vec_len note.old + 100 ≤ NOTE }
+    ensures items { note.new.items ≡ note.old.items ++ format_count formats }
+    ensures len { array_vec_len note.new ≤ array_vec_len note.old + 40 }
 {
-    append_words(page, video_note(byte_at(bytes, 0)).as_slice());
+    append_between(note, b", counts ", formats, b" codes and ");
+}
+
+fn append_stereo_count(note: &mut Note, bytes: u64)
+    requires { array_vec_len note.old + 100 ≤ NOTE }
+    ensures items { note.new.items ≡ note.old.items ++ stereo_count bytes }
+    ensures len { array_vec_len note.new ≤ array_vec_len note.old + 33 }
+{
+    append_between(note, b"", bytes, b" bytes of 3D");
+}
+
+fn append_counts(note: &mut Note, formats: u64, bytes: u64)
+    requires { array_vec_len note.old + 200 ≤ NOTE }
+    ensures items { note.new.items ≡ note.old.items ++ counts_text formats bytes }
+    ensures len { array_vec_len note.new ≤ array_vec_len note.old + 73 }
+{
+    append_format_count(note, formats);
+    append_stereo_count(note, bytes);
+}
+
+fn append_over_text(note: &mut Note, counts: u8)
+    requires { array_vec_len note.old + 200 ≤ NOTE }
+    ensures items { note.new.items ≡ note.old.items ++ over_text counts }
+    ensures len { array_vec_len note.new ≤ array_vec_len note.old + 73 }
+{
+    append_counts(note, u64::from(counts / 32), u64::from(counts % 32));
+}
+
+// Appends the counts of codes and of bytes of 3D, where there are fewer.
+fn append_over(note: &mut Note, bytes: &[u8])
+    requires { array_vec_len note.old + 200 ≤ NOTE }
+    ensures items { note.new.items ≡ note.old.items ++ over_words bytes.now }
+    ensures len { array_vec_len note.new ≤ array_vec_len note.old + 73 }
+{
+    let counts = byte_at(bytes, 1);
+    if bytes.len() < 2 + usize::from(counts / 32) + usize::from(counts % 32) {
+        append_over_text(note, counts);
+    }
+}
+
+fn append_flag_part(page: &mut Page, bytes: &[u8])
+    requires { array_vec_len page.old + 190 ≤ PAGE }
+    ensures items { page.new.items ≡ page.old.items ++ flat_map own_line (flag_part bytes.now) }
+    ensures len { array_vec_len page.new ≤ array_vec_len page.old + 190 }
+{
+    let mut words = video_note(byte_at(bytes, 0));
+    append_over(&mut words, bytes);
+    append_words(page, words.as_slice());
 }
 
 fn append_code_part(page: &mut Page, bytes: &[u8])
@@ -348,32 +367,57 @@ fn append_code_part(page: &mut Page, bytes: &[u8])
     append_codes(page, byte_at(bytes, 1) / 32, after(bytes, 2));
 }
 
-fn append_stereo_part(page: &mut Page, bytes: &[u8])
-    requires few { length bytes.now ≤ 128 }
-    requires room { array_vec_len page.old + 592 ≤ PAGE }
-    ensures { page.new.items ≡ page.old.items ++ flat_map own_line (stereo_part bytes.now) }
+fn after_codes(bytes: &[u8]) -> &[u8]
+    ensures value { result.now ≡ after_codes bytes.now }
+    ensures few { length result.now ≤ length bytes.now }
 {
-    let count = usize::from(byte_at(bytes, 1) / 32);
-    append_stereo(page, byte_at(bytes, 0), after(bytes, 2 + count));
+    after(bytes, 2 + usize::from(byte_at(bytes, 1) / 32))
 }
 
-fn append_videos(page: &mut Page, bytes: &[u8])
+// The bytes of 3D, as the low bits of the byte of counts have it.
+fn stereo_bytes(bytes: &[u8]) -> &[u8]
+    ensures value { result.now ≡ take (slice_index bytes.now 1 % 32) (after_codes bytes.now) }
+    ensures few { length result.now ≤ 31 }
+{
+    before(after_codes(bytes), usize::from(byte_at(bytes, 1) % 32))
+}
+
+fn append_stereo_part(page: &mut Page, codes: &[u8], bytes: &[u8])
+    requires { array_vec_len page.old + 11100 ≤ PAGE }
+    ensures items { page.new.items ≡ page.old.items ++ flat_map own_line (stereo_part codes.now bytes.now) }
+    ensures len { array_vec_len page.new ≤ array_vec_len page.old + 11100 }
+{
+    append_stereo(page, codes, byte_at(bytes, 0), stereo_bytes(bytes));
+}
+
+fn append_spare_part(page: &mut Page, bytes: &[u8])
     requires few { length bytes.now ≤ 128 }
-    requires room { array_vec_len page.old + 1600 ≤ PAGE }
-    ensures { page.new.items ≡ page.old.items ++ flat_map own_line (video_meanings bytes.now) }
+    requires room { array_vec_len page.old + 271 ≤ PAGE }
+    ensures { page.new.items ≡ page.old.items ++ flat_map own_line (spare_part bytes.now) }
+{
+    let count = usize::from(byte_at(bytes, 1) % 32);
+    append_left(page, after(after_codes(bytes), count));
+}
+
+#[tactic(auto, unfolding(crate::specs::Hdmi::video_meanings))]
+fn append_videos(page: &mut Page, codes: &[u8], bytes: &[u8])
+    requires few { length bytes.now ≤ 128 }
+    requires room { array_vec_len page.old + 12500 ≤ PAGE }
+    ensures { page.new.items ≡ page.old.items ++ flat_map own_line (video_meanings codes.now bytes.now) }
 {
     append_flag_part(page, bytes);
     append_code_part(page, bytes);
-    append_stereo_part(page, bytes);
+    append_stereo_part(page, codes, bytes);
+    append_spare_part(page, bytes);
 }
 
-fn append_after(page: &mut Page, reported: bool, bytes: &[u8])
+fn append_after(page: &mut Page, reported: bool, codes: &[u8], bytes: &[u8])
     requires few { length bytes.now ≤ 128 }
-    requires room { array_vec_len page.old + 1600 ≤ PAGE }
-    ensures { page.new.items ≡ page.old.items ++ flat_map own_line (after_meanings reported bytes.now) }
+    requires room { array_vec_len page.old + 12500 ≤ PAGE }
+    ensures { page.new.items ≡ page.old.items ++ flat_map own_line (after_meanings reported codes.now bytes.now) }
 {
     if reported && 2 <= bytes.len() {
-        append_videos(page, bytes);
+        append_videos(page, codes, bytes);
     } else {
         append_left(page, bytes);
     }
@@ -385,7 +429,13 @@ fn append_plain_latencies(page: &mut Page, bytes: &[u8])
     ensures len { array_vec_len page.new ≤ array_vec_len page.old + 109 }
 {
     let reported = is_set(u32::from(byte_at(bytes, 2)), LATENCIES);
-    append_latencies(page, reported, b", video latency", after(bytes, 3));
+    append_latencies(
+        page,
+        reported,
+        b", video latency",
+        b", no video",
+        after(bytes, 3),
+    );
 }
 
 fn append_interlaced_latencies(page: &mut Page, bytes: &[u8])
@@ -400,31 +450,32 @@ fn append_interlaced_latencies(page: &mut Page, bytes: &[u8])
         page,
         reported,
         b", interlaced video latency",
+        b", no interlaced video",
         after(bytes, place),
     );
 }
 
-fn append_video_part(page: &mut Page, bytes: &[u8])
+fn append_video_part(page: &mut Page, codes: &[u8], bytes: &[u8])
     requires few { length bytes.now ≤ 128 }
-    requires room { array_vec_len page.old + 1600 ≤ PAGE }
-    ensures { page.new.items ≡ page.old.items ++ flat_map own_line (video_part bytes.now) }
+    requires room { array_vec_len page.old + 12500 ≤ PAGE }
+    ensures { page.new.items ≡ page.old.items ++ flat_map own_line (video_part codes.now bytes.now) }
 {
     let presence = byte_at(bytes, 2);
     let place = 3 + 2 * usize::from(presence / 128) + 2 * usize::from(presence / 64 % 2);
     let reported = is_set(u32::from(presence), VIDEO);
-    append_after(page, reported, after(bytes, place));
+    append_after(page, reported, codes, after(bytes, place));
 }
 
-/// Appends what an HDMI block means, of the bytes after its physical address: capabilities; latencies, video formats of
-/// HDMI's own codes and 3D where it indicates them; and what is left in hex (HDMI 1.4, section 8.3.2).
+/// Appends what an HDMI block means, of the video codes of its EDID and the bytes after its physical address: capabilities;
+/// latencies, video formats of HDMI's own codes and 3D where it indicates them; and what is left in hex (HDMI 1.4, section 8.3.2).
 #[tactic(auto, unfolding(crate::specs::Hdmi::hdmi_meanings))]
-pub fn append_hdmi(page: &mut Page, bytes: &[u8])
+pub fn append_hdmi(page: &mut Page, codes: &[u8], bytes: &[u8])
     requires few { length bytes.now ≤ 128 }
-    requires room { array_vec_len page.old + 2300 ≤ PAGE }
-    ensures { page.new.items ≡ page.old.items ++ flat_map own_line (hdmi_meanings bytes.now) }
+    requires room { array_vec_len page.old + 13200 ≤ PAGE }
+    ensures { page.new.items ≡ page.old.items ++ flat_map own_line (hdmi_meanings codes.now bytes.now) }
 {
     append_capabilities(page, bytes);
     append_plain_latencies(page, bytes);
     append_interlaced_latencies(page, bytes);
-    append_video_part(page, bytes);
+    append_video_part(page, codes, bytes);
 }

@@ -5,6 +5,7 @@ mod audio;
 mod flags;
 mod hdmi;
 mod speakers;
+mod stereo;
 
 pub use audio::append_audio;
 pub use flags::append_flags;

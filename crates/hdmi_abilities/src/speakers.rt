@@ -30,6 +30,10 @@ const SPEAKERS: &[Bit] = bit_rows! {
     131072 "BtFC";
     262144 "BtFL BtFR";
     524288 "TpLS TpRS";
+    1048576 "LSd RSd";
+    2097152 "reserved speaker 21";
+    4194304 "reserved speaker 22";
+    8388608 "reserved speaker 23";
 };
 
 fn speaker_bits(payload: &[u8]) -> u32
@@ -41,9 +45,9 @@ fn speaker_bits(payload: &[u8]) -> u32
 }
 
 fn append_speaker_bits(note: &mut Note, bits: u32)
-    requires { array_vec_len note.old + 800 ≤ NOTE }
+    requires { array_vec_len note.old + 960 ≤ NOTE }
     ensures items { note.new.items ≡ note.old.items ++ set_words speaker_rows bits }
-    ensures len { array_vec_len note.new ≤ array_vec_len note.old + 800 }
+    ensures len { array_vec_len note.new ≤ array_vec_len note.old + 960 }
 {
     append_bits(note, SPEAKERS, bits);
 }
@@ -51,7 +55,7 @@ fn append_speaker_bits(note: &mut Note, bits: u32)
 fn speaker_note(payload: &[u8]) -> Note
     requires { length payload.now ≤ 128 }
     ensures value { result.items ≡ speaker_words payload.now }
-    ensures len { array_vec_len result ≤ 1070 }
+    ensures len { array_vec_len result ≤ 1230 }
 {
     let mut words = ArrayVec::new();
     append_speaker_bits(&mut words, speaker_bits(payload));
@@ -63,7 +67,7 @@ fn speaker_note(payload: &[u8]) -> Note
 #[tactic(auto, unfolding(crate::specs::Speakers::speaker_meanings))]
 pub fn append_speakers(page: &mut Page, payload: &[u8])
     requires few { length payload.now ≤ 128 }
-    requires room { array_vec_len page.old + 1071 ≤ PAGE }
+    requires room { array_vec_len page.old + 1231 ≤ PAGE }
     ensures { page.new.items ≡ page.old.items ++ flat_map own_line (speaker_meanings payload.now) }
 {
     append_words(page, speaker_note(payload).as_slice());

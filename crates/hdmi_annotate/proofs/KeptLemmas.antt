@@ -13,6 +13,7 @@ use Rattle.hdmi_edtext.proofs.CutTexts.{line_split, one_line_of}
 use Rattle.hdmi_edtext.proofs.Good.{has_no_feed, Good, EachGood, edid_good}
 use Rattle.hdmi_meaning.specs.Notes.{printable, own_line}
 use Rattle.hdmi_annotate.specs.Meanings.{is_plain, plain_text, meanings}
+use Rattle.hdmi_parts.specs.VideoCodes.{video_codes}
 use Rattle.hdmi_annotate.specs.EdidMeaning.{meaning_of}
 
 -- ---- a line below has no line feed in it
@@ -107,4 +108,4 @@ lines_kept below (l ∷ ls) good =
     ∙ ap (λ x. line_text l ++ x) (all_below (below l) more ∙ lines_kept below ls good.1)
 
 pub keeps : (e : WholeEdid) → plain_text (meaning_of e) ≡ edid_text e
-keeps e = lines_kept (meanings e.base) (edid_lines e) (edid_good e)
+keeps e = lines_kept (meanings e.base (video_codes e.extensions.items)) (edid_lines e) (edid_good e)

@@ -1,5 +1,5 @@
 -- An EDID's text, and below each line what it means (own: the texts; what they report of is in the crates of the meanings).
-use Rattle.std.specs.Prelude.{ℕ, ◌==◌, Bool, not, List, [], ◌∷◌, ◌++◌, filter, slice_index, flat_map}
+use Rattle.std.specs.Prelude.{ℕ, ◌==◌, if◌then◌else◌, Bool, not, List, [], ◌∷◌, ◌++◌, filter, slice_index, flat_map}
 use Rattle.hdmi_edid.specs.declared.base.Base.{Base}
 use Rattle.hdmi_cta.specs.declared.raw.Ext.{Ext as Extension}
 use Rattle.hdmi_lines.specs.Text.{line_text}
@@ -18,30 +18,44 @@ use Rattle.hdmi_abilities.specs.Speakers.{speaker_meanings}
 use Rattle.hdmi_abilities.specs.Flags.{flag_meanings}
 use Rattle.hdmi_abilities.specs.Hdmi.{hdmi_meanings}
 use Rattle.hdmi_extended.specs.Blocks.{extended_meanings, vendor_meanings}
+use Rattle.hdmi_parts.specs.VideoCodes.{video_codes}
+use Rattle.hdmi_descriptors.specs.Descriptors.{descriptor_meanings}
+use Rattle.hdmi_displayid.specs.Sections.{displayid_lines}
 use Rattle.hdmi_display.specs.Inputs.{input_meanings, feature_meanings}
 use Rattle.hdmi_display.specs.Figures.{made_text, size_text, gamma_text, chroma_text, standard_text}
 use Rattle.hdmi_display.specs.Established.{established_meanings}
 use Rattle.hdmi_display.specs.Ranges.{range_meanings}
 use Rattle.hdmi_display.specs.Raws.{raw_meanings, ext_meanings}
 
--- ---- what stands below a line: a function of the line and of the base block alone
+-- ---- what stands below a line: a function of the line, of the base block and of the video codes of the EDID
+
+-- of a descriptor of no other form: its tag, and what that one's own form says
+abbrev pub raw_lines : List ℕ → List (List ℕ)
+raw_lines bytes = raw_meanings bytes ++ descriptor_meanings bytes
+
+-- of an extension that is kept as it is: its kind, and what a section of DisplayID says
+abbrev pub section_meanings : List ℕ → List (List ℕ)
+section_meanings bytes = if slice_index bytes 0 == 0x70 then displayid_lines bytes else []
+
+abbrev pub ext_lines : List ℕ → List (List ℕ)
+ext_lines bytes = ext_meanings bytes ++ section_meanings bytes
 
 -- of bytes after a word
-abbrev pub bytes_meanings : Base → Keyword → List ℕ → List (List ℕ)
-bytes_meanings b Input bytes = input_meanings b.revision bytes
-bytes_meanings b Features bytes = feature_meanings b.revision b.input bytes
-bytes_meanings b Established bytes = established_meanings bytes
-bytes_meanings b Range bytes = range_meanings b.revision b.features bytes
-bytes_meanings b Raw bytes = raw_meanings bytes
-bytes_meanings b Cta bytes = flag_meanings bytes
-bytes_meanings b CtaNone bytes = flag_meanings bytes
-bytes_meanings b Audio bytes = audio_meanings bytes
-bytes_meanings b Video bytes = video_meanings bytes
-bytes_meanings b Speakers bytes = speaker_meanings bytes
-bytes_meanings b Vendor bytes = vendor_meanings bytes
-bytes_meanings b Extended bytes = extended_meanings bytes
-bytes_meanings b Ext bytes = ext_meanings bytes
-bytes_meanings b word bytes = []
+abbrev pub bytes_meanings : Base → List ℕ → Keyword → List ℕ → List (List ℕ)
+bytes_meanings b svds Input bytes = input_meanings b.revision bytes
+bytes_meanings b svds Features bytes = feature_meanings b.revision b.input bytes
+bytes_meanings b svds Established bytes = established_meanings bytes
+bytes_meanings b svds Range bytes = range_meanings b.revision b.features bytes
+bytes_meanings b svds Raw bytes = raw_lines bytes
+bytes_meanings b svds Cta bytes = flag_meanings bytes
+bytes_meanings b svds CtaNone bytes = flag_meanings bytes
+bytes_meanings b svds Audio bytes = audio_meanings bytes
+bytes_meanings b svds Video bytes = video_meanings bytes
+bytes_meanings b svds Speakers bytes = speaker_meanings bytes
+bytes_meanings b svds Vendor bytes = vendor_meanings bytes
+bytes_meanings b svds Extended bytes = extended_meanings svds bytes
+bytes_meanings b svds Ext bytes = ext_lines bytes
+bytes_meanings b svds word bytes = []
 
 -- of numbers after a word
 abbrev pub numbers_meanings : Base → Keyword → List ℕ → List (List ℕ)
@@ -52,23 +66,23 @@ numbers_meanings b Chroma n = chroma_text n ∷ []
 numbers_meanings b Standard n = standard_text (slice_index n 0) (slice_index n 1) (slice_index n 2) ∷ []
 numbers_meanings b word n = []
 
-abbrev pub fields_meanings : Base → Keyword → Fields → List (List ℕ)
-fields_meanings b word (Numbers numbers) = numbers_meanings b word numbers.items
-fields_meanings b word (Timed numbers flags) = timing_meanings numbers.items flags
-fields_meanings b word (Bytes bytes) = bytes_meanings b word bytes.items
-fields_meanings b word (Address address bytes) = hdmi_meanings bytes.items
-fields_meanings b word fields = []
+abbrev pub fields_meanings : Base → List ℕ → Keyword → Fields → List (List ℕ)
+fields_meanings b svds word (Numbers numbers) = numbers_meanings b word numbers.items
+fields_meanings b svds word (Timed numbers flags) = timing_meanings numbers.items flags
+fields_meanings b svds word (Bytes bytes) = bytes_meanings b svds word bytes.items
+fields_meanings b svds word (Address address bytes) = hdmi_meanings svds bytes.items
+fields_meanings b svds word fields = []
 
-abbrev pub meanings : Base → Line → List (List ℕ)
-meanings b l = fields_meanings b l.word l.fields
+abbrev pub meanings : Base → List ℕ → Line → List (List ℕ)
+meanings b svds l = fields_meanings b svds l.word l.fields
 
 -- ---- the text
 
-abbrev pub line_with_meaning : Base → Line → List ℕ
-line_with_meaning b l = line_text l ++ flat_map own_line (meanings b l)
+abbrev pub line_with_meaning : Base → List ℕ → Line → List ℕ
+line_with_meaning b svds l = line_text l ++ flat_map own_line (meanings b svds l)
 
 abbrev pub meaning_text : Base → List Extension → List ℕ
-meaning_text base extensions = flat_map (line_with_meaning base) (part_lines base extensions)
+meaning_text base extensions = flat_map (line_with_meaning base (video_codes extensions)) (part_lines base extensions)
 
 -- ---- back to the text
 

@@ -3,37 +3,72 @@
 ghost use Rattle.std.specs.Prelude.{◌≡◌, ◌≤◌, ◌++◌, length, flat_map};
 ghost use Rattle.arrayvec.specs.ArrayVec.{array_vec_len};
 ghost use Rattle.hdmi_meaning.specs.Notes.{own_line};
-ghost use Rattle.hdmi_annotate.specs.Meanings.{bytes_meanings, numbers_meanings, fields_meanings, line_with_meaning};
+ghost use Rattle.hdmi_annotate.specs.Meanings.{bytes_meanings, numbers_meanings, fields_meanings, line_with_meaning, ext_lines, raw_lines, section_meanings};
 
 use hdmi_abilities::{append_audio, append_flags, append_hdmi, append_speakers};
+use hdmi_descriptors::append_descriptor;
 use hdmi_display::{
     append_chroma, append_established, append_ext, append_features, append_gamma, append_input,
     append_made, append_range, append_raw, append_size, append_standard,
 };
+use hdmi_displayid::append_displayid;
 use hdmi_edid::{Base, append};
 use hdmi_extended::{append_extended, append_vendor};
 use hdmi_lines::{Fields, Keyword, Line};
-use hdmi_meaning::{Page, append_timing, append_video};
+use hdmi_meaning::{Page, append_timing, append_video, byte_at};
 
-/// Appends what bytes after a word mean.
-fn append_bytes(page: &mut Page, base: &Base, word: Keyword, bytes: &[u8])
+/// The tag of a section of DisplayID.
+const DISPLAYID: u8 = 0x70;
+
+/// Appends what a descriptor of no other form means: its tag, and what that one's own form says.
+fn append_raw_lines(page: &mut Page, bytes: &[u8])
     requires few { length bytes.now ≤ 128 }
     requires room { array_vec_len page.old ≤ 300 }
-    ensures { page.new.items ≡ page.old.items ++ flat_map own_line (bytes_meanings base.now word bytes.now) }
+    ensures { page.new.items ≡ page.old.items ++ flat_map own_line (raw_lines bytes.now) }
+{
+    append_raw(page, bytes);
+    append_descriptor(page, bytes);
+}
+
+/// Appends what an extension that is kept as it is means: its kind, and what a section of DisplayID says.
+fn append_ext_lines(page: &mut Page, bytes: &[u8])
+    requires few { length bytes.now ≤ 128 }
+    requires room { array_vec_len page.old ≤ 300 }
+    ensures { page.new.items ≡ page.old.items ++ flat_map own_line (ext_lines bytes.now) }
+{
+    append_ext(page, bytes);
+    append_section(page, bytes);
+}
+
+fn append_section(page: &mut Page, bytes: &[u8])
+    requires few { length bytes.now ≤ 128 }
+    requires room { array_vec_len page.old ≤ 400 }
+    ensures { page.new.items ≡ page.old.items ++ flat_map own_line (section_meanings bytes.now) }
+{
+    if byte_at(bytes, 0) == DISPLAYID {
+        append_displayid(page, bytes);
+    }
+}
+
+/// Appends what bytes after a word mean.
+fn append_bytes(page: &mut Page, base: &Base, codes: &[u8], word: Keyword, bytes: &[u8])
+    requires few { length bytes.now ≤ 128 }
+    requires room { array_vec_len page.old ≤ 300 }
+    ensures { page.new.items ≡ page.old.items ++ flat_map own_line (bytes_meanings base.now codes.now word bytes.now) }
 {
     match word {
         Keyword::Input => append_input(page, base.revision, bytes),
         Keyword::Features => append_features(page, base.revision, base.input, bytes),
         Keyword::Established => append_established(page, bytes),
         Keyword::Range => append_range(page, base.revision, base.features, bytes),
-        Keyword::Raw => append_raw(page, bytes),
+        Keyword::Raw => append_raw_lines(page, bytes),
         Keyword::Cta | Keyword::CtaNone => append_flags(page, bytes),
         Keyword::Audio => append_audio(page, bytes),
         Keyword::Video => append_video(page, bytes),
         Keyword::Speakers => append_speakers(page, bytes),
         Keyword::Vendor => append_vendor(page, bytes),
-        Keyword::Extended => append_extended(page, bytes),
-        Keyword::Ext => append_ext(page, bytes),
+        Keyword::Extended => append_extended(page, codes, bytes),
+        Keyword::Ext => append_ext_lines(page, bytes),
         _ => {}
     }
 }
@@ -54,24 +89,24 @@ fn append_numbers(page: &mut Page, base: &Base, word: Keyword, numbers: &[u32])
 }
 
 /// Appends what the fields after a word mean.
-fn append_fields(page: &mut Page, base: &Base, word: Keyword, fields: &Fields)
+fn append_fields(page: &mut Page, base: &Base, codes: &[u8], word: Keyword, fields: &Fields)
     requires { array_vec_len page.old ≤ 300 }
-    ensures { page.new.items ≡ page.old.items ++ flat_map own_line (fields_meanings base.now word fields.now) }
+    ensures { page.new.items ≡ page.old.items ++ flat_map own_line (fields_meanings base.now codes.now word fields.now) }
 {
     match fields {
         Fields::Numbers(numbers) => append_numbers(page, base, word, numbers.as_slice()),
         Fields::Timed(numbers, flags) => append_timing(page, numbers.as_slice(), *flags),
-        Fields::Bytes(bytes) => append_bytes(page, base, word, bytes.as_slice()),
-        Fields::Address(_, bytes) => append_hdmi(page, bytes.as_slice()),
+        Fields::Bytes(bytes) => append_bytes(page, base, codes, word, bytes.as_slice()),
+        Fields::Address(_, bytes) => append_hdmi(page, codes, bytes.as_slice()),
         _ => {}
     }
 }
 
 /// Puts a line as it stands in a text, and below it what it means, in place of what stood on a page.
-pub(crate) fn fill_page(page: &mut Page, base: &Base, line: &Line)
-    ensures { page.new.items ≡ line_with_meaning base.now line.now }
+pub(crate) fn fill_page(page: &mut Page, base: &Base, codes: &[u8], line: &Line)
+    ensures { page.new.items ≡ line_with_meaning base.now codes.now line.now }
 {
     page.clear();
     append(page, line.write().as_slice());
-    append_fields(page, base, line.word, &line.fields);
+    append_fields(page, base, codes, line.word, &line.fields);
 }

@@ -10,6 +10,7 @@ use hdmi_cta::Ext;
 use hdmi_edid::Base;
 use hdmi_edtext::line_at;
 use hdmi_meaning::Page;
+use hdmi_parts::video_codes;
 
 /// Writes the text of a base block and the extensions after it line by line, as `write_parts` does, and below each line
 /// what it means. After a fault the front of the text is written, as long as the fault's count says, and the sink is stuck.
@@ -21,12 +22,14 @@ pub fn write_meaning<S: Sink>(
     ensures { WrittenAll (S.contents out.old) (S.contents out.new) (S.is_stuck out.old) (S.is_stuck out.new) (meaning_text base.now extensions.now.items) result }
 {
     let extensions = extensions.as_slice();
+    let listed = video_codes(extensions);
+    let codes = listed.as_slice();
     let mut written = 0u128;
     let mut number = 0;
     // One page serves all lines, since it is large.
     let mut page: Page = ArrayVec::new();
     while let Some(line) = line_at(base, extensions, number) {
-        fill_page(&mut page, base, &line);
+        fill_page(&mut page, base, codes, &line);
         if let Err(fault) = put_all(out, page.as_slice()) {
             return Err(WriteFault {
                 count: written + fault.count,

@@ -82,7 +82,8 @@ fn raw_note(bytes: &[u8]) -> Note
 pub fn append_raw(page: &mut Page, bytes: &[u8])
     requires few { length bytes.now ≤ 128 }
     requires room { array_vec_len page.old + 160 ≤ PAGE }
-    ensures { page.new.items ≡ page.old.items ++ flat_map own_line (raw_meanings bytes.now) }
+    ensures items { page.new.items ≡ page.old.items ++ flat_map own_line (raw_meanings bytes.now) }
+    ensures len { array_vec_len page.new ≤ array_vec_len page.old + 160 }
 {
     append_line(page, raw_note(bytes).as_slice());
 }
@@ -123,7 +124,8 @@ fn ext_note(bytes: &[u8]) -> Note
 #[tactic(auto, unfolding(crate::specs::Raws::ext_meanings))]
 pub fn append_ext(page: &mut Page, bytes: &[u8])
     requires { array_vec_len page.old + 70 ≤ PAGE }
-    ensures { page.new.items ≡ page.old.items ++ flat_map own_line (ext_meanings bytes.now) }
+    ensures items { page.new.items ≡ page.old.items ++ flat_map own_line (ext_meanings bytes.now) }
+    ensures len { array_vec_len page.new ≤ array_vec_len page.old + 70 }
 {
     append_line(page, ext_note(bytes).as_slice());
 }

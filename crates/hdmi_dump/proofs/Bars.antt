@@ -10,7 +10,7 @@ use Rattle.hdmi_dump.specs.declared.digits.Column.TheVariants.{Absent, AfterBar}
 use Rattle.hdmi_dump.specs.declared.rows.Form.TheVariants.{Bars, Colon, Plain}
 use Rattle.hdmi_dump.specs.Digits.{is_column, onto, pairs}
 use Rattle.hdmi_dump.specs.Rows.{counted_bytes, digits_start, form_of, has_header, has_offset, header, row, row_from}
-use Rattle.hdmi_dump.specs.Dump.{dumped_from, gathered_by}
+use Rattle.hdmi_dump.specs.Dump.{dumped_from, gathered_by, ordered}
 use Rattle.hdmi_dump.specs.Printed.{BarsAreRead, bars_line, bars_text, character, offset_text, pairs_text}
 use Rattle.hdmi_dump.proofs.DigitFacts.{joins}
 use Rattle.hdmi_dump.proofs.Offsets.{characters_line, fits_first, offset_line, offset_read}
@@ -140,6 +140,6 @@ bars_are_read first parts is =
     let e : concat ((first ∷ parts) ++ [] ∷ []) ≡ concat (first ∷ parts) = concat_end (first ∷ parts) in
     ap (dumped_from 1) (bars_printed 0 (first ∷ parts) (omega (arith, is.most)) is.bytes)
     ∙ ap (λ o. gathered_by o 1 (line ∷ lines) (dumped_from 2 lines)) (bars_first line first (not_plain first bytes) (not_colon 0 first) (bars_row 0 first small bytes) is.begins)
-    ∙ rows_gathered Bars (line ∷ lines) ((first ∷ parts) ++ [] ∷ []) 1 [] (bars_rows 0 (first ∷ parts) (omega (arith, is.most)) is.bytes)
-    (subst (λ l. length l ≤ 512) (sym e) is.most) (subst (λ l. length l % 128 ≡ 0) (sym e) is.blocks)
+    ∙ ap (ordered Bars) (rows_gathered Bars (line ∷ lines) ((first ∷ parts) ++ [] ∷ []) 1 [] (record { stays = refl; same = λ b. refl }) (bars_rows 0 (first ∷ parts) (omega (arith, is.most)) is.bytes)
+    (subst (λ l. length l ≤ 512) (sym e) is.most) (subst (λ l. length l % 128 ≡ 0) (sym e) is.blocks))
     ∙ ap Ok e

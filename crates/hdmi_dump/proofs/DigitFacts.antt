@@ -6,7 +6,7 @@ use Rattle.std.proofs.lemmas.Bool.Decides.{nat_tests}
 use Rattle.std.proofs.lemmas.List.Elements.{All-head, All-tail}
 use Rattle.hdmi_core.specs.Piece.{hex_text}
 use Rattle.hdmi_dump.specs.declared.digits.Column.{Column}
-use Rattle.hdmi_dump.specs.declared.digits.Column.TheVariants.{Absent, AfterGap, AfterBar}
+use Rattle.hdmi_dump.specs.declared.digits.Column.TheVariants.{Absent, AfterGap, AfterBar, AfterAngle}
 use Rattle.hdmi_dump.specs.Digits.{digit, is_blank, is_column, onto, pairs}
 use Rattle.hdmi_dump.proofs.Pairing.{pairs_blank, pairs_pair}
 
@@ -26,6 +26,9 @@ mark_plain n h = grind (arith, nat_tests)
 pub mark_other : (n c : ℕ) → n < 16 → c < 48 → (mark n == c) ≡ false
 mark_other n c h k = grind (arith, nat_tests)
 
+pub mark_angle : (n : ℕ) → n < 16 → (mark n == 62) ≡ false
+mark_angle n h = grind (arith, nat_tests)
+
 pub mark_bar : (n : ℕ) → n < 16 → (mark n == 124) ≡ false
 mark_bar n h = grind (arith, nat_tests)
 
@@ -34,6 +37,7 @@ pub mark_column : (c : Column) (n : ℕ) (xs : List ℕ) → n < 16 → is_colum
 mark_column Absent n xs h = refl
 mark_column AfterGap n xs h = let e : (mark n == 32) ≡ false = mark_other n 32 h (omega arith) in rw e refl
 mark_column AfterBar n xs h = mark_bar n h
+mark_column AfterAngle n xs h = mark_angle n h
 
 halves : (b : ℕ) → b < 256 → (b / 16) * 16 + b % 16 ≡ b
 halves b h = omega arith
@@ -58,6 +62,7 @@ pairs_gap c b rest h =
     no_column Absent k = refl
     no_column AfterGap k = mark_other (b / 16) 32 k (omega arith)
     no_column AfterBar k = refl
+    no_column AfterAngle k = refl
 
 -- bytes one after another, and then the rest
 abbrev pub joins : List ℕ → Option (List ℕ) → Option (List ℕ)

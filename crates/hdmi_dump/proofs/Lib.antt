@@ -1,4 +1,5 @@
 pub mod Pairing
+pub mod Listing
 pub mod RowLemmas
 pub mod Gathering
 pub mod DigitFacts

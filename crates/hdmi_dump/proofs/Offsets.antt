@@ -132,7 +132,7 @@ colon_first line part h k begins =
 pub offsets_are_read : OffsetsAreRead
 offsets_are_read first parts is =
     let small : 0 < 65536 = omega arith in
-    rows_dumped Colon (colon_text 0 (first ∷ parts)) (colon_line 0 first) first (colon_lines (0 + length first) parts) parts
+    rows_dumped Colon (colon_text 0 (first ∷ parts)) (colon_line 0 first) first (colon_lines (0 + length first) parts) parts (record { stays = refl; same = λ b. refl })
     (colon_printed 0 (first ∷ parts) (omega (arith, is.most)) is.bytes)
     (colon_first (colon_line 0 first) first (not_plain first is.begins) (colon_row 0 first small (All-head AreBytes first parts is.bytes)) is.begins)
     (colon_rows 0 (first ∷ parts) (omega (arith, is.most)) is.bytes) is

@@ -14,8 +14,8 @@ use Rattle.hdmi_dump.specs.declared.rows.Form.TheVariants.{Plain}
 use Rattle.hdmi_dump.specs.declared.dump.DumpError.{DumpError}
 use Rattle.hdmi_dump.specs.declared.dump.DumpError.TheVariants.{Cut, Long}
 use Rattle.hdmi_dump.specs.Digits.{is_column, onto, pairs}
-use Rattle.hdmi_dump.specs.Rows.{counted_bytes, form_of, has_header, header, is_repeat, row}
-use Rattle.hdmi_dump.specs.Dump.{edid_in_dump, dumped_from, bytes_of_rows, gathered_by, with_row}
+use Rattle.hdmi_dump.specs.Rows.{counted_bytes, form_of, has_header, header, in_order, is_repeat, next_form, row}
+use Rattle.hdmi_dump.specs.Dump.{edid_in_dump, dumped_from, bytes_of_rows, gathered_by, ordered, with_row}
 use Rattle.hdmi_dump.specs.Printed.{IsParted, DigitsAreRead, PairsAreRead, pairs_text}
 use Rattle.hdmi_dump.proofs.DigitFacts.{joins, joins_byte, joins_none, mark, mark_other, pairs_byte, pairs_digits}
 use Rattle.hdmi_dump.proofs.Pairing.{pairs_blank}
@@ -50,36 +50,43 @@ AreRows form [] (part ∷ parts) = ⊥
 AreRows form (line ∷ lines) [] = ⊥
 AreRows form (line ∷ lines) (part ∷ parts) = (is_repeat form line ≡ false) × (row form line ≡ Some part) × AreRows form lines parts
 
-one_more : (form : Form) (number : ℕ) (bytes line part : List ℕ) (lines : List (List ℕ)) → is_repeat form line ≡ false → row form line ≡ Some part → length bytes + length part ≤ 512
-    → bytes_of_rows form number false bytes (line ∷ lines) ≡ bytes_of_rows form (number + 1) false (bytes ++ part) lines
-one_more form number bytes line part lines other is short =
-    let go : List ℕ → Result (List ℕ) DumpError = λ now. bytes_of_rows form (number + 1) false now lines in
-    let room : nat_lt 512 (length bytes + 0 + length part) ≡ false = grind (arith, nat_tests) in
-    ap (λ b. if b then bytes_of_rows form (number + 1) true bytes lines else with_row number false bytes line (row form line) go) other
-    ∙ ap (λ o. with_row number false bytes line o go) is
-    ∙ ap (λ b. if b then Err (Long number) else go (bytes ++ part)) room
+-- a form whose rows are all of it
+pub record IsSteady (form : Form) : Type 0 where
+  pub stays : next_form form ≡ form
+  pub same : (bytes : List ℕ) → in_order form bytes ≡ bytes
 
-pub rows_gathered : (form : Form) (lines parts : List (List ℕ)) (number : ℕ) (bytes : List ℕ) → AreRows form lines parts → length (bytes ++ concat parts) ≤ 512 → length (bytes ++ concat parts) % 128 ≡ 0
+one_more : (form : Form) (number : ℕ) (bytes line part : List ℕ) (lines : List (List ℕ)) → IsSteady form → is_repeat form line ≡ false → row form line ≡ Some part → length bytes + length part ≤ 512
+    → bytes_of_rows form number false bytes (line ∷ lines) ≡ bytes_of_rows form (number + 1) false (bytes ++ part) lines
+one_more form number bytes line part lines steady other is short =
+    let go : List ℕ → Result (List ℕ) DumpError = λ now. bytes_of_rows (next_form form) (number + 1) false now lines in
+    let room : nat_lt 512 (length bytes + 0 + length part) ≡ false = grind (arith, nat_tests) in
+    ap (λ b. if b then bytes_of_rows (next_form form) (number + 1) true bytes lines else with_row form number false bytes line (row form line) go) other
+    ∙ ap (λ o. with_row form number false bytes line o go) is
+    ∙ ap (λ b. if b then Err (Long number) else go (bytes ++ part)) room
+    ∙ ap (λ f. bytes_of_rows f (number + 1) false (bytes ++ part) lines) steady.stays
+
+pub rows_gathered : (form : Form) (lines parts : List (List ℕ)) (number : ℕ) (bytes : List ℕ) → IsSteady form → AreRows form lines parts → length (bytes ++ concat parts) ≤ 512 → length (bytes ++ concat parts) % 128 ≡ 0
     → bytes_of_rows form number false bytes lines ≡ Ok (bytes ++ concat parts)
-rows_gathered form [] [] number bytes rows most blocks =
+rows_gathered form [] [] number bytes steady rows most blocks =
     let e : bytes ++ [] ≡ bytes = append-nil bytes in
     let whole : (length bytes % 128 == 0) ≡ true = grind (arith, nat_tests, ap length e) in
     ap (λ b. if b then Ok bytes else Err (Cut number)) whole ∙ ap Ok (sym e)
-rows_gathered form [] (part ∷ parts) number bytes rows most blocks = absurd rows
-rows_gathered form (line ∷ lines) [] number bytes rows most blocks = absurd rows
-rows_gathered form (line ∷ lines) (part ∷ parts) number bytes rows most blocks =
+rows_gathered form [] (part ∷ parts) number bytes steady rows most blocks = absurd rows
+rows_gathered form (line ∷ lines) [] number bytes steady rows most blocks = absurd rows
+rows_gathered form (line ∷ lines) (part ∷ parts) number bytes steady rows most blocks =
     let e : (bytes ++ part) ++ concat parts ≡ bytes ++ concat (part ∷ parts) = append_assoc bytes part (concat parts) in
     let room : length bytes + length part ≤ 512 = omega (arith, ap length e, length-append (bytes ++ part) (concat parts), length-append bytes part) in
-    one_more form number bytes line part lines rows.0 rows.1 room
-    ∙ rows_gathered form lines parts (number + 1) (bytes ++ part) rows.2 (subst (λ l. length l ≤ 512) (sym e) most) (subst (λ l. length l % 128 ≡ 0) (sym e) blocks)
+    one_more form number bytes line part lines steady rows.0 rows.1 room
+    ∙ rows_gathered form lines parts (number + 1) (bytes ++ part) steady rows.2 (subst (λ l. length l ≤ 512) (sym e) most) (subst (λ l. length l % 128 ≡ 0) (sym e) blocks)
     ∙ ap Ok e
 
 -- a dump of these rows
-pub rows_dumped : (form : Form) (text line part : List ℕ) (lines parts : List (List ℕ)) → lines_of text ≡ line ∷ lines → form_of line ≡ Some form → AreRows form (line ∷ lines) (part ∷ parts)
+pub rows_dumped : (form : Form) (text line part : List ℕ) (lines parts : List (List ℕ)) → IsSteady form → lines_of text ≡ line ∷ lines → form_of line ≡ Some form → AreRows form (line ∷ lines) (part ∷ parts)
     → IsParted part parts → edid_in_dump text ≡ Ok (concat (part ∷ parts))
-rows_dumped form text line part lines parts split first rows is =
+rows_dumped form text line part lines parts steady split first rows is =
     ap (dumped_from 1) split ∙ ap (λ o. gathered_by o 1 (line ∷ lines) (dumped_from 2 lines)) first
-    ∙ rows_gathered form (line ∷ lines) (part ∷ parts) 1 [] rows is.most is.blocks
+    ∙ ap (ordered form) (rows_gathered form (line ∷ lines) (part ∷ parts) 1 [] steady rows is.most is.blocks)
+    ∙ ap Ok (steady.same (concat (part ∷ parts)))
 
 pub header_found : (part : List ℕ) → take 8 part ≡ header → has_header (Some part) ≡ true
 header_found part h = ap (λ l. bytes_eq l header) h
@@ -115,7 +122,7 @@ plain_dumped show first parts is reads line =
     let rows : All (λ p. row Plain (show p) ≡ Some p) (first ∷ parts) =
     All-weaker AreBytes (λ p. row Plain (show p) ≡ Some p) (λ p h. plain_row (show p) p (reads p h)) (first ∷ parts) is.bytes in
     let lines : All (λ p. IsLine (show p)) (first ∷ parts) = All-weaker AreBytes (λ p. IsLine (show p)) line (first ∷ parts) is.bytes in
-    rows_dumped Plain (flat_map (λ p. show p ++ 10 ∷ []) (first ∷ parts)) (show first) first (map show parts) parts (lines_printed show (first ∷ parts) lines)
+    rows_dumped Plain (flat_map (λ p. show p ++ 10 ∷ []) (first ∷ parts)) (show first) first (map show parts) parts (record { stays = refl; same = λ b. refl }) (lines_printed show (first ∷ parts) lines)
     (plain_first (show first) first (All-head (λ p. row Plain (show p) ≡ Some p) first parts rows) is.begins) (rows_shown show (first ∷ parts) rows) is
 
 -- ---- plain digits

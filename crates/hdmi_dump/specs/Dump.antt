@@ -10,8 +10,7 @@ use Rattle.std.specs.Option.{is_some}
 use Rattle.arrayvec.specs.declared.array_vec.ArrayVec.{ArrayVec}
 use Rattle.hdmi_dump.specs.declared.dump.Taken.{Taken}
 use Rattle.hdmi_dump.specs.declared.dump.Taken.TheVariants.{Row, TooLong, Other}
-use Rattle.hdmi_dump.specs.Digits.{offset_of}
-use Rattle.hdmi_dump.specs.Rows.{form_of, is_repeat, row}
+use Rattle.hdmi_dump.specs.Rows.{form_of, in_order, is_repeat, next_form, place_of, row}
 
 -- so many bytes more, each that of the row of sixteen above
 abbrev pub with_repeats : ℕ → List ℕ → List ℕ
@@ -19,34 +18,39 @@ with_repeats zero bytes = bytes
 with_repeats (suc count) bytes = with_repeats count (bytes ++ slice_index bytes (length bytes - 16) ∷ [])
 
 -- how many bytes were left out before a row: none, or those up to its offset
-abbrev pub left_out : Bool → List ℕ → List ℕ → ℕ
-left_out false bytes line = 0
-left_out true bytes line = offset_of line - length bytes
+abbrev pub left_out : Form → Bool → List ℕ → List ℕ → ℕ
+left_out form false bytes line = 0
+left_out form true bytes line = place_of form line - length bytes
 
 -- a dump ends where a block does, and not after rows that were left out
 abbrev pub dump_at_end : ℕ → Bool → List ℕ → Result (List ℕ) DumpError
 dump_at_end number skips bytes = if not skips && (length bytes % 128 == 0) then Ok bytes else Err (Cut number)
 
-abbrev pub with_row : ℕ → Bool → List ℕ → List ℕ → Option (List ℕ) → (List ℕ → Result (List ℕ) DumpError) → Result (List ℕ) DumpError
-with_row number skips bytes line None more = dump_at_end number skips bytes
-with_row number skips bytes line (Some next) more =
-    if nat_lt 512 (length bytes + left_out skips bytes line + length next) then Err (Long number)
-    else more (with_repeats (left_out skips bytes line) bytes ++ next)
+abbrev pub with_row : Form → ℕ → Bool → List ℕ → List ℕ → Option (List ℕ) → (List ℕ → Result (List ℕ) DumpError) → Result (List ℕ) DumpError
+with_row form number skips bytes line None more = dump_at_end number skips bytes
+with_row form number skips bytes line (Some next) more =
+    if nat_lt 512 (length bytes + left_out form skips bytes line + length next) then Err (Long number)
+    else more (with_repeats (left_out form skips bytes line) bytes ++ next)
 
 -- a line of a dump: where it stands for rows that it repeats, or is a row, the dump goes on
 abbrev pub with_line : Form → ℕ → Bool → List ℕ → List ℕ → (Bool → List ℕ → Result (List ℕ) DumpError) → Result (List ℕ) DumpError
 with_line form number skips bytes line more =
     if is_repeat form line then more true bytes
-    else with_row number skips bytes line (row form line) (more false)
+    else with_row form number skips bytes line (row form line) (more false)
 
 -- the bytes so far, and those of the rows that follow; an EDID has at most 512
 abbrev pub bytes_of_rows : Form → ℕ → Bool → List ℕ → List (List ℕ) → Result (List ℕ) DumpError
 bytes_of_rows form number skips bytes [] = dump_at_end number skips bytes
-bytes_of_rows form number skips bytes (line ∷ lines) = with_line form number skips bytes line (λ now_skips now. bytes_of_rows form (number + 1) now_skips now lines)
+bytes_of_rows form number skips bytes (line ∷ lines) = with_line form number skips bytes line (λ now_skips now. bytes_of_rows (next_form form) (number + 1) now_skips now lines)
+
+-- bytes that are printed in words are swapped back
+abbrev pub ordered : Form → Result (List ℕ) DumpError → Result (List ℕ) DumpError
+ordered form (Ok bytes) = Ok (in_order form bytes)
+ordered form (Err error) = Err error
 
 abbrev pub gathered_by : Option Form → ℕ → List (List ℕ) → Result (List ℕ) DumpError → Result (List ℕ) DumpError
 gathered_by None number lines later = later
-gathered_by (Some form) number lines later = bytes_of_rows form number false [] lines
+gathered_by (Some form) number lines later = ordered form (bytes_of_rows form number false [] lines)
 
 abbrev pub dumped_from : ℕ → List (List ℕ) → Result (List ℕ) DumpError
 dumped_from number [] = Err NoDump

@@ -1,7 +1,7 @@
 //! Digits of a hex dump, and the bytes of their pairs.
-ghost use Rattle.std.specs.Prelude.{◌≡◌, ◌+◌, ◌*◌, ◌^◌, ◌<◌, length, IsSome, Some};
+ghost use Rattle.std.specs.Prelude.{◌≡◌, ◌+◌, ◌*◌, ◌^◌, ◌<◌, ◌≤◌, length, IsSome, Some, slice_index};
 ghost use Rattle.std.specs.Option.{option_map};
-ghost use Rattle.hdmi_dump.specs.Digits.{byte_of, digit, bytes_with_row, is_blank, is_column, offset_of, pairs};
+ghost use Rattle.hdmi_dump.specs.Digits.{byte_of, digit, bytes_with_row, is_blank, is_column, octal_of, offset_of, pairs};
 
 use arrayvec::ArrayVec;
 use hdmi_core::byte_at;
@@ -15,6 +15,8 @@ pub enum Column {
     AfterGap,
     /// At a bar.
     AfterBar,
+    /// At an angle.
+    AfterAngle,
 }
 
 /// Whether a byte is a space, a tab or a carriage return.
@@ -24,8 +26,8 @@ pub fn is_blank(byte: u8) -> bool
     byte == b' ' || byte == b'\t' || byte == b'\r'
 }
 
-// What a hex digit counts. A byte that is none counts as some digit.
-fn digit(byte: u8) -> u8
+/// What a hex digit counts. A byte that is none counts as some digit.
+pub(crate) fn digit(byte: u8) -> u8
     ensures value { result ≡ digit byte }
     ensures small { result < 16 }
 {
@@ -46,6 +48,7 @@ fn is_column(column: Column, rest: &[u8]) -> bool
         Column::Absent => false,
         Column::AfterGap => byte_at(rest, 0) == b' ' && byte_at(rest, 1) == b' ',
         Column::AfterBar => byte_at(rest, 0) == b'|',
+        Column::AfterAngle => byte_at(rest, 0) == b'>',
     }
 }
 
@@ -119,4 +122,25 @@ pub fn offset_of(line: &[u8]) -> u64
         + byte_of(line, 2) * 0x1_0000
         + byte_of(line, 4) * 0x100
         + byte_of(line, 6)
+}
+
+fn digit_at(line: &[u8], place: usize) -> u64
+    ensures value { result ≡ digit (slice_index line.now place) }
+    ensures small { result < 16 }
+{
+    u64::from(digit(byte_at(line, place)))
+}
+
+/// The number that seven octal digits spell.
+pub fn octal_of(line: &[u8]) -> u64
+    ensures value { result ≡ octal_of line.now }
+    ensures small { result < 2 ^ 32 }
+{
+    digit_at(line, 0) * 0o100_0000
+        + digit_at(line, 1) * 0o10_0000
+        + digit_at(line, 2) * 0o1_0000
+        + digit_at(line, 3) * 0o1000
+        + digit_at(line, 4) * 0o100
+        + digit_at(line, 5) * 0o10
+        + digit_at(line, 6)
 }

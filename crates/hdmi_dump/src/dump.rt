@@ -1,13 +1,13 @@
 //! The dump of an EDID in a text.
 ghost use Rattle.std.specs.Prelude.{◌≡◌, ℕ, ◌+◌, ◌^◌, ◌<◌, ◌≤◌, length, Bool, List, [], MatchOption, true, false, Result, Ok, Err, IfSome, is_some};
 ghost use Rattle.hdmi_core.specs.Lines.{lines_of};
-ghost use Rattle.hdmi_dump.specs.Dump.{Gives, edid_in_dump, dump_at_end, bytes_of_rows, has_dump, left_out, with_repeats, after_line, with_line, with_row};
-ghost use Rattle.hdmi_dump.specs.Rows.{row};
+ghost use Rattle.hdmi_dump.specs.Dump.{Gives, edid_in_dump, dump_at_end, bytes_of_rows, has_dump, left_out, ordered, with_repeats, after_line, with_line, with_row};
+ghost use Rattle.hdmi_dump.specs.Rows.{in_order, row};
 ghost use Rattle.hdmi_dump.specs.declared.dump.DumpError.{DumpError as Refusal};
 ghost use Rattle.hdmi_dump.specs.declared.dump.DumpError.TheVariants.{NoDump};
 
-use crate::digits::offset_of;
-use crate::rows::{Form, form_of, is_repeat, push_row, row_count};
+use crate::lists::swapped;
+use crate::rows::{Form, form_of, is_repeat, next_form, place_of, push_row, row_count};
 use arrayvec::ArrayVec;
 use hdmi_core::{byte_at, first_line};
 use thiserror::Error;
@@ -43,12 +43,12 @@ enum Taken {
 }
 
 // How many bytes were left out before a row.
-fn left_out(skips: bool, bytes: &[u8], line: &[u8]) -> usize
-    ensures value { result ≡ left_out skips bytes.now line.now }
+fn left_out(form: Form, skips: bool, bytes: &[u8], line: &[u8]) -> usize
+    ensures value { result ≡ left_out form skips bytes.now line.now }
     ensures small { result < 4294967296 }
 {
     if skips {
-        (offset_of(line) as usize).saturating_sub(bytes.len())
+        (place_of(form, line) as usize).saturating_sub(bytes.len())
     } else {
         0
     }
@@ -70,12 +70,12 @@ fn push_repeated(count: usize, bytes: &mut ArrayVec<u8, MOST>)
 
 // Adds the bytes of a line, where it is a row that has room.
 fn take_row(form: Form, line: &[u8], skips: bool, bytes: &mut ArrayVec<u8, MOST>) -> Taken
-    ensures { (number : ℕ) (more : List ℕ → Result (List ℕ) Refusal) → with_row number skips bytes.old.items line.now (row form line.now) more ≡ after_line number result skips bytes.new.items (λ _ now. more now) }
+    ensures { (number : ℕ) (more : List ℕ → Result (List ℕ) Refusal) → with_row form number skips bytes.old.items line.now (row form line.now) more ≡ after_line number result skips bytes.new.items (λ _ now. more now) }
 {
     let Some(count) = row_count(form, line) else {
         return Taken::Other;
     };
-    let above = left_out(skips, bytes, line);
+    let above = left_out(form, skips, bytes, line);
     if bytes.len().saturating_add(above).saturating_add(count) > MOST {
         return Taken::TooLong;
     }
@@ -121,22 +121,54 @@ fn gather(form: Form, first: u64, text: &[u8]) -> Result<ArrayVec<u8, MOST>, Dum
     let mut bytes = ArrayVec::new();
     let mut skips = false;
     let mut number = first;
+    let mut row_form = form;
     let mut rest = text;
     'lines: while let Some((line, after)) = first_line(rest) {
-        match take_line(form, line, &mut skips, &mut bytes) {
+        match take_line(row_form, line, &mut skips, &mut bytes) {
             Taken::Row => {}
             Taken::TooLong => return Err(DumpError::Long(number)),
             Taken::Other => return end(number, skips, bytes),
         }
         number += 1;
+        row_form = next_form(row_form);
         rest = after;
     }
     end(number, skips, bytes)
 }
 
+// The bytes of words swapped back.
+fn in_order(form: Form, bytes: ArrayVec<u8, MOST>) -> ArrayVec<u8, MOST>
+    ensures { result.items ≡ in_order form bytes.items }
+{
+    match form {
+        Form::Words => swapped(&bytes),
+        Form::Plain
+        | Form::Colon
+        | Form::Bars
+        | Form::Octal
+        | Form::Six
+        | Form::LogPairs
+        | Form::LogDigits
+        | Form::Short
+        | Form::Opened
+        | Form::Listed => bytes,
+    }
+}
+
+// The bytes of the dump, in their order.
+fn gather_in_order(form: Form, first: u64, text: &[u8]) -> Result<ArrayVec<u8, MOST>, DumpError>
+    requires { first + length text.now < 2 ^ 64 }
+    ensures { Gives result (ordered form (bytes_of_rows form first false [] (lines_of text.now))) }
+{
+    match gather(form, first, text) {
+        Ok(bytes) => Ok(in_order(form, bytes)),
+        Err(error) => Err(error),
+    }
+}
+
 // The first line that an EDID begins with: its form, its number, and the text from it on.
 fn find(text: &[u8]) -> Option<(Form, u64, &[u8])>
-    ensures found { MatchOption result (edid_in_dump text.now ≡ Err NoDump) (λ s. edid_in_dump text.now ≡ bytes_of_rows s.0 s.1 false [] (lines_of s.2.now)) }
+    ensures found { MatchOption result (edid_in_dump text.now ≡ Err NoDump) (λ s. edid_in_dump text.now ≡ ordered s.0 (bytes_of_rows s.0 s.1 false [] (lines_of s.2.now))) }
     ensures room { IfSome result (λ s. s.1 + length s.2.now < 2 ^ 64) }
     ensures some { is_some result ≡ has_dump text.now }
 {
@@ -154,8 +186,10 @@ fn find(text: &[u8]) -> Option<(Form, u64, &[u8])>
 
 /// The bytes of the EDID whose hex dump stands in a text. The dump begins at the first line whose bytes begin with the
 /// header 00 FF FF FF FF FF FF 00, and goes on as far as the lines are rows of the same form: digits and blanks alone; an
-/// offset with a colon, as `xxd` prints it; an offset and bars, as `hexdump -C` prints them, where `*` stands for rows that
-/// repeat the one above; or lines of a log that end in sixteen bytes. Whether the bytes are those of an EDID is not asked.
+/// offset with a colon, as `xxd` and `i2cdump` print it; an offset and bars, as `hexdump -C` prints them, an offset and
+/// digits, as `od` does, or an offset and words, as `hexdump` does, where `*` stands for rows that repeat the one above; lines
+/// of a log that end in sixteen bytes; or a list of bytes, with `0x` or without, and commas, colons and blanks between, which
+/// may begin after `<`, `{` or `hex:`. Whether the bytes are those of an EDID is not asked.
 ///
 /// # Errors
 ///
@@ -167,7 +201,7 @@ pub fn dump_bytes(text: &[u8]) -> Result<ArrayVec<u8, MOST>, DumpError>
 {
     match find(text) {
         None => Err(DumpError::NoDump),
-        Some((form, number, rest)) => gather(form, number, rest),
+        Some((form, number, rest)) => gather_in_order(form, number, rest),
     }
 }
 

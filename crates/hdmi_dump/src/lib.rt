@@ -1,10 +1,11 @@
-//! The bytes of an EDID out of a hex dump: plain digits, as `xxd -p` prints them, and the dumps of `xxd`, `hexdump -C`
-//! and `edid-decode`, with other text around, as in the properties that `xrandr` prints or in a log.
+//! The bytes of an EDID out of a hex dump: plain digits, as `xxd -p` prints them, the dumps of `xxd`, `hexdump`, `od`,
+//! `i2cdump` and `edid-decode`, and lists of bytes, with other text around, as in the properties that `xrandr` prints or in a log.
 #![tactic(auto)]
 
 mod digits;
 mod dump;
 mod laws;
+mod lists;
 mod rows;
 
 pub use dump::{DumpError, dump_bytes, looks_like_dump};

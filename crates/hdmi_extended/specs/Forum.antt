@@ -1,5 +1,5 @@
 -- What a block of the HDMI Forum means (HDMI 2.1, sections 10.3.2 and 10.3.6), of the bytes from its version on.
-use Rattle.std.specs.Prelude.{ℕ, ◌+◌, ◌*◌, ◌/◌, ◌%◌, ◌==◌, if◌then◌else◌, List, [], ◌∷◌, ◌++◌, slice_index, codes}
+use Rattle.std.specs.Prelude.{ℕ, ◌+◌, ◌*◌, ◌/◌, ◌%◌, ◌==◌, if◌then◌else◌, List, [], ◌∷◌, ◌++◌, take, drop, slice_index, codes}
 use Rattle.hdmi_meaning.specs.Notes.{Row, row, below, text_between, set_words}
 use Rattle.hdmi_fields.specs.Fields.{words, number, hex, block_meanings}
 use Rattle.hdmi_fields.specs.Fields.{Row as FieldRow, row as field}
@@ -116,3 +116,19 @@ compression_meanings p = block_meanings [] compression_rows 10 p
 
 abbrev pub forum_meanings : List ℕ → List (List ℕ)
 forum_meanings p = link_meanings p ++ (picture_meanings p ++ compression_meanings p)
+
+-- ---- sink capabilities as an extended block: two reserved bytes, and the same from the version on (HDMI 2.1, section 10.3.6)
+
+abbrev pub spare_rows : List FieldRow
+spare_rows =
+    field 0 1 1 256 (hex (codes ", byte 1 is ") 1) ∷
+    field 1 1 1 256 (hex (codes ", byte 2 is ") 1) ∷ []
+
+unfoldable pub spare_lines : List ℕ → List (List ℕ)
+spare_lines p = block_meanings [] spare_rows 2 p
+
+abbrev pub spare_meanings : List ℕ → List (List ℕ)
+spare_meanings p = spare_lines (take 2 p)
+
+abbrev pub sink_meanings : List ℕ → List (List ℕ)
+sink_meanings p = spare_meanings p ++ forum_meanings (drop 2 p)

@@ -1,16 +1,20 @@
 -- What the blocks of format preference and of the 4:2:0 capability map mean (CTA-861-G, sections 7.5.12 and 7.5.11), of the bytes after the extended tag.
-use Rattle.std.specs.Prelude.{ℕ, ◌+◌, ◌-◌, ◌==◌, ◌&&◌, ◌||◌, nat_le, Bool, if◌then◌else◌, List, [], ◌∷◌, ◌++◌, map, take, drop, codes}
+use Rattle.std.specs.Prelude.{ℕ, ◌+◌, ◌-◌, ◌==◌, ◌&&◌, ◌||◌, nat_le, Bool, if◌then◌else◌, List, [], ◌∷◌, ◌++◌, map, take, drop, length, codes}
 use Rattle.hdmi_meaning.specs.Notes.{below, text_between, is_set, rest_words}
 use Rattle.hdmi_meaning.specs.Videos.{code_text}
+use Rattle.hdmi_fields.specs.Places.{place_text}
 
 -- ---- preferences, the most preferred first: a video code, or a timing by its place
 
 abbrev pub is_reserved : ℕ → Bool
 is_reserved v = (v == 0) || ((v == 128) || ((nat_le 161 v && nat_le v 192) || (v == 255)))
 
+abbrev pub reserved_text : ℕ → List ℕ
+reserved_text v = text_between [] v (codes ": reserved")
+
 abbrev pub preference_text : ℕ → List ℕ
 preference_text v =
-    if is_reserved v then codes "reserved"
+    if is_reserved v then reserved_text v
     else if nat_le 129 v && nat_le v 144 then text_between (codes "detailed timing ") (v - 128) []
     else if nat_le 145 v && nat_le v 160 then text_between (codes "further timing ") (v - 144) []
     else if v == 254 then codes "first timing by a code of DMT"
@@ -19,27 +23,36 @@ preference_text v =
 abbrev pub preference_meanings : List ℕ → List (List ℕ)
 preference_meanings p = map preference_text p
 
--- ---- the map: a bit for each code of the video blocks, in their order
+-- ---- the map: a bit for each code of the video blocks, in their order, the lowest first
 
 abbrev pub weights : List ℕ
 weights = 1 ∷ 2 ∷ 4 ∷ 8 ∷ 16 ∷ 32 ∷ 64 ∷ 128 ∷ []
 
-abbrev pub place_word : ℕ → Bool → List ℕ
-place_word place is = if is then text_between (codes " ") place [] else []
+abbrev pub also_text : List ℕ → ℕ → List ℕ
+also_text svds place = place_text svds place ++ codes ", also in 4:2:0"
 
--- the places of the bits that are set, from a place on
-abbrev pub set_places : List ℕ → ℕ → ℕ → List ℕ
-set_places [] place bits = []
-set_places (w ∷ ws) place bits = place_word place (is_set bits w) ++ set_places ws (place + 1) bits
+abbrev pub place_line : List ℕ → ℕ → Bool → List (List ℕ)
+place_line svds place is = if is then also_text svds place ∷ [] else []
 
-abbrev pub places : ℕ → List ℕ → List ℕ
-places place [] = []
-places place (bits ∷ more) = set_places weights place bits ++ places (place + 8) more
+-- a line for each bit that is set, from a place on
+unfoldable pub set_places : List ℕ → List ℕ → ℕ → ℕ → List (List ℕ)
+set_places svds [] place bits = []
+set_places svds (w ∷ ws) place bits = place_line svds place (is_set bits w) ++ set_places svds ws (place + 1) bits
 
--- no map says that each code is there in 4:2:0 too; the places of more than 56 codes stay in hex
-abbrev pub map_words : List ℕ → List ℕ
-map_words [] = codes ", each video code also in 4:2:0"
-map_words (bits ∷ more) = codes ", also in 4:2:0 the video codes at places" ++ (places 1 (take 7 (bits ∷ more)) ++ rest_words (drop 7 (bits ∷ more)))
+unfoldable pub places : List ℕ → ℕ → List ℕ → List (List ℕ)
+places svds place [] = []
+places svds place (bits ∷ more) = set_places svds weights place bits ++ places svds (place + 8) more
 
-abbrev pub map_meanings : List ℕ → List (List ℕ)
-map_meanings p = below (map_words p)
+-- the first 128 places; what is left stays in hex
+abbrev pub mapped_meanings : List ℕ → List ℕ → List (List ℕ)
+mapped_meanings svds p = places svds 0 (take 16 p)
+
+abbrev pub unmapped_meanings : List ℕ → List (List ℕ)
+unmapped_meanings p = below (rest_words (drop 16 p))
+
+abbrev pub some_meanings : List ℕ → List ℕ → List (List ℕ)
+some_meanings svds p = mapped_meanings svds p ++ unmapped_meanings p
+
+-- of the video codes of the EDID, in their order; no map says that each code is there in 4:2:0 too
+abbrev pub map_meanings : List ℕ → List ℕ → List (List ℕ)
+map_meanings svds p = if length p == 0 then codes "each video code also in 4:2:0" ∷ [] else some_meanings svds p

@@ -6,7 +6,7 @@ ghost use Rattle.hdmi_extended.specs.Blocks.{extended_meanings, tagged_meanings,
 
 use crate::colours::{append_capability, append_colours, append_hdr};
 use crate::counts::append_count;
-use crate::forum::append_forum;
+use crate::forum::{append_forum, append_sink};
 use crate::makers::{
     AMD, DOLBY, HDR10_PLUS, MICROSOFT, append_labelled, append_named, identifier, maker_name,
     tag_name,
@@ -63,10 +63,10 @@ fn append_vendor_audio(page: &mut Page, payload: &[u8])
 }
 
 #[tactic(auto, unfolding(crate::specs::Blocks::tagged_meanings))]
-fn append_tagged(page: &mut Page, tag: u8, payload: &[u8])
+fn append_tagged(page: &mut Page, codes: &[u8], tag: u8, payload: &[u8])
     requires few { length payload.now ≤ 128 }
     requires room { array_vec_len page.old + 16000 ≤ PAGE }
-    ensures { page.new.items ≡ page.old.items ++ flat_map own_line (tagged_meanings tag payload.now) }
+    ensures { page.new.items ≡ page.old.items ++ flat_map own_line (tagged_meanings codes.now tag payload.now) }
 {
     match tag {
         VIDEO_CAPABILITY => append_capability(page, payload),
@@ -75,22 +75,22 @@ fn append_tagged(page: &mut Page, tag: u8, payload: &[u8])
         HDR_STATIC => append_hdr(page, payload),
         PREFERENCES => append_preferences(page, payload),
         VIDEO_420 => append_video(page, payload),
-        MAP_420 => append_map(page, payload),
+        MAP_420 => append_map(page, codes, payload),
         VENDOR_AUDIO => append_vendor_audio(page, payload),
         EXTENSION_COUNT => append_count(page, payload),
-        SINK_CAPABILITY => append_forum(page, after(payload, 2)),
+        SINK_CAPABILITY => append_sink(page, payload),
         _ => append_labelled(page, tag_name(tag).as_bytes(), payload),
     }
 }
 
-/// Appends what an extended block means, of its extended tag and the bytes after it.
-pub fn append_extended(page: &mut Page, bytes: &[u8])
+/// Appends what an extended block means, of the video codes of its EDID, its extended tag and the bytes after it.
+pub fn append_extended(page: &mut Page, codes: &[u8], bytes: &[u8])
     requires few { length bytes.now ≤ 128 }
     requires room { array_vec_len page.old + 16000 ≤ PAGE }
-    ensures { page.new.items ≡ page.old.items ++ flat_map own_line (extended_meanings bytes.now) }
+    ensures { page.new.items ≡ page.old.items ++ flat_map own_line (extended_meanings codes.now bytes.now) }
 {
     if !bytes.is_empty() {
-        append_tagged(page, byte_at(bytes, 0), after(bytes, 1));
+        append_tagged(page, codes, byte_at(bytes, 0), after(bytes, 1));
     }
 }
 

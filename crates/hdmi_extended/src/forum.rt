@@ -1,14 +1,15 @@
 //! What a block of the HDMI Forum means.
-ghost use Rattle.std.specs.Prelude.{◌≡◌, ◌≤◌, ◌+◌, ◌*◌, ◌++◌, length, flat_map};
+ghost use Rattle.std.specs.Prelude.{◌≡◌, ◌≤◌, ◌+◌, ◌*◌, ◌++◌, length, drop, flat_map};
 ghost use Rattle.arrayvec.specs.ArrayVec.{array_vec_len};
 ghost use Rattle.hdmi_meaning.specs.Notes.{own_line, set_words};
-ghost use Rattle.hdmi_extended.specs.Forum.{alone_words, clock_words, compression_meanings, compression_rows, depth_rows, fixed_words, forum_meanings, from_words, greatest_words, link_meanings, link_rows, link_words, picture_meanings, picture_rows, picture_words, rate_words, stream_rows, vrr_words};
+ghost use Rattle.hdmi_extended.specs.Forum.{alone_words, clock_words, compression_meanings, compression_rows, depth_rows, fixed_words, forum_meanings, from_words, greatest_words, link_meanings, link_rows, link_words, picture_meanings, picture_rows, picture_words, rate_words, sink_meanings, spare_lines, spare_meanings, spare_rows, stream_rows, vrr_words};
 
 use arrayvec::ArrayVec;
 use hdmi_edid::append;
 use hdmi_fields::{Field, Says, append_block, choices, field_rows};
 use hdmi_meaning::{
-    Bit, NOTE, Note, PAGE, Page, append_between, append_bits, append_words, bit_rows, byte_at,
+    Bit, NOTE, Note, PAGE, Page, after, append_between, append_bits, append_words, before,
+    bit_rows, byte_at,
 };
 
 /// A unit of the TMDS clock, in MHz.
@@ -247,4 +248,49 @@ pub fn append_forum(page: &mut Page, payload: &[u8])
     append_link(page, payload);
     append_pictures(page, payload);
     append_compression(page, payload);
+}
+
+/// Two reserved bytes before sink capabilities.
+const SPARE: &[Field] = field_rows! {
+    0 1 1 256 Says::Hex(", byte 1 is ");
+    1 1 1 256 Says::Hex(", byte 2 is ");
+};
+
+// Appends reserved bytes that are not 0.
+#[tactic(auto, unfolding(crate::specs::Forum::spare_lines))]
+fn append_spare_bytes(page: &mut Page, bytes: &[u8])
+    requires few { length bytes.now ≤ 128 }
+    requires room { array_vec_len page.old + 1536 ≤ PAGE }
+    ensures items { page.new.items ≡ page.old.items ++ flat_map own_line (spare_lines bytes.now) }
+    ensures len { array_vec_len page.new ≤ array_vec_len page.old + 1400 }
+{
+    append_block(page, b"", SPARE, 2, bytes);
+}
+
+fn append_spare(page: &mut Page, payload: &[u8])
+    requires few { length payload.now ≤ 128 }
+    requires room { array_vec_len page.old + 1536 ≤ PAGE }
+    ensures items { page.new.items ≡ page.old.items ++ flat_map own_line (spare_meanings payload.now) }
+    ensures len { array_vec_len page.new ≤ array_vec_len page.old + 1400 }
+{
+    append_spare_bytes(page, before(payload, 2));
+}
+
+fn append_after_spare(page: &mut Page, payload: &[u8])
+    requires few { length payload.now ≤ 128 }
+    requires room { array_vec_len page.old + 4000 ≤ PAGE }
+    ensures { page.new.items ≡ page.old.items ++ flat_map own_line (forum_meanings (drop 2 payload.now)) }
+{
+    append_forum(page, after(payload, 2));
+}
+
+/// Appends what an extended block of sink capabilities means: reserved bytes that are not 0, and the same lines from the
+/// version on (HDMI 2.1, section 10.3.6).
+pub(crate) fn append_sink(page: &mut Page, payload: &[u8])
+    requires few { length payload.now ≤ 128 }
+    requires room { array_vec_len page.old + 6000 ≤ PAGE }
+    ensures { page.new.items ≡ page.old.items ++ flat_map own_line (sink_meanings payload.now) }
+{
+    append_spare(page, payload);
+    append_after_spare(page, payload);
 }

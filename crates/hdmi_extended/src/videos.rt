@@ -3,10 +3,11 @@ ghost use Rattle.std.specs.Prelude.{◌≡◌, ◌≤◌, ◌+◌, ◌*◌, ◌+
 ghost use Rattle.arrayvec.specs.ArrayVec.{array_vec_len};
 ghost use Rattle.hdmi_meaning.specs.Notes.{text_between, own_line};
 ghost use Rattle.hdmi_meaning.specs.Videos.{code_text};
-ghost use Rattle.hdmi_extended.specs.Videos.{is_reserved, map_meanings, map_words, place_word, places, preference_meanings, preference_text, set_places, weights};
+ghost use Rattle.hdmi_extended.specs.Videos.{also_text, is_reserved, map_meanings, mapped_meanings, place_line, places, preference_meanings, preference_text, reserved_text, set_places, some_meanings, unmapped_meanings, weights};
 
 use arrayvec::ArrayVec;
 use hdmi_edid::append;
+use hdmi_fields::append_place;
 use hdmi_meaning::{
     NOTE, Note, PAGE, Page, after, append_between, append_code, append_line, append_rest,
     append_words, before, is_set,
@@ -15,13 +16,21 @@ use hdmi_meaning::{
 /// The bits of a byte, the lowest first.
 const WEIGHTS: &[u32] = &[1, 2, 4, 8, 16, 32, 64, 128];
 
-/// How many bytes of a map are read: 56 video codes.
-const MAP: usize = 7;
+/// How many bytes of a map have lines: 128 video codes.
+const MAP: usize = 16;
 
 fn is_reserved(reference: u8) -> bool
     ensures { result ≡ is_reserved reference }
 {
     reference == 0 || reference == 128 || (161 <= reference && reference <= 192) || reference == 255
+}
+
+fn append_reserved(note: &mut Note, reference: u8)
+    requires { array_vec_len note.old + 100 ≤ NOTE }
+    ensures items { note.new.items ≡ note.old.items ++ reserved_text reference }
+    ensures len { array_vec_len note.new ≤ array_vec_len note.old + 30 }
+{
+    append_between(note, b"", u64::from(reference), b": reserved");
 }
 
 fn append_coded(note: &mut Note, code: u8)
@@ -39,7 +48,7 @@ fn preference_note(reference: u8) -> Note
 {
     let mut note = ArrayVec::new();
     if is_reserved(reference) {
-        append(&mut note, b"reserved");
+        append_reserved(&mut note, reference);
     } else if 129 <= reference && reference <= 144 {
         append_between(
             &mut note,
@@ -73,79 +82,110 @@ pub fn append_preferences(page: &mut Page, payload: &[u8])
     }
 }
 
-fn append_place(note: &mut Note, place: u16, is: bool)
-    requires { array_vec_len note.old + 100 ≤ NOTE }
-    ensures items { note.new.items ≡ note.old.items ++ place_word place is }
-    ensures len { array_vec_len note.new ≤ array_vec_len note.old + 21 }
+// The line of a place of the map: the code there, and its format; or that there is none.
+fn place_note(codes: &[u8], place: usize) -> Note
+    requires { place ≤ 1000 }
+    ensures value { result.items ≡ also_text codes.now place }
+    ensures len { array_vec_len result ≤ 114 }
+{
+    let mut note = ArrayVec::new();
+    append_place(&mut note, codes, place);
+    append(&mut note, b", also in 4:2:0");
+    note
+}
+
+fn append_place_line(page: &mut Page, codes: &[u8], place: usize, is: bool)
+    requires small { place ≤ 1000 }
+    requires room { array_vec_len page.old + 117 ≤ PAGE }
+    ensures items { page.new.items ≡ page.old.items ++ flat_map own_line (place_line codes.now place is) }
+    ensures len { array_vec_len page.new ≤ array_vec_len page.old + 117 }
 {
     if is {
-        append_between(note, b" ", u64::from(place), b"");
+        append_line(page, place_note(codes, place).as_slice());
     }
 }
 
-fn append_set_places(note: &mut Note, weights: &[u32], place: u16, bits: u8)
+#[tactic(auto, unfolding(crate::specs::Videos::set_places))]
+fn append_set_places(page: &mut Page, codes: &[u8], weights: &[u32], place: usize, bits: u8)
     requires all { All (λ w. 0 < w) weights.now }
     requires small { place + length weights.now ≤ 1000 }
-    requires room { array_vec_len note.old + 21 * length weights.now + 100 ≤ NOTE }
-    ensures items { note.new.items ≡ note.old.items ++ set_places weights.now place bits }
-    ensures len { array_vec_len note.new ≤ array_vec_len note.old + 21 * length weights.now }
+    requires room { array_vec_len page.old + 117 * length weights.now ≤ PAGE }
+    ensures items { page.new.items ≡ page.old.items ++ flat_map own_line (set_places codes.now weights.now place bits) }
+    ensures len { array_vec_len page.new ≤ array_vec_len page.old + 117 * length weights.now }
 {
     if let [weight, rest @ ..] = weights {
-        append_place(note, place, is_set(u32::from(bits), *weight));
-        append_set_places(note, rest, place + 1, bits);
+        append_place_line(page, codes, place, is_set(u32::from(bits), *weight));
+        append_set_places(page, codes, rest, place + 1, bits);
     }
 }
 
-fn append_byte_places(note: &mut Note, place: u16, bits: u8)
+fn append_byte_places(page: &mut Page, codes: &[u8], place: usize, bits: u8)
     requires small { place ≤ 900 }
-    requires room { array_vec_len note.old + 268 ≤ NOTE }
-    ensures items { note.new.items ≡ note.old.items ++ set_places weights place bits }
-    ensures len { array_vec_len note.new ≤ array_vec_len note.old + 168 }
+    requires room { array_vec_len page.old + 936 ≤ PAGE }
+    ensures items { page.new.items ≡ page.old.items ++ flat_map own_line (set_places codes.now weights place bits) }
+    ensures len { array_vec_len page.new ≤ array_vec_len page.old + 936 }
 {
-    append_set_places(note, WEIGHTS, place, bits);
+    append_set_places(page, codes, WEIGHTS, place, bits);
 }
 
-fn append_places(note: &mut Note, place: u16, bytes: &[u8])
+#[tactic(auto, unfolding(crate::specs::Videos::places))]
+fn append_places(page: &mut Page, codes: &[u8], place: usize, bytes: &[u8])
     requires small { place + 8 * length bytes.now ≤ 900 }
-    requires room { array_vec_len note.old + 168 * length bytes.now + 100 ≤ NOTE }
-    ensures items { note.new.items ≡ note.old.items ++ places place bytes.now }
-    ensures len { array_vec_len note.new ≤ array_vec_len note.old + 168 * length bytes.now }
+    requires room { array_vec_len page.old + 936 * length bytes.now ≤ PAGE }
+    ensures items { page.new.items ≡ page.old.items ++ flat_map own_line (places codes.now place bytes.now) }
+    ensures len { array_vec_len page.new ≤ array_vec_len page.old + 936 * length bytes.now }
 {
     if let [bits, rest @ ..] = bytes {
-        append_byte_places(note, place, *bits);
-        append_places(note, place + 8, rest);
+        append_byte_places(page, codes, place, *bits);
+        append_places(page, codes, place + 8, rest);
     }
 }
 
-// The bytes of a map whose places are told.
+// The bytes of a map whose places have lines.
 fn mapped(payload: &[u8]) -> &[u8]
-    ensures value { result.now ≡ take 7 payload.now }
-    ensures few { length result.now ≤ 7 }
+    ensures value { result.now ≡ take 16 payload.now }
+    ensures few { length result.now ≤ 16 }
 {
     before(payload, MAP)
 }
 
-fn map_note(payload: &[u8]) -> Note
-    requires { length payload.now ≤ 128 }
-    ensures value { result.items ≡ map_words payload.now }
+fn append_mapped(page: &mut Page, codes: &[u8], payload: &[u8])
+    requires { array_vec_len page.old + 14976 ≤ PAGE }
+    ensures items { page.new.items ≡ page.old.items ++ flat_map own_line (mapped_meanings codes.now payload.now) }
+    ensures len { array_vec_len page.new ≤ array_vec_len page.old + 14976 }
 {
-    let mut words = ArrayVec::new();
-    if payload.is_empty() {
-        append(&mut words, b", each video code also in 4:2:0");
-        return words;
-    }
-    append(&mut words, b", also in 4:2:0 the video codes at places");
-    append_places(&mut words, 1, mapped(payload));
-    append_rest(&mut words, after(payload, MAP));
-    words
+    append_places(page, codes, 0, mapped(payload));
 }
 
-/// Appends what a 4:2:0 capability map means: the places, counted from 1 over the video blocks, of the codes that are there
-/// in YCbCr 4:2:0 too (CTA-861-G, section 7.5.11).
-pub fn append_map(page: &mut Page, payload: &[u8])
+fn append_unmapped(page: &mut Page, payload: &[u8])
     requires few { length payload.now ≤ 128 }
-    requires room { array_vec_len page.old + 1540 ≤ PAGE }
-    ensures { page.new.items ≡ page.old.items ++ flat_map own_line (map_meanings payload.now) }
+    requires room { array_vec_len page.old + 271 ≤ PAGE }
+    ensures { page.new.items ≡ page.old.items ++ flat_map own_line (unmapped_meanings payload.now) }
 {
-    append_words(page, map_note(payload).as_slice());
+    let mut words: Note = ArrayVec::new();
+    append_rest(&mut words, after(payload, MAP));
+    append_words(page, words.as_slice());
+}
+
+fn append_some(page: &mut Page, codes: &[u8], payload: &[u8])
+    requires few { length payload.now ≤ 128 }
+    requires room { array_vec_len page.old + 15600 ≤ PAGE }
+    ensures { page.new.items ≡ page.old.items ++ flat_map own_line (some_meanings codes.now payload.now) }
+{
+    append_mapped(page, codes, payload);
+    append_unmapped(page, payload);
+}
+
+/// Appends what a 4:2:0 capability map means, of the video codes of the EDID: a line for each code that is there in YCbCr
+/// 4:2:0 too, and one for each place without a code (CTA-861-G, section 7.5.11).
+pub fn append_map(page: &mut Page, codes: &[u8], payload: &[u8])
+    requires few { length payload.now ≤ 128 }
+    requires room { array_vec_len page.old + 15600 ≤ PAGE }
+    ensures { page.new.items ≡ page.old.items ++ flat_map own_line (map_meanings codes.now payload.now) }
+{
+    if payload.is_empty() {
+        append_line(page, b"each video code also in 4:2:0");
+    } else {
+        append_some(page, codes, payload);
+    }
 }

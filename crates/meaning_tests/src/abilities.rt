@@ -1,5 +1,6 @@
 //! The payloads of data blocks and the flags of a CTA extension, and what they mean (CTA-861-G, section 7.5; HDMI 1.4, section
-//! 8.3.2): each bit and each code alone, and some together. Those of `hdmi` are the bytes after the physical address.
+//! 8.3.2): each bit and each code alone, and some together. Those of `hdmi` are the bytes after the physical
+//! address, of an EDID whose video codes are `CODES`.
 
 pub(crate) const ROWS: &str = "\
 audio 090707 = linear PCM, 2 channels, 32 44.1 48 kHz, 16 20 24 bits
@@ -11,7 +12,8 @@ audio 080800 = linear PCM, 1 channel, 88.2 kHz
 audio 081000 = linear PCM, 1 channel, 96 kHz
 audio 082000 = linear PCM, 1 channel, 176.4 kHz
 audio 084000 = linear PCM, 1 channel, 192 kHz
-audio 088000 = linear PCM, 1 channel
+audio 088000 = linear PCM, 1 channel, reserved bits 0080
+audio 888009 = linear PCM, 1 channel, 16 bits, reserved bits 08, reserved bits 8080
 audio 150750 = AC-3, 6 channels, 32 44.1 48 kHz, up to 640 kbit/s
 audio 190702 = MPEG-1, 2 channels, 32 44.1 48 kHz, up to 16 kbit/s
 audio 210702 = MP3, 2 channels, 32 44.1 48 kHz, up to 16 kbit/s
@@ -20,20 +22,35 @@ audio 310702 = AAC LC, 2 channels, 32 44.1 48 kHz, up to 16 kbit/s
 audio 3d1ec0 = DTS, 6 channels, 44.1 48 88.2 96 kHz, up to 1536 kbit/s
 audio 4107ff = ATRAC, 2 channels, 32 44.1 48 kHz, up to 2040 kbit/s
 audio 4d0200 = One Bit Audio, 6 channels, 44.1 kHz, byte 3 is 00
-audio 570601 = Enhanced AC-3, 8 channels, 44.1 48 kHz, byte 3 is 01
+audio 570601 = Enhanced AC-3, 8 channels, 44.1 48 kHz, joint object coding (Dolby Atmos)
+audio 570600 = Enhanced AC-3, 8 channels, 44.1 48 kHz
+audio 570602 = Enhanced AC-3, 8 channels, 44.1 48 kHz, joint object coding with ACMOD 28 alone
+audio 570603 = Enhanced AC-3, 8 channels, 44.1 48 kHz, joint object coding (Dolby Atmos), also with ACMOD 28
+audio 5706fc = Enhanced AC-3, 8 channels, 44.1 48 kHz, reserved bits fc
 audio 5f7e01 = DTS-HD, 8 channels, 44.1 48 88.2 96 176.4 192 kHz, byte 3 is 01
-audio 677e01 = MAT, 8 channels, 44.1 48 88.2 96 176.4 192 kHz, byte 3 is 01
+audio 677e01 = MAT, 8 channels, 44.1 48 88.2 96 176.4 192 kHz, objects and channels (Dolby Atmos), hash needed
+audio 677e00 = MAT, 8 channels, 44.1 48 88.2 96 176.4 192 kHz, TrueHD alone
+audio 677e02 = MAT, 8 channels, 44.1 48 88.2 96 176.4 192 kHz, TrueHD alone, no hash needed
+audio 677eff = MAT, 8 channels, 44.1 48 88.2 96 176.4 192 kHz, objects and channels (Dolby Atmos), no hash needed, reserved bits fc
 audio 690200 = DST, 2 channels, 44.1 kHz, byte 3 is 00
-audio 710603 = WMA Pro, 2 channels, 44.1 48 kHz, byte 3 is 03
+audio 710603 = WMA Pro, 2 channels, 44.1 48 kHz, profile 3
+audio 71060b = WMA Pro, 2 channels, 44.1 48 kHz, profile 3, reserved bits 08
 audio 010700 = reserved, 2 channels, 32 44.1 48 kHz, byte 3 is 00
-audio 7d0424 = MPEG-4 HE AAC, 6 channels, 48 kHz, byte 3 is 24
-audio 7d0428 = MPEG-4 HE AAC v2, 6 channels, 48 kHz, byte 3 is 28
-audio 7d0430 = MPEG-4 AAC LC, 6 channels, 48 kHz, byte 3 is 30
+audio 7d0424 = MPEG-4 HE AAC, 6 channels, 48 kHz, frames of 1024 samples
+audio 7d0428 = MPEG-4 HE AAC v2, 6 channels, 48 kHz
+audio 7d042b = MPEG-4 HE AAC v2, 6 channels, 48 kHz, frames of 960 samples, reserved bits 01
+audio 7d0430 = MPEG-4 AAC LC, 6 channels, 48 kHz
+audio 7d0436 = MPEG-4 AAC LC, 6 channels, 48 kHz, frames of 1024 and of 960 samples
 audio 7d0438 = DRA, 6 channels, 48 kHz, byte 3 is 38
-audio 7d0440 = MPEG-4 HE AAC and MPEG Surround, 6 channels, 48 kHz, byte 3 is 40
-audio 7d0450 = MPEG-4 AAC LC and MPEG Surround, 6 channels, 48 kHz, byte 3 is 50
-audio 7b0458 = MPEG-H 3D, 48 kHz, byte 3 is 58
+audio 7d0440 = MPEG-4 HE AAC and MPEG Surround, 6 channels, 48 kHz, surround implicit
+audio 7d0445 = MPEG-4 HE AAC and MPEG Surround, 6 channels, 48 kHz, frames of 1024 samples, surround implicit and explicit
+audio 7d0450 = MPEG-4 AAC LC and MPEG Surround, 6 channels, 48 kHz, surround implicit
+audio 7b0458 = MPEG-H 3D, 48 kHz, reserved bits 0300
+audio 78045b = MPEG-H 3D, 48 kHz, level 3
+audio 78045e = MPEG-H 3D, 48 kHz, level 6 (reserved)
 audio 780460 = AC-4, 48 kHz, byte 3 is 60
+audio 7d0470 = Auro-Cx, 6 channels, 48 kHz, byte 3 is 70
+audio 7d0478 = MPEG-D USAC, 6 channels, 48 kHz, byte 3 is 78
 audio ff8469 = linear PCM 3D, 32 channels, 48 kHz, 16 bits
 audio 7d0448 = reserved extension, 6 channels, 48 kHz, byte 3 is 48
 audio 09070715 = linear PCM, 2 channels, 32 44.1 48 kHz, 16 20 24 bits | in hex 15
@@ -58,6 +75,10 @@ speakers 000001 = TpBL TpBR
 speakers 000002 = BtFC
 speakers 000004 = BtFL BtFR
 speakers 000008 = TpLS TpRS
+speakers 000010 = LSd RSd
+speakers 000020 = reserved speaker 21
+speakers 000040 = reserved speaker 22
+speakers 000080 = reserved speaker 23
 speakers 4f0000 = FL FR, LFE, FC, BL BR, RLC RRC
 speakers 01 = FL FR
 speakers 010000aa = FL FR, then in hex aa
@@ -82,9 +103,14 @@ hdmi 000001 = graphics content
 hdmi 000002 = photo content
 hdmi 000004 = cinema content
 hdmi 000008 = game content
+hdmi 000010 = reserved bit 4
+hdmi 02 = reserved bits 02
+hdmi 04 = reserved bits 04
 hdmi 0000800b05 = video latency 20 ms, audio latency 8 ms
 hdmi 000080fb01 = video latency 500 ms, audio latency 0 ms
-hdmi 00008000ff = video latency unknown, audio latency none
+hdmi 00008000ff = video latency unknown, no audio
+hdmi 000080ff00 = no video, audio latency unknown
+hdmi 000040ffff = no interlaced video, no audio
 hdmi 000080fcfe = video latency reserved, audio latency reserved
 hdmi 0000c00b051505 = video latency 20 ms, audio latency 8 ms | interlaced video latency 40 ms, audio latency 8 ms
 hdmi 0000400b05 = interlaced video latency 20 ms, audio latency 8 ms
@@ -94,16 +120,55 @@ hdmi 0000208000 = 3D
 hdmi 0000200800 = size right in its aspect alone
 hdmi 0000201000 = size to 1 cm
 hdmi 0000209800 = 3D, size to 5 cm
-hdmi 000020a0020141 = 3D | 3D frame packing, 3D top and bottom, 3D side by side (half)
-hdmi 000020a00200ff = 3D | 3D frame packing, 3D field alternative, 3D line alternative, 3D side by side (full), 3D L + depth, 3D L + depth + graphics, 3D top and bottom
-hdmi 000020a0020001 = 3D | 3D frame packing
-hdmi 000020a0020002 = 3D | 3D field alternative
-hdmi 000020a0020004 = 3D | 3D line alternative
-hdmi 000020a0020008 = 3D | 3D side by side (full)
-hdmi 000020a0020010 = 3D | 3D L + depth
-hdmi 000020a0020020 = 3D | 3D L + depth + graphics
-hdmi 000020a0020040 = 3D | 3D top and bottom
-hdmi 000020a0020100 = 3D | 3D side by side (half)
-hdmi 000020c0040100aaaa = 3D | 3D side by side (half) | then in hex aaaa
-hdmi 0000000000 = then in hex 0000
+hdmi 000020a0020141 = 3D, 3D of the first 16 codes | 3D frame packing, 3D top and bottom, 3D side by side (half)
+hdmi 000020a00200ff = 3D, 3D of the first 16 codes | 3D frame packing, 3D field alternative, 3D line alternative, 3D side by side (full), 3D L + depth, 3D L + depth + graphics, 3D top and bottom, reserved 3D structure 7
+hdmi 000020a0020001 = 3D, 3D of the first 16 codes | 3D frame packing
+hdmi 000020a0020002 = 3D, 3D of the first 16 codes | 3D field alternative
+hdmi 000020a0020004 = 3D, 3D of the first 16 codes | 3D line alternative
+hdmi 000020a0020008 = 3D, 3D of the first 16 codes | 3D side by side (full)
+hdmi 000020a0020010 = 3D, 3D of the first 16 codes | 3D L + depth
+hdmi 000020a0020020 = 3D, 3D of the first 16 codes | 3D L + depth + graphics
+hdmi 000020a0020040 = 3D, 3D of the first 16 codes | 3D top and bottom
+hdmi 000020a0020080 = 3D, 3D of the first 16 codes | reserved 3D structure 7
+hdmi 000020a0020100 = 3D, 3D of the first 16 codes | 3D side by side (half)
+hdmi 000020a0020200 = 3D, 3D of the first 16 codes | reserved 3D structure 9
+hdmi 000020a0020400 = 3D, 3D of the first 16 codes | reserved 3D structure 10
+hdmi 000020a0020800 = 3D, 3D of the first 16 codes | reserved 3D structure 11
+hdmi 000020a0021000 = 3D, 3D of the first 16 codes | reserved 3D structure 12
+hdmi 000020a0022000 = 3D, 3D of the first 16 codes | reserved 3D structure 13
+hdmi 000020a0024000 = 3D, 3D of the first 16 codes | reserved 3D structure 14
+hdmi 000020a0028000 = 3D, 3D of the first 16 codes | 3D side by side (half) quincunx
+hdmi 000020a00101 = 3D, 3D of the first 16 codes | then in hex 01
+hdmi 000020c0040100000a = 3D, 3D of some of the first 16 codes | 3D side by side (half) | 4: 1280x720 at 60 Hz 16:9, 3D | 16: 1920x1080 at 60 Hz 16:9, 3D
+hdmi 000020c00401008001 = 3D, 3D of some of the first 16 codes | 3D side by side (half) | 32: 1920x1080 at 24 Hz 16:9, 3D | place 16: no code, 3D
+hdmi 000020c0030100aa = 3D, 3D of some of the first 16 codes | then in hex 0100aa
+hdmi 000020e000 = 3D, 3D in a reserved form
+hdmi 0000200700 = reserved bits 07
+hdmi 000020800110 = 3D | 4: 1280x720 at 60 Hz 16:9, 3D frame packing
+hdmi 00002080060001021620f6 = 3D | 32: 1920x1080 at 24 Hz 16:9, 3D frame packing | 32: 1920x1080 at 24 Hz 16:9, 3D field alternative | 32: 1920x1080 at 24 Hz 16:9, 3D line alternative | 4: 1280x720 at 60 Hz 16:9, 3D top and bottom | 5: 1920x1080i at 60 Hz 16:9, 3D frame packing | place 16: no code, 3D top and bottom
+hdmi 000020800403040507 = 3D | 32: 1920x1080 at 24 Hz 16:9, 3D side by side (full) | 32: 1920x1080 at 24 Hz 16:9, 3D L + depth | 32: 1920x1080 at 24 Hz 16:9, 3D L + depth + graphics | 32: 1920x1080 at 24 Hz 16:9, reserved 3D structure 7
+hdmi 00002080050800081018 = 3D | 32: 1920x1080 at 24 Hz 16:9, 3D side by side (half) | 32: 1920x1080 at 24 Hz 16:9, 3D side by side (half), horizontal | 4: 1280x720 at 60 Hz 16:9, 3D side by side (half)
+hdmi 00002080080861087508800890 = 3D | 32: 1920x1080 at 24 Hz 16:9, 3D side by side (half), all quincunx, reserved bits 01 | 32: 1920x1080 at 24 Hz 16:9, 3D side by side (half), quincunx odd left, odd right, reserved bits 05 | 32: 1920x1080 at 24 Hz 16:9, 3D side by side (half), quincunx odd left, even right | 32: 1920x1080 at 24 Hz 16:9, 3D side by side (half), quincunx even left, odd right
+hdmi 000020800408a009b0 = 3D | 32: 1920x1080 at 24 Hz 16:9, 3D side by side (half), quincunx even left, even right | 32: 1920x1080 at 24 Hz 16:9, 3D structure 9 (reserved), detail 11 (reserved)
+hdmi 0000200065 = counts 3 codes and 5 bytes of 3D
+hdmi 000020002001 = HDMI 1: 3840x2160 at 30 Hz 16:9
+hdmi 000020002201 = counts 1 codes and 2 bytes of 3D | HDMI 1: 3840x2160 at 30 Hz 16:9
+hdmi 00002080210100bb = 3D | HDMI 1: 3840x2160 at 30 Hz 16:9 | 32: 1920x1080 at 24 Hz 16:9, 3D frame packing | then in hex bb
+";
+
+/// Payloads of displays and receivers whose every bit is told: those of a pair of real EDIDs, and some with 3D, latencies and
+/// other formats of sound.
+pub(crate) const TOLD: &str = "\
+cta f1
+video 6160101f0413051403021220212215015d5e5f6566626364
+video 6160101f0413051403021220212215015d5e5f65666263640e230f241e26
+audio 3d06c0150750095707
+audio 0f7f073d1ec01507505f7e03570603677e035f7e01
+speakers 5f0000
+hdmi b83c20008001020304
+hdmi b83cef0b051505a06601020301418107100890
+hdmi 0000a00b05c00641410003100890
+audio 7d04247d04447d045b7d0468710603
+form 000000f7000a0102030405060000000000
+form 000000f80001572821000000000000000000
 ";

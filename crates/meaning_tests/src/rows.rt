@@ -4,6 +4,7 @@ ghost use Rattle.std.specs.Prelude.{◌≤◌, length};
 use crate::{abilities, displays, videos};
 use arrayvec::ArrayVec;
 use hdmi_abilities::{append_audio, append_flags, append_hdmi, append_speakers};
+use hdmi_descriptors::append_descriptor;
 use hdmi_display::{
     append_chroma, append_established, append_ext, append_features, append_gamma, append_input,
     append_made, append_range, append_raw, append_size, append_standard,
@@ -12,6 +13,8 @@ use hdmi_edid::Revision;
 use hdmi_meaning::{Page, append_timing, append_video};
 use std::process::Abort;
 
+/// The video codes of the EDID whose HDMI blocks are read.
+const CODES: &[u8] = &[32, 4, 5, 16];
 /// The features that indicate GTF.
 const GTF: u8 = 1;
 /// An input that is digital.
@@ -64,7 +67,8 @@ fn payload_page(word: &str, bytes: &[u8]) -> Page
         "audio" => append_audio(&mut page, bytes),
         "speakers" => append_speakers(&mut page, bytes),
         "cta" => append_flags(&mut page, bytes),
-        "hdmi" => append_hdmi(&mut page, bytes),
+        "hdmi" => append_hdmi(&mut page, CODES, bytes),
+        "form" => append_descriptor(&mut page, bytes),
         _ => append_video(&mut page, bytes),
     }
     page
@@ -91,6 +95,7 @@ fn display_page(kind: &str, word: &str, bytes: &[u8]) -> Page
         "established" => append_established(&mut page, bytes),
         "range" => append_range(&mut page, revision, features, bytes),
         "raw" => append_raw(&mut page, bytes),
+        "form" => append_descriptor(&mut page, bytes),
         _ => append_ext(&mut page, bytes),
     }
     page
@@ -129,7 +134,7 @@ fn check_payload(rt: &impl Abort, row: &str) {
     check(rt, &payload_page(word, bytes.as_slice()), row, lines);
 }
 
-/// A row of bytes of a base block, after what decides them and their word; `raw` and `ext` have a word alone.
+/// A row of bytes of a base block, after what decides them and their word; `raw`, `form` and `ext` have a word alone.
 fn check_display(rt: &impl Abort, row: &str) {
     let (front, lines) = row.split_once(" = ").expect(rt, "a row");
     let (words, digits) = front.rsplit_once(' ').expect(rt, "digits");
@@ -167,6 +172,29 @@ fn check_timing(rt: &impl Abort, row: &str) {
     check(rt, &page, row, lines);
 }
 
+/// The bits of a byte.
+const WEIGHTS: &[u8] = &[1, 2, 4, 8, 16, 32, 64, 128];
+
+/// The lines of a payload are others once a bit of it is flipped.
+fn check_told(rt: &impl Abort, row: &str) {
+    let (word, digits) = row.split_once(' ').expect(rt, "a word");
+    let bytes = bytes_of(rt, digits);
+    let page = payload_page(word, bytes.as_slice());
+    for place in 0..bytes.len() {
+        for weight in WEIGHTS {
+            let mut other = bytes_of(rt, digits);
+            if let Some(byte) = other.get_mut(place) {
+                *byte ^= *weight;
+            }
+            let flipped = payload_page(word, other.as_slice());
+            assert!(rt;
+                flipped.as_slice() != page.as_slice(),
+                "{row} {place} {weight}"
+            );
+        }
+    }
+}
+
 #[test]
 fn formats_by_code(rt: HostRuntime) {
     for row in videos::FORMATS.lines() {
@@ -185,6 +213,13 @@ fn bytes_of_video(rt: HostRuntime) {
 fn payloads(rt: HostRuntime) {
     for row in abilities::ROWS.lines() {
         check_payload(&rt, row);
+    }
+}
+
+#[test]
+fn each_bit_of_payloads(rt: HostRuntime) {
+    for row in abilities::TOLD.lines() {
+        check_told(&rt, row);
     }
 }
 

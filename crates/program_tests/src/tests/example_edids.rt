@@ -274,8 +274,8 @@ audio 0f7f073d1ec01507505f7e03570603677e035f7e01
   DTS, 6 channels, 44.1 48 88.2 96 kHz, up to 1536 kbit/s
   AC-3, 6 channels, 32 44.1 48 kHz, up to 640 kbit/s
   DTS-HD, 8 channels, 44.1 48 88.2 96 176.4 192 kHz, byte 3 is 03
-  Enhanced AC-3, 8 channels, 44.1 48 kHz, byte 3 is 03
-  MAT, 8 channels, 44.1 48 88.2 96 176.4 192 kHz, byte 3 is 03
+  Enhanced AC-3, 8 channels, 44.1 48 kHz, joint object coding (Dolby Atmos), also with ACMOD 28
+  MAT, 8 channels, 44.1 48 88.2 96 176.4 192 kHz, objects and channels (Dolby Atmos), no hash needed
   DTS-HD, 8 channels, 44.1 48 88.2 96 176.4 192 kHz, byte 3 is 01
 speakers 5f0000
   FL FR, LFE, FC, BL BR, BC, RLC RRC
@@ -288,7 +288,10 @@ hdmi 2.5.0.0 b83c20008001020304
 vendor d85dc401788003
   HDMI Forum version 1, TMDS up to 600 MHz, SCDC, 4:2:0 at 36 bits a pixel, 4:2:0 at 30 bits a pixel
 extended 0f030018
-  also in 4:2:0 the video codes at places 1 2 20 21
+  97: 3840x2160 at 60 Hz 16:9, also in 4:2:0
+  96: 3840x2160 at 50 Hz 16:9, also in 4:2:0
+  101: 4096x2160 at 50 Hz 256:135, also in 4:2:0
+  102: 4096x2160 at 60 Hz 256:135, also in 4:2:0
 extended 060d01
   traditional gamma SDR, SMPTE ST 2084, hybrid log-gamma, static metadata type 1
 extended 0146d00024180900ad5244a9230c
@@ -391,7 +394,10 @@ extended 05c000
 extended 060d01
   traditional gamma SDR, SMPTE ST 2084, hybrid log-gamma, static metadata type 1
 extended 0f030018
-  also in 4:2:0 the video codes at places 1 2 20 21
+  97: 3840x2160 at 60 Hz 16:9, also in 4:2:0
+  96: 3840x2160 at 50 Hz 16:9, also in 4:2:0
+  101: 4096x2160 at 50 Hz 256:135, also in 4:2:0
+  102: 4096x2160 at 60 Hz 256:135, also in 4:2:0
 extended 0146d00024180900ad5244a9230c
   Dolby Vision version 1, display management 3.x, up to 700 cd/m2, down to (4/127)^2 cd/m2, near P3-D65
   red 0.6758 0.3203, green 0.2656 0.6602, blue 0.1367 0.0469

@@ -1,9 +1,16 @@
-use Rattle.hdmi_meaning.proofs.Joins.{joined}
-use Rattle.hdmi_abilities.specs.Hdmi.{flag_part, code_part, stereo_part}
+use Rattle.std.proofs.Common.{arith}
+use Rattle.hdmi_abilities.proofs.Joins.{joined}
+use Rattle.hdmi_abilities.specs.Hdmi.{flag_part, code_part, stereo_part, spare_part, video_meanings}
 use Rattle.hdmi_abilities.proofs.hdmi.append_videos.Goals as goal
 
+pub append_spare_part-requires-clause-room : goal.append_spare_part-requires-clause-room
+append_spare_part-requires-clause-room c = omega (arith, c.requires.room, c.append_flag_part.ensures.len, c.append_code_part.ensures.len, c.append_stereo_part.ensures.len)
+
 pub returns : goal.returns
+unfolding video_meanings
 returns c =
     let p = c.args.bytes.now in
+    let svds = c.args.codes.now in
     joined _ _ _ (flag_part p) _ c.append_flag_part.ensures.items
-    (joined _ _ _ (code_part p) (stereo_part p) c.append_code_part.ensures.items c.append_stereo_part.ensures)
+    (joined _ _ _ (code_part p) _ c.append_code_part.ensures.items
+    (joined _ _ _ (stereo_part svds p) (spare_part p) c.append_stereo_part.ensures.items c.append_spare_part.ensures))

@@ -5,7 +5,7 @@ use Rattle.hdmi_dump.proofs.dump.gather.Given as goal
 
 abbrev pub invariant-lines : goal.invariant-lines
 invariant-lines l = record {
-  so_far : bytes_of_rows l.form l.first false [] (lines_of l.text) ≡ bytes_of_rows l.form l.number l.skips l.bytes.items (lines_of l.rest);
+  so_far : bytes_of_rows l.fn.form l.first false [] (lines_of l.text) ≡ bytes_of_rows l.row_form l.number l.skips l.bytes.items (lines_of l.rest);
   room : l.number + length l.rest ≤ l.first + length l.text;
 }
 

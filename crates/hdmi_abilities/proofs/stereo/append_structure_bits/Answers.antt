@@ -1,4 +1,4 @@
-use Rattle.hdmi_abilities.proofs.hdmi.append_structure_bits.Goals as goal
+use Rattle.hdmi_abilities.proofs.stereo.append_structure_bits.Goals as goal
 
 pub returns-clause-items : goal.returns-clause-items
 returns-clause-items c = c.append_bits.ensures.items

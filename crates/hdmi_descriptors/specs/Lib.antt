@@ -1,0 +1,3 @@
+pub mod Established
+pub mod Cvt
+pub mod Descriptors

@@ -1,0 +1,2 @@
+pub mod Timings
+pub mod Sections
