@@ -11,7 +11,7 @@ use arrayvec::ArrayVec;
 use cec_asm::{TopologyError, parse_topology};
 use cec_incoming::{LineFault, Lines};
 use cec_session::Live;
-use hdmi_blocks::root_of;
+use hdmi_blocks::{RootError, root_on_heap};
 use std::alloc::{AllocError, Global};
 use std::io::Read;
 
@@ -90,11 +90,12 @@ pub(crate) fn begin(alloc: Global, text: &[u8]) -> Result<Live, SessionError>
         }
         Err(TopologyError::Memory) => return Err(SessionError::Memory),
     };
-    match root_of(&topology.edid) {
+    match root_on_heap(alloc, &topology.edid) {
         Ok(edid) => match Live::new(alloc, topology.tree, edid) {
             Ok(live) => Ok(live),
             Err(_) => Err(SessionError::Memory),
         },
-        Err(cause) => Err(SessionError::Edid(cause)),
+        Err(RootError::Cause(cause)) => Err(SessionError::Edid(cause)),
+        Err(RootError::Memory) => Err(SessionError::Memory),
     }
 }

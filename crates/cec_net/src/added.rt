@@ -1,11 +1,11 @@
 //! Pulses that a network is told of while it runs.
-ghost use Rattle.std.specs.Prelude.{◌≡◌, ◌++◌, ◌∷◌, [], length, Some, None, MatchResult};
+ghost use Rattle.std.specs.Prelude.{◌≡◌, ◌-◌, ◌++◌, ◌∷◌, [], length, option_map, slice_get, Some, None, MatchResult};
 ghost use Rattle.cec_wave.specs.Pulses.{pulses_fault};
 ghost use Rattle.cec_net.specs.Added.{pulse_fault, with_pulse};
 
 use crate::net::Net;
 use arrayvec::ArrayVec;
-use cec_wave::{LATEST_INSTANT, Pulses, PulsesError, Stretch};
+use cec_wave::{LATEST_INSTANT, MOST_PULSES, Pulses, PulsesError, Stretch, stretch_fault};
 
 /// Room for the most pulses and one more.
 const ROOM: usize = 4097;
@@ -23,17 +23,38 @@ pub enum PulseError {
     NotSparse(PulsesError),
 }
 
-// These pulses and one more after them, or what is wrong with them then.
-fn more_pulses(pulses: &Pulses, pulse: Stretch) -> Result<Pulses, PulsesError>
-    ensures { MatchResult result
-        (λ more. (more ≡ pulses.now ++ pulse ∷ []) × (pulses_fault (pulses.now ++ pulse ∷ []) ≡ None))
-        (λ fault. pulses_fault (pulses.now ++ pulse ∷ []) ≡ Some fault) }
+// The end of the last of these.
+fn last_end(pulses: &[Stretch]) -> Option<u64>
+    ensures { result ≡ option_map (λ p. p.to) (slice_get pulses.now (length pulses.now - 1)) }
 {
-    let Ok(mut all) = ArrayVec::<Stretch, ROOM>::try_from(pulses.as_slice()) else {
-        unreachable!()
-    };
+    match pulses.last() {
+        None => None,
+        Some(pulse) => Some(pulse.to),
+    }
+}
+
+// What is wrong with these pulses and one more after them, if anything is.
+#[tactic(auto, using(crate::proofs::Told::too_many, crate::proofs::Told::fault_after))]
+fn fault_with(pulses: &Pulses, pulse: Stretch) -> Option<PulsesError>
+    ensures { result ≡ pulses_fault (pulses.now ++ pulse ∷ []) }
+{
+    let known = pulses.as_slice();
+    if known.len() >= MOST_PULSES {
+        return Some(PulsesError::TooMany);
+    }
+    stretch_fault(last_end(known), pulse)
+}
+
+// One more after these pulses, which are large, and are changed where they stand. Room for a second list is made here alone.
+#[inline(never)]
+fn add(pulses: &mut Pulses, pulse: Stretch)
+    requires { pulses_fault (pulses.old ++ pulse ∷ []) ≡ None }
+    ensures { pulses.new ≡ pulses.old ++ pulse ∷ [] }
+{
+    let mut all = ArrayVec::<Stretch, ROOM>::new();
+    let _ = all.try_extend_from_slice(pulses.as_slice());
     all.push(pulse);
-    Pulses::new(&all)
+    pulses.become_those(&all);
 }
 
 impl<W> Net<W> {
@@ -63,10 +84,10 @@ impl<W> Net<W> {
         if pulse.from > LATEST_INSTANT {
             return Err(PulseError::Late);
         }
-        match more_pulses(&self.pulses, pulse) {
-            Err(fault) => Err(PulseError::NotSparse(fault)),
-            Ok(pulses) => {
-                self.pulses = pulses;
+        match fault_with(&self.pulses, pulse) {
+            Some(fault) => Err(PulseError::NotSparse(fault)),
+            None => {
+                add(&mut self.pulses, pulse);
                 Ok(())
             }
         }

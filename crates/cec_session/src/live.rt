@@ -1,5 +1,5 @@
 //! A run whose script comes line by line.
-ghost use Rattle.std.specs.Prelude.{◌≡◌, Option};
+ghost use Rattle.std.specs.Prelude.{◌≡◌, IfOk, Option, option_map};
 ghost use Rattle.cec_wave.specs.Bounds.{latest_event};
 ghost use Rattle.cec_session.specs.Session.{step_show};
 
@@ -51,7 +51,8 @@ pub enum LiveError {
 /// lines so far has, whatever lines come. Times are in microseconds.
 #[derive(Drop)]
 pub struct Live {
-    edid: Option<Edid>,
+    /// The television's EDID, which is large, on the heap.
+    edid: Box<Option<Edid>>,
     /// The devices by their names.
     tree: Tree<15>,
     net: Foreseen,
@@ -78,7 +79,7 @@ impl Model for Live {
     ghost Value = { Session };
 
     ghost view = { λ l. record {
-      edid = l.edid;
+      edid = l.edid.value;
       tree = l.tree;
       notes = notes_of l.draft;
       horizon = l.horizon;
@@ -89,7 +90,7 @@ impl Model for Live {
     } };
 
     ghost invariant = { λ l. IsReady (record {
-      edid = l.edid;
+      edid = l.edid.value;
       tree = l.tree;
       notes = notes_of l.draft;
       horizon = l.horizon;
@@ -110,8 +111,20 @@ fn shown(device: Option<usize>) -> Step
     }
 }
 
+// The EDID of a session in its place on the heap: it is large.
+#[inline(never)]
+fn edid_on_heap(alloc: Global, edid: Option<Box<Edid>>) -> Result<Box<Option<Edid>>, AllocError>
+    ensures { IfOk result (λ place. place.value ≡ option_map (λ b. b.value) edid) }
+{
+    let place = match edid {
+        None => Box::new(alloc, None)?,
+        Some(edid) => Box::new(alloc, Some(Box::into_inner(edid)))?,
+    };
+    Ok(place)
+}
+
 impl Live {
-    ghost use Rattle.std.specs.Prelude.{ℕ, ◌<◌, ◌≤◌, ◌++◌, true, IfSome, MatchOption, Result, is_some, length, None, IfOk};
+    ghost use Rattle.std.specs.Prelude.{ℕ, ◌<◌, ◌≤◌, ◌++◌, true, IfSome, MatchOption, Result, is_some, length, None};
     ghost use Rattle.cec_asm.specs.Script.{IsLineRead, Notes};
     ghost use Rattle.cec_asm.specs.declared.fault.LineFault.{LineFault as LineFaultValue};
     ghost use Rattle.hdmi_blocks.specs.Root.{HasAddress};
@@ -128,11 +141,12 @@ impl Live {
     /// # Errors
     ///
     /// Want of memory.
-    pub fn new(alloc: Global, tree: Tree<15>, edid: Option<Edid>) -> Result<Live, AllocError>
+    pub fn new(alloc: Global, tree: Tree<15>, edid: Option<Box<Edid>>) -> Result<Live, AllocError>
         requires some { 0 < length tree }
-        requires addressed { HasAddress edid }
-        ensures { IfOk result (λ live. live ≡ first_session edid tree) }
+        requires addressed { HasAddress (option_map (λ b. b.value) edid) }
+        ensures { IfOk result (λ live. live ≡ first_session (option_map (λ b. b.value) edid) tree) }
     {
+        let edid = edid_on_heap(alloc, edid)?;
         let net = Foreseen::new(alloc, tree.copy())?;
         Ok(Live {
             edid,

@@ -5,6 +5,8 @@ use Rattle.hdmi_blocks.specs.Address.{edid_address}
 use Rattle.hdmi_blocks.specs.Bytes.{edid_bytes, IsRefused}
 use Rattle.hdmi_blocks.specs.Passing.{passed_on_bytes}
 use Rattle.hdmi_blocks.specs.declared.edid.Edid.{Edid as EdidValue}
+use Rattle.hdmi_cta.specs.declared.raw.Ext.{Ext}
+use Rattle.hdmi_edid.specs.declared.base.Base.{Base}
 use Rattle.hdmi_topo.specs.Path.{nibbles}
 use Rattle.hdmi_convert.specs.declared.passing.Destination.{Destination}
 use Rattle.hdmi_convert.specs.declared.passing.Destination.TheVariants.{Address, Port}
@@ -42,6 +44,10 @@ pub record IsPassedOnAs (passing : Passing) (e passed : EdidValue) (own : Phys) 
 
 abbrev pub IsPassedOn : List ℕ → Passing → EdidValue → Type 0
 IsPassedOn bytes passing passed = (e : EdidValue) × (edid_bytes e ≡ bytes) × (own : Phys) × IsPassedOnAs passing e passed own
+
+-- of its parts
+abbrev pub IsPassedOnIn : List ℕ → Passing → Base → List Ext → Type 0
+IsPassedOnIn bytes passing base extensions = (p : EdidValue) × (p.base ≡ base) × (p.extensions.items ≡ extensions) × IsPassedOn bytes passing p
 
 -- why none is: there is no such port, else the bytes spell none, else it has no HDMI block
 abbrev pub IsNotPassedOn : List ℕ → Passing → PassOnError → Type 0

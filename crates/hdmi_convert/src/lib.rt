@@ -5,6 +5,7 @@
 mod edid_findings;
 mod edid_text;
 mod form;
+mod in_place;
 mod laws;
 mod passed_on;
 mod passing;

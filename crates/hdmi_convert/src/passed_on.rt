@@ -1,13 +1,27 @@
 //! The EDID that a device is given, what is wrong with it, and the address in an EDID.
-ghost use Rattle.std.specs.Prelude.{◌≡◌, ◌↔◌, false, IsTrue};
+ghost use Rattle.std.specs.Prelude.{◌≡◌, ◌≤◌, ◌↔◌, false, IsTrue, length};
 ghost use Rattle.hdmi_core.specs.Written.{WrittenLine};
 ghost use Rattle.hdmi_convert.specs.PassedOn.{AddressAnswers, PassedAnswers, PassedFindingAnswers, address_line, is_cut, is_check_cut};
 
 use crate::form::{Form, write_edid};
+use crate::in_place::first_address;
 use crate::passing::{PassOnError, Passing, pass_on};
-use hdmi_blocks::edid_from_bytes;
+use arrayvec::ArrayVec;
+use hdmi_blocks::{Edid, read_parts};
 use hdmi_check::{Origin, check, has_failure, write_findings};
 use hdmi_core::{Phys, Piece, Sink, WriteFault, write_line};
+use hdmi_cta::Ext;
+use hdmi_edid::Base;
+
+// The EDID of these parts.
+fn edid_of(base: Base, extensions: ArrayVec<Ext, 3>) -> Edid
+    requires counted { base.extensions ≡ length extensions.items }
+    requires few { length extensions.items ≤ 3 }
+    ensures base { result.base ≡ base }
+    ensures extensions { result.extensions.items ≡ extensions.items }
+{
+    Edid { base, extensions }
+}
 
 /// Writes the EDID that is passed on of the one that some bytes spell, to a device at a place: its address stands in the
 /// first HDMI block, the audio is the amplifier's where it is asked for, and the checksum is mended; all other bytes stay
@@ -28,9 +42,10 @@ pub fn write_passed_on<S: Sink>(
     ensures answers { PassedAnswers (S.contents out.old) (S.contents out.new) (S.is_stuck out.old) (S.is_stuck out.new) bytes.now passing form result }
     ensures write { S.is_stuck out.old ≡ false → (IsTrue (is_cut result) ↔ IsTrue (S.is_stuck out.new)) }
 {
-    match &pass_on(bytes, passing) {
-        Err(error) => Err(*error),
-        Ok(edid) => match write_edid(edid, form, out) {
+    let mut extensions = ArrayVec::new();
+    match pass_on(bytes, passing, &mut extensions) {
+        Err(error) => Err(error),
+        Ok(base) => match write_edid(&edid_of(base, extensions), form, out) {
             Ok(()) => Ok(()),
             Err(fault) => Err(PassOnError::Write(fault.count)),
         },
@@ -53,10 +68,11 @@ pub fn check_passed_on<S: Sink>(
     ensures answers { PassedFindingAnswers (S.contents out.old) (S.contents out.new) (S.is_stuck out.old) (S.is_stuck out.new) bytes.now passing result }
     ensures write { S.is_stuck out.old ≡ false → (IsTrue (is_check_cut result) ↔ IsTrue (S.is_stuck out.new)) }
 {
-    match &pass_on(bytes, passing) {
+    let mut extensions = ArrayVec::new();
+    match &pass_on(bytes, passing, &mut extensions) {
         Err(error) => Err(*error),
-        Ok(edid) => {
-            let found = check(Origin::Port, &edid.base, edid.extensions.as_slice());
+        Ok(base) => {
+            let found = check(Origin::Port, base, extensions.as_slice());
             match write_findings(out, found.as_slice()) {
                 Ok(()) => Ok(has_failure(found.as_slice())),
                 Err(fault) => Err(PassOnError::Write(fault.count)),
@@ -83,9 +99,10 @@ pub fn write_address<S: Sink>(bytes: &[u8], out: &mut S) -> Result<(), PassOnErr
     ensures answers { AddressAnswers (S.contents out.old) (S.contents out.new) (S.is_stuck out.old) (S.is_stuck out.new) bytes.now result }
     ensures write { S.is_stuck out.old ≡ false → (IsTrue (is_cut result) ↔ IsTrue (S.is_stuck out.new)) }
 {
-    match &edid_from_bytes(bytes) {
+    let mut extensions = ArrayVec::new();
+    match &read_parts(bytes, &mut extensions) {
         Err(cause) => Err(PassOnError::Edid(*cause)),
-        Ok(edid) => match edid.address() {
+        Ok(_base) => match first_address(extensions.as_slice()) {
             None => Err(PassOnError::NoHdmiBlock),
             Some(address) => match write_address_line(address, out) {
                 Ok(_) => Ok(()),

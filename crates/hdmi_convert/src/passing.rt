@@ -1,10 +1,14 @@
 //! The EDID that is passed on to a device: with another address, and with an amplifier's audio.
-ghost use Rattle.std.specs.Prelude.{◌≡◌, ◌<◌, ◌≤◌, IfOk, IfErr, IsTrue};
+ghost use Rattle.std.specs.Prelude.{◌≡◌, ◌<◌, ◌≤◌, [], IfOk, IfErr, IsTrue};
 ghost use Rattle.hdmi_topo.specs.Path.{nibbles};
-ghost use Rattle.hdmi_convert.specs.Passing.{address_in, is_place, place_address, IsPassedOn, IsNotPassedOn};
+ghost use Rattle.hdmi_convert.specs.Passing.{address_in, is_place, place_address, IsPassedOnIn, IsNotPassedOn};
 
-use hdmi_blocks::{AudioFrom, Edid, EdidError, edid_from_bytes};
+use crate::in_place::{first_address, pass_on_extensions};
+use arrayvec::ArrayVec;
+use hdmi_blocks::{AudioFrom, EdidError, read_parts};
 use hdmi_core::Phys;
+use hdmi_cta::Ext;
+use hdmi_edid::Base;
 use thiserror::Error;
 
 /// The greatest number of a port.
@@ -95,25 +99,30 @@ fn place_address(place: Destination, own: Phys) -> Phys
     }
 }
 
-/// The EDID that is passed on of the one that some bytes spell.
-// EDIDs are large: the frames of callers are kept free of the one that is read.
+/// The EDID that is passed on of the one that some bytes spell: its base block. Its extensions are put into an empty list
+/// of the caller's, since an EDID is large.
 #[inline(never)]
-pub(crate) fn pass_on(bytes: &[u8], passing: Passing) -> Result<Edid, PassOnError>
-    ensures passed { IfOk result (λ p. IsPassedOn bytes.now passing p) }
+pub(crate) fn pass_on(
+    bytes: &[u8],
+    passing: Passing,
+    extensions: &mut ArrayVec<Ext, 3>,
+) -> Result<Base, PassOnError>
+    requires fresh { extensions.old.items ≡ [] }
+    ensures passed { IfOk result (λ base. IsPassedOnIn bytes.now passing base extensions.new.items) }
     ensures refused { IfErr result (λ e. IsNotPassedOn bytes.now passing e) }
 {
     if !is_place(passing.place) {
         return Err(PassOnError::PortRange);
     }
-    let edid = match edid_from_bytes(bytes) {
+    let base = match read_parts(bytes, extensions) {
         Err(cause) => return Err(PassOnError::Edid(cause)),
-        Ok(edid) => edid,
+        Ok(base) => base,
     };
-    let Some(own) = edid.address() else {
+    let Some(own) = first_address(extensions.as_slice()) else {
         return Err(PassOnError::NoHdmiBlock);
     };
-    match edid.passed_on(passing.audio, place_address(passing.place, own)) {
+    match pass_on_extensions(extensions, passing.audio, place_address(passing.place, own)) {
         Err(_) => Err(PassOnError::NoHdmiBlock),
-        Ok(passed) => Ok(passed),
+        Ok(()) => Ok(base),
     }
 }

@@ -1,13 +1,15 @@
 //! What is done with an EDID.
-ghost use Rattle.std.specs.Prelude.{◌≡◌, OnOk, IfOk, false};
+ghost use Rattle.std.specs.Prelude.{◌≡◌, OnOk, false};
 ghost use Rattle.hdmi_blocks.specs.Bytes.{edid_bytes};
+ghost use Rattle.hdmi_blocks.specs.declared.edid.Edid.{Edid as EdidValue};
 ghost use Rattle.hdminet_program.specs.Edids.{Made, Shows, ShowsPassed, ShowsRules, at, form_of, in_port};
 ghost use Rattle.hdmi_core.specs.Written.{WrittenAll};
 ghost use Rattle.hdmi_convert.specs.Form.{hex_line};
 
 use crate::fault::ProgramFault;
+use arrayvec::ArrayVec;
 use hdmi_annotate::edid_to_meaning;
-use hdmi_blocks::{AudioFrom, Edid, edid_from_bytes, edid_to_bytes};
+use hdmi_blocks::{AudioFrom, Edid, edid_to_bytes, read_parts};
 use hdmi_check::Origin;
 use hdmi_convert::{
     Destination as PassedTo, EdidToTextError, Form, Passing, TextToHexError, check_passed_on,
@@ -55,13 +57,14 @@ fn in_port(port: u8, amplified: bool) -> Passing
     }
 }
 
-// The EDID of some bytes.
+// That some bytes spell an EDID. It is read in parts, since an EDID is large.
 #[inline(never)]
-fn edid_of(bytes: &[u8]) -> Result<Edid, ProgramFault>
-    ensures { IfOk result (λ e. edid_bytes e ≡ bytes.now) }
+fn is_edid(bytes: &[u8]) -> Result<(), ProgramFault>
+    ensures { OnOk result ((e : EdidValue) × (edid_bytes e ≡ bytes.now)) }
 {
-    match edid_from_bytes(bytes) {
-        Ok(edid) => Ok(edid),
+    let mut extensions = ArrayVec::new();
+    match read_parts(bytes, &mut extensions) {
+        Ok(_base) => Ok(()),
         Err(cause) => Err(ProgramFault::EdidToText(EdidToTextError::Edid(cause))),
     }
 }
@@ -85,14 +88,14 @@ fn write_as_text<W: Sink>(bytes: &[u8], out: &mut W) -> Result<(), ProgramFault>
 fn write_as_hex<W: Sink>(bytes: &[u8], out: &mut W) -> Result<(), ProgramFault>
     ensures { OnOk result (Shows (View.Whole Recipient.Own Shape.Hex) bytes.now (W.contents out.old) (W.contents out.new)) }
 {
-    let _edid = edid_of(bytes)?;
+    is_edid(bytes)?;
     Ok(write_hex_line(bytes, out)?)
 }
 
 fn write_as_bytes<W: Sink>(bytes: &[u8], out: &mut W) -> Result<(), ProgramFault>
     ensures { OnOk result (Shows (View.Whole Recipient.Own Shape.Bytes) bytes.now (W.contents out.old) (W.contents out.new)) }
 {
-    let _edid = edid_of(bytes)?;
+    is_edid(bytes)?;
     Ok(put_all(out, bytes)?)
 }
 

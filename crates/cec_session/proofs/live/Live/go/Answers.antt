@@ -23,7 +23,7 @@ pub returns : goal.returns
 returns g c =
     let here = c.self.inside in
     let s : Session = record {
-      edid = here.edid;
+      edid = here.edid.value;
       tree = here.tree;
       notes = notes_of here.draft;
       horizon = here.horizon;
@@ -42,5 +42,5 @@ returns g c =
     subst (λ (s : Session). IsGone c.args.edges c.args.ended s t (g.S.Sink.contents c.args.out.now) (g.S.Sink.contents c.go_on-gone.new.out) (g.S.Sink.is_stuck c.args.out.now) (g.S.Sink.is_stuck c.go_on-gone.new.out) c.go_on-gone.result) from
     (gone_by c.args.edges c.args.ended c.span-span.result s t place (g.S.Sink.contents c.args.out.now) (g.S.Sink.contents c.go_on-gone.new.out) (g.S.Sink.is_stuck c.args.out.now) (g.S.Sink.is_stuck c.go_on-gone.new.out) c.go_on-gone.result
     (c.span-span.ensures ∙ ap (span_of c.args.edges c.args.ended) (sym from)) stands
-    c.go_on-gone.ensures.ok c.go_on-gone.ensures.same c.go_on-gone.ensures.cut c.go_on-gone.ensures.stuck
-    (has_text here.edid c.args.ended (span_of c.args.edges c.args.ended s) here.horizon s.place c.pulses_are_ahead.ensures))
+    (rw c.deref.ensures at c.go_on-gone.ensures.ok) c.go_on-gone.ensures.same (rw c.deref.ensures at c.go_on-gone.ensures.cut) c.go_on-gone.ensures.stuck
+    (has_text here.edid.value c.args.ended (span_of c.args.edges c.args.ended s) here.horizon s.place c.pulses_are_ahead.ensures))
