@@ -1,16 +1,15 @@
-use Rattle.std.proofs.Common.{ℕ, ◌≡◌, ◌≤◌, ◌+◌, ◌-◌, length}
+use Rattle.std.proofs.Common.{ℕ, ◌≤◌, ◌+◌, ◌-◌, length}
 use Rattle.cec_wave.specs.Bounds.{latest_instant}
 use Rattle.cec_asm.specs.Script.{IsSchedule}
 use Rattle.cec_run.specs.Run.{start}
 use Rattle.cec_run.proofs.Running.{Reached}
-use Rattle.cec_run.proofs.run.run_turns.Given as goal
+use Rattle.cec_run.proofs.turn_by_turn.run_turns.Given as goal
 
--- what was written is told by the turns so far; the rest keeps the counts and times small
+-- what happened so far was heard; the rest keeps the counts and times small
 abbrev pub invariant-turns : goal.invariant-turns
 invariant-turns g l = record {
-  reached : Reached l.reporting l.end (start l.fn.net l.events) (record { net = l.net; events = l.rest; totals = l.totals })
-      (g.S.Sink.contents l.fn.out) (g.S.Sink.contents l.out) (g.S.Sink.is_stuck l.fn.out) (g.S.Sink.is_stuck l.out) l.fn.written l.written;
-  flag : g.S.Sink.is_stuck l.out ≡ g.S.Sink.is_stuck l.fn.out;
+  reached : Reached g.R.Reporter.hears l.end (start l.fn.net l.events) (record { net = l.net; events = l.rest; totals = l.totals }) l.fn.reporter l.reporter;
+  kept : g.R.Reporter.keeps l.reporter l.net;
   schedule : (from : ℕ) × IsSchedule (length l.net.tree) l.end from l.rest;
   closed : l.net.close ≤ latest_instant;
   rested : l.net.rest ≤ latest_instant;
