@@ -4,13 +4,13 @@ ghost use Rattle.std.specs.Io.KnownBytes.{Appends};
 ghost use Rattle.cec_run.specs.Emulate.{IsReported, is_write};
 ghost use Rattle.cec_driven.specs.Emulate.{IsDrivesCut, IsDrivesOf};
 
+use crate::round::first_kept;
 use crate::run::run;
 use cec_asm::{parse_script, parse_topology};
-use cec_edges::EdgeWire;
 use cec_net::Net;
 use cec_run::Totals;
 use cec_run::emulate::EmulateError;
-use hdmi_blocks::root_of;
+use hdmi_blocks::root_on_heap;
 use hdmi_core::Sink;
 use std::alloc::Global;
 
@@ -38,16 +38,15 @@ pub fn emulate_drives<S: Sink>(
 {
     let topology = parse_topology(alloc, topology)?;
     let script = parse_script(alloc, &topology, script)?;
-    let _edid = root_of(&topology.edid)?;
+    let _edid = root_on_heap(alloc, &topology.edid)?;
     let _count = topology.tree.count();
-    // The network is lent as it is made, as for the trace.
-    match run(
-        out,
-        &mut Net::new(topology.tree, EdgeWire::new(), script.to_pulses()),
-        script.to_pulses(),
-        &script.events,
-        script.end,
-    ) {
+    let Ok(mut kept) = first_kept(alloc, &script.pulses) else {
+        return Err(EmulateError::Memory);
+    };
+    let Ok(mut net) = Net::on_heap(alloc, topology.tree, &script.pulses) else {
+        return Err(EmulateError::Memory);
+    };
+    match run(out, &mut net, &mut kept, &script.events, script.end) {
         Ok(totals) => Ok(totals),
         Err(fault) => Err(EmulateError::Write(fault.count)),
     }

@@ -1,5 +1,6 @@
 //! One round, and who drives its line.
-ghost use Rattle.std.specs.Prelude.{◌≡◌, ◌+◌, ◌<◌, ◌≤◌, length, Some};
+ghost use Rattle.std.specs.Prelude.{◌≡◌, ◌+◌, ◌<◌, ◌≤◌, [], IfOk, None, length, Some};
+ghost use Rattle.cec_wave.specs.Pulses.{pulses_fault};
 ghost use Rattle.cec_wave.specs.Bounds.{latest_heard, latest_instant, most_stretches};
 ghost use Rattle.cec_tally.specs.Adds.{Adds};
 ghost use Rattle.cec_wire.specs.Bounds.{begun_within};
@@ -15,6 +16,7 @@ use cec_wave::{Pulses, Stretch};
 use cec_wire::{Outcome, Seat, Wire};
 use cec_wires::write_wires;
 use hdmi_core::{Sink, WriteFault};
+use std::alloc::{AllocError, Global};
 
 // Writes the line and the drives of a round that began at `begin` and gave this outcome.
 fn write_round<S: Sink>(
@@ -33,12 +35,12 @@ fn write_round<S: Sink>(
     ensures { Adds (S.contents out.old) (S.contents out.new) (S.is_stuck out.old) (S.is_stuck out.new) written.old written.new
         (round_drives seats.now begin pulses.now outcome.now) result }
 {
-    let drives = drives_of(seats, begin, pulses, outcome);
+    // The drives are large, and stand in no second place.
     write_wires(
         out,
         written,
         outcome.wave.as_slice(),
-        &drives,
+        &drives_of(seats, begin, pulses, outcome),
         begin,
         outcome.rest + 1,
     )
@@ -49,6 +51,31 @@ fn write_round<S: Sink>(
 pub struct Kept {
     pub pulses: Pulses,
     pub rest: u64,
+}
+
+// Room for what a run keeps.
+#[inline(never)]
+fn room(alloc: Global) -> Result<Box<Kept>, AllocError>
+    ensures { IfOk result (λ kept. (kept.value.pulses ≡ []) × (kept.value.rest ≡ 0)) }
+{
+    let kept = Box::new(
+        alloc,
+        Kept {
+            pulses: Pulses::none(),
+            rest: 0,
+        },
+    )?;
+    Ok(kept)
+}
+
+/// What a run with these pulses keeps before its first round, on the heap: pulses are large.
+pub fn first_kept(alloc: Global, pulses: &[Stretch]) -> Result<Box<Kept>, AllocError>
+    requires { pulses_fault pulses.now ≡ None }
+    ensures { IfOk result (λ kept. (kept.value.pulses ≡ pulses.now) × (kept.value.rest ≡ 0)) }
+{
+    let mut kept = room(alloc)?;
+    kept.pulses.become_those(pulses);
+    Ok(kept)
 }
 
 /// Runs the next round, which begins at `begin`, and writes its line and who drives it.

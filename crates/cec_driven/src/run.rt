@@ -17,7 +17,6 @@ use cec_asm::TimedEvent;
 use cec_net::Net;
 use cec_run::{Totals, Turn, first_time, next_turn};
 use cec_vcd::write_last;
-use cec_wave::Pulses;
 use cec_wire::Wire;
 use hdmi_core::{Sink, WriteFault};
 
@@ -74,8 +73,8 @@ fn run_turns<S: Sink, W: Wire>(
 }
 
 /// Runs a network from its start to `end`, at most 1,000,000,000,000 microseconds, and writes the dump of its line and of who
-/// drives it. The pulses are those that the network was made with. The events stand in the order of their times, all
-/// before `end`, and name devices of the tree.
+/// drives it. What is kept beside the network is what it begins with: its pulses, and that the line is high. The events stand
+/// in the order of their times, all before `end`, and name devices of the tree.
 ///
 /// # Errors
 ///
@@ -83,14 +82,15 @@ fn run_turns<S: Sink, W: Wire>(
 pub fn run<S: Sink, W: Wire>(
     out: &mut S,
     net: &mut Net<W>,
-    pulses: Pulses,
+    kept: &mut Kept,
     events: &[TimedEvent],
     end: u64,
 ) -> Result<Totals, WriteFault>
     requires early { end ≤ latest_event }
     requires fresh { (net.old.close ≡ 0) × (net.old.rest ≡ 0) }
     requires few { length net.old.devices ≤ 15 }
-    requires pulses { pulses ≡ net.old.pulses }
+    requires pulses { kept.old.pulses ≡ net.old.pulses }
+    requires rest { kept.old.rest ≡ 0 }
     requires schedule { IsSchedule (length net.old.tree) end 0 events.now }
     ensures ok { IfOk result (λ totals. (text : List ℕ) × IsDriven end (start net.old events.now) text totals × Appends (S.contents out.old) (S.contents out.new) text) }
     ensures same { OnOk result (S.is_stuck out.new ≡ S.is_stuck out.old) }
@@ -98,8 +98,7 @@ pub fn run<S: Sink, W: Wire>(
         → CutOff (S.contents out.old) (S.contents out.new) text fault) }
     ensures stuck { OnErr result (S.is_stuck out.new ≡ true) }
 {
-    let mut kept = Kept { pulses, rest: 0 };
     let mut written = 0;
     write_head(out, &mut written, net.devices())?;
-    run_turns(out, &mut written, net, &mut kept, events, end)
+    run_turns(out, &mut written, net, kept, events, end)
 }

@@ -1,4 +1,4 @@
-use Rattle.std.proofs.Common.{rules, ◌≡◌, Ok, arith, refl}
+use Rattle.std.proofs.Common.{rules, ◌≡◌, Ok, arith, option_map}
 use Rattle.cec_asm.specs.Topology.{topology_of, plan_of}
 use Rattle.cec_asm.specs.Script.{IsScriptRead, course_of}
 use Rattle.cec_run.proofs.Accepted.{early, has_device}
@@ -6,32 +6,29 @@ use Rattle.cec_driven.proofs.Counts.{count_started}
 use Rattle.cec_driven.proofs.HasDrives.{runs_have_drives}
 use Rattle.cec_driven.proofs.emulate.emulate_drives.Goals as goal
 
-pub new-requires-2-clause-some : goal.new-requires-2-clause-some
-new-requires-2-clause-some g c =
+pub on_heap-requires-clause-some : goal.on_heap-requires-clause-some
+on_heap-requires-clause-some g c =
     let plan : topology_of c.args.topology.now ≡ Ok (plan_of c.in_ok-topology.topology) = search rules in
     has_device c.args.topology.now (plan_of c.in_ok-topology.topology) plan
 
-pub new-requires-2-clause-early : goal.new-requires-2-clause-early
-new-requires-2-clause-early g c = rw c.to_pulses.ensures (early c.in_ok-script.script.pulses.items c.in_ok-script.ensures.script.early)
+pub on_heap-requires-clause-early : goal.on_heap-requires-clause-early
+on_heap-requires-clause-early g c = rw c.deref-2.ensures.value (early c.in_ok-script.script.pulses.items c.in_ok-script.ensures.script.early)
 
 pub run-requires-clause-few : goal.run-requires-clause-few
-run-requires-clause-few g c = rw c.new-2.ensures (omega (arith, count_started c.in_ok-topology.topology.tree c.to_pulses.result, c.count-count.ensures.value, c.count-count.ensures.fits))
-
-pub run-requires-clause-pulses : goal.run-requires-clause-pulses
-run-requires-clause-pulses g c = rw (c.new-2.ensures, c.to_pulses.ensures, c.to_pulses-2.ensures) refl
+run-requires-clause-few g c = rw (c.deref_mut.ensures.value, c.in-Ok-on_heap.ensures) (omega (arith, count_started c.in_ok-topology.topology.tree c.in_ok-script.script.pulses.items, c.count-count.ensures.value, c.count-count.ensures.fits))
 
 pub returns-clause-cut : goal.returns-clause-cut
 returns-clause-cut g c =
     let plan : topology_of c.args.topology.now ≡ Ok (plan_of c.in_ok-topology.topology) = search rules in
     let course : IsScriptRead c.in_ok-topology.topology.tree c.args.script.now (Ok (course_of c.in_ok-script.script)) = c.in_ok-script.ensures.gives in
     let due = runs_have_drives c.in_ok-topology.topology.tree (course_of c.in_ok-script.script).pulses (course_of c.in_ok-script.script).events (course_of c.in_ok-script.script).end c.in_ok-script.ensures.script.sparse in
-    let front = c.in-Err.ensures.cut due.0 due.1 (rw (c.new-2.ensures, c.to_pulses.ensures, c.deref.ensures.value) due.2) in (
+    let front = c.in-Err.ensures.cut due.0 due.1 (rw (c.deref_mut.ensures.value, c.in-Ok-on_heap.ensures, c.deref-3.ensures.value, c.deref-2.ensures.value) due.2) in (
       due.0,
       due.1,
       record {
         plan = plan_of c.in_ok-topology.topology;
         course = course_of c.in_ok-script.script;
-        edid = c.in_ok-_edid._edid;
+        edid = option_map (λ b. b.value) c.in_ok-_edid._edid;
         accepted = record { plan_is = plan; course_is = course };
         root = c.in_ok-_edid.ensures.read;
         driven = due.2;
