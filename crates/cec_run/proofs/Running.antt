@@ -1,61 +1,69 @@
--- A run on its way: the turns so far, and what was written of them.
-use Rattle.std.proofs.Common.{◌≡◌, ℕ, suc, Bool, List, ◌∷◌, ◌++◌, Option, sym, refl, subst}
-use Rattle.std.specs.Io.KnownBytes.{Appends}
-use Rattle.hdmi_core.specs.declared.sink.WriteFault.{WriteFault}
-use Rattle.hdmi_core.proofs.CutShort.{Appends-trans}
+-- A run on its way: what happened so far, and what was heard of it.
+use Rattle.std.proofs.Common.{◌≡◌, ℕ, ◌<◌, List, [], ◌∷◌, ◌++◌, refl, sym, subst}
+use Rattle.cec_wave.specs.Line.{IsWave}
+use Rattle.cec_wire.specs.declared.Outcome.{Outcome}
+use Rattle.cec_line.specs.declared.format.Format.TheVariants.{Edges}
 use Rattle.cec_asm.specs.declared.script.TimedEvent.{TimedEvent}
 use Rattle.cec_net.specs.State.{NetState}
 use Rattle.cec_net.specs.Apply.{net_after, event_fault}
+use Rattle.cec_net.specs.Step.{IsNextRound}
+use Rattle.cec_net.specs.Progress.{IsProgress}
+use Rattle.cec_text.specs.ReadingText.{is_complete}
 use Rattle.cec_run.specs.declared.run.Totals.{Totals}
-use Rattle.cec_run.specs.declared.run.Turn.TheVariants.{Stop, Apply, Round}
-use Rattle.cec_tally.specs.Adds.{AddsAll, AddsFront}
 use Rattle.cec_run.specs.declared.run.Reporting.{Reporting}
-use Rattle.cec_run.specs.Run.{Config, turn_at, turn_of, first_time, counted_event, IsTurnBy, IsTurn, IsRoundTurn, Leads, IsRunTextFrom, event_reported, end_reported}
-use Rattle.cec_run.proofs.Turns.{one_more, front_of_text, whole_text}
-use Rattle.cec_tally.proofs.Adding.{both, front, front_after}
+use Rattle.cec_run.specs.declared.run.Reporting.TheVariants.{Line}
+use Rattle.cec_run.specs.declared.run.Turn.TheVariants.{Apply, Round}
+use Rattle.cec_run.specs.Run.{Config, turn_of, first_time, counted_event, counted_round, event_reported, round_reported, IsRoundTurn, IsTurn, IsTurnBy}
+use Rattle.cec_run.proofs.Advance.{Brought, round_brings}
+use Rattle.cec_run.specs.Happening.{Happening, OfEvent, OfRound, Happens, HappensBy, Goes}
+use Rattle.cec_run.specs.Heard.{Hears}
 
-pub record Reached (reporting : Reporting) (end : ℕ) (c d : Config) (old new : Option (List ℕ)) (was is : Bool) (n m : ℕ) : Type 0 where
-  pub turns : ℕ
-  pub text : List ℕ
-  pub leads : Leads reporting end turns c text d
-  pub so_far : AddsAll old new was is n m text
+pub record Reached {R : Type 0} (hears : R → Happening → R → Type 0) (end : ℕ) (c d : Config) (old new : R) : Type 0 where
+  pub happened : List Happening
+  pub goes : Goes end c happened d
+  pub heard : Hears hears old happened new
 
--- one turn more, whose text was written
-pub reached_more : (reporting : Reporting) (end : ℕ) (c d e : Config) (old mid new : Option (List ℕ)) (was between is : Bool) (n m k : ℕ) (line : List ℕ) → Reached reporting end c d old mid was between n m → IsTurn reporting end d line e
-    → AddsAll mid new between is m k line → Reached reporting end c e old new was is n k
-reached_more reporting end c d e old mid new was between is n m k line r turn added = record {
-  turns = suc r.turns;
-  text = r.text ++ line;
-  leads = one_more reporting end r.turns c d e r.text line r.leads turn;
-  so_far = both old mid new was between is n m k r.text line r.so_far added;
+goes_more : (end : ℕ) (xs : List Happening) (c mid d : Config) (x : Happening) → Goes end c xs mid → Happens end mid x d → Goes end c (xs ++ x ∷ []) d
+goes_more end [] c mid d x goes turn = (d, subst (λ (e : Config). Happens end e x d) goes turn, refl)
+goes_more end (y ∷ ys) c mid d x (first, step, goes) turn = (first, step, goes_more end ys first mid d x goes turn)
+
+hears_more : {R : Type 0} (hears : R → Happening → R → Type 0) (xs : List Happening) (r m s : R) (x : Happening) → Hears hears r xs m → hears m x s → Hears hears r (xs ++ x ∷ []) s
+hears_more hears [] r m s x heard next = (s, subst (λ k. hears k x s) heard next, refl)
+hears_more hears (y ∷ ys) r m s x (first, step, heard) next = (first, step, hears_more hears ys first m s x heard next)
+
+-- one turn more
+pub reached_more : {R : Type 0} (hears : R → Happening → R → Type 0) (end : ℕ) (c d e : Config) (old mid new : R) (x : Happening) → Reached hears end c d old mid
+    → Happens end d x e → hears mid x new → Reached hears end c e old new
+reached_more hears end c d e old mid new x r turn next = record {
+  happened = r.happened ++ x ∷ [];
+  goes = goes_more end r.happened c d e x r.goes turn;
+  heard = hears_more hears r.happened old mid new x r.heard next;
 }
 
--- a text of the next turn was cut off
-pub cut_text : (reporting : Reporting) (end : ℕ) (c d e : Config) (old mid new : Option (List ℕ)) (was is : Bool) (n m : ℕ) (fault : WriteFault) (turns_text : List ℕ) → Reached reporting end c d old mid was is n m
-    → IsTurn reporting end d turns_text e → AddsFront mid new m turns_text fault
-    → (text : List ℕ) (totals : Totals) → IsRunTextFrom reporting end c text totals → AddsFront old new n text fault
-cut_text reporting end c d e old mid new was is n m fault turns_text r turn cut text totals trace =
-    let whole = front_of_text reporting end (suc r.turns) c e (r.text ++ turns_text) text totals (one_more reporting end r.turns c d e r.text turns_text r.leads turn) trace in
-    subst (λ t. AddsFront old new n t fault) (sym whole.1)
-    (front old new n (r.text ++ turns_text) whole.0 fault (front_after old mid new was is n m r.text turns_text fault r.so_far cut))
+-- ---- one turn, from what the calls report
 
--- the run stops, and its last lines were written
-pub last_written : (reporting : Reporting) (end : ℕ) (c d : Config) (old mid new : Option (List ℕ)) (was is : Bool) (n m : ℕ) → Reached reporting end c d old mid was is n m → turn_at end d ≡ Stop
-    → Appends mid new (end_reported reporting end d.net)
-    → (text : List ℕ) × IsRunTextFrom reporting end c text d.totals × Appends old new text
-last_written reporting end c d old mid new was is n m r stops wrote = (
-  r.text ++ end_reported reporting end d.net,
-  record { turns = r.turns; last = d; body = r.text; leads = r.leads; stops = stops; whole = refl; counts = refl },
-  Appends-trans old mid new r.text (end_reported reporting end d.net) r.so_far.1 wrote,
-)
+pub event_happens : (end at : ℕ) (net new : NetState) (e : TimedEvent) (rest others : List TimedEvent) (totals counted : Totals)
+    → rest ≡ e ∷ others → turn_of end net (first_time rest) ≡ Apply at → new ≡ net_after at e.event net → counted ≡ counted_event (event_fault net e.event) totals
+    → Happens end (record { net = net; events = rest; totals = totals }) (OfEvent at e net) (record { net = new; events = others; totals = counted })
+event_happens end at net new e rest others totals counted split turn step count =
+    subst (λ t. HappensBy t (record { net = net; events = rest; totals = totals }) (OfEvent at e net) (record { net = new; events = others; totals = counted })) (sym turn)
+    (record { event = e; others = others; next = split; is = refl; after = λ i. record { net = step i; events = others; totals = count i } })
 
--- or were cut off
-pub last_cut : (reporting : Reporting) (end : ℕ) (c d : Config) (old mid new : Option (List ℕ)) (was is : Bool) (n m : ℕ) (fault : WriteFault) → Reached reporting end c d old mid was is n m → turn_at end d ≡ Stop
-    → AddsFront mid new m (end_reported reporting end d.net) fault
-    → (text : List ℕ) (totals : Totals) → IsRunTextFrom reporting end c text totals → AddsFront old new n text fault
-last_cut reporting end c d old mid new was is n m fault r stops cut text totals trace =
-    let whole = whole_text reporting end r.turns c d r.text text totals r.leads stops trace in
-    subst (λ t. AddsFront old new n t fault) (sym whole.0) (front_after old mid new was is n m r.text (end_reported reporting end d.net) fault r.so_far cut)
+pub round_happens : (end begin : ℕ) (net new : NetState) (rest : List TimedEvent) (totals counted : Totals) (o : Outcome)
+    → turn_of end net (first_time rest) ≡ Round begin → IsWave o.wave → IsNextRound net begin o new → counted ≡ counted_round (is_complete o.reading.ending) totals
+    → Happens end (record { net = net; events = rest; totals = totals }) (OfRound begin net o) (record { net = new; events = rest; totals = counted })
+round_happens end begin net new rest totals counted o turn wave next count =
+    subst (λ t. HappensBy t (record { net = net; events = rest; totals = totals }) (OfRound begin net o) (record { net = new; events = rest; totals = counted })) (sym turn)
+    (record { outcome = o; wave = wave; next = next; is = refl; totals = count; events = refl })
+
+-- how far it brings the run
+pub brings : (end begin : ℕ) (net new : NetState) (totals counted : Totals) (o : Outcome) → IsProgress net begin new → begin < end
+    → IsWave o.wave → IsNextRound net begin o new → counted ≡ counted_round (is_complete o.reading.ending) totals → Brought end net new
+brings end begin net new totals counted o p soon wave next count =
+    round_brings (Line Edges) end begin net new totals counted (round_reported (Line Edges) new.devices o) p soon
+    (record { outcome = o; wave = wave; next = next; reported = refl; totals = count })
+
+-- ---- the same as turns that report a text
 
 -- an event's turn
 pub event_turn_is : (reporting : Reporting) (end at : ℕ) (net : NetState) (e : TimedEvent) (others : List TimedEvent) (totals : Totals) → turn_of end net (first_time (e ∷ others)) ≡ Apply at
@@ -71,47 +79,3 @@ pub round_turn_is : (reporting : Reporting) (end begin : ℕ) (net after : NetSt
     → IsTurn reporting end (record { net = net; events = events; totals = totals }) line (record { net = after; events = events; totals = counted })
 round_turn_is reporting end begin net after events totals counted line h turn =
     subst (λ t. IsTurnBy reporting t (record { net = net; events = events; totals = totals }) line (record { net = after; events = events; totals = counted })) (sym h) (turn, refl)
-
--- ---- one turn, from what the calls report
-
-pub after_event : (reporting : Reporting) (end at : ℕ) (net new : NetState) (e : TimedEvent) (rest others : List TimedEvent) (totals counted : Totals) (c : Config) (old mid out : Option (List ℕ)) (was between is : Bool) (n m k : ℕ)
-    → rest ≡ e ∷ others → turn_of end net (first_time rest) ≡ Apply at → new ≡ net_after at e.event net → counted ≡ counted_event (event_fault net e.event) totals
-    → Reached reporting end c (record { net = net; events = rest; totals = totals }) old mid was between n m
-    → AddsAll mid out between is m k (event_reported reporting at e net)
-    → Reached reporting end c (record { net = new; events = others; totals = counted }) old out was is n k
-after_event reporting end at net new e rest others totals counted c old mid out was between is n m k split turn step count_is r added =
-    let come : turn_of end net (first_time (e ∷ others)) ≡ Apply at = subst (λ xs. turn_of end net (first_time xs) ≡ Apply at) split turn in
-    let here : Reached reporting end c (record { net = net; events = e ∷ others; totals = totals }) old mid was between n m =
-    subst (λ xs. Reached reporting end c (record { net = net; events = xs; totals = totals }) old mid was between n m) split r in
-    let there : Reached reporting end c (record { net = net_after at e.event net; events = others; totals = counted_event (event_fault net e.event) totals }) old out was is n k =
-    reached_more reporting end c _ _ old mid out was between is n m k _ here (event_turn_is reporting end at net e others totals come) added in
-    rw (step, count_is) there
-
-pub cut_event : (reporting : Reporting) (end at : ℕ) (net : NetState) (e : TimedEvent) (rest others : List TimedEvent) (totals : Totals) (c : Config) (old mid out : Option (List ℕ)) (was is : Bool) (n m : ℕ) (fault : WriteFault)
-    → rest ≡ e ∷ others → turn_of end net (first_time rest) ≡ Apply at
-    → Reached reporting end c (record { net = net; events = rest; totals = totals }) old mid was is n m
-    → AddsFront mid out m (event_reported reporting at e net) fault
-    → (text : List ℕ) (all : Totals) → IsRunTextFrom reporting end c text all → AddsFront old out n text fault
-cut_event reporting end at net e rest others totals c old mid out was is n m fault split turn r cut text all trace =
-    let come : turn_of end net (first_time (e ∷ others)) ≡ Apply at = subst (λ xs. turn_of end net (first_time xs) ≡ Apply at) split turn in
-    let here : Reached reporting end c (record { net = net; events = e ∷ others; totals = totals }) old mid was is n m =
-    subst (λ xs. Reached reporting end c (record { net = net; events = xs; totals = totals }) old mid was is n m) split r in
-    cut_text reporting end c _ _ old mid out was is n m fault _ here (event_turn_is reporting end at net e others totals come) cut text all trace
-
-pub after_turn : (reporting : Reporting) (end begin x : ℕ) (net new : NetState) (rest : List TimedEvent) (totals counted : Totals) (line : List ℕ) (c : Config) (old mid out : Option (List ℕ)) (was between is : Bool) (n m k : ℕ)
-    → turn_of end net (first_time rest) ≡ Round x → begin ≡ x → IsRoundTurn reporting begin net totals line new counted
-    → Reached reporting end c (record { net = net; events = rest; totals = totals }) old mid was between n m
-    → AddsAll mid out between is m k line
-    → Reached reporting end c (record { net = new; events = rest; totals = counted }) old out was is n k
-after_turn reporting end begin x net new rest totals counted line c old mid out was between is n m k turn same round r added =
-    let now : IsRoundTurn reporting x net totals line new counted = subst (λ b. IsRoundTurn reporting b net totals line new counted) same round in
-    reached_more reporting end c _ _ old mid out was between is n m k line r (round_turn_is reporting end x net new rest totals counted line turn now) added
-
-pub cut_turn : (reporting : Reporting) (end begin x : ℕ) (net new : NetState) (rest : List TimedEvent) (totals counted : Totals) (line : List ℕ) (c : Config) (old mid out : Option (List ℕ)) (was is : Bool) (n m : ℕ) (fault : WriteFault)
-    → turn_of end net (first_time rest) ≡ Round x → begin ≡ x → IsRoundTurn reporting begin net totals line new counted
-    → Reached reporting end c (record { net = net; events = rest; totals = totals }) old mid was is n m
-    → AddsFront mid out m line fault
-    → (text : List ℕ) (all : Totals) → IsRunTextFrom reporting end c text all → AddsFront old out n text fault
-cut_turn reporting end begin x net new rest totals counted line c old mid out was is n m fault turn same round r cut text all trace =
-    let now : IsRoundTurn reporting x net totals line new counted = subst (λ b. IsRoundTurn reporting b net totals line new counted) same round in
-    cut_text reporting end c _ _ old mid out was is n m fault line r (round_turn_is reporting end x net new rest totals counted line turn now) cut text all trace

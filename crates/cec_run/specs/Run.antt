@@ -22,7 +22,6 @@ use Rattle.cec_trace.specs.StateText.{state_line}
 use Rattle.cec_trace.specs.PortText.{port_lines}
 use Rattle.cec_device.specs.State.{State}
 use Rattle.hdmi_core.specs.Cut.{WrittenText}
-use Rattle.cec_tally.specs.Adds.{Adds}
 use Rattle.cec_text.specs.ReadingText.{is_complete}
 use Rattle.cec_trace.specs.TraceText.{event_line, round_line, end_line}
 use Rattle.cec_line.specs.Format.{line_start, line_round, line_end}
@@ -174,12 +173,3 @@ pub record RoundWritten (reporting : Reporting) (before after : NetState) (t u :
   pub turn : IsRoundTurn reporting begin before t text after u
   pub progress : IsProgress before begin after
   pub written : WrittenText old new was is text result
-
--- the same, where it was added to a text of which so many bytes had been written
-pub record RoundAdded (reporting : Reporting) (before after : NetState) (t u : Totals) (old new : Option (List ℕ)) (was is : Bool) (given taken : ℕ) (result : Result (Unit {0}) WriteFault) : Type 0 where
-  pub begin : ℕ
-  pub text : List ℕ
-  pub begins : next_start before ≡ Some begin
-  pub turn : IsRoundTurn reporting begin before t text after u
-  pub progress : IsProgress before begin after
-  pub added : Adds old new was is given taken text result

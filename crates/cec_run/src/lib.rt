@@ -5,13 +5,22 @@ pub mod edges;
 pub mod emulate;
 mod laws;
 pub mod line;
+mod line_text;
+mod reporter;
 mod run;
 mod source;
+mod trace_text;
+mod turn;
+mod turn_by_turn;
 
 pub use laws::{
     edges_are_the_line, lines_are_of_the_rounds, one_run, one_run_text, one_trace, runs_are_read,
     runs_are_short, runs_close_soon, runs_have_texts, texts_have_one_line, texts_have_one_run,
     texts_have_one_trace, texts_have_traces, traces_have_parts,
 };
-pub use run::{Totals, Turn, apply_event, first_time, next_turn};
+pub use reporter::Reporter;
+pub use run::{Totals, Turn, first_time, next_turn, told};
 pub use source::ScriptSource;
+pub use trace_text::{Passed, TraceText, apply_event};
+pub use turn::take_event;
+pub use turn_by_turn::run_turns;

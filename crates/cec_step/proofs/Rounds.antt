@@ -1,5 +1,5 @@
 -- What events, a round and its first edge make of where a run stands.
-use Rattle.std.proofs.Common.{◌≡◌, ℕ, ◌+◌, ◌<◌, Bool, false, nat_lt, List, ◌++◌, drop, MatchOption, IfSome, Option, Some, None, ap, ◌∙◌, sym, refl, subst, arith}
+use Rattle.std.proofs.Common.{◌≡◌, ℕ, ◌+◌, ◌<◌, Bool, false, nat_lt, List, [], drop, MatchOption, IfSome, Option, Some, None, ap, ◌∙◌, sym, refl, subst, arith}
 use Rattle.std.specs.List.{filter}
 use Rattle.cec_wave.specs.declared.Edge.{Edge}
 use Rattle.cec_wave.specs.declared.Stretch.{Stretch}
@@ -13,14 +13,15 @@ use Rattle.cec_net.specs.Step.{IsNextRound, seats_of}
 use Rattle.cec_net.specs.Progress.{IsProgress}
 use Rattle.cec_net.specs.Underway.{OfRound}
 use Rattle.cec_asm.specs.declared.script.TimedEvent.{TimedEvent}
-use Rattle.hdmi_blocks.specs.declared.edid.Edid.{Edid}
 use Rattle.cec_run.specs.declared.run.Turn.TheVariants.{Stop, Apply, Round}
 use Rattle.cec_run.specs.Run.{first_time}
+use Rattle.cec_run.specs.Happening.{Happening, OfEvent}
+use Rattle.cec_run.specs.Heard.{Hears}
 use Rattle.cec_run.proofs.Advance.{event_keeps, round_begins}
 use Rattle.cec_step.specs.declared.position.Position.{Position}
-use Rattle.cec_step.specs.Steps.{Point, IsOver, turn_at, after_events, passed_from, passed_text}
-use Rattle.cec_step.specs.Ready.{AreAlike, Begins, IsReady, Passes, first_text, point_of}
-use Rattle.cec_step.proofs.Passing.{passed_event, passed_event_text, passed_round, passed_stop}
+use Rattle.cec_step.specs.Steps.{Point, IsOver, turn_at, after_events, passed_from}
+use Rattle.cec_step.specs.Ready.{AreAlike, Begins, HearsFirst, IsReady, Passes, happened, point_of}
+use Rattle.cec_step.proofs.Passing.{HearsOn, happened_event, happened_none, passed_event, passed_round, passed_stop}
 use Rattle.cec_step.proofs.Edges.{has_edge}
 
 -- positions that stand alike
@@ -39,11 +40,12 @@ pass_more end at es p q turn m =
 pub rest_more : (at : ℕ) (es : List TimedEvent) (p q : Position) → Passes at es p q → q.net.value.rest ≡ p.net.value.rest
 rest_more at es p q m = (event_keeps at m.event.event p.net.value q.net.value m.step).rest
 
-pub text_more : (edid : Option Edid) (end at : ℕ) (es : List TimedEvent) (p q : Position) → turn_at end (point_of es p) ≡ Apply at → Passes at es p q
-    → passed_text edid end (point_of es p) ≡ first_text edid at p.net.value (drop p.applied es) ++ passed_text edid end (point_of es q)
-text_more edid end at es p q turn m =
-    passed_event_text edid end at p.net.value q.net.value (drop p.applied es) m.event (drop q.applied es) m.split turn m.step
-    ∙ ap (λ xs. first_text edid at p.net.value xs ++ passed_text edid end (point_of es q)) (sym m.split)
+pub heard_more : {R : Type 0} (hears : R → Happening → R → Type 0) (end at : ℕ) (es : List TimedEvent) (p q : Position) (whole : List Happening) (old here next : R) → turn_at end (point_of es p) ≡ Apply at → Passes at es p q
+    → HearsFirst hears at p.net.value (drop p.applied es) here next → HearsOn hears whole old here (happened end (point_of es p)) → HearsOn hears whole old next (happened end (point_of es q))
+heard_more hears end at es p q whole old here next turn m first on = λ s heard.
+    let event : hears here (OfEvent at m.event p.net.value) next = subst (λ (xs : List TimedEvent). HearsFirst hears at p.net.value xs here next) m.split first in
+    let all = happened_event end at p.net.value q.net.value (drop p.applied es) m.event (drop q.applied es) m.split turn m.step in
+    on s (subst (λ xs. Hears hears here xs s) (sym all) (next, event, heard))
 
 -- no event comes any more
 pub over_round : (end begin : ℕ) (es : List TimedEvent) (p : Position) → turn_at end (point_of es p) ≡ Round begin → point_of es p ≡ after_events end (point_of es p)
@@ -51,6 +53,12 @@ over_round end begin es p turn = sym (passed_round end begin p.net.value (drop p
 
 pub over_stop : (end : ℕ) (es : List TimedEvent) (p : Position) → turn_at end (point_of es p) ≡ Stop → point_of es p ≡ after_events end (point_of es p)
 over_stop end es p turn = sym (passed_stop end p.net.value (drop p.applied es) p.is_first turn)
+
+pub none_at_round : (end begin : ℕ) (es : List TimedEvent) (p : Position) → turn_at end (point_of es p) ≡ Round begin → happened end (point_of es p) ≡ []
+none_at_round end begin es p turn = happened_none end p.net.value (drop p.applied es) (Round begin) turn tt
+
+pub none_at_stop : (end : ℕ) (es : List TimedEvent) (p : Position) → turn_at end (point_of es p) ≡ Stop → happened end (point_of es p) ≡ []
+none_at_stop end es p turn = happened_none end p.net.value (drop p.applied es) Stop turn tt
 
 -- after a round a run is ready still
 pub ready_round : (end begin : ℕ) (p : Point) (o : Outcome) (t : NetState) → IsReady end p → begin < end → IsNextRound p.net begin o t → IsProgress p.net begin t

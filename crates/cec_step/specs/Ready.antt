@@ -8,10 +8,11 @@ use Rattle.cec_wave.specs.declared.Edge.{Edge}
 use Rattle.cec_wave.specs.Bounds.{latest_event, latest_instant}
 use Rattle.cec_wire.specs.Edges.{IsNextEdge}
 use Rattle.cec_net.specs.Underway.{OfRound}
-use Rattle.hdmi_blocks.specs.declared.edid.Edid.{Edid}
 use Rattle.cec_net.specs.Apply.{net_after}
-use Rattle.cec_run.specs.Run.{event_text}
-use Rattle.cec_run.specs.declared.run.Turn.TheVariants.{Round}
+use Rattle.cec_run.specs.Run.{turn_of}
+use Rattle.cec_run.specs.Happening.{Happening, OfEvent}
+use Rattle.cec_run.specs.declared.run.Turn.{Turn}
+use Rattle.cec_run.specs.declared.run.Turn.TheVariants.{Stop, Apply, Round}
 use Rattle.cec_step.specs.declared.position.Position.{Position}
 use Rattle.cec_step.specs.declared.position.RunInput.{RunInput}
 use Rattle.cec_wire.specs.declared.Outcome.{Outcome}
@@ -63,10 +64,24 @@ pub record Passes (at : ℕ) (events : List TimedEvent) (p q : Position) : Type 
   pub step : q.net.value ≡ net_after at event.event p.net.value
   pub first : q.is_first ≡ p.is_first
 
--- what is reported of the first of these events
-abbrev pub first_text : Option Edid → ℕ → NetState → List TimedEvent → List ℕ
-first_text edid at s [] = []
-first_text edid at s (event ∷ events) = event_text edid at event s
+-- the first of these events is heard of
+abbrev pub HearsFirst : {R : Type 0} → (R → Happening → R → Type 0) → ℕ → NetState → List TimedEvent → R → R → Type 0
+HearsFirst hears at s [] old new = Unit {0}
+HearsFirst hears at s (event ∷ events) old new = hears old (OfEvent at event s) new
+
+-- ---- the events before a round, each with the network before it
+
+abbrev pub happened_by : Turn → (ℕ → List Happening) → List Happening
+happened_by (Apply at) on = on at
+happened_by Stop on = []
+happened_by (Round begin) on = []
+
+unfoldable pub happened_from : ℕ → NetState → List TimedEvent → List Happening
+happened_from end s [] = []
+happened_from end s (e ∷ events) = happened_by (turn_of end s (Some e.at)) (λ at. OfEvent at e s ∷ happened_from end (net_after at e.event s) events)
+
+abbrev pub happened : ℕ → Point → List Happening
+happened end p = happened_from end p.net p.events
 
 -- a round brings the rest on
 pub record Brings (end : ℕ) (p q : Point) : Type 0 where

@@ -6,20 +6,24 @@ ghost use Rattle.cec_net.specs.State.{first_net};
 ghost use Rattle.cec_net.specs.Underway.{OfRound, standing_reported};
 ghost use Rattle.cec_step_text.specs.EdgeText.{edge_line};
 ghost use Rattle.hdmi_core.specs.Cut.{WrittenText};
+ghost use Rattle.hdmi_core.specs.Adds.{Adds};
+ghost use Rattle.cec_run.specs.Heard.{Hears};
 ghost use Rattle.cec_run.specs.declared.run.Turn.TheVariants.{Apply, Round, Stop};
 ghost use Rattle.hdmi_blocks.specs.Root.{HasAddress};
-ghost use Rattle.cec_step.specs.Ready.{AreAlike, Begins, Brings, IsReady, Passes, first_text, point_of};
-ghost use Rattle.cec_step.specs.Steps.{IsOver, IsRoundStep, after_events, passed_text, start_text, turn_at};
+ghost use Rattle.cec_step.specs.Ready.{AreAlike, Begins, Brings, HearsFirst, IsReady, Passes, happened, point_of};
+ghost use Rattle.cec_step.specs.Steps.{IsOver, IsRoundStep, after_events, start_text, turn_at};
 
 use cec_asm::TimedEvent;
 use cec_edges::EdgeWire;
+use cec_event::EventError;
 use cec_net::{Net, RoundReport};
-use cec_run::{Totals, Turn, apply_event, first_time, next_turn};
-use cec_step_text::{with_rest, write_edge};
-use cec_trace::write_ports;
+use cec_run::{Reporter, Totals, Turn, first_time, next_turn, take_event};
+use cec_step_text::write_edge;
+use cec_trace::add_new_ports;
 use cec_wave::{Edge, Stretch};
+use cec_wire::Outcome;
 use hdmi_blocks::Edid;
-use hdmi_core::{Sink, WriteFault, counted, cut_at};
+use hdmi_core::{Counted, Sink, WriteFault};
 use hdmi_topo::Tree;
 use std::alloc::{AllocError, Global};
 
@@ -40,6 +44,35 @@ pub(crate) struct Position {
     pub applied: usize,
     /// Whether no round was run yet. The lines of the ports are then due.
     pub is_first: bool,
+}
+
+// Hears of a run and keeps nothing of it.
+#[derive(Drop)]
+struct Silent;
+
+impl Reporter for Silent {
+    ghost use Rattle.std.specs.Prelude.{◌≡◌, true};
+
+    ghost hears = { λ r x s. s ≡ r };
+
+    ghost goes_on = { λ r. true };
+
+    ghost keeps = { λ r net. Unit {0} };
+
+    fn event<W>(
+        &mut self,
+        _at: u64,
+        _event: &TimedEvent,
+        _refused: Option<EventError>,
+        _was: &[bool],
+        _net: &Net<W>,
+    ) {}
+
+    fn round<W>(&mut self, _begin: u64, _outcome: &Outcome, _net: &Net<W>) {}
+
+    fn wants_more(&self) -> bool {
+        true
+    }
 }
 
 impl RunInput {
@@ -87,22 +120,48 @@ impl Position {
         next_turn(course.end, &self.net, first_time(left))
     }
 
-    // Applies the next event, which comes at this instant.
-    fn pass_event(&mut self, course: &RunInput, at: u64)
+    // Applies the next event, which comes at this instant, and reports it.
+    fn pass_event<R: Reporter>(&mut self, course: &RunInput, at: u64, reporter: &mut R)
         requires turn { turn_at course.now.end (point_of course.now.events.items self.old) ≡ Apply at }
         requires ready { IsReady course.now.end (point_of course.now.events.items self.old) }
+        requires kept { R.keeps reporter.old self.old.net.value }
         ensures point { Passes at course.now.events.items self.old self.new }
+        ensures heard { HearsFirst R.hears at self.old.net.value (drop self.old.applied course.now.events.items) reporter.old reporter.new }
         ensures ready { IsReady course.now.end (point_of course.now.events.items self.new) }
+        ensures kept { R.keeps reporter.new self.new.net.value }
     {
         let Some((event, others)) = course.left(self.applied).split_first() else {
             unreachable!();
         };
         let _left = others;
-        let _refused = self.net.apply(at, event.event.copy());
+        let mut totals = Totals::default();
+        take_event(&mut self.net, &mut totals, at, event, reporter);
         self.applied += 1;
     }
 
-    /// Applies the events that come before the next round. Returns when that round begins; None where no round comes.
+    /// Applies the events that come before the next round, and reports each. Returns when that round begins; None where no round
+    /// comes.
+    pub fn to_round<R: Reporter>(&mut self, course: &RunInput, reporter: &mut R) -> Option<u64>
+        requires ready { IsReady course.now.end (point_of course.now.events.items self.old) }
+        requires kept { R.keeps reporter.old self.old.net.value }
+        ensures point { point_of course.now.events.items self.new ≡ after_events course.now.end (point_of course.now.events.items self.old) }
+        ensures comes { MatchOption result
+            (IsOver course.now.end (point_of course.now.events.items self.old))
+            (λ begin. turn_at course.now.end (after_events course.now.end (point_of course.now.events.items self.old)) ≡ Round begin) }
+        ensures rest { self.new.net.value.rest ≡ self.old.net.value.rest }
+        ensures ready { IsReady course.now.end (point_of course.now.events.items self.new) }
+        ensures heard { Hears R.hears reporter.old (happened course.now.end (point_of course.now.events.items self.old)) reporter.new }
+    {
+        'events: loop {
+            match self.turn(course) {
+                Turn::Apply(at) => self.pass_event(course, at, reporter),
+                Turn::Round(begin) => return Some(begin),
+                Turn::Stop => return None,
+            }
+        }
+    }
+
+    /// The same, reported to nobody.
     pub fn pass_events(&mut self, course: &RunInput) -> Option<u64>
         requires { IsReady course.now.end (point_of course.now.events.items self.old) }
         ensures point { point_of course.now.events.items self.new ≡ after_events course.now.end (point_of course.now.events.items self.old) }
@@ -112,13 +171,7 @@ impl Position {
         ensures rest { self.new.net.value.rest ≡ self.old.net.value.rest }
         ensures ready { IsReady course.now.end (point_of course.now.events.items self.new) }
     {
-        'events: loop {
-            match self.turn(course) {
-                Turn::Apply(at) => self.pass_event(course, at),
-                Turn::Round(begin) => return Some(begin),
-                Turn::Stop => return None,
-            }
-        }
+        self.to_round(course, &mut Silent)
     }
 
     /// Runs the events and the round that come next. None where no round comes.
@@ -152,78 +205,14 @@ impl Position {
         self.net.next_edge()
     }
 
-    // Applies the next event, and writes its lines.
-    fn write_event<S: Sink>(
-        &mut self,
-        course: &RunInput,
-        at: u64,
-        out: &mut S,
-    ) -> Result<u128, WriteFault>
-        requires turn { turn_at course.now.end (point_of course.now.events.items self.old) ≡ Apply at }
-        requires ready { IsReady course.now.end (point_of course.now.events.items self.old) }
+    /// Adds the lines that are due before any event: those of the ports, before the first round.
+    #[tactic(auto, using(hdmi_core::proofs::Adding::nothing))]
+    pub fn add_start<S: Sink>(&self, course: &RunInput, out: &mut Counted<'_, S>)
         requires addressed { HasAddress course.now.edid.value }
-        ensures point { Passes at course.now.events.items self.old self.new }
-        ensures text { WrittenText (S.contents out.old) (S.contents out.new) (S.is_stuck out.old) (S.is_stuck out.new)
-            (first_text course.now.edid.value at self.old.net.value (drop self.old.applied course.now.events.items)) result }
-        ensures ready { IsReady course.now.end (point_of course.now.events.items self.new) }
-    {
-        let Some((event, others)) = course.left(self.applied).split_first() else {
-            unreachable!();
-        };
-        let _left = others;
-        let mut totals = Totals::default();
-        self.applied += 1;
-        apply_event(out, &mut self.net, &course.edid, &mut totals, at, event)
-    }
-
-    // Applies the events that come before the next round, and writes their lines.
-    fn write_events<S: Sink>(&mut self, course: &RunInput, out: &mut S) -> Result<u128, WriteFault>
-        requires ready { IsReady course.now.end (point_of course.now.events.items self.old) }
-        requires addressed { HasAddress course.now.edid.value }
-        ensures { WrittenText (S.contents out.old) (S.contents out.new) (S.is_stuck out.old) (S.is_stuck out.new)
-            (passed_text course.now.edid.value course.now.end (point_of course.now.events.items self.old)) result }
-    {
-        let mut written = 0;
-        'events: loop {
-            match self.turn(course) {
-                Turn::Apply(at) => match self.write_event(course, at, out) {
-                    Ok(count) => written = counted(written, count),
-                    Err(fault) => return Err(cut_at(written, fault)),
-                },
-                Turn::Round(_) => return Ok(written),
-                Turn::Stop => return Ok(written),
-            }
-        }
-    }
-
-    // Writes the lines that are due before any event: those of the ports, before the first round.
-    fn write_start<S: Sink>(&self, course: &RunInput, out: &mut S) -> Result<u128, WriteFault>
-        requires addressed { HasAddress course.now.edid.value }
-        ensures { WrittenText (S.contents out.old) (S.contents out.new) (S.is_stuck out.old) (S.is_stuck out.new)
-            (start_text course.now.edid.value (point_of course.now.events.items self.now)) result }
+        ensures { Adds out.old out.new (start_text course.now.edid.value (point_of course.now.events.items self.now)) }
     {
         if self.is_first {
-            write_ports(out, 0, &course.edid, self.net.tree(), &[])
-        } else {
-            Ok(0)
-        }
-    }
-
-    /// Applies the events that come before the next round, and writes what the trace has before that round.
-    pub fn write_before<S: Sink>(
-        &mut self,
-        course: &RunInput,
-        out: &mut S,
-    ) -> Result<u128, WriteFault>
-        requires ready { IsReady course.now.end (point_of course.now.events.items self.old) }
-        requires addressed { HasAddress course.now.edid.value }
-        ensures { WrittenText (S.contents out.old) (S.contents out.new) (S.is_stuck out.old) (S.is_stuck out.new)
-            (start_text course.now.edid.value (point_of course.now.events.items self.old)
-            ++ passed_text course.now.edid.value course.now.end (point_of course.now.events.items self.old)) result }
-    {
-        match self.write_start(course, out) {
-            Ok(count) => with_rest(count, self.write_events(course, out)),
-            Err(fault) => Err(fault),
+            add_new_ports(out, 0, &course.edid, self.net.tree(), &[]);
         }
     }
 

@@ -11,11 +11,12 @@ use crate::stepper::StepError;
 use cec_asm::{Script, Topology};
 use cec_edges::EdgeWire;
 use cec_net::Net;
-use cec_step_text::{Break, stops, whole, with_rest};
-use cec_trace::{write_round, write_state};
+use cec_run::TraceText;
+use cec_step_text::{Break, stops, whole};
+use cec_trace::{add_round, write_state};
 use cec_wire::Outcome;
 use hdmi_blocks::{Edid, root_on_heap};
-use hdmi_core::{Sink, WriteFault};
+use hdmi_core::{Counted, Sink, WriteFault};
 use std::alloc::{AllocError, Global};
 use std::marker::Model;
 use std::mem;
@@ -80,10 +81,19 @@ fn write_step<S: Sink>(
     ensures { WrittenText (S.contents out.old) (S.contents out.new) (S.is_stuck out.old) (S.is_stuck out.new)
         (step_text (run_of course.now) (point_of course.now.events.items before.old) outcome.now (point_of course.now.events.items after.now)) result }
 {
-    match before.write_before(course, out) {
-        Ok(count) => with_rest(count, whole(write_round(out, after.net.devices(), outcome))),
-        Err(fault) => Err(fault),
-    }
+    let mut text = Counted::new(out);
+    before.add_start(course, &mut text);
+    let mut trace = TraceText::new(text, &course.edid);
+    let _begin = before.to_round(course, &mut trace);
+    let TraceText {
+        mut text,
+        passed: _passed,
+    } = trace;
+    add_round(&mut text, after.net.devices(), outcome);
+    let written = text.written();
+    // No effect at run time. The proof reads what `out` holds from the sink that comes back.
+    let _below = text.into_sink();
+    written
 }
 
 impl Walk {
