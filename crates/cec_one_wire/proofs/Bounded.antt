@@ -7,7 +7,7 @@ use Rattle.cec_wave.specs.declared.Stretch.{Stretch}
 use Rattle.cec_wave.specs.Line.{Line, line_of, covers, was_low, IsWave}
 use Rattle.cec_wave.specs.Pulses.{AreSparse}
 use Rattle.cec_wave.specs.Sender.{sender_stretches}
-use Rattle.cec_wave.specs.Bounds.{latest_begin, latest_heard}
+use Rattle.cec_wave.specs.Bounds.{latest_heard}
 use Rattle.cec_frame.specs.Bits.{frame_bits}
 use Rattle.cec_bits.specs.Reading.{Read, End, Known, known_at, reading_of}
 use Rattle.cec_bits.specs.Sending.{goes_on, out_slot, sender_pulls}
@@ -15,7 +15,6 @@ use Rattle.cec_wire.specs.declared.Seat.{Seat}
 use Rattle.cec_wire.specs.declared.hearing.Ended.{Ended as Ending_kept}
 use Rattle.cec_wire.specs.declared.hearing.Stage.{Stage}
 use Rattle.cec_wire.specs.declared.hearing.Stage.TheVariants.{StartLow, StartHigh, InSlot, Over}
-use Rattle.cec_wire.specs.Bounds.{RoundsAreShort}
 use Rattle.cec_wire.specs.Edges.{heard_of}
 use Rattle.cec_wire.specs.Round.{frames_of, is_within, pulse_pulls, is_acknowledged, is_broken, IsRoundLine}
 use Rattle.cec_wire.proofs.Between.{heard_stands}

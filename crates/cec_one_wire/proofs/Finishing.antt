@@ -1,21 +1,18 @@
 -- What a wire has found, once no edge comes any more, is the round.
-use Rattle.std.proofs.Common.{◌≡◌, ℕ, ◌<◌, ◌≤◌, Bool, true, false, List, [], ◌++◌, length, inl, inr, Option, Some, None, is_some, refl, arith, ap, ◌∙◌, sym, subst}
-use Rattle.std.specs.List.{All}
+use Rattle.std.proofs.Common.{◌≡◌, ℕ, ◌<◌, true, false, List, ◌++◌, inl, inr, Option, Some, None, is_some, refl, ap, ◌∙◌, sym, subst}
 use Rattle.std.proofs.Math.Path.{fun_ext}
 use Rattle.std.proofs.lemmas.Bool.{cases_lt}
 use Rattle.cec_wave.specs.declared.Stretch.{Stretch}
-use Rattle.cec_wave.specs.Line.{Line, line_of, IsWave}
+use Rattle.cec_wave.specs.Line.{Line, line_of}
 use Rattle.cec_bits.specs.Reading.{End, Read, reading_of, bits_of}
-use Rattle.cec_wire.specs.declared.Seat.{Seat}
-use Rattle.cec_wire.specs.declared.Loser.{Loser}
 use Rattle.cec_wire.specs.declared.Outcome.{Outcome}
 use Rattle.cec_wire.specs.declared.hearing.Ended.{Ended as Ending_kept}
-use Rattle.cec_wire.specs.Round.{IsRoundLine, IsRound, rest_of, survivors_from, losers_from}
+use Rattle.cec_wire.specs.Round.{IsRoundLine, rest_of, survivors_from, losers_from}
 use Rattle.cec_one_wire.specs.declared.edge_wire.EdgeWire.{EdgeWire}
 use Rattle.cec_one_wire.specs.States.{survivors_of, losers_of}
 use Rattle.cec_one_wire.specs.Told.{told_of}
 use Rattle.cec_one_wire.specs.Wire.{IsAt}
-use Rattle.cec_one_wire.specs.Wired.{IsBegunWith, IsRoundOf, Records, StandsOnLine, end_of, end_in, is_low_in, is_silent_in}
+use Rattle.cec_one_wire.specs.Wired.{IsBegunWith, IsRoundOf, Records, StandsOnLine, end_of, end_in, is_silent_in}
 use Rattle.cec_one_wire.proofs.Recorded.{line_ends}
 use Rattle.cec_one_wire.proofs.Searching.{IsSilent, silent_so, silent_after, silent_high}
 use Rattle.cec_one_wire.proofs.States.{states_are_fates}

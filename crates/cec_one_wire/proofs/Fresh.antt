@@ -1,23 +1,21 @@
 -- A wire before the round's first microsecond, and what it shows.
-use Rattle.std.proofs.Common.{◌≡◌, ℕ, zero, suc, ◌+◌, ◌-◌, ◌<◌, ◌≤◌, true, List, [], ◌∷◌, ◌++◌, length, slice_get, Option, Some, None, MatchOption, refl, arith, ap, ◌∙◌, sym, subst}
-use Rattle.std.specs.List.{All}
+use Rattle.std.proofs.Common.{◌≡◌, ℕ, zero, suc, ◌+◌, ◌-◌, ◌<◌, ◌≤◌, true, List, [], ◌∷◌, length, slice_get, Option, Some, None, MatchOption, refl, arith, ap, ◌∙◌, sym, subst}
 use Rattle.std.proofs.Math.Path.{fun_ext}
 use Rattle.cec_wave.specs.declared.Stretch.{Stretch}
 use Rattle.cec_wave.specs.Line.{Line, was_low}
-use Rattle.cec_wave.specs.Bounds.{latest_begin, latest_heard}
-use Rattle.cec_bits.specs.declared.receiver.Receiver.{Receiver}
+use Rattle.cec_wave.specs.Bounds.{latest_begin}
 use Rattle.cec_bits.specs.declared.sender.Sender.{Sender}
 use Rattle.cec_bits.specs.Follows.{StandsOn}
 use Rattle.cec_bits.specs.Kept.{kept_before}
 use Rattle.cec_bits.specs.Sending.{SenderStood}
 use Rattle.cec_wire.specs.declared.Seat.{Seat}
 use Rattle.cec_wire.specs.Machine.{AreSentWell}
-use Rattle.cec_edges.specs.Listening.{AreBegun, AreSenders, AreSending, SendsFor, IsSending}
+use Rattle.cec_edges.specs.Listening.{AreSenders, AreSending, SendsFor, IsSending}
 use Rattle.cec_one_wire.specs.declared.edge_wire.EdgeWire.{EdgeWire}
 use Rattle.cec_one_wire.specs.Told.{told_of}
 use Rattle.cec_one_wire.specs.Turns.{IsBegun}
 use Rattle.cec_one_wire.specs.Wired.{EachOf, IsBegunWith, IsFresh, IsKept, IsReceiverIn, IsSenderIn, SendsNothing}
-use Rattle.cec_one_wire.proofs.Bounded.{stands_past, line_of_past}
+use Rattle.cec_one_wire.proofs.Bounded.{stands_past}
 use Rattle.cec_one_wire.proofs.First.{begun_senders, was_now}
 use Rattle.cec_one_wire.proofs.Told.{told_as_it_is}
 pub use Rattle.cec_edges.proofs.Idling.{idle_on_high}

@@ -1,21 +1,17 @@
 -- After a microsecond that was heard the wire stands.
-use Rattle.std.proofs.Common.{◌≡◌, ℕ, ◌+◌, ◌<◌, ◌≤◌, Bool, List, [], ◌++◌, length, inl, inr, Option, Some, None, refl, arith, ap, ◌∙◌, sym, subst}
-use Rattle.std.specs.List.{All}
+use Rattle.std.proofs.Common.{◌≡◌, ℕ, ◌+◌, ◌<◌, ◌≤◌, Bool, List, [], ◌++◌, length, inl, inr, Option, None, arith, ap, sym, subst}
 use Rattle.std.proofs.lemmas.Bool.{cases_lt}
 use Rattle.cec_wave.specs.declared.Stretch.{Stretch}
-use Rattle.cec_wave.specs.Line.{Line}
 use Rattle.cec_wave.specs.Bounds.{latest_heard, most_stretches}
-use Rattle.cec_bits.specs.declared.receiver.Receiver.{Receiver}
 use Rattle.cec_wire.specs.declared.recorder.Recorder.{Recorder}
 use Rattle.cec_wire.specs.declared.hearing.Ended.{Ended as Ending_kept}
 use Rattle.cec_wire.specs.Machine.{wave_after, low_since, IsReady}
-use Rattle.cec_wire.specs.Round.{IsRoundLine}
 use Rattle.cec_one_wire.specs.declared.edge_wire.EdgeWire.{EdgeWire}
 use Rattle.cec_one_wire.specs.Line.{HaveBegun}
 use Rattle.cec_one_wire.specs.Told.{told_of}
 use Rattle.cec_one_wire.specs.Turns.{IsToldNext}
 use Rattle.cec_one_wire.specs.Wire.{IsRead}
-use Rattle.cec_one_wire.specs.Wired.{EachLine, IsBegunWith, IsFresh, IsKept, Records, end_in}
+use Rattle.cec_one_wire.specs.Wired.{EachLine, IsBegunWith, IsKept, Records, end_in}
 use Rattle.cec_one_wire.proofs.Bounded.{line_of_past, past_round, past_wave, none_later, stands_past}
 use Rattle.cec_one_wire.proofs.Recorded.{records_first, records_next, records_ready, records_room}
 use Rattle.cec_one_wire.proofs.Turning.{later_sooner}

@@ -1,12 +1,11 @@
 -- A wire hears a microsecond.
-use Rattle.std.proofs.Common.{◌≡◌, ◌≢◌, ℕ, zero, suc, ◌+◌, ◌-◌, ◌%◌, ◌==◌, ◌<◌, ◌≤◌, Bool, true, false, not, ◌&&◌, ◌||◌, nat_lt, if◌then◌else◌, ◌⊎◌, inl, inr, List, [], ◌∷◌, ◌++◌, length, append-nil, Option, Some, None, is_some, refl, arith, ap, ◌∙◌, sym, subst}
-use Rattle.std.specs.List.{list_any, All}
+use Rattle.std.proofs.Common.{◌≡◌, ◌≢◌, ℕ, ◌+◌, ◌-◌, ◌%◌, ◌==◌, ◌<◌, ◌≤◌, Bool, true, false, not, ◌&&◌, ◌||◌, nat_lt, if◌then◌else◌, ◌⊎◌, inl, inr, List, [], ◌++◌, length, Option, Some, None, is_some, refl, arith, ap, ◌∙◌, sym, subst}
+use Rattle.std.specs.List.{All}
 use Rattle.std.proofs.lemmas.Bool.{cases_lt}
 use Rattle.std.proofs.lemmas.Bool.Decides.{nat_tests}
 use mathlib.Core.Bool.{beq}
 use Rattle.cec_wave.specs.declared.Stretch.{Stretch}
 use Rattle.cec_wave.specs.Line.{Line, was_low, IsWave}
-use Rattle.cec_wave.specs.Bounds.{latest_heard}
 use Rattle.cec_frame.specs.declared.Ending.{Ending}
 use Rattle.cec_frame.specs.declared.Ending.TheVariants.{Short, Silent, BadStart}
 use Rattle.cec_bits.specs.declared.receiver.Receiver.{Receiver}
@@ -15,23 +14,21 @@ use Rattle.cec_bits.specs.declared.receiver.ReceiverState.TheVariants.{Rest, Sta
 use Rattle.cec_bits.specs.declared.receiver.Told.{Told}
 use Rattle.cec_bits.specs.declared.receiver.Told.TheVariants.{Nothing, Bit, Last, Ended}
 use Rattle.cec_bits.specs.declared.sender.Sender.{Sender}
-use Rattle.cec_bits.specs.Follows.{StoodBefore, StandsOn}
-use Rattle.cec_bits.specs.Hears.{Hears, Heard, heard_by, hear_in, hear_at, hears, wake_of, reported_so, rest, starts, sample_as}
+use Rattle.cec_bits.specs.Follows.{StandsOn}
+use Rattle.cec_bits.specs.Hears.{Hears, Heard, heard_by, hear_in, hear_at, hears, wake_of, reported_so, rest, starts}
 use Rattle.cec_bits.specs.Kept.{reported_at}
-use Rattle.cec_bits.specs.Reading.{End, reading_of, last_ending}
-use Rattle.cec_bits.specs.Sending.{destination}
+use Rattle.cec_bits.specs.Reading.{End}
 use Rattle.cec_wire.specs.declared.Seat.{Seat}
 use Rattle.cec_wire.specs.declared.hearing.Ended.{Ended as Ending_kept}
-use Rattle.cec_wire.specs.Machine.{acks_after, acks_until, breaks_after, is_short}
+use Rattle.cec_wire.specs.Machine.{acks_until, is_short}
 use Rattle.cec_wire.specs.Round.{IsRoundLine}
-use Rattle.cec_edges.specs.Listening.{IsReadOnce, AreSenders, AreBegun, AllHeard}
+use Rattle.cec_edges.specs.Listening.{AreSenders, AreBegun}
 use Rattle.cec_one_wire.specs.declared.edge_wire.EdgeWire.{EdgeWire}
 use Rattle.cec_one_wire.specs.Line.{HaveBegun}
 use Rattle.cec_one_wire.specs.Pulls.{due_in, low_in, held_in}
-use Rattle.cec_one_wire.specs.States.{acks_to, breaks_by}
 use Rattle.cec_one_wire.specs.Steps.{StandsAfter, wakes_in}
 use Rattle.cec_one_wire.specs.Told.{told_of}
-use Rattle.cec_one_wire.specs.Turns.{Heeds, KeepsOver, IsToldNext, acks_by, breaks_until, ended_by, held_by, is_told_in}
+use Rattle.cec_one_wire.specs.Turns.{Heeds, KeepsOver, IsToldNext, acks_by, ended_by, held_by, is_told_in}
 use Rattle.cec_one_wire.specs.Wire.{IsAt, Ticked, until_by, goes_on, bits_in, ends_as, held_from}
 use Rattle.cec_one_wire.specs.Wired.{EachLine, IsBegunWith, IsFresh, StandsOnLine, end_of, end_in, is_low_in, pulls_in}
 use Rattle.cec_one_wire.proofs.Calm.{told_stays, told_now, told_before_now}

@@ -1,9 +1,8 @@
 -- What the senders do is kept for as long as it lasts.
-use Rattle.std.proofs.Common.{◌≡◌, ℕ, ◌+◌, ◌<◌, ◌≤◌, Bool, List, Option, arith, ap, ◌∙◌, sym, subst}
+use Rattle.std.proofs.Common.{◌≡◌, ℕ, ◌+◌, ◌<◌, ◌≤◌, Bool, List, Option, arith, ap, ◌∙◌, sym}
 use Rattle.std.specs.List.{list_any}
 use Rattle.cec_bits.specs.declared.sender.Sender.{Sender}
 use Rattle.cec_one_wire.specs.declared.edge_wire.EdgeWire.{EdgeWire}
-use Rattle.cec_one_wire.specs.declared.senders.Pull.{Pull}
 use Rattle.cec_one_wire.specs.Pulls.{pull_in}
 use Rattle.cec_one_wire.specs.Wired.{IsKept}
 

@@ -1,8 +1,8 @@
 -- The wave of a round's line, as a wire records it.
-use Rattle.std.proofs.Common.{◌≡◌, ℕ, zero, suc, ◌+◌, ◌<◌, ◌≤◌, Bool, true, false, List, [], ◌∷◌, length, Option, Some, None, is_some, refl, arith, ap, ◌∙◌, sym, subst}
+use Rattle.std.proofs.Common.{◌≡◌, ℕ, zero, suc, ◌+◌, ◌<◌, ◌≤◌, Bool, true, false, List, [], ◌∷◌, length, Option, Some, None, is_some, arith, subst}
 use Rattle.std.specs.List.{All}
 use Rattle.cec_wave.specs.declared.Stretch.{Stretch}
-use Rattle.cec_wave.specs.Line.{Line, line_of, is_fall, was_low, IsWave, IsWaveFrom}
+use Rattle.cec_wave.specs.Line.{Line, line_of, is_fall, IsWaveFrom}
 use Rattle.cec_wave.specs.Bounds.{most_stretches}
 use Rattle.cec_wire.specs.declared.Seat.{Seat}
 use Rattle.cec_wire.specs.Machine.{wave_after, low_since, IsReady}

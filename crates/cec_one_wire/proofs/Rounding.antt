@@ -1,5 +1,5 @@
 -- A whole round, over pulses of which the first come before it.
-use Rattle.std.proofs.Common.{◌≡◌, ℕ, zero, suc, ◌+◌, ◌-◌, ◌<◌, ◌≤◌, Bool, true, false, List, [], ◌∷◌, ◌++◌, append_assoc, length, length-append, take, drop, slice_get, Option, Some, None, IfSome, MatchOption, is_some, refl, arith, ap, ◌∙◌, sym, subst}
+use Rattle.std.proofs.Common.{◌≡◌, ℕ, zero, suc, ◌+◌, ◌<◌, ◌≤◌, true, false, List, [], ◌∷◌, ◌++◌, append_assoc, length, length-append, take, drop, slice_get, Option, Some, None, IfSome, MatchOption, is_some, refl, arith, ap, ◌∙◌, sym, subst}
 use Rattle.std.specs.List.{All}
 use Rattle.std.proofs.lemmas.List.{take-append-drop}
 use Rattle.std.proofs.lemmas.Option.{slice_get_past}
@@ -15,7 +15,7 @@ use Rattle.cec_edges.proofs.Rounding.{round_front}
 use Rattle.cec_one_wire.specs.declared.edge_wire.EdgeWire.{EdgeWire}
 use Rattle.cec_one_wire.specs.Line.{EndsInTime}
 use Rattle.cec_one_wire.specs.Wired.{ArePulls, IsBegunWith, IsRoundOf, SameRound, is_silent_in}
-use Rattle.cec_one_wire.proofs.Searching.{all_dropped, all_start, both_late, drop_get, drop_none, late_next, sparse_start, wave_rest, wave_start}
+use Rattle.cec_one_wire.proofs.Searching.{all_dropped, all_start, both_late, drop_get, drop_none, late_next, sparse_start}
 
 -- ---- sparse pulses are a wave
 

@@ -1,8 +1,7 @@
 -- A wire that looks for the next edge of its line.
-use Rattle.std.proofs.Common.{◌≡◌, ℕ, zero, suc, ◌+◌, ◌-◌, ◌^◌, ◌<◌, ◌≤◌, Bool, true, false, not, ◌&&◌, nat_lt, List, [], ◌∷◌, ◌++◌, append_assoc, append-nil, length, length-append, take, drop, slice_get, ◌⊎◌, inl, inr, Option, Some, None, IfSome, is_some, refl, arith, ap, ◌∙◌, sym, subst}
+use Rattle.std.proofs.Common.{◌≡◌, ℕ, zero, suc, ◌+◌, ◌-◌, ◌^◌, ◌<◌, ◌≤◌, Bool, true, false, not, ◌&&◌, List, [], ◌∷◌, ◌++◌, append_assoc, append-nil, length, length-append, take, drop, slice_get, ◌⊎◌, inl, inr, Option, Some, None, IfSome, is_some, refl, arith, ap, ◌∙◌, sym, subst}
 use Rattle.std.specs.List.{All}
 use Rattle.std.proofs.lemmas.Bool.{cases_lt}
-use Rattle.std.proofs.lemmas.Bool.Decides.{nat_tests}
 use Rattle.std.proofs.lemmas.List.{take-append-drop}
 use Rattle.cec_wave.specs.declared.Stretch.{Stretch}
 use Rattle.cec_wave.specs.declared.Edge.{Edge}
@@ -12,10 +11,9 @@ use Rattle.cec_wave.specs.Pulses.{AreSparse, AreFarApart, IsNarrow}
 use Rattle.cec_bits.specs.Reading.{Read, reading_of}
 use Rattle.cec_wire.specs.declared.Seat.{Seat}
 use Rattle.cec_wire.specs.declared.hearing.Ended.{Ended as Ending_kept}
-use Rattle.cec_wire.specs.Edges.{IsNextEdge}
 use Rattle.cec_wire.specs.Round.{IsRoundLine}
 use Rattle.cec_one_wire.specs.declared.edge_wire.EdgeWire.{EdgeWire}
-use Rattle.cec_one_wire.specs.Line.{EndsInTime, last_of, HaveBegun}
+use Rattle.cec_one_wire.specs.Line.{EndsInTime, last_of}
 use Rattle.cec_one_wire.specs.Steps.{EdgeBy}
 use Rattle.cec_one_wire.specs.Told.{told_of}
 use Rattle.cec_one_wire.specs.Turns.{IsCalm, Takes}
@@ -25,7 +23,7 @@ use Rattle.cec_one_wire.proofs.Bounded.{goes_short}
 use Rattle.cec_one_wire.proofs.Heard.{records_now}
 use Rattle.cec_one_wire.proofs.Hearing.{kept_end}
 use Rattle.cec_one_wire.proofs.Told.{told_is_read, was_is, round_is_lone}
-use Rattle.cec_one_wire.proofs.Turning.{later_sooner, at_time}
+use Rattle.cec_one_wire.proofs.Turning.{later_sooner}
 use Rattle.cec_one_wire.proofs.Standing.{until_by as until_at}
 
 -- ---- lists

@@ -1,21 +1,18 @@
 -- A wire waits until somebody changes what he does.
-use Rattle.std.proofs.Common.{◌≡◌, ℕ, zero, suc, ◌+◌, ◌-◌, ◌<◌, ◌≤◌, Bool, true, false, List, [], ◌∷◌, ◌++◌, append-nil, inl, inr, Option, Some, None, IfSome, is_some, refl, arith, ap, ◌∙◌, sym, subst}
+use Rattle.std.proofs.Common.{◌≡◌, ℕ, ◌+◌, ◌-◌, ◌<◌, ◌≤◌, Bool, true, false, List, [], ◌++◌, append-nil, inl, inr, Option, IfSome, refl, arith, ◌∙◌, sym, subst}
 use Rattle.std.specs.List.{list_any, All}
 use mathlib.Core.Bool.{beq}
 use Rattle.std.proofs.lemmas.Bool.{cases_lt}
-use Rattle.std.proofs.lemmas.Bool.Decides.{nat_tests}
 use Rattle.cec_wave.specs.declared.Stretch.{Stretch}
-use Rattle.cec_wave.specs.Line.{Line, was_low, IsWave}
+use Rattle.cec_wave.specs.Line.{was_low, IsWave}
 use Rattle.cec_wave.specs.Bounds.{latest_heard}
-use Rattle.cec_wire.specs.declared.Seat.{Seat}
-use Rattle.cec_wire.specs.Round.{IsRoundLine}
 pub use Rattle.cec_wire.proofs.Exists.{made_line, made_round}
 use Rattle.cec_one_wire.specs.declared.edge_wire.EdgeWire.{EdgeWire}
 use Rattle.cec_one_wire.specs.Line.{HaveBegun}
 use Rattle.cec_one_wire.specs.Pulls.{pull_in, low_in}
 use Rattle.cec_one_wire.specs.Told.{told_of}
 use Rattle.cec_one_wire.specs.Wire.{IsAt, IsQuiet, until_by}
-use Rattle.cec_one_wire.specs.Wired.{EachLine, EachOf, IsBegunWith, IsFresh, StandsOnLine, Records, end_in, is_low_in, pulls_in}
+use Rattle.cec_one_wire.specs.Wired.{EachLine, IsBegunWith, StandsOnLine, Records, end_in, is_low_in, pulls_in}
 use Rattle.cec_one_wire.specs.Turns.{IsWake, IsCalm}
 use Rattle.cec_one_wire.proofs.Calm.{told_stays}
 use Rattle.cec_one_wire.proofs.Recorded.{records_calm}

@@ -1,11 +1,11 @@
 -- A turn of a wire: it waits, takes the pull that begins, and hears a microsecond. (own)
-use Rattle.std.specs.Prelude.{◌≡◌, ◌≢◌, ℕ, ◌+◌, ◌%◌, ◌==◌, ◌<◌, ◌≤◌, Bool, false, not, ◌&&◌, ◌||◌, if◌then◌else◌, List, ◌++◌, length, ◌⊎◌, Option, Some, None, IfSome}
+use Rattle.std.specs.Prelude.{◌≡◌, ◌≢◌, ℕ, ◌+◌, ◌%◌, ◌==◌, ◌<◌, ◌≤◌, Bool, not, ◌&&◌, ◌||◌, if◌then◌else◌, List, ◌++◌, length, ◌⊎◌, Option, Some, None, IfSome}
 use mathlib.Core.Bool.{beq}
 use Rattle.cec_wave.specs.declared.Stretch.{Stretch}
 use Rattle.cec_wave.specs.Line.{Line}
 use Rattle.cec_frame.specs.declared.Ending.{Ending}
 use Rattle.cec_bits.specs.declared.receiver.Told.{Told}
-use Rattle.cec_bits.specs.declared.receiver.Told.TheVariants.{Nothing, Bit, Last, Ended}
+use Rattle.cec_bits.specs.declared.receiver.Told.TheVariants.{Nothing, Last, Ended}
 use Rattle.cec_bits.specs.declared.sender.Sender.{Sender}
 use Rattle.cec_bits.specs.Hears.{heard_by, wake_of}
 use Rattle.cec_bits.specs.Reading.{End}

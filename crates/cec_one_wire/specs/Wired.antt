@@ -1,5 +1,5 @@
 -- A wire of one receiver and its senders that stands in a round. (own)
-use Rattle.std.specs.Prelude.{◌≡◌, ℕ, ◌+◌, ◌-◌, ◌<◌, ◌≤◌, Bool, true, false, not, slice_get, nat_lt, nat_le, ◌&&◌, ◌||◌, if◌then◌else◌, List, [], ◌∷◌, ◌++◌, length, Option, Some, None, is_some, All, take, drop}
+use Rattle.std.specs.Prelude.{◌≡◌, ℕ, ◌+◌, ◌-◌, ◌<◌, ◌≤◌, Bool, true, false, not, slice_get, nat_le, ◌&&◌, ◌||◌, List, [], ◌++◌, length, Option, Some, None, is_some, All, take, drop}
 use Rattle.std.specs.List.{list_any}
 use Rattle.std.specs.Option.{option_to_list}
 use Rattle.cec_wave.specs.declared.Stretch.{Stretch}
@@ -20,7 +20,6 @@ use Rattle.cec_wire.specs.Machine.{AreSentWell}
 use Rattle.cec_wire.specs.Round.{IsRoundLine, IsRound}
 use Rattle.cec_edges.specs.Listening.{AreBegun, IsIdle}
 use Rattle.cec_one_wire.specs.declared.edge_wire.EdgeWire.{EdgeWire}
-use Rattle.cec_one_wire.specs.declared.senders.Pull.{Pull}
 use Rattle.cec_one_wire.specs.Line.{HaveBegun, EndsInTime}
 use Rattle.cec_one_wire.specs.Pulls.{pull_in, low_in}
 use Rattle.cec_one_wire.specs.Told.{told_of}

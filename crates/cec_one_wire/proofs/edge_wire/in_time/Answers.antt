@@ -1,4 +1,4 @@
-use Rattle.std.proofs.Common.{◌+◌, ◌<◌, arith, ap}
+use Rattle.std.proofs.Common.{◌+◌, arith, ap}
 use Rattle.std.proofs.lemmas.List.Elements.{All-more}
 use Rattle.cec_one_wire.specs.Line.{EndsInTime}
 use Rattle.cec_one_wire.proofs.Rounding.{none_past}

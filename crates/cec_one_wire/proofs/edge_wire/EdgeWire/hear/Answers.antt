@@ -1,4 +1,4 @@
-use Rattle.std.proofs.Common.{◌<◌, ◌+◌, ◌≡◌, ℕ, length, arith, sym, ap, subst, ◌∙◌}
+use Rattle.std.proofs.Common.{◌<◌, ◌+◌, ◌≡◌, length, arith, sym, ap, subst, ◌∙◌}
 use Rattle.cec_wave.specs.Bounds.{most_stretches}
 use Rattle.cec_wire.specs.declared.recorder.Recorder.{Recorder}
 use Rattle.cec_wire.specs.Machine.{IsReady, wave_after, low_since}

@@ -1,7 +1,6 @@
-use Rattle.std.proofs.Common.{List, ◌++◌, ◌-◌, ◌+◌, ◌<◌, ◌≤◌, ◌≡◌, take, arith, sym, ◌∙◌, ap, Some, None}
+use Rattle.std.proofs.Common.{List, ◌++◌, ◌-◌, take, arith, sym, ◌∙◌, Some, None}
 use Rattle.cec_wave.specs.declared.Stretch.{Stretch}
-use Rattle.cec_wave.specs.Bounds.{latest_heard}
-use Rattle.cec_one_wire.proofs.Searching.{Goes, Turned, Turns, few_begun, goes_first, goes_next, next_late, found_edge, found_none, takes_begun, takes_early, turned, turns_time}
+use Rattle.cec_one_wire.proofs.Searching.{few_begun, goes_first, goes_next, next_late, found_edge, found_none, takes_begun, takes_early, turned, turns_time}
 use Rattle.cec_one_wire.proofs.edge_wire.EdgeWire.search.Goals as goal
 
 pub wakes-init : goal.wakes-init

@@ -1,5 +1,5 @@
 use Rattle.cec_one_wire.proofs.Heard.{bits_room}
-use Rattle.cec_one_wire.proofs.Hearing.{Ticks, tells_none, tells_some}
+use Rattle.cec_one_wire.proofs.Hearing.{tells_none, tells_some}
 use Rattle.cec_one_wire.proofs.edge_wire.EdgeWire.tell.Goals as goal
 
 pub tick-requires-clause-room : goal.tick-requires-clause-room

@@ -1,6 +1,4 @@
-use Rattle.std.proofs.Common.{ℕ, ◌<◌, ◌≤◌, ◌+◌, arith}
-use Rattle.cec_wave.specs.declared.Stretch.{Stretch}
-use Rattle.cec_one_wire.specs.Turns.{IsWake}
+use Rattle.std.proofs.Common.{arith}
 use Rattle.cec_one_wire.proofs.Bounded.{goes_near, waits_near}
 use Rattle.cec_one_wire.proofs.Turning.{Waits, waits_by, waits_after, waits_calm, waits_so}
 use Rattle.cec_one_wire.proofs.edge_wire.EdgeWire.wait.Goals as goal
