@@ -7,14 +7,14 @@ use Rattle.cec_bits.specs.declared.receiver.ReceiverState.TheVariants.{StartLow}
 use Rattle.cec_frame.specs.declared.Ending.TheVariants.{BadStart}
 use Rattle.cec_bits.specs.declared.receiver.Told.TheVariants.{Nothing, Ended}
 use Rattle.cec_bits.specs.Hears.{Hears, Heard, heard_by, wake_of, hear_in, hears, hears_with, reported_so, starts}
-use Rattle.cec_bits.proofs.Keeping.{before_heard}
 use Rattle.cec_edges.specs.Listening.{IsReadOnce}
 use Rattle.cec_one_wire.specs.Told.{is_high_for, told_of, ToldStays, ToldNow}
 use Rattle.cec_one_wire.proofs.First.{begins_so}
 use Rattle.cec_one_wire.proofs.Told.{and_no, or_no, was_is, all_high, told_since, told_low, told_late}
+use Rattle.cec_one_wire.proofs.Lows.{before_heard}
 
 -- a receiver that is told low since the begin waits for the start bit's rise
-start_stays : (told : Line) (begin k : ℕ) → IsReadOnce told begin → begin + 1 + k ≤ begin + 3901 → ((u : ℕ) → begin ≤ u → u < begin + 1 + k → told u ≡ true)
+pub start_stays : (told : Line) (begin k : ℕ) → IsReadOnce told begin → begin + 1 + k ≤ begin + 3901 → ((u : ℕ) → begin ≤ u → u < begin + 1 + k → told u ≡ true)
     → hears told (begin + 1 + k) ≡ record { place = StartLow; begin = begin; fall = 0; bits = [] }
 unfolding hears hears_with
 start_stays told begin zero once l h = ap (hears told) (let x : begin + 1 + zero ≡ suc begin = omega arith in x) ∙ begins_so told begin once
@@ -33,7 +33,7 @@ start_stays told begin (suc k) once l h =
 
 -- ---- the line
 
-high_if : (low : Line) (from n : ℕ) → ((k : ℕ) → k < n → low (from + k) ≡ false) → is_high_for low from n ≡ true
+pub high_if : (low : Line) (from n : ℕ) → ((k : ℕ) → k < n → low (from + k) ≡ false) → is_high_for low from n ≡ true
 unfolding is_high_for
 high_if low from zero h = refl
 high_if low from (suc n) h = ap (λ b. not b && is_high_for low from n) (h n (omega arith)) ∙ high_if low from n (λ k l. h k (omega arith))
@@ -122,3 +122,30 @@ told_now low begin r t once stood from why = by_high (is_high_for low begin (t -
     by_high : (c : Bool) → is_high_for low begin (t - begin) ≡ c → told_of low begin t ≡ low t
     by_high true h = by_why h why (cases_lt (begin + 3901) (t + 1))
     by_high false h = told_since low begin t (omega (arith, from)) h
+
+-- What the receiver was told just before is what the line did, or it waits for the start bit's rise.
+pub told_before_now : (low : Line) (begin t : ℕ) → IsReadOnce (told_of low begin) begin → begin < t
+    → (was_low (told_of low begin) t ≡ was_low low t) ⊎ (hears (told_of low begin) t ≡ record { place = StartLow; begin = begin; fall = 0; bits = [] })
+told_before_now low begin t once from = by_high (is_high_for low begin (t - begin)) refl
+  where
+    before : told_of low begin (t - 1) ≡ (low (t - 1) || (nat_le begin (t - 1) && (nat_lt (t - 1) (begin + 3901) && is_high_for low begin (t - begin))))
+    before = ap (λ n. low (t - 1) || (nat_le begin (t - 1) && (nat_lt (t - 1) (begin + 3901) && is_high_for low begin n))) (let x : t - 1 + 1 - begin ≡ t - begin = omega (arith, from) in x)
+
+    alike : told_of low begin (t - 1) ≡ low (t - 1) → was_low (told_of low begin) t ≡ was_low low t
+    alike e = was_is (told_of low begin) t (omega (arith, from)) ∙ e ∙ sym (was_is low t (omega (arith, from)))
+
+    told_yes : is_high_for low begin (t - begin) ≡ true → (v : ℕ) → begin ≤ v → v < t → v < begin + 3901 → told_of low begin v ≡ true
+    told_yes h v c d e =
+        told_low low begin v c e (high_if low begin (v - begin) (λ k l. all_high low begin (t - begin) h k (omega (arith, l, c, d))))
+
+    by_time : is_high_for low begin (t - begin) ≡ true → (begin + 3901 < t) ⊎ (t ≤ begin + 3901)
+        → (was_low (told_of low begin) t ≡ was_low low t) ⊎ (hears (told_of low begin) t ≡ record { place = StartLow; begin = begin; fall = 0; bits = [] })
+    by_time h (inl l) = inl (alike (told_late low begin (t - 1) (omega (arith, l))))
+    by_time h (inr l) = inr (ap (hears (told_of low begin)) (let x : t ≡ begin + 1 + (t - begin - 1) = omega (arith, from) in x)
+        ∙ start_stays (told_of low begin) begin (t - begin - 1) once (omega (arith, from, l)) (λ v c d. told_yes h v c (omega (arith, d, from)) (omega (arith, d, l, from))))
+
+    by_high : (c : Bool) → is_high_for low begin (t - begin) ≡ c → (was_low (told_of low begin) t ≡ was_low low t) ⊎ (hears (told_of low begin) t ≡ record { place = StartLow; begin = begin; fall = 0; bits = [] })
+    by_high true h = by_time h (cases_lt (begin + 3901) t)
+    by_high false h = inl (alike (before ∙ ap (λ c. low (t - 1) || (nat_le begin (t - 1) && (nat_lt (t - 1) (begin + 3901) && c))) h
+        ∙ ap (λ c. low (t - 1) || (nat_le begin (t - 1) && c)) (and_no (nat_lt (t - 1) (begin + 3901)))
+        ∙ ap (λ c. low (t - 1) || c) (and_no (nat_le begin (t - 1))) ∙ or_no (low (t - 1))))

@@ -15,15 +15,14 @@ use Rattle.cec_bits.specs.Kept.{kept_before}
 use Rattle.cec_bits.specs.Sending.{out_slot, state_by, state_before, may_pull, pull_of, sender_pulls, SenderStood}
 use Rattle.cec_bits.proofs.Causes.{nothing, known_start_low}
 use Rattle.cec_bits.proofs.Ends.{ends_after}
-use Rattle.cec_bits.proofs.Keeping.{before_heard}
-use Rattle.cec_bits.proofs.Stood.{was_now}
+pub use Rattle.cec_bits.proofs.Stood.{was_now}
 use Rattle.cec_wire.specs.declared.Seat.{Seat}
 use Rattle.cec_wire.specs.Round.{frames_of, pulled_by}
-use Rattle.cec_wire.proofs.Still.{high_before}
 use Rattle.cec_edges.specs.Listening.{IsReadOnce, IsSenderOf, SendsFor, AreBegun, AreSenders, IsSending, AreSending}
 use Rattle.cec_one_wire.specs.Pulls.{pull_in, takes_last, held_in}
 use Rattle.cec_one_wire.specs.Told.{FirstLow, FirstTick}
-use Rattle.cec_one_wire.proofs.Lows.{pulls_by_last, was_high}
+use Rattle.cec_one_wire.proofs.Lows.{pulls_by_last, was_high, before_heard}
+use Rattle.cec_one_wire.proofs.Told.{high_before}
 
 -- ---- senders that begin
 

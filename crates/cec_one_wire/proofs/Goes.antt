@@ -9,13 +9,12 @@ use Rattle.cec_frame.specs.declared.Ending.{Ending}
 use Rattle.cec_bits.specs.Hears.{heard_by, wake_of}
 use Rattle.cec_bits.specs.Reading.{End, known_at, reading_of}
 use Rattle.cec_bits.specs.Kept.{Sample, kept_before, reported_with, reported_in, reported_at, sample_in}
-use Rattle.cec_bits.proofs.Ends.{until_by as until_at}
 use Rattle.cec_bits.proofs.Following.{stood_calm, once_so}
 use Rattle.cec_wire.specs.declared.Seat.{Seat}
 use Rattle.cec_edges.specs.Listening.{IsReadOnce}
 use Rattle.cec_one_wire.specs.Pulls.{Stands, until_of, IsHeld}
 use Rattle.cec_one_wire.specs.Wire.{IsRead, IsAt, until_by, LowIsFound, CalmStays, CalmTo}
-use Rattle.cec_one_wire.proofs.Standing.{all_later}
+use Rattle.cec_one_wire.proofs.Standing.{all_later, until_by as until_at}
 use Rattle.cec_one_wire.proofs.Lows.{low_is_heard, due_is_heard, held_when_due, runs_in_it}
 
 over_known : (low : Line) (begin t : ℕ) (end : End) → (reading_of low begin).at < t → end ≡ record { ending = (reading_of low begin).ending; at = (reading_of low begin).at; until = (reading_of low begin).until }

@@ -13,3 +13,14 @@ pub mod Pulling
 pub mod Begins
 pub mod Calm
 pub mod Room
+pub mod Due
+pub mod Recorded
+pub mod Kept
+pub mod Turning
+pub mod Hearing
+pub mod Bounded
+pub mod Heard
+pub mod Fresh
+pub mod Searching
+pub mod Finishing
+pub mod Rounding

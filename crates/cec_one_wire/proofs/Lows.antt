@@ -16,11 +16,13 @@ use Rattle.cec_bits.proofs.Causes.{known_start_low, known_start_high, known_in_s
 use Rattle.cec_one_wire.proofs.Along.{AreOver, Reached, over_sampled, next_none, ends_so, known_ending}
 use Rattle.cec_bits.specs.declared.receiver.ReceiverState.{ReceiverState}
 use Rattle.cec_bits.specs.declared.receiver.ReceiverState.TheVariants.{Rest, StartLow, StartHigh, Unsampled, Sampled}
-use Rattle.cec_bits.specs.Hears.{Hears, heard_by, hears}
+use Rattle.cec_bits.specs.Follows.{StoodBefore}
+use Rattle.cec_bits.specs.Hears.{Hears, heard_by, hears, wake_of}
+use Rattle.cec_bits.specs.declared.receiver.Receiver.{Receiver}
 use Rattle.cec_bits.specs.Kept.{running_of}
 use Rattle.cec_bits.specs.Sending.{known_bits, is_whole, out_by, state_by, sender_pulls, pull_of, SenderStood}
 use Rattle.cec_bits.proofs.Stood.{StandsIn, Knows, runs_in, stands_at}
-use Rattle.cec_bits.proofs.Keeping.{one_runs, before_heard, running_knows, runs_so}
+pub use Rattle.cec_bits.proofs.Keeping.{one_runs, before_heard, reported_heard, running_knows, runs_so}
 use Rattle.cec_bits.proofs.Sent.{pulls_so}
 use Rattle.cec_wire.specs.declared.Seat.{Seat}
 use Rattle.cec_wire.specs.Round.{frames_of, is_within, pulse_pulls, is_acknowledged, is_broken, pulled_by}
@@ -376,3 +378,40 @@ held_when_due seats r low begin t once stood from runs = by_due (due_in r.place 
         subst (λ n. IsHeld seats low begin t n) (ap (λ (x : Hears). held_in seats x.place x.fall x.bits) (sym e))
         (subst (λ n. IsHeld seats low n t (held_in seats (hears low t).place (hears low t).fall (hears low t).bits)) b
         (held_due seats low t (hears low t).place (hears low t).begin (hears low t).fall (hears low t).bits (stands_at low t) (ap (λ (x : Hears). due_in x.place x.begin x.fall t) (sym e) ∙ d)))
+
+-- ---- no receiver wakes in the past
+
+ahead_at : (low : Line) (t : ℕ) (place : ReceiverState) (begin fall : ℕ) (bits : List Bool) → StandsIn low t place begin fall bits → (n : ℕ) → wake_of (record { place = place; begin = begin; fall = fall; bits = bits }) ≡ Some n → t ≤ n
+unfolding StandsIn
+ahead_at low t Rest begin fall bits s n e = let x : None ≡ Some n = e in cc
+ahead_at low t StartLow begin fall bits s n e = let x : Some (begin + 3901) ≡ Some n = e in let y : begin + 3901 ≡ n = cc in let m : t ≤ begin + 3901 = s.early in omega (arith, y, m)
+ahead_at low t StartHigh begin fall bits s n e = let x : Some (begin + 4701) ≡ Some n = e in let y : begin + 4701 ≡ n = cc in let m : t ≤ begin + 4701 = s.early in omega (arith, y, m)
+ahead_at low t Unsampled begin fall bits s n e = let x : Some (fall + 1050) ≡ Some n = e in let y : fall + 1050 ≡ n = cc in let m : t ≤ fall + 1050 = s.early in omega (arith, y, m)
+ahead_at low t Sampled begin fall bits s n e = let x : Some (fall + 2751) ≡ Some n = e in let y : fall + 2751 ≡ n = cc in let m : t ≤ fall + 2751 = s.early in omega (arith, y, m)
+
+pub wakes_ahead : (r : Receiver) (low : Line) (t : ℕ) → StoodBefore r low t → (n : ℕ) → wake_of (heard_by r) ≡ Some n → t ≤ n
+wakes_ahead r low t s n e =
+    ahead_at low t (hears low t).place (hears low t).begin (hears low t).fall (hears low t).bits (stands_at low t) n (ap wake_of (sym (s.keeps ∙ before_heard low t)) ∙ e)
+
+-- in the start bit, before its rise, the line is low
+still_low : (low : Line) (t : ℕ) (place : ReceiverState) (begin fall : ℕ) (bits : List Bool) → StandsIn low t place begin fall bits → place ≡ StartLow → was_low low t ≡ true
+unfolding StandsIn
+still_low low t Rest begin fall bits s e = cc
+still_low low t StartLow begin fall bits s e = s.still
+still_low low t StartHigh begin fall bits s e = cc
+still_low low t Unsampled begin fall bits s e = cc
+still_low low t Sampled begin fall bits s e = cc
+
+pub start_low : (low : Line) (t : ℕ) → (hears low t).place ≡ StartLow → was_low low t ≡ true
+start_low low t e = still_low low t (hears low t).place (hears low t).begin (hears low t).fall (hears low t).bits (stands_at low t) e
+
+-- while a reading runs
+not_rest : (place : ReceiverState) (begin b : ℕ) → runs_in place begin ≡ Some b → place ≢ Rest
+not_rest Rest begin b e = cc
+not_rest StartLow begin b e = λ z. cc
+not_rest StartHigh begin b e = λ z. cc
+not_rest Unsampled begin b e = λ z. cc
+not_rest Sampled begin b e = λ z. cc
+
+pub runs_place : (low : Line) (begin t : ℕ) → IsReadOnce low begin → begin < t → t ≤ (reading_of low begin).at → (hears low t).place ≢ Rest
+runs_place low begin t once from runs = not_rest (hears low t).place (hears low t).begin begin (runs_there low begin t once from runs)

@@ -15,19 +15,16 @@ use Rattle.cec_bits.specs.Follows.{StoodBefore}
 use Rattle.cec_bits.specs.Hears.{Heard, reported_so, rest, starts, sample_as}
 use Rattle.cec_bits.specs.Reading.{Read, reading_of, bits_of, last_ending}
 use Rattle.cec_bits.specs.Sending.{destination, is_whole, is_out_by, out_by, out_slot, state_by, state_before, SenderStood}
-use Rattle.cec_bits.proofs.Ends.{until_by as until_at}
 use Rattle.cec_wire.specs.declared.Seat.{Seat}
 use Rattle.cec_wire.specs.declared.Loser.{Loser}
 use Rattle.cec_wire.specs.Machine.{acks_after, breaks_after, acks_until, sends_after}
 use Rattle.cec_wire.specs.Round.{is_held, is_not_before, lost_at, out_of, all_known, sends_in, survivors_from, losers_from}
-use Rattle.cec_wire.proofs.Spans.{reading_spans}
-use Rattle.cec_wire.proofs.Polled.{reported_bits}
 use Rattle.cec_edges.specs.Listening.{IsReadOnce, AreSenders, AreSending, SendsFor, IsSending}
 use Rattle.cec_one_wire.specs.Pulls.{is_on, held_in}
 use Rattle.cec_one_wire.specs.Wire.{goes_on}
 use Rattle.cec_one_wire.specs.States.{acks_to, breaks_by, out_at, out_in, stays_at, survivor_at, survivors_of, losers_of, FollowersAreHeard, HeldGoes, StatesAreFates}
 use Rattle.cec_one_wire.proofs.Lows.{sending_is_heard, take_most}
-use Rattle.cec_one_wire.proofs.Standing.{over_state}
+use Rattle.cec_one_wire.proofs.Standing.{over_state, until_by as until_at, reading_spans, reported_bits}
 
 -- ---- those who follow
 

@@ -10,20 +10,16 @@ use Rattle.cec_bits.specs.declared.sender.Sender.{Sender}
 use Rattle.cec_bits.specs.Hears.{Hears, Heard, heard_by, hear_in, hears}
 use Rattle.cec_bits.specs.Reading.{End, known_at, reading_of, read_slots, bits_of}
 use Rattle.cec_bits.specs.Kept.{Sample, kept_before, reported_with, reported_in, reported_at, sample_in}
-use Rattle.cec_bits.proofs.Ends.{until_by as until_at}
 use Rattle.cec_bits.proofs.Stood.{runs_in, was_now, KnowsEnd, step, stands_at}
 use Rattle.cec_bits.specs.Sending.{known_bits}
-use Rattle.cec_wire.proofs.Spans.{reading_spans}
-use Rattle.cec_wire.proofs.Polled.{reported_bits}
-use Rattle.cec_bits.proofs.Keeping.{before_heard, reported_heard}
 use Rattle.cec_wire.specs.declared.Seat.{Seat}
 use Rattle.cec_edges.specs.Listening.{IsReadOnce, AreSending}
 use Rattle.cec_one_wire.specs.Pulls.{until_of, held_in, IsHeld}
 use Rattle.cec_one_wire.specs.Wire.{IsAt, Ticked, until_by, goes_on, bits_in, ends_as, held_from, TickGoes, TickEnds, TickOver, TickAfter}
 use Rattle.cec_one_wire.proofs.Ended.{EndsHeld, ends_held}
 use Rattle.cec_one_wire.proofs.By.{GoesBy, goes_by}
-use Rattle.cec_one_wire.proofs.Standing.{all_later, all_told, runs_after}
-use Rattle.cec_one_wire.proofs.Lows.{due_is_heard, runs_in_it, runs_there, begin_is}
+use Rattle.cec_one_wire.proofs.Standing.{all_later, all_told, runs_after, until_by as until_at, reading_spans, reported_bits}
+use Rattle.cec_one_wire.proofs.Lows.{due_is_heard, runs_in_it, runs_there, begin_is, before_heard, reported_heard}
 
 -- what t tells of the reading that runs
 told_now : (low : Line) (begin t : ℕ) → IsReadOnce low begin → begin < t → t ≤ (reading_of low begin).at → reported_at low t ≡ reported_in low t (Some begin)

@@ -11,7 +11,7 @@ use Rattle.cec_bits.specs.declared.After.TheVariants.{Next, Ends}
 use Rattle.cec_bits.specs.Reading.{Read, next_fall, next_rise, reading_of, read_start, read_slots, read_on, read_then, start_rise, start_fall, after_slot, after_fall, after_last, last_ending, sample, bit_sampled_at}
 use Rattle.cec_bits.proofs.Ends.{begin_by}
 use Rattle.cec_bits.proofs.Search.{first_in_agree, found_first}
-use Rattle.cec_wire.proofs.Still.{high_before}
+pub use Rattle.cec_wire.proofs.Still.{high_before}
 use Rattle.cec_wire.proofs.Afterwards.{no_fall_after}
 use Rattle.cec_edges.specs.Listening.{IsReadOnce}
 use Rattle.cec_one_wire.specs.Told.{is_high_for, told_of, IsLone, ToldAsItIs, ToldIsRead, RoundIsLone, ToldIsOnce}

@@ -11,12 +11,12 @@ use Rattle.cec_bits.specs.declared.receiver.ReceiverState.TheVariants.{Rest, Sta
 use Rattle.cec_bits.specs.declared.sender.Sender.{Sender}
 use Rattle.cec_bits.specs.Hears.{heard_by, wake_of}
 use Rattle.cec_bits.specs.Reading.{End, reading_of}
-use Rattle.cec_bits.proofs.Ends.{until_by as until_at}
 use Rattle.cec_wire.specs.declared.Seat.{Seat}
 use Rattle.cec_one_wire.specs.Line.{last_of, HaveBegun}
 use Rattle.cec_one_wire.specs.Pulls.{pull_in, due_in, low_in, takes_last}
 use Rattle.cec_one_wire.specs.Wire.{IsAt, IsRead, until_by, IsQuiet, Between}
 use Rattle.cec_one_wire.proofs.Goes.{low_is_found, calm_stays}
+use Rattle.cec_one_wire.proofs.Standing.{until_by as until_at}
 
 -- a receiver that is due at u wakes at u
 due_wakes : (place : ReceiverState) (begin fall u : ℕ) (bits : List Bool) → due_in place begin fall u ≡ true → wake_of (record { place = place; begin = begin; fall = fall; bits = bits }) ≡ Some u

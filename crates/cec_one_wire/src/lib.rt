@@ -1,10 +1,12 @@
 //! A round's line, by one receiver, its senders, those who follow and the last pull.
 #![tactic(auto)]
 
+mod edge_wire;
 mod followers;
 mod laws;
 mod senders;
 
+pub use edge_wire::EdgeWire;
 pub use followers::{destination, is_acknowledged, is_broken};
 pub use laws::{
     between, bits_are_heard, calm_stays, calm_to, due_is_heard, first_low, first_tick,

@@ -1,0 +1,25 @@
+use Rattle.std.proofs.Common.{List, refl, sym, subst}
+use Rattle.cec_wire.specs.declared.Seat.{Seat}
+use Rattle.cec_edges.specs.Listening.{AreBegun}
+use Rattle.cec_one_wire.proofs.Fresh.{begins_fresh, idle_on_high}
+use Rattle.cec_one_wire.proofs.Kept.{kept_made}
+use Rattle.cec_one_wire.proofs.edge_wire.EdgeWire.started.Goals as goal
+
+pub returns-clause-begun : goal.returns-clause-begun
+returns-clause-begun c =
+    let e = c.pull_at-pull.ensures in
+    let r = c.new.ensures in
+    begins_fresh _ c.requires.early refl c.copied_seats.ensures.sends refl refl (kept_made _ c.as_slice.result.now c.args.start c.as_slice.ensures.value e.from e.low e.near e.lasts)
+    (record {
+      heard = r.rests.0;
+      level = (r.rests.1, r.rests.2);
+      senders = subst (λ (ss : List Seat). AreBegun ss c.args.start c.senders_of-senders.result.items) (sym c.copied_seats.ensures.same) c.senders_of-senders.ensures;
+      bits = c.new-2.ensures;
+      ended = refl;
+      held = refl;
+      wave = (c.new-3.ensures.wave, c.new-3.ensures.high);
+      silent = r.empty c.args.start;
+    })
+
+pub returns-clause-idle : goal.returns-clause-idle
+returns-clause-idle c = idle_on_high c.new.result (c.new.ensures.empty 0)

@@ -1,0 +1,10 @@
+use Rattle.std.proofs.Common.{◌+◌, ◌-◌}
+use Rattle.cec_one_wire.proofs.Rounding.{Rounds}
+use Rattle.cec_one_wire.proofs.edge_wire.EdgeWireWire.round.Given as goal
+
+-- some pulls have begun, and no other has
+abbrev pub invariant-edges : goal.invariant-edges
+invariant-edges l = Rounds l.seats l.start l.pulls l.self
+
+abbrev pub decreases-edges : goal.decreases-edges
+decreases-edges l = l.start + 470001 - l.self.time
