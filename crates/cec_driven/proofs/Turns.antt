@@ -53,31 +53,6 @@ leads_on end (suc n) (suc m) c d e x y text whole (mid, reported, rest, driven, 
     let go = leads_on end n m mid d e rest rest' left left' after there stops in
     (go.0, go.1, go.2, go.3, b' ∙ ap₂ (λ s t. s ++ t) (sym one.0) go.4 ∙ sym (append_assoc driven left go.2) ∙ ap (λ t. t ++ go.2) (sym b))
 
--- one turn more
-pub one_more : (end n : ℕ) (c mid d : Config) (x y text driven : List ℕ) → Drives end n c x text mid → IsDrivenTurn end mid y driven d → Drives end (suc n) c (x ++ y) (text ++ driven) d
-one_more end zero c mid d x y text driven l turn = (
-  d,
-  y,
-  [],
-  driven,
-  [],
-  subst (λ s. IsDrivenTurn end s y driven d) l.2 turn,
-  (refl, refl, refl),
-  ap (λ t. t ++ y) l.0 ∙ sym (append-nil y),
-  ap (λ t. t ++ driven) l.1 ∙ sym (append-nil driven),
-)
-one_more end (suc n) c mid d x y text driven (first, reported, rest, head, left, turn, after, a, b) last_turn = (
-  first,
-  reported,
-  rest ++ y,
-  head,
-  left ++ driven,
-  turn,
-  one_more end n first mid d rest y left driven after last_turn,
-  ap (λ t. t ++ y) a ∙ append_assoc reported rest y,
-  ap (λ t. t ++ driven) b ∙ append_assoc head left driven,
-)
-
 -- nothing comes after the stop
 stays : (end more : ℕ) (d e : Config) (line rest : List ℕ) → turn_at end d ≡ Stop → Drives end more d line rest e → (rest ≡ []) × (e ≡ d)
 stays end zero d e line rest stops l = (l.1, l.2)

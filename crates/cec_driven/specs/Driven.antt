@@ -1,26 +1,23 @@
 -- A run's line, and below it who drives it (own): the dump has a wire for the line, one for each device, and one for the pulses
 -- (IEEE 1364-2005, 18).
-use Rattle.std.specs.Prelude.{◌≡◌, ℕ, zero, suc, Bool, ◌+◌, ◌-◌, max, List, [], ◌∷◌, ◌++◌, map, Option, Some, Result}
+use Rattle.std.specs.Prelude.{◌≡◌, ℕ, zero, suc, ◌+◌, ◌-◌, ◌≤◌, max, List, [], ◌∷◌, ◌++◌, length, map}
 use Rattle.cec_wave.specs.declared.Stretch.{Stretch}
-use Rattle.cec_wave.specs.Line.{IsWave}
 use Rattle.cec_wire.specs.declared.Seat.{Seat}
 use Rattle.cec_wire.specs.declared.Outcome.{Outcome}
 use Rattle.cec_wires.specs.Wires.{head, wires_text}
 use Rattle.cec_drives.specs.Stretches.{drives_of}
 use Rattle.cec_device.specs.State.{State}
-use Rattle.cec_net.specs.State.{NetState, next_start}
-use Rattle.cec_net.specs.Step.{IsNextRound, seats_of}
-use Rattle.cec_net.specs.Progress.{IsProgress}
-use Rattle.cec_text.specs.ReadingText.{is_complete}
+use Rattle.cec_net.specs.State.{NetState}
+use Rattle.cec_net.specs.Step.{seats_of}
 use Rattle.cec_vcd.specs.Text.{last}
-use Rattle.cec_tally.specs.Adds.{Adds}
-use Rattle.hdmi_core.specs.declared.sink.WriteFault.{WriteFault}
 use Rattle.cec_line.specs.declared.format.Format.TheVariants.{Vcd}
 use Rattle.cec_run.specs.declared.run.Reporting.TheVariants.{Line}
 use Rattle.cec_run.specs.declared.run.Totals.{Totals}
 use Rattle.cec_run.specs.declared.run.Turn.{Turn}
 use Rattle.cec_run.specs.declared.run.Turn.TheVariants.{Stop, Apply, Round}
-use Rattle.cec_run.specs.Run.{Config, counted_round, turn_at, IsEventTurn, IsRoundTurn}
+use Rattle.cec_run.specs.Run.{Config, turn_at, IsEventTurn, IsRoundTurn}
+use Rattle.cec_run.specs.Happening.{Happening, OfEvent, OfRound}
+use Rattle.cec_driven.specs.declared.round.Kept.{Kept}
 
 -- the names of the devices' wires
 abbrev pub names_of : List State → List (List ℕ)
@@ -66,13 +63,15 @@ pub record IsDriven (end : ℕ) (c : Config) (text : List ℕ) (totals : Totals)
   pub run : IsDrivenFrom end c rest totals
   pub whole : text ≡ head (names_of c.net.devices) ++ rest
 
--- a round was run from one state to the next, and its drives were written after so many bytes
-pub record RoundDriven (before after : NetState) (t u : Totals) (old new : Option (List ℕ)) (was is : Bool) (given taken : ℕ) (result : Result (Unit {0}) WriteFault) : Type 0 where
-  pub begin : ℕ
-  pub outcome : Outcome
-  pub begins : next_start before ≡ Some begin
-  pub wave : IsWave outcome.wave
-  pub next : IsNextRound before begin outcome after
-  pub totals : u ≡ counted_round (is_complete outcome.reading.ending) t
-  pub progress : IsProgress before begin after
-  pub written : Adds old new was is given taken (round_drives (seats_of before begin) begin before.pulses outcome) result
+-- ---- what hears of a run
+
+-- of an event nothing, of a round its drives
+abbrev pub drives_of_turn : Happening → List ℕ
+drives_of_turn (OfEvent at e before) = []
+drives_of_turn (OfRound begin before o) = round_drives (seats_of before begin) begin before.pulses o
+
+-- what is kept beside the network: its pulses, and since when its line is high
+pub record IsBeside (kept : Kept) (net : NetState) : Type 0 where
+  pub pulses : kept.pulses ≡ net.pulses
+  pub rest : kept.rest ≡ net.rest
+  pub few : length net.devices ≤ 15

@@ -40,13 +40,13 @@ pub fn emulate_drives<S: Sink>(
     let script = parse_script(alloc, &topology, script)?;
     let _edid = root_on_heap(alloc, &topology.edid)?;
     let _count = topology.tree.count();
-    let Ok(mut kept) = first_kept(alloc, &script.pulses) else {
+    let Ok(kept) = first_kept(alloc, &script.pulses) else {
         return Err(EmulateError::Memory);
     };
     let Ok(mut net) = Net::on_heap(alloc, topology.tree, &script.pulses) else {
         return Err(EmulateError::Memory);
     };
-    match run(out, &mut net, &mut kept, &script.events, script.end) {
+    match run(out, &mut net, kept, &script.events, script.end) {
         Ok(totals) => Ok(totals),
         Err(fault) => Err(EmulateError::Write(fault.count)),
     }

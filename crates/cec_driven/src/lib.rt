@@ -1,7 +1,7 @@
 //! The line of a run and who drives it, as a dump of several wires: from the texts of a topology and a script.
 #![tactic(auto)]
 
-mod counting;
+mod drives_text;
 mod emulate;
 mod head;
 mod round;

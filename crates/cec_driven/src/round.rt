@@ -1,49 +1,46 @@
 //! One round, and who drives its line.
-ghost use Rattle.std.specs.Prelude.{◌≡◌, ◌+◌, ◌<◌, ◌≤◌, [], IfOk, None, length, Some};
+ghost use Rattle.std.specs.Prelude.{◌≡◌, ◌+◌, ◌≤◌, [], IfOk, None, length};
 ghost use Rattle.cec_wave.specs.Pulses.{pulses_fault};
 ghost use Rattle.cec_wave.specs.Bounds.{latest_heard, latest_instant, most_stretches};
-ghost use Rattle.cec_tally.specs.Adds.{Adds};
 ghost use Rattle.cec_wire.specs.Bounds.{begun_within};
-ghost use Rattle.cec_net.specs.State.{next_start};
-ghost use Rattle.cec_driven.specs.Driven.{RoundDriven, round_drives};
+ghost use Rattle.cec_wire.specs.Round.{IsRound};
+ghost use Rattle.cec_net.specs.Progress.{IsProgress};
+ghost use Rattle.cec_net.specs.Step.{after_round, seats_of};
+ghost use Rattle.hdmi_core.specs.Adds.{Adds};
+ghost use Rattle.cec_driven.specs.Driven.{IsBeside, round_drives};
 
-use crate::counting::counted_round;
 use crate::seats::seats_of;
 use cec_drives::drives_of;
 use cec_net::Net;
-use cec_run::Totals;
 use cec_wave::{Pulses, Stretch};
-use cec_wire::{Outcome, Seat, Wire};
-use cec_wires::write_wires;
-use hdmi_core::{Sink, WriteFault};
+use cec_wire::{Outcome, Seat};
+use cec_wires::add_wires;
+use hdmi_core::{Counted, Sink};
 use std::alloc::{AllocError, Global};
 
-// Writes the line and the drives of a round that began at `begin` and gave this outcome.
-fn write_round<S: Sink>(
-    out: &mut S,
-    written: &mut u128,
+// Adds the line and the drives of a round that began at `begin` and gave this outcome.
+fn add_round<S: Sink>(
+    out: &mut Counted<'_, S>,
     seats: &[Seat],
     begin: u64,
     pulses: &[Stretch],
     outcome: &Outcome,
-) -> Result<(), WriteFault>
+)
     requires seats { length seats.now ≤ 15 }
     requires pulses { length (begun_within begin outcome.now.rest pulses.now) ≤ most_stretches }
     requires begin { begin ≤ latest_instant }
     requires early { outcome.now.reading.at ≤ latest_heard }
     requires rest { (begin ≤ outcome.now.rest) × (outcome.now.rest ≤ latest_heard) }
-    ensures { Adds (S.contents out.old) (S.contents out.new) (S.is_stuck out.old) (S.is_stuck out.new) written.old written.new
-        (round_drives seats.now begin pulses.now outcome.now) result }
+    ensures { Adds out.old out.new (round_drives seats.now begin pulses.now outcome.now) }
 {
-    // The drives are large, and stand in no second place.
-    write_wires(
+    let drives = drives_of(seats, begin, pulses, outcome);
+    add_wires(
         out,
-        written,
         outcome.wave.as_slice(),
-        &drives_of(seats, begin, pulses, outcome),
+        &drives,
         begin,
         outcome.rest + 1,
-    )
+    );
 }
 
 /// What a run keeps beside its network: the pulses that no round has taken, and since when the line is high.
@@ -78,41 +75,25 @@ pub fn first_kept(alloc: Global, pulses: &[Stretch]) -> Result<Box<Kept>, AllocE
     Ok(kept)
 }
 
-/// Runs the next round, which begins at `begin`, and writes its line and who drives it.
-pub fn run_round<S: Sink, W: Wire>(
-    out: &mut S,
-    written: &mut u128,
-    net: &mut Net<W>,
+/// Adds the line and the drives of the round that comes next, which begins at `begin`, at most 2,000,000,000,000, and gives this
+/// outcome, and keeps what is left after it. The network is that before the round.
+pub fn add_drives<S: Sink, W>(
+    out: &mut Counted<'_, S>,
     kept: &mut Kept,
-    totals: &mut Totals,
     begin: u64,
-) -> Result<(), WriteFault>
-    requires starts { next_start net.old ≡ Some begin }
-    requires early { net.old.close ≤ latest_instant }
+    outcome: &Outcome,
+    net: &Net<W>,
+)
     requires soon { begin ≤ latest_instant }
-    requires few { length net.old.devices ≤ 15 }
-    requires pulses { kept.old.pulses ≡ net.old.pulses }
-    requires rest { kept.old.rest ≡ net.old.rest }
-    requires rested { net.old.rest ≤ latest_instant }
-    requires room { totals.old.rounds < 18446744073709551615 }
-    requires less { totals.old.complete ≤ totals.old.rounds }
-    ensures round { RoundDriven net.old net.new totals.old totals.new (S.contents out.old) (S.contents out.new) (S.is_stuck out.old) (S.is_stuck out.new) written.old written.new result }
-    ensures pulses { kept.new.pulses ≡ net.new.pulses }
-    ensures rest { kept.new.rest ≡ net.new.rest }
+    requires round { IsRound (seats_of net.now begin) begin net.now.pulses outcome.now }
+    requires progress { IsProgress net.now begin (after_round net.now begin outcome.now) }
+    requires kept { IsBeside kept.old net.now }
+    ensures drives { Adds out.old out.new (round_drives (seats_of net.now begin) begin net.now.pulses outcome.now) }
+    ensures kept { IsBeside kept.new (after_round net.now begin outcome.now) }
 {
     let seats = seats_of(net.devices(), kept.rest, begin);
-    let outcome = net.round_at(begin);
-    *totals = counted_round(*totals, outcome.reading.ending);
     let _stretches = outcome.wave.as_slice();
-    let added = write_round(
-        out,
-        written,
-        &seats,
-        begin,
-        kept.pulses.as_slice(),
-        &outcome,
-    );
+    add_round(out, &seats, begin, kept.pulses.as_slice(), outcome);
     kept.pulses.drop_until(outcome.rest);
     kept.rest = outcome.rest;
-    added
 }

@@ -1,0 +1,46 @@
+//! Who drives the line, as what hears of a run.
+ghost use Rattle.std.specs.Prelude.{◌≡◌, not};
+
+use crate::round::{Kept, add_drives};
+use cec_asm::TimedEvent;
+use cec_event::EventError;
+use cec_net::Net;
+use cec_run::Reporter;
+use cec_wire::Outcome;
+use hdmi_core::{Counted, Sink};
+
+/// The drives, as far as they are written, and what is kept beside the network.
+#[derive(Drop)]
+pub struct DrivesText<'a, S: Sink> {
+    pub text: Counted<'a, S>,
+    pub kept: Box<Kept>,
+}
+
+impl<'a, S: Sink> Reporter for DrivesText<'a, S> {
+    ghost use Rattle.std.specs.Prelude.{not};
+    ghost use Rattle.hdmi_core.specs.Adds.{Adds};
+    ghost use Rattle.cec_driven.specs.Driven.{IsBeside, drives_of_turn};
+
+    ghost hears = { λ r x s. Adds r.text s.text (drives_of_turn x) };
+
+    ghost goes_on = { λ r. not r.text.failed };
+
+    ghost keeps = { λ r net. IsBeside r.kept.value net };
+
+    fn event<W>(
+        &mut self,
+        _at: u64,
+        _event: &TimedEvent,
+        _refused: Option<EventError>,
+        _was: &[bool],
+        _net: &Net<W>,
+    ) {}
+
+    fn round<W>(&mut self, begin: u64, outcome: &Outcome, net: &Net<W>) {
+        add_drives(&mut self.text, &mut self.kept, begin, outcome, net);
+    }
+
+    fn wants_more(&self) -> bool {
+        !self.text.has_failed()
+    }
+}
