@@ -3,9 +3,7 @@
 #![tactic(auto)]
 
 mod format;
-mod tallied;
 mod writing;
 
 pub use format::Format;
-pub use tallied::{write_end, write_round, write_start};
 pub use writing::{add_end, add_round, add_start};

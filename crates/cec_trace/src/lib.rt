@@ -7,13 +7,11 @@ mod line;
 mod port_text;
 mod round_text;
 mod state_text;
-mod tallied;
 mod trace_text;
 
 pub use edge_text::add_edges;
 pub use last_lines::{add_last_lines, add_states};
-pub use port_text::{add_new_ports, on_wire};
+pub use port_text::{add_new_ports, on_wire, write_ports};
 pub use round_text::{add_round, write_round};
 pub use state_text::{add_state, write_state};
-pub use tallied::{add_ports, write_edges, write_event, write_ports};
 pub use trace_text::{add_end, add_event, write_end};

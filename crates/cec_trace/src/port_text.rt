@@ -6,10 +6,11 @@ ghost use Rattle.hdmi_blocks.specs.Root.{HasAddress};
 ghost use Rattle.hdmi_topo.specs.Path.{is_on_wire};
 ghost use Rattle.hdmi_topo.specs.Tree.{ports_of};
 ghost use Rattle.hdmi_core.specs.Adds.{Adds};
+ghost use Rattle.hdmi_core.specs.Cut.{WrittenText};
 ghost use Rattle.cec_trace.specs.PortText.{lines_of_new, lines_of_ports, name_in, port_line, port_line_of, port_lines};
 
 use hdmi_blocks::Edid;
-use hdmi_core::{Counted, Piece, Sink};
+use hdmi_core::{Counted, Piece, Sink, WriteFault};
 use hdmi_topo::Tree;
 
 /// Which devices of a tree are on the wire, by number.
@@ -152,4 +153,29 @@ pub fn add_new_ports<S: Sink>(
         None => {}
         Some(root) => add_all_new(out, at, root, tree, was),
     }
+}
+
+/// Writes the port lines of the devices that are on the wire and were not before, where there is an EDID. Returns how many
+/// bytes they are.
+///
+/// # Errors
+///
+/// A `put` took none, after so many bytes.
+pub fn write_ports<S: Sink>(
+    out: &mut S,
+    at: u64,
+    edid: &Option<Edid>,
+    tree: &Tree<15>,
+    was: &[bool],
+) -> Result<u128, WriteFault>
+    requires { HasAddress edid.now }
+    ensures { WrittenText (S.contents out.old) (S.contents out.new) (S.is_stuck out.old) (S.is_stuck out.new)
+        (port_lines at edid.now (λ device. slice_index_or was.now device false) tree.now) result }
+{
+    let mut text = Counted::new(out);
+    add_new_ports(&mut text, at, edid, tree, was);
+    let written = text.written();
+    // No effect at run time. The proof reads what `out` holds from the sink that comes back.
+    let _below = text.into_sink();
+    written
 }

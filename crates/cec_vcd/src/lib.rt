@@ -11,4 +11,4 @@ mod writing;
 
 pub use laws::{dumps_are_read_back, dumps_are_sampled};
 pub use reading::read_vcd;
-pub use writing::{add_changes, add_head, add_last, write_last};
+pub use writing::{add_changes, add_head, add_last};

@@ -5,9 +5,7 @@
 mod definitions;
 mod drive;
 mod instants;
-mod tallied;
 
 pub use definitions::{add_closing, add_opening, add_variable};
 pub use drive::Drive;
 pub use instants::add_wires;
-pub use tallied::{write_closing, write_opening, write_variable, write_wires};

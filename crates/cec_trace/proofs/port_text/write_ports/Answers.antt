@@ -1,7 +1,7 @@
 use Rattle.std.proofs.Common.{rules, get_or, false}
 use Rattle.hdmi_core.proofs.Adding.{text_ended}
 use Rattle.cec_trace.specs.PortText.{port_lines}
-use Rattle.cec_trace.proofs.tallied.write_ports.Goals as goal
+use Rattle.cec_trace.proofs.port_text.write_ports.Goals as goal
 
 pub returns : goal.returns
 returns g c =
