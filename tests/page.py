@@ -294,6 +294,10 @@ def capture_is_drawn(t, b):
     t.same("joined", [joined["cls"], joined["label"]], ["idle", "read before the line was first idle"])
     t.same("open", [still["cls"], still["verdict"], still["senders"]], ["broken", "open", ["4"]])
     t.same("long", [long["cls"], long["verdict"]], ["broken", "long"])
+    # What an audit notes is no remark
+    load(b, reading(10, "silent", "0000100001"), "10 9010 silent 0000100001\n  free 1 of 2\n  read 0>8\n  all readings\n")
+    noted = b.js("(row => [row.remarks, row.notes])(testing.app.model.rows.find(row => row.remarks && row.remarks.length > 0))")
+    t.same("a note of an audit is no remark", noted, [["free 1 of 2"], ["read 0>8"]])
     # Chatter and slow bits: the run's line, each 40th rise late by 300, and spikes of 18 that --glitch leaves out
     edges = [line.split() for line in program(RETRIES, "run", "--edges").splitlines()]
     lines = ["$timescale 1 us $end", "$var wire 1 ! CEC $end", "$enddefinitions $end", "#0", "1!"]

@@ -296,8 +296,9 @@ function describeRound(model, row, holders, lastOf) {
   const ofVerdict = VERDICTS.includes(o.verdict) ? o.verdict : 'idle';
   row.cls = stopped || (o.ending !== 'complete' ? broken : isPoll ? 'poll' : ofVerdict);
   row.verdict = o.ending !== 'complete' ? o.ending : !isPoll ? o.verdict : o.verdict === 'nack' ? 'free' : 'taken';
-  const ofAudit = model.audit && model.audit.remarks.get(model.isCapture ? o.line : o.line.replace(/ by .*/, ''));
-  row.remarks = ofAudit || [];
+  const reading = model.isCapture ? o.line : o.line.replace(/ by .*/, '');
+  row.remarks = (model.audit && model.audit.remarks.get(reading)) || [];
+  row.notes = (model.audit && model.audit.notes.get(reading)) || [];
   row.to = (o.ending === 'complete' || stopped) && !isPoll ? receiversOf(model, row, holders) : [];
   countAttempt(row, lastOf);
   for (const lane of row.from) holders.hear(row, lane);

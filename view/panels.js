@@ -59,6 +59,7 @@ function drawRound(app, model, row) {
     round.bytes && blocks(model, round),
     widths(model, round),
     row.remarks.length > 0 && [html('h3', {}, 'Remarks of the audit'), list(row.remarks)],
+    row.notes.length > 0 && [html('h3', {}, 'Notes of the audit'), list(row.notes)],
     row.tests.length > 0 && [html('h3', {}, 'Tests'), row.tests.map(test => testButton(app, test))],
     html('h3', {}, 'Line'), html('pre', {}, round.line), html('p', {}, links),
   ];

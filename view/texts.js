@@ -285,18 +285,25 @@ export function readRoom(text) {
   return room;
 }
 
-/* What `mon --audit` remarks: by the line of the reading, and of all readings. */
+/* A line of an audit that only says what was read, or what the standard calls it. */
+const isNote = line => line.startsWith('  read ') || line.startsWith('  # ');
+
+/* What `mon --audit` remarks and notes: by the line of the reading, and of all readings. */
 export function readAudit(text) {
   const remarks = new Map();
+  const notes = new Map();
   const ofAll = [];
   let reading = null;
   for (const line of text.split('\n')) {
-    if (!line.startsWith('  ')) remarks.set((reading = line), []);
-    else if (line === '  all readings') reading = '';
-    else if (reading) remarks.get(reading).push(line.trim());
+    if (!line.startsWith('  ')) {
+      reading = line;
+      remarks.set(reading, []);
+      notes.set(reading, []);
+    } else if (line === '  all readings') reading = '';
+    else if (reading) (isNote(line) ? notes : remarks).get(reading).push(line.trim());
     else ofAll.push(line.trim());
   }
-  return { remarks, ofAll };
+  return { remarks, notes, ofAll };
 }
 
 /* The first index of a sorted list whose value is at least `least`. */
