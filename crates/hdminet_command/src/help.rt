@@ -563,7 +563,7 @@ pub const EDID_FLAGS: &[(&str, &str)] = &[
     ),
     (
         "hex",
-        "Reads a hex dump of the EDID, as xxd, hexdump -C or edid-decode print it",
+        "Reads a hex dump of the EDID, as xxd, hexdump, od or edid-decode print it",
     ),
     ("raw", "Prints the EDID's bytes as they are"),
     (
@@ -637,9 +637,10 @@ To see an EDID, and to make the bytes again:
   ./hdminet edid < tv.edid > tv.txt
   ./hdminet edid --text --raw < tv.txt > tv.edid
 
-With --hex the input is a hex dump: plain digits, or as `xxd`, `hexdump -C` and `edid-decode` print it, or
-with other text around, as `xrandr --prop` has it. It begins at the first line whose bytes are the header
-00 ff ff ff ff ff ff 00, and may be what each of the other flags reads:
+With --hex the input is a hex dump: plain digits, or as `xxd`, `hexdump`, `od`, `i2cdump` and `edid-decode`
+print it, or a list of bytes, as programs and registries have it, or with other text around, as
+`xrandr --prop` has it. It begins at the first line whose bytes are the header 00 ff ff ff ff ff ff 00, and
+may be what each of the other flags reads:
   xrandr --prop | ./hdminet edid --hex
 
 With --meaning an indented line or more below each line of the text tells what it means:
