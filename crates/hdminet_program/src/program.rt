@@ -1,5 +1,5 @@
 //! The program over a reader and two sinks.
-ghost use Rattle.std.specs.Prelude.{◌≡◌, ◌≢◌, ◌<◌, true, [], OnOk, IfOk, Ok, map, string_bytes};
+ghost use Rattle.std.specs.Prelude.{◌≡◌, ◌≢◌, ◌<◌, true, false, [], OnOk, IfOk, Ok, map, string_bytes};
 ghost use Rattle.std.specs.Io.KnownBytes.{Keeps};
 ghost use Rattle.hdmi_core.specs.Buffered.{below};
 ghost use Rattle.hdminet_program.specs.Done.{AreServed, IsAllOf, IsHelp, IsServed, Writes, WritesLine, WritesLines, WritesObjects, WritesRoom, report_kind, report_view};
