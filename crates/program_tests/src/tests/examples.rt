@@ -493,18 +493,6 @@ const RUNS: &[Case<'static>] = &[
         want: FIRST_PATH_DRIVES_VCD,
     },
     Case {
-        name: "objects of first-path",
-        line: "run --json",
-        input: FIRST_PATH_NET,
-        want: FIRST_PATH_OBJECTS,
-    },
-    Case {
-        name: "room of first-path",
-        line: "run --json --room",
-        input: FIRST_PATH_NET,
-        want: FIRST_PATH_ROOM,
-    },
-    Case {
         name: "arbitration",
         line: "step",
         input: ARBITRATION_STEPS,
@@ -521,6 +509,26 @@ const RUNS: &[Case<'static>] = &[
 #[test]
 fn each_run_gives_its_output(rt: HostRuntime) {
     gives_each(&rt, RUNS);
+}
+
+const OBJECTS: &[Case<'static>] = &[
+    Case {
+        name: "objects of first-path",
+        line: "run --json",
+        input: FIRST_PATH_NET,
+        want: FIRST_PATH_OBJECTS,
+    },
+    Case {
+        name: "room of first-path",
+        line: "run --json --room",
+        input: FIRST_PATH_NET,
+        want: FIRST_PATH_ROOM,
+    },
+];
+
+#[test]
+fn each_run_gives_its_objects(rt: HostRuntime) {
+    gives_each(&rt, OBJECTS);
 }
 
 const TEXTS: &[Case<'static>] = &[
