@@ -1,11 +1,12 @@
 -- A round that is taken edge by edge: the wire on which it goes, and the pulses that it is handed.
-use Rattle.std.proofs.Common.{◌≡◌, ℕ, ◌+◌, ◌-◌, ◌<◌, ◌≤◌, Bool, true, false, nat_lt, if◌then◌else◌, List, [], ◌∷◌, ◌++◌, length, slice_get, Option, Some, None, IfSome, MatchOption, is_some, refl, arith, ap, ◌∙◌, sym, subst}
+use Rattle.std.proofs.Common.{◌≡◌, ℕ, zero, ◌+◌, ◌-◌, ◌<◌, ◌≤◌, Bool, true, false, nat_lt, if◌then◌else◌, List, [], ◌++◌, take, drop, length, slice_get, Option, Some, None, MatchOption, is_some, refl, arith, ap, ◌∙◌, sym, subst}
 use Rattle.std.specs.List.{All}
-use Rattle.std.specs.Option.{option_to_list, option_map}
+use Rattle.std.specs.Option.{option_map}
 use Rattle.std.proofs.lemmas.Bool.Decides.{nat_tests}
+use Rattle.std.proofs.lemmas.List.{length-map, take-append-drop}
 use Rattle.cec_wave.specs.declared.Stretch.{Stretch}
 use Rattle.cec_wave.specs.declared.Edge.{Edge}
-use Rattle.cec_wave.specs.Line.{Line}
+use Rattle.cec_wave.specs.Line.{Line, IsWave}
 use Rattle.cec_wave.specs.Pulses.{AreSparse}
 use Rattle.cec_wave.specs.Bounds.{latest_instant}
 use Rattle.cec_bits.specs.Phase.{Standing, at_rest, standing_of}
@@ -17,76 +18,70 @@ use Rattle.cec_bits.proofs.Keeping.{standings_are_kept}
 use Rattle.cec_bits.proofs.Following.{empty_kept}
 use Rattle.cec_wire.specs.declared.Seat.{Seat}
 use Rattle.cec_wire.specs.declared.Outcome.{Outcome}
-use Rattle.cec_edges.specs.declared.edge_wire.EdgeWire.{EdgeWire}
 use Rattle.cec_wire.specs.Round.{IsRound, IsRoundLine}
 use Rattle.cec_wire.specs.Edges.{IsNextEdge}
 use Rattle.cec_wire.specs.Lasting.{is_begun}
-use Rattle.cec_edges.specs.Wired.{EachOf, IsBegun, Listens, IsNext, SameRound, Leaves, NextEdges, Follow, IsRoundOf, IsReceiverIn, is_silent_in}
-use Rattle.cec_edges.proofs.Rounding.{Rests, first, rest, rests_first, rests_next, rests_more, rests_begin, round_of}
 use Rattle.cec_wire.proofs.Lasting.{begun_by, contended, low_at_begin}
+use Rattle.cec_one_wire.specs.declared.edge_wire.EdgeWire.{EdgeWire}
+use Rattle.cec_one_wire.specs.Line.{EndsInTime}
+use Rattle.cec_one_wire.specs.Wired.{ArePulls, EachOf, IsBegunWith, IsReceiverIn, IsRoundOf, SameRound, is_silent_in}
+use Rattle.cec_one_wire.proofs.Rounding.{late_place, sparse_wave}
 use Rattle.cec_device.specs.State.{State}
 use Rattle.hdmi_topo.specs.Node.{Node}
 use Rattle.cec_net.specs.State.{NetState, next_start}
 use Rattle.cec_net.specs.Sound.{IsSound}
-use Rattle.std.proofs.lemmas.List.{length-map}
 use Rattle.cec_net.specs.Step.{seat_of, seats_of}
 use Rattle.cec_net.specs.Underway.{OfRound, standing_reported, idle, Takes, IsNextOn, IsUnderway}
 use Rattle.cec_net.proofs.Lines.{begun, late_start}
 
 -- ---- the pulses
 
-rests_of : (ps : List Stretch) (w : EdgeWire) (h : Takes ps w) → Rests w.seats.items w.begin ps [] h.left w
-rests_of ps w h = record { all_of = h.parts; late = h.late; begun = h.stands; same_seats = refl; same_begin = refl }
+all_of : (ps : List Stretch) (w : EdgeWire) → ps ≡ take w.begun ps ++ drop w.begun ps
+all_of ps w = sym (take-append-drop w.begun ps)
 
-takes_of : (seats : List Seat) (begin : ℕ) (ps left : List Stretch) (w : EdgeWire) → Listens w → Rests seats begin ps [] left w → Takes ps w
-takes_of seats begin ps left w l r = record { stands = r.begun; listens = l; left = left; parts = r.all_of; late = r.late }
+left_late : (ps : List Stretch) (w : EdgeWire) → Takes ps w → All (λ p. w.time ≤ p.from) (drop w.begun ps)
+left_late ps w h = subst (λ (k : ℕ). All (λ (p : Stretch). w.time ≤ p.from) (drop k ps)) (sym h.stands.count) h.pulls.later
 
-next_is : (ps : List Stretch) (w : EdgeWire) (next : Option Stretch) (h : Takes ps w) → next ≡ slice_get ps (length w.pulses.items) → next ≡ first h.left
-next_is ps w next h e = e ∙ rests_first w.seats.items w.begin ps [] h.left w (length w.pulses.items) (rests_of ps w h) (omega arith)
+pub takes_on : (ps : List Stretch) (old new : EdgeWire) → AreSparse ps → Takes ps old → IsBegunWith (take new.begun ps) new → ArePulls (take new.begun ps) ps new
+    → (AreSparse ps → old.time ≤ old.begin + 470000 → new.time ≤ new.begin + 470000) → Takes ps new
+takes_on ps old new sparse h b p near = record { stands = b; pulls = p; near = near sparse h.near }
 
-pub next_pulse : (ps : List Stretch) (w : EdgeWire) (next : Option Stretch) → AreSparse ps → Takes ps w → next ≡ slice_get ps (length w.pulses.items) → IsNext w.pulses.items w.time next
-next_pulse ps w next s h e = subst (λ o. IsNext w.pulses.items w.time o) (sym (next_is ps w next h e)) (rests_next w.seats.items w.begin ps [] h.left w s (rests_of ps w h))
+-- a fact of each line that the round can have is one of its line with these pulses
+pub of_line : (ps : List Stretch) (w : EdgeWire) (P : (ℕ → Bool) → Type 0) → Takes ps w → EachOf (take w.begun ps) w P → (low : ℕ → Bool) → IsRoundLine w.seats.items w.begin ps low → P low
+of_line ps w P h e low line =
+    e (drop w.begun ps) low (subst (λ (qs : List Stretch). IsWave qs) (all_of ps w) h.pulls.wave) (left_late ps w h) (subst (λ (qs : List Stretch). IsRoundLine w.seats.items w.begin qs low) (all_of ps w) line)
 
-pub takes_on : (ps : List Stretch) (old new : EdgeWire) (next : Option Stretch) → AreSparse ps → Takes ps old → next ≡ slice_get ps (length old.pulses.items) → IsBegun new → Listens new → SameRound old new
-    → new.time ≤ old.time + 23000 → Leaves old next new → Takes ps new
-takes_on ps old new next s h e b hears same soon l =
-    let m = rests_more old.seats.items old.begin ps [] h.left old new s (rests_of ps old h) b same soon (subst (λ o. Leaves old o new) (next_is ps old next h e) l) in
-    takes_of old.seats.items old.begin ps m.0 new hears m.1
-
-parted : (left : List Stretch) → left ≡ option_to_list (first left) ++ rest left
-parted [] = refl
-parted (p ∷ left) = refl
-
-followed_by : (left : List Stretch) → Follow (first left) (rest left)
-followed_by [] = refl
-followed_by (p ∷ left) = tt
-
-pub edge_on : (ps : List Stretch) (old : EdgeWire) (next : Option Stretch) (edge : Option Edge) → AreSparse ps → Takes ps old → next ≡ slice_get ps (length old.pulses.items) → NextEdges old next edge
-    → (low : ℕ → Bool) → IsRoundLine old.seats.items old.begin ps low → IsNextEdge low old.time edge
-edge_on ps old next edge s h e n low line =
-    let all : ps ≡ old.pulses.items ++ (option_to_list (first h.left) ++ rest h.left) = h.parts ∙ ap (λ (qs : List Stretch). old.pulses.items ++ qs) (parted h.left) in
-    (subst (λ o. NextEdges old o edge) (next_is ps old next h e) n) (rest h.left) low (subst AreSparse all s) (followed_by h.left)
-    (subst (λ qs. IsRoundLine old.seats.items old.begin qs low) all line)
+pub goes_on_when : (edge : Option Edge) (old new : EdgeWire) → is_some edge ≡ true → MatchOption edge (is_silent_in new ≡ true) (λ e. old.time < new.time) → old.time < new.time
+goes_on_when None old new e g = cc
+goes_on_when (Some edge) old new e g = g
 
 pub silent_when : (edge : Option Edge) (w : EdgeWire) (P : Edge → Type 0) → is_some edge ≡ false → MatchOption edge (is_silent_in w ≡ true) P → is_silent_in w ≡ true
 silent_when None w P e m = m
 silent_when (Some edge) w P e m = cc
 
-pub goes_on_when : (edge : Option Edge) (old new : EdgeWire) → is_some edge ≡ true → IfSome edge (λ e. new.time ≤ new.begin + 470000) → MatchOption edge (is_silent_in new ≡ true) (λ e. old.time < new.time)
-    → (new.time ≤ new.begin + 470000) × (old.time < new.time)
-goes_on_when None old new e n g = cc
-goes_on_when (Some edge) old new e n g = (n, g)
+pub round_on : (ps : List Stretch) (w : EdgeWire) (o : Outcome) → Takes ps w → IsRoundOf (take w.begun ps) w o → IsRound w.seats.items w.begin ps o
+round_on ps w o h r =
+    subst (λ (qs : List Stretch). IsRound w.seats.items w.begin qs o) (sym (all_of ps w)) (r (drop w.begun ps) (subst (λ (qs : List Stretch). IsWave qs) (all_of ps w) h.pulls.wave) (left_late ps w h))
 
-none_before : (start : ℕ) → All (λ (p : Stretch). p.from < start) []
-none_before start i d m = absurd (omega (arith, m))
+-- as the round begins none has begun
+in_time : (ps : List Stretch) → AreSparse ps → All (λ p. p.from ≤ latest_instant) ps → All EndsInTime ps
+in_time ps sparse early i d m = let x = early i d m in let y = (sparse.narrow i d m).1 in omega (arith, x, y)
 
-pub round_on : (ps : List Stretch) (w : EdgeWire) (o : Outcome) → AreSparse ps → Takes ps w → IsRoundOf w o → IsRound w.seats.items w.begin ps o
-round_on ps w o s h r = round_of w.seats.items w.begin ps [] h.left w o s (none_before w.begin) (rests_of ps w h) r
-
-pub takes_first : (s : NetState) (begin : ℕ) (w : EdgeWire) → AreSparse s.pulses → next_start s ≡ Some begin → IsBegun w → Listens w → w.seats.items ≡ seats_of s begin → w.begin ≡ begin → w.time ≡ begin → w.pulses.items ≡ [] → Takes s.pulses w
-takes_first s begin w sparse next b hears seats begins time ps =
-    let m = rests_begin (seats_of s begin) begin 0 s.pulses w sparse (late_start s begin next) b seats begins time ps in
-    takes_of (seats_of s begin) begin s.pulses m.0 w hears m.1
+pub takes_first : (s : NetState) (begin : ℕ) (w : EdgeWire) → AreSparse s.pulses → All (λ p. p.from ≤ latest_instant) s.pulses → next_start s ≡ Some begin → IsBegunWith [] w → w.begin ≡ begin → w.time ≡ begin → Takes s.pulses w
+takes_first s begin w sparse early next b begins time = record {
+  stands = subst (λ (ps : List Stretch). IsBegunWith ps w) none b;
+  pulls = record {
+    wave = sparse_wave s.pulses sparse;
+    ends = in_time s.pulses sparse early;
+    begun = sym none ∙ ap (λ (k : ℕ). take k s.pulses) (ap (λ (ps : List Stretch). length ps) none);
+    later = subst (λ (k : ℕ). All (λ (p : Stretch). w.time ≤ p.from) (drop k s.pulses)) (ap (λ (ps : List Stretch). length ps) none)
+        (subst (λ (u : ℕ). All (λ (p : Stretch). u ≤ p.from) s.pulses) (sym time) (late_place begin 0 s.pulses (slice_get s.pulses 0) refl sparse (late_start s begin next)));
+  };
+  near = omega (arith, time, begins);
+}
+  where
+    none : [] ≡ take w.begun s.pulses
+    none = ap (λ (k : ℕ). take k s.pulses) (let c : zero ≡ w.begun = sym b.count in c)
 
 -- ---- the round of a network
 
@@ -103,13 +98,13 @@ no_wire s w f = cc
 pub underway_along : (s t : NetState) (o : Option EdgeWire) → s ≡ t → IsUnderway (idle s) o → IsUnderway (idle t) o
 underway_along s t o e h = subst (λ x. IsUnderway (idle x) o) e h
 
-pub is_next : (s : NetState) (begin : ℕ) (w : EdgeWire) → s.close ≤ latest_instant → AreSparse s.pulses → next_start s ≡ Some begin → IsBegun w → Listens w → w.seats.items ≡ seats_of s begin → w.begin ≡ begin
-    → w.time ≡ begin → w.pulses.items ≡ [] → IsNextOn s w
-is_next s begin w early sparse next b hears seats begins time ps = record {
+pub is_next : (s : NetState) (begin : ℕ) (w : EdgeWire) → IsSound s → s.close ≤ latest_instant → AreSparse s.pulses → next_start s ≡ Some begin → IsBegunWith [] w → w.seats.items ≡ seats_of s begin → w.begin ≡ begin → w.time ≡ begin
+    → IsNextOn s w
+is_next s begin w sound early sparse next b seats begins time = record {
   begins = next ∙ ap Some (sym begins);
   early = early;
   seats = seats ∙ ap (seats_of s) (sym begins);
-  takes = takes_first s begin w sparse next b hears seats begins time ps;
+  takes = takes_first s begin w sparse sound.early next b begins time;
 }
 
 pub next_on : (s : NetState) (old new : EdgeWire) → IsNextOn s old → SameRound old new → Takes s.pulses new → IsNextOn s new
@@ -145,10 +140,8 @@ edge_reported s t w edge e reported h step =
     subst (λ x. OfRound x (λ begin heard low. IsNextEdge low heard edge)) e
     (λ begin heard low n k line. subst (λ x. IsNextEdge low x edge) (same_number w.time heard (sym reported ∙ k)) (step low (line_on s w begin low h n line)))
 
-stand_at : (s : NetState) (w : EdgeWire) (low : Line) (standing : Standing) → AreSparse s.pulses → IsNextOn (idle s) w → IsRoundLine w.seats.items w.begin s.pulses low
-    → (w.time ≡ w.begin → EachOf w (λ l. l w.begin ≡ true → standing ≡ at_rest false))
-    → (w.begin < w.time → EachOf w (λ l. l w.begin ≡ true → standing ≡ standing_of l (w.time - 1)))
-    → standing ≡ standing_reported low w.begin w.time
+stand_at : (s : NetState) (w : EdgeWire) (low : Line) (standing : Standing) → AreSparse s.pulses → IsNextOn (idle s) w → IsRoundLine w.seats.items w.begin s.pulses low → (w.time ≡ w.begin → standing ≡ at_rest false)
+    → (w.begin < w.time → EachOf (take w.begun s.pulses) w (λ l. l w.begin ≡ true → standing ≡ standing_of l (w.time - 1))) → standing ≡ standing_reported low w.begin w.time
 stand_at s w low standing sparse h line before after = by_time (nat_lt w.begin w.time) refl
   where
     falls : low w.begin ≡ true
@@ -160,23 +153,18 @@ stand_at s w low standing sparse h line before after = by_time (nat_lt w.begin w
         is_begun_by x = is_begun x w.begin s.pulses ≡ true
 
     by_time : (b : Bool) → nat_lt w.begin w.time ≡ b → standing ≡ (if b then standing_of low (w.time - 1) else at_rest false)
-    by_time true e = after (grind (arith, nat_tests)) h.takes.left low (subst AreSparse h.takes.parts sparse) h.takes.late (subst (λ ps. IsRoundLine w.seats.items w.begin ps low) h.takes.parts line) falls
-    by_time false e =
-        before (let l : w.begin ≤ w.time = h.takes.stands.from in grind (arith, nat_tests)) h.takes.left low (subst AreSparse h.takes.parts sparse) h.takes.late
-        (subst (λ ps. IsRoundLine w.seats.items w.begin ps low) h.takes.parts line) falls
+    by_time true e = of_line s.pulses w (λ l. l w.begin ≡ true → standing ≡ standing_of l (w.time - 1)) h.takes (after (grind (arith, nat_tests))) low line falls
+    by_time false e = before (let l : w.begin ≤ w.time = h.takes.stands.from in grind (arith, nat_tests))
 
 -- what a receiver shows before its first edge, and by the last instant that was heard
-pub shows_before : (w : EdgeWire) (r : Receiver) (standing : Standing) → IsReceiverIn w r → ShowsStanding r standing → w.time ≡ w.begin → EachOf w (λ low. low w.begin ≡ true → standing ≡ at_rest false)
-shows_before w r standing h shows e later low sparse late line first =
-    shows (λ u. false) w.begin (h.before e later low sparse late line first) ∙ sym (standings_are_kept (λ u. false) w.begin) ∙ ap (λ k. standing_by k false) (sym (empty_kept w.begin))
+pub shows_before : (past : List Stretch) (w : EdgeWire) (r : Receiver) (standing : Standing) → IsReceiverIn past w r → ShowsStanding r standing → w.time ≡ w.begin → standing ≡ at_rest false
+shows_before past w r standing h shows e = shows (λ u. false) w.begin (h.before e) ∙ sym (standings_are_kept (λ u. false) w.begin) ∙ ap (λ k. standing_by k false) (sym (empty_kept w.begin))
 
-pub shows_after : (w : EdgeWire) (r : Receiver) (standing : Standing) → IsReceiverIn w r → ShowsStanding r standing → w.begin < w.time → EachOf w (λ low. low w.begin ≡ true → standing ≡ standing_of low (w.time - 1))
-shows_after w r standing h shows l later low sparse late line first = shows low (w.time - 1) (h.stands l later low sparse late line first)
+pub shows_after : (past : List Stretch) (w : EdgeWire) (r : Receiver) (standing : Standing) → IsReceiverIn past w r → ShowsStanding r standing → w.begin < w.time → EachOf past w (λ low. low w.begin ≡ true → standing ≡ standing_of low (w.time - 1))
+shows_after past w r standing h shows l later low wave late line first = shows low (w.time - 1) (h.stands l later low wave late line first)
 
-pub stand_reported : (s t : NetState) (w : EdgeWire) (standing : Standing) → s ≡ t → s.heard ≡ Some w.time → AreSparse s.pulses → IsNextOn (idle s) w
-    → (w.time ≡ w.begin → EachOf w (λ low. low w.begin ≡ true → standing ≡ at_rest false))
-    → (w.begin < w.time → EachOf w (λ low. low w.begin ≡ true → standing ≡ standing_of low (w.time - 1)))
-    → OfRound t (λ begin heard low. standing ≡ standing_reported low begin heard)
+pub stand_reported : (s t : NetState) (w : EdgeWire) (standing : Standing) → s ≡ t → s.heard ≡ Some w.time → AreSparse s.pulses → IsNextOn (idle s) w → (w.time ≡ w.begin → standing ≡ at_rest false)
+    → (w.begin < w.time → EachOf (take w.begun s.pulses) w (λ low. low w.begin ≡ true → standing ≡ standing_of low (w.time - 1))) → OfRound t (λ begin heard low. standing ≡ standing_reported low begin heard)
 stand_reported s t w standing e reported sparse h before after =
     subst (λ x. OfRound x (λ begin heard low. standing ≡ standing_reported low begin heard)) e
     (λ begin heard low n k line.

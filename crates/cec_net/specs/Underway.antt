@@ -1,13 +1,13 @@
 -- A round that was begun, and whose line is reported edge by edge (own).
-use Rattle.std.specs.Prelude.{◌≡◌, ℕ, ◌-◌, ◌≤◌, Bool, false, nat_lt, if◌then◌else◌, List, ◌++◌, All, Option, Some, None}
+use Rattle.std.specs.Prelude.{◌≡◌, ℕ, ◌+◌, ◌-◌, ◌≤◌, Bool, false, nat_lt, if◌then◌else◌, List, take, Option, Some, None}
 use Rattle.std.specs.Option.{ForSome}
 use Rattle.cec_wave.specs.declared.Stretch.{Stretch}
 use Rattle.cec_wave.specs.Line.{Line}
 use Rattle.cec_wave.specs.Bounds.{latest_instant}
 use Rattle.cec_bits.specs.Phase.{Standing, at_rest, standing_of}
-use Rattle.cec_edges.specs.declared.edge_wire.EdgeWire.{EdgeWire}
 use Rattle.cec_wire.specs.Round.{IsRoundLine}
-use Rattle.cec_edges.specs.Wired.{IsBegun, Listens}
+use Rattle.cec_one_wire.specs.declared.edge_wire.EdgeWire.{EdgeWire}
+use Rattle.cec_one_wire.specs.Wired.{ArePulls, IsBegunWith}
 use Rattle.cec_net.specs.State.{NetState, next_start}
 use Rattle.cec_net.specs.Step.{seats_of}
 
@@ -26,13 +26,11 @@ standing_reported low begin heard = if nat_lt begin heard then standing_of low (
 abbrev pub idle : NetState → NetState
 idle s = record s { heard = None }
 
--- A wire stands in a round, and has taken those of these pulses that have begun.
+-- A wire stands in a round of these pulses, and has taken those of them that have begun.
 pub record Takes (pulses : List Stretch) (w : EdgeWire) : Type 0 where
-  pub stands : IsBegun w
-  pub listens : Listens w
-  pub left : List Stretch
-  pub parts : pulses ≡ w.pulses.items ++ left
-  pub late : All (λ p. w.time ≤ p.from) left
+  pub stands : IsBegunWith (take w.begun pulses) w
+  pub pulls : ArePulls (take w.begun pulses) pulses w
+  pub near : w.time ≤ w.begin + 470000
 
 -- It stands in the next round.
 pub record IsNextOn (s : NetState) (w : EdgeWire) : Type 0 where

@@ -8,7 +8,7 @@ use crate::net::Net;
 use crate::wiring::{DEVICES, fill_loose, rewire};
 use arrayvec::ArrayVec;
 use cec_device::Device;
-use cec_edges::EdgeWire;
+use cec_one_wire::EdgeWire;
 use cec_wave::{Pulses, Stretch};
 use hdmi_topo::Tree;
 use std::alloc::{AllocError, Global};

@@ -1,10 +1,10 @@
 //! A round that is taken edge by edge.
-ghost use Rattle.std.specs.Prelude.{◌≡◌, ◌+◌, ◌≤◌, ◌<◌, length, IfSome, MatchOption, Option, slice_get, ℕ, Bool, true};
+ghost use Rattle.std.specs.Prelude.{◌≡◌, ◌+◌, ◌≤◌, ◌<◌, length, IfSome, MatchOption, Option, ℕ, Bool, true};
 ghost use Rattle.cec_wave.specs.Pulses.{AreSparse};
 ghost use Rattle.cec_wave.specs.Bounds.{latest_instant};
 ghost use Rattle.cec_wire.specs.Edges.{IsNextEdge};
 ghost use Rattle.cec_wire.specs.Round.{IsRound, IsRoundLine};
-ghost use Rattle.cec_edges.specs.Wired.{is_silent_in, SameRound};
+ghost use Rattle.cec_one_wire.specs.Wired.{is_silent_in, SameRound};
 ghost use Rattle.cec_net.specs.Underway.{Takes};
 
 use crate::net::{Net, give_up};
@@ -13,16 +13,9 @@ use crate::wiring::DEVICES;
 use arrayvec::ArrayVec;
 use cec_bits::Standing;
 use cec_device::Device;
-use cec_edges::EdgeWire;
+use cec_one_wire::EdgeWire;
 use cec_wave::{Edge, Stretch};
 use cec_wire::Outcome;
-
-// The first of the pulses that has not begun.
-fn next_of(wire: &EdgeWire, pulses: &[Stretch]) -> Option<Stretch>
-    ensures { result ≡ slice_get pulses.now (length wire.now.pulses.items) }
-{
-    pulses.get(wire.pulses_begun()).copied()
-}
 
 // The next edge of the round in which a wire stands, with these pulses.
 fn next_edge_of(wire: &mut EdgeWire, pulses: &[Stretch]) -> Option<Edge>
@@ -30,13 +23,11 @@ fn next_edge_of(wire: &mut EdgeWire, pulses: &[Stretch]) -> Option<Edge>
     requires takes { Takes pulses.now wire.old }
     ensures takes { Takes pulses.now wire.new }
     ensures round { SameRound wire.old wire.new }
-    ensures near { IfSome result (λ edge. wire.new.time ≤ wire.new.begin + 470000) }
     ensures goes { MatchOption result (is_silent_in wire.new ≡ true) (λ edge. wire.old.time < wire.new.time) }
     ensures at { IfSome result (λ edge. edge.at + 1 ≡ wire.new.time) }
     ensures edge { (low : ℕ → Bool) → IsRoundLine wire.old.seats.items wire.old.begin pulses.now low → IsNextEdge low wire.old.time result }
 {
-    let next = next_of(wire, pulses);
-    wire.next_edge(next)
+    wire.next_edge_among(pulses)
 }
 
 // What a round gives, with the edges that are left.

@@ -5,7 +5,7 @@ use Rattle.std.proofs.lemmas.Grind.{common_steps}
 use Rattle.cec_bits.specs.declared.receiver.Told.{Told}
 use Rattle.cec_bits.specs.declared.sender.Sender.{Sender}
 use Rattle.cec_wire.specs.declared.Seat.{Seat}
-use Rattle.cec_edges.specs.Listening.{IsSenderOf, AreBegun, HeardOne, AllHeard}
+use Rattle.cec_one_wire.specs.Listening.{IsSenderOf, AreBegun, HeardOne, AllHeard}
 
 -- ---- one after another
 

@@ -7,7 +7,7 @@ use Rattle.cec_bits.specs.declared.receiver.ReceiverState.TheVariants.{StartLow}
 use Rattle.cec_frame.specs.declared.Ending.TheVariants.{BadStart}
 use Rattle.cec_bits.specs.declared.receiver.Told.TheVariants.{Nothing, Ended}
 use Rattle.cec_bits.specs.Hears.{Hears, Heard, heard_by, wake_of, hear_in, hears, hears_with, reported_so, starts}
-use Rattle.cec_edges.specs.Listening.{IsReadOnce}
+use Rattle.cec_one_wire.specs.Listening.{IsReadOnce}
 use Rattle.cec_one_wire.specs.Told.{is_high_for, told_of, ToldStays, ToldNow}
 use Rattle.cec_one_wire.proofs.First.{begins_so}
 use Rattle.cec_one_wire.proofs.Told.{and_no, or_no, was_is, all_high, told_since, told_low, told_late}

@@ -18,7 +18,7 @@ use Rattle.cec_bits.proofs.Ends.{ends_after}
 pub use Rattle.cec_bits.proofs.Stood.{was_now}
 use Rattle.cec_wire.specs.declared.Seat.{Seat}
 use Rattle.cec_wire.specs.Round.{frames_of, pulled_by}
-use Rattle.cec_edges.specs.Listening.{IsReadOnce, IsSenderOf, SendsFor, AreBegun, AreSenders, IsSending, AreSending}
+use Rattle.cec_one_wire.specs.Listening.{IsReadOnce, IsSenderOf, SendsFor, AreBegun, AreSenders, IsSending, AreSending}
 use Rattle.cec_one_wire.specs.Pulls.{pull_in, takes_last, held_in}
 use Rattle.cec_one_wire.specs.Told.{FirstLow, FirstTick}
 use Rattle.cec_one_wire.proofs.Lows.{pulls_by_last, was_high, before_heard}

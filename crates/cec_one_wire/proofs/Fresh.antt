@@ -10,7 +10,7 @@ use Rattle.cec_bits.specs.Kept.{kept_before}
 use Rattle.cec_bits.specs.Sending.{SenderStood}
 use Rattle.cec_wire.specs.declared.Seat.{Seat}
 use Rattle.cec_wire.specs.Machine.{AreSentWell}
-use Rattle.cec_edges.specs.Listening.{AreSenders, AreSending, SendsFor, IsSending}
+use Rattle.cec_one_wire.specs.Listening.{AreSenders, AreSending, SendsFor, IsSending}
 use Rattle.cec_one_wire.specs.declared.edge_wire.EdgeWire.{EdgeWire}
 use Rattle.cec_one_wire.specs.Told.{told_of}
 use Rattle.cec_one_wire.specs.Turns.{IsBegun}
@@ -18,7 +18,6 @@ use Rattle.cec_one_wire.specs.Wired.{EachOf, IsBegunWith, IsFresh, IsKept, IsRec
 use Rattle.cec_one_wire.proofs.Bounded.{stands_past}
 use Rattle.cec_one_wire.proofs.First.{begun_senders, was_now}
 use Rattle.cec_one_wire.proofs.Told.{told_as_it_is}
-pub use Rattle.cec_edges.proofs.Idling.{idle_on_high}
 
 pub begins_fresh : (w : EdgeWire) → w.begin ≤ latest_begin → w.time ≡ w.begin → AreSentWell w.seats.items → w.last ≡ None → w.begun ≡ 0 → IsKept w → IsFresh w → IsBegunWith [] w
 begins_fresh w early e sent last count kept fresh = record {

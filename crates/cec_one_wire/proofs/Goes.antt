@@ -11,7 +11,7 @@ use Rattle.cec_bits.specs.Reading.{End, known_at, reading_of}
 use Rattle.cec_bits.specs.Kept.{Sample, kept_before, reported_with, reported_in, reported_at, sample_in}
 use Rattle.cec_bits.proofs.Following.{stood_calm, once_so}
 use Rattle.cec_wire.specs.declared.Seat.{Seat}
-use Rattle.cec_edges.specs.Listening.{IsReadOnce}
+use Rattle.cec_one_wire.specs.Listening.{IsReadOnce}
 use Rattle.cec_one_wire.specs.Pulls.{Stands, until_of, IsHeld}
 use Rattle.cec_one_wire.specs.Wire.{IsRead, IsAt, until_by, LowIsFound, CalmStays, CalmTo}
 use Rattle.cec_one_wire.proofs.Standing.{all_later, until_by as until_at}

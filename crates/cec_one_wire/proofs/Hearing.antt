@@ -22,7 +22,7 @@ use Rattle.cec_wire.specs.declared.Seat.{Seat}
 use Rattle.cec_wire.specs.declared.hearing.Ended.{Ended as Ending_kept}
 use Rattle.cec_wire.specs.Machine.{acks_until, is_short}
 use Rattle.cec_wire.specs.Round.{IsRoundLine}
-use Rattle.cec_edges.specs.Listening.{AreSenders, AreBegun}
+use Rattle.cec_one_wire.specs.Listening.{AreSenders, AreBegun}
 use Rattle.cec_one_wire.specs.declared.edge_wire.EdgeWire.{EdgeWire}
 use Rattle.cec_one_wire.specs.Line.{HaveBegun}
 use Rattle.cec_one_wire.specs.Pulls.{due_in, low_in, held_in}

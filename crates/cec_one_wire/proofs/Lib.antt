@@ -20,6 +20,7 @@ pub mod Turning
 pub mod Hearing
 pub mod Bounded
 pub mod Heard
+pub mod Idling
 pub mod Fresh
 pub mod Searching
 pub mod Finishing

@@ -29,7 +29,7 @@ use Rattle.cec_wire.specs.Round.{frames_of, is_within, pulse_pulls, is_acknowled
 use Rattle.cec_wire.specs.Machine.{acks_until}
 use Rattle.cec_wire.proofs.Holding.{acks_now}
 use Rattle.cec_wire.proofs.Walk as wire
-use Rattle.cec_edges.specs.Listening.{IsReadOnce, AreSenders, AreSending, SendsFor, IsSending}
+use Rattle.cec_one_wire.specs.Listening.{IsReadOnce, AreSenders, AreSending, SendsFor, IsSending}
 use Rattle.cec_one_wire.specs.Line.{last_of, HaveBegun}
 use Rattle.cec_one_wire.specs.Pulls.{pull_in, until_of, takes_last, low_in, LowIsHeard, BitsAreHeard, due_in, DueIsHeard, is_on, SendingIsHeard, IsHeld, held_in, HeldIsHeard, HeldWhenDue}
 

@@ -1,21 +1,53 @@
 -- A whole round, over pulses of which the first come before it.
-use Rattle.std.proofs.Common.{◌≡◌, ℕ, zero, suc, ◌+◌, ◌<◌, ◌≤◌, true, false, List, [], ◌∷◌, ◌++◌, append_assoc, length, length-append, take, drop, slice_get, Option, Some, None, IfSome, MatchOption, is_some, refl, arith, ap, ◌∙◌, sym, subst}
-use Rattle.std.specs.List.{All}
+use Rattle.std.proofs.Common.{◌≡◌, ℕ, zero, suc, ◌+◌, ◌<◌, ◌≤◌, Bool, true, false, nat_le, ◌&&◌, List, [], ◌∷◌, ◌++◌, append_assoc, length, length-append, take, drop, slice_get, Option, Some, None, IfSome, MatchOption, is_some, refl, arith, ap, ◌∙◌, sym, subst}
+use Rattle.std.specs.List.{All, list_any}
+use Rattle.std.proofs.lemmas.Bool.Decides.{nat_tests}
 use Rattle.std.proofs.lemmas.List.{take-append-drop}
 use Rattle.std.proofs.lemmas.Option.{slice_get_past}
 use Rattle.cec_wave.specs.declared.Stretch.{Stretch}
 use Rattle.cec_wave.specs.declared.Edge.{Edge}
-use Rattle.cec_wave.specs.Line.{IsWave, IsWaveFrom}
+use Rattle.cec_wave.specs.Line.{IsWave, IsWaveFrom, was_low, covers, line_of}
 use Rattle.cec_wave.specs.Bounds.{latest_begin, latest_heard}
 use Rattle.cec_wave.specs.Pulses.{AreSparse, AreFarApart, IsNarrow}
+use Rattle.cec_bits.specs.Reading.{End, Known, known_at, reading_of}
 use Rattle.cec_wire.specs.declared.Seat.{Seat}
 use Rattle.cec_wire.specs.declared.Outcome.{Outcome}
-use Rattle.cec_wire.specs.Round.{IsRound}
-use Rattle.cec_edges.proofs.Rounding.{round_front}
+use Rattle.cec_wire.specs.Round.{IsRound, is_pulled, pulse_pulls}
 use Rattle.cec_one_wire.specs.declared.edge_wire.EdgeWire.{EdgeWire}
 use Rattle.cec_one_wire.specs.Line.{EndsInTime}
 use Rattle.cec_one_wire.specs.Wired.{ArePulls, IsBegunWith, IsRoundOf, SameRound, is_silent_in}
 use Rattle.cec_one_wire.proofs.Searching.{all_dropped, all_start, both_late, drop_get, drop_none, late_next, sparse_start}
+
+-- ---- pulses before the round
+
+not_taken : (begin : ℕ) (ended : Option End) (was : Bool) (t : ℕ) (p : Stretch) → p.from < begin → pulse_pulls begin ended was t p ≡ false
+not_taken begin ended was t p l = let e : nat_le begin p.from ≡ false = grind (arith, nat_tests) in rw e (no (covers p t))
+  where
+    no : (b : Bool) → (b && false) ≡ false
+    no true = refl
+    no false = refl
+
+none_taken : (begin : ℕ) (ended : Option End) (was : Bool) (t : ℕ) (before pulses : List Stretch) → All (λ p. p.from < begin) before
+    → list_any (pulse_pulls begin ended was t) (before ++ pulses) ≡ list_any (pulse_pulls begin ended was t) pulses
+none_taken begin ended was t [] pulses h = refl
+none_taken begin ended was t (p ∷ before) pulses h =
+    let e : pulse_pulls begin ended was t p ≡ false = not_taken begin ended was t p (h zero p (omega arith)) in
+    rw e (none_taken begin ended was t before pulses (λ k d l. h (suc k) d (omega (arith, l))))
+
+pulled_front : (seats : List Seat) (begin : ℕ) (before pulses : List Stretch) (was : Bool) (k : Known) (t : ℕ) → All (λ p. p.from < begin) before → is_pulled seats begin pulses was k t ≡ is_pulled seats begin (before ++ pulses) was k t
+pulled_front seats begin before pulses was k t h = rw (none_taken begin k.ended was t before pulses h) refl
+
+pub round_front : (seats : List Seat) (begin : ℕ) (before pulses : List Stretch) (o : Outcome) → All (λ p. p.from < begin) before → IsRound seats begin pulses o → IsRound seats begin (before ++ pulses) o
+round_front seats begin before pulses o h r = record {
+  line = λ t. r.line t ∙ pulled_front seats begin before pulses (was_low (line_of o.wave) t) (known_at t (reading_of (line_of o.wave) begin)) t h;
+  starts = r.starts;
+  ends = r.ends;
+  ending = r.ending;
+  bits = r.bits;
+  survivors = r.survivors;
+  losers = r.losers;
+  rest = r.rest;
+}
 
 -- ---- sparse pulses are a wave
 
@@ -28,7 +60,7 @@ from_zero : (o : Option Stretch) → IfSome o (λ p. 0 ≤ p.from)
 from_zero None = tt
 from_zero (Some p) = omega arith
 
-sparse_wave : (ss : List Stretch) → AreSparse ss → IsWave ss
+pub sparse_wave : (ss : List Stretch) → AreSparse ss → IsWave ss
 sparse_wave ss s = wave_far 0 ss (from_zero (slice_get ss 0)) s.far s.narrow
 
 wave_sooner : (a b : ℕ) (ss : List Stretch) → b ≤ a → IsWaveFrom a ss → IsWaveFrom b ss
@@ -61,7 +93,7 @@ pub sparse_both : (n m : ℕ) (ss : List Stretch) → AreSparse ss → AreSparse
 sparse_both n m ss s = sparse_take m (drop n ss) (sparse_drop n ss s)
 
 -- where the one at a place begins at t or later, it and all after it do
-late_place : (t k : ℕ) (ss : List Stretch) (o : Option Stretch) → o ≡ slice_get ss k → AreSparse ss → IfSome o (λ p. t ≤ p.from) → All (λ p. t ≤ p.from) (drop k ss)
+pub late_place : (t k : ℕ) (ss : List Stretch) (o : Option Stretch) → o ≡ slice_get ss k → AreSparse ss → IfSome o (λ p. t ≤ p.from) → All (λ p. t ≤ p.from) (drop k ss)
 late_place t k ss None e s l = subst (λ (xs : List Stretch). All (λ (x : Stretch). t ≤ x.from) xs) (sym (drop_none ss k (sym e))) (λ i d m. absurd (omega (arith, m)))
 late_place t k ss (Some p) e s l = late_next t 0 (drop k ss) p (drop (suc k) ss) (drop_get ss k p (sym e)) (sparse_wave (drop k ss) (sparse_drop k ss s)) l
 

@@ -19,7 +19,7 @@ use Rattle.cec_wire.specs.declared.Seat.{Seat}
 use Rattle.cec_wire.specs.declared.Loser.{Loser}
 use Rattle.cec_wire.specs.Machine.{acks_after, breaks_after, acks_until, sends_after}
 use Rattle.cec_wire.specs.Round.{is_held, is_not_before, lost_at, out_of, all_known, sends_in, survivors_from, losers_from}
-use Rattle.cec_edges.specs.Listening.{IsReadOnce, AreSenders, AreSending, SendsFor, IsSending}
+use Rattle.cec_one_wire.specs.Listening.{IsReadOnce, AreSenders, AreSending, SendsFor, IsSending}
 use Rattle.cec_one_wire.specs.Pulls.{is_on, held_in}
 use Rattle.cec_one_wire.specs.Wire.{goes_on}
 use Rattle.cec_one_wire.specs.States.{acks_to, breaks_by, out_at, out_in, stays_at, survivor_at, survivors_of, losers_of, FollowersAreHeard, HeldGoes, StatesAreFates}

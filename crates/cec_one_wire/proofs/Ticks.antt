@@ -13,7 +13,7 @@ use Rattle.cec_bits.specs.Kept.{Sample, kept_before, reported_with, reported_in,
 use Rattle.cec_bits.proofs.Stood.{runs_in, was_now, KnowsEnd, step, stands_at}
 use Rattle.cec_bits.specs.Sending.{known_bits}
 use Rattle.cec_wire.specs.declared.Seat.{Seat}
-use Rattle.cec_edges.specs.Listening.{IsReadOnce, AreSending}
+use Rattle.cec_one_wire.specs.Listening.{IsReadOnce, AreSending}
 use Rattle.cec_one_wire.specs.Pulls.{until_of, held_in, IsHeld}
 use Rattle.cec_one_wire.specs.Wire.{IsAt, Ticked, until_by, goes_on, bits_in, ends_as, held_from, TickGoes, TickEnds, TickOver, TickAfter}
 use Rattle.cec_one_wire.proofs.Ended.{EndsHeld, ends_held}

@@ -13,7 +13,7 @@ use Rattle.cec_bits.proofs.Ends.{begin_by}
 use Rattle.cec_bits.proofs.Search.{first_in_agree, found_first}
 pub use Rattle.cec_wire.proofs.Still.{high_before}
 use Rattle.cec_wire.proofs.Afterwards.{no_fall_after}
-use Rattle.cec_edges.specs.Listening.{IsReadOnce}
+use Rattle.cec_one_wire.specs.Listening.{IsReadOnce}
 use Rattle.cec_one_wire.specs.Told.{is_high_for, told_of, IsLone, ToldAsItIs, ToldIsRead, RoundIsLone, ToldIsOnce}
 
 pub and_no : (b : Bool) → (b && false) ≡ false

@@ -1,4 +1,5 @@
 pub mod Line
+pub mod Listening
 pub mod Pulls
 pub mod Wire
 pub mod Told

@@ -15,7 +15,7 @@ use Rattle.cec_bits.specs.Follows.{StoodBefore}
 use Rattle.cec_wire.specs.declared.Seat.{Seat}
 use Rattle.cec_wire.specs.Round.{is_acknowledged, is_broken, IsRoundLine}
 use Rattle.cec_wire.specs.Machine.{sends_after, acks_until}
-use Rattle.cec_edges.specs.Listening.{IsReadOnce, AreSenders, AreSending}
+use Rattle.cec_one_wire.specs.Listening.{IsReadOnce, AreSenders, AreSending}
 use Rattle.cec_one_wire.specs.Line.{HaveBegun}
 
 -- a seat's sender pulls at t

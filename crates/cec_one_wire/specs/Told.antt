@@ -10,7 +10,7 @@ use Rattle.cec_bits.specs.Follows.{StoodBefore}
 use Rattle.cec_bits.specs.Hears.{heard_by, wake_of, hear_in, reported_so, rest}
 use Rattle.cec_wire.specs.declared.Seat.{Seat}
 use Rattle.cec_wire.specs.Round.{IsRoundLine}
-use Rattle.cec_edges.specs.Listening.{IsReadOnce, AreBegun}
+use Rattle.cec_one_wire.specs.Listening.{IsReadOnce, AreBegun}
 use Rattle.cec_one_wire.specs.Line.{HaveBegun}
 use Rattle.cec_one_wire.specs.Pulls.{low_in}
 use Rattle.cec_one_wire.specs.Wire.{IsAt, ToldSo}

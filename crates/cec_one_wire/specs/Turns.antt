@@ -12,7 +12,7 @@ use Rattle.cec_bits.specs.Reading.{End}
 use Rattle.cec_bits.specs.Sending.{destination}
 use Rattle.cec_wire.specs.declared.Seat.{Seat}
 use Rattle.cec_wire.specs.Machine.{is_short}
-use Rattle.cec_edges.specs.Listening.{AllHeard}
+use Rattle.cec_one_wire.specs.Listening.{AllHeard}
 use Rattle.cec_one_wire.specs.declared.edge_wire.EdgeWire.{EdgeWire}
 use Rattle.cec_one_wire.specs.States.{acks_to, breaks_by}
 use Rattle.cec_one_wire.specs.Wire.{IsAt, bits_in}

@@ -16,7 +16,7 @@ use Rattle.cec_bits.specs.Follows.{StoodBefore, StandsOn}
 use Rattle.cec_wire.specs.declared.Seat.{Seat}
 use Rattle.cec_wire.specs.Round.{IsRoundLine}
 use Rattle.cec_wire.specs.Machine.{breaks_after, is_short}
-use Rattle.cec_edges.specs.Listening.{IsReadOnce, AreSenders, AreSending, AllHeard}
+use Rattle.cec_one_wire.specs.Listening.{IsReadOnce, AreSenders, AreSending, AllHeard}
 use Rattle.cec_one_wire.specs.Line.{HaveBegun}
 use Rattle.cec_one_wire.specs.Pulls.{pull_in, low_in, due_in, held_in, IsHeld}
 

@@ -18,7 +18,7 @@ use Rattle.cec_wire.specs.declared.hearing.Ended.{Ended}
 use Rattle.cec_wire.specs.Edges.{IsNextEdge}
 use Rattle.cec_wire.specs.Machine.{AreSentWell}
 use Rattle.cec_wire.specs.Round.{IsRoundLine, IsRound}
-use Rattle.cec_edges.specs.Listening.{AreBegun, IsIdle}
+use Rattle.cec_one_wire.specs.Listening.{AreBegun, IsIdle}
 use Rattle.cec_one_wire.specs.declared.edge_wire.EdgeWire.{EdgeWire}
 use Rattle.cec_one_wire.specs.Line.{HaveBegun, EndsInTime}
 use Rattle.cec_one_wire.specs.Pulls.{pull_in, low_in}

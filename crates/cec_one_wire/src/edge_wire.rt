@@ -163,7 +163,7 @@ impl EdgeWire {
     ghost use Rattle.std.specs.Option.{option_to_list};
     ghost use Rattle.cec_bits.specs.Hears.{wake_of};
     ghost use Rattle.cec_wave.specs.Pulses.{AreSparse};
-    ghost use Rattle.cec_edges.specs.Listening.{AllHeard};
+    ghost use Rattle.cec_one_wire.specs.Listening.{AllHeard};
     ghost use Rattle.cec_wire.specs.declared.hearing.Ended.{Ended as EndedValue};
     ghost use Rattle.cec_one_wire.specs.Pulls.{due_in};
     ghost use Rattle.cec_one_wire.specs.Told.{told_of};

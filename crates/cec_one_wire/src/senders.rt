@@ -2,7 +2,7 @@
 ghost use Rattle.std.specs.Prelude.{◌≡◌, ◌<◌, ◌≤◌, ◌||◌, ◌+◌, ℕ, length};
 ghost use Rattle.std.specs.List.{list_any};
 ghost use Rattle.cec_wave.specs.Bounds.{latest_heard};
-ghost use Rattle.cec_edges.specs.Listening.{AllHeard, AreBegun, HeardOne, IsSenderOf};
+ghost use Rattle.cec_one_wire.specs.Listening.{AllHeard, AreBegun, HeardOne, IsSenderOf};
 ghost use Rattle.cec_one_wire.specs.Pulls.{pull_in};
 ghost use Rattle.cec_one_wire.specs.States.{is_sending_on};
 

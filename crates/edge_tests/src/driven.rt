@@ -1,13 +1,15 @@
 //! A wire that is handed pulses, beside what is known of it from outside.
-ghost use Rattle.std.specs.Prelude.{◌≡◌, ◌≤◌, ◌++◌, length, IsTrue, Option};
+ghost use Rattle.std.specs.Prelude.{◌≡◌, ◌<◌, ◌≤◌, ◌++◌, ◌-◌, length, take, IsTrue, ℕ};
 ghost use Rattle.std.specs.Option.{option_to_list};
-ghost use Rattle.cec_wave.specs.declared.Stretch.{Stretch};
+ghost use Rattle.cec_wave.specs.Bounds.{latest_heard};
+ghost use Rattle.cec_wave.specs.Line.{IsWave};
 ghost use Rattle.cec_wave.specs.Pulses.{AreSparse};
+ghost use Rattle.cec_one_wire.specs.Wired.{IsNext};
 
 use arrayvec::ArrayVec;
 use cec_bits::{Receiver, Sender};
-use cec_edges::EdgeWire;
-use cec_wave::{Edge, Pulses, Stretch};
+use cec_one_wire::EdgeWire;
+use cec_wave::{Edge, LATEST_HEARD, Pulses, Stretch};
 use cec_wire::{Outcome, Seat};
 use std::marker::Model;
 use std::process::Abort;
@@ -24,16 +26,15 @@ pub(crate) struct Driven {
 
 impl Model for Driven {
     ghost use Rattle.std.specs.Prelude.{◌≡◌, ◌≤◌, length};
-    ghost use Rattle.cec_edges.specs.declared.edge_wire.EdgeWire.{EdgeWire};
-    ghost use Rattle.cec_edges.specs.Wired.{IsBegun, Listens};
+    ghost use Rattle.cec_one_wire.specs.declared.edge_wire.EdgeWire.{EdgeWire};
+    ghost use Rattle.cec_one_wire.specs.Wired.{IsBegunWith};
 
     ghost Value = { EdgeWire };
 
     ghost view = { λ d. d.wire };
 
     ghost invariant = { λ d.
-        IsBegun d.wire × Listens d.wire
-        × (d.seats ≡ length d.wire.seats.items) × (d.pulses.items ≡ d.wire.pulses.items) × (d.wire.time ≤ d.heard) };
+        IsBegunWith d.pulses.items d.wire × (d.seats ≡ length d.wire.seats.items) × (d.wire.time ≤ d.heard) };
 }
 
 // The stretches are sparse.
@@ -59,10 +60,36 @@ fn first_from(pulses: &[Stretch], at: u64) -> Option<Stretch> {
     None
 }
 
+// A pulse begins at an instant or later, and ends in time.
+fn is_in_time(at: u64, pulse: Stretch) -> bool
+    ensures late { IsTrue result → at ≤ pulse.from }
+    ensures ends { IsTrue result → pulse.to < latest_heard }
+{
+    at <= pulse.from && pulse.to < LATEST_HEARD
+}
+
+// A wire that is begun with these pulses, and was heard before an instant, may be handed this pulse next.
+fn is_next(pulses: &[Stretch], heard: u64, next: Option<Stretch>) -> bool
+    ensures { IsTrue result → IsWave pulses.now → (t : ℕ) → t ≤ heard → IsNext pulses.now t next }
+{
+    let Some(pulse) = next else {
+        return true;
+    };
+    let Ok(mut stretches) = ArrayVec::<Stretch, 25>::try_from(pulses) else {
+        return false;
+    };
+    if stretches.try_push(pulse).is_err() {
+        return false;
+    }
+    if !is_in_time(heard, pulse) {
+        return false;
+    }
+    are_sparse(stretches.as_slice())
+}
+
 // Takes the next pulse, if so many have begun with it.
 fn take(rt: &impl Abort, pulses: &mut ArrayVec<Stretch, 24>, next: Option<Stretch>, count: usize)
-    ensures count { length pulses.new.items ≡ count }
-    ensures parts { (left : Option Stretch) × (pulses.new.items ++ option_to_list left ≡ pulses.old.items ++ option_to_list next) }
+    ensures { pulses.new.items ≡ pulses.old.items ++ take (count - length pulses.old.items) (option_to_list next) }
 {
     if let Some(pulse) = next {
         if pulses.len() < count.min(24) {
@@ -74,7 +101,7 @@ fn take(rt: &impl Abort, pulses: &mut ArrayVec<Stretch, 24>, next: Option<Stretc
 
 impl Driven {
     ghost use Rattle.std.specs.Prelude.{MatchOption, true};
-    ghost use Rattle.cec_edges.specs.Wired.{IsNext, is_silent_in};
+    ghost use Rattle.cec_one_wire.specs.Wired.{is_silent_in};
 
     /// A wire that begins a round of at most 15 seats at `start`.
     pub(crate) fn begin(wire: EdgeWire, seats: &[Seat], start: u64) -> Self
@@ -91,28 +118,14 @@ impl Driven {
         }
     }
 
-    // It may be handed this pulse next.
-    fn is_next(&self, next: Option<Stretch>) -> bool
-        ensures { IsTrue result → IsNext self.now.pulses.items self.now.time next }
-    {
-        let Some(pulse) = next else {
-            return true;
-        };
-        let Ok(mut stretches) = ArrayVec::<Stretch, 25>::try_from(self.pulses.as_slice()) else {
-            return false;
-        };
-        if stretches.try_push(pulse).is_err() {
-            return false;
-        }
-        self.heard <= pulse.from && are_sparse(stretches.as_slice())
-    }
-
     /// The next edge, if there is one. The wire is handed the first of these pulses that has not begun.
     pub(crate) fn edge(&mut self, rt: &impl Abort, pulses: &[Stretch]) -> Option<Edge>
         ensures { MatchOption result (is_silent_in self.new ≡ true) (λ _. Unit {0}) }
     {
         let next = first_from(pulses, self.heard);
-        assert!(rt; self.is_next(next));
+        if !is_next(self.pulses.as_slice(), self.heard, next) {
+            panic!(rt; "a pulse too early");
+        }
         let edge = self.wire.next_edge(next);
         take(rt, &mut self.pulses, next, self.wire.pulses_begun());
         match edge {

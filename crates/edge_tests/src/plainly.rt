@@ -4,8 +4,8 @@ ghost use Rattle.std.specs.Prelude.{◌<◌, length};
 
 use crate::driven::Driven;
 use arrayvec::ArrayVec;
-use cec_edges::EdgeWire;
 use cec_frame::{Addr, Ending, Frame};
+use cec_one_wire::EdgeWire;
 use cec_wave::{Edge, Stretch};
 use cec_wire::{Loser, Outcome, Seat};
 use std::alloc::Global;

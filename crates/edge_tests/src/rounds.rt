@@ -4,8 +4,8 @@ ghost use Rattle.std.specs.List.{list_any};
 ghost use Rattle.cec_wire.specs.Lasting.{is_begun};
 
 use arrayvec::ArrayVec;
-use cec_edges::EdgeWire;
 use cec_frame::{Addr, Frame};
+use cec_one_wire::EdgeWire;
 use cec_wave::{Pulses, Stretch};
 use cec_wire::{Loser, Outcome, Seat, Wire};
 use std::alloc::Global;

@@ -3,7 +3,7 @@ use crate::driven::Driven;
 use crate::rounds::{bits_text, is_reported, outcome_text, pulse_of, seats_of};
 use arrayvec::ArrayVec;
 use cec_bits::Standing;
-use cec_edges::EdgeWire;
+use cec_one_wire::EdgeWire;
 use cec_wave::Stretch;
 use std::alloc::Global;
 use std::process::Abort;

@@ -2,4 +2,6 @@
 #![tactic(auto)]
 
 #[cfg(test)]
-mod beside;
+mod dense;
+#[cfg(test)]
+mod pulled;

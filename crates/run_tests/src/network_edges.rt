@@ -3,9 +3,9 @@ ghost use Rattle.std.specs.Prelude.{◌<◌, IsSome};
 
 use crate::rooms::{LATEST, room, round_before, send};
 use cec_bits::Standing;
-use cec_edges::EdgeWire;
 use cec_frame::Ending;
 use cec_net::{Net, RoundReport};
+use cec_one_wire::EdgeWire;
 use cec_wave::{Edge, Stretch};
 use hdmi_core::Kind;
 use std::process::Abort;

@@ -1,9 +1,9 @@
 //! Networks of a television and devices in its first ports.
 ghost use Rattle.std.specs.Prelude.{◌≤◌, ◌<◌, All};
 
-use cec_edges::EdgeWire;
 use cec_frame::Frame;
 use cec_net::{Event, Net, RoundReport};
+use cec_one_wire::EdgeWire;
 use cec_wave::{Pulses, Stretch};
 use hdmi_core::Kind;
 use hdmi_topo::Tree;

@@ -1,9 +1,9 @@
 //! A pulse at each microsecond of a poll, and at each one of a frame. What has to come out was worked out from the
 //! rules of the wire: a pulse breaks a frame, acknowledges one falsely or refuses one, and never makes another of it.
 use crate::rooms::{LATEST, room, round_before, send};
-use cec_edges::EdgeWire;
 use cec_frame::{Addr, Ending, Reading};
 use cec_net::Net;
+use cec_one_wire::EdgeWire;
 use cec_wave::Stretch;
 use hdmi_core::Kind;
 use std::process::Abort;

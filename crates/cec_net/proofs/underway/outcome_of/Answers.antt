@@ -1,4 +1,4 @@
-use Rattle.std.proofs.Common.{◌∙◌, sym, subst, arith, refl, List, ℕ}
+use Rattle.std.proofs.Common.{◌∙◌, sym, subst, arith, refl, take, List, ℕ}
 use Rattle.cec_wire.specs.declared.Seat.{Seat}
 use Rattle.cec_wire.specs.Round.{IsRound}
 use Rattle.cec_net.proofs.InRound.{silent_when, goes_on_when, round_on}
@@ -10,8 +10,8 @@ edges-init c = record { takes = c.requires.takes; same = record { seats = refl; 
 pub edges-smaller : goal.edges-smaller
 edges-smaller c =
     let e = c.next_edge_of.ensures in
-    let n = goes_on_when c.next_edge_of.result c.edges.wire c.next_edge_of.new.wire (sym c.is_some.ensures ∙ c.edges-test.true) e.near e.goes in
-    omega (arith, n.0, n.1, e.round.begin)
+    let later = goes_on_when c.next_edge_of.result c.edges.wire c.next_edge_of.new.wire (sym c.is_some.ensures ∙ c.edges-test.true) e.goes in
+    omega (arith, later, e.takes.near, e.round.begin)
 
 pub edges-preserved : goal.edges-preserved
 edges-preserved c =
@@ -20,7 +20,7 @@ edges-preserved c =
     record { takes = e.takes; same = record { seats = e.round.seats ∙ i.seats; begin = e.round.begin ∙ i.begin } }
 
 pub finish-requires-clause-begun : goal.finish-requires-clause-begun
-finish-requires-clause-begun c = c.next_edge_of.ensures.takes.stands
+finish-requires-clause-begun c = (take c.next_edge_of.new.wire.begun c.args.pulses.now, c.next_edge_of.ensures.takes.stands)
 
 pub finish-requires-clause-silent : goal.finish-requires-clause-silent
 finish-requires-clause-silent c = silent_when c.next_edge_of.result c.next_edge_of.new.wire _ (sym c.is_some.ensures ∙ c.edges-test.false) c.next_edge_of.ensures.goes
@@ -32,4 +32,4 @@ returns c =
     let w = c.next_edge_of.new.wire in
     subst (λ (b : ℕ). IsRound c.args.wire.seats.items b c.args.pulses.now c.finish.result) (e.round.begin ∙ i.begin)
     (subst (λ (ss : List Seat). IsRound ss w.begin c.args.pulses.now c.finish.result) (e.round.seats ∙ i.seats)
-    (round_on c.args.pulses.now w c.finish.result c.requires.sparse e.takes c.finish.ensures.round))
+    (round_on c.args.pulses.now w c.finish.result e.takes (c.finish.ensures.round (take w.begun c.args.pulses.now) e.takes.stands)))

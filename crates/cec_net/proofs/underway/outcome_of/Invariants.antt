@@ -1,5 +1,5 @@
 use Rattle.std.proofs.Common.{◌+◌, ◌-◌}
-use Rattle.cec_edges.specs.Wired.{SameRound}
+use Rattle.cec_one_wire.specs.Wired.{SameRound}
 use Rattle.cec_net.specs.Underway.{Takes}
 use Rattle.cec_net.proofs.underway.outcome_of.Given as goal
 

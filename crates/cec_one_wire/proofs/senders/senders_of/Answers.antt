@@ -1,6 +1,6 @@
 use Rattle.std.proofs.Common.{◌+◌, List, Option, take, subst, sym, arith}
 use Rattle.cec_bits.specs.declared.sender.Sender.{Sender}
-use Rattle.cec_edges.specs.Listening.{AreBegun}
+use Rattle.cec_one_wire.specs.Listening.{AreBegun}
 use Rattle.cec_one_wire.proofs.Begins.{begun_next}
 use Rattle.cec_one_wire.proofs.senders.senders_of.Goals as goal
 

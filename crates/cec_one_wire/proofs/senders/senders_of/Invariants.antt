@@ -1,5 +1,5 @@
 use Rattle.std.proofs.Common.{◌≡◌, length, take}
-use Rattle.cec_edges.specs.Listening.{AreBegun}
+use Rattle.cec_one_wire.specs.Listening.{AreBegun}
 use Rattle.cec_one_wire.proofs.senders.senders_of.Given as goal
 
 abbrev pub invariant-loop-seat : goal.invariant-loop-seat

@@ -7,7 +7,7 @@ use Rattle.cec_net.proofs.Ahead.{ready-acted}
 use Rattle.cec_net.proofs.Orderly.{keeps-acted}
 use Rattle.std.specs.Option.{option_map}
 use Rattle.cec_wave.specs.Bounds.{latest_instant}
-use Rattle.cec_edges.specs.declared.edge_wire.EdgeWire.{EdgeWire}
+use Rattle.cec_one_wire.specs.declared.edge_wire.EdgeWire.{EdgeWire}
 use Rattle.cec_net.proofs.InRound.{none_underway}
 use Rattle.cec_net.proofs.Soundness.{sound-replaced, answered-call}
 use Rattle.cec_net.proofs.net.Net.act.Goals as goal

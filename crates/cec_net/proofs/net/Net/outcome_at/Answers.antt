@@ -1,6 +1,6 @@
 use Rattle.std.proofs.Common.{◌≡◌, ◌≤◌, ◌∙◌, ap, sym, subst, arith, true, Some, None, List, map}
 use Rattle.std.specs.Option.{option_map}
-use Rattle.cec_edges.specs.declared.edge_wire.EdgeWire.{EdgeWire}
+use Rattle.cec_one_wire.specs.declared.edge_wire.EdgeWire.{EdgeWire}
 use Rattle.cec_wire.specs.declared.Seat.{Seat}
 use Rattle.cec_wire.specs.Lasting.{is_begun}
 use Rattle.cec_net.specs.State.{NetState, next_start}

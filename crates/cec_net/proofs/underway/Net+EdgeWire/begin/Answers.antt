@@ -25,6 +25,6 @@ invariant_of-self c =
     let e = c.begin.ensures in (
       c.self.invariant.0,
       some_wire s c.begin.new.self
-          (is_next s c.in-Some.begin c.begin.new.self (subst Early (sym c.self.view_is) c.requires) (subst Sparse c.as_slice-pulses.ensures.pulses c.as_slice-pulses.ensures.sparse) next e.begun e.listens
-          (e.seats ∙ c.deref-2.ensures.0 ∙ c.seats_of-seats.ensures ∙ ap (map (seat_of c.self.inside.rest c.in-Some.begin)) c.deref.ensures.0) e.begin e.time e.pulses),
+          (is_next s c.in-Some.begin c.begin.new.self c.self.invariant.0 (subst Early (sym c.self.view_is) c.requires) (subst Sparse c.as_slice-pulses.ensures.pulses c.as_slice-pulses.ensures.sparse) next e.begun
+          (e.seats ∙ c.deref-2.ensures.0 ∙ c.seats_of-seats.ensures ∙ ap (map (seat_of c.self.inside.rest c.in-Some.begin)) c.deref.ensures.0) e.begin e.time),
     )

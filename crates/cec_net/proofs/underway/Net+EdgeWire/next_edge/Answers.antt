@@ -1,7 +1,7 @@
 use Rattle.std.proofs.Common.{ap, sym, subst, Some, None, List, Option}
 use Rattle.std.specs.Option.{option_map}
 use Rattle.cec_wave.specs.declared.Stretch.{Stretch}
-use Rattle.cec_edges.specs.declared.edge_wire.EdgeWire.{EdgeWire}
+use Rattle.cec_one_wire.specs.declared.edge_wire.EdgeWire.{EdgeWire}
 use Rattle.cec_wire.specs.Round.{IsRoundLine}
 use Rattle.cec_net.specs.State.{NetState}
 use Rattle.cec_net.specs.Underway.{Takes}

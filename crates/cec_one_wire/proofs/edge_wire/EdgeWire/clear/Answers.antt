@@ -1,7 +1,8 @@
 use Rattle.std.proofs.Common.{List, refl, subst}
 use Rattle.cec_wire.specs.declared.Seat.{Seat}
-use Rattle.cec_edges.specs.Listening.{AreBegun}
-use Rattle.cec_one_wire.proofs.Fresh.{begins_fresh, idle_on_high}
+use Rattle.cec_one_wire.specs.Listening.{AreBegun}
+use Rattle.cec_one_wire.proofs.Fresh.{begins_fresh}
+use Rattle.cec_one_wire.proofs.Idling.{idle_on_high}
 use Rattle.cec_one_wire.proofs.Kept.{kept_made}
 use Rattle.cec_one_wire.proofs.edge_wire.EdgeWire.clear.Goals as goal
 

@@ -1,3 +1,0 @@
-pub mod Listening
-pub mod Wired
-pub mod Standings
