@@ -113,9 +113,9 @@ refused_by : (fault : Option EventError) (totals : Totals) → (counted_event fa
 refused_by None totals = omega arith
 refused_by (Some error) totals = omega arith
 
-pub refused_kept : (fault : Option EventError) (totals : Totals) (rest : List TimedEvent) (e : TimedEvent) (others all : List TimedEvent) → rest ≡ e ∷ others
-    → totals.refused + length rest ≤ length all → (counted_event fault totals).refused + length others ≤ length all
-refused_kept fault totals rest e others all split h =
+pub refused_kept : (fault : Option EventError) (totals : Totals) (rest : List TimedEvent) (e : TimedEvent) (others : List TimedEvent) (most : ℕ) → rest ≡ e ∷ others
+    → totals.refused + length rest ≤ most → (counted_event fault totals).refused + length others ≤ most
+refused_kept fault totals rest e others most split h =
     let more : length rest ≡ suc (length others) = ap length split in
     omega (arith, refused_by fault totals)
 

@@ -27,7 +27,7 @@ goes_more : (end : ℕ) (xs : List Happening) (c mid d : Config) (x : Happening)
 goes_more end [] c mid d x goes turn = (d, subst (λ (e : Config). Happens end e x d) goes turn, refl)
 goes_more end (y ∷ ys) c mid d x (first, step, goes) turn = (first, step, goes_more end ys first mid d x goes turn)
 
-hears_more : {R : Type 0} (hears : R → Happening → R → Type 0) (xs : List Happening) (r m s : R) (x : Happening) → Hears hears r xs m → hears m x s → Hears hears r (xs ++ x ∷ []) s
+pub hears_more : {R : Type 0} (hears : R → Happening → R → Type 0) (xs : List Happening) (r m s : R) (x : Happening) → Hears hears r xs m → hears m x s → Hears hears r (xs ++ x ∷ []) s
 hears_more hears [] r m s x heard next = (s, subst (λ k. hears k x s) heard next, refl)
 hears_more hears (y ∷ ys) r m s x (first, step, heard) next = (first, step, hears_more hears ys first m s x heard next)
 

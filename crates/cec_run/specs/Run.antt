@@ -1,15 +1,13 @@
 -- A run, and what it writes (own): the next event or the next round, again and again, until neither comes before
 -- the end. It writes its trace, or its line in a format.
-use Rattle.std.specs.Prelude.{◌≡◌, ℕ, zero, suc, Bool, true, false, ◌+◌, max, nat_lt, nat_le, if◌then◌else◌, List, [], ◌∷◌, ◌++◌, Option, Some, None, Result}
+use Rattle.std.specs.Prelude.{◌≡◌, ℕ, zero, suc, Bool, true, false, ◌+◌, max, nat_lt, nat_le, if◌then◌else◌, List, [], ◌∷◌, ◌++◌, Option, Some, None}
 use Rattle.std.specs.List.{flat_map}
 use Rattle.cec_wave.specs.Line.{IsWave}
 use Rattle.cec_wire.specs.declared.Outcome.{Outcome}
 use Rattle.cec_net.specs.State.{NetState, next_start}
 use Rattle.cec_net.specs.Apply.{net_after, event_fault}
 use Rattle.cec_net.specs.Step.{IsNextRound}
-use Rattle.cec_net.specs.Progress.{IsProgress}
 use Rattle.cec_event.specs.declared.event.EventError.{EventError}
-use Rattle.hdmi_core.specs.declared.sink.WriteFault.{WriteFault}
 use Rattle.cec_asm.specs.declared.script.TimedEvent.{TimedEvent}
 use Rattle.cec_run.specs.declared.run.Totals.{Totals}
 use Rattle.cec_run.specs.declared.run.Reporting.{Reporting}
@@ -21,7 +19,6 @@ use Rattle.hdmi_topo.specs.Path.{is_on_wire}
 use Rattle.cec_trace.specs.StateText.{state_line}
 use Rattle.cec_trace.specs.PortText.{port_lines}
 use Rattle.cec_device.specs.State.{State}
-use Rattle.hdmi_core.specs.Cut.{WrittenText}
 use Rattle.cec_text.specs.ReadingText.{is_complete}
 use Rattle.cec_trace.specs.TraceText.{event_line, round_line, end_line}
 use Rattle.cec_line.specs.Format.{line_start, line_round, line_end}
@@ -164,12 +161,3 @@ IsTrace edid = IsRunText (Trace edid)
 -- a run has one trace
 abbrev pub OneTrace : Type 0
 OneTrace = (edid : Option Edid) (end : ℕ) (c : Config) (x y : List ℕ) (s t : Totals) → IsTrace edid end c x s → IsTrace edid end c y t → (x ≡ y) × (s ≡ t)
-
--- a round was run from one state to the next, and what it reports was written
-pub record RoundWritten (reporting : Reporting) (before after : NetState) (t u : Totals) (old new : Option (List ℕ)) (was is : Bool) (result : Result ℕ WriteFault) : Type 0 where
-  pub begin : ℕ
-  pub text : List ℕ
-  pub begins : next_start before ≡ Some begin
-  pub turn : IsRoundTurn reporting begin before t text after u
-  pub progress : IsProgress before begin after
-  pub written : WrittenText old new was is text result

@@ -21,6 +21,6 @@ pub use laws::{
 pub use reporter::Reporter;
 pub use run::{Totals, Turn, first_time, next_turn, told};
 pub use source::ScriptSource;
-pub use trace_text::{Passed, TraceText, apply_event};
-pub use turn::take_event;
+pub use trace_text::{Passed, TraceText};
+pub use turn::{take_event, take_round};
 pub use turn_by_turn::run_turns;

@@ -11,9 +11,9 @@ ghost use Rattle.cec_run.specs.Run.{HasAddressReported, IsRunText, event_turn, f
 use crate::line_text::write_line;
 use crate::trace_text::write_trace;
 use cec_asm::{Script, TimedEvent};
-use cec_edges::EdgeWire;
 use cec_line::Format;
 use cec_net::Net;
+use cec_one_wire::EdgeWire;
 use cec_wire::Wire;
 use hdmi_blocks::Edid;
 use hdmi_core::{Sink, WriteFault};

@@ -1,20 +1,16 @@
 //! The trace of a run, as what hears of it.
-ghost use Rattle.std.specs.Prelude.{◌≡◌, ◌<◌, ◌≤◌, length, not, IsSome};
+ghost use Rattle.std.specs.Prelude.{◌≡◌, ◌≤◌, length, not, IsSome};
 ghost use Rattle.std.specs.Option.{ForSome};
-ghost use Rattle.cec_wave.specs.Bounds.{latest_event, latest_instant};
+ghost use Rattle.cec_wave.specs.Bounds.{latest_event};
 ghost use Rattle.hdmi_blocks.specs.Address.{edid_address};
 ghost use Rattle.hdmi_blocks.specs.Root.{HasAddress};
-ghost use Rattle.hdmi_core.specs.Cut.{WrittenText};
 ghost use Rattle.cec_asm.specs.Script.{IsSchedule};
-ghost use Rattle.cec_event.specs.Events.{NamesDevices};
-ghost use Rattle.cec_net.specs.Apply.{net_after, event_fault};
 ghost use Rattle.cec_run.specs.declared.run.Reporting.TheVariants.{Trace};
-ghost use Rattle.cec_run.specs.Run.{IsRunText, counted_event, event_text, start};
+ghost use Rattle.cec_run.specs.Run.{IsRunText, start};
 ghost use Rattle.cec_run.specs.Heard.{IsRunWritten};
 
 use crate::reporter::Reporter;
 use crate::run::{Totals, told};
-use crate::turn::take_event;
 use crate::turn_by_turn::run_turns;
 use cec_asm::TimedEvent;
 use cec_event::EventError;
@@ -85,41 +81,6 @@ impl<'a, 'e, S: Sink> Reporter for TraceText<'a, 'e, S> {
     fn wants_more(&self) -> bool {
         !self.text.has_failed()
     }
-}
-
-/// Applies an event, and writes its line and those of the ports of the devices that come onto the wire by it.
-/// Returns how many bytes they are.
-#[tactic(auto, using(crate::proofs::Addressed::each_address))]
-pub fn apply_event<S: Sink, W>(
-    out: &mut S,
-    net: &mut Net<W>,
-    edid: &Option<Edid>,
-    totals: &mut Totals,
-    at: u64,
-    event: &TimedEvent,
-) -> Result<u128, WriteFault>
-    requires addressed { HasAddress edid.now }
-    requires early { at ≤ latest_instant }
-    requires known { NamesDevices (length net.old.tree) event.now.event }
-    requires room { totals.old.refused < 18446744073709551615 }
-    ensures net { net.new ≡ net_after at event.now.event net.old }
-    ensures totals { totals.new ≡ counted_event (event_fault net.old event.now.event) totals.old }
-    ensures text { WrittenText (S.contents out.old) (S.contents out.new) (S.is_stuck out.old) (S.is_stuck out.new)
-        (event_text edid.now at event.now net.old) result }
-{
-    let mut trace = TraceText {
-        text: Counted::new(out),
-        passed: Passed { edid },
-    };
-    take_event(net, totals, at, event, &mut trace);
-    let TraceText {
-        text,
-        passed: _passed,
-    } = trace;
-    let written = text.written();
-    // No effect at run time. The proof reads what `out` holds from the sink that comes back.
-    let _below = text.into_sink();
-    written
 }
 
 /// Runs a network to `end`, and writes its trace.

@@ -1,38 +1,55 @@
--- What is due of a step that goes on, from what was reported and the answer.
-use Rattle.std.proofs.Common.{◌≡◌, ℕ, ◌∙◌, Bool, true, false, List, ◌++◌, slice_get, codes, Option, Some, Result, Ok, Err, ap, sym, refl, subst}
+-- What is due of a step, from what was reported and the answer.
+use Rattle.std.proofs.Common.{◌≡◌, ℕ, ◌∙◌, Bool, true, false, true≢false, List, ◌++◌, slice_get, codes, Option, Some, Result, Ok, Err, is_err, ap, sym, refl, subst}
 use Rattle.hdmi_core.specs.declared.sink.WriteFault.{WriteFault}
+use Rattle.hdmi_core.specs.Adds.{Adds, Tally}
+use Rattle.hdmi_core.specs.Cut.{WrittenText}
+use Rattle.hdmi_core.proofs.Adding.{after_failure, cut_short, not_yet, then}
 use Rattle.cec_device.specs.State.{State}
 use Rattle.cec_trace.specs.StateText.{state_line}
-use Rattle.hdmi_core.specs.Cut.{CutOff, WrittenText}
-use Rattle.hdmi_core.proofs.Cutting.{cut_front}
 use Rattle.cec_run.specs.declared.run.Reporting.TheVariants.{Trace}
 use Rattle.cec_run.specs.Run.{Config, end_reported}
+use Rattle.cec_session.specs.declared.live.Step.{Step}
 use Rattle.cec_session.specs.declared.live.Step.TheVariants.{Refuse, Idle, Go, Edge, Finish, Show}
 use Rattle.cec_session.specs.declared.answer.Refusal.{Refusal}
-use Rattle.cec_session.specs.Session.{Session, SessionGoes, StepsHaveOneText, idle_line, refused_line, span_of, taken_line}
-use Rattle.cec_session.specs.Taken.{IsAnswered, StandsSomewhere}
+use Rattle.cec_session.specs.Session.{Session, SessionGoes, StepsHaveOneText, IsDue, idle_line, refused_line, span_of, taken_line}
+use Rattle.cec_session.specs.Taken.{IsAnswered, IsGone, IsTaken, StandsSomewhere}
 use Rattle.cec_session.proofs.Going.{goes_one}
 
--- the text after what is reported, by where the session then stands
-abbrev pub IsWhole : Bool → Bool → (Session → List ℕ) → Session → Session → Option (List ℕ) → Option (List ℕ) → Bool → Bool → Result ℕ WriteFault → Type 0
-IsWhole edges ended tail s t old new was is (Ok count) =
-    (reported : List ℕ) × (own : List ℕ) × (place : Config) × SessionGoes edges ended s reported own place × (t ≡ record s { place = place }) × WrittenText old new was is (own ++ tail t) (Ok count)
-IsWhole edges ended tail s t old new was is (Err fault) =
-    ((reported : List ℕ) × (own : List ℕ) × (place : Config) × SessionGoes edges ended s reported own place × CutOff old new (own ++ tail (record s { place = place })) fault) × (is ≡ true) × StandsSomewhere s t
+-- a text after what is reported, by where the session then stands
+pub record IsWhole (edges ended : Bool) (tail : Session → List ℕ) (s t : Session) (old new : Tally) : Type 0 where
+  pub reported : List ℕ
+  pub own : List ℕ
+  pub place : Config
+  pub goes : SessionGoes edges ended s reported own place
+  pub added : Adds old new (own ++ tail (record s { place = place }))
+  pub stands : new.failed ≡ false → t ≡ record s { place = place }
+  pub somewhere : StandsSomewhere s t
 
--- what was reported was written, and the tail after it whole or not
-pub whole_is : (edges ended : Bool) (tail : Session → List ℕ) (s t : Session) (old new : Option (List ℕ)) (was is : Bool) (reported own : List ℕ) (place : Config) (result : Result ℕ WriteFault)
-    → SessionGoes edges ended s reported own place → t ≡ record s { place = place } → WrittenText old new was is (own ++ tail t) result → IsWhole edges ended tail s t old new was is result
-whole_is edges ended tail s t old new was is reported own place (Ok count) goes same w = (reported, own, place, goes, same, w)
-whole_is edges ended tail s t old new was is reported own place (Err fault) goes same w =
-    ((reported, own, place, goes, subst (λ (xs : List ℕ). CutOff old new xs fault) (ap (λ (u : Session). own ++ tail u) same) w.0), w.1, (place, same))
+pub whole_is : (edges ended : Bool) (tail : Session → List ℕ) (s t : Session) (old mid new : Tally) → IsGone edges ended s t old mid → Adds mid new (tail t) → IsWhole edges ended tail s t old new
+whole_is edges ended tail s t old mid new gone next = by_fault mid.failed refl
+  where
+    after : Session
+    after = record s { place = gone.place }
 
--- what is reported was cut off
-pub whole_cut : (edges ended : Bool) (tail : Session → List ℕ) (s t : Session) (old new : Option (List ℕ)) (was is : Bool) (fault : WriteFault)
-    → ((reported : List ℕ) × (own : List ℕ) × (place : Config) × SessionGoes edges ended s reported own place × CutOff old new own fault) × (is ≡ true) × StandsSomewhere s t
-    → IsWhole edges ended tail s t old new was is (Err fault)
-whole_cut edges ended tail s t old new was is fault ((reported, own, place, goes, cut), stuck, stands) =
-    ((reported, own, place, goes, cut_front old new own (tail (record s { place = place })) fault cut), stuck, stands)
+    by_fault : (b : Bool) → mid.failed ≡ b → IsWhole edges ended tail s t old new
+    by_fault true e = record {
+      reported = gone.reported;
+      own = gone.text;
+      place = gone.place;
+      goes = gone.goes;
+      added = subst (λ (n : Tally). Adds old n (gone.text ++ tail after)) (sym (after_failure mid new (tail t) e next)) (cut_short old mid gone.text (tail after) e gone.added);
+      stands = λ f. absurd (true≢false (sym e ∙ not_yet mid new (tail t) f next));
+      somewhere = gone.somewhere;
+    }
+    by_fault false e = record {
+      reported = gone.reported;
+      own = gone.text;
+      place = gone.place;
+      goes = gone.goes;
+      added = then old mid new gone.text (tail after) gone.added (subst (λ (u : Session). Adds mid new (tail u)) (gone.stands e) next);
+      stands = λ f. gone.stands e;
+      somewhere = gone.somewhere;
+    }
 
 abbrev pub taken_tail : Session → List ℕ
 taken_tail s = taken_line s.horizon
@@ -40,51 +57,48 @@ taken_tail s = taken_line s.horizon
 abbrev pub end_tail : Session → List ℕ
 end_tail s = end_reported (Trace s.edid) s.horizon s.place.net ++ taken_line s.horizon
 
-pub go_answered : (s t : Session) (old new : Option (List ℕ)) (was is : Bool) (result : Result ℕ WriteFault) → IsWhole s.edges false taken_tail s t old new was is result → IsAnswered Go s t old new was is result
-go_answered s t old new was is (Ok count) (reported, own, place, goes, same, w) =
-    let text : own ++ taken_tail t ≡ own ++ taken_line s.horizon = ap (λ (u : Session). own ++ taken_tail u) same in
-    let here = subst (λ (xs : List ℕ). WrittenText old new was is xs (Ok count)) text w in
-    (own ++ taken_line s.horizon, (reported, own, place, goes, refl, same), here.0, here.1, here.2)
-go_answered s t old new was is (Err fault) ((reported, own, place, goes, cut), stuck, stands) =
-    ((own ++ taken_line s.horizon, record s { place = place }, (reported, own, place, goes, refl, refl), cut), stuck, stands)
+pub go_taken : (s t : Session) (old mid new : Tally) → IsGone s.edges false s t old mid → Adds mid new (taken_tail t) → IsTaken Go s t old new
+go_taken s t old mid new gone next =
+    let w = whole_is s.edges false taken_tail s t old mid new gone next in
+    record { text = w.own ++ taken_line s.horizon; after = record s { place = w.place }; due = (w.reported, w.own, w.place, w.goes, refl, refl); added = w.added; stands = w.stands; somewhere = w.somewhere }
 
-pub edge_answered : (s t : Session) (old new : Option (List ℕ)) (was is : Bool) (result : Result ℕ WriteFault) → IsWhole true false taken_tail s t old new was is result → IsAnswered Edge s t old new was is result
-edge_answered s t old new was is (Ok count) (reported, own, place, goes, same, w) =
-    let text : own ++ taken_tail t ≡ own ++ taken_line s.horizon = ap (λ (u : Session). own ++ taken_tail u) same in
-    let here = subst (λ (xs : List ℕ). WrittenText old new was is xs (Ok count)) text w in
-    (own ++ taken_line s.horizon, (reported, own, place, goes, refl, same), here.0, here.1, here.2)
-edge_answered s t old new was is (Err fault) ((reported, own, place, goes, cut), stuck, stands) =
-    ((own ++ taken_line s.horizon, record s { place = place }, (reported, own, place, goes, refl, refl), cut), stuck, stands)
+pub edge_taken : (s t : Session) (old mid new : Tally) → IsGone true false s t old mid → Adds mid new (taken_tail t) → IsTaken Edge s t old new
+edge_taken s t old mid new gone next =
+    let w = whole_is true false taken_tail s t old mid new gone next in
+    record { text = w.own ++ taken_line s.horizon; after = record s { place = w.place }; due = (w.reported, w.own, w.place, w.goes, refl, refl); added = w.added; stands = w.stands; somewhere = w.somewhere }
 
-pub finish_answered : (s t : Session) (old new : Option (List ℕ)) (was is : Bool) (result : Result ℕ WriteFault) → IsWhole s.edges true end_tail s t old new was is result → IsAnswered Finish s t old new was is result
-finish_answered s t old new was is (Ok count) (reported, own, place, goes, same, w) =
-    let tail = end_tail (record s { place = place }) in
-    let text : own ++ end_tail t ≡ own ++ tail = ap (λ (u : Session). own ++ end_tail u) same in
-    let here = subst (λ (xs : List ℕ). WrittenText old new was is xs (Ok count)) text w in
-    (own ++ tail, (reported, own, place, goes, refl, same), here.0, here.1, here.2)
-finish_answered s t old new was is (Err fault) ((reported, own, place, goes, cut), stuck, stands) =
-    ((own ++ end_tail (record s { place = place }), record s { place = place }, (reported, own, place, goes, refl, refl), cut), stuck, stands)
+pub finish_taken : (s t : Session) (old mid new : Tally) → IsGone s.edges true s t old mid → Adds mid new (end_tail t) → IsTaken Finish s t old new
+finish_taken s t old mid new gone next =
+    let w = whole_is s.edges true end_tail s t old mid new gone next in
+    record {
+      text = w.own ++ end_tail (record s { place = w.place });
+      after = record s { place = w.place };
+      due = (w.reported, w.own, w.place, w.goes, refl, refl);
+      added = w.added;
+      stands = w.stands;
+      somewhere = w.somewhere;
+    }
 
--- ---- a state
+-- ---- an answer alone
 
 same_state : (x : Option State) (a b : State) → x ≡ Some a → x ≡ Some b → a ≡ b
 same_state x a b e f = cc
 
-pub show_answered : (s : Session) (device : ℕ) (d : State) (old new : Option (List ℕ)) (was is : Bool) (result : Result ℕ WriteFault) → slice_get s.place.net.devices device ≡ Some d
-    → WrittenText old new was is (codes "= " ++ state_line d) result → IsAnswered (Show device) s s old new was is result
-show_answered s device d old new was is (Ok count) found w = (codes "= " ++ state_line d, (d, found, refl, refl), w.0, w.1, w.2)
-show_answered s device d old new was is (Err fault) found w = ((codes "= " ++ state_line d, s, (d, found, refl, refl), w.0), w.1, (s.place, refl))
+pub show_taken : (s : Session) (device : ℕ) (d : State) (old new : Tally) → slice_get s.place.net.devices device ≡ Some d → Adds old new (codes "= " ++ state_line d) → IsTaken (Show device) s s old new
+show_taken s device d old new found added = record { text = codes "= " ++ state_line d; after = s; due = (d, found, refl, refl); added = added; stands = λ f. refl; somewhere = (s.place, refl) }
 
--- ---- an answer alone
+pub refuse_taken : (refusal : Refusal) (s : Session) (old new : Tally) → Adds old new (refused_line s.lines refusal) → IsTaken (Refuse refusal) s s old new
+refuse_taken refusal s old new added = record { text = refused_line s.lines refusal; after = s; due = (refl, refl); added = added; stands = λ f. refl; somewhere = (s.place, refl) }
 
-pub refuse_answered : (refusal : Refusal) (s : Session) (old new : Option (List ℕ)) (was is : Bool) (result : Result ℕ WriteFault) → WrittenText old new was is (refused_line s.lines refusal) result
-    → IsAnswered (Refuse refusal) s s old new was is result
-refuse_answered refusal s old new was is (Ok count) w = (refused_line s.lines refusal, (refl, refl), w.0, w.1, w.2)
-refuse_answered refusal s old new was is (Err fault) w = ((refused_line s.lines refusal, s, (refl, refl), w.0), w.1, (s.place, refl))
+pub idle_taken : (s : Session) (old new : Tally) → Adds old new (idle_line s.horizon) → IsTaken Idle s s old new
+idle_taken s old new added = record { text = idle_line s.horizon; after = s; due = (refl, refl); added = added; stands = λ f. refl; somewhere = (s.place, refl) }
 
-pub idle_answered : (s : Session) (old new : Option (List ℕ)) (was is : Bool) (result : Result ℕ WriteFault) → WrittenText old new was is (idle_line s.horizon) result → IsAnswered Idle s s old new was is result
-idle_answered s old new was is (Ok count) w = (idle_line s.horizon, (refl, refl), w.0, w.1, w.2)
-idle_answered s old new was is (Err fault) w = ((idle_line s.horizon, s, (refl, refl), w.0), w.1, (s.place, refl))
+-- ---- what was written, where what is due was added from the first byte on
+
+pub answered : (step : Step) (s t : Session) (old b : Tally) (known : Option (List ℕ)) (was : Bool) (result : Result ℕ WriteFault) → (w : IsTaken step s t old b) → is_err result ≡ b.failed
+    → WrittenText known b.known was b.stuck w.text result → IsAnswered step s t known b.known was b.stuck result
+answered step s t old b known was (Ok count) w failed wrote = (w.text, subst (λ (u : Session). IsDue step s w.text u) (sym (w.stands (sym failed))) w.due, wrote.0, wrote.1, wrote.2)
+answered step s t old b known was (Err fault) w failed wrote = ((w.text, w.after, w.due, wrote.0), wrote.1, w.somewhere)
 
 -- ---- one text is due
 

@@ -3,7 +3,7 @@ use Rattle.std.proofs.Common.{◌∙◌}
 use Rattle.cec_wave.specs.Line.{line_of}
 use Rattle.cec_wire.proofs.Exists.{later_pulses}
 use Rattle.cec_net.specs.Step.{seats_of}
-use Rattle.causal_laws.proofs.Certainty.{round_same}
+use Rattle.cec_certain.proofs.Certainty.{round_same}
 use Rattle.cec_session.specs.EdgesStay.{EdgesStay}
 use Rattle.cec_session.proofs.SameEdges.{same_edges}
 

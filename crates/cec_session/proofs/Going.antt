@@ -1,36 +1,33 @@
--- A session that goes on: the turns that were told so far, and what was written of them.
-use Rattle.std.proofs.Common.{◌≡◌, ℕ, zero, suc, ◌+◌, ◌-◌, ◌<◌, ◌≤◌, Bool, true, false, List, [], ◌∷◌, ◌++◌, length, drop, length-drop, drop-cons, get_or, inl, inr, Option, Some, None, Result, Ok, Err, IfOk, IfErr, OnOk, OnErr, ap, ap₂, ◌∙◌, sym, refl, subst, arith, append-nil, append_assoc}
-use Rattle.std.specs.Io.KnownBytes.{Appends}
-use Rattle.hdmi_core.specs.declared.sink.WriteFault.{WriteFault}
-use Rattle.hdmi_core.proofs.CutShort.{Appends-trans}
+-- A session that goes on: the turns that were heard of so far, and what was added of them.
+use Rattle.std.proofs.Common.{◌≡◌, ℕ, zero, suc, ◌+◌, ◌-◌, ◌<◌, Bool, true, false, not, List, [], ◌∷◌, ◌++◌, length, drop, length-drop, drop-cons, get_or, true≢false, Option, Some, None, ap, ap₂, ◌∙◌, sym, refl, subst, arith, append-nil, append_assoc}
+use Rattle.std.specs.List.{flat_map}
+use Rattle.hdmi_core.specs.Adds.{Adds, Tally}
+use Rattle.hdmi_core.proofs.Adding.{after_failure, cut_short, not_yet, then}
 use Rattle.hdmi_blocks.specs.declared.edid.Edid.{Edid}
+use Rattle.cec_asm.specs.Script.{IsSchedule}
 use Rattle.cec_asm.specs.declared.script.TimedEvent.{TimedEvent}
-use Rattle.cec_event.specs.declared.event.EventError.{EventError}
-use Rattle.cec_net.specs.State.{NetState, next_start}
-use Rattle.cec_net.specs.Apply.{net_after, event_fault}
-use Rattle.hdmi_core.specs.Cut.{CutOff, reported_count}
-use Rattle.hdmi_core.proofs.Cutting.{reported_parts, cut_again}
+use Rattle.cec_net.specs.State.{NetState}
+use Rattle.cec_net.specs.Step.{IsNextRound, seats_of}
+use Rattle.cec_wave.specs.Line.{IsWave}
+use Rattle.cec_wire.specs.declared.Outcome.{Outcome}
+use Rattle.cec_wire.proofs.OneOutcome.{one_outcome}
 use Rattle.cec_run.specs.declared.run.Reporting.TheVariants.{Trace}
 use Rattle.cec_run.specs.declared.run.Totals.{Totals}
 use Rattle.cec_run.specs.declared.run.Turn.{Turn}
 use Rattle.cec_run.specs.declared.run.Turn.TheVariants.{Stop, Apply, Round}
-use Rattle.cec_run.specs.Run.{Config, turn_at, turn_of, first_time, counted_event, event_text, IsTurn, IsRoundTurn, RoundWritten}
-use Rattle.cec_run.proofs.Running.{event_turn_is, round_turn_is}
+use Rattle.cec_run.specs.Run.{Config, turn_at, turn_of, first_time}
+use Rattle.cec_run.specs.Happening.{Happening, Happens, HappensBy, text_of}
+use Rattle.cec_run.specs.Heard.{Hears}
+use Rattle.cec_run.proofs.Running.{hears_more}
 use Rattle.cec_run.proofs.Turns.{no_turn, same_outcome}
-use Rattle.cec_run.proofs.Advance.{same_begin}
-use Rattle.cec_wire.specs.declared.Outcome.{Outcome}
-use Rattle.cec_wire.proofs.OneOutcome.{one_outcome}
-use Rattle.cec_net.specs.Step.{seats_of}
-use Rattle.causal_laws.specs.Certain.{LeadsIf, IsHeldBy}
-use Rattle.causal_laws.proofs.Before.{NoTurn, held_ends, one_turn}
-use Rattle.cec_asm.specs.Script.{IsSchedule}
+use Rattle.cec_run.proofs.Whole.{heard_text, trace_by}
+use Rattle.cec_certain.specs.Certain.{LeadsIf, IsHeldBy}
+use Rattle.cec_certain.proofs.Before.{NoTurn, held_ends, one_turn}
 use Rattle.cec_session.specs.declared.edges.Span.{Span}
-use Rattle.cec_session.specs.declared.foreseen.RoundTaken.{RoundTaken}
-use Rattle.cec_session.specs.declared.foreseen.RoundTaken.TheVariants.{Over, On}
 use Rattle.cec_session.specs.Edges.{edges_reported}
-use Rattle.cec_session.specs.Session.{Session, SessionGoes, span_of}
+use Rattle.cec_session.specs.Session.{Session, span_of}
 use Rattle.cec_session.specs.Taken.{IsGone}
-use Rattle.cec_session.specs.Turns.{AreEdgesOf, Goes, GoesWith, HasEdges, IsLast, IsLate, IsReported, IsRoundWith, IsSoon, LeadsWith}
+use Rattle.cec_session.specs.Turns.{AreEdgesOf, AreEdgesOn, AreHeard, ComesLast, Goes, GoesIf, GoesWith, IsLast, IsOn, IsReported, IsSoon, LeadsWith, edges_of, text_with}
 
 -- ---- no turn is reported after the last
 
@@ -73,50 +70,6 @@ end_with : (edid : Option Edid) (ended : Bool) (span : Span) (until more : ℕ) 
 end_with edid ended span until zero d last others rest none l = l
 end_with edid ended span until (suc more) d last others rest none (mid, line, edges, others', rest', turn, is, own, after, e, f) = absurd (none line mid turn is)
 
--- one more turn
-one_more_with : (edid : Option Edid) (ended : Bool) (span : Span) (until n : ℕ) (c mid d : Config) (reported text line edges : List ℕ) → LeadsWith edid ended span until n c reported text mid
-    → IsTurn (Trace edid) until mid line d → IsReported ended until (turn_at until mid) d → AreEdgesOf span mid.net (turn_at until mid) edges
-    → LeadsWith edid ended span until (suc n) c (reported ++ line) (text ++ (edges ++ line)) d
-one_more_with edid ended span until zero c mid d reported text line edges l turn is own = (
-  d,
-  line,
-  edges,
-  [],
-  [],
-  subst (λ x. IsTurn (Trace edid) until x line d) l.2 turn,
-  subst (λ x. IsReported ended until (turn_at until x) d) l.2 is,
-  subst (λ (x : Config). AreEdgesOf span x.net (turn_at until x) edges) l.2 own,
-  (refl, refl, refl),
-  ap (λ t. t ++ line) l.0 ∙ sym (append-nil line),
-  ap (λ t. t ++ (edges ++ line)) l.1 ∙ sym (append-nil (edges ++ line)),
-)
-one_more_with edid ended span until (suc n) c mid d reported text line edges (first, head, front, others, rest, turn', is', own', after, e, f) turn is own = (
-  first,
-  head,
-  front,
-  others ++ line,
-  rest ++ (edges ++ line),
-  turn',
-  is',
-  own',
-  one_more_with edid ended span until n first mid d others rest line edges after turn is own,
-  ap (λ t. t ++ line) e ∙ append_assoc head others line,
-  ap (λ t. t ++ (edges ++ line)) f ∙ append_assoc (front ++ head) rest (edges ++ line),
-)
-
--- the edges of the turn that comes next stand first in what is left
-edges_first : (edid : Option Edid) (ended : Bool) (span : Span) (until n : ℕ) (d last : Config) (edges others over on : List ℕ) → LeadsWith edid ended span until n d others over last
-    → AreEdgesOf span last.net (turn_at until last) on → AreEdgesOf span d.net (turn_at until d) edges → (tail : List ℕ) × (over ++ on ≡ edges ++ tail)
-edges_first edid ended span until zero d last edges others over on l is own = (
-  [],
-  ap (λ t. t ++ on) l.1 ∙ edges_one span d.net (turn_at until d) on edges (subst (λ (x : Config). AreEdgesOf span x.net (turn_at until x) on) l.2 is) own ∙ sym (append-nil edges),
-)
-edges_first edid ended span until (suc n) d last edges others over on (mid, line, edges', others', rest, turn, reported, own', after, e, f) is own = (
-  line ++ (rest ++ on),
-  ap (λ t. t ++ on) f ∙ append_assoc (edges' ++ line) rest on ∙ append_assoc edges' line (rest ++ on)
-      ∙ ap (λ t. t ++ (line ++ (rest ++ on))) (edges_one span d.net (turn_at until d) edges' edges own' own),
-)
-
 -- what is reported of the trace alone
 leads_of : (edid : Option Edid) (ended : Bool) (span : Span) (until n : ℕ) (c d : Config) (reported text : List ℕ) → LeadsWith edid ended span until n c reported text d
     → LeadsIf (IsReported ended until) (Trace edid) until n c reported d
@@ -137,126 +90,101 @@ goes_one edid ended span until c d e reported text other words a b =
     let on : a.on ≡ b.on = edges_one span d.net (turn_at until d) a.on b.on a.on_is (subst (λ (x : Config). AreEdgesOf span x.net (turn_at until x) b.on) end.2 b.on_is) in
     (a.text_is ∙ ap₂ (λ x y. x ++ y) (sym over) on ∙ sym b.text_is, sym end.2)
 
--- ---- so far
+-- ---- what was heard of so far
 
-pub record Told (edid : Option Edid) (ended : Bool) (span : Span) (until : ℕ) (c d : Config) (old new : Option (List ℕ)) (written : ℕ) : Type 0 where
-  pub turns : ℕ
-  pub reported : List ℕ
-  pub text : List ℕ
-  pub leads : LeadsWith edid ended span until turns c reported text d
-  pub so_far : Appends old new text
-  pub counted : written ≡ reported_count (length text)
+pub record Reached {R : Type 0} (hears : R → Happening → R → Type 0) (ended : Bool) (until : ℕ) (c d : Config) (old new : R) : Type 0 where
+  pub happened : List Happening
+  pub goes : GoesIf (IsReported ended until) until c happened d
+  pub heard : Hears hears old happened new
 
--- one turn more, whose text was written
-reported_more : (edid : Option Edid) (ended : Bool) (span : Span) (until : ℕ) (c d e : Config) (old mid new : Option (List ℕ)) (n count m : ℕ) (line edges : List ℕ) → Told edid ended span until c d old mid n
-    → IsTurn (Trace edid) until d line e → IsReported ended until (turn_at until d) e → AreEdgesOf span d.net (turn_at until d) edges
-    → count ≡ reported_count (length (edges ++ line)) → Appends mid new (edges ++ line) → m ≡ reported_count (n + count) → Told edid ended span until c e old new m
-reported_more edid ended span until c d e old mid new n count m line edges r turn over own len wrote reported = record {
-  turns = suc r.turns;
-  reported = r.reported ++ line;
-  text = r.text ++ (edges ++ line);
-  leads = one_more_with edid ended span until r.turns c d e r.reported r.text line edges r.leads turn over own;
-  so_far = Appends-trans old mid new r.text (edges ++ line) r.so_far wrote;
-  counted = reported ∙ reported_parts n count r.text (edges ++ line) r.counted len;
+goes_more : (Holds : Turn → Config → Type 0) (until : ℕ) (xs : List Happening) (c mid d : Config) (x : Happening) → GoesIf Holds until c xs mid → Happens until mid x d → Holds (turn_at until mid) d
+    → GoesIf Holds until c (xs ++ x ∷ []) d
+goes_more Holds until [] c mid d x goes turn holds =
+    (d, subst (λ (e : Config). Happens until e x d) goes turn, subst (λ (e : Config). Holds (turn_at until e) d) goes holds, refl)
+goes_more Holds until (y ∷ ys) c mid d x (first, step, held, goes) turn holds = (first, step, held, goes_more Holds until ys first mid d x goes turn holds)
+
+-- one turn more
+pub reached_more : {R : Type 0} (hears : R → Happening → R → Type 0) (ended : Bool) (until : ℕ) (c d e : Config) (old mid new : R) (x : Happening) → Reached hears ended until c d old mid
+    → Happens until d x e → IsReported ended until (turn_at until d) e → hears mid x new → Reached hears ended until c e old new
+reached_more hears ended until c d e old mid new x r turn reported next = record {
+  happened = r.happened ++ x ∷ [];
+  goes = goes_more (IsReported ended until) until r.happened c d e x r.goes turn reported;
+  heard = hears_more hears r.happened old mid new x r.heard next;
 }
-
--- the text of the next turn was cut off
-cut_reported : (edid : Option Edid) (ended : Bool) (span : Span) (until : ℕ) (c d e : Config) (old mid new : Option (List ℕ)) (n : ℕ) (inner fault : WriteFault) (line edges : List ℕ) → Told edid ended span until c d old mid n
-    → IsTurn (Trace edid) until d line e → IsReported ended until (turn_at until d) e → AreEdgesOf span d.net (turn_at until d) edges → CutOff mid new (edges ++ line) inner → fault.count ≡ reported_count (n + inner.count)
-    → (whole text : List ℕ) (last : Config) → GoesWith edid ended span until c whole text last → CutOff old new text fault
-cut_reported edid ended span until c d e old mid new n inner fault line edges r turn over own cut reported whole text last goes =
-    let more = one_more_with edid ended span until r.turns c d e r.reported r.text line edges r.leads turn over own in
-    let go = begin_with edid ended span until (suc r.turns) goes.turns c e last (r.reported ++ line) (r.text ++ (edges ++ line)) whole goes.over more goes.leads (no_more edid ended until last goes.last) in
-    let is : text ≡ (r.text ++ (edges ++ line)) ++ (go.2 ++ goes.on) = goes.text_is ∙ ap (λ t. t ++ goes.on) go.5 ∙ append_assoc (r.text ++ (edges ++ line)) go.2 goes.on in
-    subst (λ t. CutOff old new t fault) (sym is) (cut_again old mid new r.text (edges ++ line) (go.2 ++ goes.on) n inner fault r.counted r.so_far cut reported)
-
--- or its edges were
-cut_edges : (edid : Option Edid) (ended : Bool) (span : Span) (until : ℕ) (c d : Config) (old mid new : Option (List ℕ)) (n : ℕ) (inner fault : WriteFault) (edges : List ℕ) → Told edid ended span until c d old mid n
-    → AreEdgesOf span d.net (turn_at until d) edges → CutOff mid new edges inner → fault.count ≡ reported_count (n + inner.count)
-    → (whole text : List ℕ) (last : Config) → GoesWith edid ended span until c whole text last → CutOff old new text fault
-cut_edges edid ended span until c d old mid new n inner fault edges r own cut reported whole text last goes =
-    let go = begin_with edid ended span until r.turns goes.turns c d last r.reported r.text whole goes.over r.leads goes.leads (no_more edid ended until last goes.last) in
-    let first = edges_first edid ended span until go.0 d last edges go.1 go.2 goes.on go.3 goes.on_is own in
-    let is : text ≡ (r.text ++ edges) ++ first.0 =
-    goes.text_is ∙ ap (λ t. t ++ goes.on) go.5 ∙ append_assoc r.text go.2 goes.on ∙ ap (λ t. r.text ++ t) first.1 ∙ sym (append_assoc r.text edges first.0) in
-    subst (λ t. CutOff old new t fault) (sym is) (cut_again old mid new r.text edges first.0 n inner fault r.counted r.so_far cut reported)
-
--- ---- an event
 
 pub reported_event : (ended : Bool) (until at : ℕ) (e : Config) → IsReported ended until (Apply at) e
 reported_event false until at e = tt
 reported_event true until at e = tt
 
-pub after_event : (edid : Option Edid) (ended : Bool) (span : Span) (until at : ℕ) (net new : NetState) (e : TimedEvent) (rest others : List TimedEvent) (totals counted : Totals) (c : Config) (old mid out : Option (List ℕ)) (n count m : ℕ)
-    → rest ≡ e ∷ others → turn_of until net (first_time rest) ≡ Apply at → new ≡ net_after at e.event net → counted ≡ counted_event (event_fault net e.event) totals
-    → Told edid ended span until c (record { net = net; events = rest; totals = totals }) old mid n
-    → count ≡ reported_count (length (event_text edid at e net)) → Appends mid out (event_text edid at e net) → m ≡ reported_count (n + count)
-    → Told edid ended span until c (record { net = new; events = others; totals = counted }) old out m
-after_event edid ended span until at net new e rest others totals counted c old mid out n count m split turn step count_is r len wrote reported =
-    let come : turn_of until net (first_time (e ∷ others)) ≡ Apply at = subst (λ xs. turn_of until net (first_time xs) ≡ Apply at) split turn in
-    let here : Told edid ended span until c (record { net = net; events = e ∷ others; totals = totals }) old mid n =
-    subst (λ xs. Told edid ended span until c (record { net = net; events = xs; totals = totals }) old mid n) split r in
-    let next : Config = record { net = net_after at e.event net; events = others; totals = counted_event (event_fault net e.event) totals } in
-    let there : Told edid ended span until c next old out m =
-    reported_more edid ended span until c _ next old mid out n count m (event_text edid at e net) [] here (event_turn_is (Trace edid) until at net e others totals come)
-    (subst (λ t. IsReported ended until t next) (sym come) (reported_event ended until at next)) (subst (λ t. AreEdgesOf span net t []) (sym come) refl) len wrote reported in
-    rw (step, count_is) there
+-- a round that is not on
+pub reported_round : (ended : Bool) (until begin : ℕ) (net : NetState) (e : Config) (o : Outcome) → IsOn false ended until begin net → IsWave o.wave → IsNextRound net begin o e.net
+    → IsReported ended until (Round begin) e
+reported_round ended until begin net e o soon wave next = by_end ended (soon o e.net wave next)
+  where
+    by_end : (b : Bool) → IsSoon b until e.net → IsReported b until (Round begin) e
+    by_end false s = s
+    by_end true s = tt
 
-pub cut_event : (edid : Option Edid) (ended : Bool) (span : Span) (until at : ℕ) (net : NetState) (e : TimedEvent) (rest others : List TimedEvent) (totals : Totals) (c : Config) (old mid out : Option (List ℕ)) (n : ℕ) (inner fault : WriteFault)
-    → rest ≡ e ∷ others → turn_of until net (first_time rest) ≡ Apply at
-    → Told edid ended span until c (record { net = net; events = rest; totals = totals }) old mid n
-    → CutOff mid out (event_text edid at e net) inner → fault.count ≡ reported_count (n + inner.count)
-    → (whole text : List ℕ) (last : Config) → GoesWith edid ended span until c whole text last → CutOff old out text fault
-cut_event edid ended span until at net e rest others totals c old mid out n inner fault split turn r cut reported whole text last goes =
-    let come : turn_of until net (first_time (e ∷ others)) ≡ Apply at = subst (λ xs. turn_of until net (first_time xs) ≡ Apply at) split turn in
-    let here : Told edid ended span until c (record { net = net; events = e ∷ others; totals = totals }) old mid n =
-    subst (λ xs. Told edid ended span until c (record { net = net; events = xs; totals = totals }) old mid n) split r in
-    let next : Config = record { net = net_after at e.event net; events = others; totals = counted_event (event_fault net e.event) totals } in
-    cut_reported edid ended span until c _ next old mid out n inner fault (event_text edid at e net) [] here (event_turn_is (Trace edid) until at net e others totals come)
-    (subst (λ t. IsReported ended until t next) (sym come) (reported_event ended until at next)) (subst (λ t. AreEdgesOf span net t []) (sym come) refl) cut reported whole text last goes
+-- the same of the turn that comes next
+pub next_event : (ended : Bool) (until at : ℕ) (net : NetState) (rest : List TimedEvent) (e : Config) → turn_of until net (first_time rest) ≡ Apply at → IsReported ended until (turn_of until net (first_time rest)) e
+next_event ended until at net rest e turn = subst (λ t. IsReported ended until t e) (sym turn) (reported_event ended until at e)
 
--- ---- a round
+pub next_round : (ended : Bool) (until begin : ℕ) (net new : NetState) (rest : List TimedEvent) (totals : Totals) (o : Outcome) → turn_of until net (first_time rest) ≡ Round begin
+    → IsOn false ended until begin net → IsWave o.wave → IsNextRound net begin o new → IsReported ended until (turn_of until net (first_time rest)) (record { net = new; events = rest; totals = totals })
+next_round ended until begin net new rest totals o turn soon wave next =
+    subst (λ t. IsReported ended until t (record { net = new; events = rest; totals = totals })) (sym turn) (reported_round ended until begin net (record { net = new; events = rest; totals = totals }) o soon wave next)
 
-reported_round : (ended : Bool) (until begin : ℕ) (e : Config) → IsSoon ended until e.net → IsReported ended until (Round begin) e
-reported_round false until begin e soon = soon
-reported_round true until begin e soon = tt
+-- at the end the events that are left are those after the ones that were applied
+pub heard_is : {R : Type 0} (hears : R → Happening → R → Type 0) (ended : Bool) (until : ℕ) (c : Config) (net : NetState) (rest left : List TimedEvent) (totals : Totals) (old new : R) (goes_on : Bool) (on : Option ℕ)
+    → Reached hears ended until c (record { net = net; events = rest; totals = totals }) old new → rest ≡ left
+    → (goes_on ≡ true → ComesLast ended until (record { net = net; events = rest; totals = totals }) on)
+    → AreHeard hears ended until c (record { net = net; events = left; totals = totals }) old new goes_on on
+heard_is hears ended until c net rest left totals old new goes_on on r split last =
+    subst (λ (es : List TimedEvent). AreHeard hears ended until c (record { net = net; events = es; totals = totals }) old new goes_on on) split
+    (record { happened = r.happened; goes = r.goes; heard = r.heard; last = last })
 
--- the turn that comes next is that round
-edges_of_round : (span : Span) (until begin : ℕ) (net : NetState) (rest : List TimedEvent) (edges : List ℕ) → turn_of until net (first_time rest) ≡ Round begin → HasEdges span begin net edges
-    → AreEdgesOf span net (turn_of until net (first_time rest)) edges
-edges_of_round span until begin net rest edges turn has = subst (λ t. AreEdgesOf span net t edges) (sym turn) has
+-- ---- what is added of them
 
-pub after_round : (edid : Option Edid) (ended : Bool) (span : Span) (until begin x : ℕ) (net new : NetState) (rest : List TimedEvent) (totals counted : Totals) (line edges : List ℕ) (c : Config) (old mid out : Option (List ℕ)) (n count m : ℕ)
-    → turn_of until net (first_time rest) ≡ Round x → begin ≡ x → IsRoundTurn (Trace edid) begin net totals line new counted → IsSoon ended until new → HasEdges span x net edges
-    → Told edid ended span until c (record { net = net; events = rest; totals = totals }) old mid n
-    → count ≡ reported_count (length (edges ++ line)) → Appends mid out (edges ++ line) → m ≡ reported_count (n + count)
-    → Told edid ended span until c (record { net = new; events = rest; totals = counted }) old out m
-after_round edid ended span until begin x net new rest totals counted line edges c old mid out n count m turn same round soon has r len wrote reported =
-    let now : IsRoundTurn (Trace edid) x net totals line new counted = subst (λ b. IsRoundTurn (Trace edid) b net totals line new counted) same round in
-    let next : Config = record { net = new; events = rest; totals = counted } in
-    reported_more edid ended span until c _ next old mid out n count m line edges r (round_turn_is (Trace edid) until x net new rest totals counted line turn now)
-    (subst (λ t. IsReported ended until t next) (sym turn) (reported_round ended until x next soon)) (edges_of_round span until x net rest edges turn has) len wrote reported
+edges_by : (span : Span) (turn : Turn) (c : Config) (x : Happening) (d : Config) → HappensBy turn c x d → AreEdgesOf span c.net turn (edges_of span x)
+edges_by span Stop c x d h = absurd h
+edges_by span (Apply at) c x d h = ap (edges_of span) h.is
+edges_by span (Round begin) c x d h = (h.outcome, d.net, h.wave, h.next, ap (edges_of span) h.is)
 
-pub cut_round : (edid : Option Edid) (ended : Bool) (span : Span) (until begin x : ℕ) (net new : NetState) (rest : List TimedEvent) (totals counted : Totals) (line edges : List ℕ) (c : Config) (old mid out : Option (List ℕ)) (n : ℕ) (inner fault : WriteFault)
-    → turn_of until net (first_time rest) ≡ Round x → begin ≡ x → IsRoundTurn (Trace edid) begin net totals line new counted → IsSoon ended until new → HasEdges span x net edges
-    → Told edid ended span until c (record { net = net; events = rest; totals = totals }) old mid n
-    → CutOff mid out (edges ++ line) inner → fault.count ≡ reported_count (n + inner.count)
-    → (whole text : List ℕ) (last : Config) → GoesWith edid ended span until c whole text last → CutOff old out text fault
-cut_round edid ended span until begin x net new rest totals counted line edges c old mid out n inner fault turn same round soon has r cut reported whole text last goes =
-    let now : IsRoundTurn (Trace edid) x net totals line new counted = subst (λ b. IsRoundTurn (Trace edid) b net totals line new counted) same round in
-    let next : Config = record { net = new; events = rest; totals = counted } in
-    cut_reported edid ended span until c _ next old mid out n inner fault line edges r (round_turn_is (Trace edid) until x net new rest totals counted line turn now)
-    (subst (λ t. IsReported ended until t next) (sym turn) (reported_round ended until x next soon)) (edges_of_round span until x net rest edges turn has) cut reported whole text last goes
+-- what stays from one turn to the next
+record Kept : Type 0 where
+  edid : Option Edid
+  span : Span
 
--- of a round that was begun to be written
-pub cut_begun : (edid : Option Edid) (ended : Bool) (span : Span) (until x : ℕ) (net new : NetState) (rest : List TimedEvent) (totals counted : Totals) (c : Config) (old mid out : Option (List ℕ)) (was is : Bool) (n : ℕ) (inner fault : WriteFault)
-    → turn_of until net (first_time rest) ≡ Round x → next_start net ≡ Some x → Told edid ended span until c (record { net = net; events = rest; totals = totals }) old mid n
-    → IsRoundWith edid ended until x span net new totals counted mid out was is (Err inner) → fault.count ≡ reported_count (n + inner.count)
-    → (whole text : List ℕ) (last : Config) → GoesWith edid ended span until c whole text last → CutOff old out text fault
-cut_begun edid ended span until x net new rest totals counted c old mid out was is n inner fault turn begins r (inl (same, count, edges, has, wrote)) reported whole text last goes =
-    cut_edges edid ended span until c (record { net = net; events = rest; totals = totals }) old mid out n inner fault edges r (edges_of_round span until x net rest edges turn has) wrote.0 reported whole text last goes
-cut_begun edid ended span until x net new rest totals counted c old mid out was is n inner fault turn begins r (inr (edges, has, w, soon)) reported whole text last goes =
-    cut_round edid ended span until w.begin x net new rest totals counted w.text edges c old mid out n inner fault turn (same_begin (sym w.begins ∙ begins)) w.turn soon has r w.written.0 reported whole text last goes
+pub told_text : {R : Type 0} (hears : R → Happening → R → Type 0) (tally : R → Tally) (edid : R → Option Edid) (span : R → Span)
+    → ((r s : R) (x : Happening) → hears r x s → Adds (tally r) (tally s) (text_with (edid r) (span r) x) × (edid s ≡ edid r) × (span s ≡ span r))
+    → (xs : List Happening) (r s : R) → Hears hears r xs s → Adds (tally r) (tally s) (flat_map (text_with (edid r) (span r)) xs)
+told_text {R} hears tally edid span one xs r s heard =
+    let keep : R → Kept = λ r. record { edid = edid r; span = span r } in
+    let said : Kept → Happening → List ℕ = λ k. text_with k.edid k.span in
+    heard_text hears tally keep said (λ r s x h. ((one r s x h).0, λ i. record { edid = (one r s x h).1 i; span = (one r s x h).2 i })) xs r s heard
+
+pub told_from : (old now mid : Tally) (edid passed : Option Edid) (span wide : Span) (xs : List Happening) → now ≡ old → passed ≡ edid → wide ≡ span → Adds now mid (flat_map (text_with passed wide) xs)
+    → Adds old mid (flat_map (text_with edid span) xs)
+told_from old now mid edid passed span wide xs same e f added =
+    subst (λ (t : Tally). Adds t mid (flat_map (text_with edid span) xs)) same
+    (subst (λ (w : Span). Adds now mid (flat_map (text_with edid w) xs)) f (subst (λ (p : Option Edid). Adds now mid (flat_map (text_with p wide) xs)) e added))
+
+leads_by : (edid : Option Edid) (ended : Bool) (span : Span) (until : ℕ) (xs : List Happening) (c d : Config) → GoesIf (IsReported ended until) until c xs d
+    → LeadsWith edid ended span until (length xs) c (flat_map (text_of edid) xs) (flat_map (text_with edid span) xs) d
+leads_by edid ended span until [] c d goes = (refl, refl, goes)
+leads_by edid ended span until (x ∷ xs) c d (mid, step, held, goes) = (
+  mid,
+  text_of edid x,
+  edges_of span x,
+  flat_map (text_of edid) xs,
+  flat_map (text_with edid span) xs,
+  trace_by edid (turn_at until c) c x mid step,
+  held,
+  edges_by span (turn_at until c) c x mid step,
+  leads_by edid ended span until xs mid d goes,
+  refl,
+  refl,
+)
 
 -- ---- the last
 
@@ -265,11 +193,65 @@ pub last_stop : (ended : Bool) (until : ℕ) (net : NetState) (rest : List Timed
 last_stop false until net rest totals stops = subst (IsHeldBy until net) (sym stops) tt
 last_stop true until net rest totals stops = stops
 
-pub last_late : (ended : Bool) (until begin x : ℕ) (net : NetState) (rest : List TimedEvent) (totals : Totals) → turn_of until net (first_time rest) ≡ Round x → begin ≡ x → IsLate ended until begin net
-    → IsLast ended until (record { net = net; events = rest; totals = totals })
-last_late false until begin x net rest totals turn same late =
-    subst (IsHeldBy until net) (sym turn) (subst (λ b. IsLate false until b net) same late)
-last_late true until begin x net rest totals turn same late = absurd late
+comes_last : (ended : Bool) (until : ℕ) (d : Config) (on : Option ℕ) → ComesLast ended until d on → IsLast ended until d
+comes_last ended until d None stops = last_stop ended until d.net d.events d.totals stops
+comes_last false until d (Some begin) (turn, late) = subst (IsHeldBy until d.net) (sym turn) late.1
+comes_last true until d (Some begin) (turn, late) = absurd (true≢false late.0)
+
+edges_last : (ended : Bool) (span : Span) (until : ℕ) (d : Config) (on : Option ℕ) (edges : List ℕ) → ComesLast ended until d on → AreEdgesOn span d.net on edges → AreEdgesOf span d.net (turn_at until d) edges
+edges_last ended span until d None edges stops own = subst (λ t. AreEdgesOf span d.net t edges) (sym stops) own
+edges_last ended span until d (Some begin) edges (turn, late) own = subst (λ t. AreEdgesOf span d.net t edges) (sym turn) own
+
+-- what was added of the turns and of the round that is on is what is due, whole or up to a fault
+pub record Added (edid : Option Edid) (ended : Bool) (span : Span) (until : ℕ) (c d : Config) (old new : Tally) : Type 0 where
+  pub reported : List ℕ
+  pub text : List ℕ
+  pub place : Config
+  pub goes : GoesWith edid ended span until c reported text place
+  pub added : Adds old new text
+  pub stands : new.failed ≡ false → d ≡ place
+
+pub all_added : (edid : Option Edid) (ended : Bool) (span : Span) (until : ℕ) (c d : Config) (xs : List Happening) (on : Option ℕ) (edges : List ℕ) (old mid new : Tally)
+    → GoesIf (IsReported ended until) until c xs d → (not mid.failed ≡ true → ComesLast ended until d on) → AreEdgesOn span d.net on edges
+    → (reported : List ℕ) × (text : List ℕ) × (place : Config) × GoesWith edid ended span until c reported text place
+    → Adds old mid (flat_map (text_with edid span) xs) → Adds mid new edges → Added edid ended span until c d old new
+all_added edid ended span until c d xs on edges old mid new goes last own due first second = by_fault mid.failed refl
+  where
+    over : List ℕ
+    over = flat_map (text_with edid span) xs
+
+    by_fault : (b : Bool) → mid.failed ≡ b → Added edid ended span until c d old new
+    by_fault true e =
+        let all = due.3 in
+        let go = begin_with edid ended span until (length xs) all.turns c d due.2 (flat_map (text_of edid) xs) over due.0 all.over (leads_by edid ended span until xs c d goes) all.leads (no_more edid ended until due.2 all.last) in
+        let is : due.1 ≡ over ++ (go.2 ++ all.on) = all.text_is ∙ ap (λ t. t ++ all.on) go.5 ∙ append_assoc over go.2 all.on in
+        let none : new ≡ mid = after_failure mid new edges e second in
+        record {
+          reported = due.0;
+          text = due.1;
+          place = due.2;
+          goes = all;
+          added = subst (λ (t : Tally). Adds old t due.1) (sym none) (subst (λ t. Adds old mid t) (sym is) (cut_short old mid over (go.2 ++ all.on) e first));
+          stands = λ f. absurd (true≢false (sym e ∙ not_yet mid new edges f second));
+        }
+    by_fault false e =
+        let end = last (ap not e) in
+        record {
+          reported = flat_map (text_of edid) xs;
+          text = over ++ edges;
+          place = d;
+          goes = record {
+            turns = length xs;
+            over = over;
+            on = edges;
+            leads = leads_by edid ended span until xs c d goes;
+            last = comes_last ended until d on end;
+            on_is = edges_last ended span until d on edges end own;
+            text_is = refl;
+          };
+          added = then old mid new over edges first second;
+          stands = λ f. refl;
+        }
 
 -- ---- the events that are left
 
@@ -284,60 +266,6 @@ drop_next n es rest e others h split =
   where
     tail : (x y : TimedEvent) (xs ys : List TimedEvent) → x ∷ xs ≡ y ∷ ys → xs ≡ ys
     tail x y xs ys k = cc
-
--- ---- what the call of a round gives
-
-pub over_taken : (edid : Option Edid) (ended : Bool) (until begin : ℕ) (span : Span) (s t : NetState) (a b : Totals) (old new : Option (List ℕ)) (was is : Bool) (taken : RoundTaken) (count : ℕ) → taken ≡ Over count
-    → IsRoundWith edid ended until begin span s t a b old new was is (Ok taken) → IsRoundWith edid ended until begin span s t a b old new was is (Ok (Over count))
-over_taken edid ended until begin span s t a b old new was is taken count e r = subst (λ (taken : RoundTaken). IsRoundWith edid ended until begin span s t a b old new was is (Ok taken)) e r
-
-pub on_taken : (edid : Option Edid) (ended : Bool) (until begin : ℕ) (span : Span) (s t : NetState) (a b : Totals) (old new : Option (List ℕ)) (was is : Bool) (taken : RoundTaken) (count : ℕ) → taken ≡ On count
-    → IsRoundWith edid ended until begin span s t a b old new was is (Ok taken) → IsRoundWith edid ended until begin span s t a b old new was is (Ok (On count))
-on_taken edid ended until begin span s t a b old new was is taken count e r = subst (λ (taken : RoundTaken). IsRoundWith edid ended until begin span s t a b old new was is (Ok taken)) e r
-
--- the session goes no further: its next round is on
-pub late_goes : (edid : Option Edid) (ended : Bool) (span : Span) (until begin : ℕ) (c : Config) (net after : NetState) (rest left : List TimedEvent) (totals counted : Totals) (old mid new : Option (List ℕ)) (was is : Bool) (n count m : ℕ)
-    → turn_of until net (first_time rest) ≡ Round begin → IsRoundWith edid ended until begin span net after totals counted mid new was is (Ok (On count)) → rest ≡ left
-    → Told edid ended span until c (record { net = net; events = rest; totals = totals }) old mid n → m ≡ reported_count (n + count)
-    → (reported : List ℕ) × (text : List ℕ) × GoesWith edid ended span until c reported text (record { net = after; events = left; totals = counted }) × Appends old new text × (m ≡ reported_count (length text))
-late_goes edid ended span until begin c net after rest left totals counted old mid new was is n count m turn (same, counts, edges, has, wrote, late) split r sum = (
-  r.reported,
-  r.text ++ edges,
-  subst (λ (d : Config). GoesWith edid ended span until c r.reported (r.text ++ edges) d)
-      (λ i. record { net = sym same i; events = split i; totals = sym counts i })
-      (record {
-        turns = r.turns;
-        over = r.text;
-        on = edges;
-        leads = r.leads;
-        last = last_late ended until begin begin net rest totals turn refl late;
-        on_is = edges_of_round span until begin net rest edges turn has;
-        text_is = refl;
-      }),
-  Appends-trans old mid new r.text edges r.so_far wrote.1,
-  sum ∙ reported_parts n count r.text edges r.counted wrote.0,
-)
-
--- or nothing comes
-pub stop_goes : (edid : Option Edid) (ended : Bool) (span : Span) (until : ℕ) (c : Config) (net : NetState) (rest left : List TimedEvent) (totals : Totals) (old new : Option (List ℕ)) (n : ℕ)
-    → turn_of until net (first_time rest) ≡ Stop → rest ≡ left → Told edid ended span until c (record { net = net; events = rest; totals = totals }) old new n
-    → (reported : List ℕ) × (text : List ℕ) × GoesWith edid ended span until c reported text (record { net = net; events = left; totals = totals }) × Appends old new text × (n ≡ reported_count (length text))
-stop_goes edid ended span until c net rest left totals old new n turn split r = (
-  r.reported,
-  r.text,
-  subst (λ (es : List TimedEvent). GoesWith edid ended span until c r.reported r.text (record { net = net; events = es; totals = totals })) split
-      (record {
-        turns = r.turns;
-        over = r.text;
-        on = [];
-        leads = r.leads;
-        last = last_stop ended until net rest totals turn;
-        on_is = subst (λ t. AreEdgesOf span net t []) (sym turn) refl;
-        text_is = sym (append-nil r.text);
-      }),
-  r.so_far,
-  r.counted,
-)
 
 -- the events that are left name devices too
 pub drop_schedule : (count end from n : ℕ) (events : List TimedEvent) → IsSchedule count end from events → (later : ℕ) × IsSchedule count end later (drop n events)
@@ -354,36 +282,16 @@ drop_drop (suc n) m [] = empty (suc n + m) ∙ sym (empty m)
     empty (suc k) = refl
 drop_drop (suc n) m (event ∷ events) = let more : suc n + m ≡ suc (n + m) = omega arith in ap (λ (k : ℕ). drop k (event ∷ events)) more ∙ drop_drop n m events
 
-refused_by : (fault : Option EventError) (totals : Totals) → (counted_event fault totals).refused ≤ totals.refused + 1
-refused_by None totals = omega arith
-refused_by (Some error) totals = omega arith
-
-pub refused_less : (fault : Option EventError) (totals : Totals) (rest : List TimedEvent) (e : TimedEvent) (others : List TimedEvent) (most : ℕ) → rest ≡ e ∷ others
-    → totals.refused + length rest ≤ most → (counted_event fault totals).refused + length others ≤ most
-refused_less fault totals rest e others most split h =
-    let more : length rest ≡ suc (length others) = ap length split in
-    let by = refused_by fault totals in omega (arith, by, more, h)
-
-pub same_place : (net new : NetState) (events left : List TimedEvent) (totals : Totals) → net ≡ new → events ≡ left
-    → (let c : Config = record { net = net; events = events; totals = totals } in c) ≡ record { net = new; events = left; totals = totals }
-same_place net new events left totals e f = ap₂ (λ (n : NetState) (es : List TimedEvent). let c : Config = record { net = n; events = es; totals = totals } in c) e f
-
 -- ---- a session that went on
 
--- what the call of it gives, where the session then stands at this place
-gone_is : (edges ended : Bool) (s t : Session) (place : Config) (old new : Option (List ℕ)) (was is : Bool) (result : Result ℕ WriteFault) → t ≡ record s { place = place }
-    → IfOk result (λ written. (reported : List ℕ) × (text : List ℕ) × SessionGoes edges ended s reported text place × Appends old new text × (written ≡ reported_count (length text)))
-    → OnOk result (is ≡ was) → IfErr result (λ fault. (reported text : List ℕ) (last : Config) → SessionGoes edges ended s reported text last → CutOff old new text fault)
-    → OnErr result (is ≡ true) → (reported : List ℕ) × (text : List ℕ) × (last : Config) × SessionGoes edges ended s reported text last → IsGone edges ended s t old new was is result
-gone_is edges ended s t place old new was is (Ok written) stands (reported, text, goes, so_far, count) same cut stuck due = (reported, text, place, goes, stands, (count, so_far, same))
-gone_is edges ended s t place old new was is (Err fault) stands reported same cut stuck (whole, text, last, goes) = ((whole, text, last, goes, cut whole text last goes), stuck, (place, stands))
-
--- the same, where the span is known by what it is
-pub gone_by : (edges ended : Bool) (span : Span) (s t : Session) (place : Config) (old new : Option (List ℕ)) (was is : Bool) (result : Result ℕ WriteFault) → span ≡ span_of edges ended s → t ≡ record s { place = place }
-    → IfOk result (λ written. (reported : List ℕ) × (text : List ℕ) × GoesWith s.edid ended span s.horizon s.place reported text place × Appends old new text × (written ≡ reported_count (length text)))
-    → OnOk result (is ≡ was) → IfErr result (λ fault. (reported text : List ℕ) (last : Config) → GoesWith s.edid ended span s.horizon s.place reported text last → CutOff old new text fault)
-    → OnErr result (is ≡ true) → (reported : List ℕ) × (text : List ℕ) × (last : Config) × SessionGoes edges ended s reported text last → IsGone edges ended s t old new was is result
-gone_by edges ended span s t place old new was is result known stands ok same cut stuck due =
-    gone_is edges ended s t place old new was is result stands
-    (subst (λ (span : Span). IfOk result (λ written. (reported : List ℕ) × (text : List ℕ) × GoesWith s.edid ended span s.horizon s.place reported text place × Appends old new text × (written ≡ reported_count (length text)))) known ok)
-    same (subst (λ (span : Span). IfErr result (λ fault. (reported text : List ℕ) (last : Config) → GoesWith s.edid ended span s.horizon s.place reported text last → CutOff old new text fault)) known cut) stuck due
+pub gone_is : (edges ended : Bool) (span : Span) (s t : Session) (d : Config) (old new : Tally) → span ≡ span_of edges ended s → t ≡ record s { place = d }
+    → Added s.edid ended span s.horizon s.place d old new → IsGone edges ended s t old new
+gone_is edges ended span s t d old new known stands a = record {
+  reported = a.reported;
+  text = a.text;
+  place = a.place;
+  goes = subst (λ (span : Span). GoesWith s.edid ended span s.horizon s.place a.reported a.text a.place) known a.goes;
+  added = a.added;
+  stands = λ f. stands ∙ ap (λ (p : Config). let u : Session = record s { place = p } in u) (a.stands f);
+  somewhere = (d, stands);
+}

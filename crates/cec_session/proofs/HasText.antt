@@ -28,7 +28,7 @@ use Rattle.cec_run.specs.declared.run.Turn.{Turn}
 use Rattle.cec_run.specs.declared.run.Turn.TheVariants.{Stop, Apply, Round}
 use Rattle.cec_run.specs.Run.{Config, turn_at, turn_of, first_time, round_turn, counted_event, counted_round, event_text, round_reported, IsEventTurn, IsTurnBy}
 use Rattle.cec_run.proofs.Advance.{event_keeps, round_begins}
-use Rattle.causal_laws.specs.Certain.{IsHeldBy}
+use Rattle.cec_certain.specs.Certain.{IsHeldBy}
 use Rattle.cec_session.specs.declared.edges.Span.{Span}
 use Rattle.cec_session.specs.Edges.{edges_reported}
 use Rattle.cec_session.specs.Turns.{AreAhead, AreEdgesOf, GoesWith, HasEdges, IsReported}

@@ -6,7 +6,6 @@ pub mod HasText
 pub mod Noting
 mod SameEdges
 pub mod EdgesStay
-pub mod Taking
 pub mod Wholly
 pub mod Answering
 pub mod NoteCalls

@@ -8,7 +8,7 @@ use Rattle.cec_asm.specs.Script.{Notes, IsLineRead}
 use Rattle.cec_asm.specs.declared.script.TimedEvent.{TimedEvent}
 use Rattle.cec_asm.specs.declared.fault.LineFault.{LineFault}
 use Rattle.cec_asm.proofs.Sound.{AreSound, line-keeps}
-use Rattle.causal_laws.specs.Certain.{with_pulses}
+use Rattle.cec_certain.specs.Certain.{with_pulses}
 use Rattle.cec_session.specs.declared.answer.Refusal.TheVariants.{Past}
 use Rattle.cec_session.specs.declared.live.Step.TheVariants.{Refuse, Go, Finish}
 use Rattle.cec_session.specs.Note.{Extends, IsSettled}

@@ -16,10 +16,10 @@ use Rattle.cec_asm.proofs.Sound.{AreSound, line-keeps, sound_start}
 use Rattle.cec_run.specs.declared.run.Reporting.TheVariants.{Trace}
 use Rattle.cec_run.specs.declared.run.Turn.{Turn}
 use Rattle.cec_run.specs.Run.{Config, start, start_reported, end_reported, Leads, IsRunText, IsRunTextFrom}
-use Rattle.causal_laws.specs.Certain.{ComesFrom, LeadsIf, LeadsBy, with_more}
-use Rattle.causal_laws.proofs.Apart.{faultless_are_apart}
-use Rattle.causal_laws.proofs.Certainty.{turns_stay_certain, reported_is_front}
-use Rattle.causal_laws.proofs.Before.{all_on}
+use Rattle.cec_certain.specs.Certain.{ComesFrom, LeadsIf, LeadsBy, with_more}
+use Rattle.cec_certain.proofs.Apart.{faultless_are_apart}
+use Rattle.cec_certain.proofs.Certainty.{turns_stay_certain, reported_is_front}
+use Rattle.cec_certain.proofs.Before.{all_on}
 use Rattle.cec_asm.specs.declared.script.ScriptCause.TheVariants.{Number}
 use Rattle.cec_session.specs.declared.answer.Refusal.TheVariants.{Script, Past}
 use Rattle.cec_session.specs.declared.command.Command.{Command}

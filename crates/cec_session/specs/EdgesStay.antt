@@ -8,7 +8,7 @@ use Rattle.cec_net.specs.Step.{IsNextRound}
 use Rattle.cec_asm.specs.declared.script.TimedEvent.{TimedEvent}
 use Rattle.cec_run.specs.declared.run.Turn.TheVariants.{Round}
 use Rattle.cec_run.specs.Run.{Config, turn_at}
-use Rattle.causal_laws.specs.Certain.{ComesFrom, with_more, with_pulses}
+use Rattle.cec_certain.specs.Certain.{ComesFrom, with_more, with_pulses}
 use Rattle.cec_session.specs.declared.edges.Span.{Span}
 use Rattle.cec_session.specs.Edges.{edges_reported}
 use Rattle.cec_session.specs.Turns.{HasEdges}

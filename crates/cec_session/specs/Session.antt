@@ -23,7 +23,7 @@ use Rattle.cec_run.specs.declared.run.Reporting.TheVariants.{Trace}
 use Rattle.cec_run.specs.declared.run.Turn.{Turn}
 use Rattle.cec_run.specs.declared.run.Turn.TheVariants.{Stop, Apply, Round}
 use Rattle.cec_run.specs.Run.{Config, start, turn_at, end_reported}
-use Rattle.causal_laws.specs.Certain.{with_pulses}
+use Rattle.cec_certain.specs.Certain.{with_pulses}
 use Rattle.cec_session.specs.declared.command.Command.{Command}
 use Rattle.cec_session.specs.declared.command.Command.TheVariants as commands
 use Rattle.cec_session.specs.declared.answer.Refusal.{Refusal}

@@ -1,8 +1,9 @@
 -- A line that was taken, and what was written after it.
-use Rattle.std.specs.Prelude.{◌≡◌, ℕ, Bool, true, List, length, Option, Result, Ok, Err}
+use Rattle.std.specs.Prelude.{◌≡◌, ℕ, Bool, true, false, List, length, Option, Result, Ok, Err}
 use Rattle.std.specs.Io.KnownBytes.{Appends}
 use Rattle.hdmi_core.specs.declared.sink.WriteFault.{WriteFault}
-use Rattle.hdmi_core.specs.Cut.{CutOff, WrittenText, reported_count}
+use Rattle.hdmi_core.specs.Adds.{Adds, Tally}
+use Rattle.hdmi_core.specs.Cut.{CutOff, reported_count}
 use Rattle.cec_run.specs.Run.{Config}
 use Rattle.cec_session.specs.declared.live.Step.{Step}
 use Rattle.cec_session.specs.declared.live.LiveError.{LiveError}
@@ -13,13 +14,25 @@ use Rattle.cec_session.specs.Session.{Session, SessionGoes, with_line_counted, I
 abbrev pub StandsSomewhere : Session → Session → Type 0
 StandsSomewhere s t = (place : Config) × (t ≡ record s { place = place })
 
--- a session went on: all turns that are reported from where it stood were written, with the edges or without, and nothing else has
--- changed; or a fault cut their text off, which there is
-abbrev pub IsGone : Bool → Bool → Session → Session → Option (List ℕ) → Option (List ℕ) → Bool → Bool → Result ℕ WriteFault → Type 0
-IsGone edges ended s t old new was is (Ok count) =
-    (reported : List ℕ) × (text : List ℕ) × (place : Config) × SessionGoes edges ended s reported text place × (t ≡ record s { place = place }) × WrittenText old new was is text (Ok count)
-IsGone edges ended s t old new was is (Err fault) =
-    ((reported : List ℕ) × (text : List ℕ) × (place : Config) × SessionGoes edges ended s reported text place × CutOff old new text fault) × (is ≡ true) × StandsSomewhere s t
+-- A session went on: the turns that are reported from where it stood were added to a text, with the edges or without. It stands after
+-- them where no fault cut the text off, and nothing else of it has changed.
+pub record IsGone (edges ended : Bool) (s t : Session) (old new : Tally) : Type 0 where
+  pub reported : List ℕ
+  pub text : List ℕ
+  pub place : Config
+  pub goes : SessionGoes edges ended s reported text place
+  pub added : Adds old new text
+  pub stands : new.failed ≡ false → t ≡ record s { place = place }
+  pub somewhere : StandsSomewhere s t
+
+-- what is due of a step was added, and where no fault cut it off the session is the one after it
+pub record IsTaken (step : Step) (s t : Session) (old new : Tally) : Type 0 where
+  pub text : List ℕ
+  pub after : Session
+  pub due : IsDue step s text after
+  pub added : Adds old new text
+  pub stands : new.failed ≡ false → t ≡ after
+  pub somewhere : StandsSomewhere s t
 
 -- what is due was written whole, or a fault cut it off; there is such a text, and one (`steps_have_one_text`)
 abbrev pub IsAnswered : Step → Session → Session → Option (List ℕ) → Option (List ℕ) → Bool → Bool → Result ℕ WriteFault → Type 0

@@ -1,5 +1,5 @@
 -- The turns that a session reports (this profile's own).
-use Rattle.std.specs.Prelude.{◌≡◌, ℕ, zero, suc, ◌+◌, ◌<◌, ◌≤◌, ◌⊎◌, Bool, true, false, List, [], ◌++◌, length, Option, Some, None, Result, Ok, Err, IsSome, All}
+use Rattle.std.specs.Prelude.{◌≡◌, ℕ, zero, suc, ◌+◌, ◌<◌, ◌≤◌, Bool, true, false, List, [], ◌∷◌, ◌++◌, length, Option, Some, None, IsSome, All}
 use Rattle.cec_wave.specs.Line.{IsWave}
 use Rattle.cec_wave.specs.Pulses.{AreSparse}
 use Rattle.cec_wave.specs.Bounds.{latest_instant}
@@ -8,17 +8,14 @@ use Rattle.cec_net.specs.Progress.{IsProgress}
 use Rattle.cec_net.specs.State.{NetState, next_start}
 use Rattle.cec_net.specs.Step.{IsNextRound, after_round}
 use Rattle.hdmi_blocks.specs.declared.edid.Edid.{Edid}
-use Rattle.hdmi_core.specs.declared.sink.WriteFault.{WriteFault}
-use Rattle.hdmi_core.specs.Cut.{CutOff, WrittenText}
 use Rattle.cec_run.specs.declared.run.Reporting.TheVariants.{Trace}
-use Rattle.cec_run.specs.declared.run.Totals.{Totals}
 use Rattle.cec_run.specs.declared.run.Turn.{Turn}
 use Rattle.cec_run.specs.declared.run.Turn.TheVariants.{Stop, Apply, Round}
-use Rattle.cec_run.specs.Run.{Config, turn_at, IsRoundTurn, IsTurn, RoundWritten}
-use Rattle.causal_laws.specs.Certain.{IsOverBy, LeadsIf, IsHeld}
+use Rattle.cec_run.specs.Run.{Config, turn_at, IsTurn}
+use Rattle.cec_run.specs.Happening.{Happening, OfEvent, OfRound, Happens, text_of}
+use Rattle.cec_run.specs.Heard.{Hears}
+use Rattle.cec_certain.specs.Certain.{IsOverBy, LeadsIf, IsHeld, IsHeldBy}
 use Rattle.cec_session.specs.declared.edges.Span.{Span}
-use Rattle.cec_session.specs.declared.foreseen.RoundTaken.{RoundTaken}
-use Rattle.cec_session.specs.declared.foreseen.RoundTaken.TheVariants.{Over, On}
 use Rattle.cec_session.specs.Edges.{edges_reported}
 
 -- What a turn has to be to be reported: while more lines may come, over before the horizon; once the script has ended, each is.
@@ -67,12 +64,50 @@ pub record GoesWith (edid : Option Edid) (ended : Bool) (span : Span) (until : �
   pub on_is : AreEdgesOf span d.net (turn_at until d) on
   pub text_is : text ≡ over ++ on
 
--- ---- a round
+-- ---- what is heard of turns
 
--- the next round closes at an instant or later, so it is not reported yet
-abbrev pub IsLate : Bool → ℕ → ℕ → NetState → Type 0
-IsLate true until begin net = ⊥
-IsLate false until begin net = (outcome : Outcome) × (after : NetState) × IsWave outcome.wave × IsNextRound net begin outcome after × (until ≤ after.close)
+-- of a turn: its edges that lie in a span, a round's alone
+abbrev pub edges_of : Span → Happening → List ℕ
+edges_of span (OfEvent at e before) = []
+edges_of span (OfRound begin before o) = edges_reported span o.wave
+
+-- and after them what the trace has of it
+abbrev pub text_with : Option Edid → Span → Happening → List ℕ
+text_with edid span x = edges_of span x ++ text_of edid x
+
+-- one turn after another, of each of which something holds
+abbrev pub GoesIf : (Turn → Config → Type 0) → ℕ → Config → List Happening → Config → Type 0
+GoesIf Holds until c [] d = d ≡ c
+GoesIf Holds until c (x ∷ xs) d = (mid : Config) × Happens until c x mid × Holds (turn_at until c) mid × GoesIf Holds until mid xs d
+
+-- a round closes soon enough to be reported
+abbrev pub IsSoon : Bool → ℕ → NetState → Type 0
+IsSoon true until after = Unit {0}
+IsSoon false until after = after.close < until
+
+-- Whether the next round, which begins then, is on: more lines may come, and it closes at an instant or later.
+abbrev pub IsOn : Bool → Bool → ℕ → ℕ → NetState → Type 0
+IsOn true ended until begin net = (ended ≡ false) × IsHeldBy until net (Round begin)
+IsOn false ended until begin net = (outcome : Outcome) (after : NetState) → IsWave outcome.wave → IsNextRound net begin outcome after → IsSoon ended until after
+
+-- nothing comes, or a round that is on
+abbrev pub ComesLast : Bool → ℕ → Config → Option ℕ → Type 0
+ComesLast ended until d None = turn_at until d ≡ Stop
+ComesLast ended until d (Some begin) = (turn_at until d ≡ Round begin) × IsOn true ended until begin d.net
+
+-- the edges of the round that is on, where one is
+abbrev pub AreEdgesOn : Span → NetState → Option ℕ → List ℕ → Type 0
+AreEdgesOn span net None edges = edges ≡ []
+AreEdgesOn span net (Some begin) edges = HasEdges span begin net edges
+
+-- turns that are reported were heard of, each once and in order: all of them, where it still wants to hear more
+pub record AreHeard {R : Type 0} (hears : R → Happening → R → Type 0) (ended : Bool) (until : ℕ) (c d : Config) (old new : R) (goes_on : Bool) (on : Option ℕ) : Type 0 where
+  pub happened : List Happening
+  pub goes : GoesIf (IsReported ended until) until c happened d
+  pub heard : Hears hears old happened new
+  pub last : goes_on ≡ true → ComesLast ended until d on
+
+-- ---- a round
 
 -- what the next round gives
 abbrev pub IsForeseen : NetState → Option Outcome → Type 0
@@ -83,37 +118,6 @@ IsForeseen net (Some o) = IsWave o.wave × ((begin : ℕ) → next_start net ≡
 abbrev pub IsKept : Bool → NetState → Option Outcome → Type 0
 IsKept true net next = IsForeseen net next × IsSome next
 IsKept false net next = Unit {0}
-
--- or it is reported
-abbrev pub IsSoon : Bool → ℕ → NetState → Type 0
-IsSoon true until after = Unit {0}
-IsSoon false until after = after.close < until
-
--- a round was run from one state to the next, and its line written after a text
-pub record RoundAfter (edid : Option Edid) (edges : List ℕ) (before after : NetState) (t u : Totals) (old new : Option (List ℕ)) (was is : Bool) (result : Result ℕ WriteFault) : Type 0 where
-  pub begin : ℕ
-  pub text : List ℕ
-  pub begins : next_start before ≡ Some begin
-  pub turn : IsRoundTurn (Trace edid) begin before t text after u
-  pub progress : IsProgress before begin after
-  pub written : WrittenText old new was is (edges ++ text) result
-
--- the next round is not reported yet, and nothing changed; or it was run, and its line written
-abbrev pub IsRoundTaken : Option Edid → Bool → ℕ → ℕ → NetState → NetState → Totals → Totals → Option (List ℕ) → Option (List ℕ) → Bool → Bool → Result (Option ℕ) WriteFault → Type 0
-IsRoundTaken edid ended until begin s t a b old new was is (Ok None) = (t ≡ s) × (b ≡ a) × (new ≡ old) × (is ≡ was) × IsLate ended until begin s
-IsRoundTaken edid ended until begin s t a b old new was is (Ok (Some count)) = RoundWritten (Trace edid) s t a b old new was is (Ok count) × IsSoon ended until t
-IsRoundTaken edid ended until begin s t a b old new was is (Err fault) = RoundWritten (Trace edid) s t a b old new was is (Err fault) × IsSoon ended until t
-
--- the edges of a round that comes next were written, in a span; its line after them, where it is reported, and nothing else changed
--- where it is not
-abbrev pub IsRoundWith : Option Edid → Bool → ℕ → ℕ → Span → NetState → NetState → Totals → Totals → Option (List ℕ) → Option (List ℕ) → Bool → Bool → Result RoundTaken WriteFault → Type 0
-IsRoundWith edid ended until begin span s t a b old new was is (Ok (On count)) =
-    (t ≡ s) × (b ≡ a) × (edges : List ℕ) × HasEdges span begin s edges × WrittenText old new was is edges (Ok count) × IsLate ended until begin s
-IsRoundWith edid ended until begin span s t a b old new was is (Ok (Over count)) =
-    (edges : List ℕ) × HasEdges span begin s edges × RoundAfter edid edges s t a b old new was is (Ok count) × IsSoon ended until t
-IsRoundWith edid ended until begin span s t a b old new was is (Err fault) =
-    ((t ≡ s) × (b ≡ a) × (edges : List ℕ) × HasEdges span begin s edges × WrittenText old new was is edges (Err fault))
-    ⊎ ((edges : List ℕ) × HasEdges span begin s edges × RoundAfter edid edges s t a b old new was is (Err fault) × IsSoon ended until t)
 
 -- ---- what stays within its limits
 

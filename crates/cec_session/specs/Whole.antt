@@ -12,8 +12,8 @@ use Rattle.cec_run.specs.declared.run.Reporting.TheVariants.{Trace}
 use Rattle.cec_run.specs.declared.run.Totals.{Totals}
 use Rattle.cec_run.specs.Run.{start, end_reported, IsRunText}
 use Rattle.cec_run.specs.Emulate.{IsTraceOf}
-use Rattle.causal_laws.specs.Certain.{ComesFrom}
-use Rattle.causal_laws.specs.Causal.{BeginsWith, before_reported}
+use Rattle.cec_certain.specs.Certain.{ComesFrom}
+use Rattle.cec_certain.specs.Causal.{BeginsWith, before_reported}
 use Rattle.cec_session.specs.declared.command.Command.{Command}
 use Rattle.cec_session.specs.declared.command.Command.TheVariants as commands
 use Rattle.cec_session.specs.declared.live.Step.{Step}

@@ -3,14 +3,13 @@ ghost use Rattle.std.specs.Prelude.{◌≡◌, ◌++◌, codes};
 ghost use Rattle.cec_asm.specs.Script.{script_cause};
 ghost use Rattle.cec_text.specs.Causes.{assemble_cause};
 ghost use Rattle.cec_trace.specs.StateText.{state_line};
-ghost use Rattle.hdmi_core.specs.Cut.{WrittenText};
+ghost use Rattle.hdmi_core.specs.Adds.{Adds};
 ghost use Rattle.cec_session.specs.Session.{idle_line, refusal_cause, refused_line, taken_line};
 
 use cec_asm::{AssembleError, ScriptCause};
 use cec_device::Device;
-use cec_step_text::{whole, with_rest};
-use cec_trace::write_state;
-use hdmi_core::{Piece, Sink, WriteFault, write_line, write_pieces};
+use cec_trace::add_state;
+use hdmi_core::{Counted, Piece, Sink};
 
 /// Why a line is refused: the first that applies.
 #[derive(Clone, Copy, Debug, Drop, PartialEq, Eq)]
@@ -59,68 +58,54 @@ fn refusal_cause(refusal: Refusal) -> &'static str
     }
 }
 
-/// Writes that a line was taken, and the horizon. This answers most lines, and is put part by part: room for a line is large.
-pub(crate) fn write_taken<S: Sink>(out: &mut S, horizon: u64) -> Result<u128, WriteFault>
-    ensures { WrittenText (S.contents out.old) (S.contents out.new) (S.is_stuck out.old) (S.is_stuck out.new) (taken_line horizon) result }
+/// Adds that a line was taken, and the horizon.
+pub(crate) fn add_taken<S: Sink>(out: &mut Counted<'_, S>, horizon: u64)
+    ensures { Adds out.old out.new (taken_line horizon) }
 {
-    whole(write_pieces(
-        out,
-        &[
-            Piece::Text("= "),
-            Piece::Decimal(horizon),
-            Piece::Text("\n"),
-        ],
-    ))
+    out.add_line(&[
+        Piece::Text("= "),
+        Piece::Decimal(horizon),
+        Piece::Text("\n"),
+    ]);
 }
 
-/// Writes that nothing comes any more, unless a line does.
-pub(crate) fn write_idle<S: Sink>(out: &mut S, horizon: u64) -> Result<u128, WriteFault>
-    ensures { WrittenText (S.contents out.old) (S.contents out.new) (S.is_stuck out.old) (S.is_stuck out.new) (idle_line horizon) result }
+/// Adds that nothing comes any more, unless a line does.
+pub(crate) fn add_idle<S: Sink>(out: &mut Counted<'_, S>, horizon: u64)
+    ensures { Adds out.old out.new (idle_line horizon) }
 {
-    whole(write_line(
-        out,
-        &[
-            Piece::Text("= "),
-            Piece::Decimal(horizon),
-            Piece::Text(" idle\n"),
-        ],
-    ))
+    out.add_line(&[
+        Piece::Text("= "),
+        Piece::Decimal(horizon),
+        Piece::Text(" idle\n"),
+    ]);
 }
 
-/// Writes that a line was refused, its number and its cause.
-pub(crate) fn write_refused<S: Sink>(
-    out: &mut S,
-    line: u64,
-    refusal: Refusal,
-) -> Result<u128, WriteFault>
-    ensures { WrittenText (S.contents out.old) (S.contents out.new) (S.is_stuck out.old) (S.is_stuck out.new) (refused_line line refusal) result }
+/// Adds that a line was refused, its number and its cause.
+pub(crate) fn add_refused<S: Sink>(out: &mut Counted<'_, S>, line: u64, refusal: Refusal)
+    ensures { Adds out.old out.new (refused_line line refusal) }
 {
     let cause = refusal_cause(refusal);
-    whole(write_line(
-        out,
-        &[
-            Piece::Text("! "),
-            Piece::Decimal(line),
-            Piece::Text(" "),
-            Piece::Text(cause),
-            Piece::Text("\n"),
-        ],
-    ))
+    out.add_line(&[
+        Piece::Text("! "),
+        Piece::Decimal(line),
+        Piece::Text(" "),
+        Piece::Text(cause),
+        Piece::Text("\n"),
+    ]);
 }
 
-// Writes what stands before a state.
-fn write_mark<S: Sink>(out: &mut S) -> Result<u128, WriteFault>
-    ensures { WrittenText (S.contents out.old) (S.contents out.new) (S.is_stuck out.old) (S.is_stuck out.new) (codes "= ") result }
+// Adds what stands before a state.
+fn add_mark<S: Sink>(out: &mut Counted<'_, S>)
+    ensures { Adds out.old out.new (codes "= ") }
 {
-    whole(write_line(out, &[Piece::Text("= ")]))
+    out.add_line(&[Piece::Text("= ")]);
 }
 
-/// Writes the state of a device.
-pub(crate) fn write_shown<S: Sink>(out: &mut S, device: &Device<16>) -> Result<u128, WriteFault>
-    ensures { WrittenText (S.contents out.old) (S.contents out.new) (S.is_stuck out.old) (S.is_stuck out.new) (codes "= " ++ state_line device.now) result }
+/// Adds the state of a device.
+#[tactic(auto, using(hdmi_core::proofs::Adding::then))]
+pub(crate) fn add_shown<S: Sink>(out: &mut Counted<'_, S>, device: &Device<16>)
+    ensures { Adds out.old out.new (codes "= " ++ state_line device.now) }
 {
-    match write_mark(out) {
-        Ok(count) => with_rest(count, whole(write_state(out, device))),
-        Err(fault) => Err(fault),
-    }
+    add_mark(out);
+    add_state(out, device);
 }

@@ -10,38 +10,25 @@ ghost use Rattle.cec_net.specs.Progress.{IsProgress};
 ghost use Rattle.cec_net.specs.State.{NetState, first_net, next_start};
 ghost use Rattle.cec_net.specs.Step.{IsNextRound};
 ghost use Rattle.cec_wire.specs.Round.{close_in};
-ghost use Rattle.hdmi_core.specs.Cut.{WrittenText};
-ghost use Rattle.hdmi_blocks.specs.Root.{HasAddress};
+ghost use Rattle.hdmi_core.specs.Adds.{Adds};
 ghost use Rattle.cec_text.specs.ReadingText.{is_complete};
-ghost use Rattle.cec_run.specs.declared.run.Reporting.TheVariants.{Trace};
-ghost use Rattle.cec_run.specs.Run.{RoundWritten, counted_event, counted_round, event_text, turn_of};
+ghost use Rattle.cec_run.specs.Run.{counted_event, counted_round, turn_of};
+ghost use Rattle.cec_run.specs.Happening.{OfEvent, OfRound};
 ghost use Rattle.cec_session.specs.Edges.{first_edge};
-ghost use Rattle.cec_session.specs.Turns.{AreAhead, HasEdges, IsForeseen, IsKept, IsRoundTaken, IsRoundWith};
-ghost use Rattle.hdmi_blocks.specs.declared.edid.Edid.{Edid as EdidValue};
+ghost use Rattle.cec_session.specs.Turns.{AreAhead, AreEdgesOn, HasEdges, IsForeseen, IsKept, IsOn};
 
-use crate::edges::{Span, first_edge, write_edges};
+use crate::edges::{Span, add_edges, first_edge};
 use cec_asm::TimedEvent;
 use cec_device::Device;
-use cec_edges::EdgeWire;
-use cec_frame::Ending;
 use cec_net::{Net, PulseError};
-use cec_run::{Totals, Turn, apply_event, next_turn};
-use cec_step_text::whole;
-use cec_trace::write_round;
+use cec_one_wire::EdgeWire;
+use cec_run::{Reporter, Totals, Turn, next_turn, take_event, take_round};
 use cec_wave::Stretch;
 use cec_wire::Outcome;
-use hdmi_blocks::Edid;
-use hdmi_core::{Sink, WriteFault, counted, cut_at};
+use hdmi_core::{Counted, Sink};
 use hdmi_topo::Tree;
 use std::alloc::{AllocError, Global};
 use std::marker::Model;
-
-/// What becomes of the round that comes next: so much was written of it, and it is over or still on.
-#[derive(Clone, Copy, Debug, Drop)]
-pub(crate) enum RoundTaken {
-    Over(u128),
-    On(u128),
-}
 
 /// A network, and what its next round gives, once that was looked for. So a round that is not reported yet is run once, and not
 /// again with each line that comes. As a value it is the network.
@@ -105,47 +92,6 @@ fn foresee(
     }
     *is_known = true;
     run_ahead(net, begin, next)
-}
-
-// The counts after a round.
-fn counted_round(totals: Totals, ending: Ending) -> Totals
-    requires room { totals.rounds < 18446744073709551615 }
-    requires less { totals.complete ≤ totals.rounds }
-    ensures { result ≡ counted_round (is_complete ending) totals }
-{
-    match ending {
-        Ending::Complete => Totals {
-            rounds: totals.rounds + 1,
-            complete: totals.complete + 1,
-            refused: totals.refused,
-        },
-        _ => Totals {
-            rounds: totals.rounds + 1,
-            complete: totals.complete,
-            refused: totals.refused,
-        },
-    }
-}
-
-// Ends the next round, which begins at `begin`, with what it gives, and writes its line.
-fn end_round<S: Sink>(
-    out: &mut S,
-    net: &mut Net<EdgeWire>,
-    totals: &mut Totals,
-    begin: u64,
-    outcome: &Outcome,
-) -> Result<u128, WriteFault>
-    requires early { net.old.close ≤ latest_instant }
-    requires begins { next_start net.old ≡ Some begin }
-    requires known { IsForeseen net.old (Some outcome.now) }
-    requires room { totals.old.rounds < 18446744073709551615 }
-    requires less { totals.old.complete ≤ totals.old.rounds }
-    ensures written { (edid : Option EdidValue) → RoundWritten (Trace edid) net.old net.new totals.old totals.new (S.contents out.old) (S.contents out.new) (S.is_stuck out.old) (S.is_stuck out.new) result }
-    ensures close { net.new.close ≡ close_in outcome.now }
-{
-    net.end(begin, outcome);
-    *totals = counted_round(*totals, outcome.reading.ending);
-    whole(write_round(out, net.devices(), outcome))
 }
 
 impl Foreseen {
@@ -223,26 +169,25 @@ impl Foreseen {
         self.net.add_pulse(pulse)
     }
 
-    /// Applies an event, as [`apply_event`].
-    pub fn apply<S: Sink>(
+    /// Applies an event, as [`take_event`].
+    pub fn take_event<R: Reporter>(
         &mut self,
-        out: &mut S,
-        edid: &Option<Edid>,
         totals: &mut Totals,
         at: u64,
         event: &TimedEvent,
-    ) -> Result<u128, WriteFault>
-        requires addressed { HasAddress edid.now }
+        reporter: &mut R,
+    )
         requires early { at ≤ latest_instant }
         requires known { NamesDevices (length self.old.tree) event.now.event }
         requires room { totals.old.refused < 18446744073709551615 }
+        requires kept { R.keeps reporter.old self.old }
         ensures net { self.new ≡ net_after at event.now.event self.old }
         ensures totals { totals.new ≡ counted_event (event_fault self.old event.now.event) totals.old }
-        ensures text { WrittenText (S.contents out.old) (S.contents out.new) (S.is_stuck out.old) (S.is_stuck out.new)
-            (event_text edid.now at event.now self.old) result }
+        ensures heard { R.hears reporter.old (OfEvent at event.now self.old) reporter.new }
+        ensures kept { R.keeps reporter.new self.new }
     {
         self.is_known = false;
-        apply_event(out, &mut self.net, edid, totals, at, event)
+        take_event(&mut self.net, totals, at, event, reporter);
     }
 
     /// The close of the next round, which begins at `begin`.
@@ -269,90 +214,63 @@ impl Foreseen {
         first_edge(from, outcome.wave.as_slice())
     }
 
-    // Writes the edges of the next round, which begins at `begin`, that lie in a span.
-    fn write_edges<S: Sink>(
-        &mut self,
-        out: &mut S,
-        begin: u64,
-        span: Span,
-    ) -> Result<u128, WriteFault>
+    // Adds the edges of the next round, which begins at `begin`, that lie in a span.
+    fn add_edges<S: Sink>(&mut self, out: &mut Counted<'_, S>, begin: u64, span: Span)
         requires early { self.old.close ≤ latest_instant }
         requires begins { next_start self.old ≡ Some begin }
         ensures same { self.new ≡ self.old }
-        ensures edges { (edges : List ℕ) × HasEdges span begin self.old edges × WrittenText (S.contents out.old) (S.contents out.new) (S.is_stuck out.old) (S.is_stuck out.new) edges result }
+        ensures edges { (edges : List ℕ) × HasEdges span begin self.old edges × Adds out.old out.new edges }
     {
         let _close = foresee(&mut self.net, begin, &mut self.next, &mut self.is_known);
         let Some(outcome) = &self.next else {
             unreachable!();
         };
-        write_edges(out, span, outcome.wave.as_slice())
+        add_edges(out, span, outcome.wave.as_slice());
     }
 
-    /// Writes the edges of the next round, which begins at `begin`, that lie in a span, and takes it as
-    /// [`take_round`](Self::take_round).
-    ///
-    /// # Errors
-    ///
-    /// A `put` took none. Its count says how much was written.
-    pub fn take_round_with<S: Sink>(
-        &mut self,
-        out: &mut S,
-        totals: &mut Totals,
-        begin: u64,
-        until: u64,
-        ended: bool,
-        span: Span,
-    ) -> Result<RoundTaken, WriteFault>
-        requires starts { next_start self.old ≡ Some begin }
+    /// Adds the edges of the next round that lie in a span, where it is on.
+    pub fn add_edges_on<S: Sink>(&mut self, out: &mut Counted<'_, S>, on: Option<u64>, span: Span)
         requires early { self.old.close ≤ latest_instant }
-        requires room { totals.old.rounds < 18446744073709551615 }
-        requires less { totals.old.complete ≤ totals.old.rounds }
-        ensures { (edid : Option EdidValue) → IsRoundWith edid ended until begin span self.old self.new totals.old totals.new (S.contents out.old) (S.contents out.new) (S.is_stuck out.old) (S.is_stuck out.new) result }
+        requires begins { IfSome on (λ begin. next_start self.old ≡ Some begin) }
+        ensures same { self.new ≡ self.old }
+        ensures edges { (edges : List ℕ) × AreEdgesOn span self.old on edges × Adds out.old out.new edges }
     {
-        let edges = match self.write_edges(out, begin, span) {
-            Ok(count) => count,
-            Err(fault) => return Err(fault),
-        };
-        match self.take_round(out, totals, begin, until, ended) {
-            Ok(taken) => match taken {
-                Some(count) => Ok(RoundTaken::Over(counted(edges, count))),
-                None => Ok(RoundTaken::On(edges)),
-            },
-            Err(fault) => Err(cut_at(edges, fault)),
+        if let Some(begin) = on {
+            self.add_edges(out, begin, span);
         }
     }
 
-    /// Runs the next round, which begins at `begin`, where it closes before `until` or the script has ended, and writes its
-    /// line. None, and nothing changes, where it closes then or later.
-    ///
-    /// # Errors
-    ///
-    /// A `put` took none. Its count says how much of the line was written.
-    fn take_round<S: Sink>(
-        &mut self,
-        out: &mut S,
-        totals: &mut Totals,
-        begin: u64,
-        until: u64,
-        ended: bool,
-    ) -> Result<Option<u128>, WriteFault>
-        requires starts { next_start self.old ≡ Some begin }
+    /// Whether the next round, which begins at `begin`, is on: it closes at `until` or later, and the script has not ended.
+    pub fn is_on(&mut self, begin: u64, until: u64, ended: bool) -> bool
         requires early { self.old.close ≤ latest_instant }
+        requires begins { next_start self.old ≡ Some begin }
+        ensures same { self.new ≡ self.old }
+        ensures on { IsOn result ended until begin self.old }
+    {
+        if ended {
+            return false;
+        }
+        self.next_close(begin) >= until
+    }
+
+    /// Reports the next round, which begins at `begin`, runs it and counts it, as [`take_round`].
+    pub fn take_round<R: Reporter>(&mut self, totals: &mut Totals, begin: u64, reporter: &mut R)
+        requires early { self.old.close ≤ latest_instant }
+        requires soon { begin ≤ latest_instant }
+        requires begins { next_start self.old ≡ Some begin }
         requires room { totals.old.rounds < 18446744073709551615 }
         requires less { totals.old.complete ≤ totals.old.rounds }
-        ensures { (edid : Option EdidValue) → IsRoundTaken edid ended until begin self.old self.new totals.old totals.new (S.contents out.old) (S.contents out.new) (S.is_stuck out.old) (S.is_stuck out.new) result }
+        requires kept { R.keeps reporter.old self.old }
+        ensures heard { (outcome : OutcomeValue) × IsWave outcome.wave × IsNextRound self.old begin outcome self.new
+            × (totals.new ≡ counted_round (is_complete outcome.reading.ending) totals.old) × R.hears reporter.old (OfRound begin self.old outcome) reporter.new }
+        ensures progress { IsProgress self.old begin self.new }
+        ensures kept { R.keeps reporter.new self.new }
     {
-        let close = foresee(&mut self.net, begin, &mut self.next, &mut self.is_known);
-        if !ended && close >= until {
-            return Ok(None);
-        }
+        let _close = foresee(&mut self.net, begin, &mut self.next, &mut self.is_known);
         let Some(outcome) = &self.next else {
             unreachable!();
         };
         self.is_known = false;
-        match end_round(out, &mut self.net, totals, begin, outcome) {
-            Ok(count) => Ok(Some(count)),
-            Err(fault) => Err(fault),
-        }
+        take_round(&mut self.net, totals, begin, outcome, reporter);
     }
 }

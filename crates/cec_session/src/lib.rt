@@ -8,6 +8,7 @@ mod foreseen;
 mod laws;
 mod live;
 mod note;
+mod session_text;
 mod turns;
 
 pub use answer::Refusal;

@@ -3,18 +3,18 @@ ghost use Rattle.std.specs.Prelude.{◌≡◌, IfOk, Option, option_map};
 ghost use Rattle.cec_wave.specs.Bounds.{latest_event};
 ghost use Rattle.cec_session.specs.Session.{step_show};
 
-use crate::answer::{Refusal, write_idle, write_refused, write_shown, write_taken};
+use crate::answer::{Refusal, add_idle, add_refused, add_shown, add_taken};
 use crate::command::{Command, command_in};
 use crate::edges::Span;
 use crate::foreseen::Foreseen;
 use crate::note::{events_after, note_line};
-use crate::turns::{go_on, next_edge, soonest, write_last_lines};
+use crate::session_text::SessionText;
+use crate::turns::{next_edge, soonest, take_turns};
 use cec_asm::{ScriptCause, ScriptDraft};
 use cec_run::{Totals, first_time};
-use cec_step_text::with_rest;
-use cec_trace::write_ports;
+use cec_trace::{add_last_lines, write_ports};
 use hdmi_blocks::Edid;
-use hdmi_core::{Sink, WriteFault};
+use hdmi_core::{Counted, Sink, WriteFault};
 use hdmi_topo::Tree;
 use std::alloc::{AllocError, Global};
 use std::marker::Model;
@@ -128,13 +128,14 @@ impl Live {
     ghost use Rattle.cec_asm.specs.Script.{IsLineRead, Notes};
     ghost use Rattle.cec_asm.specs.declared.fault.LineFault.{LineFault as LineFaultValue};
     ghost use Rattle.hdmi_blocks.specs.Root.{HasAddress};
+    ghost use Rattle.hdmi_core.specs.Adds.{Adds};
     ghost use Rattle.hdmi_core.specs.Cut.{WrittenText};
     ghost use Rattle.cec_run.specs.declared.run.Reporting.TheVariants.{Trace};
     ghost use Rattle.cec_run.specs.Run.{end_reported, start_reported};
     ghost use Rattle.cec_session.specs.declared.live.Step.TheVariants.{Edge, Finish, Go, Idle, Refuse, Show};
     ghost use Rattle.cec_session.specs.Note.{IsSettled};
     ghost use Rattle.cec_session.specs.Session.{IsEdgeStep, IsSoonest, IsStep, NamesShown, after_to, after_wait, first_session, span_of, with_line_counted, standing, step_to, step_wait, taken_line, with_standing};
-    ghost use Rattle.cec_session.specs.Taken.{IsAnswered, IsGone, IsLineTaken, IsOfMemory};
+    ghost use Rattle.cec_session.specs.Taken.{IsAnswered, IsGone, IsLineTaken, IsOfMemory, IsTaken};
 
     /// A run before its first line. The television's EDID, where it is given, has an HDMI block.
     ///
@@ -288,113 +289,119 @@ impl Live {
         }
     }
 
-    // Goes on, and writes what is reported, with the edges or without.
-    fn go<S: Sink>(&mut self, out: &mut S, edges: bool, ended: bool) -> Result<u128, WriteFault>
-        ensures { IsGone edges ended self.old self.new (S.contents out.old) (S.contents out.new) (S.is_stuck out.old) (S.is_stuck out.new) result }
+    // Goes on, and adds what is reported, with the edges or without.
+    fn go<'a, S: Sink>(&mut self, text: Counted<'a, S>, edges: bool, ended: bool) -> Counted<'a, S>
+        ensures { IsGone edges ended self.old self.new text.entry result }
     {
         self.net.pulses_are_ahead();
         let span = self.span(edges, ended);
         let mut applied = 0;
-        let gone = go_on(
-            out,
+        let mut told = SessionText::new(text, &self.edid, span);
+        let on = take_turns(
             &mut self.net,
-            &self.edid,
             &mut self.totals,
             events_after(&self.draft, self.applied),
             &mut applied,
             self.horizon,
             ended,
-            span,
+            &mut told,
         );
         self.applied += applied;
-        gone
-    }
-
-    // Writes that a line was taken.
-    fn write_answer<S: Sink>(&self, out: &mut S) -> Result<u128, WriteFault>
-        ensures { WrittenText (S.contents out.old) (S.contents out.new) (S.is_stuck out.old) (S.is_stuck out.new) (taken_line self.now.horizon) result }
-    {
-        write_taken(out, self.horizon)
+        let mut text = told.into_text();
+        self.net.add_edges_on(&mut text, on, span);
+        text
     }
 
     // Refuses a line.
-    fn take_refusal<S: Sink>(&self, refusal: Refusal, out: &mut S) -> Result<u128, WriteFault>
-        ensures { IsAnswered (Refuse refusal) self.now self.now (S.contents out.old) (S.contents out.new) (S.is_stuck out.old) (S.is_stuck out.new) result }
+    fn take_refusal<'a, S: Sink>(&self, text: Counted<'a, S>, refusal: Refusal) -> Counted<'a, S>
+        ensures { IsTaken (Refuse refusal) self.now self.now text.entry result }
     {
-        write_refused(out, self.lines, refusal)
+        let mut text = text;
+        add_refused(&mut text, self.lines, refusal);
+        text
     }
 
     // Says that nothing comes any more.
-    fn take_idle<S: Sink>(&self, out: &mut S) -> Result<u128, WriteFault>
-        ensures { IsAnswered Idle self.now self.now (S.contents out.old) (S.contents out.new) (S.is_stuck out.old) (S.is_stuck out.new) result }
+    fn take_idle<'a, S: Sink>(&self, text: Counted<'a, S>) -> Counted<'a, S>
+        ensures { IsTaken Idle self.now self.now text.entry result }
     {
-        write_idle(out, self.horizon)
+        let mut text = text;
+        add_idle(&mut text, self.horizon);
+        text
     }
 
     // Shows the state of a device.
-    fn take_show<S: Sink>(&self, device: usize, out: &mut S) -> Result<u128, WriteFault>
+    fn take_show<'a, S: Sink>(&self, text: Counted<'a, S>, device: usize) -> Counted<'a, S>
         requires { device < length self.now.tree }
-        ensures { IsAnswered (Show device) self.now self.now (S.contents out.old) (S.contents out.new) (S.is_stuck out.old) (S.is_stuck out.new) result }
+        ensures { IsTaken (Show device) self.now self.now text.entry result }
     {
-        write_shown(out, self.net.device(device))
+        let mut text = text;
+        add_shown(&mut text, self.net.device(device));
+        text
     }
 
     // Goes on to the horizon, and answers.
-    fn take_go<S: Sink>(&mut self, out: &mut S) -> Result<u128, WriteFault>
-        ensures { IsAnswered Go self.old self.new (S.contents out.old) (S.contents out.new) (S.is_stuck out.old) (S.is_stuck out.new) result }
+    fn take_go<'a, S: Sink>(&mut self, text: Counted<'a, S>) -> Counted<'a, S>
+        ensures { IsTaken Go self.old self.new text.entry result }
     {
         let edges = self.edges;
-        match self.go(out, edges, false) {
-            Ok(count) => with_rest(count, self.write_answer(out)),
-            Err(fault) => Err(fault),
-        }
+        let mut text = self.go(text, edges, false);
+        add_taken(&mut text, self.horizon);
+        text
     }
 
     // Goes on to the horizon with the edges, and answers.
-    fn take_edge<S: Sink>(&mut self, out: &mut S) -> Result<u128, WriteFault>
-        ensures { IsAnswered Edge self.old self.new (S.contents out.old) (S.contents out.new) (S.is_stuck out.old) (S.is_stuck out.new) result }
+    fn take_edge<'a, S: Sink>(&mut self, text: Counted<'a, S>) -> Counted<'a, S>
+        ensures { IsTaken Edge self.old self.new text.entry result }
     {
-        match self.go(out, true, false) {
-            Ok(written) => with_rest(written, self.write_answer(out)),
-            Err(fault) => Err(fault),
-        }
+        let mut text = self.go(text, true, false);
+        add_taken(&mut text, self.horizon);
+        text
     }
 
-    // Writes the rest of the trace after its last turn, and answers.
-    fn write_end<S: Sink>(&self, out: &mut S) -> Result<u128, WriteFault>
-        ensures { WrittenText (S.contents out.old) (S.contents out.new) (S.is_stuck out.old) (S.is_stuck out.new)
-            (end_reported (Trace self.now.edid) self.now.horizon self.now.place.net ++ taken_line self.now.horizon) result }
+    // Adds the rest of the trace after its last turn, and the answer.
+    fn add_end<S: Sink>(&self, text: &mut Counted<'_, S>)
+        ensures { Adds text.old text.new (end_reported (Trace self.now.edid) self.now.horizon self.now.place.net ++ taken_line self.now.horizon) }
     {
-        match write_last_lines(out, self.net.devices(), self.horizon) {
-            Ok(count) => with_rest(count, write_taken(out, self.horizon)),
-            Err(fault) => Err(fault),
-        }
+        add_last_lines(text, self.net.devices(), self.horizon);
+        add_taken(text, self.horizon);
     }
 
     // Goes on to the end, and answers.
-    fn take_finish<S: Sink>(&mut self, out: &mut S) -> Result<u128, WriteFault>
-        ensures { IsAnswered Finish self.old self.new (S.contents out.old) (S.contents out.new) (S.is_stuck out.old) (S.is_stuck out.new) result }
+    fn take_finish<'a, S: Sink>(&mut self, text: Counted<'a, S>) -> Counted<'a, S>
+        ensures { IsTaken Finish self.old self.new text.entry result }
     {
         let edges = self.edges;
-        match self.go(out, edges, true) {
-            Ok(count) => with_rest(count, self.write_end(out)),
-            Err(fault) => Err(fault),
+        let mut text = self.go(text, edges, true);
+        self.add_end(&mut text);
+        text
+    }
+
+    // Adds what is due of a step.
+    fn take<'a, S: Sink>(&mut self, text: Counted<'a, S>, step: Step) -> Counted<'a, S>
+        requires shown { NamesShown (length self.old.tree) step }
+        ensures { IsTaken step self.old self.new text.entry result }
+    {
+        match step {
+            Step::Refuse(refusal) => self.take_refusal(text, refusal),
+            Step::Idle => self.take_idle(text),
+            Step::Show(device) => self.take_show(text, device),
+            Step::Go => self.take_go(text),
+            Step::Edge => self.take_edge(text),
+            Step::Finish => self.take_finish(text),
         }
     }
 
     // Writes what is due of a step.
-    fn take<S: Sink>(&mut self, step: Step, out: &mut S) -> Result<u128, WriteFault>
+    fn write<S: Sink>(&mut self, step: Step, out: &mut S) -> Result<u128, WriteFault>
         requires shown { NamesShown (length self.old.tree) step }
         ensures { IsAnswered step self.old self.new (S.contents out.old) (S.contents out.new) (S.is_stuck out.old) (S.is_stuck out.new) result }
     {
-        match step {
-            Step::Refuse(refusal) => self.take_refusal(refusal, out),
-            Step::Idle => self.take_idle(out),
-            Step::Show(device) => self.take_show(device, out),
-            Step::Go => self.take_go(out),
-            Step::Edge => self.take_edge(out),
-            Step::Finish => self.take_finish(out),
-        }
+        let text = self.take(Counted::new(out), step);
+        let written = text.written();
+        // No effect at run time. The proof reads what `out` holds from the sink that comes back.
+        let _below = text.into_sink();
+        written
     }
 
     /// Takes a line, writes what of the trace is certain by it, and then one line of answer. The script has not come to its
@@ -412,7 +419,7 @@ impl Live {
         let Some(step) = self.step(line) else {
             return Err(LiveError::Memory);
         };
-        match self.take(step, out) {
+        match self.write(step, out) {
             Ok(count) => Ok(count),
             Err(fault) => Err(LiveError::Write(fault.count)),
         }

@@ -3,7 +3,7 @@ ghost use Rattle.std.specs.Prelude.{◌≡◌, ◌||◌, ◌≤◌, [], drop, ta
 ghost use Rattle.std.specs.List.{list_any};
 ghost use Rattle.cec_asm.specs.Script.{IsLineRead, Notes, notes_of};
 ghost use Rattle.cec_asm.specs.declared.fault.LineFault.{LineFault as LineFaultValue};
-ghost use Rattle.causal_laws.specs.Certain.{with_pulses};
+ghost use Rattle.cec_certain.specs.Certain.{with_pulses};
 ghost use Rattle.cec_session.specs.Note.{Extends, IsSettled, refused_by};
 ghost use Rattle.cec_session.specs.Session.{ends_before, refuses_pulse};
 ghost use Rattle.cec_session.specs.declared.answer.Refusal.TheVariants.{Past};

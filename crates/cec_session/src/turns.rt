@@ -1,102 +1,68 @@
 //! The turns that a session reports.
-ghost use Rattle.std.specs.Prelude.{◌≡◌, ℕ, min, ◌+◌, ◌++◌, ◌<◌, ◌≤◌, List, drop, length, true, Option, Some, None, IfOk, IfErr, OnOk, OnErr};
-ghost use Rattle.std.specs.List.{flat_map};
-ghost use Rattle.std.specs.Io.KnownBytes.{Appends};
+ghost use Rattle.std.specs.Prelude.{◌≡◌, ℕ, min, ◌+◌, ◌<◌, ◌≤◌, drop, length, Some, IfSome};
 ghost use Rattle.cec_wave.specs.Line.{IsWave};
 ghost use Rattle.cec_wave.specs.Bounds.{latest_event, latest_instant};
 ghost use Rattle.cec_wire.specs.declared.Outcome.{Outcome as OutcomeValue};
 ghost use Rattle.cec_asm.specs.Script.{IsSchedule, within_limit};
 ghost use Rattle.cec_net.specs.State.{NetState, next_start};
 ghost use Rattle.cec_net.specs.Step.{IsNextRound};
-ghost use Rattle.hdmi_blocks.specs.Root.{HasAddress};
-ghost use Rattle.cec_trace.specs.StateText.{state_line};
-ghost use Rattle.cec_trace.specs.TraceText.{end_line};
-ghost use Rattle.hdmi_core.specs.Cut.{CutOff, WrittenText, reported_count};
-ghost use Rattle.cec_run.specs.Run.{Config, turn_of};
+ghost use Rattle.cec_run.specs.Run.{turn_of};
 ghost use Rattle.cec_session.specs.Edges.{first_edge};
 ghost use Rattle.cec_session.specs.Session.{IsEdgeBy, IsSoonestBy, edge_horizon};
-ghost use Rattle.cec_session.specs.Turns.{GoesWith, IsWithin, Keeps};
+ghost use Rattle.cec_session.specs.Turns.{AreHeard, IsWithin, Keeps};
 
-use crate::edges::Span;
-use crate::foreseen::{Foreseen, RoundTaken};
+use crate::foreseen::Foreseen;
 use cec_asm::TimedEvent;
-use cec_device::Device;
-use cec_run::{Totals, Turn, first_time};
-use cec_step_text::{whole, with_rest};
-use cec_trace::{write_end, write_state};
+use cec_run::{Reporter, Totals, Turn, first_time};
 use cec_wave::LATEST_EVENT;
-use hdmi_blocks::Edid;
-use hdmi_core::{Sink, WriteFault, counted, cut_at};
 
-/// Goes on with a run while its turns are reported: those that are over before `until` where the script has not ended, and else
-/// all that begin before it. Writes what the trace has of them, before each round's line its edges that lie in the span, and last
-/// those of a round that is on; and counts the events that are applied.
-///
-/// # Errors
-///
-/// A `put` took none. Its count, which stays at its greatest value, says how much of the text was written.
-pub(crate) fn go_on<S: Sink>(
-    out: &mut S,
+/// Goes on with a run while its turns are certain and the reporter wants to hear more: those that are over before `until` where the
+/// script has not ended, and else all that begin before it. Reports each, and counts the events that are applied. Returns when the
+/// next round begins, where it is on.
+pub(crate) fn take_turns<R: Reporter>(
     net: &mut Foreseen,
-    edid: &Option<Edid>,
     totals: &mut Totals,
     events: &[TimedEvent],
     applied: &mut usize,
     until: u64,
     ended: bool,
-    span: Span,
-) -> Result<u128, WriteFault>
-    requires addressed { HasAddress edid.now }
+    reporter: &mut R,
+) -> Option<u64>
     requires early { until ≤ latest_event }
     requires none { applied.old ≡ 0 }
     requires within { IsWithin (record { net = net.old; events = events.now; totals = totals.old }) }
     requires schedule { (from end : ℕ) × IsSchedule (length net.old.tree) end from events.now }
     requires room { totals.old.refused + length events.now ≤ 18446744073709551615 }
-    ensures ok { IfOk result (λ written. (reported : List ℕ) × (text : List ℕ)
-        × GoesWith edid.now ended span until (record { net = net.old; events = events.now; totals = totals.old }) reported text
-        (record { net = net.new; events = drop applied.new events.now; totals = totals.new })
-        × Appends (S.contents out.old) (S.contents out.new) text × (written ≡ reported_count (length text))) }
+    requires kept { R.keeps reporter.old net.old }
+    ensures heard { AreHeard R.hears ended until (record { net = net.old; events = events.now; totals = totals.old })
+        (record { net = net.new; events = drop applied.new events.now; totals = totals.new }) reporter.old reporter.new (R.goes_on reporter.new) result }
+    ensures begins { IfSome result (λ begin. next_start net.new ≡ Some begin) }
     ensures few { applied.new ≤ length events.now }
     ensures within { IsWithin (record { net = net.new; events = drop applied.new events.now; totals = totals.new }) }
     ensures keeps { Keeps (record { net = net.old; events = events.now; totals = totals.old })
         (record { net = net.new; events = drop applied.new events.now; totals = totals.new }) }
-    ensures same { OnOk result (S.is_stuck out.new ≡ S.is_stuck out.old) }
-    ensures cut { IfErr result (λ fault. (reported text : List ℕ) (last : Config)
-        → GoesWith edid.now ended span until (record { net = net.old; events = events.now; totals = totals.old }) reported text last
-        → CutOff (S.contents out.old) (S.contents out.new) text fault) }
-    ensures stuck { OnErr result (S.is_stuck out.new ≡ true) }
 {
     let mut rest = events;
-    let mut written = 0u128;
-    'turns: loop {
+    'turns: while reporter.wants_more() {
         match net.next_turn(until, first_time(rest)) {
-            Turn::Stop => break,
+            Turn::Stop => return None,
             Turn::Apply(at) => {
                 let Some((event, others)) = rest.split_first() else {
                     unreachable!();
                 };
+                net.take_event(totals, at, event, reporter);
                 rest = others;
                 *applied += 1;
-                match net.apply(out, edid, totals, at, event) {
-                    Ok(count) => written = counted(written, count),
-                    Err(fault) => return Err(cut_at(written, fault)),
-                }
             }
-            Turn::Round(begin) => match net.take_round_with(
-                out, totals, begin, until, ended, span,
-            ) {
-                Ok(taken) => match taken {
-                    RoundTaken::Over(count) => written = counted(written, count),
-                    RoundTaken::On(count) => {
-                        written = counted(written, count);
-                        break;
-                    }
-                },
-                Err(fault) => return Err(cut_at(written, fault)),
-            },
+            Turn::Round(begin) => {
+                if net.is_on(begin, until, ended) {
+                    return Some(begin);
+                }
+                net.take_round(totals, begin, reporter);
+            }
         }
     }
-    Ok(written)
+    None
 }
 
 // The instant after the close of the next round, which begins at `begin`.
@@ -172,33 +138,5 @@ pub(crate) fn next_edge(net: &mut Foreseen, time: Option<u64>, from: u64, until:
         Turn::Stop => until,
         Turn::Apply(at) => at + 1,
         Turn::Round(begin) => edge_in(net, begin, from, until),
-    }
-}
-
-// Writes the state lines of the devices.
-fn write_states<S: Sink>(out: &mut S, devices: &[Device<16>]) -> Result<u128, WriteFault>
-    ensures { WrittenText (S.contents out.old) (S.contents out.new) (S.is_stuck out.old) (S.is_stuck out.new) (flat_map state_line devices.now) result }
-{
-    let mut written = 0;
-    for device in devices {
-        match write_state(out, device) {
-            Ok(count) => written = counted(written, count),
-            Err(fault) => return Err(cut_at(written, fault)),
-        }
-    }
-    Ok(written)
-}
-
-/// Writes the state lines of the devices, and the last line.
-pub(crate) fn write_last_lines<S: Sink>(
-    out: &mut S,
-    devices: &[Device<16>],
-    end: u64,
-) -> Result<u128, WriteFault>
-    ensures { WrittenText (S.contents out.old) (S.contents out.new) (S.is_stuck out.old) (S.is_stuck out.new) (flat_map state_line devices.now ++ end_line end) result }
-{
-    match write_states(out, devices) {
-        Ok(count) => with_rest(count, whole(write_end(out, end))),
-        Err(fault) => Err(fault),
     }
 }

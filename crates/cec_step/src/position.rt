@@ -14,9 +14,9 @@ ghost use Rattle.cec_step.specs.Ready.{AreAlike, Begins, Brings, HearsFirst, IsR
 ghost use Rattle.cec_step.specs.Steps.{IsOver, IsRoundStep, after_events, start_text, turn_at};
 
 use cec_asm::TimedEvent;
-use cec_edges::EdgeWire;
 use cec_event::EventError;
 use cec_net::{Net, RoundReport};
+use cec_one_wire::EdgeWire;
 use cec_run::{Reporter, Totals, Turn, first_time, next_turn, take_event};
 use cec_step_text::write_edge;
 use cec_trace::add_new_ports;

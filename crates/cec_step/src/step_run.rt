@@ -1,16 +1,16 @@
 //! The steps of a text, taken on the run of a topology and a script.
 ghost use Rattle.std.specs.Prelude.{◌≡◌, ◌||◌, ◌↔◌, ℕ, List, All, IfOk, IfErr, OnOk, OnErr, IsTrue, true, false, codes};
 ghost use Rattle.std.specs.Io.KnownBytes.{Appends};
-ghost use Rattle.hdmi_core.specs.Written.{WrittenLine};
+ghost use Rattle.hdmi_core.specs.Cut.{WrittenText};
 ghost use Rattle.cec_step.specs.Steps.{IsTaken, device_count, is_write as step_fails};
 ghost use Rattle.cec_step.specs.StepRun.{AreCut, AreDue, AreRefused, AreStepsOf, IsCommandTaken, IsCutBy, IsNoStep, IsStep, NamesDevice, is_write};
 
 use crate::stepper::{StepError, Stepper};
 use cec_asm::{parse_script, parse_topology};
 use cec_run::emulate::EmulateError;
-use cec_step_text::{Command, CommandsError, parse_commands, whole};
+use cec_step_text::{Command, CommandsError, parse_commands};
 use hdmi_blocks::root_on_heap;
-use hdmi_core::{Piece, Sink, WriteFault, counted, cut_at, write_line};
+use hdmi_core::{Counted, Sink, WriteFault, counted, cut_at};
 use std::alloc::Global;
 use thiserror::Error;
 
@@ -28,9 +28,14 @@ pub enum StepRunError {
 
 // Writes that the run has no such step any more.
 fn write_ended<S: Sink>(out: &mut S) -> Result<u128, WriteFault>
-    ensures { WrittenLine (S.contents out.old) (S.contents out.new) (S.is_stuck out.old) (S.is_stuck out.new) (codes "ended\n") result }
+    ensures { WrittenText (S.contents out.old) (S.contents out.new) (S.is_stuck out.old) (S.is_stuck out.new) (codes "ended\n") result }
 {
-    write_line(out, &[Piece::Text("ended\n")])
+    let mut text = Counted::new(out);
+    text.add(b"ended\n");
+    let written = text.written();
+    // No effect at run time. The proof reads what `out` holds from the sink that comes back.
+    let _below = text.into_sink();
+    written
 }
 
 // Takes the step that a command asks for.
@@ -64,7 +69,7 @@ fn take_command<S: Sink>(
         Ok(count) => Ok(count),
         Err(error) => match error {
             StepError::Write(count) => Err(WriteFault { count }),
-            StepError::Ended => whole(write_ended(out)),
+            StepError::Ended => write_ended(out),
         },
     }
 }

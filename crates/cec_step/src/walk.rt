@@ -9,10 +9,10 @@ ghost use Rattle.cec_step.specs.declared.stepper.StepError.TheVariants.{Write};
 use crate::position::{Position, RunInput};
 use crate::stepper::StepError;
 use cec_asm::{Script, Topology};
-use cec_edges::EdgeWire;
 use cec_net::Net;
+use cec_one_wire::EdgeWire;
 use cec_run::TraceText;
-use cec_step_text::{Break, stops, whole};
+use cec_step_text::{Break, stops};
 use cec_trace::{add_round, write_state};
 use cec_wire::Outcome;
 use hdmi_blocks::{Edid, root_on_heap};
@@ -346,7 +346,7 @@ impl Walk {
         ensures step { IsTaken (IsShown self.now device) ⊥ self.now self.now (S.contents out.old) (S.contents out.new) result }
         ensures flag { S.is_stuck out.new ≡ (is_write result || S.is_stuck out.old) }
     {
-        match whole(write_state(out, self.shown().device(device))) {
+        match write_state(out, self.shown().device(device)) {
             Err(fault) => Err(step_error(fault)),
             Ok(count) => Ok(count),
         }

@@ -4,9 +4,7 @@
 mod break_at;
 mod commands;
 mod edge_text;
-mod parts;
 
 pub use break_at::{Break, stops};
 pub use commands::{Command, CommandsError, parse_commands};
 pub use edge_text::{add_edge, write_edge};
-pub use parts::{whole, with_rest};

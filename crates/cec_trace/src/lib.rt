@@ -12,6 +12,6 @@ mod trace_text;
 pub use edge_text::add_edges;
 pub use last_lines::{add_last_lines, add_states};
 pub use port_text::{add_new_ports, on_wire, write_ports};
-pub use round_text::{add_round, write_round};
+pub use round_text::add_round;
 pub use state_text::{add_state, write_state};
-pub use trace_text::{add_end, add_event, write_end};
+pub use trace_text::{add_end, add_event};

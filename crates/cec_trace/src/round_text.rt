@@ -4,7 +4,6 @@ ghost use Rattle.std.specs.List.{flat_map};
 ghost use Rattle.arrayvec.specs.ArrayVec.{array_vec_len};
 ghost use Rattle.hdmi_core.specs.Piece.{piece_text};
 ghost use Rattle.hdmi_core.specs.Adds.{Adds};
-ghost use Rattle.hdmi_core.specs.Written.{WrittenLine};
 ghost use Rattle.cec_trace.specs.TraceText.{comma_list, loser_text, name_at, round_line, round_line_of};
 
 use crate::line::{PARTS, add};
@@ -12,7 +11,7 @@ use arrayvec::ArrayVec;
 use cec_device::Device;
 use cec_text::{ending_word, reading_reported, reading_verdict};
 use cec_wire::{Loser, Outcome};
-use hdmi_core::{Counted, Piece, Sink, WriteFault, write_line};
+use hdmi_core::{Counted, Piece, Sink};
 
 // Adds the name of a device.
 fn add_name<'a>(line: &mut ArrayVec<Piece<'a>, PARTS>, devices: &'a [Device<16>], number: usize)
@@ -116,20 +115,6 @@ fn add_round_of<'a, S: Sink>(
     out.add_line(&round_pieces(devices, outcome, reported, verdict));
 }
 
-// Writes it by itself.
-fn write_round_of<'a, S: Sink>(
-    out: &mut S,
-    devices: &'a [Device<16>],
-    outcome: &'a Outcome,
-    reported: &'a [u8],
-    verdict: &'a str,
-) -> Result<u128, WriteFault>
-    ensures { WrittenLine (S.contents out.old) (S.contents out.new) (S.is_stuck out.old) (S.is_stuck out.new)
-        (round_line_of devices.now outcome.now reported.now verdict.now) result }
-{
-    write_line(out, &round_pieces(devices, outcome, reported, verdict))
-}
-
 /// Adds the line of a round.
 pub fn add_round<S: Sink>(out: &mut Counted<'_, S>, devices: &[Device<16>], outcome: &Outcome)
     ensures { Adds out.old out.new (round_line devices.now outcome.now) }
@@ -137,18 +122,4 @@ pub fn add_round<S: Sink>(out: &mut Counted<'_, S>, devices: &[Device<16>], outc
     let reported = reading_reported(&outcome.reading);
     let verdict = reading_verdict(&outcome.reading);
     add_round_of(out, devices, outcome, &reported, verdict);
-}
-
-/// Writes the line of a round by itself. Returns its length.
-pub fn write_round<S: Sink>(
-    out: &mut S,
-    devices: &[Device<16>],
-    outcome: &Outcome,
-) -> Result<u128, WriteFault>
-    ensures { WrittenLine (S.contents out.old) (S.contents out.new) (S.is_stuck out.old) (S.is_stuck out.new)
-        (round_line devices.now outcome.now) result }
-{
-    let reported = reading_reported(&outcome.reading);
-    let verdict = reading_verdict(&outcome.reading);
-    write_round_of(out, devices, outcome, &reported, verdict)
 }

@@ -2,14 +2,14 @@
 ghost use Rattle.std.specs.Prelude.{◌≡◌, ◌<◌, ◌∷◌, [], Some, None};
 ghost use Rattle.std.specs.List.{flat_map};
 ghost use Rattle.hdmi_core.specs.Adds.{Adds};
+ghost use Rattle.hdmi_core.specs.Cut.{WrittenText};
 ghost use Rattle.hdmi_core.specs.Piece.{dash_or, piece_text};
-ghost use Rattle.hdmi_core.specs.Written.{WrittenLine};
 ghost use Rattle.cec_trace.specs.StateText.{address_text, held_text, note_text, outside_line_of, phys_on, power_text, state_line, state_line_of, unit_text};
 
 use arrayvec::ArrayVec;
 use cec_device::{Device, Note, Port};
 use cec_frame::Addr;
-use hdmi_core::{Counted, Kind, Phys, Piece, Sink, WriteFault, hex_digit, write_line};
+use hdmi_core::{Counted, Kind, Phys, Piece, Sink, WriteFault, hex_digit};
 
 /// What a device from outside has in the place of its record, of which nobody but its driver knows more.
 const UNKNOWN_RECORD: &str =
@@ -210,19 +210,12 @@ pub fn add_state<S: Sink>(out: &mut Counted<'_, S>, device: &Device<16>)
 
 /// Writes it by itself. Returns its length.
 pub fn write_state<S: Sink>(out: &mut S, device: &Device<16>) -> Result<u128, WriteFault>
-    ensures { WrittenLine (S.contents out.old) (S.contents out.new) (S.is_stuck out.old) (S.is_stuck out.new) (state_line device.now) result }
+    ensures { WrittenText (S.contents out.old) (S.contents out.new) (S.is_stuck out.old) (S.is_stuck out.new) (state_line device.now) result }
 {
-    if device.kind() == Kind::Outside {
-        let address = held_bytes(device.held());
-        return write_line(out, &outside_pieces(device, &address, UNKNOWN_RECORD));
-    }
-    let record = device.record();
-    let language = [
-        record.language.first,
-        record.language.second,
-        record.language.third,
-    ];
-    let heard = note_bytes(record.heard);
-    let address = address_bytes(device.kind(), device.held());
-    write_line(out, &state_pieces(device, &address, &language, &heard))
+    let mut text = Counted::new(out);
+    add_state(&mut text, device);
+    let written = text.written();
+    // No effect at run time. The proof reads what `out` holds from the sink that comes back.
+    let _below = text.into_sink();
+    written
 }

@@ -1,12 +1,11 @@
 //! The lines of a trace that tell events, and its last one.
 ghost use Rattle.std.specs.Prelude.{◌≡◌};
 ghost use Rattle.hdmi_core.specs.Adds.{Adds};
-ghost use Rattle.hdmi_core.specs.Written.{WrittenLine};
 ghost use Rattle.cec_trace.specs.TraceText.{end_line, error_word, event_line, key_word, plug_word, submit_word, unplug_word};
 
 use cec_device::{KeyError, SubmitError};
 use cec_event::EventError;
-use hdmi_core::{Counted, Piece, Sink, WriteFault, write_line};
+use hdmi_core::{Counted, Piece, Sink};
 use hdmi_topo::{PlugError, UnplugError};
 
 fn plug_word(error: PlugError) -> &'static str
@@ -86,11 +85,4 @@ pub fn add_end<S: Sink>(out: &mut Counted<'_, S>, end: u64)
     ensures { Adds out.old out.new (end_line end) }
 {
     out.add_line(&[Piece::Decimal(end), Piece::Text(" end\n")]);
-}
-
-/// Writes it by itself. Returns its length.
-pub fn write_end<S: Sink>(out: &mut S, end: u64) -> Result<u128, WriteFault>
-    ensures { WrittenLine (S.contents out.old) (S.contents out.new) (S.is_stuck out.old) (S.is_stuck out.new) (end_line end) result }
-{
-    write_line(out, &[Piece::Decimal(end), Piece::Text(" end\n")])
 }

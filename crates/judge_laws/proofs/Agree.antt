@@ -12,8 +12,8 @@ use Rattle.cec_asm.proofs.Sound.{scripts_are_sound}
 use Rattle.cec_run.specs.declared.run.Totals.{Totals}
 use Rattle.cec_run.specs.Emulate.{IsTraceOf}
 use Rattle.cec_run.proofs.Accepted.{one_plan}
-use Rattle.causal_laws.specs.Causal.{AgreeBefore}
-use Rattle.causal_laws.proofs.Causality.{traces_are_causal}
+use Rattle.cec_certain.specs.Causal.{AgreeBefore}
+use Rattle.cec_certain.proofs.Causality.{traces_are_causal}
 use Rattle.cec_expect.specs.Line.{cut_script}
 use Rattle.cec_check.specs.Cuts.{cut_course, is_early}
 use Rattle.cec_check.proofs.Cuts.{cuts_are_read}

@@ -10,8 +10,8 @@ use Rattle.cec_run.specs.declared.run.Reporting.TheVariants.{Trace}
 use Rattle.cec_run.specs.declared.run.Totals.{Totals}
 use Rattle.cec_run.specs.Run.{Config, start}
 use Rattle.cec_run.specs.Emulate.{IsTraceOf}
-use Rattle.causal_laws.specs.Certain.{AllBefore}
-use Rattle.causal_laws.specs.Causal.{BeginsWith, before_reported}
+use Rattle.cec_certain.specs.Certain.{AllBefore}
+use Rattle.cec_certain.specs.Causal.{BeginsWith, before_reported}
 use Rattle.cec_expect.specs.Line.{cut_script}
 use Rattle.cec_judge.specs.Told.{state_line as line_read}
 use Rattle.cec_check.specs.Cuts.{cut_course, is_early}

@@ -1,4 +1,4 @@
-use Rattle.std.proofs.Common.{rules, codes, subst, Err}
+use Rattle.std.proofs.Common.{rules, subst, Err}
 use Rattle.cec_step.specs.Steps.{IsTaken}
 use Rattle.cec_step.specs.StepRun.{IsNoStep, IsStep}
 use Rattle.cec_step.specs.declared.stepper.StepError.{StepError}
@@ -15,4 +15,4 @@ returns-in-Ended g c =
     let s = c.args.stepper.now in
     let t = c.take_step.new.stepper in
     let taken = subst (λ (error : StepError). IsTaken (IsStep c.args.command s) (IsNoStep c.args.command s) s t old mid (Err error)) c.in-Ended.is c.in-Err.ensures.step in
-    ended c.args.command s t old mid new (g.S.Sink.is_stuck c.args.out.now) between is c.whole.result taken (search rules) (c.whole.ensures mid new between is (codes "ended\n") c.write_ended.ensures)
+    ended c.args.command s t old mid new (g.S.Sink.is_stuck c.args.out.now) between is c.write_ended.result taken (search rules) c.write_ended.ensures

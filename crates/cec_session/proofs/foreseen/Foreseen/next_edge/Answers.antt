@@ -1,9 +1,8 @@
-use Rattle.std.proofs.Common.{rules, ◌≡◌, ◌∙◌, Option, Some, sym, subst, ap}
+use Rattle.std.proofs.Common.{rules, ◌≡◌, ◌∙◌, Some, subst, ap}
 use Rattle.cec_net.specs.State.{NetState}
-use Rattle.cec_wire.specs.declared.Outcome.{Outcome}
 use Rattle.cec_session.specs.Turns.{IsForeseen}
 use Rattle.cec_session.specs.Edges.{first_edge}
-use Rattle.cec_session.proofs.Foreseeing.{known_outcome, known_round}
+use Rattle.cec_session.proofs.Foreseeing.{known_round}
 use Rattle.cec_session.proofs.foreseen.Foreseen.next_edge.Goals as goal
 
 pub returns-clause-edge : goal.returns-clause-edge

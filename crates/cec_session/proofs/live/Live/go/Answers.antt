@@ -1,15 +1,16 @@
 use Rattle.std.proofs.Common.{◌≡◌, ◌∙◌, ◌+◌, ℕ, List, length, drop, ap, sym, subst}
+use Rattle.hdmi_core.specs.Adds.{Adds, Tally}
 use Rattle.cec_asm.specs.Script.{IsSchedule, last_time, notes_of}
 use Rattle.cec_asm.specs.declared.script.TimedEvent.{TimedEvent}
 use Rattle.cec_run.specs.Run.{Config}
 use Rattle.cec_session.specs.Session.{Session, span_of}
 use Rattle.cec_session.specs.Taken.{IsGone}
-use Rattle.cec_session.proofs.Going.{drop_schedule, drop_drop, gone_by}
+use Rattle.cec_session.proofs.Going.{all_added, drop_schedule, drop_drop, gone_is, told_from, told_text}
 use Rattle.cec_session.proofs.HasText.{has_text}
 use Rattle.cec_session.proofs.live.Live.go.Goals as goal
 
-pub go_on-gone-requires-clause-schedule : goal.go_on-gone-requires-clause-schedule
-go_on-gone-requires-clause-schedule g c =
+pub take_turns-on-requires-clause-schedule : goal.take_turns-on-requires-clause-schedule
+take_turns-on-requires-clause-schedule g c =
     let here = c.self.inside in
     let end = last_time here.draft.events.items + 1 in
     let left = drop_schedule (length here.tree) end 0 here.applied here.draft.events.items c.self.invariant.0.fit.schedule in (
@@ -22,6 +23,7 @@ go_on-gone-requires-clause-schedule g c =
 pub returns : goal.returns
 returns g c =
     let here = c.self.inside in
+    let turns = c.take_turns-on in
     let s : Session = record {
       edid = here.edid.value;
       tree = here.tree;
@@ -32,15 +34,19 @@ returns g c =
       edges = here.edges;
       since = here.since;
     } in
-    let place : Config = record { net = c.go_on-gone.new.net; events = drop c.go_on-gone.new.applied c.events_after.result.now; totals = c.go_on-gone.new.totals } in
     let from : s ≡ c.args.self.now =
     ap (λ (es : List TimedEvent). let u : Session = record s { place = record { net = here.net; events = es; totals = here.totals } } in u) c.events_after.ensures ∙ c.self.view_is in
-    let events : drop (here.applied + c.go_on-gone.new.applied) here.draft.events.items ≡ drop c.go_on-gone.new.applied c.events_after.result.now =
-    drop_drop here.applied c.go_on-gone.new.applied here.draft.events.items ∙ ap (λ (es : List TimedEvent). drop c.go_on-gone.new.applied es) (sym c.events_after.ensures) in
-    let stands = ap (λ (es : List TimedEvent). let u : Session = record s { place = record { net = c.go_on-gone.new.net; events = es; totals = c.go_on-gone.new.totals } } in u) events in
-    let t : Session = record s { place = record { net = c.go_on-gone.new.net; events = drop (here.applied + c.go_on-gone.new.applied) here.draft.events.items; totals = c.go_on-gone.new.totals } } in
-    subst (λ (s : Session). IsGone c.args.edges c.args.ended s t (g.S.Sink.contents c.args.out.now) (g.S.Sink.contents c.go_on-gone.new.out) (g.S.Sink.is_stuck c.args.out.now) (g.S.Sink.is_stuck c.go_on-gone.new.out) c.go_on-gone.result) from
-    (gone_by c.args.edges c.args.ended c.span-span.result s t place (g.S.Sink.contents c.args.out.now) (g.S.Sink.contents c.go_on-gone.new.out) (g.S.Sink.is_stuck c.args.out.now) (g.S.Sink.is_stuck c.go_on-gone.new.out) c.go_on-gone.result
-    (c.span-span.ensures ∙ ap (span_of c.args.edges c.args.ended) (sym from)) stands
-    (rw c.deref.ensures at c.go_on-gone.ensures.ok) c.go_on-gone.ensures.same (rw c.deref.ensures at c.go_on-gone.ensures.cut) c.go_on-gone.ensures.stuck
-    (has_text here.edid.value c.args.ended (span_of c.args.edges c.args.ended s) here.horizon s.place c.pulses_are_ahead.ensures))
+    let events : drop (here.applied + turns.new.applied) here.draft.events.items ≡ drop turns.new.applied c.events_after.result.now =
+    drop_drop here.applied turns.new.applied here.draft.events.items ∙ ap (λ (es : List TimedEvent). drop turns.new.applied es) (sym c.events_after.ensures) in
+    let d : Config = record { net = turns.new.net; events = drop turns.new.applied c.events_after.result.now; totals = turns.new.totals } in
+    let t : Session = record s { place = record { net = c.add_edges_on.new.self; events = drop (here.applied + turns.new.applied) here.draft.events.items; totals = turns.new.totals } } in
+    let stands : t ≡ record s { place = d } = λ i. record s { place = record { net = c.add_edges_on.ensures.same i; events = events i; totals = turns.new.totals } } in
+    let heard = turns.ensures.heard in
+    let edges = c.add_edges_on.ensures.edges in
+    let first = told_from c.args.text c.new-told.result.trace.text turns.new.reporter.trace.text here.edid.value _ c.span-span.result _ heard.happened c.new-told.ensures.text (c.new-told.ensures.edid ∙ c.deref.ensures) c.new-told.ensures.span
+    (told_text _ (λ r. r.trace.text) (λ r. r.trace.passed.edid.now) (λ r. r.span) (λ r s x h. h) heard.happened _ _ heard.heard) in
+    let second = subst (λ (m : Tally). Adds m c.add_edges_on.new.out edges.0) c.into_text-text.ensures edges.2 in
+    subst (λ (s : Session). IsGone c.args.edges c.args.ended s t c.args.text c.add_edges_on.new.out) from
+    (gone_is c.args.edges c.args.ended c.span-span.result s t d c.args.text c.add_edges_on.new.out (c.span-span.ensures ∙ ap (span_of c.args.edges c.args.ended) (sym from)) stands
+    (all_added here.edid.value c.args.ended c.span-span.result here.horizon s.place d heard.happened turns.result edges.0 c.args.text turns.new.reporter.trace.text c.add_edges_on.new.out
+    heard.goes heard.last edges.1 (has_text here.edid.value c.args.ended c.span-span.result here.horizon s.place c.pulses_are_ahead.ensures) first second))

@@ -1,19 +1,10 @@
-use Rattle.std.proofs.Common.{true, Err, subst}
+use Rattle.std.proofs.Common.{true, subst}
 use Rattle.cec_session.specs.Session.{Session}
-use Rattle.cec_session.proofs.Answering.{IsWhole, end_tail, finish_answered, whole_cut, whole_is}
+use Rattle.cec_session.specs.Taken.{IsGone}
+use Rattle.cec_session.proofs.Answering.{finish_taken}
 use Rattle.cec_session.proofs.live.Live.take_finish.Goals as goal
 
-pub returns-in-Ok : goal.returns-in-Ok
-returns-in-Ok g c =
-    let gone = c.in-Ok.ensures in
-    finish_answered c.args.self.now c.go.new.self (g.S.Sink.contents c.args.out.now) (g.S.Sink.contents c.write_end.new.out) (g.S.Sink.is_stuck c.args.out.now) (g.S.Sink.is_stuck c.write_end.new.out) c.with_rest.result
-    (subst (λ (s : Session). IsWhole s.edges true end_tail c.args.self.now c.go.new.self (g.S.Sink.contents c.args.out.now) (g.S.Sink.contents c.write_end.new.out) (g.S.Sink.is_stuck c.args.out.now) (g.S.Sink.is_stuck c.write_end.new.out) c.with_rest.result) c.self.view_is
-    (whole_is c.self.inside.edges true end_tail c.args.self.now c.go.new.self (g.S.Sink.contents c.args.out.now) (g.S.Sink.contents c.write_end.new.out) (g.S.Sink.is_stuck c.args.out.now) (g.S.Sink.is_stuck c.write_end.new.out) gone.0 gone.1 gone.2 c.with_rest.result gone.3 gone.4
-    (c.with_rest.ensures (g.S.Sink.contents c.args.out.now) (g.S.Sink.contents c.go.new.out) (g.S.Sink.contents c.write_end.new.out) (g.S.Sink.is_stuck c.args.out.now) (g.S.Sink.is_stuck c.go.new.out) (g.S.Sink.is_stuck c.write_end.new.out)
-    gone.1 (end_tail c.go.new.self) gone.5 c.write_end.ensures)))
-
-pub returns-in-Err : goal.returns-in-Err
-returns-in-Err g c =
-    finish_answered c.args.self.now c.go.new.self (g.S.Sink.contents c.args.out.now) (g.S.Sink.contents c.go.new.out) (g.S.Sink.is_stuck c.args.out.now) (g.S.Sink.is_stuck c.go.new.out) (Err c.in-Err.fault)
-    (subst (λ (s : Session). IsWhole s.edges true end_tail c.args.self.now c.go.new.self (g.S.Sink.contents c.args.out.now) (g.S.Sink.contents c.go.new.out) (g.S.Sink.is_stuck c.args.out.now) (g.S.Sink.is_stuck c.go.new.out) (Err c.in-Err.fault)) c.self.view_is
-    (whole_cut c.self.inside.edges true end_tail c.args.self.now c.go.new.self (g.S.Sink.contents c.args.out.now) (g.S.Sink.contents c.go.new.out) (g.S.Sink.is_stuck c.args.out.now) (g.S.Sink.is_stuck c.go.new.out) c.in-Err.fault c.in-Err.ensures))
+pub returns : goal.returns
+returns g c =
+    finish_taken c.args.self.now c.go-text.new.self c.args.text c.go-text.result c.add_end.new.text
+    (subst (λ (s : Session). IsGone s.edges true c.args.self.now c.go-text.new.self c.args.text c.go-text.result) c.self.view_is c.go-text.ensures) c.add_end.ensures

@@ -2,7 +2,6 @@ use Rattle.std.proofs.Common.{◌∙◌, ◌||◌, Err, ap, sym, slice_get}
 use Rattle.cec_step.specs.Steps.{is_write}
 use Rattle.cec_step.specs.declared.stepper.StepError.{StepError}
 use Rattle.cec_net.specs.State.{NetState}
-use Rattle.cec_trace.specs.StateText.{state_line}
 use Rattle.cec_step.proofs.Taken.{shown_cut, shown_reported}
 use Rattle.cec_step.proofs.walk.Walk.show.Goals as goal
 
@@ -10,26 +9,18 @@ pub returns-in-Err-clause-step : goal.returns-in-Err-clause-step
 returns-in-Err-clause-step g c =
     let d = c.device.result.now in
     let found = sym (ap (λ (n : NetState). slice_get n.devices c.args.device) c.shown.ensures.net) ∙ c.device.ensures in
-    let reported = c.in-Err.ensures (g.S.Sink.contents c.args.out.now) (g.S.Sink.contents c.write_state.new.out) (g.S.Sink.is_stuck c.args.out.now) (g.S.Sink.is_stuck c.write_state.new.out) (state_line d) c.write_state.ensures in
     shown_cut c.args.self.now c.args.device d (g.S.Sink.contents c.args.out.now) (g.S.Sink.contents c.write_state.new.out) (g.S.Sink.is_stuck c.args.out.now) (g.S.Sink.is_stuck c.write_state.new.out)
-    c.in-Err.fault c.step_error.result found c.step_error.ensures reported
+    c.in-Err.fault c.step_error.result found c.step_error.ensures c.in-Err.ensures
 
 pub returns-in-Ok-clause-step : goal.returns-in-Ok-clause-step
 returns-in-Ok-clause-step g c =
     let d = c.device.result.now in
     let found = sym (ap (λ (n : NetState). slice_get n.devices c.args.device) c.shown.ensures.net) ∙ c.device.ensures in
-    let reported = c.in-Ok.ensures (g.S.Sink.contents c.args.out.now) (g.S.Sink.contents c.write_state.new.out) (g.S.Sink.is_stuck c.args.out.now) (g.S.Sink.is_stuck c.write_state.new.out) (state_line d) c.write_state.ensures in
     shown_reported c.args.self.now c.args.device d (g.S.Sink.contents c.args.out.now) (g.S.Sink.contents c.write_state.new.out) (g.S.Sink.is_stuck c.args.out.now) (g.S.Sink.is_stuck c.write_state.new.out)
-    c.in-Ok.count found reported
+    c.in-Ok.count found c.in-Ok.ensures
 
 pub returns-in-Err-clause-flag : goal.returns-in-Err-clause-flag
-returns-in-Err-clause-flag g c =
-    let d = c.device.result.now in
-    let reported = c.in-Err.ensures (g.S.Sink.contents c.args.out.now) (g.S.Sink.contents c.write_state.new.out) (g.S.Sink.is_stuck c.args.out.now) (g.S.Sink.is_stuck c.write_state.new.out) (state_line d) c.write_state.ensures in
-    reported.1 ∙ sym (ap (λ (e : StepError). is_write (Err e) || g.S.Sink.is_stuck c.args.out.now) c.step_error.ensures)
+returns-in-Err-clause-flag g c = c.in-Err.ensures.1 ∙ sym (ap (λ (e : StepError). is_write (Err e) || g.S.Sink.is_stuck c.args.out.now) c.step_error.ensures)
 
 pub returns-in-Ok-clause-flag : goal.returns-in-Ok-clause-flag
-returns-in-Ok-clause-flag g c =
-    let d = c.device.result.now in
-    let reported = c.in-Ok.ensures (g.S.Sink.contents c.args.out.now) (g.S.Sink.contents c.write_state.new.out) (g.S.Sink.is_stuck c.args.out.now) (g.S.Sink.is_stuck c.write_state.new.out) (state_line d) c.write_state.ensures in
-    reported.2
+returns-in-Ok-clause-flag g c = c.in-Ok.ensures.2

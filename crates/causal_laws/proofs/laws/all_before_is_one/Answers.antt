@@ -1,5 +1,0 @@
-use Rattle.causal_laws.proofs.Before as Before
-use Rattle.causal_laws.proofs.laws.all_before_is_one.Goals as goal
-
-pub returns : goal.returns
-returns c = Before.all_before_is_one

@@ -1,7 +1,0 @@
-use Rattle.cec_session.specs.Session.{idle_line}
-use Rattle.cec_session.proofs.answer.write_idle.Goals as goal
-
-pub returns : goal.returns
-returns g c =
-    c.whole.ensures (g.S.Sink.contents c.args.out.now) (g.S.Sink.contents c.write_line.new.out) (g.S.Sink.is_stuck c.args.out.now) (g.S.Sink.is_stuck c.write_line.new.out)
-    (idle_line c.args.horizon) c.write_line.ensures
