@@ -1,14 +1,13 @@
 -- Objects, part by part.
-use Rattle.std.proofs.Common.{◌≡◌, ℕ, ◌+◌, ◌<◌, ◌≤◌, Bool, false, if◌then◌else◌, List, [], ◌∷◌, ◌++◌, length, take, drop, get_or, map, codes, Option, Result, add-one, append-nil, append_assoc, refl, sym, ap, subst, ◌∙◌, arith}
+use Rattle.std.proofs.Common.{◌≡◌, ℕ, ◌+◌, ◌<◌, ◌≤◌, Bool, false, if◌then◌else◌, List, [], ◌∷◌, ◌++◌, length, take, drop, get_or, map, codes, Option, add-one, append-nil, append_assoc, refl, sym, ap, subst, ◌∙◌, arith}
 use Rattle.std.proofs.lemmas.Grind.{flat_map-append}
 use Rattle.std.proofs.Math.Seq.{take-suc}
-use Rattle.hdmi_core.specs.declared.sink.WriteFault.{WriteFault}
-use Rattle.hdmi_core.specs.Cut.{WrittenText}
+use Rattle.hdmi_core.specs.Adds.{Adds, Tally}
+use Rattle.hdmi_core.proofs.Adding.{nothing, then}
 use Rattle.hdmi_core.specs.Lines.{lines_of}
 use Rattle.cec_json.specs.Columns.{field, fields, field_lead, reading_fields, column_parts}
 use Rattle.cec_json.specs.Object.{AreBytesOf, AreInOrder, reading_start, broken_body, bytes_value, complete_body, complete_fields, frame_fields, frame_in, reading_type, seats, type_field}
 use Rattle.cec_json.specs.Parts.{after_byte, after_word, before_byte, before_last, after_ending, has_seats, reported_in, value_of, word}
-use Rattle.cec_json.specs.Progress.{WritesOn}
 use Rattle.cec_json.specs.Values.{code_text, code_texts, report_value, some_report}
 use Rattle.cec_json.specs.declared.columns.Column.{Column}
 use Rattle.cec_json.specs.declared.values.Code.{Code}
@@ -88,27 +87,37 @@ in_order_more Is [] line objects text none is = (text, [], is, refl, rw none (sy
 in_order_more Is (l ∷ lines) line objects text are is =
     (are.0, are.1 ++ text, are.2, in_order_more Is lines line are.1 text are.3 is, rw are.4 (append_assoc are.0 are.1 text))
 
--- the texts of the lines before the rest are written, or the front of what is written of them
-pub record Done (Is : List ℕ → List ℕ → Type 0) (text rest : List ℕ) (old now : Option (List ℕ)) (was is : Bool) (so_far : Result ℕ WriteFault) : Type 0 where
+-- what is the object of a line is another thing's object too
+pub in_order_as : (Is As : List ℕ → List ℕ → Type 0) → ((line text : List ℕ) → Is line text → As line text) → (lines : List (List ℕ)) (text : List ℕ) → AreInOrder Is lines text → AreInOrder As lines text
+in_order_as Is As same [] text none = none
+in_order_as Is As same (line ∷ lines) text are = (are.0, are.1, same line are.0 are.2, in_order_as Is As same lines are.1 are.3, are.4)
+
+pub in_order_both : (Is : List ℕ → List ℕ → Type 0) (lines others : List (List ℕ)) (text more : List ℕ) → AreInOrder Is lines text → AreInOrder Is others more → AreInOrder Is (lines ++ others) (text ++ more)
+in_order_both Is [] others text more none are = subst (λ (t : List ℕ). AreInOrder Is others (t ++ more)) (sym none) are
+in_order_both Is (line ∷ lines) others text more are also =
+    (are.0, are.1 ++ more, are.2, in_order_both Is lines others are.1 more are.3 also, rw are.4 (append_assoc are.0 are.1 more))
+
+-- the texts of the lines before the rest are added
+pub record Done (Is : List ℕ → List ℕ → Type 0) (text rest : List ℕ) (old now : Tally) : Type 0 where
   pub lines : List (List ℕ)
   pub objects : List ℕ
   pub parts : lines_of text ≡ lines ++ lines_of rest
   pub are : AreInOrder Is lines objects
-  pub written : WrittenText old now was is objects so_far
+  pub added : Adds old now objects
 
-pub done_first : (Is : List ℕ → List ℕ → Type 0) (text : List ℕ) (old : Option (List ℕ)) (was : Bool) (so_far : Result ℕ WriteFault) → WrittenText old old was was [] so_far → Done Is text text old old was was so_far
-done_first Is text old was so_far w = record { lines = []; objects = []; parts = refl; are = refl; written = w }
+pub done_first : (Is : List ℕ → List ℕ → Type 0) (text : List ℕ) (a : Tally) → Done Is text text a a
+done_first Is text a = record { lines = []; objects = []; parts = refl; are = refl; added = nothing a }
 
-pub done_more : (Is : List ℕ → List ℕ → Type 0) (text rest after line object : List ℕ) (old mid new : Option (List ℕ)) (was is now : Bool) (before later : Result ℕ WriteFault) → Done Is text rest old mid was is before
-    → lines_of rest ≡ line ∷ lines_of after → Is line object → WritesOn mid new is now object before later → Done Is text after old new was now later
-done_more Is text rest after line object old mid new was is now before later d e is_object on = record {
+pub done_more : (Is : List ℕ → List ℕ → Type 0) (text rest after line object : List ℕ) (a b c : Tally) → Done Is text rest a b
+    → lines_of rest ≡ line ∷ lines_of after → Is line object → Adds b c object → Done Is text after a c
+done_more Is text rest after line object a b c d e is_object more = record {
   lines = d.lines ++ line ∷ [];
   objects = d.objects ++ object;
   parts = d.parts ∙ ap (λ (l : List (List ℕ)). d.lines ++ l) e ∙ sym (append_assoc d.lines (line ∷ []) (lines_of after));
   are = in_order_more Is d.lines line d.objects object d.are is_object;
-  written = on.on old was d.objects d.written;
+  added = (then) a b c d.objects object d.added more;
 }
 
-pub done_all : (Is : List ℕ → List ℕ → Type 0) (text rest : List ℕ) (old now : Option (List ℕ)) (was is : Bool) (so_far : Result ℕ WriteFault) (d : Done Is text rest old now was is so_far) → lines_of rest ≡ [] → AreInOrder Is (lines_of text) d.objects
-done_all Is text rest old now was is so_far d e =
+pub done_all : (Is : List ℕ → List ℕ → Type 0) (text rest : List ℕ) (a b : Tally) (d : Done Is text rest a b) → lines_of rest ≡ [] → AreInOrder Is (lines_of text) d.objects
+done_all Is text rest a b d e =
     subst (λ (l : List (List ℕ)). AreInOrder Is l d.objects) (sym (d.parts ∙ ap (λ (l : List (List ℕ)). d.lines ++ l) e ∙ append-nil d.lines)) d.are

@@ -1,6 +1,7 @@
-pub mod Progress
+pub mod Written
 pub mod Parts
 pub mod Values
 pub mod Columns
 pub mod Object
 pub mod ReadBack
+pub mod Held

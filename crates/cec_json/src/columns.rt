@@ -1,12 +1,11 @@
 //! The fields of objects, in order: names, and how words are their values.
 ghost use Rattle.std.specs.Prelude.{map};
 ghost use Rattle.cec_json.specs.Columns.{field, fields, field_lead, column_parts};
-ghost use Rattle.cec_json.specs.Progress.{WritesOn};
+ghost use Rattle.hdmi_core.specs.Adds.{Adds};
 
 use crate::parts::{after_word, value_of, word};
-use crate::progress::Progress;
-use crate::values::{Shape, write_value};
-use hdmi_core::{Piece, Sink};
+use crate::values::{Shape, add_value};
+use hdmi_core::{Counted, Piece, Sink};
 
 /// A field.
 #[derive(Clone, Copy, Debug)]
@@ -72,43 +71,28 @@ pub const STATE: &[Column] = columns! {
     "dropped" Number;
 };
 
-/// Writes what stands before the value of a field.
-pub fn write_lead<S: Sink>(name: &str, progress: &mut Progress, out: &mut S)
-    ensures { WritesOn (S.contents out.old) (S.contents out.new) (S.is_stuck out.old) (S.is_stuck out.new) (field_lead name.now) progress.old.so_far progress.new.so_far }
+/// Adds what stands before the value of a field.
+pub fn add_lead<S: Sink>(out: &mut Counted<'_, S>, name: &str)
+    ensures { Adds out.old out.new (field_lead name.now) }
 {
-    progress.pieces(
-        out,
-        &[Piece::Text(",\""), Piece::Text(name), Piece::Text("\":")],
-    );
+    out.add_line(&[Piece::Text(",\""), Piece::Text(name), Piece::Text("\":")]);
 }
 
-/// Writes a field.
-pub fn write_field<S: Sink>(
-    name: &str,
-    shape: Shape,
-    word: &[u8],
-    progress: &mut Progress,
-    out: &mut S,
-)
-    ensures { WritesOn (S.contents out.old) (S.contents out.new) (S.is_stuck out.old) (S.is_stuck out.new) (field name.now shape word.now) progress.old.so_far progress.new.so_far }
+/// Adds a field.
+pub fn add_field<S: Sink>(out: &mut Counted<'_, S>, name: &str, shape: Shape, word: &[u8])
+    ensures { Adds out.old out.new (field name.now shape word.now) }
 {
-    write_lead(name, progress, out);
-    write_value(shape, word, progress, out);
+    add_lead(out, name);
+    add_value(out, shape, word);
 }
 
-/// Writes a field for each of the first words, of which one with a name has its value after `=`.
-pub fn write_fields<S: Sink>(columns: &[Column], text: &[u8], progress: &mut Progress, out: &mut S)
-    ensures { WritesOn (S.contents out.old) (S.contents out.new) (S.is_stuck out.old) (S.is_stuck out.new) (fields (map column_parts columns.now) text.now) progress.old.so_far progress.new.so_far }
+/// Adds a field for each of the first words, of which one with a name has its value after `=`.
+pub fn add_fields<S: Sink>(out: &mut Counted<'_, S>, columns: &[Column], text: &[u8])
+    ensures { Adds out.old out.new (fields (map column_parts columns.now) text.now) }
 {
     let [column, columns @ ..] = columns else {
         return;
     };
-    write_field(
-        column.name,
-        column.shape,
-        value_of(word(text)),
-        progress,
-        out,
-    );
-    write_fields(columns, after_word(text), progress, out);
+    add_field(out, column.name, column.shape, value_of(word(text)));
+    add_fields(out, columns, after_word(text));
 }

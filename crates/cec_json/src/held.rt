@@ -1,8 +1,8 @@
 //! A sink that holds what it takes.
-ghost use Rattle.std.specs.Prelude.{◌≡◌, Some, [], false};
+ghost use Rattle.std.specs.Prelude.{◌≡◌, Some, [], false, IfOk};
 
 use hdmi_core::Sink;
-use std::alloc::Global;
+use std::alloc::{AllocError, Global};
 
 /// A `Sink` that holds what was put to it. It takes none where memory runs out.
 #[derive(Drop)]
@@ -12,10 +12,14 @@ pub struct Held {
 }
 
 impl Held {
+    ghost use Rattle.cec_json.specs.Held.{held_bytes, is_full};
+
     /// Nothing is put to it yet.
     pub fn new(alloc: Global) -> Self
         ensures contents { ⟦<Held as Sink>⟧.contents result ≡ Some [] }
         ensures fresh { ⟦<Held as Sink>⟧.is_stuck result ≡ false }
+        ensures bytes { held_bytes result ≡ [] }
+        ensures room { is_full result ≡ false }
     {
         Held {
             bytes: Vec::new(alloc),
@@ -23,11 +27,36 @@ impl Held {
         }
     }
 
+    /// The same with room for so many bytes.
+    ///
+    /// # Errors
+    ///
+    /// Want of memory.
+    pub fn with_capacity(alloc: Global, capacity: usize) -> Result<Self, AllocError>
+        ensures bytes { IfOk result (λ held. held_bytes held ≡ []) }
+        ensures room { IfOk result (λ held. is_full held ≡ false) }
+    {
+        let bytes = Vec::with_capacity(alloc, capacity)?;
+        Ok(Held {
+            bytes,
+            stuck: false,
+        })
+    }
+
     /// What was put to it.
     pub fn bytes(&self) -> &[u8]
-        ensures { ⟦<Held as Sink>⟧.contents self.now ≡ Some result.now }
+        ensures contents { ⟦<Held as Sink>⟧.contents self.now ≡ Some result.now }
+        ensures bytes { result.now ≡ held_bytes self.now }
     {
         self.bytes.as_slice()
+    }
+
+    /// Lets go of what was put to it, and keeps its memory.
+    pub fn clear(&mut self)
+        ensures bytes { held_bytes self.new ≡ [] }
+        ensures full { is_full self.new ≡ is_full self.old }
+    {
+        self.bytes.clear();
     }
 
     /// Whether memory ran out.

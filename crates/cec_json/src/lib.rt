@@ -7,14 +7,12 @@ mod laws;
 mod lines;
 mod object;
 mod parts;
-mod progress;
 mod values;
 
-pub use columns::{Column, write_field, write_fields, write_lead};
+pub use columns::{Column, add_field, add_fields, add_lead};
 pub use held::Held;
 pub use laws::{lines_are_read_back, one_line_an_object};
-pub use lines::write_objects;
-pub use object::{write_reported, write_type};
+pub use lines::{LineObjects, PlainLines, write_objects};
+pub use object::{add_reported, add_type};
 pub use parts::{after_byte, after_word, before_byte, word};
-pub use progress::Progress;
-pub use values::{Shape, write_char, write_quoted};
+pub use values::{Shape, add_char, add_quoted};

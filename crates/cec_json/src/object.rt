@@ -1,18 +1,17 @@
 //! The object of a line.
 ghost use Rattle.std.specs.Prelude.{◌≡◌, ℕ, List, Option};
 ghost use Rattle.cec_json.specs.Object.{AreBytesOf, IsObject, reading_start, body, broken_body, bytes_value, complete_body, complete_fields, end_body, event_body, form_by, form_of, frame_fields, IsReported, hex_value, is_broken, names_fields, port_body, reading_type, seats, state_body, type_field};
-ghost use Rattle.cec_json.specs.Progress.{WritesOn};
+ghost use Rattle.hdmi_core.specs.Adds.{Adds};
 
-use crate::columns::{AT, EVENT, PORT, READING, STATE, write_field, write_fields, write_lead};
+use crate::columns::{AT, EVENT, PORT, READING, STATE, add_field, add_fields, add_lead};
 use crate::parts::{
     after_ending, after_word, before_last, has_seats, last_word, losers_in, reported_in,
     winners_in, word,
 };
-use crate::progress::Progress;
-use crate::values::{Shape, write_quoted};
+use crate::values::{Shape, add_quoted};
 use cec_frame::Frame;
 use cec_text::{assemble, frames_are_whole};
-use hdmi_core::{Piece, Sink, after, before};
+use hdmi_core::{Counted, Piece, Sink, after, before};
 
 /// Which line of a trace, or of readings, it is.
 #[derive(Clone, Copy, Debug)]
@@ -84,18 +83,15 @@ fn frame_of(text: &[u8]) -> Option<Frame>
     }
 }
 
-/// Writes the type of a line.
-pub fn write_type<S: Sink>(name: &str, progress: &mut Progress, out: &mut S)
-    ensures { WritesOn (S.contents out.old) (S.contents out.new) (S.is_stuck out.old) (S.is_stuck out.new) (type_field name.now) progress.old.so_far progress.new.so_far }
+/// Adds the type of a line.
+pub fn add_type<S: Sink>(out: &mut Counted<'_, S>, name: &str)
+    ensures { Adds out.old out.new (type_field name.now) }
 {
-    progress.pieces(
-        out,
-        &[
-            Piece::Text(",\"type\":\""),
-            Piece::Text(name),
-            Piece::Text("\""),
-        ],
-    );
+    out.add_line(&[
+        Piece::Text(",\"type\":\""),
+        Piece::Text(name),
+        Piece::Text("\""),
+    ]);
 }
 
 fn reading_type(is_round: bool) -> &'static str
@@ -104,161 +100,148 @@ fn reading_type(is_round: bool) -> &'static str
     if is_round { "round" } else { "reading" }
 }
 
-// Writes what a reading begins with.
-fn write_begun<S: Sink>(line: &[u8], progress: &mut Progress, out: &mut S)
-    ensures { WritesOn (S.contents out.old) (S.contents out.new) (S.is_stuck out.old) (S.is_stuck out.new) (reading_start line.now) progress.old.so_far progress.new.so_far }
+// Adds what a reading begins with.
+fn add_begun<S: Sink>(out: &mut Counted<'_, S>, line: &[u8])
+    ensures { Adds out.old out.new (reading_start line.now) }
 {
-    write_type(reading_type(has_seats(after_ending(line))), progress, out);
-    write_fields(READING, line, progress, out);
+    add_type(out, reading_type(has_seats(after_ending(line))));
+    add_fields(out, READING, line);
 }
 
-fn write_named<S: Sink>(rest: &[u8], progress: &mut Progress, out: &mut S)
-    ensures { WritesOn (S.contents out.old) (S.contents out.new) (S.is_stuck out.old) (S.is_stuck out.new) (names_fields rest.now) progress.old.so_far progress.new.so_far }
+fn add_named<S: Sink>(out: &mut Counted<'_, S>, rest: &[u8])
+    ensures { Adds out.old out.new (names_fields rest.now) }
 {
-    write_field("by", Shape::Names, winners_in(rest), progress, out);
-    write_field("out", Shape::Losers, losers_in(rest), progress, out);
+    add_field(out, "by", Shape::Names, winners_in(rest));
+    add_field(out, "out", Shape::Losers, losers_in(rest));
 }
 
-// Writes the devices that sent, where the line names them.
-fn write_seats<S: Sink>(rest: &[u8], progress: &mut Progress, out: &mut S)
-    ensures { WritesOn (S.contents out.old) (S.contents out.new) (S.is_stuck out.old) (S.is_stuck out.new) (seats rest.now) progress.old.so_far progress.new.so_far }
+// Adds the devices that sent, where the line names them.
+#[tactic(auto, using(hdmi_core::proofs::Adding::nothing))]
+fn add_seats<S: Sink>(out: &mut Counted<'_, S>, rest: &[u8])
+    ensures { Adds out.old out.new (seats rest.now) }
 {
     if has_seats(rest) {
-        write_named(rest, progress, out);
+        add_named(out, rest);
     }
 }
 
-fn write_hex<S: Sink>(bytes: &[u8], progress: &mut Progress, out: &mut S)
-    ensures { WritesOn (S.contents out.old) (S.contents out.new) (S.is_stuck out.old) (S.is_stuck out.new) (hex_value bytes.now) progress.old.so_far progress.new.so_far }
+fn add_hex<S: Sink>(out: &mut Counted<'_, S>, bytes: &[u8])
+    ensures { Adds out.old out.new (hex_value bytes.now) }
 {
-    progress.pieces(
-        out,
-        &[Piece::Text("\""), Piece::Hex(bytes), Piece::Text("\"")],
-    );
+    out.add_line(&[Piece::Text("\""), Piece::Hex(bytes), Piece::Text("\"")]);
 }
 
-// Writes the bytes of a frame in hex, or null.
-fn write_bytes<S: Sink>(frame: &Option<Frame>, progress: &mut Progress, out: &mut S)
-    ensures { WritesOn (S.contents out.old) (S.contents out.new) (S.is_stuck out.old) (S.is_stuck out.new) (bytes_value frame.now) progress.old.so_far progress.new.so_far }
+// Adds the bytes of a frame in hex, or null.
+fn add_bytes<S: Sink>(out: &mut Counted<'_, S>, frame: &Option<Frame>)
+    ensures { Adds out.old out.new (bytes_value frame.now) }
 {
     match frame {
-        None => progress.text(out, b"null"),
-        Some(frame) => write_hex(frame.bytes(), progress, out),
+        None => out.add(b"null"),
+        Some(frame) => add_hex(out, frame.bytes()),
     }
 }
 
-// Writes the text of a frame, its addresses and its bytes.
-fn write_frame<S: Sink>(frame: &Option<Frame>, text: &[u8], progress: &mut Progress, out: &mut S)
-    ensures { WritesOn (S.contents out.old) (S.contents out.new) (S.is_stuck out.old) (S.is_stuck out.new) (frame_fields frame.now text.now) progress.old.so_far progress.new.so_far }
+// Adds the text of a frame, its addresses and its bytes.
+fn add_frame<S: Sink>(out: &mut Counted<'_, S>, frame: &Option<Frame>, text: &[u8])
+    ensures { Adds out.old out.new (frame_fields frame.now text.now) }
 {
-    write_field("frame", Shape::Text, text, progress, out);
-    write_field("initiator", Shape::Text, before(text, 1), progress, out);
+    add_field(out, "frame", Shape::Text, text);
+    add_field(out, "initiator", Shape::Text, before(text, 1));
     let destination = before(after(text, 2), 1);
-    write_field("destination", Shape::Text, destination, progress, out);
-    write_lead("bytes", progress, out);
-    write_bytes(frame, progress, out);
+    add_field(out, "destination", Shape::Text, destination);
+    add_lead(out, "bytes");
+    add_bytes(out, frame);
 }
 
-// Writes what a complete reading told.
-fn write_complete<S: Sink>(
-    frame: &Option<Frame>,
-    reported: &[u8],
-    progress: &mut Progress,
-    out: &mut S,
-)
-    ensures { WritesOn (S.contents out.old) (S.contents out.new) (S.is_stuck out.old) (S.is_stuck out.new) (complete_fields frame.now reported.now) progress.old.so_far progress.new.so_far }
+// Adds what a complete reading told.
+fn add_complete<S: Sink>(out: &mut Counted<'_, S>, frame: &Option<Frame>, reported: &[u8])
+    ensures { Adds out.old out.new (complete_fields frame.now reported.now) }
 {
-    write_frame(frame, before_last(reported), progress, out);
-    write_field("verdict", Shape::Text, last_word(reported), progress, out);
+    add_frame(out, frame, before_last(reported));
+    add_field(out, "verdict", Shape::Text, last_word(reported));
 }
 
-fn write_state<S: Sink>(line: &[u8], progress: &mut Progress, out: &mut S)
-    ensures { WritesOn (S.contents out.old) (S.contents out.new) (S.is_stuck out.old) (S.is_stuck out.new) (state_body line.now) progress.old.so_far progress.new.so_far }
+fn add_state<S: Sink>(out: &mut Counted<'_, S>, line: &[u8])
+    ensures { Adds out.old out.new (state_body line.now) }
 {
-    write_type("state", progress, out);
-    write_fields(STATE, after_word(line), progress, out);
+    add_type(out, "state");
+    add_fields(out, STATE, after_word(line));
 }
 
-fn write_port<S: Sink>(line: &[u8], progress: &mut Progress, out: &mut S)
-    ensures { WritesOn (S.contents out.old) (S.contents out.new) (S.is_stuck out.old) (S.is_stuck out.new) (port_body line.now) progress.old.so_far progress.new.so_far }
+fn add_port<S: Sink>(out: &mut Counted<'_, S>, line: &[u8])
+    ensures { Adds out.old out.new (port_body line.now) }
 {
-    write_type("port", progress, out);
-    write_fields(AT, line, progress, out);
-    write_fields(PORT, after_word(after_word(line)), progress, out);
+    add_type(out, "port");
+    add_fields(out, AT, line);
+    add_fields(out, PORT, after_word(after_word(line)));
 }
 
-fn write_event<S: Sink>(line: &[u8], progress: &mut Progress, out: &mut S)
-    ensures { WritesOn (S.contents out.old) (S.contents out.new) (S.is_stuck out.old) (S.is_stuck out.new) (event_body line.now) progress.old.so_far progress.new.so_far }
+fn add_event<S: Sink>(out: &mut Counted<'_, S>, line: &[u8])
+    ensures { Adds out.old out.new (event_body line.now) }
 {
-    write_type("event", progress, out);
-    write_fields(AT, line, progress, out);
-    write_fields(EVENT, after_word(after_word(line)), progress, out);
+    add_type(out, "event");
+    add_fields(out, AT, line);
+    add_fields(out, EVENT, after_word(after_word(line)));
 }
 
-fn write_end<S: Sink>(line: &[u8], progress: &mut Progress, out: &mut S)
-    ensures { WritesOn (S.contents out.old) (S.contents out.new) (S.is_stuck out.old) (S.is_stuck out.new) (end_body line.now) progress.old.so_far progress.new.so_far }
+fn add_end<S: Sink>(out: &mut Counted<'_, S>, line: &[u8])
+    ensures { Adds out.old out.new (end_body line.now) }
 {
-    write_type("end", progress, out);
-    write_fields(AT, line, progress, out);
+    add_type(out, "end");
+    add_fields(out, AT, line);
 }
 
-// Writes what a complete reading is.
-fn write_whole<S: Sink>(frame: &Option<Frame>, line: &[u8], progress: &mut Progress, out: &mut S)
-    ensures { WritesOn (S.contents out.old) (S.contents out.new) (S.is_stuck out.old) (S.is_stuck out.new) (complete_body frame.now line.now) progress.old.so_far progress.new.so_far }
+// Adds what a complete reading is.
+fn add_whole<S: Sink>(out: &mut Counted<'_, S>, frame: &Option<Frame>, line: &[u8])
+    ensures { Adds out.old out.new (complete_body frame.now line.now) }
 {
     let rest = after_ending(line);
-    write_begun(line, progress, out);
-    write_complete(frame, reported_in(rest), progress, out);
-    write_seats(rest, progress, out);
+    add_begun(out, line);
+    add_complete(out, frame, reported_in(rest));
+    add_seats(out, rest);
 }
 
-// Writes what another reading is.
-fn write_broken<S: Sink>(line: &[u8], progress: &mut Progress, out: &mut S)
-    ensures { WritesOn (S.contents out.old) (S.contents out.new) (S.is_stuck out.old) (S.is_stuck out.new) (broken_body line.now) progress.old.so_far progress.new.so_far }
+// Adds what another reading is.
+fn add_broken<S: Sink>(out: &mut Counted<'_, S>, line: &[u8])
+    ensures { Adds out.old out.new (broken_body line.now) }
 {
     let rest = after_ending(line);
-    write_begun(line, progress, out);
-    write_field("bits", Shape::Text, reported_in(rest), progress, out);
-    write_seats(rest, progress, out);
+    add_begun(out, line);
+    add_field(out, "bits", Shape::Text, reported_in(rest));
+    add_seats(out, rest);
 }
 
-// Writes what a line reports.
-fn write_body<S: Sink>(
-    form: Form,
-    frame: &Option<Frame>,
-    line: &[u8],
-    progress: &mut Progress,
-    out: &mut S,
-)
-    ensures { WritesOn (S.contents out.old) (S.contents out.new) (S.is_stuck out.old) (S.is_stuck out.new) (body form frame.now line.now) progress.old.so_far progress.new.so_far }
+// Adds what a line reports.
+fn add_body<S: Sink>(out: &mut Counted<'_, S>, form: Form, frame: &Option<Frame>, line: &[u8])
+    ensures { Adds out.old out.new (body form frame.now line.now) }
 {
     match form {
-        Form::State => write_state(line, progress, out),
-        Form::Port => write_port(line, progress, out),
-        Form::Event => write_event(line, progress, out),
-        Form::End => write_end(line, progress, out),
-        Form::Complete => write_whole(frame, line, progress, out),
-        Form::Broken => write_broken(line, progress, out),
-        Form::Other => write_type("other", progress, out),
+        Form::State => add_state(out, line),
+        Form::Port => add_port(out, line),
+        Form::Event => add_event(out, line),
+        Form::End => add_end(out, line),
+        Form::Complete => add_whole(out, frame, line),
+        Form::Broken => add_broken(out, line),
+        Form::Other => add_type(out, "other"),
     }
 }
 
-/// Writes what the object of a line has after the line: its type, and what it reports.
-pub fn write_reported<S: Sink>(line: &[u8], progress: &mut Progress, out: &mut S)
+/// Adds what the object of a line has after the line: its type, and what it reports.
+pub fn add_reported<S: Sink>(out: &mut Counted<'_, S>, line: &[u8])
     ensures { (reported : List ℕ) × IsReported line.now reported
-        × WritesOn (S.contents out.old) (S.contents out.new) (S.is_stuck out.old) (S.is_stuck out.new) reported progress.old.so_far progress.new.so_far }
+        × Adds out.old out.new reported }
 {
     let frame = frame_of(before_last(reported_in(after_ending(line))));
-    write_body(form_of(line), &frame, line, progress, out);
+    add_body(out, form_of(line), &frame, line);
 }
 
-/// Writes the object of a line.
-pub(crate) fn write_object<S: Sink>(line: &[u8], progress: &mut Progress, out: &mut S)
+/// Adds the object of a line.
+pub(crate) fn add_object<S: Sink>(out: &mut Counted<'_, S>, line: &[u8])
     ensures { (text : List ℕ) × IsObject line.now text
-        × WritesOn (S.contents out.old) (S.contents out.new) (S.is_stuck out.old) (S.is_stuck out.new) text progress.old.so_far progress.new.so_far }
+        × Adds out.old out.new text }
 {
-    progress.text(out, b"{\"line\":");
-    write_quoted(line, progress, out);
-    write_reported(line, progress, out);
-    progress.text(out, b"}\n");
+    out.add(b"{\"line\":");
+    add_quoted(out, line);
+    add_reported(out, line);
+    out.add(b"}\n");
 }

@@ -1,12 +1,11 @@
 //! Words of a line as values of JSON.
 ghost use Rattle.std.specs.Prelude.{◌≡◌, ◌∷◌, [], ◌++◌, ◌≤◌, length};
 ghost use Rattle.cec_json.specs.Values.{char_text, code_text, code_texts, heard_value, is_none, loser_text, losers_value, name_text, names_value, number_value, string_text, report_value, some_losers, some_names, some_report, switch_value, text_value, unit_text, units_value, value_text};
-ghost use Rattle.cec_json.specs.Progress.{WritesOn};
+ghost use Rattle.hdmi_core.specs.Adds.{Adds};
 
 use crate::parts::{after_byte, before_byte};
-use crate::progress::Progress;
 use arrayvec::ArrayVec;
-use hdmi_core::{Sink, hex_digit, number_in};
+use hdmi_core::{Counted, Sink, hex_digit, number_in};
 
 /// How a word is a value.
 #[derive(Clone, Copy, Debug)]
@@ -121,29 +120,29 @@ fn code_text(code: Code, byte: u8) -> ArrayVec<u8, CODE_MOST>
     }
 }
 
-/// Writes a character of a string.
-pub fn write_char<S: Sink>(byte: u8, progress: &mut Progress, out: &mut S)
-    ensures { WritesOn (S.contents out.old) (S.contents out.new) (S.is_stuck out.old) (S.is_stuck out.new) (char_text byte) progress.old.so_far progress.new.so_far }
+/// Adds a character of a string.
+pub fn add_char<S: Sink>(out: &mut Counted<'_, S>, byte: u8)
+    ensures { Adds out.old out.new (char_text byte) }
 {
-    progress.text(out, &char_text(byte));
+    out.add(&char_text(byte));
 }
 
-// Writes what the characters of a word become.
-fn write_coded<S: Sink>(code: Code, text: &[u8], progress: &mut Progress, out: &mut S)
-    ensures { WritesOn (S.contents out.old) (S.contents out.new) (S.is_stuck out.old) (S.is_stuck out.new) (code_texts code text.now) progress.old.so_far progress.new.so_far }
+// Adds what the characters of a word become.
+fn add_coded<S: Sink>(out: &mut Counted<'_, S>, code: Code, text: &[u8])
+    ensures { Adds out.old out.new (code_texts code text.now) }
 {
     for byte in text {
-        progress.text(out, &code_text(code, *byte));
+        out.add(&code_text(code, *byte));
     }
 }
 
-/// Writes a string.
-pub fn write_quoted<S: Sink>(text: &[u8], progress: &mut Progress, out: &mut S)
-    ensures { WritesOn (S.contents out.old) (S.contents out.new) (S.is_stuck out.old) (S.is_stuck out.new) (string_text text.now) progress.old.so_far progress.new.so_far }
+/// Adds a string.
+pub fn add_quoted<S: Sink>(out: &mut Counted<'_, S>, text: &[u8])
+    ensures { Adds out.old out.new (string_text text.now) }
 {
-    progress.text(out, b"\"");
-    write_coded(Code::Char, text, progress, out);
-    progress.text(out, b"\"");
+    out.add(b"\"");
+    add_coded(out, Code::Char, text);
+    out.add(b"\"");
 }
 
 // Whether a word stands for none, or is not there.
@@ -153,137 +152,130 @@ fn is_none(word: &[u8]) -> bool
     word.is_empty() || word == b"-".as_slice()
 }
 
-/// Writes a string, or null for none.
-pub(crate) fn write_text<S: Sink>(word: &[u8], progress: &mut Progress, out: &mut S)
-    ensures { WritesOn (S.contents out.old) (S.contents out.new) (S.is_stuck out.old) (S.is_stuck out.new) (text_value word.now) progress.old.so_far progress.new.so_far }
+/// Adds a string, or null for none.
+pub(crate) fn add_text<S: Sink>(out: &mut Counted<'_, S>, word: &[u8])
+    ensures { Adds out.old out.new (text_value word.now) }
 {
     if is_none(word) {
-        progress.text(out, b"null");
+        out.add(b"null");
     } else {
-        write_quoted(word, progress, out);
+        add_quoted(out, word);
     }
 }
 
-fn write_number<S: Sink>(word: &[u8], progress: &mut Progress, out: &mut S)
-    ensures { WritesOn (S.contents out.old) (S.contents out.new) (S.is_stuck out.old) (S.is_stuck out.new) (number_value word.now) progress.old.so_far progress.new.so_far }
+fn add_number<S: Sink>(out: &mut Counted<'_, S>, word: &[u8])
+    ensures { Adds out.old out.new (number_value word.now) }
 {
     if number_in(word).is_some() {
-        progress.text(out, word);
+        out.add(word);
     } else {
-        progress.text(out, b"null");
+        out.add(b"null");
     }
 }
 
-fn write_switch<S: Sink>(word: &[u8], progress: &mut Progress, out: &mut S)
-    ensures { WritesOn (S.contents out.old) (S.contents out.new) (S.is_stuck out.old) (S.is_stuck out.new) (switch_value word.now) progress.old.so_far progress.new.so_far }
+fn add_switch<S: Sink>(out: &mut Counted<'_, S>, word: &[u8])
+    ensures { Adds out.old out.new (switch_value word.now) }
 {
     if word == b"on".as_slice() {
-        progress.text(out, b"true");
+        out.add(b"true");
     } else if word == b"off".as_slice() {
-        progress.text(out, b"false");
+        out.add(b"false");
     } else {
-        progress.text(out, b"null");
+        out.add(b"null");
     }
 }
 
-// Writes a list of names, of which there is one at least.
-fn write_some_names<S: Sink>(word: &[u8], progress: &mut Progress, out: &mut S)
-    ensures { WritesOn (S.contents out.old) (S.contents out.new) (S.is_stuck out.old) (S.is_stuck out.new) (some_names word.now) progress.old.so_far progress.new.so_far }
+// Adds a list of names, of which there is one at least.
+fn add_some_names<S: Sink>(out: &mut Counted<'_, S>, word: &[u8])
+    ensures { Adds out.old out.new (some_names word.now) }
 {
-    progress.text(out, b"[\"");
-    write_coded(Code::Name, word, progress, out);
-    progress.text(out, b"\"]");
+    out.add(b"[\"");
+    add_coded(out, Code::Name, word);
+    out.add(b"\"]");
 }
 
-fn write_names<S: Sink>(word: &[u8], progress: &mut Progress, out: &mut S)
-    ensures { WritesOn (S.contents out.old) (S.contents out.new) (S.is_stuck out.old) (S.is_stuck out.new) (names_value word.now) progress.old.so_far progress.new.so_far }
+fn add_names<S: Sink>(out: &mut Counted<'_, S>, word: &[u8])
+    ensures { Adds out.old out.new (names_value word.now) }
 {
     if is_none(word) {
-        progress.text(out, b"[]");
+        out.add(b"[]");
     } else {
-        write_some_names(word, progress, out);
+        add_some_names(out, word);
     }
 }
 
-fn write_some_losers<S: Sink>(word: &[u8], progress: &mut Progress, out: &mut S)
-    ensures { WritesOn (S.contents out.old) (S.contents out.new) (S.is_stuck out.old) (S.is_stuck out.new) (some_losers word.now) progress.old.so_far progress.new.so_far }
+fn add_some_losers<S: Sink>(out: &mut Counted<'_, S>, word: &[u8])
+    ensures { Adds out.old out.new (some_losers word.now) }
 {
-    progress.text(out, b"[{\"device\":\"");
-    write_coded(Code::Loser, word, progress, out);
-    progress.text(out, b"}]");
+    out.add(b"[{\"device\":\"");
+    add_coded(out, Code::Loser, word);
+    out.add(b"}]");
 }
 
-fn write_losers<S: Sink>(word: &[u8], progress: &mut Progress, out: &mut S)
-    ensures { WritesOn (S.contents out.old) (S.contents out.new) (S.is_stuck out.old) (S.is_stuck out.new) (losers_value word.now) progress.old.so_far progress.new.so_far }
+fn add_losers<S: Sink>(out: &mut Counted<'_, S>, word: &[u8])
+    ensures { Adds out.old out.new (losers_value word.now) }
 {
     if is_none(word) {
-        progress.text(out, b"[]");
+        out.add(b"[]");
     } else {
-        write_some_losers(word, progress, out);
+        add_some_losers(out, word);
     }
 }
 
-fn write_units<S: Sink>(word: &[u8], progress: &mut Progress, out: &mut S)
-    ensures { WritesOn (S.contents out.old) (S.contents out.new) (S.is_stuck out.old) (S.is_stuck out.new) (units_value word.now) progress.old.so_far progress.new.so_far }
+fn add_units<S: Sink>(out: &mut Counted<'_, S>, word: &[u8])
+    ensures { Adds out.old out.new (units_value word.now) }
 {
-    progress.text(out, b"[");
-    write_coded(Code::Unit, word, progress, out);
-    progress.text(out, b"]");
+    out.add(b"[");
+    add_coded(out, Code::Unit, word);
+    out.add(b"]");
 }
 
-// Writes a report by its parts.
-fn write_report<S: Sink>(
-    initiator: &[u8],
-    opcode: &[u8],
-    operand: &[u8],
-    progress: &mut Progress,
-    out: &mut S,
-)
-    ensures { WritesOn (S.contents out.old) (S.contents out.new) (S.is_stuck out.old) (S.is_stuck out.new) (report_value initiator.now opcode.now operand.now) progress.old.so_far progress.new.so_far }
+// Adds a report by its parts.
+fn add_report<S: Sink>(out: &mut Counted<'_, S>, initiator: &[u8], opcode: &[u8], operand: &[u8])
+    ensures { Adds out.old out.new (report_value initiator.now opcode.now operand.now) }
 {
-    progress.text(out, b"{\"initiator\":");
-    write_text(initiator, progress, out);
-    progress.text(out, b",\"opcode\":");
-    write_text(opcode, progress, out);
-    progress.text(out, b",\"first_operand\":");
-    write_text(operand, progress, out);
-    progress.text(out, b"}");
+    out.add(b"{\"initiator\":");
+    add_text(out, initiator);
+    out.add(b",\"opcode\":");
+    add_text(out, opcode);
+    out.add(b",\"first_operand\":");
+    add_text(out, operand);
+    out.add(b"}");
 }
 
-fn write_some_report<S: Sink>(word: &[u8], progress: &mut Progress, out: &mut S)
-    ensures { WritesOn (S.contents out.old) (S.contents out.new) (S.is_stuck out.old) (S.is_stuck out.new) (some_report word.now) progress.old.so_far progress.new.so_far }
+fn add_some_report<S: Sink>(out: &mut Counted<'_, S>, word: &[u8])
+    ensures { Adds out.old out.new (some_report word.now) }
 {
     let rest = after_byte(b':', word);
-    write_report(
+    add_report(
+        out,
         before_byte(b':', word),
         before_byte(b':', rest),
         after_byte(b':', rest),
-        progress,
-        out,
     );
 }
 
-fn write_heard<S: Sink>(word: &[u8], progress: &mut Progress, out: &mut S)
-    ensures { WritesOn (S.contents out.old) (S.contents out.new) (S.is_stuck out.old) (S.is_stuck out.new) (heard_value word.now) progress.old.so_far progress.new.so_far }
+fn add_heard<S: Sink>(out: &mut Counted<'_, S>, word: &[u8])
+    ensures { Adds out.old out.new (heard_value word.now) }
 {
     if is_none(word) {
-        progress.text(out, b"null");
+        out.add(b"null");
     } else {
-        write_some_report(word, progress, out);
+        add_some_report(out, word);
     }
 }
 
-/// Writes a word as a value.
-pub(crate) fn write_value<S: Sink>(shape: Shape, word: &[u8], progress: &mut Progress, out: &mut S)
-    ensures { WritesOn (S.contents out.old) (S.contents out.new) (S.is_stuck out.old) (S.is_stuck out.new) (value_text shape word.now) progress.old.so_far progress.new.so_far }
+/// Adds a word as a value.
+pub(crate) fn add_value<S: Sink>(out: &mut Counted<'_, S>, shape: Shape, word: &[u8])
+    ensures { Adds out.old out.new (value_text shape word.now) }
 {
     match shape {
-        Shape::Number => write_number(word, progress, out),
-        Shape::Text => write_text(word, progress, out),
-        Shape::Switch => write_switch(word, progress, out),
-        Shape::Names => write_names(word, progress, out),
-        Shape::Losers => write_losers(word, progress, out),
-        Shape::Units => write_units(word, progress, out),
-        Shape::Heard => write_heard(word, progress, out),
+        Shape::Number => add_number(out, word),
+        Shape::Text => add_text(out, word),
+        Shape::Switch => add_switch(out, word),
+        Shape::Names => add_names(out, word),
+        Shape::Losers => add_losers(out, word),
+        Shape::Units => add_units(out, word),
+        Shape::Heard => add_heard(out, word),
     }
 }

@@ -1,11 +1,10 @@
 -- What a line of a form reports, part by part.
-use Rattle.std.proofs.Common.{◌≡◌, ℕ, Bool, true, if◌then◌else◌, List, ◌∷◌, ◌++◌, drop, codes, Option, Result, sym, ap, subst, ◌∙◌}
-use Rattle.hdmi_core.specs.declared.sink.WriteFault.{WriteFault}
+use Rattle.std.proofs.Common.{◌≡◌, ℕ, Bool, true, if◌then◌else◌, List, ◌∷◌, ◌++◌, drop, codes, sym, ap, subst, ◌∙◌}
+use Rattle.hdmi_core.specs.Adds.{Adds, Tally}
 use Rattle.hdmi_core.specs.Words.{words_of}
 use Rattle.cec_json.specs.Columns.{field, field_lead}
 use Rattle.cec_json.specs.Object.{type_field}
 use Rattle.cec_json.specs.Parts.{after_word, before_byte, word}
-use Rattle.cec_json.specs.Progress.{WritesOn}
 use Rattle.cec_json.specs.declared.values.Shape.TheVariants.{Number}
 use Rattle.cec_report_json.specs.Object.{IsReportedAs}
 use Rattle.cec_report_json.specs.Stretch.{range_fields, stretch_reported, verdicts_value}
@@ -13,9 +12,9 @@ use Rattle.cec_report_json.specs.TestLine.{place_fields, test_reported, text_fie
 use Rattle.cec_report_json.specs.Window.{after_two, seen_reported, window_reported}
 use Rattle.cec_report_json.specs.declared.object.Form.{Form}
 
-pub reported_as : {a b : Option (List ℕ)} {s t : Bool} {p q : Result ℕ WriteFault} → (form known : Form) (line reported : List ℕ) → form ≡ known → IsReportedAs known line reported → WritesOn a b s t reported p q
-    → (text : List ℕ) × IsReportedAs form line text × WritesOn a b s t text p q
-reported_as form known line reported e is on = (reported, subst (λ (f : Form). IsReportedAs f line reported) (sym e) is, on)
+pub reported_as : (a b : Tally) (form known : Form) (line reported : List ℕ) → form ≡ known → IsReportedAs known line reported → Adds a b reported
+    → (text : List ℕ) × IsReportedAs form line text × Adds a b text
+reported_as a b form known line reported e is added = (reported, subst (λ (f : Form). IsReportedAs f line reported) (sym e) is, added)
 
 -- the text of two that is chosen by a Bool
 pub then_is : (b : Bool) (x y : List ℕ) → b ≡ true → x ≡ (if b then x else y)

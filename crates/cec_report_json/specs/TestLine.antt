@@ -1,5 +1,5 @@
 -- What the line of a test reports (Test Anything Protocol, version 13; the text after the number is own).
-use Rattle.std.specs.Prelude.{ℕ, ◌==◌, ◌&&◌, not, Bool, true, false, if◌then◌else◌, codes, List, [], ◌∷◌, ◌++◌}
+use Rattle.std.specs.Prelude.{ℕ, ◌==◌, ◌&&◌, not, Bool, false, if◌then◌else◌, codes, List, [], ◌∷◌, ◌++◌}
 use Rattle.std.specs.Str.{bytes_eq}
 use Rattle.cec_json.specs.Columns.{field, field_lead}
 use Rattle.cec_json.specs.Object.{type_field}

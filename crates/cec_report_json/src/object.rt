@@ -1,15 +1,13 @@
 //! The object of a line of a report.
 ghost use Rattle.std.specs.Prelude.{◌≡◌, ℕ, List};
-ghost use Rattle.cec_json.specs.Progress.{WritesOn};
+ghost use Rattle.hdmi_core.specs.Adds.{Adds};
 ghost use Rattle.cec_report_json.specs.Object.{IsReportObject, IsReportedAs, form_of, plan_reported, remark_form, sweep_form, test_form, version_reported};
 
-use crate::stretch::{is_stretch, write_stretch};
-use crate::test_line::write_test;
-use crate::window::{write_no_window, write_seen};
-use cec_json::{
-    Progress, Shape, after_word, word, write_field, write_quoted, write_reported, write_type,
-};
-use hdmi_core::{Sink, after, before};
+use crate::stretch::{add_stretch, is_stretch};
+use crate::test_line::add_test;
+use crate::window::{add_no_window, add_seen};
+use cec_json::{Shape, add_field, add_quoted, add_reported, add_type, after_word, word};
+use hdmi_core::{Counted, Sink, after, before};
 
 /// Which report the lines are of.
 #[derive(Clone, Copy, Debug)]
@@ -96,52 +94,47 @@ fn form_of(report: Report, line: &[u8]) -> Form
     }
 }
 
-fn write_version<S: Sink>(line: &[u8], progress: &mut Progress, out: &mut S)
-    ensures { WritesOn (S.contents out.old) (S.contents out.new) (S.is_stuck out.old) (S.is_stuck out.new) (version_reported line.now) progress.old.so_far progress.new.so_far }
+fn add_version<S: Sink>(out: &mut Counted<'_, S>, line: &[u8])
+    ensures { Adds out.old out.new (version_reported line.now) }
 {
     let version = word(after_word(after_word(line)));
-    write_type("version", progress, out);
-    write_field("version", Shape::Number, version, progress, out);
+    add_type(out, "version");
+    add_field(out, "version", Shape::Number, version);
 }
 
-fn write_plan<S: Sink>(line: &[u8], progress: &mut Progress, out: &mut S)
-    ensures { WritesOn (S.contents out.old) (S.contents out.new) (S.is_stuck out.old) (S.is_stuck out.new) (plan_reported line.now) progress.old.so_far progress.new.so_far }
+fn add_plan<S: Sink>(out: &mut Counted<'_, S>, line: &[u8])
+    ensures { Adds out.old out.new (plan_reported line.now) }
 {
-    write_type("plan", progress, out);
-    write_field("tests", Shape::Number, after(line, 3), progress, out);
+    add_type(out, "plan");
+    add_field(out, "tests", Shape::Number, after(line, 3));
 }
 
-// Writes what a line of a form reports.
-fn write_reported_as<S: Sink>(form: Form, line: &[u8], progress: &mut Progress, out: &mut S)
+// Adds what a line of a form reports.
+fn add_reported_as<S: Sink>(out: &mut Counted<'_, S>, form: Form, line: &[u8])
     ensures { (reported : List ℕ) × IsReportedAs form line.now reported
-        × WritesOn (S.contents out.old) (S.contents out.new) (S.is_stuck out.old) (S.is_stuck out.new) reported progress.old.so_far progress.new.so_far }
+        × Adds out.old out.new reported }
 {
     match form {
-        Form::Version => write_version(line, progress, out),
-        Form::Passed => write_test(true, after_word(line), progress, out),
-        Form::Failed => write_test(false, after_word(after_word(line)), progress, out),
-        Form::Window => write_seen(after_word(after_word(line)), progress, out),
-        Form::NoWindow => write_no_window(progress, out),
-        Form::Trace => write_type("trace", progress, out),
-        Form::Shown => write_reported(after_word(line), progress, out),
-        Form::Plan => write_plan(line, progress, out),
-        Form::Stretch => write_stretch(line, progress, out),
-        Form::Other => write_type("other", progress, out),
+        Form::Version => add_version(out, line),
+        Form::Passed => add_test(out, true, after_word(line)),
+        Form::Failed => add_test(out, false, after_word(after_word(line))),
+        Form::Window => add_seen(out, after_word(after_word(line))),
+        Form::NoWindow => add_no_window(out),
+        Form::Trace => add_type(out, "trace"),
+        Form::Shown => add_reported(out, after_word(line)),
+        Form::Plan => add_plan(out, line),
+        Form::Stretch => add_stretch(out, line),
+        Form::Other => add_type(out, "other"),
     }
 }
 
-/// Writes the object of a line of a report.
-pub(crate) fn write_report_object<S: Sink>(
-    report: Report,
-    line: &[u8],
-    progress: &mut Progress,
-    out: &mut S,
-)
+/// Adds the object of a line of a report.
+pub(crate) fn add_report_object<S: Sink>(out: &mut Counted<'_, S>, report: Report, line: &[u8])
     ensures { (text : List ℕ) × IsReportObject report line.now text
-        × WritesOn (S.contents out.old) (S.contents out.new) (S.is_stuck out.old) (S.is_stuck out.new) text progress.old.so_far progress.new.so_far }
+        × Adds out.old out.new text }
 {
-    progress.text(out, b"{\"line\":");
-    write_quoted(line, progress, out);
-    write_reported_as(form_of(report, line), line, progress, out);
-    progress.text(out, b"}\n");
+    out.add(b"{\"line\":");
+    add_quoted(out, line);
+    add_reported_as(out, form_of(report, line), line);
+    out.add(b"}\n");
 }

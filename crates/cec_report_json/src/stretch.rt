@@ -3,13 +3,11 @@ ghost use Rattle.std.specs.Prelude.{◌≡◌, ◌++◌, []};
 ghost use Rattle.std.specs.Option.{option_copied};
 ghost use Rattle.hdmi_core.specs.Number.{is_numeral};
 ghost use Rattle.hdmi_core.specs.Words.{words_after};
-ghost use Rattle.cec_json.specs.Progress.{WritesOn};
+ghost use Rattle.hdmi_core.specs.Adds.{Adds};
 ghost use Rattle.cec_report_json.specs.Stretch.{first_instant, is_stretch, last_instant, range_fields, stretch_reported, verdict_value, verdicts, verdicts_value};
 
-use cec_json::{
-    Progress, Shape, after_byte, before_byte, word, write_field, write_lead, write_type,
-};
-use hdmi_core::{Sink, first_word, number_in};
+use cec_json::{Shape, add_field, add_lead, add_type, after_byte, before_byte, word};
+use hdmi_core::{Counted, Sink, first_word, number_in};
 
 fn first_instant(range: &[u8]) -> &[u8]
     ensures { result.now ≡ first_instant range.now }
@@ -48,50 +46,50 @@ fn verdict_value(word: &[u8]) -> &'static [u8]
     }
 }
 
-// Writes a verdict, and a mark before it.
-fn write_verdict<S: Sink>(mark: &[u8], word: &[u8], progress: &mut Progress, out: &mut S)
-    ensures { WritesOn (S.contents out.old) (S.contents out.new) (S.is_stuck out.old) (S.is_stuck out.new) (mark.now ++ verdict_value word.now) progress.old.so_far progress.new.so_far }
+// Adds a verdict, and a mark before it.
+fn add_verdict<S: Sink>(out: &mut Counted<'_, S>, mark: &[u8], word: &[u8])
+    ensures { Adds out.old out.new (mark.now ++ verdict_value word.now) }
 {
-    progress.text(out, mark);
-    progress.text(out, verdict_value(word));
+    out.add(mark);
+    out.add(verdict_value(word));
 }
 
-// Writes the verdicts of words, with commas between them.
-fn write_verdicts<S: Sink>(words: Option<&[u8]>, progress: &mut Progress, out: &mut S)
-    ensures { WritesOn (S.contents out.old) (S.contents out.new) (S.is_stuck out.old) (S.is_stuck out.new) (verdicts [] (words_after (option_copied words.entry))) progress.old.so_far progress.new.so_far }
+// Adds the verdicts of words, with commas between them.
+fn add_verdicts<S: Sink>(out: &mut Counted<'_, S>, words: Option<&[u8]>)
+    ensures { Adds out.old out.new (verdicts [] (words_after (option_copied words.entry))) }
 {
     let mut rest = words;
     let mut mark: &[u8] = b"";
     'words: while let Some(text) = rest {
         let (word, others) = first_word(text);
-        write_verdict(mark, word, progress, out);
+        add_verdict(out, mark, word);
         mark = b",";
         rest = others;
     }
 }
 
-fn write_list<S: Sink>(words: Option<&[u8]>, progress: &mut Progress, out: &mut S)
-    ensures { WritesOn (S.contents out.old) (S.contents out.new) (S.is_stuck out.old) (S.is_stuck out.new) (verdicts_value (words_after (option_copied words.entry))) progress.old.so_far progress.new.so_far }
+fn add_list<S: Sink>(out: &mut Counted<'_, S>, words: Option<&[u8]>)
+    ensures { Adds out.old out.new (verdicts_value (words_after (option_copied words.entry))) }
 {
-    progress.text(out, b"[");
-    write_verdicts(words, progress, out);
-    progress.text(out, b"]");
+    out.add(b"[");
+    add_verdicts(out, words);
+    out.add(b"]");
 }
 
-fn write_range<S: Sink>(range: &[u8], progress: &mut Progress, out: &mut S)
-    ensures { WritesOn (S.contents out.old) (S.contents out.new) (S.is_stuck out.old) (S.is_stuck out.new) (range_fields range.now) progress.old.so_far progress.new.so_far }
+fn add_range<S: Sink>(out: &mut Counted<'_, S>, range: &[u8])
+    ensures { Adds out.old out.new (range_fields range.now) }
 {
-    write_field("from", Shape::Number, first_instant(range), progress, out);
-    write_field("to", Shape::Number, last_instant(range), progress, out);
+    add_field(out, "from", Shape::Number, first_instant(range));
+    add_field(out, "to", Shape::Number, last_instant(range));
 }
 
-/// Writes what the line of a stretch reports.
-pub(crate) fn write_stretch<S: Sink>(line: &[u8], progress: &mut Progress, out: &mut S)
-    ensures { WritesOn (S.contents out.old) (S.contents out.new) (S.is_stuck out.old) (S.is_stuck out.new) (stretch_reported line.now) progress.old.so_far progress.new.so_far }
+/// Adds what the line of a stretch reports.
+pub(crate) fn add_stretch<S: Sink>(out: &mut Counted<'_, S>, line: &[u8])
+    ensures { Adds out.old out.new (stretch_reported line.now) }
 {
     let (_, words) = first_word(line);
-    write_type("stretch", progress, out);
-    write_range(word(line), progress, out);
-    write_lead("holds", progress, out);
-    write_list(words, progress, out);
+    add_type(out, "stretch");
+    add_range(out, word(line));
+    add_lead(out, "holds");
+    add_list(out, words);
 }

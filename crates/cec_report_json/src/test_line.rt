@@ -1,14 +1,12 @@
 //! Tests of a report.
 ghost use Rattle.std.specs.Prelude.{◌≡◌};
-ghost use Rattle.cec_json.specs.Progress.{WritesOn};
+ghost use Rattle.hdmi_core.specs.Adds.{Adds};
 ghost use Rattle.cec_json.specs.Values.{code_texts};
 ghost use Rattle.cec_json.specs.declared.values.Code.TheVariants.{Char};
 ghost use Rattle.cec_report_json.specs.TestLine.{expected_fields, is_escape, place_fields, plain, plain_byte, refused_fields, test_reported, text_fields, truth};
 
-use cec_json::{
-    Progress, Shape, after_word, before_byte, word, write_char, write_field, write_lead, write_type,
-};
-use hdmi_core::Sink;
+use cec_json::{Shape, add_char, add_field, add_lead, add_type, after_word, before_byte, word};
+use hdmi_core::{Counted, Sink};
 
 fn is_escape(escaped: bool, byte: u8) -> bool
     ensures { result ≡ is_escape escaped byte }
@@ -16,26 +14,27 @@ fn is_escape(escaped: bool, byte: u8) -> bool
     !escaped && byte == b'\\'
 }
 
-// Writes a byte, unless it is a backslash that stands for the one after it, and returns whether it is.
-fn write_byte<S: Sink>(escaped: bool, byte: u8, progress: &mut Progress, out: &mut S) -> bool
+// Adds a byte, unless it is a backslash that stands for the one after it, and returns whether it is.
+#[tactic(auto, using(hdmi_core::proofs::Adding::nothing))]
+fn add_byte<S: Sink>(out: &mut Counted<'_, S>, escaped: bool, byte: u8) -> bool
     ensures escape { result ≡ is_escape escaped byte }
-    ensures written { WritesOn (S.contents out.old) (S.contents out.new) (S.is_stuck out.old) (S.is_stuck out.new) (code_texts Char (plain_byte escaped byte)) progress.old.so_far progress.new.so_far }
+    ensures written { Adds out.old out.new (code_texts Char (plain_byte escaped byte)) }
 {
     if is_escape(escaped, byte) {
         return true;
     }
-    write_char(byte, progress, out);
+    add_char(out, byte);
     false
 }
 
-// Writes the characters of the text of a test, as the line of the script has it.
-fn write_plain<S: Sink>(text: &[u8], progress: &mut Progress, out: &mut S)
-    ensures { WritesOn (S.contents out.old) (S.contents out.new) (S.is_stuck out.old) (S.is_stuck out.new) (code_texts Char (plain text.now)) progress.old.so_far progress.new.so_far }
+// Adds the characters of the text of a test, as the line of the script has it.
+fn add_plain<S: Sink>(out: &mut Counted<'_, S>, text: &[u8])
+    ensures { Adds out.old out.new (code_texts Char (plain text.now)) }
 {
     let mut rest = text;
     let mut escaped = false;
     'bytes: while let [byte, others @ ..] = rest {
-        escaped = write_byte(escaped, *byte, progress, out);
+        escaped = add_byte(out, escaped, *byte);
         rest = others;
     }
 }
@@ -46,51 +45,51 @@ fn truth(holds: bool) -> &'static [u8]
     if holds { b"true" } else { b"false" }
 }
 
-fn write_refused<S: Sink>(text: &[u8], progress: &mut Progress, out: &mut S)
-    ensures { WritesOn (S.contents out.old) (S.contents out.new) (S.is_stuck out.old) (S.is_stuck out.new) (refused_fields text.now) progress.old.so_far progress.new.so_far }
+fn add_refused<S: Sink>(out: &mut Counted<'_, S>, text: &[u8])
+    ensures { Adds out.old out.new (refused_fields text.now) }
 {
-    progress.text(out, b",\"expectation\":null");
-    write_field("refused", Shape::Text, after_word(text), progress, out);
+    out.add(b",\"expectation\":null");
+    add_field(out, "refused", Shape::Text, after_word(text));
 }
 
-fn write_expected<S: Sink>(text: &[u8], progress: &mut Progress, out: &mut S)
-    ensures { WritesOn (S.contents out.old) (S.contents out.new) (S.is_stuck out.old) (S.is_stuck out.new) (expected_fields text.now) progress.old.so_far progress.new.so_far }
+fn add_expected<S: Sink>(out: &mut Counted<'_, S>, text: &[u8])
+    ensures { Adds out.old out.new (expected_fields text.now) }
 {
-    write_lead("expectation", progress, out);
-    progress.text(out, b"\"");
-    write_plain(text, progress, out);
-    progress.text(out, b"\"");
-    progress.text(out, b",\"refused\":null");
+    add_lead(out, "expectation");
+    out.add(b"\"");
+    add_plain(out, text);
+    out.add(b"\"");
+    out.add(b",\"refused\":null");
 }
 
-// Writes what is expected, or how an event was refused that no line expects to be.
-fn write_text<S: Sink>(text: &[u8], progress: &mut Progress, out: &mut S)
-    ensures { WritesOn (S.contents out.old) (S.contents out.new) (S.is_stuck out.old) (S.is_stuck out.new) (text_fields text.now) progress.old.so_far progress.new.so_far }
+// Adds what is expected, or how an event was refused that no line expects to be.
+fn add_text<S: Sink>(out: &mut Counted<'_, S>, text: &[u8])
+    ensures { Adds out.old out.new (text_fields text.now) }
 {
     if word(text) == b"refused".as_slice() {
-        write_refused(text, progress, out);
+        add_refused(out, text);
     } else {
-        write_expected(text, progress, out);
+        add_expected(out, text);
     }
 }
 
-// Writes what `L: TEXT` reports.
-fn write_place<S: Sink>(holds: bool, place: &[u8], progress: &mut Progress, out: &mut S)
-    ensures { WritesOn (S.contents out.old) (S.contents out.new) (S.is_stuck out.old) (S.is_stuck out.new) (place_fields holds place.now) progress.old.so_far progress.new.so_far }
+// Adds what `L: TEXT` reports.
+fn add_place<S: Sink>(out: &mut Counted<'_, S>, holds: bool, place: &[u8])
+    ensures { Adds out.old out.new (place_fields holds place.now) }
 {
     let line = before_byte(b':', place);
-    write_field("script_line", Shape::Number, line, progress, out);
-    write_lead("holds", progress, out);
-    progress.text(out, truth(holds));
-    write_text(after_word(place), progress, out);
+    add_field(out, "script_line", Shape::Number, line);
+    add_lead(out, "holds");
+    out.add(truth(holds));
+    add_text(out, after_word(place));
 }
 
-/// Writes what `N - line L: TEXT` indicates a test that holds or not.
-pub(crate) fn write_test<S: Sink>(holds: bool, rest: &[u8], progress: &mut Progress, out: &mut S)
-    ensures { WritesOn (S.contents out.old) (S.contents out.new) (S.is_stuck out.old) (S.is_stuck out.new) (test_reported holds rest.now) progress.old.so_far progress.new.so_far }
+/// Adds what `N - line L: TEXT` indicates a test that holds or not.
+pub(crate) fn add_test<S: Sink>(out: &mut Counted<'_, S>, holds: bool, rest: &[u8])
+    ensures { Adds out.old out.new (test_reported holds rest.now) }
 {
-    write_type("test", progress, out);
-    write_field("test", Shape::Number, word(rest), progress, out);
+    add_type(out, "test");
+    add_field(out, "test", Shape::Number, word(rest));
     let place = after_word(after_word(after_word(rest)));
-    write_place(holds, place, progress, out);
+    add_place(out, holds, place);
 }

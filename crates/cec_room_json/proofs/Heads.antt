@@ -1,29 +1,26 @@
 -- Objects of a topology's lines, one after another.
-use Rattle.std.proofs.Common.{◌≡◌, ℕ, Bool, List, [], ◌∷◌, ◌++◌, Option, Result, append-nil, append_assoc, refl, sym, ap, ◌∙◌}
+use Rattle.std.proofs.Common.{◌≡◌, ℕ, List, [], ◌∷◌, ◌++◌, append-nil, append_assoc, refl, sym, ap, subst, ◌∙◌}
 use Rattle.std.specs.List.{flat_map}
-use Rattle.hdmi_core.specs.declared.sink.WriteFault.{WriteFault}
+use Rattle.hdmi_core.specs.Adds.{Adds, Tally}
 use Rattle.hdmi_core.specs.Lines.{lines_of}
-use Rattle.cec_json.specs.Progress.{WritesOn}
-use Rattle.cec_json.proofs.Writing.{writes_as, writes_none, writes_two}
+use Rattle.hdmi_core.proofs.Adding.{nothing, then}
 
--- what is written of the lines before the rest
-pub record Heads (f : List ℕ → List ℕ) (text rest : List ℕ) (old now : Option (List ℕ)) (was is : Bool) (before so_far : Result ℕ WriteFault) : Type 0 where
+-- the objects of the lines before the rest are added
+pub record Heads (f : List ℕ → List ℕ) (text rest : List ℕ) (old now : Tally) : Type 0 where
   pub done : List ℕ
   pub parts : flat_map f (lines_of text) ≡ done ++ flat_map f (lines_of rest)
-  pub on : WritesOn old now was is done before so_far
+  pub added : Adds old now done
 
-pub heads_none : (f : List ℕ → List ℕ) (text : List ℕ) (old : Option (List ℕ)) (was : Bool) (before : Result ℕ WriteFault) → Heads f text text old old was was before before
-heads_none f text old was before = record { done = []; parts = refl; on = writes_none old was before }
+pub heads_none : (f : List ℕ → List ℕ) (text : List ℕ) (a : Tally) → Heads f text text a a
+heads_none f text a = record { done = []; parts = refl; added = nothing a }
 
-pub heads_more : (f : List ℕ → List ℕ) (text rest after line : List ℕ) (old mid new : Option (List ℕ)) (was is now : Bool) (before so_far later : Result ℕ WriteFault)
-    → Heads f text rest old mid was is before so_far → lines_of rest ≡ line ∷ lines_of after → WritesOn mid new is now (f line) so_far later → Heads f text after old new was now before later
-heads_more f text rest after line old mid new was is now before so_far later k split on = record {
+pub heads_more : (f : List ℕ → List ℕ) (text rest after line : List ℕ) (a b c : Tally) → Heads f text rest a b → lines_of rest ≡ line ∷ lines_of after → Adds b c (f line)
+    → Heads f text after a c
+heads_more f text rest after line a b c k split more = record {
   done = k.done ++ f line;
   parts = k.parts ∙ ap (λ (ls : List (List ℕ)). k.done ++ flat_map f ls) split ∙ sym (append_assoc k.done (f line) (flat_map f (lines_of after)));
-  on = writes_two k.on on;
+  added = then a b c k.done (f line) k.added more;
 }
 
-pub heads_all : (f : List ℕ → List ℕ) (text rest : List ℕ) (old now : Option (List ℕ)) (was is : Bool) (before so_far : Result ℕ WriteFault)
-    → Heads f text rest old now was is before so_far → lines_of rest ≡ [] → WritesOn old now was is (flat_map f (lines_of text)) before so_far
-heads_all f text rest old now was is before so_far k over =
-    writes_as (sym (k.parts ∙ ap (λ (ls : List (List ℕ)). k.done ++ flat_map f ls) over ∙ append-nil k.done)) k.on
+pub heads_all : (f : List ℕ → List ℕ) (text rest : List ℕ) (a b : Tally) → Heads f text rest a b → lines_of rest ≡ [] → Adds a b (flat_map f (lines_of text))
+heads_all f text rest a b k over = subst (Adds a b) (sym (k.parts ∙ ap (λ (ls : List (List ℕ)). k.done ++ flat_map f ls) over ∙ append-nil k.done)) k.added

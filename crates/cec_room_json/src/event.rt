@@ -1,11 +1,11 @@
 //! The object of a line of a trace, in which an event has its line of the script.
 ghost use Rattle.std.specs.Prelude.{◌≡◌, ℕ, List, drop};
-ghost use Rattle.cec_json.specs.Progress.{WritesOn};
+ghost use Rattle.hdmi_core.specs.Adds.{Adds};
 ghost use Rattle.cec_room_json.specs.Event.{IsObjectAt, event_fields, first_of, is_event, line_number, more_at, place_of, said, said_fields};
 ghost use Rattle.hdmi_core.specs.Lines.{lines_of};
 
-use cec_json::{Progress, Shape, after_word, word, write_field, write_quoted, write_reported};
-use hdmi_core::{Sink, first_line, number_in};
+use cec_json::{Shape, add_field, add_quoted, add_reported, after_word, word};
+use hdmi_core::{Counted, Sink, first_line, number_in};
 
 fn is_event(line: &[u8]) -> bool
     ensures { result ≡ is_event line.now }
@@ -79,50 +79,39 @@ fn said(line: &[u8]) -> &[u8]
     after_word(after_word(line))
 }
 
-// Writes the verb, the device, and all that a line of the script says.
-fn write_fields_of<S: Sink>(
-    verb: &[u8],
-    device: &[u8],
-    text: &[u8],
-    progress: &mut Progress,
-    out: &mut S,
-)
-    ensures { WritesOn (S.contents out.old) (S.contents out.new) (S.is_stuck out.old) (S.is_stuck out.new) (said_fields verb.now device.now text.now) progress.old.so_far progress.new.so_far }
+// Adds the verb, the device, and all that a line of the script says.
+fn add_fields_of<S: Sink>(out: &mut Counted<'_, S>, verb: &[u8], device: &[u8], text: &[u8])
+    ensures { Adds out.old out.new (said_fields verb.now device.now text.now) }
 {
-    write_field("verb", Shape::Text, verb, progress, out);
-    write_field("device", Shape::Text, device, progress, out);
-    write_field("text", Shape::Text, text, progress, out);
+    add_field(out, "verb", Shape::Text, verb);
+    add_field(out, "device", Shape::Text, device);
+    add_field(out, "text", Shape::Text, text);
 }
 
-fn write_event<S: Sink>(ahead: &[u8], progress: &mut Progress, out: &mut S)
-    ensures { WritesOn (S.contents out.old) (S.contents out.new) (S.is_stuck out.old) (S.is_stuck out.new) (event_fields (first_of (lines_of ahead.now))) progress.old.so_far progress.new.so_far }
+fn add_event<S: Sink>(out: &mut Counted<'_, S>, ahead: &[u8])
+    ensures { Adds out.old out.new (event_fields (first_of (lines_of ahead.now))) }
 {
     let text = said(first_of(ahead));
-    write_fields_of(word(text), word(after_word(text)), text, progress, out);
+    add_fields_of(out, word(text), word(after_word(text)), text);
 }
 
-// Writes of an event what its line of the script says, which is the first that is ahead.
-fn write_more<S: Sink>(ahead: &[u8], line: &[u8], progress: &mut Progress, out: &mut S)
-    ensures { WritesOn (S.contents out.old) (S.contents out.new) (S.is_stuck out.old) (S.is_stuck out.new) (more_at (lines_of ahead.now) line.now) progress.old.so_far progress.new.so_far }
+// Adds of an event what its line of the script says, which is the first that is ahead.
+fn add_more<S: Sink>(out: &mut Counted<'_, S>, ahead: &[u8], line: &[u8])
+    ensures { Adds out.old out.new (more_at (lines_of ahead.now) line.now) }
 {
     if is_event(line) {
-        write_event(ahead, progress, out);
+        add_event(out, ahead);
     }
 }
 
-/// Writes the object of a line; of an event, whose line of the script is the first that is ahead.
-pub(crate) fn write_room_object<S: Sink>(
-    ahead: &[u8],
-    line: &[u8],
-    progress: &mut Progress,
-    out: &mut S,
-)
+/// Adds the object of a line; of an event, whose line of the script is the first that is ahead.
+pub(crate) fn add_room_object<S: Sink>(out: &mut Counted<'_, S>, ahead: &[u8], line: &[u8])
     ensures { (text : List ℕ) × IsObjectAt (lines_of ahead.now) line.now text
-        × WritesOn (S.contents out.old) (S.contents out.new) (S.is_stuck out.old) (S.is_stuck out.new) text progress.old.so_far progress.new.so_far }
+        × Adds out.old out.new text }
 {
-    progress.text(out, b"{\"line\":");
-    write_quoted(line, progress, out);
-    write_reported(line, progress, out);
-    write_more(ahead, line, progress, out);
-    progress.text(out, b"}\n");
+    out.add(b"{\"line\":");
+    add_quoted(out, line);
+    add_reported(out, line);
+    add_more(out, ahead, line);
+    out.add(b"}\n");
 }

@@ -2,12 +2,12 @@
 ghost use Rattle.std.specs.Prelude.{◌≡◌, map};
 ghost use Rattle.std.specs.List.{flat_map};
 ghost use Rattle.cec_json.specs.Columns.{column_parts};
-ghost use Rattle.cec_json.specs.Progress.{WritesOn};
+ghost use Rattle.hdmi_core.specs.Adds.{Adds};
 ghost use Rattle.cec_room_json.specs.Head.{device_body, edid_body, head_of, head_text, plug_body, pulse_body, said_by};
 ghost use Rattle.hdmi_core.specs.Lines.{lines_of};
 
-use cec_json::{Column, Progress, Shape, after_word, word, write_fields, write_quoted, write_type};
-use hdmi_core::{Sink, first_line};
+use cec_json::{Column, Shape, add_fields, add_quoted, add_type, after_word, word};
+use hdmi_core::{Counted, Sink, first_line};
 
 /// Which line of a topology or of a script it is.
 #[derive(Clone, Copy, Debug)]
@@ -86,67 +86,61 @@ fn head_of(word: &[u8]) -> Head
     }
 }
 
-// Writes what a line says after its first word, as the fields of an object of this type.
-fn write_said<S: Sink>(
-    name: &str,
-    columns: &[Column],
-    line: &[u8],
-    progress: &mut Progress,
-    out: &mut S,
-)
-    ensures { WritesOn (S.contents out.old) (S.contents out.new) (S.is_stuck out.old) (S.is_stuck out.new) (said_by name.now (map column_parts columns.now) line.now) progress.old.so_far progress.new.so_far }
+// Adds what a line says after its first word, as the fields of an object of this type.
+fn add_said<S: Sink>(out: &mut Counted<'_, S>, name: &str, columns: &[Column], line: &[u8])
+    ensures { Adds out.old out.new (said_by name.now (map column_parts columns.now) line.now) }
 {
-    progress.text(out, b"{\"line\":");
-    write_quoted(line, progress, out);
-    write_type(name, progress, out);
-    write_fields(columns, after_word(line), progress, out);
-    progress.text(out, b"}\n");
+    out.add(b"{\"line\":");
+    add_quoted(out, line);
+    add_type(out, name);
+    add_fields(out, columns, after_word(line));
+    out.add(b"}\n");
 }
 
-fn write_device<S: Sink>(line: &[u8], progress: &mut Progress, out: &mut S)
-    ensures { WritesOn (S.contents out.old) (S.contents out.new) (S.is_stuck out.old) (S.is_stuck out.new) (device_body line.now) progress.old.so_far progress.new.so_far }
+fn add_device<S: Sink>(out: &mut Counted<'_, S>, line: &[u8])
+    ensures { Adds out.old out.new (device_body line.now) }
 {
-    write_said("device", DEVICE, line, progress, out);
+    add_said(out, "device", DEVICE, line);
 }
 
-fn write_plug<S: Sink>(line: &[u8], progress: &mut Progress, out: &mut S)
-    ensures { WritesOn (S.contents out.old) (S.contents out.new) (S.is_stuck out.old) (S.is_stuck out.new) (plug_body line.now) progress.old.so_far progress.new.so_far }
+fn add_plug<S: Sink>(out: &mut Counted<'_, S>, line: &[u8])
+    ensures { Adds out.old out.new (plug_body line.now) }
 {
-    write_said("plug", PLUG, line, progress, out);
+    add_said(out, "plug", PLUG, line);
 }
 
-fn write_edid<S: Sink>(line: &[u8], progress: &mut Progress, out: &mut S)
-    ensures { WritesOn (S.contents out.old) (S.contents out.new) (S.is_stuck out.old) (S.is_stuck out.new) (edid_body line.now) progress.old.so_far progress.new.so_far }
+fn add_edid<S: Sink>(out: &mut Counted<'_, S>, line: &[u8])
+    ensures { Adds out.old out.new (edid_body line.now) }
 {
-    write_said("edid", EDID, line, progress, out);
+    add_said(out, "edid", EDID, line);
 }
 
-fn write_pulse<S: Sink>(line: &[u8], progress: &mut Progress, out: &mut S)
-    ensures { WritesOn (S.contents out.old) (S.contents out.new) (S.is_stuck out.old) (S.is_stuck out.new) (pulse_body line.now) progress.old.so_far progress.new.so_far }
+fn add_pulse<S: Sink>(out: &mut Counted<'_, S>, line: &[u8])
+    ensures { Adds out.old out.new (pulse_body line.now) }
 {
-    write_said("pulse", PULSE, line, progress, out);
+    add_said(out, "pulse", PULSE, line);
 }
 
-// Writes the object of a line, if it has one.
-fn write_head<S: Sink>(line: &[u8], progress: &mut Progress, out: &mut S)
-    ensures { WritesOn (S.contents out.old) (S.contents out.new) (S.is_stuck out.old) (S.is_stuck out.new) (head_text line.now) progress.old.so_far progress.new.so_far }
+// Adds the object of a line, if it has one.
+fn add_head<S: Sink>(out: &mut Counted<'_, S>, line: &[u8])
+    ensures { Adds out.old out.new (head_text line.now) }
 {
     match head_of(word(line)) {
-        Head::Device => write_device(line, progress, out),
-        Head::Plug => write_plug(line, progress, out),
-        Head::Edid => write_edid(line, progress, out),
-        Head::Pulse => write_pulse(line, progress, out),
-        Head::Other => progress.text(out, b""),
+        Head::Device => add_device(out, line),
+        Head::Plug => add_plug(out, line),
+        Head::Edid => add_edid(out, line),
+        Head::Pulse => add_pulse(out, line),
+        Head::Other => out.add(b""),
     }
 }
 
-/// Writes the objects of the devices, plugs, EDIDs and pulses among these lines.
-pub(crate) fn write_heads<S: Sink>(text: &[u8], progress: &mut Progress, out: &mut S)
-    ensures { WritesOn (S.contents out.old) (S.contents out.new) (S.is_stuck out.old) (S.is_stuck out.new) (flat_map head_text (lines_of text.now)) progress.old.so_far progress.new.so_far }
+/// Adds the objects of the devices, plugs, EDIDs and pulses among these lines.
+pub(crate) fn add_heads<S: Sink>(out: &mut Counted<'_, S>, text: &[u8])
+    ensures { Adds out.old out.new (flat_map head_text (lines_of text.now)) }
 {
     let mut rest = text;
     'lines: while let Some((line, after)) = first_line(rest) {
-        write_head(line, progress, out);
+        add_head(out, line);
         rest = after;
     }
 }

@@ -6,4 +6,4 @@ mod event;
 mod head;
 mod lines;
 
-pub use lines::write_room_objects;
+pub use lines::{RoomLines, write_room_objects};

@@ -1,30 +1,79 @@
 //! The objects of a run with its room.
-ghost use Rattle.std.specs.Prelude.{ℕ, List};
-ghost use Rattle.cec_json.specs.Object.{AreInOrder};
-ghost use Rattle.cec_json.specs.Progress.{WritesOn, WritesText};
-ghost use Rattle.cec_room_json.specs.Event.{IsRoomObject};
+ghost use Rattle.std.specs.Prelude.{◌≡◌, ℕ, List, drop};
+ghost use Rattle.cec_json.specs.Written.{WritesText};
+ghost use Rattle.cec_room_json.specs.Event.{place_of};
 ghost use Rattle.cec_room_json.specs.Room.{AreRoomObjects};
 ghost use Rattle.hdmi_core.specs.Lines.{lines_of};
 
-use crate::event::{moved, place_of, write_room_object};
-use crate::head::write_heads;
-use cec_json::Progress;
-use hdmi_core::{Sink, WriteFault, first_line};
+use crate::event::{add_room_object, moved, place_of};
+use crate::head::add_heads;
+use cec_json::LineObjects;
+use hdmi_core::{Counted, Sink, WriteFault, first_line};
 
-// Writes the objects of a trace. The script is read on from the line of the event before.
-fn write_trace<S: Sink>(script: &[u8], trace: &[u8], progress: &mut Progress, out: &mut S)
-    ensures { (objects : List ℕ) × AreInOrder (IsRoomObject (lines_of script.now)) (lines_of trace.now) objects
-        × WritesOn (S.contents out.old) (S.contents out.new) (S.is_stuck out.old) (S.is_stuck out.new) objects progress.old.so_far progress.new.so_far }
-{
-    let mut rest = trace;
-    let mut ahead = script;
-    let mut passed = 0;
-    'lines: while let Some((line, after)) = first_line(rest) {
-        let number = place_of(line, passed);
-        ahead = moved(script, ahead, passed, number);
-        passed = number;
-        write_room_object(ahead, line, progress, out);
-        rest = after;
+/// The lines of a trace, in whose objects an event has its line of the script. The script is read on from the line of the event
+/// before.
+#[derive(Clone, Copy)]
+pub struct RoomLines<'a> {
+    pub topology: &'a [u8],
+    pub script: &'a [u8],
+    ahead: &'a [u8],
+    passed: u64,
+    ghost place: { lines_of ahead.now ≡ drop passed (lines_of script.now) },
+}
+
+impl<'a> RoomLines<'a> {
+    /// Before the first line of the trace.
+    pub fn new(topology: &'a [u8], script: &'a [u8]) -> Self
+        ensures topology { result.topology.now ≡ topology.now }
+        ensures script { result.script.now ≡ script.now }
+    {
+        RoomLines {
+            topology,
+            script,
+            ahead: script,
+            passed: 0,
+        }
+    }
+
+    // Goes on to the line that an event names; another line leaves it where it is.
+    fn go_on(&mut self, line: &[u8])
+        ensures script { self.new.script ≡ self.old.script }
+        ensures ahead { lines_of self.new.ahead.now ≡ drop (place_of line.now self.old.passed) (lines_of self.old.script.now) }
+    {
+        let number = place_of(line, self.passed);
+        *self = RoomLines {
+            topology: self.topology,
+            script: self.script,
+            ahead: moved(self.script, self.ahead, self.passed, number),
+            passed: number,
+        };
+    }
+}
+
+impl<'a> LineObjects for RoomLines<'a> {
+    ghost use Rattle.std.specs.Prelude.{◌++◌};
+    ghost use Rattle.std.specs.List.{flat_map};
+    ghost use Rattle.cec_room_json.specs.Event.{IsRoomObject};
+    ghost use Rattle.cec_room_json.specs.Head.{head_text};
+    ghost use Rattle.hdmi_core.specs.Lines.{lines_of};
+
+    ghost head = { λ lines. flat_map head_text (lines_of lines.topology.now) ++ flat_map head_text (lines_of lines.script.now) };
+
+    ghost is = { λ lines. IsRoomObject (lines_of lines.script.now) };
+
+    #[tactic(auto, using(hdmi_core::proofs::Adding::then))]
+    fn add_head<S: Sink>(&self, out: &mut Counted<'_, S>) {
+        add_heads(out, self.topology);
+        add_heads(out, self.script);
+    }
+
+    fn add<S: Sink>(&mut self, out: &mut Counted<'_, S>, text: &[u8]) {
+        let mut rest = text;
+        'lines: while let Some((line, after)) = first_line(rest) {
+            self.go_on(line);
+            add_room_object(out, self.ahead, line);
+            rest = after;
+        }
     }
 }
 
@@ -43,9 +92,15 @@ pub fn write_room_objects<S: Sink>(
     ensures { (objects : List ℕ) × AreRoomObjects topology.now script.now trace.now objects
         × WritesText (S.contents out.old) (S.contents out.new) (S.is_stuck out.old) (S.is_stuck out.new) objects result }
 {
-    let mut progress = Progress::new();
-    write_heads(topology, &mut progress, out);
-    write_heads(script, &mut progress, out);
-    write_trace(script, trace, &mut progress, out);
-    progress.result()
+    let mut objects = Counted::new(out);
+    let mut lines = RoomLines::new(topology, script);
+    lines.add_head(&mut objects);
+    lines.add(&mut objects, trace);
+    let written = objects.written();
+    // No effect at run time. The proof reads what `out` holds from the sink that comes back.
+    let _below = objects.into_sink();
+    match written {
+        Ok(_) => Ok(()),
+        Err(fault) => Err(fault),
+    }
 }

@@ -11,3 +11,5 @@ mod reports;
 mod rooms;
 #[cfg(test)]
 mod rows;
+#[cfg(test)]
+mod runs;

@@ -1,33 +1,32 @@
-use Rattle.std.proofs.Common.{[], ℕ, Result, sym, subst}
-use Rattle.hdmi_core.specs.declared.sink.WriteFault.{WriteFault}
+use Rattle.std.proofs.Common.{ℕ, Bool, List, Option, Ok, Err, Result, rules, subst}
 use Rattle.hdmi_core.specs.Cut.{WrittenText}
-use Rattle.cec_json.specs.Progress.{WritesText}
-use Rattle.cec_json.proofs.Parted.{done_all, done_first, done_more}
-use Rattle.cec_json.proofs.Writing.{writes_all, writes_first}
-use Rattle.cec_report_json.specs.Object.{IsReportObject}
+use Rattle.hdmi_core.specs.declared.sink.WriteFault.{WriteFault}
+use Rattle.hdmi_core.proofs.Adding.{loan_ended}
+use Rattle.cec_json.specs.Written.{WritesText}
 use Rattle.cec_report_json.proofs.lines.write_report_objects.Goals as goal
 
-pub loop-line-init : goal.loop-line-init
-loop-line-init g c =
-    done_first (IsReportObject c.args.report) c.args.text.now (g.S.Sink.contents c.args.out.now) (g.S.Sink.is_stuck c.args.out.now) c.new-progress.result.so_far
-    (subst (λ (r : Result ℕ WriteFault). WrittenText (g.S.Sink.contents c.args.out.now) (g.S.Sink.contents c.args.out.now) (g.S.Sink.is_stuck c.args.out.now) (g.S.Sink.is_stuck c.args.out.now) [] r)
-    (sym c.new-progress.ensures) (writes_first (g.S.Sink.contents c.args.out.now) (g.S.Sink.is_stuck c.args.out.now)))
+pub returns-in-Ok : goal.returns-in-Ok
+returns-in-Ok g c =
+    let old = g.S.Sink.contents c.args.out.now in
+    let was = g.S.Sink.is_stuck c.args.out.now in
+    let t = c.add_report_objects.ensures in (
+      t.0,
+      t.1,
+      loan_ended g.S.Sink.contents g.S.Sink.is_stuck c.args.out.now _ c.into_sink-below.result.now _ c.into_sink-below.result.ghost_name c.new-objects.result c.add_report_objects.new.out t.0
+          (λ (k : Option (List ℕ)) (s : Bool). WritesText old k was s t.0 (Ok tt)) c.new-objects.ensures t.2
+          (λ added. let whole = subst (λ (r : Result ℕ WriteFault). WrittenText old c.add_report_objects.new.out.known was c.add_report_objects.new.out.stuck t.0 r) c.in-Ok.is (c.written-written.ensures.text _ _ _ t.0 added) in (whole.1, whole.2))
+          c.into_sink-below.ensures.loan c.into_sink-below.ensures.known c.into_sink-below.ensures.stuck (search rules),
+    )
 
-pub loop-line-preserved : goal.loop-line-preserved
-loop-line-preserved g c =
-    let w = c.write_report_object.ensures in
-    done_more (IsReportObject c.args.report) c.args.text.now c.loop-line.rest.now c.in-Some.after.now c.in-Some.line.now w.0
-    (g.S.Sink.contents c.args.out.now) (g.S.Sink.contents c.loop-line.out) (g.S.Sink.contents c.write_report_object.new.out)
-    (g.S.Sink.is_stuck c.args.out.now) (g.S.Sink.is_stuck c.loop-line.out) (g.S.Sink.is_stuck c.write_report_object.new.out)
-    c.loop-line.progress.so_far c.write_report_object.new.progress.so_far c.loop-line.invariant c.in-Some.ensures.lines w.1 w.2
-
-pub returns : goal.returns
-returns g c =
-    let d = c.loop-line.invariant in (
-      d.objects,
-      done_all (IsReportObject c.args.report) c.args.text.now c.loop-line.rest.now (g.S.Sink.contents c.args.out.now) (g.S.Sink.contents c.loop-line.out) (g.S.Sink.is_stuck c.args.out.now) (g.S.Sink.is_stuck c.loop-line.out)
-          c.loop-line.progress.so_far d c.in_default.ensures.lines,
-      subst (WritesText (g.S.Sink.contents c.args.out.now) (g.S.Sink.contents c.loop-line.out) (g.S.Sink.is_stuck c.args.out.now) (g.S.Sink.is_stuck c.loop-line.out) d.objects)
-          (sym c.result.ensures)
-          (writes_all (g.S.Sink.contents c.args.out.now) (g.S.Sink.contents c.loop-line.out) (g.S.Sink.is_stuck c.args.out.now) (g.S.Sink.is_stuck c.loop-line.out) d.objects c.loop-line.progress.so_far d.written),
+pub returns-in-Err : goal.returns-in-Err
+returns-in-Err g c =
+    let old = g.S.Sink.contents c.args.out.now in
+    let was = g.S.Sink.is_stuck c.args.out.now in
+    let t = c.add_report_objects.ensures in (
+      t.0,
+      t.1,
+      loan_ended g.S.Sink.contents g.S.Sink.is_stuck c.args.out.now _ c.into_sink-below.result.now _ c.into_sink-below.result.ghost_name c.new-objects.result c.add_report_objects.new.out t.0
+          (λ (k : Option (List ℕ)) (s : Bool). WritesText old k was s t.0 (Err c.in-Err.fault)) c.new-objects.ensures t.2
+          (λ added. subst (λ (r : Result ℕ WriteFault). WrittenText old c.add_report_objects.new.out.known was c.add_report_objects.new.out.stuck t.0 r) c.in-Err.is (c.written-written.ensures.text _ _ _ t.0 added))
+          c.into_sink-below.ensures.loan c.into_sink-below.ensures.known c.into_sink-below.ensures.stuck (search rules),
     )

@@ -1,25 +1,53 @@
-use Rattle.std.proofs.Common.{ℕ, List, [], ◌++◌, Result, refl, sym, subst}
+use Rattle.std.proofs.Common.{◌++◌, ◌∙◌, ℕ, Bool, List, Option, Ok, Err, Result, ap, refl, rules, subst}
 use Rattle.std.specs.List.{flat_map}
-use Rattle.hdmi_core.specs.declared.sink.WriteFault.{WriteFault}
+use Rattle.hdmi_core.specs.Adds.{Adds}
 use Rattle.hdmi_core.specs.Cut.{WrittenText}
 use Rattle.hdmi_core.specs.Lines.{lines_of}
-use Rattle.cec_json.specs.Progress.{WritesOn, WritesText}
-use Rattle.cec_json.proofs.Writing.{writes_all, writes_first, writes_two}
+use Rattle.hdmi_core.specs.declared.sink.WriteFault.{WriteFault}
+use Rattle.hdmi_core.proofs.Adding.{loan_ended, then}
+use Rattle.cec_json.specs.Object.{AreInOrder}
+use Rattle.cec_json.specs.Written.{WritesText}
+use Rattle.cec_json.proofs.Writing.{adds_as}
+use Rattle.cec_room_json.specs.Event.{IsRoomObject}
 use Rattle.cec_room_json.specs.Head.{head_text}
 use Rattle.cec_room_json.proofs.lines.write_room_objects.Goals as goal
 
-pub returns : goal.returns
-returns g c =
+pub returns-in-Ok : goal.returns-in-Ok
+returns-in-Ok g c =
     let old = g.S.Sink.contents c.args.out.now in
     let was = g.S.Sink.is_stuck c.args.out.now in
-    let new = g.S.Sink.contents c.write_trace.new.out in
-    let is = g.S.Sink.is_stuck c.write_trace.new.out in
-    let t = c.write_trace.ensures in
+    let topology = c.new-lines.ensures.topology in
+    let script = c.new-lines.ensures.script in
+    let t = c.add.ensures.objects in
     let text = flat_map head_text (lines_of c.args.topology.now) ++ flat_map head_text (lines_of c.args.script.now) ++ t.0 in
-    let on : WritesOn old new was is text c.new-progress.result.so_far c.write_trace.new.progress.so_far = writes_two (writes_two c.write_heads.ensures c.write_heads-2.ensures) t.2 in
-    let first : WrittenText old old was was [] c.new-progress.result.so_far =
-    subst (λ (r : Result ℕ WriteFault). WrittenText old old was was [] r) (sym c.new-progress.ensures) (writes_first old was) in (
+    let are = subst (λ (s : List ℕ). AreInOrder (IsRoomObject (lines_of s)) (lines_of c.args.trace.now) t.0) script t.1 in
+    let heads = ap (λ (s : List ℕ). flat_map head_text (lines_of s) ++ flat_map head_text (lines_of c.new-lines.result.script.now)) topology
+    ∙ ap (λ (s : List ℕ). flat_map head_text (lines_of c.args.topology.now) ++ flat_map head_text (lines_of s)) script in
+    let all : Adds c.new-objects.result c.add.new.out text = then _ _ _ _ _ (adds_as c.new-objects.result c.add_head.new.out _ _ heads c.add_head.ensures) t.2 in (
       text,
-      (t.0, t.1, refl),
-      subst (WritesText old new was is text) (sym c.result.ensures) (writes_all old new was is text c.write_trace.new.progress.so_far (on.on old was [] first)),
+      (t.0, are, refl),
+      loan_ended g.S.Sink.contents g.S.Sink.is_stuck c.args.out.now _ c.into_sink-below.result.now _ c.into_sink-below.result.ghost_name c.new-objects.result c.add.new.out text
+          (λ (k : Option (List ℕ)) (s : Bool). WritesText old k was s text (Ok tt)) c.new-objects.ensures all
+          (λ added. let whole = subst (λ (r : Result ℕ WriteFault). WrittenText old c.add.new.out.known was c.add.new.out.stuck text r) c.in-Ok.is (c.written-written.ensures.text _ _ _ text added) in (whole.1, whole.2))
+          c.into_sink-below.ensures.loan c.into_sink-below.ensures.known c.into_sink-below.ensures.stuck (search rules),
+    )
+
+pub returns-in-Err : goal.returns-in-Err
+returns-in-Err g c =
+    let old = g.S.Sink.contents c.args.out.now in
+    let was = g.S.Sink.is_stuck c.args.out.now in
+    let topology = c.new-lines.ensures.topology in
+    let script = c.new-lines.ensures.script in
+    let t = c.add.ensures.objects in
+    let text = flat_map head_text (lines_of c.args.topology.now) ++ flat_map head_text (lines_of c.args.script.now) ++ t.0 in
+    let are = subst (λ (s : List ℕ). AreInOrder (IsRoomObject (lines_of s)) (lines_of c.args.trace.now) t.0) script t.1 in
+    let heads = ap (λ (s : List ℕ). flat_map head_text (lines_of s) ++ flat_map head_text (lines_of c.new-lines.result.script.now)) topology
+    ∙ ap (λ (s : List ℕ). flat_map head_text (lines_of c.args.topology.now) ++ flat_map head_text (lines_of s)) script in
+    let all : Adds c.new-objects.result c.add.new.out text = then _ _ _ _ _ (adds_as c.new-objects.result c.add_head.new.out _ _ heads c.add_head.ensures) t.2 in (
+      text,
+      (t.0, are, refl),
+      loan_ended g.S.Sink.contents g.S.Sink.is_stuck c.args.out.now _ c.into_sink-below.result.now _ c.into_sink-below.result.ghost_name c.new-objects.result c.add.new.out text
+          (λ (k : Option (List ℕ)) (s : Bool). WritesText old k was s text (Err c.in-Err.fault)) c.new-objects.ensures all
+          (λ added. subst (λ (r : Result ℕ WriteFault). WrittenText old c.add.new.out.known was c.add.new.out.stuck text r) c.in-Err.is (c.written-written.ensures.text _ _ _ text added))
+          c.into_sink-below.ensures.loan c.into_sink-below.ensures.known c.into_sink-below.ensures.stuck (search rules),
     )

@@ -1,8 +1,0 @@
-use Rattle.cec_json.proofs.Parted.{whole_is}
-use Rattle.cec_json.proofs.Writing.{writes_as, writes_two}
-use Rattle.cec_json.proofs.object.write_whole.Goals as goal
-
-pub returns : goal.returns
-returns g c =
-    writes_as (whole_is c.args.frame.now c.args.line.now c.after_ending-rest.result.now c.reported_in.result.now c.after_ending-rest.ensures c.reported_in.ensures)
-    (writes_two (writes_two c.write_begun.ensures c.write_complete.ensures) c.write_seats.ensures)

@@ -1,0 +1,14 @@
+use Rattle.std.proofs.Common.{refl, subst}
+use Rattle.cec_json.specs.Object.{object}
+use Rattle.hdmi_core.proofs.Adding.{then}
+use Rattle.cec_report_json.specs.Object.{IsReportedAs}
+use Rattle.cec_report_json.specs.declared.object.Form.{Form}
+use Rattle.cec_report_json.proofs.object.add_report_object.Goals as goal
+
+pub returns : goal.returns
+returns g c =
+    let t = c.add_reported_as.ensures in (
+      object c.args.line.now t.0,
+      (t.0, subst (λ (f : Form). IsReportedAs f c.args.line.now t.0) c.form_of.ensures t.1, refl),
+      then _ _ _ _ _ (then _ _ _ _ _ (then _ _ _ _ _ c.add.ensures c.add_quoted.ensures) t.2) c.add-2.ensures,
+    )
