@@ -7,3 +7,7 @@ mod audits;
 mod captures;
 #[cfg(test)]
 mod kinds;
+#[cfg(test)]
+mod margins;
+#[cfg(test)]
+mod objects;

@@ -180,11 +180,11 @@ smooth:5 10 0|12 1|14 0|600 1|603 0|607 1|700 end => 14f 607r end 700
 # Events that were lost.
 lost: PINS|100.000000000 1|100.012000001 65536|100.015700000 65537|100.016000000 4|100.017000000 65539 => 8 9 11 .
 lost: PINS|100.000000000 1 => .
-# What begins before the line was high for 16,800 is one line; a line that was idle from the begin on has none.
-idle: 1000 0|1600 1|3400 0|4000 1|30000 0|33000 1|40000 end => 0 20800 joined -|30000 33000 bad-start -|
-idle: 16800 0|19800 1|40000 end => 16800 19800 bad-start -|
-idle: 16799 0|19799 1|40000 end => 0 36599 joined -|
-idle: 16799 0|19799 1|20000 end => 0 20000 joined -|
+# What begins before the line was high for 7,200 is one line; a line that was idle from the begin on has none.
+idle: 1000 0|1600 1|3400 0|4000 1|30000 0|33000 1|40000 end => 0 11200 joined -|30000 33000 bad-start -|
+idle: 7200 0|10200 1|40000 end => 7200 10200 bad-start -|
+idle: 7199 0|10199 1|40000 end => 0 17399 joined -|
+idle: 7199 0|10199 1|17000 end => 0 17000 joined -|
 idle: 1000 0|40000 end => 0 40000 joined -|
 idle: 40000 end => 
 ";

@@ -156,8 +156,10 @@ reported_all timing t (x ∷ xs) = line_and_remarks timing t x ++ reported_all t
 abbrev pub summary_text : ℕ → Tape → List ℕ
 summary_text end t = codes "  all readings\n" ++ late_text end t.waiting ++ claims_text t.sources.reported.items t.sources.active.items ++ counts_text 0 t.counts ++ widths_text t.widths
 
--- the whole of a capture: its readings, one after another, and what there is to say of all
+-- the whole of a capture: these readings, one after another, and what there is to say of all
+abbrev pub audit_text_of : Bool → Captured → List Listed → List ℕ
+audit_text_of timing c xs = reported_all timing (first_tape c.edges) xs ++ summary_text c.end (after_all (first_tape c.edges) xs)
+
+-- its readings by the standard's windows
 abbrev pub audit_text : Bool → Captured → List ℕ
-audit_text timing c =
-    reported_all timing (first_tape c.edges) (readings_of (line_of_edges c.edges) c.end)
-    ++ summary_text c.end (after_all (first_tape c.edges) (readings_of (line_of_edges c.edges) c.end))
+audit_text timing c = audit_text_of timing c (readings_of (line_of_edges c.edges) c.end)

@@ -1,9 +1,12 @@
 //! The audit of a capture.
-ghost use Rattle.cec_audit.specs.Audit.{audit_text};
+ghost use Rattle.cec_bits.specs.Windows.{AreWindows};
+ghost use Rattle.cec_mon.specs.Joined.{captured_by};
+ghost use Rattle.cec_audit.specs.Audit.{audit_text, audit_text_of};
 ghost use Rattle.cec_audit.specs.Progress.{WritesText};
 
 use crate::auditor::Auditor;
 use crate::progress::Progress;
+use cec_bits::{STANDARD, Windows};
 use cec_mon::Monitor;
 use cec_signal::Capture;
 use hdmi_core::{Sink, WriteFault};
@@ -25,6 +28,7 @@ pub struct AuditOptions {
 /// # Errors
 ///
 /// The sink takes no more: then the front of that text was written, as long as the fault reports.
+#[tactic(auto, using(cec_bits::proofs::Standard::standard_are))]
 pub fn audit_capture<S: Sink>(
     capture: &Capture,
     options: AuditOptions,
@@ -32,8 +36,26 @@ pub fn audit_capture<S: Sink>(
 ) -> Result<(), WriteFault>
     ensures { WritesText (S.contents out.old) (S.contents out.new) (S.is_stuck out.old) (S.is_stuck out.new) (audit_text options.timing capture.now) result }
 {
+    audit_capture_by(capture, STANDARD, options, out)
+}
+
+/// The same of what a monitor reads by these windows. The remarks go by the standard's: with wider windows they name each width
+/// that is out of the standard's.
+///
+/// # Errors
+///
+/// The sink takes no more: then the front of that text was written, as long as the fault reports.
+pub fn audit_capture_by<S: Sink>(
+    capture: &Capture,
+    windows: Windows,
+    options: AuditOptions,
+    out: &mut S,
+) -> Result<(), WriteFault>
+    requires { AreWindows windows }
+    ensures { WritesText (S.contents out.old) (S.contents out.new) (S.is_stuck out.old) (S.is_stuck out.new) (audit_text_of options.timing capture.now (captured_by windows capture.now)) result }
+{
     let edges = capture.edges();
-    let mut monitor = Monitor::new();
+    let mut monitor = Monitor::with_windows(windows);
     let mut auditor = Auditor::new(edges);
     let mut progress = Progress::new();
     for edge in edges {

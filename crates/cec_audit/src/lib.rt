@@ -7,5 +7,5 @@ mod laws;
 mod lines;
 mod progress;
 
-pub use audit::{AuditOptions, audit_capture};
+pub use audit::{AuditOptions, audit_capture, audit_capture_by};
 pub use laws::audits_keep_readings;

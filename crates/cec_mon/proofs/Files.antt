@@ -154,7 +154,7 @@ reported_edge f lines next m new e reported p q w g follows = record {
     at : (u : ℕ) → lines.from ≤ u → line_of_edges f.edges u ≡ (if nat_lt u e.at then lines.is_low else level_at e.low b.left.edges u)
     at u l = w.level u l ∙ ap (λ (x : EdgeFile). level_at lines.is_low x.edges u) b.same
 
-    calm : (u : ℕ) → lines.from ≤ u → u < e.at → line_of_edges f.edges u ≡ m.receiver.was_low
+    calm : (u : ℕ) → lines.from ≤ u → u < e.at → line_of_edges f.edges u ≡ m.receiver.receiver.was_low
     calm u l s = at u l ∙ ap (λ c. if c then lines.is_low else level_at e.low b.left.edges u) (let x : nat_lt u e.at ≡ true = grind (arith, nat_tests) in x) ∙ sym w.before ∙ sym w.heard.stood.level
 
     later : (u : ℕ) → e.at ≤ u → line_of_edges f.edges u ≡ level_at e.low b.left.edges u

@@ -8,10 +8,9 @@ use Rattle.std.proofs.lemmas.Bool.Decides.{nat_tests}
 use Rattle.hdmi_core.specs.declared.sink.WriteFault.{WriteFault}
 use Rattle.cec_wave.specs.declared.Edge.{Edge}
 use Rattle.cec_wave.specs.Line.{Line, was_low}
-use Rattle.cec_bits.specs.Readings.{Listed, readings_of}
-use Rattle.cec_bits.specs.Ended.{ended_by}
-use Rattle.cec_bits.specs.Reports.{ended_before}
-use Rattle.cec_bits.proofs.Reported.{ended_first}
+use Rattle.cec_bits.specs.declared.times.Windows.{Windows}
+use Rattle.cec_bits.specs.Windows.{standard}
+use Rattle.cec_bits.specs.Readings.{Listed}
 use Rattle.cec_bits.proofs.Stood.{was_now}
 use Rattle.hdmi_core.specs.Cut.{CutOff}
 use Rattle.hdmi_core.specs.Adds.{Adds, Tally}
@@ -19,9 +18,11 @@ use Rattle.hdmi_core.proofs.Adding.{cut_short, nothing, then}
 use Rattle.cec_signal.specs.Edges.{AreInTurn, Captured, EndBy, IsCapture, level_at, line_of_edges}
 use Rattle.cec_signal.proofs.Recording.{before_turn}
 use Rattle.cec_mon.specs.declared.monitor.Monitor.{Monitor as Watcher}
-use Rattle.cec_mon.specs.Monitor.{HeardBefore, FollowsEdge, FollowsEnd}
-use Rattle.cec_mon.specs.Joined.{WritesJoined, capture_text, has_joined, joined_line, joined_text}
-use Rattle.cec_mon.specs.Watch.{WritesFile, as_file, listed_line, readings_text}
+use Rattle.cec_mon.specs.Monitor.{HeardBeforeBy, FollowsEdgeBy, FollowsEndBy}
+use Rattle.cec_mon.specs.ReadBy.{ended_before_by}
+use Rattle.cec_mon.proofs.ReadBy.{ended_first, standard_readings}
+use Rattle.cec_mon.specs.Joined.{WritesJoinedText, captured_by, capture_text_by, has_joined, joined_line, joined_text}
+use Rattle.cec_mon.specs.Watch.{WritesFile, as_file, file_readings, listed_line, readings_text}
 
 -- ---- texts of readings of which some are joined
 
@@ -60,11 +61,11 @@ joined_none b [] = refl
 joined_none b (x ∷ xs) = let late : nat_lt x.begin 0 ≡ false = grind (arith, nat_tests) in rw late (ap (λ l. listed_line x ++ l) (joined_none b xs))
 
 -- what is written of the readings so far, and whether one of them was joined
-abbrev pub so_far : ℕ → Line → ℕ → List ℕ
-so_far t low from = joined_text t false (ended_before low from)
+abbrev pub so_far : Windows → ℕ → Line → ℕ → List ℕ
+so_far win t low from = joined_text t false (ended_before_by win low from)
 
-abbrev pub was_joined : ℕ → Line → ℕ → Bool
-was_joined t low from = has_joined t (ended_before low from)
+abbrev pub was_joined : Windows → ℕ → Line → ℕ → Bool
+was_joined win t low from = has_joined t (ended_before_by win low from)
 
 abbrev pub told_text : ℕ → Bool → Option Listed → List ℕ
 told_text t is_reported reported = joined_text t is_reported (option_to_list reported)
@@ -76,7 +77,7 @@ edge_early (e ∷ edges) end zero none h l = h.0
 edge_early (e ∷ edges) end (suc k) none h l = edge_early edges end k none h.1 (omega arith)
 
 -- the edges up to these are followed, and what has ended before the next one is written
-pub record Followed (t : ℕ) (is_reported : Bool) (c : Captured) (left : List Edge) (m : Watcher) (a b : Tally) : Type 0 where
+pub record Followed (win : Windows) (t : ℕ) (is_reported : Bool) (c : Captured) (left : List Edge) (m : Watcher) (a b : Tally) : Type 0 where
   pub is_low : Bool
   pub from : ℕ
   pub level : (u : ℕ) → from ≤ u → line_of_edges c.edges u ≡ level_at is_low left u
@@ -84,12 +85,13 @@ pub record Followed (t : ℕ) (is_reported : Bool) (c : Captured) (left : List E
   pub turn : AreInTurn is_low from left
   pub ends : EndBy c.end left
   pub reach : from ≤ c.end + 1
-  pub heard : HeardBefore m (line_of_edges c.edges) from
-  pub reported : is_reported ≡ was_joined t (line_of_edges c.edges) from
-  pub put : Adds a b (so_far t (line_of_edges c.edges) from)
+  pub heard : HeardBeforeBy win m (line_of_edges c.edges) from
+  pub reported : is_reported ≡ was_joined win t (line_of_edges c.edges) from
+  pub put : Adds a b (so_far win t (line_of_edges c.edges) from)
 
-pub followed_first : (t : ℕ) (c : Captured) (m : Watcher) (a : Tally) → IsCapture c.edges c.end → ((low : Line) → HeardBefore m low 0) → Followed t false c c.edges m a a
-followed_first t c m a is heard = record {
+pub followed_first : (win : Windows) (t : ℕ) (c : Captured) (m : Watcher) (a : Tally) → IsCapture c.edges c.end → ((low : Line) → HeardBeforeBy win m low 0) → Followed win t false c c.edges m a a
+unfolding ended_before_by
+followed_first win t c m a is heard = record {
   is_low = false;
   from = 0;
   level = λ u l. refl;
@@ -103,27 +105,27 @@ followed_first t c m a is heard = record {
 }
 
 -- an edge, and what was reported of it
-record Told (c : Captured) (rest : List Edge) (new : Watcher) (e : Edge) (from : ℕ) (reported : Option Listed) : Type 0 where
+record Told (win : Windows) (c : Captured) (rest : List Edge) (new : Watcher) (e : Edge) (from : ℕ) (reported : Option Listed) : Type 0 where
   level : (u : ℕ) → e.at + 1 ≤ u → line_of_edges c.edges u ≡ level_at e.low rest u
   before : was_low (line_of_edges c.edges) (e.at + 1) ≡ e.low
-  heard : HeardBefore new (line_of_edges c.edges) (e.at + 1)
-  by : ended_by (line_of_edges c.edges) e.at ≡ ended_before (line_of_edges c.edges) from ++ option_to_list reported
-  ended : ended_before (line_of_edges c.edges) (e.at + 1) ≡ ended_before (line_of_edges c.edges) from ++ option_to_list reported
+  heard : HeardBeforeBy win new (line_of_edges c.edges) (e.at + 1)
+  by : ended_before_by win (line_of_edges c.edges) (suc e.at) ≡ ended_before_by win (line_of_edges c.edges) from ++ option_to_list reported
+  ended : ended_before_by win (line_of_edges c.edges) (e.at + 1) ≡ ended_before_by win (line_of_edges c.edges) from ++ option_to_list reported
 
-reported_edge : (t : ℕ) (is_reported : Bool) (c : Captured) (rest : List Edge) (m new : Watcher) (e : Edge) (reported : Option Listed) (a b : Tally) → (w : Followed t is_reported c (e ∷ rest) m a b)
-    → FollowsEdge m e reported new → Told c rest new e w.from reported
-reported_edge t is_reported c rest m new e reported a b w follows = record {
+reported_edge : (win : Windows) (t : ℕ) (is_reported : Bool) (c : Captured) (rest : List Edge) (m new : Watcher) (e : Edge) (reported : Option Listed) (a b : Tally) → (w : Followed win t is_reported c (e ∷ rest) m a b)
+    → FollowsEdgeBy win m e reported new → Told win c rest new e w.from reported
+reported_edge win t is_reported c rest m new e reported a b w follows = record {
   level = λ u l. later u (omega arith);
   before = was_now (line_of_edges c.edges) e.at ∙ now_is;
   heard = d.0;
   by = d.1;
-  ended = ap (ended_before (line_of_edges c.edges)) (let x : e.at + 1 ≡ suc e.at = omega arith in x) ∙ d.1;
+  ended = ap (ended_before_by win (line_of_edges c.edges)) (let x : e.at + 1 ≡ suc e.at = omega arith in x) ∙ d.1;
 }
   where
     after : w.from ≤ e.at
     after = w.turn.1
 
-    calm : (u : ℕ) → w.from ≤ u → u < e.at → line_of_edges c.edges u ≡ m.receiver.was_low
+    calm : (u : ℕ) → w.from ≤ u → u < e.at → line_of_edges c.edges u ≡ m.receiver.receiver.was_low
     calm u l s = w.level u l ∙ ap (λ b. if b then w.is_low else level_at e.low rest u) (let x : nat_lt u e.at ≡ true = grind (arith, nat_tests) in x) ∙ sym w.before ∙ sym w.heard.stood.level
 
     later : (u : ℕ) → e.at ≤ u → line_of_edges c.edges u ≡ level_at e.low rest u
@@ -132,22 +134,22 @@ reported_edge t is_reported c rest m new e reported a b w follows = record {
     now_is : line_of_edges c.edges e.at ≡ e.low
     now_is = later e.at (omega arith) ∙ before_turn e.low (e.at + 1) rest w.turn.2 e.at (omega arith)
 
-    d : HeardBefore new (line_of_edges c.edges) (e.at + 1) × (ended_by (line_of_edges c.edges) e.at ≡ ended_before (line_of_edges c.edges) w.from ++ option_to_list reported)
+    d : HeardBeforeBy win new (line_of_edges c.edges) (e.at + 1) × (ended_before_by win (line_of_edges c.edges) (suc e.at) ≡ ended_before_by win (line_of_edges c.edges) w.from ++ option_to_list reported)
     d = follows (line_of_edges c.edges) w.from w.heard after calm now_is
 
 -- with the reading that an edge ends
-text_more : (t : ℕ) (is_reported : Bool) (low : Line) (from : ℕ) (reported : Option Listed) → is_reported ≡ was_joined t low from
-    → joined_text t false (ended_before low from ++ option_to_list reported) ≡ so_far t low from ++ told_text t is_reported reported
-text_more t is_reported low from reported is = joined_more t false (ended_before low from) (option_to_list reported) ∙ ap (λ b. so_far t low from ++ told_text t b reported) (sym is)
+text_more : (win : Windows) (t : ℕ) (is_reported : Bool) (low : Line) (from : ℕ) (reported : Option Listed) → is_reported ≡ was_joined win t low from
+    → joined_text t false (ended_before_by win low from ++ option_to_list reported) ≡ so_far win t low from ++ told_text t is_reported reported
+text_more win t is_reported low from reported is = joined_more t false (ended_before_by win low from) (option_to_list reported) ∙ ap (λ b. so_far win t low from ++ told_text t b reported) (sym is)
 
-pub followed_more : (t : ℕ) (is_reported is_more : Bool) (c : Captured) (left rest : List Edge) (m new : Watcher) (e : Edge) (reported : Option Listed) (a b z : Tally)
-    → Followed t is_reported c left m a b → left ≡ e ∷ rest → FollowsEdge m e reported new → Adds b z (told_text t is_reported reported)
-    → is_more ≡ (is_reported || has_joined t (option_to_list reported)) → Followed t is_more c rest new a z
-followed_more t is_reported is_more c left rest m new e reported a b z followed cut follows added joins =
-    let w : Followed t is_reported c (e ∷ rest) m a b = subst (λ (l : List Edge). Followed t is_reported c l m a b) cut followed in
-    let d = reported_edge t is_reported c rest m new e reported a b w follows in
+pub followed_more : (win : Windows) (t : ℕ) (is_reported is_more : Bool) (c : Captured) (left rest : List Edge) (m new : Watcher) (e : Edge) (reported : Option Listed) (a b z : Tally)
+    → Followed win t is_reported c left m a b → left ≡ e ∷ rest → FollowsEdgeBy win m e reported new → Adds b z (told_text t is_reported reported)
+    → is_more ≡ (is_reported || has_joined t (option_to_list reported)) → Followed win t is_more c rest new a z
+followed_more win t is_reported is_more c left rest m new e reported a b z followed cut follows added joins =
+    let w : Followed win t is_reported c (e ∷ rest) m a b = subst (λ (l : List Edge). Followed win t is_reported c l m a b) cut followed in
+    let d = reported_edge win t is_reported c rest m new e reported a b w follows in
     let low : Line = line_of_edges c.edges in
-    let whole : so_far t low (e.at + 1) ≡ so_far t low w.from ++ told_text t is_reported reported = ap (joined_text t false) d.ended ∙ text_more t is_reported low w.from reported w.reported in
+    let whole : so_far win t low (e.at + 1) ≡ so_far win t low w.from ++ told_text t is_reported reported = ap (joined_text t false) d.ended ∙ text_more win t is_reported low w.from reported w.reported in
     let last = w.ends.0 in
     record {
       is_low = e.low;
@@ -158,41 +160,48 @@ followed_more t is_reported is_more c left rest m new e reported a b z followed 
       ends = w.ends.1;
       reach = omega (arith, last);
       heard = d.heard;
-      reported = joins ∙ ap (λ b. b || has_joined t (option_to_list reported)) w.reported ∙ sym (ap (has_joined t) d.ended ∙ has_more t (ended_before low w.from) (option_to_list reported));
-      put = subst (Adds a z) (sym whole) ((then) a b z (so_far t low w.from) (told_text t is_reported reported) w.put added);
+      reported = joins ∙ ap (λ b. b || has_joined t (option_to_list reported)) w.reported ∙ sym (ap (has_joined t) d.ended ∙ has_more t (ended_before_by win low w.from) (option_to_list reported));
+      put = subst (Adds a z) (sym whole) ((then) a b z (so_far win t low w.from) (told_text t is_reported reported) w.put added);
     }
 
 -- the line of an edge's reading was cut off
-pub cut_edge : (t : ℕ) (is_reported : Bool) (c : Captured) (left rest : List Edge) (m new : Watcher) (e : Edge) (reported : Option Listed) (a b z : Tally)
-    → Followed t is_reported c left m a b → left ≡ e ∷ rest → FollowsEdge m e reported new → Adds b z (told_text t is_reported reported) → z.failed ≡ true → Adds a z (capture_text c t)
-cut_edge t is_reported c left rest m new e reported a b z followed split follows added failed =
-    let w : Followed t is_reported c (e ∷ rest) m a b = subst (λ (l : List Edge). Followed t is_reported c l m a b) split followed in
-    let d = reported_edge t is_reported c rest m new e reported a b w follows in
+pub cut_edge : (win : Windows) (t : ℕ) (is_reported : Bool) (c : Captured) (left rest : List Edge) (m new : Watcher) (e : Edge) (reported : Option Listed) (a b z : Tally)
+    → Followed win t is_reported c left m a b → left ≡ e ∷ rest → FollowsEdgeBy win m e reported new → Adds b z (told_text t is_reported reported) → z.failed ≡ true → Adds a z (capture_text_by win c t)
+cut_edge win t is_reported c left rest m new e reported a b z followed split follows added failed =
+    let w : Followed win t is_reported c (e ∷ rest) m a b = subst (λ (l : List Edge). Followed win t is_reported c l m a b) split followed in
+    let d = reported_edge win t is_reported c rest m new e reported a b w follows in
     let low : Line = line_of_edges c.edges in
-    let more = ended_first low e.at c.end w.ends.0 in
-    let rest_text : List ℕ = joined_text t (has_joined t (ended_before low w.from ++ option_to_list reported)) more.0 in
-    let whole : capture_text c t ≡ (so_far t low w.from ++ told_text t is_reported reported) ++ rest_text =
-    ap (joined_text t false) (more.1 ∙ ap (λ (xs : List Listed). xs ++ more.0) d.by) ∙ joined_more t false (ended_before low w.from ++ option_to_list reported) more.0
-    ∙ ap (λ (xs : List ℕ). xs ++ rest_text) (text_more t is_reported low w.from reported w.reported) in
-    subst (Adds a z) (sym whole) (cut_short a z (so_far t low w.from ++ told_text t is_reported reported) rest_text failed ((then) a b z (so_far t low w.from) (told_text t is_reported reported) w.put added))
+    let more = ended_first win low (suc e.at) c.end (let last = w.ends.0 in omega (arith, last)) in
+    let rest_text : List ℕ = joined_text t (has_joined t (ended_before_by win low w.from ++ option_to_list reported)) more.0 in
+    let whole : capture_text_by win c t ≡ (so_far win t low w.from ++ told_text t is_reported reported) ++ rest_text =
+    ap (joined_text t false) (more.1 ∙ ap (λ (xs : List Listed). xs ++ more.0) d.by) ∙ joined_more t false (ended_before_by win low w.from ++ option_to_list reported) more.0
+    ∙ ap (λ (xs : List ℕ). xs ++ rest_text) (text_more win t is_reported low w.from reported w.reported) in
+    subst (Adds a z) (sym whole) (cut_short a z (so_far win t low w.from ++ told_text t is_reported reported) rest_text failed ((then) a b z (so_far win t low w.from) (told_text t is_reported reported) w.put added))
 
 -- the last reading, and with it the whole list
-all_read : (t : ℕ) (is_reported : Bool) (c : Captured) (m : Watcher) (reported : Option Listed) (a b : Tally) → (w : Followed t is_reported c [] m a b) → FollowsEnd m c.end reported
-    → capture_text c t ≡ so_far t (line_of_edges c.edges) w.from ++ told_text t is_reported reported
-all_read t is_reported c m reported a b w follows =
+all_read : (win : Windows) (t : ℕ) (is_reported : Bool) (c : Captured) (m : Watcher) (reported : Option Listed) (a b : Tally) → (w : Followed win t is_reported c [] m a b) → FollowsEndBy win m c.end reported
+    → capture_text_by win c t ≡ so_far win t (line_of_edges c.edges) w.from ++ told_text t is_reported reported
+all_read win t is_reported c m reported a b w follows =
     ap (joined_text t false) (follows (line_of_edges c.edges) w.from w.heard w.reach (λ u k s. w.level u k ∙ sym w.before ∙ sym w.heard.stood.level))
-    ∙ text_more t is_reported (line_of_edges c.edges) w.from reported w.reported
+    ∙ text_more win t is_reported (line_of_edges c.edges) w.from reported w.reported
 
-pub ended_so : (t : ℕ) (is_reported : Bool) (c : Captured) (left : List Edge) (m : Watcher) (reported : Option Listed) (a b z : Tally)
-    → Followed t is_reported c left m a b → left ≡ [] → FollowsEnd m c.end reported → Adds b z (told_text t is_reported reported) → Adds a z (capture_text c t)
-ended_so t is_reported c left m reported a b z followed over follows added =
-    let w : Followed t is_reported c [] m a b = subst (λ (l : List Edge). Followed t is_reported c l m a b) over followed in
-    subst (Adds a z) (sym (all_read t is_reported c m reported a b w follows)) ((then) a b z (so_far t (line_of_edges c.edges) w.from) (told_text t is_reported reported) w.put added)
+pub ended_so : (win : Windows) (t : ℕ) (is_reported : Bool) (c : Captured) (left : List Edge) (m : Watcher) (reported : Option Listed) (a b z : Tally)
+    → Followed win t is_reported c left m a b → left ≡ [] → FollowsEndBy win m c.end reported → Adds b z (told_text t is_reported reported) → Adds a z (capture_text_by win c t)
+ended_so win t is_reported c left m reported a b z followed over follows added =
+    let w : Followed win t is_reported c [] m a b = subst (λ (l : List Edge). Followed win t is_reported c l m a b) over followed in
+    subst (Adds a z) (sym (all_read win t is_reported c m reported a b w follows)) ((then) a b z (so_far win t (line_of_edges c.edges) w.from) (told_text t is_reported reported) w.put added)
 
 -- joined up to 0 the readings are those of the file that says the same
-pub none_joined : (c : Captured) (old new : Option (List ℕ)) (was is : Bool) (result : Result (Unit {0}) WriteFault) → WritesJoined old new was is c 0 result → WritesFile old new was is (as_file c) result
-none_joined c old new was is (Ok n) h = (subst (Appends old new) (joined_none false (readings_of (line_of_edges c.edges) c.end)) h.0, h.1)
-none_joined c old new was is (Err fault) h = (subst (λ (x : List ℕ). CutOff old new x fault) (joined_none false (readings_of (line_of_edges c.edges) c.end)) h.0, h.1)
+pub none_joined : (xs : List Listed) (old new : Option (List ℕ)) (was is : Bool) (result : Result (Unit {0}) WriteFault) → WritesJoinedText old new was is (joined_text 0 false xs) result → WritesJoinedText old new was is (readings_text xs) result
+none_joined xs old new was is result h = subst (λ (t : List ℕ). WritesJoinedText old new was is t result) (joined_none false xs) h
+
+pub as_written : (c : Captured) (old new : Option (List ℕ)) (was is : Bool) (result : Result (Unit {0}) WriteFault) → WritesJoinedText old new was is (readings_text (file_readings (as_file c))) result → WritesFile old new was is (as_file c) result
+as_written c old new was is (Ok n) h = h
+as_written c old new was is (Err fault) h = h
+
+-- by the standard's windows the readings are those of the line
+pub captured_standard : (c : Captured) → captured_by standard c ≡ file_readings (as_file c)
+captured_standard c = standard_readings (line_of_edges c.edges) c.end
 
 -- the next edge of a list
 pub next_edge : (edges : List Edge) (k : ℕ) (none : Edge) → k < length edges → drop k edges ≡ get_or edges k none ∷ drop (k + 1) edges

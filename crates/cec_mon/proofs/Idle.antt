@@ -37,11 +37,11 @@ record Searches (low : Line) (since : Option ℕ) (is_low : Bool) (from : ℕ) (
   stands : Stands low is_low from since
 
 -- no instant is idle just after the line was low
-low_before : (low : Line) (t v : ℕ) → low v ≡ true → t ≤ v + 16800 → v < t → IsIdle low t → ⊥
+low_before : (low : Line) (t v : ℕ) → low v ≡ true → t ≤ v + 7200 → v < t → IsIdle low t → ⊥
 low_before low t v is near before idle = false≢true (sym (idle.high v near before) ∙ is)
 
 -- nor before the line was high long enough
-too_soon : (low : Line) (s t : ℕ) → (0 < s → low (s - 1) ≡ true) → s ≤ t → t < s + 16800 → IsIdle low t → ⊥
+too_soon : (low : Line) (s t : ℕ) → (0 < s → low (s - 1) ≡ true) → s ≤ t → t < s + 7200 → IsIdle low t → ⊥
 too_soon low zero t edge after soon idle = let l = idle.long in absurd (omega arith)
 too_soon low (suc k) t edge after soon idle = low_before low t k (ap low (let x : k ≡ suc k - 1 = omega arith in x) ∙ edge (omega arith)) (omega arith) (omega arith) idle
 
@@ -64,7 +64,7 @@ either from u P one other = by (nat_lt u from) refl
 
 -- it has been high long enough, before any edge
 found : (low : Line) (s from until end : ℕ) → s ≤ from → ((u : ℕ) → s ≤ u → u < from → low u ≡ false) → (0 < s → low (s - 1) ≡ true) → ((u : ℕ) → from ≤ u → u < until → low u ≡ false)
-    → ((u : ℕ) → u < from → IsIdle low u → ⊥) → s + 16800 ≤ until → until ≤ end → IsJoined low end (s + 16800)
+    → ((u : ℕ) → u < from → IsIdle low u → ⊥) → s + 7200 ≤ until → until ≤ end → IsJoined low end (s + 7200)
 found low s from until end l high edge later none enough by_end = record {
   within = omega arith;
   idle = λ before. record {
@@ -82,12 +82,12 @@ at_end : (low : Line) (since : Option ℕ) (is_low : Bool) (from end : ℕ) → 
 at_end low None is_low from end s =
     not_found low from end (λ u sooner idle. either from u ⊥ (λ h. s.none u h idle)
     (λ h. while_low low from u s.stands.1 s.stands.2 (λ v k m. s.level v k ∙ s.stands.0) h idle))
-at_end low (Some s) is_low from end w = by (nat_le (s + 16800) end) refl
+at_end low (Some s) is_low from end w = by (nat_le (s + 7200) end) refl
   where
-    by : (c : Bool) → nat_le (s + 16800) end ≡ c → IsJoined low end (or_else (if c then Some (s + 16800) else None) end)
+    by : (c : Bool) → nat_le (s + 7200) end ≡ c → IsJoined low end (or_else (if c then Some (s + 7200) else None) end)
     by true h = found low s from end end w.stands.1 w.stands.2 w.stands.3 (λ u k m. w.level u k ∙ w.stands.0) w.none (grind (arith, nat_tests)) (omega arith)
     by false h =
-        let soon : end < s + 16800 = grind (arith, nat_tests) in
+        let soon : end < s + 7200 = grind (arith, nat_tests) in
         let early = w.stands.1 in
         not_found low from end (λ u sooner idle. either from u ⊥ (λ k. w.none u k idle) (λ k. too_soon low s u w.stands.3 (omega arith) (omega arith) idle))
 
@@ -112,7 +112,7 @@ steps low since is_low from e es end w = record {
     later u l = w.level u (omega (arith, after)) ∙ ap (λ b. if b then is_low else level_at e.low es u) (let x : nat_lt u e.at ≡ false = grind (arith, nat_tests) in x)
 
 -- a fall, where the line was not high long enough
-fall_on : (low : Line) (s : ℕ) (is_low : Bool) (from : ℕ) (e : Edge) (es : List Edge) (end : ℕ) → Searches low (Some s) is_low from (e ∷ es) end → e.at < s + 16800 → Searches low None e.low (e.at + 1) es end
+fall_on : (low : Line) (s : ℕ) (is_low : Bool) (from : ℕ) (e : Edge) (es : List Edge) (end : ℕ) → Searches low (Some s) is_low from (e ∷ es) end → e.at < s + 7200 → Searches low None e.low (e.at + 1) es end
 fall_on low s is_low from e es end w soon =
     let d = steps low (Some s) is_low from e es end w in
     let falls : e.low ≡ true = w.turn.0 ∙ ap not w.stands.0 in
@@ -151,13 +151,13 @@ searched low since is_low from [] end w = at_end low since is_low from end w
 searched low None is_low from (e ∷ es) end w =
     let rises : e.low ≡ false = w.turn.0 ∙ ap not w.stands.0 in
     subst (λ (b : Bool). IsJoined low end (first_idle (if b then None else Some e.at) es end)) (sym rises) (searched low (Some e.at) e.low (e.at + 1) es end (rise_on low is_low from e es end w))
-searched low (Some s) is_low from (e ∷ es) end w = by (nat_le (s + 16800) e.at) refl (λ k. searched low None e.low (e.at + 1) es end (fall_on low s is_low from e es end w k))
+searched low (Some s) is_low from (e ∷ es) end w = by (nat_le (s + 7200) e.at) refl (λ k. searched low None e.low (e.at + 1) es end (fall_on low s is_low from e es end w k))
   where
     falls : e.low ≡ true
     falls = w.turn.0 ∙ ap not w.stands.0
 
-    by : (c : Bool) → nat_le (s + 16800) e.at ≡ c → (e.at < s + 16800 → IsJoined low end (first_idle None es end))
-        → IsJoined low end (or_else (if c then Some (s + 16800) else None) (first_idle (since_of e) es end))
+    by : (c : Bool) → nat_le (s + 7200) e.at ≡ c → (e.at < s + 7200 → IsJoined low end (first_idle None es end))
+        → IsJoined low end (or_else (if c then Some (s + 7200) else None) (first_idle (since_of e) es end))
     by true h on =
         let d = steps low (Some s) is_low from e es end w in
         found low s from e.at end w.stands.1 w.stands.2 w.stands.3 (λ u k m. d.before u k m ∙ w.stands.0) w.none (grind (arith, nat_tests)) w.ends.0

@@ -1,3 +1,4 @@
+pub mod ReadBy
 pub mod Waiting
 pub mod Files
 pub mod FollowedEdges

@@ -5,17 +5,19 @@ use Rattle.std.specs.List.{concat}
 use Rattle.std.specs.Io.KnownBytes.{Appends}
 use Rattle.hdmi_core.specs.declared.sink.WriteFault.{WriteFault}
 use Rattle.cec_wave.specs.Line.{Line}
+use Rattle.cec_bits.specs.declared.times.Windows.{Windows}
 use Rattle.cec_bits.specs.Readings.{Listed, readings_of}
 use Rattle.hdmi_core.specs.Cut.{CutOff}
 use Rattle.cec_signal.specs.Edges.{Captured, line_of_edges}
+use Rattle.cec_mon.specs.ReadBy.{readings_by}
 use Rattle.cec_mon.specs.Watch.{listed_line}
 
 -- ---- when the line is idle
 
--- the line was high for seven bit periods of 2,400 microseconds before an instant, in the capture
+-- the line was high for three bit periods of 2,400 microseconds before an instant, in the capture
 pub record IsIdle (low : Line) (t : ℕ) : Type 0 where
-  pub long : 16800 ≤ t
-  pub high : (u : ℕ) → t ≤ u + 16800 → u < t → low u ≡ false
+  pub long : 7200 ≤ t
+  pub high : (u : ℕ) → t ≤ u + 7200 → u < t → low u ≡ false
 
 -- the first such instant of a capture, or its end, where there is none before it
 pub record IsJoined (low : Line) (end t : ℕ) : Type 0 where
@@ -26,7 +28,7 @@ pub record IsJoined (low : Line) (end t : ℕ) : Type 0 where
 -- by the instant since which the line is high, up to another one
 abbrev pub idle_by : Option ℕ → ℕ → Option ℕ
 idle_by None until = None
-idle_by (Some since) until = if nat_le (since + 16800) until then Some (since + 16800) else None
+idle_by (Some since) until = if nat_le (since + 7200) until then Some (since + 7200) else None
 
 -- ---- what is written
 
@@ -49,11 +51,24 @@ has_joined t (x ∷ xs) = nat_lt x.begin t || has_joined t xs
 abbrev pub capture_text : Captured → ℕ → List ℕ
 capture_text c t = joined_text t false (readings_of (line_of_edges c.edges) c.end)
 
--- it is written whole, or its front up to a fault
+-- the same by windows
+abbrev pub captured_by : Windows → Captured → List Listed
+captured_by windows c = readings_by windows (line_of_edges c.edges) c.end
+
+abbrev pub capture_text_by : Windows → Captured → ℕ → List ℕ
+capture_text_by windows c t = joined_text t false (captured_by windows c)
+
+-- a text is written whole, or its front up to a fault
+abbrev pub WritesJoinedText : Option (List ℕ) → Option (List ℕ) → Bool → Bool → List ℕ → Result (Unit {0}) WriteFault → Type 0
+WritesJoinedText old new was is text (Ok n) = Appends old new text × (is ≡ was)
+WritesJoinedText old new was is text (Err fault) = CutOff old new text fault × (is ≡ true)
+
 abbrev pub WritesJoined : Option (List ℕ) → Option (List ℕ) → Bool → Bool → Captured → ℕ → Result (Unit {0}) WriteFault → Type 0
-WritesJoined old new was is c t (Ok n) = Appends old new (capture_text c t) × (is ≡ was)
-WritesJoined old new was is c t (Err fault) = CutOff old new (capture_text c t) fault × (is ≡ true)
+WritesJoined old new was is c t result = WritesJoinedText old new was is (capture_text c t) result
 
 -- joined up to the first instant at which the line is idle
 abbrev pub WatchesJoined : Option (List ℕ) → Option (List ℕ) → Bool → Bool → Captured → Result (Unit {0}) WriteFault → Type 0
 WatchesJoined old new was is c result = (t : ℕ) × IsJoined (line_of_edges c.edges) c.end t × WritesJoined old new was is c t result
+
+abbrev pub WatchesJoinedBy : Windows → Option (List ℕ) → Option (List ℕ) → Bool → Bool → Captured → Result (Unit {0}) WriteFault → Type 0
+WatchesJoinedBy windows old new was is c result = (t : ℕ) × IsJoined (line_of_edges c.edges) c.end t × WritesJoinedText old new was is (capture_text_by windows c t) result

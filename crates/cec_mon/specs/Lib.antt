@@ -1,3 +1,4 @@
+pub mod ReadBy
 pub mod Monitor
 pub mod EdgeFile
 pub mod Watch

@@ -4,26 +4,28 @@ ghost use Rattle.std.specs.Option.{option_to_list};
 ghost use Rattle.hdmi_core.specs.Adds.{Adds};
 ghost use Rattle.cec_bits.specs.Reports.{listed_as};
 ghost use Rattle.cec_signal.specs.Edges.{line_of_edges};
-ghost use Rattle.cec_mon.specs.Joined.{IsJoined, WatchesJoined, WritesJoined, capture_text, has_joined, idle_by, joined_line, joined_text};
-ghost use Rattle.cec_mon.specs.Watch.{WritesFile, as_file};
+ghost use Rattle.cec_bits.specs.Windows.{AreWindows};
+ghost use Rattle.cec_mon.specs.Joined.{IsJoined, WatchesJoined, WatchesJoinedBy, WritesJoinedText, captured_by, capture_text_by, has_joined, idle_by, joined_line, joined_text};
+ghost use Rattle.cec_mon.specs.Watch.{WritesFile, as_file, readings_text};
 
 use crate::monitor::Monitor;
 use crate::watching::add_reported;
+use cec_bits::{STANDARD, Windows};
 use cec_frame::Reading;
 use cec_signal::Capture;
 use hdmi_core::{Counted, Piece, Sink, WriteFault};
 
-/// Seven nominal bit periods of 2,400 microseconds (HDMI 1.4, CEC 5.2.2), for which the line is high before a reading that is
+/// Three nominal bit periods of 2,400 microseconds (HDMI 1.4, CEC 5.2.2), for which the line is high before a reading that is
 /// sure to begin with a start bit. No frame has its line high for so long.
-const SEVEN_PERIODS: u64 = 16_800;
+const THREE_PERIODS: u64 = 7_200;
 
 // The instant at which the line has been high long enough, up to another one.
 fn idle_by(high_since: Option<u64>, until: u64) -> Option<u64>
     ensures { result ≡ idle_by high_since until }
 {
     let since = high_since?;
-    if u128::from(since) + u128::from(SEVEN_PERIODS) <= u128::from(until) {
-        Some(since + SEVEN_PERIODS)
+    if u128::from(since) + u128::from(THREE_PERIODS) <= u128::from(until) {
+        Some(since + THREE_PERIODS)
     } else {
         None
     }
@@ -87,12 +89,13 @@ fn add_one<S: Sink>(
     add_joined(out, joined_at);
 }
 
-// Adds the readings of a capture, joined up to an instant, up to a fault of the sink.
-fn add_from<S: Sink>(out: &mut Counted<'_, S>, capture: &Capture, joined_at: u64)
-    ensures { Adds out.old out.new (capture_text capture.now joined_at) }
+// Adds the readings of a capture by windows, joined up to an instant, up to a fault of the sink.
+fn add_from<S: Sink>(out: &mut Counted<'_, S>, capture: &Capture, windows: Windows, joined_at: u64)
+    requires { AreWindows windows }
+    ensures { Adds out.old out.new (capture_text_by windows capture.now joined_at) }
 {
     let edges = capture.edges();
-    let mut monitor = Monitor::new();
+    let mut monitor = Monitor::with_windows(windows);
     let mut is_reported = false;
     for edge in edges {
         let reading = monitor.edge(*edge);
@@ -106,12 +109,18 @@ fn add_from<S: Sink>(out: &mut Counted<'_, S>, capture: &Capture, joined_at: u64
     add_one(out, &reading, joined_at, is_reported);
 }
 
-// Writes the readings of a capture, joined up to an instant.
-fn write_from<S: Sink>(capture: &Capture, joined_at: u64, out: &mut S) -> Result<(), WriteFault>
-    ensures { WritesJoined (S.contents out.old) (S.contents out.new) (S.is_stuck out.old) (S.is_stuck out.new) capture.now joined_at result }
+// Writes the readings of a capture by windows, joined up to an instant.
+fn write_from<S: Sink>(
+    capture: &Capture,
+    windows: Windows,
+    joined_at: u64,
+    out: &mut S,
+) -> Result<(), WriteFault>
+    requires { AreWindows windows }
+    ensures { WritesJoinedText (S.contents out.old) (S.contents out.new) (S.is_stuck out.old) (S.is_stuck out.new) (capture_text_by windows capture.now joined_at) result }
 {
     let mut readings = Counted::new(out);
-    add_from(&mut readings, capture, joined_at);
+    add_from(&mut readings, capture, windows, joined_at);
     let written = readings.written();
     // No effect at run time. The proof reads what `out` holds from the sink that comes back.
     let _below = readings.into_sink();
@@ -126,21 +135,55 @@ fn write_from<S: Sink>(capture: &Capture, joined_at: u64, out: &mut S) -> Result
 /// # Errors
 ///
 /// The sink takes no more: then the front of the readings was written, as long as it reports.
+#[tactic(auto, using(cec_bits::proofs::Standard::standard_are))]
 pub fn watch_capture<S: Sink>(capture: &Capture, out: &mut S) -> Result<(), WriteFault>
     ensures { WritesFile (S.contents out.old) (S.contents out.new) (S.is_stuck out.old) (S.is_stuck out.new) (as_file capture.now) result }
 {
-    write_from(capture, 0, out)
+    write_from(capture, STANDARD, 0, out)
+}
+
+/// Writes the readings of a capture by these windows.
+///
+/// # Errors
+///
+/// The sink takes no more: then the front of the readings was written, as long as it reports.
+pub fn watch_capture_by<S: Sink>(
+    capture: &Capture,
+    windows: Windows,
+    out: &mut S,
+) -> Result<(), WriteFault>
+    requires { AreWindows windows }
+    ensures { WritesJoinedText (S.contents out.old) (S.contents out.new) (S.is_stuck out.old) (S.is_stuck out.new) (readings_text (captured_by windows capture.now)) result }
+{
+    write_from(capture, windows, 0, out)
 }
 
 /// Writes the readings of a capture that may begin in the middle of a frame. One line, `0 T joined -`, stands for those that
-/// begin before T: the first instant before which the line was high for 16,800 microseconds of the capture, or its end where
+/// begin before T: the first instant before which the line was high for 7,200 microseconds of the capture, or its end where
 /// there is none. Without such readings there is no such line.
 ///
 /// # Errors
 ///
 /// The sink takes no more: then the front of the lines was written, as long as it reports.
+#[tactic(auto, using(cec_bits::proofs::Standard::standard_are))]
 pub fn watch_from_idle<S: Sink>(capture: &Capture, out: &mut S) -> Result<(), WriteFault>
     ensures { WatchesJoined (S.contents out.old) (S.contents out.new) (S.is_stuck out.old) (S.is_stuck out.new) capture.now result }
 {
-    write_from(capture, joined_at(capture), out)
+    write_from(capture, STANDARD, joined_at(capture), out)
+}
+
+/// The same by these windows.
+///
+/// # Errors
+///
+/// The sink takes no more: then the front of the lines was written, as long as it reports.
+pub fn watch_from_idle_by<S: Sink>(
+    capture: &Capture,
+    windows: Windows,
+    out: &mut S,
+) -> Result<(), WriteFault>
+    requires { AreWindows windows }
+    ensures { WatchesJoinedBy windows (S.contents out.old) (S.contents out.new) (S.is_stuck out.old) (S.is_stuck out.new) capture.now result }
+{
+    write_from(capture, windows, joined_at(capture), out)
 }

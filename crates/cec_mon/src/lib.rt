@@ -3,11 +3,13 @@
 
 mod captures;
 mod edge_file;
+mod laws;
 mod monitor;
 mod reading;
 mod watching;
 
-pub use captures::{watch_capture, watch_from_idle};
+pub use captures::{watch_capture, watch_capture_by, watch_from_idle, watch_from_idle_by};
+pub use laws::standard_windows_read_the_line;
 pub use monitor::Monitor;
 pub use reading::{EdgeError, read_edges};
 pub use watching::{WatchError, watch};

@@ -5,7 +5,7 @@ ghost use Rattle.cec_bits.specs.Hears.{heard_by};
 ghost use Rattle.cec_bits.specs.Reports.{ended_of, listed_as};
 ghost use Rattle.cec_frame.specs.Bits.{most_bits};
 
-use cec_bits::{Receiver, Told};
+use cec_bits::{STANDARD, Told, WideReceiver, Windows};
 use cec_frame::Reading;
 use cec_wave::Edge;
 
@@ -38,33 +38,45 @@ fn ended_of(reported: Told, t: u64, running: Option<Reading>) -> Option<Reading>
     }
 }
 
-/// A monitor of the line. It is told each edge, and answers each reading when it has ended. It takes no memory.
+/// A monitor of the line, by the standard's windows or by wider ones. It is told each edge, and answers each reading when it has
+/// ended. It takes no memory.
 #[derive(Debug, Drop)]
 pub struct Monitor {
-    receiver: Receiver,
+    receiver: WideReceiver,
 }
 
 impl Monitor {
     ghost use Rattle.std.specs.Prelude.{◌+◌};
     ghost use Rattle.cec_wave.specs.Line.{Line};
-    ghost use Rattle.cec_mon.specs.Monitor.{HeardBefore, IsStill, FollowsEdge, FollowsEnd, Microsecond, heard_at, after_wake, after_wakes};
+    ghost use Rattle.cec_bits.specs.Windows.{AreWindows};
+    ghost use Rattle.cec_bits.specs.declared.times.Windows.{Windows};
+    ghost use Rattle.cec_mon.specs.Monitor.{HeardBefore, HeardBeforeBy, IsStill, FollowsEdge, FollowsEdgeBy, FollowsEnd, FollowsEndBy, Microsecond, heard_at, after_wake, after_wakes};
 
-    /// A monitor of a line of which nothing is reported yet.
+    /// A monitor by the standard's windows, of a line of which nothing is reported yet.
     pub fn new() -> Self
         ensures { (low : Line) → HeardBefore result low 0 }
     {
+        Monitor::with_windows(STANDARD)
+    }
+
+    /// The same by these windows.
+    pub fn with_windows(windows: Windows) -> Self
+        requires { AreWindows windows }
+        ensures { (low : Line) → HeardBeforeBy windows result low 0 }
+    {
         Monitor {
-            receiver: Receiver::new(),
+            receiver: WideReceiver::new(windows),
         }
     }
 
     // Microsecond `t` has come.
     fn tick(&mut self, t: u64) -> Option<Reading>
         requires early { t ≤ latest_instant }
-        ensures heard { (let m : Microsecond = record { state = heard_by self.new.receiver; ended = option_map listed_as result } in m)
-            ≡ heard_at t self.old.receiver.was_low self.old.receiver.is_low (heard_by self.old.receiver) }
-        ensures was { self.new.receiver.was_low ≡ self.old.receiver.is_low }
-        ensures is { self.new.receiver.is_low ≡ self.old.receiver.is_low }
+        ensures heard { (let m : Microsecond = record { state = heard_by self.new.receiver.receiver; ended = option_map listed_as result } in m)
+            ≡ heard_at self.old.receiver.windows t self.old.receiver.receiver.was_low self.old.receiver.receiver.is_low (heard_by self.old.receiver.receiver) }
+        ensures windows { self.new.receiver.windows ≡ self.old.receiver.windows }
+        ensures was { self.new.receiver.receiver.was_low ≡ self.old.receiver.receiver.is_low }
+        ensures is { self.new.receiver.receiver.is_low ≡ self.old.receiver.receiver.is_low }
     {
         let running = self.receiver.running(t);
         let reported = self.receiver.tick(t);
@@ -74,10 +86,11 @@ impl Monitor {
     // The next wake, where it comes before this instant.
     fn wake(&mut self, until: u64) -> Option<Reading>
         requires early { until ≤ latest_instant + 1 }
-        ensures heard { IsStill self.old → (let m : Microsecond = record { state = heard_by self.new.receiver; ended = option_map listed_as result } in m)
-            ≡ after_wake until self.old.receiver.is_low (heard_by self.old.receiver) }
+        ensures heard { IsStill self.old → (let m : Microsecond = record { state = heard_by self.new.receiver.receiver; ended = option_map listed_as result } in m)
+            ≡ after_wake self.old.receiver.windows until self.old.receiver.receiver.is_low (heard_by self.old.receiver.receiver) }
+        ensures windows { self.new.receiver.windows ≡ self.old.receiver.windows }
         ensures still { IsStill self.old → IsStill self.new }
-        ensures is { self.new.receiver.is_low ≡ self.old.receiver.is_low }
+        ensures is { self.new.receiver.receiver.is_low ≡ self.old.receiver.receiver.is_low }
     {
         match self.receiver.wakes_at() {
             Some(wake) if wake < until => self.tick(wake),
@@ -89,10 +102,11 @@ impl Monitor {
     // slot's fall.
     fn wait(&mut self, until: u64) -> Option<Reading>
         requires early { until ≤ latest_instant + 1 }
-        ensures heard { IsStill self.old → (let m : Microsecond = record { state = heard_by self.new.receiver; ended = option_map listed_as result } in m)
-            ≡ after_wakes until self.old.receiver.is_low (heard_by self.old.receiver) }
+        ensures heard { IsStill self.old → (let m : Microsecond = record { state = heard_by self.new.receiver.receiver; ended = option_map listed_as result } in m)
+            ≡ after_wakes self.old.receiver.windows until self.old.receiver.receiver.is_low (heard_by self.old.receiver.receiver) }
+        ensures windows { self.new.receiver.windows ≡ self.old.receiver.windows }
         ensures still { IsStill self.old → IsStill self.new }
-        ensures is { self.new.receiver.is_low ≡ self.old.receiver.is_low }
+        ensures is { self.new.receiver.receiver.is_low ≡ self.old.receiver.receiver.is_low }
     {
         match self.wake(until) {
             Some(reading) => Some(reading),
@@ -102,9 +116,10 @@ impl Monitor {
 
     // The edge is noted, before the tick at its instant.
     fn note(&mut self, edge: Edge)
-        ensures keeps { heard_by self.new.receiver ≡ heard_by self.old.receiver }
-        ensures was { self.new.receiver.was_low ≡ self.old.receiver.was_low }
-        ensures is { self.new.receiver.is_low ≡ edge.low }
+        ensures keeps { heard_by self.new.receiver.receiver ≡ heard_by self.old.receiver.receiver }
+        ensures windows { self.new.receiver.windows ≡ self.old.receiver.windows }
+        ensures was { self.new.receiver.receiver.was_low ≡ self.old.receiver.receiver.was_low }
+        ensures is { self.new.receiver.receiver.is_low ≡ edge.low }
     {
         if edge.low {
             self.receiver.fall(edge.at);
@@ -118,6 +133,7 @@ impl Monitor {
     pub fn edge(&mut self, edge: Edge) -> Option<Reading>
         requires early { edge.at ≤ latest_instant }
         ensures follows { FollowsEdge self.old edge (option_map listed_as result) self.new }
+        ensures by { (windows : Windows) → FollowsEdgeBy windows self.old edge (option_map listed_as result) self.new }
     {
         let waited = self.wait(edge.at);
         self.note(edge);
@@ -130,7 +146,8 @@ impl Monitor {
     /// runs, which is open at `t`.
     pub fn finish(self, t: u64) -> Option<Reading>
         requires early { t ≤ latest_instant }
-        ensures { FollowsEnd self t (option_map listed_as result) }
+        ensures follows { FollowsEnd self t (option_map listed_as result) }
+        ensures by { (windows : Windows) → FollowsEndBy windows self t (option_map listed_as result) }
     {
         let mut monitor = self;
         match monitor.wait(t + 1) {

@@ -2,16 +2,16 @@ use Rattle.std.proofs.Common.{ℕ, Bool, List, Option, Ok, Err, Result, rules, s
 use Rattle.hdmi_core.specs.Cut.{WrittenText}
 use Rattle.hdmi_core.specs.declared.sink.WriteFault.{WriteFault}
 use Rattle.hdmi_core.proofs.Adding.{loan_ended}
-use Rattle.cec_mon.specs.Joined.{WritesJoined, capture_text}
+use Rattle.cec_mon.specs.Joined.{WritesJoinedText, capture_text_by}
 use Rattle.cec_mon.proofs.captures.write_from.Goals as goal
 
 pub returns-in-Ok : goal.returns-in-Ok
 returns-in-Ok g c =
     let old = g.S.Sink.contents c.args.out.now in
     let was = g.S.Sink.is_stuck c.args.out.now in
-    let text = capture_text c.args.capture.now c.args.joined_at in
+    let text = capture_text_by c.args.windows c.args.capture.now c.args.joined_at in
     loan_ended g.S.Sink.contents g.S.Sink.is_stuck c.args.out.now _ c.into_sink-below.result.now _ c.into_sink-below.result.ghost_name c.new-readings.result c.add_from.new.out text
-    (λ (k : Option (List ℕ)) (s : Bool). WritesJoined old k was s c.args.capture.now c.args.joined_at (Ok tt))
+    (λ (k : Option (List ℕ)) (s : Bool). WritesJoinedText old k was s text (Ok tt))
     c.new-readings.ensures c.add_from.ensures
     (λ added. let whole = subst (λ (r : Result ℕ WriteFault). WrittenText old c.add_from.new.out.known was c.add_from.new.out.stuck text r) c.in-Ok.is (c.written-written.ensures.text _ _ _ text added) in (whole.1, whole.2))
     c.into_sink-below.ensures.loan c.into_sink-below.ensures.known c.into_sink-below.ensures.stuck (search rules)
@@ -20,9 +20,9 @@ pub returns-in-Err : goal.returns-in-Err
 returns-in-Err g c =
     let old = g.S.Sink.contents c.args.out.now in
     let was = g.S.Sink.is_stuck c.args.out.now in
-    let text = capture_text c.args.capture.now c.args.joined_at in
+    let text = capture_text_by c.args.windows c.args.capture.now c.args.joined_at in
     loan_ended g.S.Sink.contents g.S.Sink.is_stuck c.args.out.now _ c.into_sink-below.result.now _ c.into_sink-below.result.ghost_name c.new-readings.result c.add_from.new.out text
-    (λ (k : Option (List ℕ)) (s : Bool). WritesJoined old k was s c.args.capture.now c.args.joined_at (Err c.in-Err.fault))
+    (λ (k : Option (List ℕ)) (s : Bool). WritesJoinedText old k was s text (Err c.in-Err.fault))
     c.new-readings.ensures c.add_from.ensures
     (λ added. subst (λ (r : Result ℕ WriteFault). WrittenText old c.add_from.new.out.known was c.add_from.new.out.stuck text r) c.in-Err.is (c.written-written.ensures.text _ _ _ text added))
     c.into_sink-below.ensures.loan c.into_sink-below.ensures.known c.into_sink-below.ensures.stuck (search rules)

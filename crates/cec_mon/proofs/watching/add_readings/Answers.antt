@@ -33,7 +33,7 @@ pub returns-in-End : goal.returns-in-End
 returns-in-End g c = λ f h.
     let b = end_read_so c.edges.lines c.next.new.self c.in-Ok.line c.in-End.t c.in-Ok.ensures c.in-End.is in
     ended_so f c.edges.lines c.edges.monitor c.in-End.t (option_map listed_as c.finish-reading.result) _ _ _
-    (c.edges.invariant.watched f h) b.0 b.1 c.finish-reading.ensures c.add_reported-in-End.ensures
+    (c.edges.invariant.watched f h) b.0 b.1 c.finish-reading.ensures.follows c.add_reported-in-End.ensures
 
 pub returns-in-Err : goal.returns-in-Err
 returns-in-Err g c = λ f h. absurd (no_fault f c.edges.lines c.edges.monitor c.args.out.now c.edges.out c.in-Err.field-0 (c.edges.invariant.watched f h) c.in-Err.ensures)
