@@ -4,8 +4,10 @@
 mod edid_meaning;
 mod laws;
 mod meanings;
+mod plain;
 mod writing;
 
 pub use edid_meaning::edid_to_meaning;
 pub use laws::meaning_keeps_the_text;
+pub use plain::plain_text;
 pub use writing::write_meaning;

@@ -1,3 +1,4 @@
 pub mod Blocks
 pub mod Learning
 pub mod Lengths
+pub mod Rows

@@ -1,3 +1,4 @@
 pub mod Bus
 pub mod Learn
 pub mod Ports
+pub mod Readout

@@ -14,7 +14,7 @@ use hdmi_blocks::{EdidError, edid_from_bytes};
 use hdmi_core::Phys;
 
 /// Reads a block of 128 bytes.
-fn read_block(ddc: &mut Ddc, block: u8) -> Result<[u8; 128], DdcError>
+pub(crate) fn read_block(ddc: &mut Ddc, block: u8) -> Result<[u8; 128], DdcError>
     requires { block ≤ 3 }
     ensures same { ddc.new.bytes ≡ ddc.old.bytes }
     ensures read { IfOk result (λ b. (has_segment ddc.old.bytes (block / 2) ≡ true) × (b ≡ take 128 (drop (128 * block) (bytes_with_padding ddc.old.bytes)))) }

@@ -1,0 +1,5 @@
+mod Accepting
+mod Noting
+mod Strict
+mod Taken
+mod Taking

@@ -1,0 +1,6 @@
+pub mod Count
+pub mod Front
+pub mod Extensions
+pub mod Source
+pub mod Notes
+pub mod Laws
