@@ -51,7 +51,7 @@ some_is x y e = search rules
 abbrev digit : ℕ → ℕ
 digit n = if nat_lt n 10 then 48 + n else 87 + n
 
-hex_digit : (n : ℕ) → n < 16 → has Hex (digit n) ≡ true
+pub hex_digit : (n : ℕ) → n < 16 → has Hex (digit n) ≡ true
 hex_digit n l = by (nat_lt n 10) refl
   where
     by : (c : Bool) → nat_lt n 10 ≡ c → has Hex (if c then 48 + n else 87 + n) ≡ true
@@ -65,17 +65,17 @@ directed_digit n l = by (nat_lt n 10) refl
     by true h = grind (arith, common_steps)
     by false h = grind (arith, common_steps)
 
-high : (b : ℕ) → nat_lt b 256 ≡ true → b / 16 < 16
+pub high : (b : ℕ) → nat_lt b 256 ≡ true → b / 16 < 16
 high b h = grind (arith, common_steps)
 
-low : (b : ℕ) → b % 16 < 16
+pub low : (b : ℕ) → b % 16 < 16
 low b = grind (arith, common_steps)
 
 -- two hex digits before other parts
-two_digits : (parts : List Part) (b : ℕ) (more : List ℕ) → nat_lt b 256 ≡ true → IsTextOf parts more → IsTextOf (One Hex ∷ One Hex ∷ parts) (hex_text b ++ more)
+pub two_digits : (parts : List Part) (b : ℕ) (more : List ℕ) → nat_lt b 256 ≡ true → IsTextOf parts more → IsTextOf (One Hex ∷ One Hex ∷ parts) (hex_text b ++ more)
 two_digits parts b more h t = (digit (b / 16), digit (b % 16) ∷ more, hex_digit (b / 16) (high b h), refl, (digit (b % 16), more, hex_digit (b % 16) (low b), refl, t))
 
-all_hex : (xs : List ℕ) → are_bytes xs ≡ true → list_all (has Hex) (flat_map hex_text xs) ≡ true
+pub all_hex : (xs : List ℕ) → are_bytes xs ≡ true → list_all (has Hex) (flat_map hex_text xs) ≡ true
 all_hex [] h = refl
 all_hex (b ∷ bs) h =
     and_both (has Hex (digit (b / 16))) (has Hex (digit (b % 16)) && list_all (has Hex) (flat_map hex_text bs)) (hex_digit (b / 16) (high b (first_of (nat_lt b 256) (are_bytes bs) h)))

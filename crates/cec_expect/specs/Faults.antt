@@ -1,6 +1,6 @@
 -- Labels of a script, and its first line at fault (own). Lines count from 1. A label is a word that is not empty, stands on one
 -- line alone, before an event, a pulse or an expectation, and above those that name it; of a refusal it is an event's. A window does not end before it begins. The device of
--- a state is one of the topology, and its time is not past the end. Some line of a round meets a pattern.
+-- a state is one of the topology, and its time is not past the end. Some line of a round meets a pattern, and some state line has each word of a state.
 use Rattle.std.specs.Prelude.{ℕ, ◌+◌, ◌==◌, nat_lt, ◌&&◌, not, codes, Bool, true, false, if◌then◌else◌, length, List, [], ◌∷◌, Option, Some, None, Result, Ok, Err}
 use Rattle.std.specs.Str.{bytes_eq}
 use Rattle.std.specs.List.{list_any}
@@ -12,6 +12,7 @@ use Rattle.cec_expect.specs.Line.{label_in, unlabelled_words, is_event, is_label
 use Rattle.cec_expect.specs.Fault.{after_label, at_word}
 use Rattle.cec_expect.specs.Form.{Form, Window, form_in, in_window}
 use Rattle.cec_expect.specs.Said.{is_said, unmet_word}
+use Rattle.cec_expect.specs.StateTest.{strange_word}
 use Rattle.cec_expect.specs.Form.Form.{Other, Rounds, State, Refused}
 use Rattle.cec_expect.specs.Form.Window.{Within, From}
 use Rattle.cec_expect.specs.declared.fault.LineFault.{LineFault}
@@ -108,10 +109,19 @@ abbrev pub refusal_fault : List ℕ → ℕ → List ℕ → List ℕ → Option
 refusal_fault script number name word =
     if is_above number (event_labelled script name) then (if is_refusal word then None else Some (at_word 3 Unmet)) else Some (at_word 2 Label)
 
+-- no state line has one of the words
+abbrev pub strange_fault : Option ℕ → Option LineFault
+strange_fault None = None
+strange_fault (Some word) = Some (at_word word Unmet)
+
+-- the script ends before the time, or a word is in no state line
+abbrev pub state_fault : List ℕ → ℕ → List (List ℕ) → Option LineFault
+state_fault script time words = if ends_before script time then Some (at_word 2 Order) else strange_fault (strange_word words)
+
 abbrev pub form_fault : List ℕ → ℕ → Form → Option LineFault
 form_fault script number Other = None
 form_fault script number (Rounds quantity window pattern) = or_fault (window_fault script number quantity window) (pattern_fault quantity pattern)
-form_fault script number (State time device words) = if ends_before script time then Some (at_word 2 Order) else None
+form_fault script number (State time device words) = state_fault script time words
 form_fault script number (Refused name word) = refusal_fault script number name word
 
 -- it names a device that is not declared

@@ -1,4 +1,4 @@
--- What the line of an expectation says (own): `expect HOW WINDOW PATTERN`, `expect state T DEVICE WORD..` or `expect refused NAME
+-- What the line of an expectation says (own): `expect HOW WINDOW PATTERN`, `expect state T DEVICE WORD..`, with `not` before the words or without it, or `expect refused NAME
 -- WORD`, where HOW is nothing, `none` or `once`, and WINDOW is `within D of NAME` or `from T to U`. Times are in microseconds.
 use Rattle.std.specs.Prelude.{◌≡◌, ℕ, ◌+◌, ◌-◌, ◌^◌, ◌≤◌, ◌==◌, nat_lt, nat_le, ◌&&◌, ◌||◌, not, Bool, if◌then◌else◌, codes, length, filter, slice_index, List, [], ◌∷◌, Option, Some, None, Result, Ok, Err}
 use Rattle.std.specs.Str.{bytes_eq}
@@ -143,12 +143,23 @@ abbrev pub state_by : Option ℕ → Option ℕ → List ℕ → List (List ℕ)
 state_by (Some empty) time device words = Err (at_word empty Word)
 state_by None time device words = state_at_time time device words
 
--- a time, a device, and at least one word; no word is empty
+-- the number of a word that is missing after `not`
+abbrev pub lacking : List (List ℕ) → Option ℕ
+lacking [] = None
+lacking (word ∷ []) = if bytes_eq word (codes "not") then Some 5 else None
+lacking (word ∷ other ∷ words) = None
+
+-- an empty word, or one that is missing
+abbrev pub or_lacking : Option ℕ → Option ℕ → Option ℕ
+or_lacking None lacked = lacked
+or_lacking (Some empty) lacked = Some empty
+
+-- a time, a device, perhaps `not`, and at least one word; no word is empty
 abbrev pub state_in : List (List ℕ) → Result Form LineFault
 state_in [] = Err (at_word 2 Word)
 state_in (time ∷ []) = Err (at_word 3 Word)
 state_in (time ∷ device ∷ []) = Err (at_word 4 Word)
-state_in (time ∷ device ∷ word ∷ words) = state_by (empty_from 4 (word ∷ words)) (number_of time) device (word ∷ words)
+state_in (time ∷ device ∷ word ∷ words) = state_by (or_lacking (empty_from 4 (word ∷ words)) (lacking (word ∷ words))) (number_of time) device (word ∷ words)
 
 -- ---- all
 

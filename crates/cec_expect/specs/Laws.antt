@@ -1,5 +1,5 @@
--- Laws of patterns (own).
-use Rattle.std.specs.Prelude.{◌≡◌, ℕ, ◌==◌, not, Bool, true, codes, List, ◌++◌, Some}
+-- Laws of patterns and of words of states (own).
+use Rattle.std.specs.Prelude.{◌≡◌, ℕ, ◌==◌, ◌↔◌, not, Bool, true, codes, List, ◌++◌, Some}
 use Rattle.std.specs.List.{list_all}
 use Rattle.cec_frame.specs.declared.Ending.{Ending}
 use Rattle.cec_text.specs.FrameReading.{is_frame}
@@ -7,6 +7,8 @@ use Rattle.cec_text.specs.FrameText.{frame_text}
 use Rattle.cec_text.specs.ReadingText.{bits_text, is_broadcast, verdict_by}
 use Rattle.cec_expect.specs.Fits.{fits}
 use Rattle.cec_expect.specs.Said.{IsSaid, ending_word, is_said}
+use Rattle.cec_expect.specs.StateTest.{is_state_word}
+use Rattle.cec_expect.specs.StateWords.{IsStateWord}
 
 -- A pattern is refused exactly where no text that the line of a round can have meets it.
 pub record PatternsAreMet : Type 0 where
@@ -31,3 +33,7 @@ is_word text = list_all (λ b. not (b == 32)) text
 pub record ReadingsAreSaid : Type 0 where
   pub complete : (frame : List ℕ) (last_bit : Bool) (by out : List ℕ) → is_frame frame ≡ true → is_word by ≡ true → is_word out ≡ true → IsSaid (frame_said frame last_bit by out)
   pub others : (ending : Ending) (bits : List Bool) (by out : List ℕ) → is_word by ≡ true → is_word out ≡ true → IsSaid (bits_said ending bits by out)
+
+-- A word of a state is refused exactly where no state line can have it.
+abbrev pub StateWordsAreMet : Type 0
+StateWordsAreMet = (word : List ℕ) → (is_state_word word ≡ true) ↔ IsStateWord word

@@ -1,5 +1,7 @@
 pub mod Fits
 pub mod Parts
+pub mod StateWords
+pub mod StateTest
 pub mod Said
 pub mod Line
 pub mod Fault

@@ -5,13 +5,15 @@ ghost use Rattle.hdmi_core.specs.Words.{words_after, words_of};
 ghost use Rattle.cec_expect.specs.Fault.{IsNear, after_label};
 ghost use Rattle.cec_expect.specs.Form.{IsForm, form_as, window_of};
 ghost use Rattle.cec_expect.specs.Line.{unlabelled_words};
-ghost use Rattle.cec_expect.specs.Faults.{declared_in, end_in, ends_before, first_fault, form_fault, is_above, is_declared, is_line, is_named, is_own_label, is_past, is_refusal, is_strange, labelled_form, line_fault, or_fault, pattern_fault, refusal_fault, window_fault};
+ghost use Rattle.cec_expect.specs.StateTest.{strange_word};
+ghost use Rattle.cec_expect.specs.Faults.{declared_in, end_in, ends_before, first_fault, form_fault, is_above, is_declared, is_line, is_named, is_own_label, is_past, is_refusal, is_strange, labelled_form, line_fault, or_fault, pattern_fault, refusal_fault, state_fault, strange_fault, window_fault};
 
 use crate::fault::{LineFault, after_label, at_word};
 use crate::form::{ExpectCause, Form, Quantity, Window, form_in, in_window};
 use crate::labels::Labels;
 use crate::line::{is_labelable, unlabelled};
 use crate::said::{is_said, unmet_word};
+use crate::state_words::strange_word;
 use hdmi_core::{first_line, first_word, number_in};
 use std::alloc::{AllocError, Global};
 use thiserror::Error;
@@ -205,6 +207,27 @@ fn refusal_fault(labels: &Labels<'_>, number: u64, name: &[u8], word: &[u8]) -> 
     }
 }
 
+fn strange_fault(words: &[u8]) -> Option<LineFault>
+    ensures value { result ≡ strange_fault (strange_word (words_of words.now)) }
+    ensures near { IfSome result IsNear }
+{
+    match strange_word(words) {
+        None => None,
+        Some(word) => Some(at_word(word, ExpectCause::Unmet)),
+    }
+}
+
+fn state_fault(script: &[u8], time: u64, words: &[u8]) -> Option<LineFault>
+    ensures value { result ≡ state_fault script.now time (words_of words.now) }
+    ensures near { IfSome result IsNear }
+{
+    if ends_before(script, time) {
+        Some(at_word(2, ExpectCause::Order))
+    } else {
+        strange_fault(words)
+    }
+}
+
 fn form_fault(labels: &Labels<'_>, number: u64, form: Form) -> Option<LineFault>
     ensures value { result ≡ form_fault labels.now.script.now number (form_as form.entry) }
     ensures near { IfSome result IsNear }
@@ -216,13 +239,7 @@ fn form_fault(labels: &Labels<'_>, number: u64, form: Form) -> Option<LineFault>
             window,
             pattern,
         } => rounds_fault(labels, number, quantity, window, pattern),
-        Form::State { time, .. } => {
-            if ends_before(labels.script, time) {
-                Some(at_word(2, ExpectCause::Order))
-            } else {
-                None
-            }
-        }
+        Form::State { time, words, .. } => state_fault(labels.script, time, words),
         Form::Refused { label, word } => refusal_fault(labels, number, label, word),
     }
 }

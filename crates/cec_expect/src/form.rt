@@ -4,7 +4,7 @@ ghost use Rattle.std.specs.Option.{option_copied};
 ghost use Rattle.hdmi_core.specs.Words.{words_after, words_of};
 ghost use Rattle.hdmi_core.specs.Number.{number_of};
 ghost use Rattle.cec_expect.specs.Fault.{IsNear};
-ghost use Rattle.cec_expect.specs.Form.{AreParts, IsEarly, IsForm, between_by, empty_from, exact_number, expectation_in, form_in, in_window, is_open_ended, is_pattern, parts_as, parts_in, pattern_by, pattern_in, refused_in, rounds_between, rounds_in, second_in, stars, state_at_time, state_in, window_word, within, within_by};
+ghost use Rattle.cec_expect.specs.Form.{AreParts, IsEarly, IsForm, between_by, empty_from, exact_number, expectation_in, form_in, in_window, is_open_ended, lacking, or_lacking, is_pattern, parts_as, parts_in, pattern_by, pattern_in, refused_in, rounds_between, rounds_in, second_in, stars, state_at_time, state_in, window_word, within, within_by};
 
 use crate::fault::{LineFault, at_word};
 use cec_wave::LATEST_EVENT;
@@ -72,7 +72,7 @@ pub enum Form<'a> {
         window: Window<'a>,
         pattern: &'a [u8],
     },
-    /// The words are among those of the device's state line, had the run ended at this time.
+    /// The words are among those of the device's state line, had the run ended at this time; after `not` none of them is.
     State {
         time: u64,
         device: &'a [u8],
@@ -322,6 +322,37 @@ fn first_empty(text: &[u8]) -> Option<usize>
     None
 }
 
+fn lacking(text: &[u8]) -> Option<usize>
+    ensures value { result ≡ lacking (words_of text.now) }
+    ensures near { IfSome result (λ number. number + 2 < 2 ^ 64) }
+{
+    let (word, others) = first_word(text);
+    match others {
+        None => {
+            if word == b"not".as_slice() {
+                Some(5)
+            } else {
+                None
+            }
+        }
+        Some(others) => {
+            let (_word, _words) = first_word(others);
+            None
+        }
+    }
+}
+
+// The number of a word of a state that is empty, or missing.
+fn bad_word(text: &[u8]) -> Option<usize>
+    ensures value { result ≡ or_lacking (empty_from 4 (words_of text.now)) (lacking (words_of text.now)) }
+    ensures near { IfSome result (λ number. number + 2 < 2 ^ 64) }
+{
+    match first_empty(text) {
+        None => lacking(text),
+        Some(number) => Some(number),
+    }
+}
+
 fn state_at_time<'a>(time: &[u8], device: &'a [u8], words: &'a [u8]) -> Result<Form<'a>, LineFault>
     ensures is { IsForm (state_at_time (number_of time.now) device.now (words_of words.now)) result }
     ensures early { IfOk result IsEarly }
@@ -360,7 +391,7 @@ fn state_in<'a>(rest: Option<&'a [u8]>) -> Result<Form<'a>, LineFault>
         return Err(at_word(4, ExpectCause::Word));
     };
     let (_word, _words) = first_word(words);
-    match first_empty(words) {
+    match bad_word(words) {
         Some(number) => Err(at_word(number, ExpectCause::Word)),
         None => state_at_time(time, device, words),
     }

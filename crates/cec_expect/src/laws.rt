@@ -1,5 +1,5 @@
-//! Laws of patterns.
-ghost use Rattle.cec_expect.specs.Laws.{PatternsAreMet, ReadingsAreSaid};
+//! Laws of patterns and of words of states.
+ghost use Rattle.cec_expect.specs.Laws.{PatternsAreMet, ReadingsAreSaid, StateWordsAreMet};
 
 /// A pattern is refused exactly where no text that the line of a round can have meets it.
 pub fn patterns_are_met()
@@ -9,4 +9,9 @@ pub fn patterns_are_met()
 /// Whatever is read, and whoever sends, what the line of the round says is a text that `patterns_are_met` speaks of.
 pub fn readings_are_said()
     ensures { ReadingsAreSaid }
+{}
+
+/// A word of a state is refused exactly where no state line can have it.
+pub fn state_words_are_met()
+    ensures { StateWordsAreMet }
 {}

@@ -10,12 +10,14 @@ mod line;
 mod part;
 mod pattern;
 mod said;
+mod state_words;
 
 pub use fault::{LineFault, after_label, at_word};
 pub use faults::{ExpectFault, fault_among, first_fault};
 pub use form::{ExpectCause, Form, Quantity, Window, exact_number, form_in};
 pub use labels::Labels;
-pub use laws::{patterns_are_met, readings_are_said};
+pub use laws::{patterns_are_met, readings_are_said, state_words_are_met};
 pub use line::{Labelled, cut_script, onset_in, plain_part, plain_script, unlabelled};
 pub use pattern::fits;
 pub use said::is_said;
+pub use state_words::is_state_word;

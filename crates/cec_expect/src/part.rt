@@ -50,7 +50,7 @@ impl Default for Part {
 }
 
 // Whether a byte is one of the class.
-fn has(class: Class, byte: u8) -> bool
+pub(crate) fn has(class: Class, byte: u8) -> bool
     ensures { result ≡ has class byte }
 {
     match class {

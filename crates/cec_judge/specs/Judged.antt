@@ -1,6 +1,6 @@
 -- What is found of each line of a script, by the trace and, of each line, the state line that it speaks of (own). Lines count
 -- from 1.
-use Rattle.std.specs.Prelude.{ℕ, ◌+◌, ◌-◌, ◌^◌, ◌==◌, nat_lt, min, Bool, true, false, if◌then◌else◌, length, List, [], ◌∷◌, Option, Some, None, Result, Ok, Err}
+use Rattle.std.specs.Prelude.{ℕ, ◌+◌, ◌-◌, ◌^◌, ◌==◌, nat_lt, min, not, codes, Bool, true, false, if◌then◌else◌, length, List, [], ◌∷◌, Option, Some, None, Result, Ok, Err}
 use Rattle.std.specs.Str.{bytes_eq}
 use Rattle.std.specs.List.{list_all, list_any}
 use Rattle.hdmi_core.specs.Lines.{lines_of}
@@ -71,8 +71,17 @@ has_word word words = list_any (λ other. bytes_eq other word) words
 abbrev pub has_words : List (List ℕ) → List (List ℕ) → Bool
 has_words words others = list_all (λ word. has_word word others) words
 
+-- none of these words is among the others
+abbrev pub lacks_words : List (List ℕ) → List (List ℕ) → Bool
+lacks_words words others = list_all (λ word. not (has_word word others)) words
+
+-- after `not` none of them is
+abbrev pub is_state_met : List (List ℕ) → List (List ℕ) → Bool
+is_state_met [] others = true
+is_state_met (word ∷ words) others = if bytes_eq word (codes "not") then lacks_words words others else has_words (word ∷ words) others
+
 abbrev pub state_judged : List ℕ → List (List ℕ) → Judged
-state_judged state words = record { holds = Some (has_words words (state_words (words_of state))); at = None; span = None; count = 0 }
+state_judged state words = record { holds = Some (is_state_met words (state_words (words_of state))); at = None; span = None; count = 0 }
 
 -- ---- refused events
 

@@ -6,7 +6,7 @@ ghost use Rattle.hdmi_core.specs.Lines.{lines_of};
 ghost use Rattle.hdmi_core.specs.Words.{words_after, words_of};
 ghost use Rattle.cec_expect.specs.Form.{window_of};
 ghost use Rattle.cec_judge.specs.Told.{event_as};
-ghost use Rattle.cec_judge.specs.Judged.{event_instant, failure, finding_as, findings_of, first_state, has_word, has_words, holds_by, instant_at, is_of_state, is_word, later_states, line_judged, noted, nothing, or_more, other_judged, refusal_at, refused_judged, rounds_judged, span_from, span_of, state_judged, states_for};
+ghost use Rattle.cec_judge.specs.Judged.{event_instant, failure, finding_as, findings_of, first_state, has_word, has_words, holds_by, instant_at, is_of_state, is_state_met, is_word, lacks_words, later_states, line_judged, noted, nothing, or_more, other_judged, refusal_at, refused_judged, rounds_judged, span_from, span_of, state_judged, states_for};
 
 use crate::index::Index;
 use crate::named::is_labelled;
@@ -182,11 +182,38 @@ fn has_words(text: &[u8], other: Option<&[u8]>) -> bool
     true
 }
 
+// Whether no word of a text is among those of another.
+fn lacks_words(text: Option<&[u8]>, other: Option<&[u8]>) -> bool
+    ensures { result ≡ lacks_words (words_after (option_copied text.entry)) (words_after (option_copied other.entry)) }
+{
+    let mut rest = text;
+    'words: while let Some(words) = rest {
+        let (word, others) = first_word(words);
+        if has_word(word, other) {
+            return false;
+        }
+        rest = others;
+    }
+    true
+}
+
+// Whether each of the words is among those of another text; after `not` none is.
+fn is_state_met(words: &[u8], other: Option<&[u8]>) -> bool
+    ensures { result ≡ is_state_met (words_of words.now) (words_after (option_copied other.entry)) }
+{
+    let (word, others) = first_word(words);
+    if word == b"not".as_slice() {
+        lacks_words(others, other)
+    } else {
+        has_words(words, other)
+    }
+}
+
 fn state_judged(state: &[u8], words: &[u8]) -> Judged
     ensures { result ≡ state_judged state.now (words_of words.now) }
 {
     Judged {
-        holds: Some(has_words(words, state_words(state))),
+        holds: Some(is_state_met(words, state_words(state))),
         at: None,
         span: None,
         count: 0,

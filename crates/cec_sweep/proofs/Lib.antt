@@ -2,3 +2,4 @@ pub mod Instants
 pub mod Stretching
 pub mod Refused
 pub mod Words
+pub mod Ordered

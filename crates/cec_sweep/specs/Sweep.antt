@@ -5,7 +5,8 @@ use Rattle.std.specs.List.{All}
 use Rattle.std.specs.Io.KnownBytes.{Appends}
 use Rattle.cec_check.specs.Check.{AreVerdictsOf, IsVerdictReported}
 use Rattle.cec_check.specs.declared.checking.CheckError.{CheckError}
-use Rattle.cec_sweep.specs.Script.{range_of, script_at}
+use Rattle.cec_sweep.specs.Order.{ordered_range}
+use Rattle.cec_sweep.specs.Script.{script_at}
 use Rattle.cec_sweep.specs.Series.{Series, instants_of}
 use Rattle.cec_sweep.specs.Stretches.{AreStretches, StretchesDraft, Stretch, all_hold, stretches_text}
 use Rattle.cec_sweep.specs.declared.sweeping.SweepError.{SweepError}
@@ -18,7 +19,7 @@ AreVerdictsAt topology script t verdicts = AreVerdictsOf topology (script_at t s
 -- a script with a range, and its stretches
 pub record IsSweepOf (topology script : List ℕ) (stretches : List Stretch) : Type 0 where
   pub series : Series
-  pub range : range_of script ≡ Ok (Some series)
+  pub range : ordered_range script ≡ Ok (Some series)
   pub are : AreStretches (AreVerdictsAt topology script) series stretches
 
 -- their lines are written; the answer is whether each verdict at each instant is ok
@@ -34,12 +35,12 @@ pub record IsFirstRefusal (topology script : List ℕ) (s : Series) (instant : �
   pub reported : IsVerdictReported topology (script_at instant script) error
 
 abbrev pub IsRefusedAt : List ℕ → List ℕ → ℕ → CheckError → Type 0
-IsRefusedAt topology script instant error = (s : Series) × (range_of script ≡ Ok (Some s)) × IsFirstRefusal topology script s instant error
+IsRefusedAt topology script instant error = (s : Series) × (ordered_range script ≡ Ok (Some s)) × IsFirstRefusal topology script s instant error
 
 -- when each refusal comes; of memory nothing is said
 abbrev pub IsSweepReported : List ℕ → List ℕ → SweepError → Type 0
-IsSweepReported topology script NoRange = range_of script ≡ Ok None
-IsSweepReported topology script (Range fault) = range_of script ≡ Err fault
+IsSweepReported topology script NoRange = ordered_range script ≡ Ok None
+IsSweepReported topology script (Range fault) = ordered_range script ≡ Err fault
 IsSweepReported topology script (At instant error) = IsRefusedAt topology script instant error
 IsSweepReported topology script (Write count) = (stretches : List Stretch) × IsSweepOf topology script stretches
 IsSweepReported topology script Memory = Unit {0}

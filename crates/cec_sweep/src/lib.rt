@@ -1,6 +1,7 @@
 //! Sweeps: what is found of a script's expectations at each instant of a series that stands for one of its times.
 #![tactic(auto)]
 
+mod order;
 mod places;
 mod script;
 mod series;

@@ -20,7 +20,7 @@ pub struct RangeFault {
     pub word: usize,
 }
 
-fn is_range_at(place: WordRole, word: &[u8]) -> bool
+pub(crate) fn is_range_at(place: WordRole, word: &[u8]) -> bool
     ensures { result ≡ is_range_at place word.now }
 {
     place.is_time() && is_range(word)

@@ -20,6 +20,9 @@ pub enum RangeCause {
     /// It is the second one, or has more than 1,000,000 instants.
     #[error("range")]
     Range,
+    /// At one of its instants its line is out of order with the line of this number.
+    #[error("order with line {0}")]
+    Crosses(u64),
 }
 
 /// The most instants of a range: each costs a run.
@@ -44,6 +47,7 @@ impl Model for Series {
 }
 
 impl Series {
+    ghost use Rattle.cec_sweep.specs.Order.{last_of};
     ghost use Rattle.cec_sweep.specs.Series.{IsSeries};
 
     /// The first instant.
@@ -60,6 +64,15 @@ impl Series {
         ensures series { IsSeries self.now }
     {
         self.to
+    }
+
+    /// The last instant.
+    #[tactic(auto, using(crate::proofs::Ordered::remainder_within))]
+    pub(crate) fn last(&self) -> u64
+        ensures { result ≡ last_of self.now }
+    {
+        let (from, to, step) = (self.from(), self.to(), self.step());
+        to - (to - from) % step
     }
 
     /// How many microseconds lie between two instants.

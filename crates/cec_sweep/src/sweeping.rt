@@ -1,10 +1,12 @@
 //! From the texts of a topology and a script with a range to the stretches of its instants.
 ghost use Rattle.std.specs.Prelude.{◌≡◌, ◌↔◌, false, Ok, Some, IfOk, IfErr, IsTrue};
-ghost use Rattle.cec_sweep.specs.Script.{range_of, script_at};
+ghost use Rattle.cec_sweep.specs.Order.{ordered_range};
+ghost use Rattle.cec_sweep.specs.Script.{script_at};
 ghost use Rattle.cec_sweep.specs.Stretches.{draft_as};
 ghost use Rattle.cec_sweep.specs.Sweep.{AreVerdictsAt, IsRefusalAt, IsSweepCut, IsSweepReported, IsSwept, IsSweptDraft, IsSeriesReported, is_write};
 
-use crate::script::{RangeFault, range_of, script_at};
+use crate::order::ordered_range;
+use crate::script::{RangeFault, script_at};
 use crate::series::Series;
 use crate::stretches::StretchesDraft;
 use cec_check::{CheckError, verdicts};
@@ -18,7 +20,8 @@ pub enum SweepError {
     /// The script has no range.
     #[error("no range")]
     NoRange,
-    /// The first line of the script whose range is none, or is the second one.
+    /// The first line of the script whose range is none, or is the second one; the line of the range, where an instant of it breaks
+    /// the order of the script.
     #[error("script {0}")]
     Range(RangeFault),
     /// The first instant of the range with which the script is refused.
@@ -92,7 +95,7 @@ fn swept(
 ///
 /// # Errors
 ///
-/// No range, or the first line whose range is refused; the first instant at which the script is refused, and why: then nothing
+/// No range, or the first line whose range is refused, before the first run; the first instant at which the script is refused, and why: then nothing
 /// was written. A failed write: then the front of the lines was written, as long as it reports.
 pub fn sweep<S: Sink>(
     alloc: Global,
@@ -105,7 +108,7 @@ pub fn sweep<S: Sink>(
     ensures write { S.is_stuck out.old ≡ false → (IsTrue (is_write result) ↔ IsTrue (S.is_stuck out.new)) }
     ensures cut { IfErr result (IsSweepCut topology.now script.now (S.contents out.old) (S.contents out.new)) }
 {
-    let series = match range_of(script) {
+    let series = match ordered_range(script) {
         Err(fault) => return Err(SweepError::Range(fault)),
         Ok(None) => return Err(SweepError::NoRange),
         Ok(Some(series)) => series,

@@ -138,7 +138,7 @@ fn windows_hang_from_pulses(rt: HostRuntime) {
 #[test]
 fn states_are_reported(rt: HostRuntime) {
     let (text, counts) = report_of(&rt, TOPOLOGY, STATES);
-    holds(&rt, counts.as_str() == "6 of 15", "counts");
+    holds(&rt, counts.as_str() == "5 of 15", "counts");
     holds(&rt, text.as_str() == STATES_REPORT, "report");
 }
 

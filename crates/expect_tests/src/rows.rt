@@ -77,6 +77,19 @@ end 10|expect state 5 tv  => line 2: word at 4
 end 10|expect state 5 tv  on => line 2: word at 4
 end 10|label a expect state 5 tv tv 0  on => line 2: word at 8
 end 10|expect state x p2 => line 2: word at 4
+end 10|expect state 5 tv not => line 2: word at 5
+end 10|expect state 5 tv not  => line 2: word at 5
+end 10|label a expect state 5 tv not => line 2: word at 7
+end 10|expect state 5 tv not on => none
+end 10|expect state 5 tv on not => line 2: pattern at 5
+end 10|expect state 5 tv not not => line 2: pattern at 5
+end 10|expect state 5 tv power=on => line 2: pattern at 4
+end 10|expect state 5 tv on active= => line 2: pattern at 5
+end 10|expect state 5 tv active=1.2 => line 2: pattern at 4
+end 10|label a expect state 5 tv not on standby=on => line 2: pattern at 8
+end 10|expect state 11 tv nonsense => line 2: order at 2
+end 10|expect state 5 p2 nonsense => line 2: name at 3
+end 10|expect state 5 tv 4+8 -+9 a+- combo - f => none
 end 10|expect state x p2 on => line 2: number at 2
 end 10|expect state 05 tv on => line 2: number at 2
 end 10|expect state 1000000000001 p2 on => line 2: number at 2
@@ -260,8 +273,8 @@ expect state 12001 tv 0
 expect state 1000000 tv active=-
 expect state 1068400 tv 0 active=1.0.0.0
 label on expect state 1068401 tv active=1.0.0.0 on 0
-expect state 1068400 tv active=
-expect state 1068400 tv tv state
+expect state 1068400 tv not active=- standby
+expect state 1068400 tv not active=1.0.0.0 standby
 at 1300000 unplug p1
 expect state 1300000 p1 4 1.0.0.0
 expect state 1300001 p1 - active=-
@@ -308,10 +321,9 @@ ok 5 - line 6: expect state 1000000 tv active=-
 not ok 6 - line 7: expect state 1068400 tv 0 active=1.0.0.0
 # state tv tv 0 0.0.0.0 on active=- path=- deck=1a menu=off audio=off volume=20 mute=off arc=off sel=- lang=656e67 osd=- held=- heard=4:84:10 sub=- queue=0 dropped=0
 ok 7 - line 8: label on expect state 1068401 tv active=1.0.0.0 on 0
-not ok 8 - line 9: expect state 1068400 tv active=
+not ok 8 - line 9: expect state 1068400 tv not active=- standby
 # state tv tv 0 0.0.0.0 on active=- path=- deck=1a menu=off audio=off volume=20 mute=off arc=off sel=- lang=656e67 osd=- held=- heard=4:84:10 sub=- queue=0 dropped=0
-not ok 9 - line 10: expect state 1068400 tv tv state
-# state tv tv 0 0.0.0.0 on active=- path=- deck=1a menu=off audio=off volume=20 mute=off arc=off sel=- lang=656e67 osd=- held=- heard=4:84:10 sub=- queue=0 dropped=0
+ok 9 - line 10: expect state 1068400 tv not active=1.0.0.0 standby
 ok 10 - line 12: expect state 1300000 p1 4 1.0.0.0
 ok 11 - line 13: expect state 1300001 p1 - active=-
 not ok 12 - line 14: expect state 1300001 p1 4
