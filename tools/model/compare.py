@@ -19,7 +19,7 @@ def prog(program, args, data):
     f = e[9:] if e.startswith('hdminet: ') else ('?' + e if e else '')
     out = p.stdout
     if '--audit' in args or '--timing' in args:     # what the standard calls what is left as bytes is not in the model
-        out = b''.join(line for line in out.splitlines(True) if not line.startswith(b'  # '))
+        out = b''.join(line for line in out.splitlines(True) if not line.startswith((b'  # ', b'{"line":"  # ')))
     return p.returncode, out, f
 
 
@@ -564,6 +564,7 @@ def gen_frame_slots(r, frame, takes, at):
 def gen_audit(r):
     """frames that are tried again, answered late, too soon, to others than they are for; or any edges"""
     flags = r.choice([['--audit'], ['--audit'], ['--timing'], ['--audit', '--timing']])
+    flags += r.choice([[], [], ['--strict']]) + r.choice([[], [], ['--json']])
     if r.random() < .3:
         args, text = gen_mon(r)
         return args + flags, text
@@ -847,7 +848,7 @@ def gen_state(r, trace, end):
     state = r.choice([l for l in trace if l.startswith('state ')]).split(' ')
     words = [w if r.random() < .9 else r.choice(['on', 'active=-', 'volume=20', 'standby', w + 'x', w[:-1]]) for w in r.sample(state[1:], r.choice([1, 1, 2, 4]))]
     at = r.choice([end, end, end - 1, r.randrange(end + 1), r.randrange(end + 1), end + 1 if r.random() < .1 else 1])
-    return 'expect state %d %s %s' % (at, state[1] if r.random() < .98 else 'nosuch', ' '.join(words))
+    return 'expect state %d %s %s%s' % (at, state[1] if r.random() < .98 else 'nosuch', 'not ' if r.random() < .25 else '', ' '.join(words))
 
 
 def sweep_word(r, time):

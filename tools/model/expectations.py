@@ -6,6 +6,11 @@ from wire import T_LIMIT, lines_of, number, skipped
 
 ROUND = re.compile(rb'\d+ \d+ (complete|short|silent|bad-start|long) ')
 EVENT = re.compile(rb'(\d+) event (\d+) (ok|refused ([a-z-]+))')
+PHYSICAL = rb'[0-9a-f]\.[0-9a-f]\.[0-9a-f]\.[0-9a-f]'
+STATE_WORD = re.compile(rb'|'.join((
+    rb'tv|amp|player|recorder|switch|combo|outside|on|standby|-', rb'[0-9a-f]', rb'[0-9a-f-]\+[0-9a-f-]', PHYSICAL,
+    rb'(active|path)=(-|' + PHYSICAL + rb')', rb'(deck|held)=(-|[0-9a-f]{2})', rb'(menu|audio|mute|arc)=(-|on|off)', rb'(volume|sel)=(-|[0-9]+)',
+    rb'(lang|osd)=(-|[0-9a-f]{2,})', rb'heard=(-|[0-9a-f]:[0-9a-f]{2}:[0-9a-f]{2})', rb'sub=(-|[0-9a-f])', rb'(queue|dropped)=[0-9]+')))
 SHOWN = 8
 MOST_PATTERN = 160
 MOST_STARS = 4
@@ -54,9 +59,12 @@ def parse_expectation(n, text, label, body, names, end):
         it.kind, it.of, it.word = 'refused', words[2], words[3]
         return it
     if words[1:2] == [b'state']:
-        if len(words) < 5 or b'' in words[4:]:
+        if len(words) < 5 or b'' in words[4:] or words[4:] == [b'not']:
             return ['word']
         it.kind, it.at, it.device, it.words = 'state', number(words[2], T_LIMIT), words[3], words[4:]
+        it.absent = it.words[0] == b'not'
+        if it.absent:
+            it.words = it.words[1:]
         causes = []
         if it.at is None:
             causes.append('number')
@@ -111,7 +119,8 @@ def expectations(script, names, end):
             elif it.kind != 'state' and it.of is not None:
                 if it.of not in labels or it.kind == 'refused' and labels[it.of] is None:
                     causes.append('label')
-            if it and (it.kind == 'rounds' and not patterns.is_met(it.pattern) or it.kind == 'refused' and it.word not in patterns.REFUSALS):
+            if it and (it.kind == 'rounds' and not patterns.is_met(it.pattern) or it.kind == 'refused' and it.word not in patterns.REFUSALS
+                    or it.kind == 'state' and not all(STATE_WORD.fullmatch(word) for word in it.words)):
                 causes.append('pattern')
         if causes:
             raise Fault('script line %d: %s' % (n, min(causes, key=ORDER.index)))
@@ -163,7 +172,7 @@ class Judge:
             return found is not None and found[1] == it.word, []
         if it.kind == 'state':
             line = self.state_at(it.at, it.device)
-            return all(word in line.split(b' ')[2:] for word in it.words), [line]
+            return all((word in line.split(b' ')[2:]) != it.absent for word in it.words), [line]
         window = self.window(it)
         if window is None:
             return False, [b'no instant']

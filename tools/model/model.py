@@ -15,12 +15,17 @@ def model(args, data):
         status, out, fault = model([word for word in args if word not in ('--json', '--room')], data)
         if '--room' in args:
             return status, objects.room_objects(data, out) if out else b'', fault
+        if sub == 'mon' and ('--audit' in args or '--timing' in args):
+            return status, objects.objects(out, objects.audit_told_of), fault
         told_of = objects.told_of if sub != 'check' else objects.report_told_of if out.startswith(b'TAP') else objects.stretch_told_of
         return status, objects.objects(out, told_of), fault
     if sub == 'run': return net.run(data, '--edges' in args)
     if sub == 'check': return sweep.check(data)
     if sub == 'step': return net.step(data)
-    if sub == 'mon' and ('--audit' in args or '--timing' in args): return audit.audit(data, '--timing' in args)
+    if sub == 'mon' and ('--audit' in args or '--timing' in args):
+        status, out, fault = audit.audit(data, '--timing' in args)
+        if '--strict' in args and objects.has_remark(out): return 1, out, 'the audit has a remark'
+        return status, out, fault
     if sub == 'mon': return wire.mon(data)
     if sub == 'asm': return wire.asm(data)
     if sub == 'edid' and '--text' in args:

@@ -134,3 +134,62 @@ def room_objects(data, out):
         return found
 
     return objects('\n'.join(heads).encode(), head_told_of) + objects(out, told)
+
+
+# The lines of an audit below readings (docs/formats.md, "Audit of a capture"): the kind, the section of HDMI 1.4 CEC, whether the
+# standard has it otherwise, and the words. Values are numbers but for TEXTS.
+TEXTS = ('initiator', 'destination', 'opcode', 'verdict', 'before', 'address', 'word', 'kind')
+SPAN = r'(?P<least>\d+)\.\.(?P<most>\d+)'
+SLOT = r'slot (?P<slot>\d+) block (?P<block>\d+) bit (?P<bit>\d+) %s (?P<width>\d+) not ' + SPAN
+BLOCK = r'block (?P<block>\d+) (?P<verdict>not acknowledged|refused), attempt (?P<attempt>\d+)'
+AUDIT = [(kind, section, remark, re.compile(form)) for kind, section, remark, form in [
+    ('bad-starts', None, False, r'after (?P<count>\d+) bad-start since (?P<since>\d+)'),
+    ('no-answer', '9.2', True, r'no answer to (?P<initiator>.)>(?P<destination>.) (?P<opcode>..) of (?P<at>\d+)'),
+    ('late-answer', '9.2', True, r'answered after (?P<wait>\d+), at most (?P<most>\d+)'),
+    ('free', '9.1', True, r'free (?P<width>\d+) of (?P<due>\d+)'),
+    ('start-low', '5.2.1', True, r'start low (?P<width>\d+) not ' + SPAN),
+    ('start-total', '5.2.1', True, r'start total (?P<width>\d+) not ' + SPAN),
+    ('bit-low', '5.2.2', True, SLOT % 'low'),
+    ('bit-total', '5.2.2', True, SLOT % 'total'),
+    ('low-drive', '7.4', True, r'low drive (?P<width>\d+)(?: not ' + SPAN + ')?'),
+    ('drive-within', '7.4', True, r'low drive for (?P<width>\d+)'),
+    ('unfinished', '6.1.2', True, r'ends after block (?P<block>\d+) without EOM'),
+    ('attempt', '6.1.2', False, BLOCK + '(?P<most>)'),
+    ('too-many-attempts', '7.1', True, BLOCK + r' of at most (?P<most>\d+)'),
+    ('moved', '10.1', False, r'(?P<initiator>.) reported (?P<before>\S+) before'),
+    ('receivers', '13', True, r'to all, only for one device|to one device, only for all'),
+    ('operands', '13', True, r'operands (?P<count>\d+), at least (?P<least>\d+)'),
+    ('nobody-there', '11.2', False, r'nobody reported (?P<address>\S+) of (?P<at>\d+)'),
+    ('read', None, False, r'read (?P<initiator>.)>(?P<destination>.)(?: (?P<opcode>\S+))?'),
+    ('word', None, False, r'# (?P<word>\S+)'),
+]]
+ALL = [
+    ('summary', re.compile('all readings')),
+    ('sender', re.compile(r'from (?P<initiator>.): (?P<taken>\d+) taken, (?P<not_taken>\d+) not taken, (?P<broken>\d+) broken')),
+    ('widths', re.compile(r'(?P<kind>\S+ \S+) (?P<least>\d+)\.\.(?P<greatest>\d+) mean (?P<mean>\d+) of (?P<count>\d+)')),
+]
+VERDICTS = {'not acknowledged': 'nack', 'refused': 'refused'}
+
+
+def values(found):
+    return {name: VERDICTS.get(word, word) if name in TEXTS else int(word) if word else None for name, word in found.groupdict().items()}
+
+
+def audit_told_of(line):
+    if not line.startswith('  '):
+        return told_of(line)
+    for kind, section, remark, form in AUDIT:
+        found = form.fullmatch(line[2:])
+        if found:
+            name = 'remark' if remark else 'note'
+            return {'type': name, name: kind, 'section': section, **values(found)}
+    for name, form in ALL:
+        found = form.fullmatch(line[2:])
+        if found:
+            return {'type': name, **values(found)}
+    raise ValueError(line)
+
+
+def has_remark(text):
+    """whether an audit has a line that the standard has otherwise"""
+    return any(audit_told_of(line)['type'] == 'remark' for line in text.decode().splitlines())

@@ -62,6 +62,48 @@ def range_in(script):
     return found
 
 
+def clock_of(line):
+    """what a line says of time, and the word of its time; None where it says nothing"""
+    words = expectations.parted(line)[1]
+    words = [] if words is None else words.split(b' ')
+    if len(words) > 2 and words[0] == b'expect' and words[1] == b'state':
+        return 'state', 0, words[2]
+    if len(words) < 2 or words[0] not in (b'at', b'pulse', b'end'):
+        return None
+    width = number(words[2]) if words[0] == b'pulse' and len(words) > 2 else None
+    return words[0].decode(), min(width or 0, 65535), words[1]
+
+
+def in_order(above, below, instant):
+    """a line and one below it, with the instant in the place of a range"""
+    first, second = (instant if is_range(it[2]) else number(it[2]) for it in (above, below))
+    if first is None or second is None:
+        return True
+    match above[0], below[0]:
+        case ('at', 'at') | ('state', 'end'):
+            return first <= second
+        case 'at', 'end':
+            return first < second
+        case 'pulse', 'pulse':
+            return first + above[1] + 25000 <= second
+        case 'end', 'state':
+            return second <= first
+    return True
+
+
+def keep_order(script, instants):
+    """raises the fault of a range of which an instant breaks the order of the script"""
+    lines = [(n, clock_of(line)) for n, line in enumerate(lines_of(script), 1)]
+    at = next(n for n, line in enumerate(lines_of(script), 1) if ranges_of(line))
+    ranged = lines[at - 1][1]
+    for n, other in lines:
+        if n == at or ranged is None or other is None:
+            continue
+        above, below = (other, ranged) if n < at else (ranged, other)
+        if not all(in_order(above, below, t) for t in (instants[0], instants[-1], instants[len(instants) // 2])):
+            raise Fault('script line %d: order with line %d' % (at, n))
+
+
 def at_instant(script, instant):
     out = []
     for line in lines_of(script):
@@ -77,6 +119,8 @@ def check(data):
     try:
         script = parts(data)[1]
         instants = range_in(script)
+        if instants is not None:
+            keep_order(script, instants)
     except Fault as f:
         return 1, b'', f.args[0]
     if instants is None:

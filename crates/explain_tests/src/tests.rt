@@ -6,6 +6,7 @@ use std::process::Abort;
 mod captures;
 mod explained;
 mod explanations;
+mod meant;
 mod numbers;
 mod slips;
 

@@ -228,6 +228,7 @@ The input is that of `hdminet run`, and its script may also have labels and expe
   expect from T to U PATTERN             or between two times
   expect none .., expect once ..         no such round, or exactly one
   expect state T NAME WORD ..            at T the device's state line has each of these words
+  expect state T NAME not WORD ..        or none of them
   expect refused NAME WORD               the event of this label is refused with the word
 A pattern is met by a round whose line in the trace begins with it after its two times, without the word
 complete, up to the end of a word; `*` stands for any part of one word. A round is in a window where it
@@ -270,7 +271,8 @@ gives of examples/race.sweep
   4945300..4999950 not-ok not-ok
   5000000..5000000 ok not-ok
 Where a test fails at any of them, the status is 1 and standard error has `failed tests in the range`.
-With --trace and --plain no time is a range. A range has at most 1000000 instants.
+With --trace and --plain no time is a range. A range has at most 1000000 instants, and each keeps the order
+of the script: events and pulses in order of time, `end` after each event, no state after `end`.
 
 With --capture the input is expectations, a line `capture`, and a capture in any form that `hdminet mon`
 reads, of which they are to hold. Here `label NAME at T` names an instant, and the other lines are
@@ -288,8 +290,9 @@ nothing is written then. CAUSE is the first of these that applies:
   label      a label that is empty or stands above already; one that no line above has; for a refusal, one
              that is no event's
   order      a window ends before it begins, or the time of a state is past `end`
-  pattern    the line of no round meets the pattern; no event is refused with the word
+  pattern    the line of no round meets the pattern; no event is refused with the word; no state line has it
   range      more than 1000000 instants, or a second range
+  order with line M   an instant of the range, and line M of the script, are out of order
 The faults of a range come first of all; a script that is refused at an instant T of it has ` at T` after
 its fault. With --capture they are `no capture line`, `line N: CAUSE` of the capture as those of hdminet
 mon, and `expectations line N: CAUSE`.
@@ -471,8 +474,12 @@ pub const MON_FLAGS: &[(&str, &str)] = &[
         "Prints the audit, with the widths of each reading's parts",
     ),
     (
+        "strict",
+        "Ends with status 1 where the audit has a remark, once all of it is printed",
+    ),
+    (
         "json",
-        "Prints each reading as an object of JSON; not with --audit or --timing",
+        "Prints each line as an object of JSON: readings, and with --audit remarks",
     ),
 ];
 
@@ -498,8 +505,7 @@ pub const MON_VALUES: &[(&str, &str, &str)] = &[
 pub const MON_RULES: &str = "
   --from takes edges, vcd, pin or csv; --glitch a number of microseconds
   --signal goes with vcd and csv alone; of --from-start and --from-idle one is given at most, and neither
-  with --audit and --timing
-  --json goes without --audit and --timing
+  with --audit and --timing; --strict goes with one of these two
 ";
 
 pub const MON_HELP: &str = "\
@@ -533,7 +539,7 @@ events of cec-ctl (pin), and comma-separated values of Logic (csv). The first li
   ./hdminet mon --from vcd --signal CEC --glitch 50 < capture.vcd
 
 Of these forms one line, `0 T joined -`, stands for the readings that begin before T, when the line had
-been high for 16800 microseconds, since a capture may begin in the middle of a frame: that is --from-idle.
+been high for 7200 microseconds, since a capture may begin in the middle of a frame: that is --from-idle.
 With --from-start all readings are printed. With --glitch pulses and gaps of fewer microseconds are passed
 over. Events that a pin file has lost are named on standard error.
 
@@ -542,16 +548,20 @@ stands a summary; with --timing the widths of each reading's parts too:
   ./hdminet mon --audit < capture.vcd
     1000000 1051150 complete 4>0 image-view-on ack
       slot 13 block 2 bit 3 low 870 not 400..800
+With --strict the status is 1 where it has a remark: something that the standard has otherwise. A note is
+none: a block that nobody takes, bad starts, a second address, what was read, and the summary.
 
-With --json each line of the output is an object of JSON, whose first field is that line.
+With --json each line of the output is an object of JSON, whose first field is that line. Of an audit its
+type is reading, remark, note, sender, widths or summary; a remark has its kind, the section of HDMI 1.4
+CEC and its values.
 
 Faults: `line N: CAUSE` for the first line at fault; nothing is written then. Of an edge file CAUSE is line
 (ill-formed, past the limit or after the end; or the line after the last, where no end is there) or order
 (out of turn or time); of the others also word, scale, signal, time, late and end, as docs/captures.md
 has them.
 
-Exit status: 0 done; 1 input refused; 2 command line refused; 3 a read or write fault, or input
-past 1048576 bytes, with --from past 67108864; 4 no memory.";
+Exit status: 0 done; 1 input refused, or a remark with --strict; 2 command line refused; 3 a read or write
+fault, or input past 1048576 bytes, with --from past 67108864; 4 no memory.";
 
 pub const EDID_ABOUT: &str = "Writes an EDID as text, or a text's EDID in hex";
 
@@ -575,6 +585,18 @@ pub const EDID_FLAGS: &[(&str, &str)] = &[
         "Prints the EDID's text, and below each line what it means",
     ),
     ("only-address", "Prints the physical address alone"),
+    (
+        "ddc",
+        "Prints what a reading over DDC gives, segment by segment",
+    ),
+    (
+        "eeodb",
+        "Goes by the HDMI Forum's count of extensions, in place of byte 126",
+    ),
+    (
+        "as-source",
+        "Reads the EDID as a source does, which mends some and passes over others",
+    ),
 ];
 
 /// Those that take a value, with what stands for it.
@@ -594,21 +616,26 @@ pub const EDID_VALUES: &[(&str, &str, &str)] = &[
         "KIND",
         "With --port: the device is an amplifier, amp",
     ),
+    (
+        "nth",
+        "NUMBER",
+        "With --hex: reads this EDID of several, from 1",
+    ),
 ];
 
 pub const EDID_RULES: &str = "
-  of --text and --hex one is given at most, of --raw, --check,
-  --meaning and --only-address, and of --address and --port
-  --address takes an address as 1.0.0.0, --port 1 to 15, --below amp
-  --below goes with --port alone, --meaning and --only-address with neither
-  --address nor --port
+  of --text and --hex one is given at most, of --raw, --check, --meaning,
+  --only-address and --ddc, of --address and --port, and of --eeodb and --as-source
+  --address takes an address as 1.0.0.0, --port 1 to 15, --below amp, --nth
+  a number from 1
+  --below goes with --port alone, --nth with --hex alone
 ";
 
 pub const EDID_HELP: &str = "\
 The input is an EDID of 128, 256, 384 or 512 bytes: a base block of E-EDID 1.3 or 1.4, and up to
 three extension blocks. The output is its text, a line for each part. With --text it is the other
 way round. Each EDID has one text, and nothing of a block is lost: a part that fits no form is kept
-in hex, after `raw` or `ext`.
+in hex, after `raw` or `ext`. Lines that begin with a space, as --meaning prints them, are passed over.
 
 An example of a text. There are always eight `standard` lines, and four lines for the descriptors:
   edid 1.3
@@ -640,8 +667,10 @@ To see an EDID, and to make the bytes again:
 With --hex the input is a hex dump: plain digits, or as `xxd`, `hexdump`, `od`, `i2cdump` and `edid-decode`
 print it, or a list of bytes, as programs and registries have it, or with other text around, as
 `xrandr --prop` has it. It begins at the first line whose bytes are the header 00 ff ff ff ff ff ff 00, and
-may be what each of the other flags reads:
+may be what each of the other flags reads. Of a text with several EDIDs --nth N takes another than the
+first, and standard error says how many there are:
   xrandr --prop | ./hdminet edid --hex
+  xrandr --prop | ./hdminet edid --hex --nth 2
 
 With --meaning an indented line or more below each line of the text tells what it means:
   video 900403
@@ -658,6 +687,19 @@ With --address the EDID has that physical address, and with --port the address o
 device: the EDID that a device there reads. Below an amplifier it has the amplifier's audio:
   ./hdminet edid --port 2 --below amp --raw < tv.edid > player.edid
   ./hdminet edid --only-address < player.edid
+
+With --eeodb the extensions are as many as the HDMI Forum's override says, HF-EEODB, where block 1 begins
+with it (E2 78 and the count): televisions with HDMI 2.1 have 1 in byte 126 and three extensions. The text
+is that of all blocks, and bytes that are written keep byte 126; those of a text have 1 there.
+
+With --as-source what Linux does not ask of an EDID is mended, and what it passes over is left out, with a
+line on standard error for each: two wrong bytes of the header, a revision of version 1 that is not 3 or 4,
+letters of the maker, bytes after the last extension that is counted, an extension with a wrong checksum
+(mended where it is of CTA-861, else left out), and extensions after the third. The override counts too:
+  ./hdminet edid --as-source --raw < old.edid > mended.edid
+
+With --ddc the output is what a reading over DDC gives: for each segment a line `segment N` and sixteen
+rows of an offset and sixteen bytes, FF where a block is missing.
 
 Faults: `edid: CAUSE` with length, count (byte 126 does not tell the extensions), base header, base
 checksum, base revision, base maker or ext N checksum, and no-hdmi-block where there is no place for an

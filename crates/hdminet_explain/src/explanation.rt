@@ -9,9 +9,9 @@ use hdmi_lines::WORD_TEXTS;
 use hdminet_help::Draft;
 use hdminet_marks::{
     Fault, Gaps, Input, Mark, Place, gaps_of, is_line_end, label_words, marked, place_of, plain,
-    span_of, word_at,
+    slip_of, span_of, word_at,
 };
-use hdminet_meant::{add_meant, add_right_forms};
+use hdminet_meant::{add_meant, add_right_forms, add_slip};
 use std::alloc::{AllocError, Global};
 
 /// A line is shown up to so many columns.
@@ -110,6 +110,9 @@ fn add_marked(draft: &mut Draft, what: Input, place: Place<'_>, fault: Fault, li
     let mark = marked(what, fault, line);
     add_shown(draft, place, line, gaps_of(fault), mark);
     add_hints(draft, of_line(place.line, line).as_slice());
+    if let Some(found) = slip_of(fault, line) {
+        add_slip(draft, found.slip);
+    }
     let is_said = add_right_forms(draft, what, place, fault, line);
     if let Some(mark) = mark {
         add_word(draft, what, place, fault, line, mark);

@@ -84,6 +84,9 @@ fn of_range(cause: RangeSlip) -> &'static str {
             "T, U and S of a range `T..U/S` are decimal numbers, T and U of at most 1000000000000 microseconds, S at least 1; none has a zero before it"
         }
         RangeSlip::Order => "a range `T..U` does not end before it begins: U is T or later",
+        RangeSlip::Crosses => {
+            "each instant of a range keeps the order of the script: events and pulses in order of time, `end` after each event, no state after `end`"
+        }
         RangeSlip::Second => {
             "one time of a script may be a range, `T..U` or `T..U/S`, of at most 1000000 instants; another line may have one already"
         }
@@ -166,7 +169,7 @@ fn of_edid(error: EdidError) -> &'static str {
             "an EDID has 128, 256, 384 or 512 bytes: a base block and up to three extensions of 128 bytes each"
         }
         EdidError::Count => {
-            "byte 126 of the base block is the number of the extensions that follow"
+            "byte 126 of the base block is the number of the extensions that follow; `--eeodb` goes by the HDMI Forum's count, `--as-source` as a source does"
         }
         EdidError::Base(error) => of_base(error),
         EdidError::Ext(..) => {

@@ -35,6 +35,8 @@ pub enum RangeSlip {
     Order,
     /// It is the second one.
     Second,
+    /// An instant of it breaks the order of the script.
+    Crosses,
 }
 
 /// Why the program did not do what it was asked. Lines count from 1 in their part of the input, words from 0 in their line;

@@ -9,6 +9,7 @@ mod fault;
 mod grammar;
 mod marks;
 mod place;
+mod slips;
 mod words;
 
 pub use expectations::{as_form, forms_of, label_words, labelled_by, plain, without_label};
@@ -16,6 +17,7 @@ pub use fault::{Fault, Input, RangeSlip};
 pub use grammar::{
     EXPECTATIONS, NETWORK, SCRIPT, STEPS, TEST, TOPOLOGY, fitting, is_value, missing, most_fitting,
 };
-pub use marks::{Mark, gaps_of, is_word, marked};
+pub use marks::{Mark, gaps_of, is_number, is_word, marked};
 pub use place::{Place, declared_by, is_line_end, kind_of, place_of};
+pub use slips::{Slip, slip_of};
 pub use words::{Gaps, span_of, word_at, word_count};

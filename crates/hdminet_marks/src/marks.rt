@@ -2,6 +2,7 @@
 use crate::edges::in_line;
 use crate::expectations::{after_label, label_words};
 use crate::fault::{Fault, Input};
+use crate::slips::slip_of;
 use crate::words::{Gaps, word_at};
 use cec_asm::ScriptCause;
 use cec_expect::ExpectCause;
@@ -123,8 +124,8 @@ fn in_text(line: &str, word: usize) -> Option<Mark> {
     }
 }
 
-/// The words at fault of a fault's line, as it is shown.
-pub fn marked(what: Input, fault: Fault, line: &str) -> Option<Mark> {
+// The words at fault where nothing else slipped.
+fn told(what: Input, fault: Fault, line: &str) -> Option<Mark> {
     match fault {
         Fault::Topology { word, .. } => one(word),
         Fault::Script { cause, word, .. } => after_label(
@@ -157,5 +158,13 @@ pub fn marked(what: Input, fault: Fault, line: &str) -> Option<Mark> {
         | Fault::Write
         | Fault::Memory
         | Fault::NotUtf8 => None,
+    }
+}
+
+/// The words at fault of a fault's line, as it is shown: those that slipped, or else those that the fault tells.
+pub fn marked(what: Input, fault: Fault, line: &str) -> Option<Mark> {
+    match slip_of(fault, line) {
+        Some(found) => Some(found.mark),
+        None => told(what, fault, line),
     }
 }

@@ -17,6 +17,20 @@ const FIELDS: &[(&str, &str)] = &[
     ("features", "the byte is two hex digits"),
     ("chroma", "there are eight numbers, each 0 to 1023"),
     ("established", "there are three bytes, six hex digits"),
+    (
+        "standard",
+        "the width is a multiple of 8 from 248 to 2288, the aspect bits 0 to 3, the rate 60 to 123 Hz; 256 0 61 is `unused`",
+    ),
+    (
+        "timing",
+        "the clock is 1 to 65535, in 10 kHz; active and blanking, across and down, are 0 to 4095; sync offset and width are 0 to 1023 across, and 0 to 63 down; the size is 0 to 4095 mm each way, borders 0 to 255, flags two hex digits",
+    ),
+    (
+        "range",
+        "there are 14 bytes, 28 hex digits: those after the descriptor's tag",
+    ),
+    ("cta", "the flags are a byte, two hex digits"),
+    ("cta-none", "the flags are a byte, two hex digits"),
     ("name", TEXT),
     ("text", TEXT),
     ("serial-text", TEXT),

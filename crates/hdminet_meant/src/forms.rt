@@ -2,16 +2,22 @@
 use crate::fields::fields_of;
 use crate::keys::{add_key, is_of_key};
 use crate::order::add_order;
+use crate::room::{add_field_count, add_lack_of_room};
 use cec_asm::{ScriptCause, TopologyCause};
-use cec_dis::frame_in;
+use cec_dis::{frame_in, remark};
 use cec_expect::ExpectCause;
+use cec_frame::Frame;
 use cec_opcode::code_named;
 use cec_text::{AssembleError, frame_text};
 use hdminet_help::{Draft, add_name, add_shape};
 use hdminet_marks::{
-    Fault, Input, Place, SCRIPT, STEPS, TEST, TOPOLOGY, as_form, fitting, forms_of, missing,
-    most_fitting, plain, word_at, word_count,
+    Fault, Input, Place, SCRIPT, STEPS, TEST, TOPOLOGY, as_form, fitting, forms_of, is_word,
+    missing, most_fitting, plain, slip_of, without_label, word_at, word_count,
 };
+
+/// What the words of a state are.
+const STATE_WORDS: &str =
+    "WORD is one of a state line after the device's name: a kind, logical addresses, a physical address, `on` or `standby`, or KEY=VALUE as `active=1.0.0.0`, `path=-`, `deck=20`, `menu=off`, `audio=on`, `volume=20`, `mute=off`, `arc=off`, `sel=1`, `lang=656e67`, `osd=5456`, `held=41`, `heard=4:90:00`, `sub=5`, `queue=0`, `dropped=0`";
 
 /// The word that a line lacks.
 pub fn add_missing(draft: &mut Draft, word: Option<&str>) {
@@ -20,8 +26,8 @@ pub fn add_missing(draft: &mut Draft, word: Option<&str>) {
     }
 }
 
-// The forms that a line fits as far as any, and the word that it lacks.
-fn add_forms(draft: &mut Draft, forms: &[&[&str]], line: &str) {
+// The forms that a line fits as far as any.
+fn add_fitting(draft: &mut Draft, forms: &[&[&str]], line: &str) {
     let most = most_fitting(forms, line);
     let mut before = "  a line here reads `";
     for some in forms {
@@ -34,6 +40,11 @@ fn add_forms(draft: &mut Draft, forms: &[&[&str]], line: &str) {
         }
     }
     draft.add("`\n");
+}
+
+// The forms that a line fits as far as any, and the word that it lacks.
+fn add_forms(draft: &mut Draft, forms: &[&[&str]], line: &str) {
+    add_fitting(draft, forms, line);
     add_missing(draft, missing(forms, line));
 }
 
@@ -66,12 +77,27 @@ fn add_script_line(
     if !is_key || word == 4 {
         add_script_forms(draft, what, line);
     }
+    if word >= 4 && is_word(line, 2, "hold") {
+        draft.add_line(
+            "ADDRS is `-` for none, or one or two logical addresses, 0 to e: `4`, `4+8`",
+        );
+    }
     is_key && add_key(draft, place, line, word)
 }
 
-// The opcode whose two hex digits stand after `op-`.
+// The digits of an opcode: after `op-`, `0x` or `:`, or alone.
+fn opcode_digits(word: &str) -> &str {
+    for before in ["op-", "0x", ":"] {
+        if let Some(digits) = word.strip_prefix(before) {
+            return digits;
+        }
+    }
+    word
+}
+
+// The opcode whose two hex digits a word has.
 fn code_in_digits(word: &str) -> Option<u8> {
-    let digits = word.strip_prefix("op-")?;
+    let digits = opcode_digits(word);
     if digits.len() != 2 {
         return None;
     }
@@ -86,23 +112,67 @@ fn is_spaced_hex(line: &str, operands: usize) -> bool {
     }
 }
 
+// The hex of an operand that has a word in the standard, which `dis` shows after the frame.
+fn add_operand_hex(draft: &mut Draft, code: u8, word: &str) {
+    for operand in 0..=u8::MAX {
+        if remark_of(&[0, code, operand]) == Some(word) {
+            writeln!(
+                draft,
+                "  `{word}` is no word of a frame's text: `:{operand:02x}` stands for it"
+            );
+            return;
+        }
+    }
+}
+
 // What the operands of a frame are whose opcode is a word of a line.
 fn add_operands(draft: &mut Draft, line: &str, at: usize) {
     if let Some(word) = word_at(line, at) {
-        add_shape(draft, code_named(word.as_bytes()));
+        let code = code_named(word.as_bytes());
+        add_shape(draft, code);
+        if let (Some(code), Some(operand)) = (code, word_at(line, at.saturating_add(1))) {
+            add_operand_hex(draft, code, operand);
+        }
     }
     if is_spaced_hex(line, at.saturating_add(1)) {
         draft.add_line("the digits after `:` stand without spaces");
     }
 }
 
-// What the opcode of a frame would be, whose digits are a word of a line.
-fn add_opcode(draft: &mut Draft, line: &str, at: usize) {
-    if let Some(word) = word_at(line, at) {
-        if let Some(code) = code_in_digits(word) {
-            add_name(draft, code, word);
+// What the standard calls a frame's opcode or operand, where the text of the frame has no word for it.
+fn remark_of(bytes: &[u8]) -> Option<&'static str> {
+    remark(&Frame::new(bytes).ok()?)
+}
+
+// The opcode that has a name in the standard, and none in a frame's text.
+fn add_standard_name(draft: &mut Draft, word: &str) {
+    for code in 0..=u8::MAX {
+        if remark_of(&[0, code]) == Some(word) {
+            return add_name(draft, code, word);
         }
     }
+}
+
+// What the opcode of a frame would be, whose digits or name in the standard are a word of a line.
+fn add_opcode(draft: &mut Draft, line: &str, at: usize) {
+    if let Some(word) = word_at(line, at) {
+        match code_in_digits(word) {
+            Some(code) => add_name(draft, code, word),
+            None => add_standard_name(draft, word),
+        }
+    }
+}
+
+// The part of a line from a word on.
+fn tail_from(line: &str, word: usize) -> &str {
+    let mut rest = line;
+    for _ in 0..word {
+        rest = match rest.split_once(' ') {
+            Some((_, after)) => after,
+            None => return "",
+        };
+    }
+    rest
 }
 
 // The text of a frame that stands in hex.
@@ -121,7 +191,7 @@ fn add_text(draft: &mut Draft, line: &str) {
 fn add_frame(draft: &mut Draft, cause: AssembleError, line: &str, at: usize) {
     let name = at.saturating_add(1);
     match cause {
-        AssembleError::Address => add_text(draft, line),
+        AssembleError::Address => add_text(draft, tail_from(line, at)),
         AssembleError::Name => add_opcode(draft, line, name),
         AssembleError::Count | AssembleError::Operand => add_operands(draft, line, name),
         AssembleError::TooLong => {}
@@ -177,27 +247,57 @@ fn add_script(
     false
 }
 
-// What a line of expectations would be that is refused for a cause.
-fn add_expectation(draft: &mut Draft, what: Input, cause: ExpectCause, line: &str) {
-    match cause {
-        ExpectCause::Word | ExpectCause::Pattern => {
-            add_forms(draft, forms_of(what), as_form(what, line));
-        }
-        ExpectCause::Number
-        | ExpectCause::Name
-        | ExpectCause::Label
-        | ExpectCause::Order
-        | ExpectCause::Unmet => {}
+// The forms of a line of expectations. Where a word slipped, none is missing at its end.
+fn add_expectation_forms(draft: &mut Draft, what: Input, fault: Fault, line: &str) {
+    let own = as_form(what, line);
+    match slip_of(fault, line) {
+        Some(_) => add_fitting(draft, forms_of(what), own),
+        None => add_forms(draft, forms_of(what), own),
+    }
+    if own.starts_with("expect state ") && own.ends_with(" not") {
+        add_missing(draft, Some("WORD"));
     }
 }
 
-// What the fields of a line of an EDID's text are.
-fn add_fields(draft: &mut Draft, line: &str) {
+// What the words of a state are. Returns whether the line is of a state.
+fn add_state_words(draft: &mut Draft, line: &str) -> bool {
+    let is_state = without_label(line).line.starts_with("expect state ");
+    if is_state {
+        draft.add_line(STATE_WORDS);
+    }
+    is_state
+}
+
+// What a line of expectations would be that is refused for a cause. Returns whether more would be of no use.
+fn add_expectation(
+    draft: &mut Draft,
+    what: Input,
+    fault: Fault,
+    cause: ExpectCause,
+    line: &str,
+) -> bool {
+    match cause {
+        ExpectCause::Word | ExpectCause::Pattern => {
+            add_expectation_forms(draft, what, fault, line);
+        }
+        ExpectCause::Unmet => return add_state_words(draft, line),
+        ExpectCause::Number | ExpectCause::Name | ExpectCause::Label | ExpectCause::Order => {}
+    }
+    false
+}
+
+// What the fields of a line of an EDID's text are, or that its extension has no room for it. Returns whether more would be of no
+// use.
+fn add_fields(draft: &mut Draft, place: Place<'_>, line: &str) -> bool {
+    if add_lack_of_room(draft, place) {
+        return true;
+    }
     if let Some(word) = word_at(line, 0) {
         if let Some(fields) = fields_of(word) {
             draft.add_line(fields);
         }
     }
+    false
 }
 
 /// The forms that a line could have, or the line that it should not stand after. Returns whether what would be right in place
@@ -215,17 +315,19 @@ pub fn add_right_forms(
             let line = plain(what, line);
             return add_script(draft, what, place, cause, line, word);
         }
-        Fault::Expectation { cause, .. } => add_expectation(draft, what, cause, line),
+        Fault::Expectation { cause, .. } => {
+            return add_expectation(draft, what, fault, cause, line);
+        }
         Fault::Steps { .. } => add_forms(draft, STEPS, line),
         Fault::Frame { cause, .. } => add_frame(draft, cause, line, 0),
-        Fault::TextField { .. } => add_fields(draft, line),
+        Fault::TextField { .. } => return add_fields(draft, place, line),
+        Fault::TextSyntax { .. } => return add_field_count(draft, line),
         Fault::Range { .. }
         | Fault::Hex { .. }
         | Fault::Capture { .. }
         | Fault::Edid(_)
         | Fault::NoHdmiBlock
         | Fault::NoPort
-        | Fault::TextSyntax { .. }
         | Fault::Dump(_)
         | Fault::NoScriptLine
         | Fault::NoStepsLine

@@ -7,9 +7,13 @@ mod fields;
 mod forms;
 mod keys;
 mod meant;
+mod names;
 mod near;
 mod numbers;
 mod order;
+mod room;
+mod slipped;
 
 pub use forms::add_right_forms;
 pub use meant::add_meant;
+pub use slipped::add_slip;

@@ -1,18 +1,20 @@
 //! What the word at fault may have been meant for.
 use crate::keys::is_of_key;
+use crate::names::{add_declared, add_taken};
 use crate::near::is_near;
 use crate::numbers::add_number;
 use cec_asm::{ScriptCause, TopologyCause};
 use cec_expect::ExpectCause;
 use cec_feature::KeyWord;
-use cec_opcode::{WordSet, name};
+use cec_formats::{Cause, Form};
+use cec_opcode::{WordSet, code_named, name};
 use cec_text::AssembleError;
 use hdmi_core::Kind;
 use hdmi_lines::WORD_TEXTS;
 use hdminet_help::Draft;
 use hdminet_marks::{
-    EXPECTATIONS, Fault, Input, NETWORK, Place, STEPS, declared_by, is_line_end, is_value,
-    labelled_by, word_at,
+    EXPECTATIONS, Fault, Input, NETWORK, Place, STEPS, declared_by, is_line_end, is_number,
+    is_value, is_word, labelled_by, without_label, word_at, word_count,
 };
 
 /// Words that stand for kinds elsewhere, each with the KIND here.
@@ -29,6 +31,13 @@ const OTHER_KINDS: &[(&str, &str)] = &[
     ("recording", "recorder"),
     ("splitter", "switch"),
     ("hub", "switch"),
+    ("matrix", "switch"),
+    ("audio", "amp"),
+    ("bluray", "player"),
+    ("blu-ray", "player"),
+    ("dvd", "player"),
+    ("console", "player"),
+    ("external", "outside"),
 ];
 
 /// Words of a round's line that stand for themselves.
@@ -77,8 +86,50 @@ const OPERAND_WORDS: &[WordSet] = &[
     WordSet::UserControl,
 ];
 
+/// The words with which lines of a topology begin, and the one between it and a script.
+const TOPOLOGY_VERBS: &[&str] = &["device", "plug", "edid", "script"];
+
+/// The words with which lines of a script begin.
+const SCRIPT_VERBS: &[&str] = &["at", "pulse", "end", "label", "expect"];
+
+/// The latest time of a capture, in microseconds.
+const LATEST_INSTANT: u64 = 2_000_000_000_000;
+
+/// Words that are written for the levels of a line, and for the end of a capture.
+const LEVELS: &[(&str, &str)] = &[
+    ("low", "0"),
+    ("l", "0"),
+    ("fall", "0"),
+    ("high", "1"),
+    ("h", "1"),
+    ("rise", "1"),
+    ("end", "end"),
+];
+
+/// Words that are written for no logical address.
+const NO_ADDRESS: &[&str] = &["none", "no", "nothing", "empty", "off"];
+
+/// The keys of a state line, with the mark after each.
+const STATE_KEYS: &[&str] = &[
+    "active=", "path=", "deck=", "menu=", "audio=", "volume=", "mute=", "arc=", "sel=", "lang=",
+    "osd=", "held=", "heard=", "sub=", "queue=", "dropped=",
+];
+
+/// The words of a state line that have no key.
+const STATE_WORDS: &[&str] = &["on", "standby"];
+
 /// The words that mute, audio and arc take.
 const SWITCHES: &[&str] = &["on", "off"];
+
+/// Words that are written for them.
+const OTHER_SWITCHES: &[(&str, &str)] = &[
+    ("yes", "on"),
+    ("true", "on"),
+    ("1", "on"),
+    ("no", "off"),
+    ("false", "off"),
+    ("0", "off"),
+];
 
 // Suggests a word.
 fn add_suggestion(draft: &mut Draft, near: &str, word: &str) {
@@ -180,6 +231,22 @@ fn add_nearest_name(draft: &mut Draft, place: Place<'_>, word: &str) -> bool {
     false
 }
 
+// The name of a device that a word may have been meant for, or else all of them.
+fn add_name_meant(draft: &mut Draft, place: Place<'_>, word: &str) {
+    if !add_nearest_name(draft, place, word) {
+        add_declared(draft, place);
+    }
+}
+
+// What a name of a topology's line may have been meant for, by its line.
+fn of_topology_name(draft: &mut Draft, place: Place<'_>, word: &str) {
+    if place.line.starts_with(b"plug ") {
+        add_name_meant(draft, place, word);
+    } else {
+        add_taken(draft, place, word);
+    }
+}
+
 // The first label that a word may have been meant for.
 fn add_nearest_label(draft: &mut Draft, place: Place<'_>, word: &str) {
     let above = place.number.saturating_sub(1);
@@ -208,19 +275,22 @@ fn add_nearest_kind(draft: &mut Draft, word: &str) {
             return;
         }
     }
-    for (other, kind) in OTHER_KINDS {
-        if word.eq_ignore_ascii_case(other) {
-            return add_suggestion(draft, kind, word);
-        }
+    let _ = add_other(draft, OTHER_KINDS, word);
+}
+
+// What the first word of a topology's line may have been meant for: one with which such a line begins, or a line of the script.
+fn of_topology_verb(draft: &mut Draft, word: &str) {
+    if SCRIPT_VERBS.contains(&word) {
+        draft.add_line("this line is one of a script, which stands below the line `script`");
+    } else {
+        let _ = add_nearest(draft, TOPOLOGY_VERBS, word);
     }
 }
 
 // What a word of a topology that may not stand there may have been meant for, by its number in the line.
 fn of_topology_word(draft: &mut Draft, word: &str, number: usize) {
     match number {
-        0 => {
-            let _ = add_nearest_of(draft, NETWORK, word);
-        }
+        0 => of_topology_verb(draft, word),
         2 => add_nearest_kind(draft, word),
         _ => {}
     }
@@ -235,9 +305,7 @@ fn of_topology(
     number: usize,
 ) {
     match cause {
-        TopologyCause::Name => {
-            let _ = add_nearest_name(draft, place, word);
-        }
+        TopologyCause::Name => of_topology_name(draft, place, word),
         TopologyCause::Number => add_number(draft, word),
         TopologyCause::Word => of_topology_word(draft, word, number),
         TopologyCause::Full
@@ -251,20 +319,58 @@ fn of_topology(
     }
 }
 
+// The word that another one stands for in such a list. Returns whether there is one.
+fn add_other(draft: &mut Draft, others: &[(&str, &str)], word: &str) -> bool {
+    for (other, meant) in others {
+        if word.eq_ignore_ascii_case(other) {
+            add_suggestion(draft, meant, word);
+            return true;
+        }
+    }
+    false
+}
+
+// What stands for `on` or `off`.
+fn add_switch(draft: &mut Draft, word: &str) {
+    let _ = add_nearest(draft, SWITCHES, word) || add_other(draft, OTHER_SWITCHES, word);
+}
+
 // What a word of a key may have been meant for, by the key's first word and its own number in the line.
 fn of_key(draft: &mut Draft, line: &str, word: &str, number: usize) {
     match (word_at(line, 4), number) {
         (_, 4) => add_nearest_key(draft, word),
         (Some("remote"), 6) => add_nearest_code(draft, word),
-        (Some("audio" | "arc"), 5) => {
-            let _ = add_nearest(draft, SWITCHES, word);
+        (Some("audio" | "arc"), 5) => add_switch(draft, word),
+        _ => {}
+    }
+}
+
+// Two logical addresses with another mark than `+` between them.
+fn add_pair(draft: &mut Draft, word: &str) {
+    match word.as_bytes() {
+        [first, b',' | b'/' | b'&' | b'-', second]
+            if first.is_ascii_hexdigit() && second.is_ascii_hexdigit() && first != second => {
+            let (first, second) = (char::from(*first), char::from(*second));
+            writeln!(draft, "  `{word}`: did you mean `{first}+{second}`?");
         }
         _ => {}
     }
 }
 
+// What the ADDRS of `hold` may have been meant for.
+fn of_addresses(draft: &mut Draft, word: &str) {
+    if NO_ADDRESS.contains(&word) {
+        add_suggestion(draft, "-", word);
+    } else {
+        add_pair(draft, word);
+    }
+}
+
 // What a word that a script's line may not have there may have been meant for.
 fn of_script_word(draft: &mut Draft, what: Input, line: &str, word: &str, number: usize) {
+    if number == 4 && is_word(line, 2, "hold") {
+        return of_addresses(draft, word);
+    }
     if is_of_key(line, number) {
         return of_key(draft, line, word, number);
     }
@@ -274,16 +380,25 @@ fn of_script_word(draft: &mut Draft, what: Input, line: &str, word: &str, number
     }
 }
 
-// What the name of a frame's opcode may have been meant for.
-fn of_frame(draft: &mut Draft, cause: AssembleError, word: &str) {
+// What the first of a frame's operands, from this word of a line on, that is near another one may have been meant for.
+fn add_operand_meant(draft: &mut Draft, line: &str, first: usize) {
+    for number in first..word_count(line) {
+        if let Some(word) = word_at(line, number) {
+            if add_nearest_operand(draft, word) {
+                return;
+            }
+        }
+    }
+}
+
+// What a word of a frame, by its number in the line, may have been meant for.
+fn of_frame(draft: &mut Draft, cause: AssembleError, line: &str, word: &str, number: usize) {
     match cause {
         AssembleError::Name => {
             let _ = add_nearest_opcode(draft, word);
         }
-        AssembleError::Address
-        | AssembleError::TooLong
-        | AssembleError::Count
-        | AssembleError::Operand => {}
+        AssembleError::Operand => add_operand_meant(draft, line, number),
+        AssembleError::Address | AssembleError::TooLong | AssembleError::Count => {}
     }
 }
 
@@ -300,12 +415,10 @@ fn of_script(
         return;
     };
     match cause {
-        ScriptCause::Name => {
-            let _ = add_nearest_name(draft, place, word);
-        }
+        ScriptCause::Name => add_name_meant(draft, place, word),
         ScriptCause::Number => add_number(draft, word),
         ScriptCause::Word => of_script_word(draft, what, line, word, number),
-        ScriptCause::Frame(cause) => of_frame(draft, cause, word),
+        ScriptCause::Frame(cause) => of_frame(draft, cause, line, word, number),
         ScriptCause::Width
         | ScriptCause::Order
         | ScriptCause::Close
@@ -314,17 +427,97 @@ fn of_script(
     }
 }
 
+// A key of a state line that another one is near, with the value that stands after it. Returns whether there is one.
+fn add_nearest_key_of_state(draft: &mut Draft, key: &str, value: &str) -> bool {
+    for known in STATE_KEYS {
+        if let Some(near) = known.strip_suffix("=") {
+            if is_near(draft, near, key) {
+                draft.add_all(&[
+                    "  `",
+                    key,
+                    "=",
+                    value,
+                    "`: did you mean `",
+                    known,
+                    value,
+                    "`?\n",
+                ]);
+                return true;
+            }
+        }
+    }
+    false
+}
+
+// What a word of a state that no state line has may have been meant for.
+fn of_state_word(draft: &mut Draft, word: &str) {
+    let is_said = match word.split_once("=") {
+        Some(("power", value)) => {
+            add_suggestion(draft, value, word);
+            true
+        }
+        Some((key, value)) => add_nearest_key_of_state(draft, key, value),
+        None => add_nearest(draft, STATE_WORDS, word),
+    };
+    if !is_said {
+        draft.add_all(&["  no state line has the word `", word, "`\n"]);
+    }
+}
+
+// What a word may have been meant for that nothing meets, in the line of an expectation without its label.
+fn of_unmet(draft: &mut Draft, line: &str, word: &str) {
+    if without_label(line).line.starts_with("expect state ") {
+        of_state_word(draft, word);
+    } else {
+        add_nearest_of_round(draft, word);
+    }
+}
+
 // What a word of an expectation may have been meant for.
-fn of_expectation(draft: &mut Draft, place: Place<'_>, cause: ExpectCause, word: &str) {
+fn of_expectation(draft: &mut Draft, place: Place<'_>, cause: ExpectCause, line: &str, word: &str) {
     match cause {
         ExpectCause::Label => add_nearest_label(draft, place, word),
-        ExpectCause::Name => {
-            let _ = add_nearest_name(draft, place, word);
-        }
+        ExpectCause::Name => add_name_meant(draft, place, word),
         ExpectCause::Number => add_number(draft, word),
-        ExpectCause::Unmet => add_nearest_of_round(draft, word),
+        ExpectCause::Unmet => of_unmet(draft, line, word),
         ExpectCause::Word | ExpectCause::Pattern | ExpectCause::Order => {
             let _ = add_nearest_of(draft, EXPECTATIONS, word);
+        }
+    }
+}
+
+// The opcode that a word has been written for: by its name, after `0x`, or in capitals.
+fn add_opcode(draft: &mut Draft, word: &str) {
+    let digits = word.strip_prefix("0x").unwrap_or(word);
+    let code = match u8::from_str_radix(digits, 16) {
+        Ok(code) if digits.len() == 2 => Some(code),
+        _ => code_named(word.as_bytes()),
+    };
+    if let Some(code) = code {
+        writeln!(draft, "  `{word}`: did you mean `{code:02x}`?");
+    }
+}
+
+// What a word of a step may have been meant for.
+fn of_step(draft: &mut Draft, place: Place<'_>, line: &str, word: &str, number: usize) {
+    if number == 2 && is_word(line, 1, "opcode") {
+        add_opcode(draft, word);
+    } else if is_word(line, 0, "show") && number == 1 || is_word(line, 1, "device") && number == 2 {
+        add_name_meant(draft, place, word);
+    } else {
+        let _ = add_nearest_of(draft, STEPS, word);
+    }
+}
+
+// What a word of an edge may have been meant for, by its number in the line.
+fn of_edge(draft: &mut Draft, word: &str, number: usize) {
+    match number {
+        0 if is_number(word, LATEST_INSTANT) => {}
+        0 if word.contains(",") => draft.add_line("T and what follows it stand one space apart"),
+        0 if word.eq_ignore_ascii_case("end") => draft.add_line("T stands before `end`"),
+        0 => add_number(draft, word),
+        _ => {
+            let _ = add_other(draft, LEVELS, word);
         }
     }
 }
@@ -345,16 +538,17 @@ pub fn add_meant(
     match fault {
         Fault::Topology { cause, .. } => of_topology(draft, place, cause, word, number),
         Fault::Script { cause, .. } => of_script(draft, what, place, cause, line, number),
-        Fault::Expectation { cause, .. } => of_expectation(draft, place, cause, word),
-        Fault::Steps { .. } => {
-            if !add_nearest_of(draft, STEPS, word) {
-                let _ = add_nearest_name(draft, place, word);
-            }
-        }
-        Fault::Frame { cause, .. } => of_frame(draft, cause, word),
+        Fault::Expectation { cause, .. } => of_expectation(draft, place, cause, line, word),
+        Fault::Steps { .. } => of_step(draft, place, line, word, number),
+        Fault::Frame { cause, .. } => of_frame(draft, cause, line, word, number),
         Fault::TextSyntax { .. } => {
             let _ = add_nearest(draft, WORD_TEXTS, word);
         }
+        Fault::Capture {
+            form: Form::Edges,
+            cause: Cause::Line,
+            ..
+        } => of_edge(draft, word, number),
         Fault::Range { .. }
         | Fault::Hex { .. }
         | Fault::Capture { .. }

@@ -18,6 +18,16 @@ fn digits_of(word: &str) -> Option<u64> {
     Some(number)
 }
 
+// Whether a word is spelled as a number is: digits alone, and no zero before them.
+fn is_spelled_right(word: &str) -> bool {
+    let has_zero = word.starts_with("0") && word != "0";
+    !word.is_empty() && !has_zero && word.bytes().all(is_digit)
+}
+
+fn is_digit(byte: u8) -> bool {
+    byte.is_ascii_digit()
+}
+
 // A number with marks between its digits, or zeros before them.
 fn add_digits(draft: &mut Draft, word: &str) {
     if !word.is_empty() {
@@ -27,6 +37,41 @@ fn add_digits(draft: &mut Draft, word: &str) {
                 "  `{word}`: a number has digits alone, and no zero before them: `{number}`"
             );
         }
+    }
+}
+
+// A number with a sign or a point.
+fn add_mark(draft: &mut Draft, word: &str) {
+    let mark = match word.as_bytes() {
+        [b'-' | b'+', digits @ ..] if is_all_digits(digits) => "sign",
+        bytes if is_pointed(bytes) => "point",
+        _ => return,
+    };
+    draft.add_all(&["  `", word, "`: a number has no ", mark, "\n"]);
+}
+
+fn is_all_digits(bytes: &[u8]) -> bool {
+    !bytes.is_empty() && bytes.iter().copied().all(is_digit)
+}
+
+// Whether a word is digits with one point between them.
+fn is_pointed(bytes: &[u8]) -> bool {
+    let mut points = 0usize;
+    for byte in bytes {
+        if *byte == b'.' {
+            points = points.saturating_add(1);
+        } else if !is_digit(*byte) {
+            return false;
+        }
+    }
+    points == 1 && bytes.len() > 1
+}
+
+// A word that is no number for its spelling.
+fn add_spelling(draft: &mut Draft, word: &str) {
+    match digits_of(word) {
+        Some(_) => add_digits(draft, word),
+        None => add_mark(draft, word),
     }
 }
 
@@ -47,9 +92,12 @@ fn add_without_unit(draft: &mut Draft, word: &str) -> bool {
     false
 }
 
-/// The number that was meant by a word that is none: one with a unit, or with marks between its digits.
+/// What is wrong with a word that is no number of its place: it is too large, or has a unit, a sign, a point, or marks between its
+/// digits.
 pub fn add_number(draft: &mut Draft, word: &str) {
-    if !add_without_unit(draft, word) {
-        add_digits(draft, word);
+    if is_spelled_right(word) {
+        draft.add_all(&["  `", word, "` is too large\n"]);
+    } else if !add_without_unit(draft, word) {
+        add_spelling(draft, word);
     }
 }

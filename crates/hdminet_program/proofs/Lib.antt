@@ -1,3 +1,4 @@
+pub mod AuditLemmas
 pub mod LineLemmas
 pub mod ShownLemmas
 pub mod ServedLemmas
@@ -5,3 +6,4 @@ pub mod CaptureLemmas
 pub mod ObjectLemmas
 pub mod TestLemmas
 pub mod LiveLemmas
+pub mod EdidLemmas

@@ -1,11 +1,14 @@
 -- What is written of a test: a report, a report and after it the remarks of a trace, stretches, the report of a capture.
-use Rattle.std.proofs.Common.{◌≡◌, ℕ, Bool, true, List, ◌++◌, Option, None, Ok, inl, inr, not, length, filter, refl, sym, ap, subst, ◌∙◌}
+use Rattle.std.proofs.Common.{◌≡◌, ℕ, Bool, true, List, ◌++◌, Option, Some, None, Result, Ok, Err, inl, inr, not, length, filter, refl, sym, ap, subst, ◌∙◌}
 use Rattle.std.specs.Io.KnownBytes.{Appends}
 use Rattle.cec_capture_check.specs.Check.{IsCaptureChecked, capture_report}
 use Rattle.cec_check.specs.Check.{IsChecked}
 use Rattle.cec_check.specs.declared.checking.Tally.{Tally}
 use Rattle.cec_signal.specs.Edges.{Captured}
+use Rattle.cec_sweep.specs.Order.{crossing, ordered, ordered_range, unless_crossing}
 use Rattle.cec_sweep.specs.Script.{range_of}
+use Rattle.cec_sweep.specs.Series.{Series}
+use Rattle.cec_sweep.specs.declared.script.RangeFault.{RangeFault}
 use Rattle.cec_sweep.specs.Stretches.{stretches_text}
 use Rattle.cec_sweep.specs.Sweep.{IsSwept}
 use Rattle.hdmi_core.proofs.CutShort.{Appends-trans}
@@ -22,11 +25,22 @@ traced topology script remarks put old middle new tally checked are same written
     let more : Appends middle new remarks = subst (λ t. Appends middle new t) same written in
     (r.text ++ remarks, (r.text, remarks, (r, checked.1, holds, refl), are, refl), Appends-trans old middle new r.text remarks checked.3 more)
 
+-- a range that breaks the order of its script, or keeps it, is one
+is_range : (s : Series) (crossed : Option RangeFault) → unless_crossing s crossed ≡ Ok None → ⊥
+is_range s None e = cc
+is_range s (Some fault) e = cc
+
+-- where no range is one to sweep, the script has none
+no_range : (script : List ℕ) (read : Result (Option Series) RangeFault) → ordered script read ≡ Ok None → read ≡ Ok None
+no_range script (Ok None) e = refl
+no_range script (Ok (Some s)) e = absurd (is_range s (crossing script s) e)
+no_range script (Err fault) e = cc
+
 -- the report of a script without a range
-pub reported : (topology script : List ℕ) (old middle new : Option (List ℕ)) → range_of script ≡ Ok None → middle ≡ old → WritesPassed topology script middle new
+pub reported : (topology script : List ℕ) (old middle new : Option (List ℕ)) → ordered_range script ≡ Ok None → middle ≡ old → WritesPassed topology script middle new
     → WritesTest views.Report topology script old new
 reported topology script old middle new none same written =
-    (written.0, inl (none, written.1), subst (λ o. Appends o new written.0) same written.2)
+    (written.0, inl (no_range script (range_of script) none, written.1), subst (λ o. Appends o new written.0) same written.2)
 
 -- the stretches of one that has a range
 pub swept : (topology script : List ℕ) (old new : Option (List ℕ)) (holds : Bool) → IsSwept topology script old new holds → holds ≡ true

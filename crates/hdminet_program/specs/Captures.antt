@@ -2,6 +2,7 @@
 use Rattle.std.specs.Prelude.{◌≡◌, ℕ, ◌==◌, true, false, List, [], Option, Some, None, if◌then◌else◌, Ok}
 use Rattle.std.specs.Io.KnownBytes.{Appends}
 use Rattle.cec_audit.specs.Audit.{audit_text}
+use Rattle.cec_audit_lines.specs.Kinds.{has_remark}
 use Rattle.cec_formats.specs.Captures.{capture_in}
 use Rattle.cec_formats.specs.Forms.{form_of as line_form}
 use Rattle.cec_formats.specs.declared.form.Form.{Form as CaptureForm}
@@ -10,11 +11,12 @@ use Rattle.cec_mon.specs.Joined.{IsJoined, capture_text}
 use Rattle.cec_mon.specs.Watch.{as_file, file_readings, readings_text}
 use Rattle.cec_signal.specs.Edges.{Captured, line_of_edges}
 use Rattle.cec_wave.specs.declared.Edge.{Edge}
+use Rattle.hdmi_core.specs.Lines.{lines_of}
 use Rattle.cec_smooth.specs.Smooth.{smooth_edges}
 use Rattle.hdminet_words.specs.declared.choice.Form.{Form}
 use Rattle.hdminet_words.specs.declared.choice.Form.TheVariants.{Edges, Vcd, Pin, Csv}
 use Rattle.hdminet_words.specs.declared.choice.Report.{Report}
-use Rattle.hdminet_words.specs.declared.choice.Report.TheVariants.{Readings, FromIdle, Audit, Timing}
+use Rattle.hdminet_words.specs.declared.choice.Report.TheVariants.{Readings, FromIdle, Audit}
 
 -- the form of a capture: what is asked for, or else what its first line reports
 abbrev pub form_of : Option Form → List ℕ → CaptureForm
@@ -45,12 +47,11 @@ edges_kept glitch edges = if glitch == 0 then edges else smooth_edges glitch edg
 abbrev pub without_short : ℕ → Captured → Captured
 without_short glitch c = record { edges = edges_kept glitch c.edges; end = c.end }
 
--- this text is a report of a capture
+-- this text is a report of a capture; that of a strict audit has no remark
 abbrev pub IsReport : Report → Captured → List ℕ → Type 0
 IsReport Readings c text = text ≡ readings_text (file_readings (as_file c))
 IsReport FromIdle c text = (t : ℕ) × IsJoined (line_of_edges c.edges) c.end t × (text ≡ capture_text c t)
-IsReport Audit c text = text ≡ audit_text false c
-IsReport Timing c text = text ≡ audit_text true c
+IsReport (Audit timing strict) c text = (text ≡ audit_text timing c) × (strict ≡ true → has_remark (lines_of text) ≡ false)
 
 -- it is written, and nothing else
 abbrev pub Reports : Report → Captured → Option (List ℕ) → Option (List ℕ) → Type 0

@@ -1,8 +1,9 @@
 -- What the program does for a choice, an input and what it writes (own).
-use Rattle.std.specs.Prelude.{◌≡◌, ℕ, Bool, true, false, if◌then◌else◌, ◌⊎◌, List, take, Option, None, IfSome, MatchOption, codes}
+use Rattle.std.specs.Prelude.{◌≡◌, ℕ, Bool, true, false, if◌then◌else◌, ◌⊎◌, List, take, Option, None, Some, IfSome, MatchOption, codes}
 use Rattle.std.specs.Str.{bytes_eq}
 use Rattle.std.specs.List.{flat_map}
 use Rattle.std.specs.Io.KnownBytes.{Appends}
+use Rattle.cec_audit_json.specs.Object.{AreAuditObjects}
 use Rattle.cec_dis.specs.Lines.{first_fault, line_text}
 use Rattle.cec_driven.specs.Emulate.{IsDrivesOf}
 use Rattle.cec_json.specs.Object.{AreObjects}
@@ -27,11 +28,13 @@ use Rattle.hdminet_words.specs.declared.choice.Objects.{Objects}
 use Rattle.hdminet_words.specs.declared.choice.Objects.TheVariants as of
 use Rattle.hdminet_words.specs.declared.choice.Listing.{Listing}
 use Rattle.hdminet_words.specs.declared.choice.Listing.TheVariants.{Trace, Edges, Vcd, Pin, Csv, Drives}
+use Rattle.hdminet_words.specs.declared.choice.Report.{Report as CaptureReport}
+use Rattle.hdminet_words.specs.declared.choice.Report.TheVariants.{Audit}
 use Rattle.hdminet_words.specs.declared.choice.TestView.{TestView}
 use Rattle.hdminet_words.specs.declared.choice.TestView.TheVariants.{Report, Traced}
 use Rattle.hdminet_program.specs.CaptureTests.{IsCaptureTest}
 use Rattle.hdminet_program.specs.Captures.{IsHeard, form_of, name_of, report_of}
-use Rattle.hdminet_program.specs.Edids.{IsShown, IsRead}
+use Rattle.hdminet_program.specs.Edids.{IsMade}
 use Rattle.hdminet_program.specs.Live.{IsLiveDone}
 use Rattle.hdminet_program.specs.Parted.{IsParted, IsRunInput}
 use Rattle.hdminet_program.specs.Tests.{IsTestOf}
@@ -96,6 +99,14 @@ AreLines (of.Capture form glitch report) name input text = IsHeard (form_of form
 AreLines (of.Test traced) name input text = IsTestDone (report_view traced) input text
 AreLines (of.CaptureTest form glitch) name input text = IsCaptureTest form name glitch input text
 
+-- those of a run's trace, whose objects are written while it runs
+abbrev pub are_of_run : Objects → Bool
+are_of_run (of.Trace strict) = true
+are_of_run (of.Room strict) = true
+are_of_run (of.Capture form glitch report) = false
+are_of_run (of.Test traced) = false
+are_of_run (of.CaptureTest form glitch) = false
+
 -- they are written, and nothing else
 abbrev pub WritesLines : Objects → List ℕ → List ℕ → Option (List ℕ) → Option (List ℕ) → Type 0
 WritesLines objects name input old new = (text : List ℕ) × AreLines objects name input text × Appends old new text
@@ -111,14 +122,24 @@ pub record AreRoomDone (input lines text : List ℕ) : Type 0 where
   pub parts : IsRunInput input topology script
   pub objects : AreRoomObjects topology script lines text
 
-abbrev pub WritesRoom : List ℕ → List ℕ → Option (List ℕ) → Option (List ℕ) → Type 0
-WritesRoom input lines old new = (text : List ℕ) × AreRoomDone input lines text × Appends old new text
+-- the lines of a report are those of an audit
+abbrev pub is_audit : Option CaptureReport → Bool
+is_audit (Some (Audit timing strict)) = true
+is_audit report = false
+
+-- a text is the objects of the lines of a report of a capture
+abbrev pub AreCaptureObjects : Bool → List ℕ → List ℕ → Type 0
+AreCaptureObjects true lines text = AreAuditObjects (lines_of lines) text
+AreCaptureObjects false lines text = AreObjects (lines_of lines) text
+
+abbrev pub WritesCaptureObjects : Bool → List ℕ → Option (List ℕ) → Option (List ℕ) → Type 0
+WritesCaptureObjects audited lines old new = (text : List ℕ) × AreCaptureObjects audited lines text × Appends old new text
 
 -- a text is the objects of these lines
 abbrev pub AreObjectsOf : Objects → List ℕ → List ℕ → List ℕ → Type 0
 AreObjectsOf (of.Trace strict) input lines text = AreObjects (lines_of lines) text
 AreObjectsOf (of.Room strict) input lines text = AreRoomDone input lines text
-AreObjectsOf (of.Capture form glitch report) input lines text = AreObjects (lines_of lines) text
+AreObjectsOf (of.Capture form glitch report) input lines text = AreCaptureObjects (is_audit report) lines text
 AreObjectsOf (of.Test traced) input lines text = AreReportObjects (report_kind lines) (lines_of lines) text
 AreObjectsOf (of.CaptureTest form glitch) input lines text = AreReportObjects kinds.Expectations (lines_of lines) text
 
@@ -143,7 +164,7 @@ IsDone Asm name input text = (frames : List (List ℕ)) × AreTextsOf (lines_of_
 IsDone (Dis meaning) name input text = (first_fault 1 (lines_of input) ≡ None) × (text ≡ flat_map (dis_text meaning) (lines_of input))
 IsDone (Mon form glitch report) name input text = IsHeard (form_of form input) name glitch (report_of report (form_of form input)) input text
 IsDone (Json objects) name input text = (lines : List ℕ) × AreLines objects name input lines × AreObjectsOf objects input lines text
-IsDone (Edid source view) name input text = (bytes : List ℕ) × IsRead source input bytes × IsShown view bytes text
+IsDone (Edid source reading view) name input text = IsMade source reading view input text
 
 -- a choice is done for an input: its text is written, and nothing else
 abbrev pub Writes : Choice → List ℕ → List ℕ → Option (List ℕ) → Option (List ℕ) → Type 0

@@ -1,7 +1,8 @@
 -- What is written of an EDID (own).
-use Rattle.std.specs.Prelude.{◌≡◌, ℕ, Bool, false, List, Option, Some, Ok, if◌then◌else◌}
+use Rattle.std.specs.Prelude.{◌≡◌, ℕ, Bool, false, List, Option, Some, Ok, if◌then◌else◌, slice_index}
 use Rattle.std.specs.Io.KnownBytes.{Appends}
 use Rattle.hdmi_annotate.specs.EdidMeaning.{meaning_of}
+use Rattle.hdmi_annotate.specs.Meanings.{plain_text}
 use Rattle.hdmi_blocks.specs.Bytes.{edid_bytes}
 use Rattle.hdmi_blocks.specs.declared.edid.Edid.{Edid}
 use Rattle.hdmi_blocks.specs.declared.passing.AudioFrom.TheVariants.{Television, Amplifier}
@@ -9,7 +10,7 @@ use Rattle.hdmi_check.specs.Text.{findings_text, some_failure}
 use Rattle.hdmi_check.specs.declared.rule.Origin.{Origin}
 use Rattle.hdmi_check.specs.declared.rule.Origin.TheVariants as origins
 use Rattle.hdmi_convert.specs.EdidFindings.{faults_of}
-use Rattle.hdmi_convert.specs.Form.{form_text}
+use Rattle.hdmi_convert.specs.Form.{form_text, hex_line}
 use Rattle.hdmi_convert.specs.PassedOn.{Reports, address_line}
 use Rattle.hdmi_convert.specs.Passing.{IsPassedOn}
 use Rattle.hdmi_convert.specs.declared.form.Form.{Form}
@@ -17,8 +18,13 @@ use Rattle.hdmi_convert.specs.declared.form.Form.TheVariants as forms
 use Rattle.hdmi_convert.specs.declared.passing.Passing.{Passing}
 use Rattle.hdmi_convert.specs.declared.passing.Destination.TheVariants as to
 use Rattle.hdmi_core.specs.declared.phys.Phys.{Phys}
-use Rattle.hdmi_dump.specs.Dump.{edid_in_dump}
+use Rattle.hdmi_ddc.specs.Readout.{readout_text}
+use Rattle.hdmi_dumps.specs.Nth.{nth_in_dump}
 use Rattle.hdmi_edtext.specs.Lines.{edid_text}
+use Rattle.hdmi_source.specs.Count.{counted, first_count, with_count}
+use Rattle.hdmi_source.specs.Source.{as_source}
+use Rattle.hdminet_words.specs.declared.choice.Reading.{Reading}
+use Rattle.hdminet_words.specs.declared.choice.Reading.TheVariants.{Strict, Overridden, AsSource}
 use Rattle.hdminet_words.specs.declared.choice.Recipient.{Recipient}
 use Rattle.hdminet_words.specs.declared.choice.Recipient.TheVariants.{Own, At, Port}
 use Rattle.hdminet_words.specs.declared.choice.Shape.{Shape}
@@ -26,7 +32,7 @@ use Rattle.hdminet_words.specs.declared.choice.Shape.TheVariants as shapes
 use Rattle.hdminet_words.specs.declared.choice.Source.{Source}
 use Rattle.hdminet_words.specs.declared.choice.Source.TheVariants as sources
 use Rattle.hdminet_words.specs.declared.choice.View.{View}
-use Rattle.hdminet_words.specs.declared.choice.View.TheVariants.{Whole, Meaning, Findings, Address}
+use Rattle.hdminet_words.specs.declared.choice.View.TheVariants.{Whole, Meaning, Findings, Address, Readout}
 
 abbrev pub form_of : Shape → Form
 form_of shapes.Text = forms.Text
@@ -53,15 +59,52 @@ origin_of Own = origins.Display
 origin_of (At address) = origins.Port
 origin_of (Port port amplified) = origins.Port
 
+-- the bytes of that EDID; those of the device that has them may be any
+abbrev pub IsGiven : Recipient → List ℕ → List ℕ → Type 0
+IsGiven Own bytes given = given ≡ bytes
+IsGiven (At address) bytes given = (e : Edid) × IsPassedOn bytes (at address) e × (given ≡ edid_bytes e)
+IsGiven (Port port amplified) bytes given = (e : Edid) × IsPassedOn bytes (in_port port amplified) e × (given ≡ edid_bytes e)
+
 -- ---- what is written
+
+-- what the lines of an EDID's text mean, the address in it, and what is read of it over DDC
+abbrev pub IsMeant : List ℕ → List ℕ → Type 0
+IsMeant bytes text = (e : Edid) × (edid_bytes e ≡ bytes) × (text ≡ meaning_of e)
+
+abbrev pub IsAddress : List ℕ → List ℕ → Type 0
+IsAddress bytes text = (a : Phys) × Reports bytes (Some a) × (text ≡ address_line a)
+
+abbrev pub IsReadout : List ℕ → List ℕ → Type 0
+IsReadout bytes text = (e : Edid) × (edid_bytes e ≡ bytes) × (text ≡ readout_text bytes)
 
 -- The text that a view of the EDID of some bytes is. Of rules that are broken it is all, and none of them is a failure.
 abbrev pub IsShown : View → List ℕ → List ℕ → Type 0
 IsShown (Whole place shape) bytes text = (e : Edid) × IsFor place bytes e × (text ≡ form_text (form_of shape) e)
-IsShown Meaning bytes text = (e : Edid) × (edid_bytes e ≡ bytes) × (text ≡ meaning_of e)
+IsShown (Meaning place) bytes text = (given : List ℕ) × IsGiven place bytes given × IsMeant given text
 IsShown (Findings place) bytes text =
     (e : Edid) × IsFor place bytes e × (text ≡ findings_text (faults_of (origin_of place) e)) × (some_failure (faults_of (origin_of place) e) ≡ false)
-IsShown Address bytes text = (a : Phys) × Reports bytes (Some a) × (text ≡ address_line a)
+IsShown (Address place) bytes text = (given : List ℕ) × IsGiven place bytes given × IsAddress given text
+IsShown (Readout place) bytes text = (given : List ℕ) × IsGiven place bytes given × IsReadout given text
+
+-- The bytes of an EDID for a device, with another count in byte 126.
+abbrev pub IsRecounted : ℕ → Recipient → List ℕ → List ℕ → Type 0
+IsRecounted count place bytes new = (given : List ℕ) × IsGiven place bytes given × ((e : Edid) × (edid_bytes e ≡ given)) × (new ≡ with_count given count)
+
+-- The same views where the HDMI Forum's override counts the extensions: bytes that are written have the count of byte 126.
+abbrev pub IsShownCounted : ℕ → View → List ℕ → List ℕ → Type 0
+IsShownCounted count (Whole place shapes.Hex) bytes text = (new : List ℕ) × IsRecounted count place bytes new × (text ≡ hex_line new)
+IsShownCounted count (Whole place shapes.Bytes) bytes text = (new : List ℕ) × IsRecounted count place bytes new × (text ≡ new)
+IsShownCounted count (Readout place) bytes text = (new : List ℕ) × IsRecounted count place bytes new × (text ≡ readout_text new)
+IsShownCounted count (Whole place shapes.Text) bytes text = IsShown (Whole place shapes.Text) bytes text
+IsShownCounted count (Meaning place) bytes text = IsShown (Meaning place) bytes text
+IsShownCounted count (Findings place) bytes text = IsShown (Findings place) bytes text
+IsShownCounted count (Address place) bytes text = IsShown (Address place) bytes text
+
+-- A view of the bytes that an input gives, as they are read.
+abbrev pub IsShownAs : Reading → ℕ → View → List ℕ → List ℕ → Type 0
+IsShownAs Strict count view given text = IsShown view given text
+IsShownAs Overridden count view given text = (bytes : List ℕ) × (counted given ≡ Ok bytes) × IsShownCounted count view bytes text
+IsShownAs AsSource count view given text = (bytes : List ℕ) × (as_source given ≡ Ok bytes) × IsShown view bytes text
 
 -- what is passed on is written, and nothing else; and the rules that it breaks
 abbrev pub ShowsPassed : Passing → Shape → List ℕ → Option (List ℕ) → Option (List ℕ) → Type 0
@@ -73,16 +116,31 @@ ShowsRules passing bytes old new =
     × ((e : Edid) × IsPassedOn bytes passing e × (text ≡ findings_text (faults_of origins.Port e)) × (some_failure (faults_of origins.Port e) ≡ false))
     × Appends old new text
 
--- the bytes of the EDID that an input gives
+-- the bytes that an input gives
 abbrev pub IsRead : Source → List ℕ → List ℕ → Type 0
-IsRead sources.Bytes input bytes = bytes ≡ input
-IsRead sources.Dump input bytes = edid_in_dump input ≡ Ok bytes
-IsRead sources.Text input bytes = (e : Edid) × (edid_text e ≡ input) × (bytes ≡ edid_bytes e)
+IsRead sources.Bytes input given = given ≡ input
+IsRead (sources.Dump nth) input given = nth_in_dump nth input ≡ Ok given
+IsRead sources.Text input given = (e : Edid) × (edid_text e ≡ plain_text input) × (given ≡ edid_bytes e)
+
+-- The count that byte 126 keeps: a text has none, so that it is 1 there where the override stands.
+abbrev pub kept_count : Source → List ℕ → ℕ
+kept_count sources.Bytes given = slice_index given 126
+kept_count (sources.Dump nth) given = slice_index given 126
+kept_count sources.Text given = first_count given
 
 -- a view is written, and nothing else
 abbrev pub Shows : View → List ℕ → Option (List ℕ) → Option (List ℕ) → Type 0
 Shows view bytes old new = (text : List ℕ) × IsShown view bytes text × Appends old new text
 
--- of the EDID that an input gives
-abbrev pub Made : Source → View → List ℕ → Option (List ℕ) → Option (List ℕ) → Type 0
-Made source view input old new = (bytes : List ℕ) × IsRead source input bytes × Shows view bytes old new
+abbrev pub ShowsCounted : ℕ → View → List ℕ → Option (List ℕ) → Option (List ℕ) → Type 0
+ShowsCounted count view bytes old new = (text : List ℕ) × IsShownCounted count view bytes text × Appends old new text
+
+abbrev pub ShowsAs : Reading → ℕ → View → List ℕ → Option (List ℕ) → Option (List ℕ) → Type 0
+ShowsAs reading count view given old new = (text : List ℕ) × IsShownAs reading count view given text × Appends old new text
+
+-- of what an input gives
+abbrev pub IsMade : Source → Reading → View → List ℕ → List ℕ → Type 0
+IsMade source reading view input text = (given : List ℕ) × IsRead source input given × IsShownAs reading (kept_count source given) view given text
+
+abbrev pub Made : Source → Reading → View → List ℕ → Option (List ℕ) → Option (List ℕ) → Type 0
+Made source reading view input old new = (text : List ℕ) × IsMade source reading view input text × Appends old new text

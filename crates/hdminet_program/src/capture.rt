@@ -1,11 +1,16 @@
 //! What is reported of a capture.
-ghost use Rattle.std.specs.Prelude.{◌≡◌, OnOk, IfOk};
+ghost use Rattle.std.specs.Prelude.{◌≡◌, OnOk, IfOk, Some, true, false};
+ghost use Rattle.cec_audit.specs.Audit.{audit_text};
+ghost use Rattle.cec_audit_lines.specs.Kinds.{has_remark};
+ghost use Rattle.hdmi_core.specs.Lines.{lines_of};
 ghost use Rattle.hdminet_program.specs.Captures.{Heard, Reports, form_of, edges_kept, report_of};
 
 use crate::fault::ProgramFault;
 use arrayvec::ArrayString;
 use cec_audit::{AuditOptions, audit_capture};
+use cec_audit_lines::has_remark;
 use cec_formats::{Form as CaptureForm, read_capture};
+use cec_json::Held;
 use cec_mon::{watch_capture, watch_from_idle};
 use cec_pin::lost_lines;
 use cec_signal::Capture;
@@ -65,27 +70,77 @@ fn write_from_idle<W: Sink>(capture: &Capture, out: &mut W) -> Result<(), Progra
     Ok(watch_from_idle(capture, out)?)
 }
 
-fn write_audit<W: Sink>(capture: &Capture, out: &mut W) -> Result<(), ProgramFault>
-    ensures { OnOk result (Reports Report.Audit capture.now (W.contents out.old) (W.contents out.new)) }
+fn write_audit<W: Sink>(capture: &Capture, timing: bool, out: &mut W) -> Result<(), ProgramFault>
+    ensures { OnOk result (Reports (Report.Audit timing false) capture.now (W.contents out.old) (W.contents out.new)) }
 {
-    Ok(audit_capture(capture, AuditOptions { timing: false }, out)?)
+    Ok(audit_capture(capture, AuditOptions { timing }, out)?)
 }
 
-fn write_timing<W: Sink>(capture: &Capture, out: &mut W) -> Result<(), ProgramFault>
-    ensures { OnOk result (Reports Report.Timing capture.now (W.contents out.old) (W.contents out.new)) }
+// An audit as it is held: `Err` where memory runs out.
+fn held_audit(alloc: Global, capture: &Capture, timing: bool) -> Result<Held, AllocError>
+    ensures { IfOk result (λ held. ⟦<Held as Sink>⟧.contents held ≡ Some (audit_text timing capture.now)) }
 {
-    Ok(audit_capture(capture, AuditOptions { timing: true }, out)?)
+    let mut held = Held::new(alloc);
+    match audit_capture(capture, AuditOptions { timing }, &mut held) {
+        Ok(()) => Ok(held),
+        Err(_) => Err(AllocError),
+    }
+}
+
+// Fails where a text has a remark.
+fn without_remark(text: &[u8]) -> Result<(), ProgramFault>
+    ensures { OnOk result (has_remark (lines_of text.now) ≡ false) }
+{
+    if has_remark(text) {
+        return Err(ProgramFault::Remarked);
+    }
+    Ok(())
+}
+
+// The audit of which a remark is a fault. All of it is written then too.
+fn write_strict_audit<W: Sink>(
+    alloc: Global,
+    capture: &Capture,
+    timing: bool,
+    out: &mut W,
+) -> Result<(), ProgramFault>
+    ensures { OnOk result (Reports (Report.Audit timing true) capture.now (W.contents out.old) (W.contents out.new)) }
+{
+    let held = held_audit(alloc, capture, timing)?;
+    let text = held.bytes();
+    put_all(out, text)?;
+    without_remark(text)
+}
+
+fn write_any_audit<W: Sink>(
+    alloc: Global,
+    capture: &Capture,
+    timing: bool,
+    strict: bool,
+    out: &mut W,
+) -> Result<(), ProgramFault>
+    ensures { OnOk result (Reports (Report.Audit timing strict) capture.now (W.contents out.old) (W.contents out.new)) }
+{
+    if strict {
+        write_strict_audit(alloc, capture, timing, out)
+    } else {
+        write_audit(capture, timing, out)
+    }
 }
 
 // Writes what is asked for of a capture.
-fn write_report<W: Sink>(capture: &Capture, report: Report, out: &mut W) -> Result<(), ProgramFault>
+fn write_report<W: Sink>(
+    alloc: Global,
+    capture: &Capture,
+    report: Report,
+    out: &mut W,
+) -> Result<(), ProgramFault>
     ensures { OnOk result (Reports report capture.now (W.contents out.old) (W.contents out.new)) }
 {
     match report {
         Report::Readings => write_readings(capture, out),
         Report::FromIdle => write_from_idle(capture, out),
-        Report::Audit => write_audit(capture, out),
-        Report::Timing => write_timing(capture, out),
+        Report::Audit { timing, strict } => write_any_audit(alloc, capture, timing, strict, out),
     }
 }
 
@@ -104,7 +159,7 @@ fn listen<W: Sink>(
 {
     let whole = read_capture(alloc, form, signal, input)?;
     let kept = without_short(alloc, glitch, whole)?;
-    write_report(&kept, report, out)
+    write_report(alloc, &kept, report, out)
 }
 
 /// Writes what is asked for of a capture: in a form, or in the one that its first line reports, of the wire of a name, or the

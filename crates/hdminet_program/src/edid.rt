@@ -1,26 +1,34 @@
 //! What is done with an EDID.
-ghost use Rattle.std.specs.Prelude.{◌≡◌, OnOk, false};
+ghost use Rattle.std.specs.Prelude.{◌≡◌, ℕ, List, OnOk, IfOk, false};
 ghost use Rattle.hdmi_blocks.specs.Bytes.{edid_bytes};
 ghost use Rattle.hdmi_blocks.specs.declared.edid.Edid.{Edid as EdidValue};
-ghost use Rattle.hdminet_program.specs.Edids.{Made, Shows, ShowsPassed, ShowsRules, at, form_of, in_port};
+ghost use Rattle.hdminet_program.specs.Edids.{IsGiven, IsRecounted, Made, Shows, ShowsAs, ShowsCounted, ShowsPassed, ShowsRules, at, form_of, in_port};
+ghost use Rattle.std.specs.Io.KnownBytes.{Appends};
 ghost use Rattle.hdmi_core.specs.Written.{WrittenAll};
+ghost use Rattle.hdmi_convert.specs.Passing.{IsPassedOn};
+ghost use Rattle.hdmi_ddc.specs.Readout.{readout_text};
 ghost use Rattle.hdmi_convert.specs.Form.{hex_line};
 
+use crate::edid_given::{given_of, kept_count};
 use crate::fault::ProgramFault;
 use arrayvec::ArrayVec;
+use cec_json::Held;
 use hdmi_annotate::edid_to_meaning;
-use hdmi_blocks::{AudioFrom, Edid, edid_to_bytes, read_parts};
-use hdmi_check::Origin;
+use hdmi_blocks::{AudioFrom, EdidError, read_parts};
 use hdmi_convert::{
-    Destination as PassedTo, EdidToTextError, Form, Passing, TextToHexError, check_passed_on,
-    edid_to_findings, edid_to_text, write_address, write_passed_on,
+    Destination as PassedTo, EdidToTextError, Form, Passing, check_passed_on, edid_to_findings,
+    edid_to_text, write_address, write_passed_on,
 };
-use hdmi_core::{Phys, Piece, Sink, WriteFault, Writes, put_all, write_line};
-use hdmi_dump::dump_bytes;
-use hdmi_edtext::parse_text;
-use hdmi_explain::{explain_findings, explain_no_hdmi};
-use hdminet_words::{Recipient, Shape, Source, View};
+use hdmi_core::{Phys, Piece, Sink, WriteFault, put_all, write_line};
+use hdmi_ddc::{Ddc, DdcError, write_readout};
+use hdmi_source::{as_source, counted, with_count};
+use hdminet_words::{Reading, Recipient, Shape, Source, View};
 use std::alloc::{AllocError, Global};
+
+/// The fewest and the most bytes of an EDID.
+const LEAST: usize = 128;
+
+const MOST: usize = 512;
 
 fn form_of(shape: Shape) -> Form
     ensures { result ≡ form_of shape }
@@ -180,57 +188,245 @@ fn write_rules<W: Sink>(bytes: &[u8], place: Recipient, out: &mut W) -> Result<(
     }
 }
 
-// Writes the text of the EDID of some bytes with what it means.
-fn write_meaning<W: Sink>(bytes: &[u8], out: &mut W) -> Result<(), ProgramFault>
-    ensures { OnOk result (Shows View.Meaning bytes.now (W.contents out.old) (W.contents out.new)) }
+// The bytes that are passed on of the EDID of some bytes.
+fn passed_bytes(alloc: Global, passing: Passing, bytes: &[u8]) -> Result<Vec<u8>, ProgramFault>
+    ensures { IfOk result (λ passed. (e : EdidValue) × IsPassedOn bytes.now passing e × (passed.items ≡ edid_bytes e)) }
 {
-    Ok(edid_to_meaning(bytes, out)?)
+    let mut held = Held::new(alloc);
+    let done = write_passed(bytes, passing, Shape::Bytes, &mut held);
+    if held.is_full() {
+        return Err(ProgramFault::Memory(AllocError));
+    }
+    done?;
+    Ok(held.bytes().to_vec(alloc)?)
+}
+
+/// The bytes of the EDID of some bytes, for a device.
+pub fn given_to(alloc: Global, place: Recipient, bytes: &[u8]) -> Result<Vec<u8>, ProgramFault>
+    ensures { IfOk result (λ given. IsGiven place bytes.now given.items) }
+{
+    match place {
+        Recipient::Own => Ok(bytes.to_vec(alloc)?),
+        Recipient::At(address) => passed_bytes(alloc, at(address), bytes),
+        Recipient::Port { port, amplified } => {
+            passed_bytes(alloc, in_port(port, amplified), bytes)
+        }
+    }
+}
+
+// Writes the text of the EDID of some bytes, for a device, with what it means.
+fn write_meaning<W: Sink>(
+    alloc: Global,
+    bytes: &[u8],
+    place: Recipient,
+    out: &mut W,
+) -> Result<(), ProgramFault>
+    ensures { OnOk result (Shows (View.Meaning place) bytes.now (W.contents out.old) (W.contents out.new)) }
+{
+    let given = given_to(alloc, place, bytes)?;
+    Ok(edid_to_meaning(given.as_slice(), out)?)
+}
+
+// Writes the address in the EDID of some bytes, for a device.
+fn write_place<W: Sink>(
+    alloc: Global,
+    bytes: &[u8],
+    place: Recipient,
+    out: &mut W,
+) -> Result<(), ProgramFault>
+    ensures { OnOk result (Shows (View.Address place) bytes.now (W.contents out.old) (W.contents out.new)) }
+{
+    let given = given_to(alloc, place, bytes)?;
+    Ok(write_address(given.as_slice(), out)?)
+}
+
+// Why bytes can't be read over DDC: there is no whole number of blocks, or not so many.
+fn unread(_error: DdcError) -> ProgramFault {
+    ProgramFault::EdidToText(EdidToTextError::Edid(EdidError::Length))
+}
+
+// Writes what is read of some bytes over DDC.
+fn write_reading<W: Sink>(bytes: &[u8], out: &mut W) -> Result<(), ProgramFault>
+    ensures { OnOk result ((text : List ℕ) × (text ≡ readout_text bytes.now) × Appends (W.contents out.old) (W.contents out.new) text) }
+{
+    match Ddc::over(bytes) {
+        Ok(mut ddc) => match write_readout(&mut ddc, out) {
+            Ok(_) => Ok(()),
+            Err(fault) => Err(ProgramFault::Write(fault)),
+        },
+        Err(error) => Err(unread(error)),
+    }
+}
+
+// Writes what a device reads of the EDID of some bytes over DDC.
+fn write_ddc<W: Sink>(
+    alloc: Global,
+    bytes: &[u8],
+    place: Recipient,
+    out: &mut W,
+) -> Result<(), ProgramFault>
+    ensures { OnOk result (Shows (View.Readout place) bytes.now (W.contents out.old) (W.contents out.new)) }
+{
+    let given = given_to(alloc, place, bytes)?;
+    let blocks = given.as_slice();
+    is_edid(blocks)?;
+    write_reading(blocks, out)
 }
 
 // Writes what is asked for of the EDID of some bytes.
-fn show<W: Sink>(view: View, bytes: &[u8], out: &mut W) -> Result<(), ProgramFault>
+fn show<W: Sink>(alloc: Global, view: View, bytes: &[u8], out: &mut W) -> Result<(), ProgramFault>
     ensures { OnOk result (Shows view bytes.now (W.contents out.old) (W.contents out.new)) }
 {
     match view {
         View::Whole(place, shape) => write_whole(bytes, place, shape, out),
         View::Findings(place) => write_rules(bytes, place, out),
-        View::Meaning => write_meaning(bytes, out),
-        View::Address => Ok(write_address(bytes, out)?),
+        View::Meaning(place) => write_meaning(alloc, bytes, place, out),
+        View::Address(place) => write_place(alloc, bytes, place, out),
+        View::Readout(place) => write_ddc(alloc, bytes, place, out),
     }
 }
 
-// Writes what is asked for of the EDID of a hex dump.
-#[inline(never)]
-fn show_of_dump<W: Sink>(view: View, text: &[u8], out: &mut W) -> Result<(), ProgramFault>
-    ensures { OnOk result (Made Source.Dump view text.now (W.contents out.old) (W.contents out.new)) }
-{
-    match dump_bytes(text) {
-        Ok(bytes) => show(view, bytes.as_slice(), out),
-        Err(error) => Err(ProgramFault::Dump(error)),
-    }
-}
-
-// Writes what is asked for of an EDID.
-fn show_edid<W: Sink>(edid: &Edid, view: View, out: &mut W) -> Result<(), ProgramFault>
-    ensures { OnOk result (Shows view (edid_bytes edid.now) (W.contents out.old) (W.contents out.new)) }
-{
-    let bytes = edid_to_bytes(edid);
-    show(view, bytes.as_slice(), out)
-}
-
-// Writes what is asked for of the EDID of a text.
-#[inline(never)]
-fn show_of_text<W: Sink>(
+// The bytes of an EDID, for a device, with another count in byte 126.
+fn recounted(
     alloc: Global,
-    view: View,
-    text: &[u8],
+    count: u8,
+    place: Recipient,
+    bytes: &[u8],
+) -> Result<ArrayVec<u8, 512>, ProgramFault>
+    ensures { IfOk result (λ new. IsRecounted count place bytes.now new.items) }
+{
+    let given = given_to(alloc, place, bytes)?;
+    let blocks = given.as_slice();
+    is_edid(blocks)?;
+    if blocks.len() < LEAST || blocks.len() > MOST {
+        return Err(ProgramFault::EdidToText(EdidToTextError::Edid(EdidError::Length)));
+    }
+    Ok(with_count(blocks, count))
+}
+
+fn write_counted_hex<W: Sink>(
+    alloc: Global,
+    count: u8,
+    place: Recipient,
+    bytes: &[u8],
     out: &mut W,
 ) -> Result<(), ProgramFault>
-    ensures { OnOk result (Made Source.Text view text.now (W.contents out.old) (W.contents out.new)) }
+    ensures { OnOk result (ShowsCounted count (View.Whole place Shape.Hex) bytes.now (W.contents out.old) (W.contents out.new)) }
 {
-    match parse_text(alloc, text) {
-        Ok(edid) => show_edid(&edid, view, out),
-        Err(error) => Err(ProgramFault::TextToHex(TextToHexError::from(error))),
+    let mended = recounted(alloc, count, place, bytes)?;
+    Ok(write_hex_line(mended.as_slice(), out)?)
+}
+
+fn write_counted_bytes<W: Sink>(
+    alloc: Global,
+    count: u8,
+    place: Recipient,
+    bytes: &[u8],
+    out: &mut W,
+) -> Result<(), ProgramFault>
+    ensures { OnOk result (ShowsCounted count (View.Whole place Shape.Bytes) bytes.now (W.contents out.old) (W.contents out.new)) }
+{
+    let mended = recounted(alloc, count, place, bytes)?;
+    Ok(put_all(out, mended.as_slice())?)
+}
+
+fn write_counted_ddc<W: Sink>(
+    alloc: Global,
+    count: u8,
+    place: Recipient,
+    bytes: &[u8],
+    out: &mut W,
+) -> Result<(), ProgramFault>
+    ensures { OnOk result (ShowsCounted count (View.Readout place) bytes.now (W.contents out.old) (W.contents out.new)) }
+{
+    let mended = recounted(alloc, count, place, bytes)?;
+    write_reading(mended.as_slice(), out)
+}
+
+// Writes the EDID of some bytes, for a device. Bytes that are written have this count in byte 126.
+fn show_counted_whole<W: Sink>(
+    alloc: Global,
+    count: u8,
+    place: Recipient,
+    shape: Shape,
+    bytes: &[u8],
+    out: &mut W,
+) -> Result<(), ProgramFault>
+    ensures { OnOk result (ShowsCounted count (View.Whole place shape) bytes.now (W.contents out.old) (W.contents out.new)) }
+{
+    match shape {
+        Shape::Hex => write_counted_hex(alloc, count, place, bytes, out),
+        Shape::Bytes => write_counted_bytes(alloc, count, place, bytes, out),
+        Shape::Text => write_whole(bytes, place, Shape::Text, out),
+    }
+}
+
+// The same where the HDMI Forum's override counts the extensions. Bytes that are written have this count in byte 126.
+fn show_counted<W: Sink>(
+    alloc: Global,
+    count: u8,
+    view: View,
+    bytes: &[u8],
+    out: &mut W,
+) -> Result<(), ProgramFault>
+    ensures { OnOk result (ShowsCounted count view bytes.now (W.contents out.old) (W.contents out.new)) }
+{
+    match view {
+        View::Whole(place, shape) => show_counted_whole(alloc, count, place, shape, bytes, out),
+        View::Findings(place) => write_rules(bytes, place, out),
+        View::Meaning(place) => write_meaning(alloc, bytes, place, out),
+        View::Address(place) => write_place(alloc, bytes, place, out),
+        View::Readout(place) => write_counted_ddc(alloc, count, place, bytes, out),
+    }
+}
+
+// Writes what is asked for of bytes in which the override counts the extensions.
+fn show_overridden<W: Sink>(
+    alloc: Global,
+    count: u8,
+    view: View,
+    given: &[u8],
+    out: &mut W,
+) -> Result<(), ProgramFault>
+    ensures { OnOk result (ShowsAs Reading.Overridden count view given.now (W.contents out.old) (W.contents out.new)) }
+{
+    match counted(given) {
+        Ok(bytes) => show_counted(alloc, count, view, bytes.as_slice(), out),
+        Err(error) => Err(ProgramFault::EdidToText(EdidToTextError::Edid(error))),
+    }
+}
+
+// Writes what is asked for of bytes as a source reads them.
+fn show_as_source<W: Sink>(
+    alloc: Global,
+    count: u8,
+    view: View,
+    given: &[u8],
+    out: &mut W,
+) -> Result<(), ProgramFault>
+    ensures { OnOk result (ShowsAs Reading.AsSource count view given.now (W.contents out.old) (W.contents out.new)) }
+{
+    match as_source(given) {
+        Ok(bytes) => show(alloc, view, bytes.as_slice(), out),
+        Err(error) => Err(ProgramFault::EdidToText(EdidToTextError::Edid(error))),
+    }
+}
+
+// Writes what is asked for of bytes, as they are read.
+fn show_as<W: Sink>(
+    alloc: Global,
+    reading: Reading,
+    count: u8,
+    view: View,
+    given: &[u8],
+    out: &mut W,
+) -> Result<(), ProgramFault>
+    ensures { OnOk result (ShowsAs reading count view given.now (W.contents out.old) (W.contents out.new)) }
+{
+    match reading {
+        Reading::Strict => show(alloc, view, given, out),
+        Reading::Overridden => show_overridden(alloc, count, view, given, out),
+        Reading::AsSource => show_as_source(alloc, count, view, given, out),
     }
 }
 
@@ -238,63 +434,14 @@ fn show_of_text<W: Sink>(
 pub fn edid<W: Sink>(
     alloc: Global,
     source: Source,
+    reading: Reading,
     view: View,
     input: &[u8],
     out: &mut W,
 ) -> Result<(), ProgramFault>
-    ensures { OnOk result (Made source view input.now (W.contents out.old) (W.contents out.new)) }
+    ensures { OnOk result (Made source reading view input.now (W.contents out.old) (W.contents out.new)) }
 {
-    match source {
-        Source::Bytes => show(view, input, out),
-        Source::Dump => show_of_dump(view, input, out),
-        Source::Text => show_of_text(alloc, view, input, out),
-    }
-}
-
-// The rules are those for the EDID of a display, or for one that is passed on.
-fn origin_of(place: Recipient) -> Origin {
-    match place {
-        Recipient::Own => Origin::Display,
-        Recipient::At(_) | Recipient::Port { .. } => Origin::Port,
-    }
-}
-
-// The bytes of the EDID of an input, for a device.
-fn bytes_for(
-    alloc: Global,
-    source: Source,
-    place: Recipient,
-    input: &[u8],
-) -> Result<Vec<u8>, ProgramFault> {
-    let mut bytes = Vec::new(alloc);
-    let view = View::Whole(place, Shape::Bytes);
-    edid(alloc, source, view, input, &mut Writes::new(&mut bytes))?;
-    Ok(bytes)
-}
-
-/// What each rule asks that the EDID of an input breaks, for a device, and the values at fault. Of no EDID there is nothing.
-pub fn explain_rules(
-    alloc: Global,
-    source: Source,
-    place: Recipient,
-    input: &[u8],
-) -> Result<String, AllocError> {
-    match bytes_for(alloc, source, place, input) {
-        Ok(bytes) => explain_findings(alloc, origin_of(place), &bytes),
-        Err(_) => Ok(String::new(alloc)),
-    }
-}
-
-/// Why the EDID of an input has no HDMI block, in indented lines. Of one that has a block there is nothing.
-pub fn explain_lack(alloc: Global, source: Source, input: &[u8]) -> Result<String, AllocError> {
-    let mut text = String::new(alloc);
-    if let Ok(bytes) = bytes_for(alloc, source, Recipient::Own, input) {
-        let explanation = explain_no_hdmi(alloc, &bytes)?;
-        for line in explanation.as_str().lines() {
-            text.push_str("  ")?;
-            text.push_str(line)?;
-            text.push_str("\n")?;
-        }
-    }
-    Ok(text)
+    let given = given_of(alloc, source, input)?;
+    let bytes = given.as_slice();
+    show_as(alloc, reading, kept_count(source, bytes), view, bytes, out)
 }

@@ -33,7 +33,7 @@ pub fn input_of(choice: Choice) -> Input {
         | Choice::Json(Objects::Capture { .. }) => { Input::Lines }
         Choice::Edid { source, .. } => match source {
             Source::Bytes => Input::EdidBytes,
-            Source::Dump => Input::Lines,
+            Source::Dump { .. } => Input::Lines,
             Source::Text => Input::EdidText,
         },
     }
@@ -104,6 +104,7 @@ fn of_range(fault: RangeFault) -> Explained {
             RangeCause::Number => RangeSlip::Number,
             RangeCause::Order => RangeSlip::Order,
             RangeCause::Range => RangeSlip::Second,
+            RangeCause::Crosses(_) => RangeSlip::Crosses,
         },
         word: fault.word,
     }
@@ -229,6 +230,7 @@ pub fn explained(form: Form, fault: &ProgramFault) -> Option<Explained> {
         ProgramFault::EventsRefused(_)
         | ProgramFault::TestsFailed(_)
         | ProgramFault::SweepFailed
+        | ProgramFault::Remarked
         | ProgramFault::RuleFails => {
             return None;
         }

@@ -56,6 +56,9 @@ pub enum ProgramFault {
     /// Tests failed at instants of a range. All stretches were written.
     #[error("failed tests in the range")]
     SweepFailed,
+    /// A strict audit has a remark. All of it was written.
+    #[error("the audit has a remark")]
+    Remarked,
     #[error(transparent)]
     Session(#[from] SessionError),
     #[error("steps line {line}")]
@@ -172,6 +175,7 @@ impl ProgramFault {
             | ProgramFault::AtInstant { .. }
             | ProgramFault::TestsFailed(_)
             | ProgramFault::SweepFailed
+            | ProgramFault::Remarked
             | ProgramFault::Steps { .. }
             | ProgramFault::Session(_)
             | ProgramFault::Emulate(_)

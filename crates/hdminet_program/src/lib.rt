@@ -4,6 +4,8 @@
 mod capture;
 mod capture_test;
 mod edid;
+mod edid_explained;
+mod edid_given;
 mod expectations;
 mod explained;
 mod fault;

@@ -2,7 +2,7 @@
 ghost use Rattle.std.specs.Prelude.{◌≡◌, ◌≢◌, ◌<◌, true, false, [], OnOk, IfOk, Ok, map, string_bytes};
 ghost use Rattle.std.specs.Io.KnownBytes.{Keeps};
 ghost use Rattle.hdmi_core.specs.Buffered.{below};
-ghost use Rattle.hdminet_program.specs.Done.{AreServed, IsAllOf, IsHelp, IsServed, Writes, WritesLine, WritesLines, WritesObjects, WritesRoom, report_kind, report_view};
+ghost use Rattle.hdminet_program.specs.Done.{AreServed, IsAllOf, IsHelp, IsServed, Writes, WritesLine, WritesLines, WritesObjects, WritesCaptureObjects, are_of_run, is_audit, report_kind, report_view};
 ghost use Rattle.hdminet_program.specs.CaptureTests.{WritesCaptureTest};
 ghost use Rattle.hdminet_program.specs.Captures.{name_of};
 ghost use Rattle.hdminet_program.specs.Live.{Lives};
@@ -10,30 +10,33 @@ ghost use Rattle.hdminet_words.specs.MonFlags.{signal_in};
 
 use crate::capture::{monitor, name_lost};
 use crate::capture_test::write_capture_test;
-use crate::edid::{edid, explain_lack, explain_rules};
+use crate::edid::edid;
+use crate::edid_explained::{explain_lack, explain_rules, name_read};
 use crate::expectations::write_test;
 use crate::explained::{explained, form_in, input_of};
 use crate::fault::ProgramFault;
 use crate::live::live;
 use crate::parts::{capture_parts, parted, parts};
 use arrayvec::ArrayString;
+use cec_audit_json::write_audit_objects;
 use cec_check::Tally;
 use cec_dis::dis_lines;
 use cec_driven::emulate_drives;
-use cec_json::{Held, write_objects};
+use cec_json::{Held, PlainLines, write_objects};
 use cec_line::Format;
 use cec_meaning::dis_with_meaning;
 use cec_report_json::{Report as ReportKind, write_report_objects};
-use cec_room_json::write_room_objects;
+use cec_room_json::RoomLines;
 use cec_run::Totals;
 use cec_run::emulate::emulate;
 use cec_run::line::emulate_line;
+use cec_run_json::emulate_objects;
 use cec_step::step_run::step_run;
 use cec_text::asm_lines;
 use hdmi_core::{Buffered, Sink, before, put_all};
 use hdminet_command::{Refused, choose};
 use hdminet_explain::{counts, explain};
-use hdminet_words::{Asked, Choice, Form, Listing, Objects, TestView, View, signal_in};
+use hdminet_words::{Asked, Choice, Form, Listing, Objects, Report, TestView, View, signal_in};
 use std::alloc::{AllocError, Global};
 use std::fmt::Write;
 use std::io::Read;
@@ -77,7 +80,7 @@ fn limit_of(choice: Choice) -> usize {
 /// How the program ended.
 #[derive(Drop)]
 pub struct Ended<W> {
-    /// The exit status: 0 done, 1 input refused, an event of a strict run refused or a test failed, 2 command line refused, 3 a
+    /// The exit status: 0 done, 1 input refused, an event of a strict run refused, a remark of a strict audit or a test failed, 2 command line refused, 3 a
     /// read or write fault or input past its limit, 4 no memory, 5 an EDID fails a rule.
     pub status: u8,
     /// The sink that it wrote to.
@@ -246,7 +249,44 @@ fn report_view(traced: bool) -> TestView
     }
 }
 
-// Writes the lines whose objects are asked for.
+// Writes the objects of the lines of a run's trace while it runs.
+#[inline(never)]
+#[tactic(auto, using(crate::proofs::ObjectLemmas::trace_ended))]
+fn run_to_objects<W: Sink>(
+    alloc: Global,
+    strict: bool,
+    input: &[u8],
+    out: &mut W,
+) -> Result<Option<Totals>, ProgramFault>
+    ensures { OnOk result (Writes (Choice.Json (Objects.Trace strict)) [] input.now (W.contents out.old) (W.contents out.new)) }
+{
+    let (topology, script) = parts(input)?;
+    let totals = emulate_objects(alloc, topology, script, PlainLines, out)?;
+    accepted(totals, strict)
+}
+
+// The same with those of its room.
+#[inline(never)]
+fn run_to_room<W: Sink>(
+    alloc: Global,
+    strict: bool,
+    input: &[u8],
+    out: &mut W,
+) -> Result<Option<Totals>, ProgramFault>
+    ensures { OnOk result (Writes (Choice.Json (Objects.Room strict)) [] input.now (W.contents out.old) (W.contents out.new)) }
+{
+    let (topology, script) = parts(input)?;
+    let totals = emulate_objects(
+        alloc,
+        topology,
+        script,
+        RoomLines::new(topology, script),
+        out,
+    )?;
+    accepted(totals, strict)
+}
+
+// Writes the lines whose objects are asked for, where they are not those of a run.
 fn write_lines<W: Sink>(
     alloc: Global,
     objects: Objects,
@@ -254,11 +294,12 @@ fn write_lines<W: Sink>(
     input: &[u8],
     out: &mut W,
 ) -> Result<Option<Totals>, ProgramFault>
+    requires { are_of_run objects ≡ false }
     ensures { OnOk result (WritesLines objects signal.now input.now (W.contents out.old) (W.contents out.new)) }
 {
     match objects {
-        Objects::Trace { strict } => run(alloc, strict, input, out),
-        Objects::Room { strict } => run(alloc, strict, input, out),
+        Objects::Trace { .. } => unreachable!(),
+        Objects::Room { .. } => unreachable!(),
         Objects::Capture {
             form,
             glitch,
@@ -285,28 +326,55 @@ fn report_kind(lines: &[u8]) -> ReportKind
     }
 }
 
-// Writes the objects of the lines of a trace, with those of its room.
-fn write_room<W: Sink>(input: &[u8], lines: &[u8], out: &mut W) -> Result<(), ProgramFault>
-    ensures { OnOk result (WritesRoom input.now lines.now (W.contents out.old) (W.contents out.new)) }
+// Whether the lines of a report are those of an audit.
+fn is_audit(report: Option<Report>) -> bool
+    ensures { result ≡ is_audit report }
 {
-    let (topology, script) = parts(input)?;
-    write_room_objects(topology, script, lines, out)?;
-    Ok(())
+    matches!(report, Some(Report::Audit { .. }))
 }
 
-// Writes the objects of lines.
-fn write_objects_of<W: Sink>(
-    objects: Objects,
-    input: &[u8],
+// Writes the objects of the lines of an audit.
+fn write_audited<W: Sink>(lines: &[u8], out: &mut W) -> Result<(), ProgramFault>
+    ensures { OnOk result (WritesCaptureObjects true lines.now (W.contents out.old) (W.contents out.new)) }
+{
+    Ok(write_audit_objects(lines, out)?)
+}
+
+// Writes the objects of the lines of another report of a capture.
+fn write_read<W: Sink>(lines: &[u8], out: &mut W) -> Result<(), ProgramFault>
+    ensures { OnOk result (WritesCaptureObjects false lines.now (W.contents out.old) (W.contents out.new)) }
+{
+    Ok(write_objects(lines, out)?)
+}
+
+// Writes the objects of the lines of a report of a capture, which is an audit or not.
+fn write_capture_objects<W: Sink>(
+    audited: bool,
     lines: &[u8],
     out: &mut W,
 ) -> Result<(), ProgramFault>
-    ensures { OnOk result (WritesObjects objects input.now lines.now (W.contents out.old) (W.contents out.new)) }
+    ensures { OnOk result (WritesCaptureObjects audited lines.now (W.contents out.old) (W.contents out.new)) }
+{
+    if audited {
+        write_audited(lines, out)
+    } else {
+        write_read(lines, out)
+    }
+}
+
+// Writes the objects of lines that are not those of a run.
+fn write_objects_of<W: Sink>(
+    objects: Objects,
+    lines: &[u8],
+    out: &mut W,
+) -> Result<(), ProgramFault>
+    requires { are_of_run objects ≡ false }
+    ensures { OnOk result (WritesObjects objects [] lines.now (W.contents out.old) (W.contents out.new)) }
 {
     match objects {
-        Objects::Trace { .. } => Ok(write_objects(lines, out)?),
-        Objects::Room { .. } => write_room(input, lines, out),
-        Objects::Capture { .. } => Ok(write_objects(lines, out)?),
+        Objects::Trace { .. } => unreachable!(),
+        Objects::Room { .. } => unreachable!(),
+        Objects::Capture { report, .. } => write_capture_objects(is_audit(report), lines, out),
         Objects::Test { .. } => Ok(write_report_objects(report_kind(lines), lines, out)?),
         Objects::CaptureTest { .. } => {
             Ok(write_report_objects(ReportKind::Expectations, lines, out)?)
@@ -314,8 +382,28 @@ fn write_objects_of<W: Sink>(
     }
 }
 
-// Writes the objects of lines, which are held until they are all there.
+// Writes the objects of lines that are not those of a run, which are held until they are all there.
 #[inline(never)]
+fn write_held<W: Sink>(
+    alloc: Global,
+    objects: Objects,
+    signal: &[u8],
+    input: &[u8],
+    out: &mut W,
+) -> Result<Option<Totals>, ProgramFault>
+    requires { are_of_run objects ≡ false }
+    ensures { OnOk result (Writes (Choice.Json objects) signal.now input.now (W.contents out.old) (W.contents out.new)) }
+{
+    let mut held = Held::new(alloc);
+    let done = write_lines(alloc, objects, signal, input, &mut held);
+    if held.is_full() {
+        return Err(ProgramFault::Memory(AllocError));
+    }
+    write_objects_of(objects, held.bytes(), out)?;
+    done
+}
+
+// Writes the objects of lines: of a run while it runs, and of all others once they are all there.
 fn write_json<W: Sink>(
     alloc: Global,
     objects: Objects,
@@ -325,13 +413,13 @@ fn write_json<W: Sink>(
 ) -> Result<Option<Totals>, ProgramFault>
     ensures { OnOk result (Writes (Choice.Json objects) signal.now input.now (W.contents out.old) (W.contents out.new)) }
 {
-    let mut held = Held::new(alloc);
-    let done = write_lines(alloc, objects, signal, input, &mut held);
-    if held.is_full() {
-        return Err(ProgramFault::Memory(AllocError));
+    match objects {
+        Objects::Trace { strict } => run_to_objects(alloc, strict, input, out),
+        Objects::Room { strict } => run_to_room(alloc, strict, input, out),
+        Objects::Capture { .. } | Objects::Test { .. } | Objects::CaptureTest { .. } => write_held(
+            alloc, objects, signal, input, out,
+        ),
     }
-    write_objects_of(objects, input, held.bytes(), out)?;
-    done
 }
 
 // Does what is asked for. Of a run the result has the counts.
@@ -371,8 +459,12 @@ fn perform<W: Sink>(
             Ok(None)
         }
         Choice::Json(objects) => write_json(alloc, objects, signal, input, out),
-        Choice::Edid { source, view } => {
-            edid(alloc, source, view, input, out)?;
+        Choice::Edid {
+            source,
+            reading,
+            view,
+        } => {
+            edid(alloc, source, reading, view, input, out)?;
             Ok(None)
         }
     }
@@ -431,8 +523,9 @@ fn rules_of(alloc: Global, choice: Choice, input: &[u8]) -> Result<String, Alloc
     match choice {
         Choice::Edid {
             source,
+            reading,
             view: View::Findings(place),
-        } => explain_rules(alloc, source, place, input),
+        } => explain_rules(alloc, source, reading, place, input),
         _ => Ok(String::new(alloc)),
     }
 }
@@ -445,9 +538,14 @@ fn lack_of(
     input: &[u8],
 ) -> Result<String, AllocError> {
     match (choice, fault) {
-        (Choice::Edid { source, .. }, ProgramFault::PassOn(_)) => explain_lack(
-            alloc, source, input,
-        ),
+        (
+            Choice::Edid {
+                source,
+                reading,
+                ..
+            },
+            ProgramFault::PassOn(_),
+        ) => explain_lack(alloc, source, reading, input),
         _ => Ok(String::new(alloc)),
     }
 }
@@ -537,6 +635,7 @@ fn report<E: Sink>(
 ) -> u8
     ensures { 0 < result }
 {
+    name_read(alloc, asked.choice, input, err);
     let status = write_fault(fault, err);
     name_lost_by(alloc, asked.choice, fault, input, err);
     if asked.explains {
@@ -549,6 +648,7 @@ fn report<E: Sink>(
 // and what the rules ask that an EDID breaks.
 fn remark<E: Sink>(alloc: Global, asked: Asked, totals: Option<Totals>, input: &[u8], err: &mut E) {
     name_lost_of(alloc, asked.choice, input, err);
+    name_read(alloc, asked.choice, input, err);
     if !asked.explains {
         return;
     }

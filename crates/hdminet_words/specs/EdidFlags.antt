@@ -8,6 +8,7 @@ use Rattle.hdmi_core.specs.declared.phys.Phys.{Phys}
 use Rattle.hdminet_words.specs.Joined.{joined}
 use Rattle.hdminet_words.specs.declared.choice.Asked.{Asked}
 use Rattle.hdminet_words.specs.declared.choice.Choice.TheVariants.{Edid}
+use Rattle.hdminet_words.specs.declared.choice.Reading.TheVariants as readings
 use Rattle.hdminet_words.specs.declared.choice.Recipient.{Recipient}
 use Rattle.hdminet_words.specs.declared.choice.Recipient.TheVariants.{Own, At, Port}
 use Rattle.hdminet_words.specs.declared.choice.Source.{Source}
@@ -15,7 +16,7 @@ use Rattle.hdminet_words.specs.declared.choice.Source.TheVariants as sources
 use Rattle.hdminet_words.specs.declared.choice.Shape.{Shape}
 use Rattle.hdminet_words.specs.declared.choice.Shape.TheVariants as shapes
 use Rattle.hdminet_words.specs.declared.choice.View.{View}
-use Rattle.hdminet_words.specs.declared.choice.View.TheVariants.{Whole, Meaning, Findings, Address}
+use Rattle.hdminet_words.specs.declared.choice.View.TheVariants.{Whole, Meaning, Findings, Address, Readout}
 use Rattle.hdminet_words.specs.declared.edid_flags.EdidFlags.{EdidFlags}
 use Rattle.hdminet_words.specs.declared.edid_flags.Wanted.{Wanted}
 use Rattle.hdminet_words.specs.declared.edid_flags.Wanted.TheVariants as wants
@@ -30,6 +31,14 @@ port_number (Some n) = if nat_le 1 n && nat_le n 15 then Some n else None
 abbrev pub port_of : List ℕ → Option ℕ
 port_of word = port_number (number_of word)
 
+-- the number of an EDID among several: from 1
+abbrev pub nth_number : Option ℕ → Option ℕ
+nth_number None = None
+nth_number (Some n) = if nat_le 1 n then Some n else None
+
+abbrev pub nth_of : List ℕ → Option ℕ
+nth_of word = nth_number (number_of word)
+
 abbrev pub amplified_of : List ℕ → Bool
 amplified_of word = bytes_eq word (codes "amp")
 
@@ -38,19 +47,24 @@ abbrev pub with_edid_value : EdidFlags → EdidValue → List ℕ → Option Edi
 with_edid_value flags values.Address word = option_map (λ address. record flags { address = Some address; waits = None }) (phys_of word)
 with_edid_value flags values.Port word = option_map (λ port. record flags { port = Some port; waits = None }) (port_of word)
 with_edid_value flags values.Below word = if amplified_of word then Some (record flags { amplified = true; waits = None }) else None
+with_edid_value flags values.Nth word = option_map (λ nth. record flags { nth = Some nth; waits = None }) (nth_of word)
 
 -- the flags with one more; each stands once at most, and those that exclude one another not together
 abbrev pub with_edid_flag : EdidFlags → List ℕ → Option EdidFlags
 with_edid_flag flags word =
     if bytes_eq word (codes "--text") && is_none flags.source then Some (record flags { source = Some sources.Text })
-    else if bytes_eq word (codes "--hex") && is_none flags.source then Some (record flags { source = Some sources.Dump })
+    else if bytes_eq word (codes "--hex") && is_none flags.source then Some (record flags { source = Some (sources.Dump 1) })
+    else if bytes_eq word (codes "--eeodb") && is_none flags.reading then Some (record flags { reading = Some readings.Overridden })
+    else if bytes_eq word (codes "--as-source") && is_none flags.reading then Some (record flags { reading = Some readings.AsSource })
     else if bytes_eq word (codes "--raw") && is_none flags.wanted then Some (record flags { wanted = Some wants.Raw })
     else if bytes_eq word (codes "--check") && is_none flags.wanted then Some (record flags { wanted = Some wants.Check })
     else if bytes_eq word (codes "--meaning") && is_none flags.wanted then Some (record flags { wanted = Some wants.Meaning })
     else if bytes_eq word (codes "--only-address") && is_none flags.wanted then Some (record flags { wanted = Some wants.OnlyAddress })
+    else if bytes_eq word (codes "--ddc") && is_none flags.wanted then Some (record flags { wanted = Some wants.Ddc })
     else if bytes_eq word (codes "--address") && is_none flags.address then Some (record flags { waits = Some values.Address })
     else if bytes_eq word (codes "--port") && is_none flags.port then Some (record flags { waits = Some values.Port })
     else if bytes_eq word (codes "--below") && not flags.amplified then Some (record flags { waits = Some values.Below })
+    else if bytes_eq word (codes "--nth") && is_none flags.nth then Some (record flags { waits = Some values.Nth })
     else if bytes_eq word (codes "--explain") && not flags.explains then Some (record flags { explains = true })
     else None
 
@@ -87,24 +101,31 @@ edid_place flags = place_by flags.address flags.port flags.amplified
 abbrev pub own_shape : Source → Shape
 own_shape sources.Text = shapes.Hex
 own_shape sources.Bytes = shapes.Text
-own_shape sources.Dump = shapes.Text
+own_shape (sources.Dump nth) = shapes.Text
 
--- what is written; meanings and the address alone are of the device that has the EDID
-abbrev pub edid_view : Option Wanted → Recipient → Shape → Option View
-edid_view None place shape = Some (Whole place shape)
-edid_view (Some wants.Raw) place shape = Some (Whole place shapes.Bytes)
-edid_view (Some wants.Check) place shape = Some (Findings place)
-edid_view (Some wants.Meaning) Own shape = Some Meaning
-edid_view (Some wants.Meaning) (At address) shape = None
-edid_view (Some wants.Meaning) (Port port amplified) shape = None
-edid_view (Some wants.OnlyAddress) Own shape = Some Address
-edid_view (Some wants.OnlyAddress) (At address) shape = None
-edid_view (Some wants.OnlyAddress) (Port port amplified) shape = None
+-- what the EDID is read from; of a dump alone one of several is chosen
+abbrev pub edid_source : Option Source → Option ℕ → Option Source
+edid_source source None = Some (unwrap_or source sources.Bytes)
+edid_source (Some (sources.Dump one)) (Some nth) = Some (sources.Dump nth)
+edid_source source (Some nth) = None
+
+-- what is written
+abbrev pub edid_view : Option Wanted → Recipient → Shape → View
+edid_view None place shape = Whole place shape
+edid_view (Some wants.Raw) place shape = Whole place shapes.Bytes
+edid_view (Some wants.Check) place shape = Findings place
+edid_view (Some wants.Meaning) place shape = Meaning place
+edid_view (Some wants.OnlyAddress) place shape = Address place
+edid_view (Some wants.Ddc) place shape = Readout place
 
 -- what they ask for
+abbrev pub asked_by_view : EdidFlags → Source → Recipient → Asked
+asked_by_view flags source place = record {
+  choice = Edid source (unwrap_or flags.reading readings.Strict) (edid_view flags.wanted place (own_shape source));
+  explains = flags.explains;
+}
+
 abbrev pub edid_asked : EdidFlags → Option Asked
 edid_asked flags =
-    let source = unwrap_or flags.source sources.Bytes in
-    let view = option_and_then (λ place. edid_view flags.wanted place (own_shape source)) (edid_place flags) in
     if is_some flags.waits then None
-    else option_map (λ v. record { choice = Edid source v; explains = flags.explains }) view
+    else option_and_then (λ source. option_map (asked_by_view flags source) (edid_place flags)) (edid_source flags.source flags.nth)

@@ -11,7 +11,7 @@ use Rattle.hdminet_words.specs.declared.choice.Objects.TheVariants as objects
 use Rattle.hdminet_words.specs.declared.choice.Form.{Form}
 use Rattle.hdminet_words.specs.declared.choice.Form.TheVariants.{Edges, Vcd, Pin, Csv}
 use Rattle.hdminet_words.specs.declared.choice.Report.{Report}
-use Rattle.hdminet_words.specs.declared.choice.Report.TheVariants.{Timing, Audit, FromIdle, Readings}
+use Rattle.hdminet_words.specs.declared.choice.Report.TheVariants.{Audit, FromIdle, Readings}
 use Rattle.hdminet_words.specs.declared.mon_flags.MonFlags.{MonFlags}
 use Rattle.hdminet_words.specs.declared.mon_flags.MonValue.{MonValue}
 use Rattle.hdminet_words.specs.declared.mon_flags.MonValue.TheVariants.{From, Signal, Glitch}
@@ -41,6 +41,7 @@ with_mon_flag flags word =
     else if bytes_eq word (codes "--from-idle") && is_none flags.start then Some (record flags { start = Some FromIdle })
     else if bytes_eq word (codes "--audit") && not flags.audit then Some (record flags { audit = true })
     else if bytes_eq word (codes "--timing") && not flags.timing then Some (record flags { timing = true })
+    else if bytes_eq word (codes "--strict") && not flags.strict then Some (record flags { strict = true })
     else if bytes_eq word (codes "--json") && not flags.json then Some (record flags { json = true })
     else if bytes_eq word (codes "--explain") && not flags.explains then Some (record flags { explains = true })
     else None
@@ -72,21 +73,21 @@ has_names (Some Csv) = true
 has_names (Some form) = false
 
 -- What is written of the capture, where a flag says it. An audit is of the whole capture; with the widths of its parts it is one
--- with `--audit` or without.
-abbrev pub mon_report : Option Report → Bool → Bool → Option (Option Report)
-mon_report start false false = Some start
-mon_report None true false = Some (Some Audit)
-mon_report None audit true = Some (Some Timing)
-mon_report start audit timing = None
+-- with `--audit` or without. Nothing but an audit is strict.
+abbrev pub mon_report : Option Report → Bool → Bool → Bool → Option (Option Report)
+mon_report start false timing false = Some start
+mon_report start false timing true = None
+mon_report None true timing strict = Some (Some (Audit timing strict))
+mon_report (Some start) true timing strict = None
 
 -- what is done with the capture
 abbrev pub mon_choice : Bool → Option Form → ℕ → Option Report → Choice
 mon_choice true form glitch report = Json (objects.Capture form glitch report)
 mon_choice false form glitch report = Mon form glitch report
 
--- a value is missing, a wire has no name, or an audit would be objects
+-- a value is missing, or a wire has no name
 abbrev pub is_misfit : MonFlags → Bool
-is_misfit flags = is_some flags.waits || (flags.named && not (has_names flags.form)) || (flags.json && (flags.audit || flags.timing))
+is_misfit flags = is_some flags.waits || (flags.named && not (has_names flags.form))
 
 -- what they ask for
 abbrev pub mon_asked : MonFlags → Option Asked
@@ -95,7 +96,7 @@ mon_asked flags =
     else option_map (λ report. record {
       choice = mon_choice flags.json flags.form (unwrap_or flags.glitch 0) report;
       explains = flags.explains;
-    }) (mon_report flags.start flags.audit flags.timing)
+    }) (mon_report flags.start (flags.audit || flags.timing) flags.timing flags.strict)
 
 -- the value that stands in the word of `--signal`, as `--signal=NAME`
 abbrev pub joined_signal : List ℕ → Option (List ℕ)

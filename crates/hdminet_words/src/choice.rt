@@ -39,9 +39,12 @@ pub enum Report {
     /// Those from where the line was first idle, as of a capture that begins in the middle of a frame.
     FromIdle,
     /// Its readings, and below each what the standard would have otherwise.
-    Audit,
-    /// The same, with the widths of the parts of each reading.
-    Timing,
+    Audit {
+        /// With the widths of the parts of each reading.
+        timing: bool,
+        /// A remark is a fault.
+        strict: bool,
+    },
 }
 
 /// What is written of a test: a topology, and a script with expectations.
@@ -88,10 +91,21 @@ pub enum Objects {
 pub enum Source {
     /// Its bytes.
     Bytes,
-    /// A hex dump of its bytes.
-    Dump,
+    /// A hex dump of its bytes: of several in a text the one with this number, from 1.
+    Dump { nth: u64 },
     /// Its text.
     Text,
+}
+
+/// How the bytes of an EDID are read.
+#[derive(Clone, Copy, Debug)]
+pub enum Reading {
+    /// As they stand.
+    Strict,
+    /// With the count of extensions that the HDMI Forum's override of it has.
+    Overridden,
+    /// As a source reads them, which mends some and passes over others.
+    AsSource,
 }
 
 /// The device that an EDID is for.
@@ -121,12 +135,14 @@ pub enum Shape {
 pub enum View {
     /// The EDID for a device.
     Whole(Recipient, Shape),
-    /// Its text, and below each line what it means.
-    Meaning,
+    /// Its text for a device, and below each line what it means.
+    Meaning(Recipient),
     /// The rules that it breaks.
     Findings(Recipient),
     /// The physical address in it.
-    Address,
+    Address(Recipient),
+    /// What a device reads of it over DDC.
+    Readout(Recipient),
 }
 
 /// What the words of a command line ask for.
@@ -167,6 +183,7 @@ pub enum Choice {
     /// An EDID.
     Edid {
         source: Source,
+        reading: Reading,
         view: View,
     },
 }

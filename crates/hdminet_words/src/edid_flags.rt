@@ -1,8 +1,8 @@
 //! The flags of `edid`.
 ghost use Rattle.std.specs.Prelude.{◌≡◌, map, string_bytes, option_and_then};
-ghost use Rattle.hdminet_words.specs.EdidFlags.{amplified_of, edid_asked, edid_flags, edid_place, edid_view, own_shape, port_of, waited_edid, with_edid_flag, with_edid_value, with_edid_word};
+ghost use Rattle.hdminet_words.specs.EdidFlags.{amplified_of, edid_asked, edid_flags, edid_place, edid_source, edid_view, nth_of, own_shape, port_of, waited_edid, with_edid_flag, with_edid_value, with_edid_word};
 
-use crate::choice::{Asked, Choice, Recipient, Shape, Source, View};
+use crate::choice::{Asked, Choice, Reading, Recipient, Shape, Source, View};
 use crate::joined::joined;
 use hdmi_core::{Phys, number_in};
 
@@ -12,6 +12,7 @@ pub enum EdidValue {
     Address,
     Port,
     Below,
+    Nth,
 }
 
 /// A flag of `edid` that says what is written.
@@ -21,6 +22,7 @@ pub enum Wanted {
     Meaning,
     Check,
     OnlyAddress,
+    Ddc,
 }
 
 /// The flags that `edid` was given.
@@ -28,6 +30,10 @@ pub enum Wanted {
 pub struct EdidFlags {
     /// What `--text` or `--hex` says that the input is.
     pub source: Option<Source>,
+    /// Which of the EDIDs of a dump is read.
+    pub nth: Option<u64>,
+    /// What `--eeodb` or `--as-source` says of how it is read.
+    pub reading: Option<Reading>,
     pub wanted: Option<Wanted>,
     pub address: Option<Phys>,
     pub port: Option<u8>,
@@ -41,6 +47,8 @@ impl EdidFlags {
     /// No flag.
     pub const NONE: EdidFlags = EdidFlags {
         source: None,
+        nth: None,
+        reading: None,
         wanted: None,
         address: None,
         port: None,
@@ -56,6 +64,16 @@ fn port_of(word: &str) -> Option<u8>
 {
     match number_in(word.as_bytes()) {
         Some(number) if 1 <= number && number <= 15 => Some(number as u8),
+        _ => None,
+    }
+}
+
+// The number of an EDID among several: from 1.
+fn nth_of(word: &str) -> Option<u64>
+    ensures { result ≡ nth_of word.now }
+{
+    match number_in(word.as_bytes()) {
+        Some(number) if 1 <= number => Some(number),
         _ => None,
     }
 }
@@ -94,6 +112,14 @@ fn with_edid_value(flags: EdidFlags, value: EdidValue, word: &str) -> Option<Edi
             ..flags
         }),
         EdidValue::Below => None,
+        EdidValue::Nth => {
+            let nth = nth_of(word)?;
+            Some(EdidFlags {
+                nth: Some(nth),
+                waits: None,
+                ..flags
+            })
+        }
     }
 }
 
@@ -107,7 +133,15 @@ fn with_edid_flag(flags: EdidFlags, word: &str) -> Option<EdidFlags>
             ..flags
         }),
         "--hex" if flags.source.is_none() => Some(EdidFlags {
-            source: Some(Source::Dump),
+            source: Some(Source::Dump { nth: 1 }),
+            ..flags
+        }),
+        "--eeodb" if flags.reading.is_none() => Some(EdidFlags {
+            reading: Some(Reading::Overridden),
+            ..flags
+        }),
+        "--as-source" if flags.reading.is_none() => Some(EdidFlags {
+            reading: Some(Reading::AsSource),
             ..flags
         }),
         "--raw" if flags.wanted.is_none() => Some(EdidFlags {
@@ -126,6 +160,10 @@ fn with_edid_flag(flags: EdidFlags, word: &str) -> Option<EdidFlags>
             wanted: Some(Wanted::OnlyAddress),
             ..flags
         }),
+        "--ddc" if flags.wanted.is_none() => Some(EdidFlags {
+            wanted: Some(Wanted::Ddc),
+            ..flags
+        }),
         "--address" if flags.address.is_none() => Some(EdidFlags {
             waits: Some(EdidValue::Address),
             ..flags
@@ -136,6 +174,10 @@ fn with_edid_flag(flags: EdidFlags, word: &str) -> Option<EdidFlags>
         }),
         "--below" if !flags.amplified => Some(EdidFlags {
             waits: Some(EdidValue::Below),
+            ..flags
+        }),
+        "--nth" if flags.nth.is_none() => Some(EdidFlags {
+            waits: Some(EdidValue::Nth),
             ..flags
         }),
         "--explain" if !flags.explains => Some(EdidFlags {
@@ -201,26 +243,34 @@ fn own_shape(source: Source) -> Shape
 {
     match source {
         Source::Text => Shape::Hex,
-        Source::Bytes | Source::Dump => Shape::Text,
+        Source::Bytes | Source::Dump { .. } => Shape::Text,
     }
 }
 
-// What is written. Meanings and the address alone are of the device that has the EDID.
-fn edid_view(wanted: Option<Wanted>, place: Recipient, shape: Shape) -> Option<View>
+// What the EDID is read from. Of a dump alone one of several is chosen.
+fn edid_source(source: Option<Source>, nth: Option<u64>) -> Option<Source>
+    ensures { result ≡ edid_source source nth }
+{
+    let Some(nth) = nth else {
+        return Some(source.unwrap_or(Source::Bytes));
+    };
+    match source {
+        Some(Source::Dump { .. }) => Some(Source::Dump { nth }),
+        _ => None,
+    }
+}
+
+// What is written.
+fn edid_view(wanted: Option<Wanted>, place: Recipient, shape: Shape) -> View
     ensures { result ≡ edid_view wanted place shape }
 {
     match wanted {
-        None => Some(View::Whole(place, shape)),
-        Some(Wanted::Raw) => Some(View::Whole(place, Shape::Bytes)),
-        Some(Wanted::Check) => Some(View::Findings(place)),
-        Some(Wanted::Meaning) => match place {
-            Recipient::Own => Some(View::Meaning),
-            Recipient::At(_) | Recipient::Port { .. } => None,
-        },
-        Some(Wanted::OnlyAddress) => match place {
-            Recipient::Own => Some(View::Address),
-            Recipient::At(_) | Recipient::Port { .. } => None,
-        },
+        None => View::Whole(place, shape),
+        Some(Wanted::Raw) => View::Whole(place, Shape::Bytes),
+        Some(Wanted::Check) => View::Findings(place),
+        Some(Wanted::Meaning) => View::Meaning(place),
+        Some(Wanted::OnlyAddress) => View::Address(place),
+        Some(Wanted::Ddc) => View::Readout(place),
     }
 }
 
@@ -231,11 +281,16 @@ pub fn edid_asked(flags: &EdidFlags) -> Option<Asked>
     if flags.waits.is_some() {
         return None;
     }
-    let source = flags.source.unwrap_or(Source::Bytes);
+    let source = edid_source(flags.source, flags.nth)?;
     let place = edid_place(flags)?;
-    let view = edid_view(flags.wanted, place, own_shape(source))?;
+    let view = edid_view(flags.wanted, place, own_shape(source));
+    let reading = flags.reading.unwrap_or(Reading::Strict);
     Some(Asked {
-        choice: Choice::Edid { source, view },
+        choice: Choice::Edid {
+            source,
+            reading,
+            view,
+        },
         explains: flags.explains,
     })
 }

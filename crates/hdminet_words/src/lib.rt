@@ -13,7 +13,8 @@ mod run_flags;
 mod subcommand;
 
 pub use choice::{
-    Asked, Choice, Form, Listing, Objects, Recipient, Report, Shape, Source, TestView, View,
+    Asked, Choice, Form, Listing, Objects, Reading, Recipient, Report, Shape, Source, TestView,
+    View,
 };
 pub use line::asked_by;
 pub use mon_flags::signal_in;

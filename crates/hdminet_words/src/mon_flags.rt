@@ -26,6 +26,7 @@ pub struct MonFlags {
     pub start: Option<Report>,
     pub audit: bool,
     pub timing: bool,
+    pub strict: bool,
     pub json: bool,
     pub explains: bool,
     /// The flag whose value comes next.
@@ -41,6 +42,7 @@ impl MonFlags {
         start: None,
         audit: false,
         timing: false,
+        strict: false,
         json: false,
         explains: false,
         waits: None,
@@ -122,6 +124,10 @@ fn with_mon_flag(flags: MonFlags, word: &str) -> Option<MonFlags>
             timing: true,
             ..flags
         }),
+        "--strict" if !flags.strict => Some(MonFlags {
+            strict: true,
+            ..flags
+        }),
         "--json" if !flags.json => Some(MonFlags {
             json: true,
             ..flags
@@ -175,15 +181,20 @@ pub fn has_names(form: Option<Form>) -> bool
     }
 }
 
-// What is written of the capture, where a flag says it. An audit is of the whole capture.
-fn mon_report(start: Option<Report>, audit: bool, timing: bool) -> Option<Option<Report>>
-    ensures { result ≡ mon_report start audit timing }
+// What is written of the capture, where a flag says it. An audit is of the whole capture, and an audit alone is strict.
+fn mon_report(
+    start: Option<Report>,
+    audited: bool,
+    timing: bool,
+    strict: bool,
+) -> Option<Option<Report>>
+    ensures { result ≡ mon_report start audited timing strict }
 {
     match start {
-        Some(_) if audit || timing => None,
+        Some(_) if audited || strict => None,
         Some(start) => Some(Some(start)),
-        None if timing => Some(Some(Report::Timing)),
-        None if audit => Some(Some(Report::Audit)),
+        None if audited => Some(Some(Report::Audit { timing, strict })),
+        None if strict => None,
         None => Some(None),
     }
 }
@@ -207,23 +218,22 @@ fn mon_choice(json: bool, form: Option<Form>, glitch: u64, report: Option<Report
     }
 }
 
-// Whether flags exclude one another: a value is missing, a wire has no name, or an audit would be objects.
+// Whether a value is missing, or a wire has no name.
 fn is_misfit(flags: &MonFlags) -> bool
     ensures { result ≡ is_misfit flags.now }
 {
-    flags.waits.is_some()
-        || (flags.named && !has_names(flags.form))
-        || (flags.json && (flags.audit || flags.timing))
+    flags.waits.is_some() || (flags.named && !has_names(flags.form))
 }
 
-/// What `mon` with these flags asks for. `--json` goes with readings alone.
+/// What `mon` with these flags asks for.
 pub fn mon_asked(flags: &MonFlags) -> Option<Asked>
     ensures { result ≡ mon_asked flags.now }
 {
     if is_misfit(flags) {
         return None;
     }
-    let report = mon_report(flags.start, flags.audit, flags.timing)?;
+    let audited = flags.audit || flags.timing;
+    let report = mon_report(flags.start, audited, flags.timing, flags.strict)?;
     Some(Asked {
         choice: mon_choice(flags.json, flags.form, flags.glitch.unwrap_or(0), report),
         explains: flags.explains,

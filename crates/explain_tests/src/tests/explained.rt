@@ -15,7 +15,7 @@ check --trace => device tv tv 4;script;expect none;end 9; =>   line 3 of the inp
 check --plain => device tv tv 4;script;expect from 9 to 5 short;end 9; =>   line 3 of the input: expect from 9 to 5 short
 check =>  =>   a line `script`, and nothing else on it, parts the topology from the script
 check => device tv tv 4;script;at 5..9 press tv power;at 10..12 press tv power;end 20; =>   line 4 of the input: at 10..12 press tv power
-check --json => device tv tv 4;script;at 5..20 press tv power;end 9; =>   line 4 of the input: end 9
+check --json => device tv tv 4;script;at 5..20 press tv power;end 9; =>   line 3 of the input: at 5..20 press tv power
 check --capture => expect twice from 0 to 9 short;capture;20 end; =>   line 1: expect twice from 0 to 9 short
 check --capture => expect from 0 to 9 short;capture;20 0;10 end; =>   line 4 of the input: 10 end
 check --capture => expect from 0 to 9 short;Capture; =>   line 2: Capture

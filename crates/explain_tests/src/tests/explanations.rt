@@ -65,6 +65,7 @@ end 5
 => topology line 3: name
   line 3: plug p2 tv 1
                ^^
+  the topology has `tv`, `p1`
   NAME is new, of 1 to 14 of a to z, 0 to 9 and `-`, first a letter; CHILD and PARENT have a `device` line above
 --
 run --explain
@@ -210,6 +211,7 @@ until opcode 8F
   line 5 of the input: until opcode 8F
                                     ^^
   a line here reads `until opcode XX`
+  `8F`: did you mean `8f`?
   XX is an opcode, two hex digits in lower case; NAME has a `device` line in the topology; words stand one space apart
 --
 step --explain
@@ -445,6 +447,7 @@ end 10
 => script line 1: name
   line 3 of the input: label a at 5 press tvv power
                                           ^^^
+  the topology has `tv`
   a NAME, CHILD or PARENT of the script has a `device` line in the topology
 --
 check --explain
@@ -494,6 +497,7 @@ asm --explain
                    ^^^^^^^
   a frame here reads `I>D play MODE`
   MODE is forward, still, ff-min, ff-mid, ff-max, fr-min, fr-mid, fr-max
+  `FORWARD`: did you mean `forward`?
   operands are the opcode's words, as docs/formats.md has them; as hex, `:` and two lower-case digits a byte, where no word says them
 --
 asm --explain
@@ -551,6 +555,7 @@ mon --explain
 => line 2: line
   line 2: 2000000000001 1
           ^^^^^^^^^^^^^
+  `2000000000001` is too large
   a line is `T 0` for a fall or `T 1` for a rise, and the last one `T end`, T decimal microseconds, 0 to 2000000000000
 --
 mon --explain

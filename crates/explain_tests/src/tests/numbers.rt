@@ -88,17 +88,48 @@ chroma 655 338 => chroma 1024 338 => there are eight numbers, each 0 to 1023
 LOUNGE TV 001 => LOUNGE TV 0001 => a text is at most 13 printable characters, in double quotes
 video 900403 => video 0102030405060708010203040506070801020304050607080102030405060708 => a data block has at most 31 bytes,
 hdmi 0.0.0.0 - => hdmi 0.0.0.0 010203040506070801020304050607080102030405060708010203 => and at most 26 bytes stand after it
+timing 14850 => timing 65536 => the clock is 1 to 65535, in 10 kHz;
+1920 280 1080 45 => 4096 280 1080 45 => active and blanking, across and down, are 0 to 4095;
+88 44 4 5 => 1024 44 4 5 => sync offset and width are 0 to 1023 across, and 0 to 63 down;
+88 44 4 5 => 88 44 64 5 => sync offset and width are 0 to 1023 across, and 0 to 63 down;
+520 290 0 0 => 520 290 0 256 => the size is 0 to 4095 mm each way, borders 0 to 255, flags two hex digits
+established 000000;standard unused => established 000000;standard 2296 0 60 => the width is a multiple of 8 from 248 to 2288, the aspect bits 0 to 3, the rate 60 to 123 Hz;
+dummy;dummy; => dummy;range 00; => there are 14 bytes, 28 hex digits: those after the descriptor's tag
+cta f1 => cta f => the flags are a byte, two hex digits
+size 52 29 => size 52 29 0 => a `size` line has two fields; this one has 3
+gamma 120 => gamma => a `gamma` line has one field; this one has 0
 ";
 
 #[test]
 fn explanations_name_the_ranges_of_fields(rt: HostRuntime) {
     for row in FIELDS.lines() {
         let (line, other, part) = row_of(&rt, row);
+        let line = line.replace(rt.alloc(), ";", "\n").expect(&rt, "a part");
+        let other = other.replace(rt.alloc(), ";", "\n").expect(&rt, "a part");
         let input = TELEVISION
-            .replace(rt.alloc(), line, other)
+            .replace(rt.alloc(), line.as_str(), other.as_str())
             .expect(&rt, "a text");
         says(&rt, "edid --text", input.as_bytes(), part);
     }
+}
+
+/// Four data blocks of 31 bytes have 128 bytes with their headers; an extension of 128 bytes has 123 for them (CTA-861-D, 7.5).
+#[test]
+fn explanations_name_a_full_extension(rt: HostRuntime) {
+    let block = "vendor 0102030405060708010203040506070801020304050607080102030405060708\n";
+    let block = block
+        .replace(rt.alloc(), "08\n", "\n")
+        .expect(&rt, "a block");
+    let four = block
+        .as_str()
+        .repeat(rt.alloc(), 4)
+        .expect(&rt, "four blocks");
+    let input = TELEVISION
+        .replace(rt.alloc(), "video 900403\n", four.as_str())
+        .expect(&rt, "a text");
+    let full =
+        "  an extension has 123 bytes for data blocks and timings: the lines above have 96, and this one 32 more\n";
+    says(&rt, "edid --text", input.as_bytes(), full);
 }
 
 /// So many pulses, 25,000 microseconds apart.

@@ -394,6 +394,7 @@ end 9
 => script line 1: name
   line 7 of the input: at 5 plug p1 tvv 1
                                     ^^^
+  the topology has `tv`, `p1`, `s1`
   a NAME, CHILD or PARENT of the script has a `device` line in the topology
 --
 run --explain

@@ -30,13 +30,13 @@ mon --from edges => 1000 0;4700 1;5500 0;6100 1;20000 end; => 1000 8251 silent 1
 mon --from csv --signal CEC => Time,SCL,CEC;0,1,1;0.021,1,0;0.0247,1,1;0.0255,1,0;0.0261,1,1; => 21000 28251 silent 1;
 mon --signal CEC --from vcd => $timescale 1 us $end $var wire 1 a SCL $end $var wire 1 b CEC $end $enddefinitions $end;#5;0a;#21000;0b;#24700;1b;#25500;0b;#26100;1b;#40000; => 21000 28251 silent 1;
 mon --signal=CEC --from=vcd => $timescale 1 us $end $var wire 1 a SCL $end $var wire 1 b CEC $end $enddefinitions $end;#5;0a;#21000;0b;#24700;1b;#25500;0b;#26100;1b;#40000; => 21000 28251 silent 1;
-mon => $timescale 1 us $end $var wire 1 a SCL $end $var wire 1 b CEC $end $enddefinitions $end;#5;0a;#3705;1a;#4505;0a;#5105;1a;#21000;0b;#24700;1b;#40000; => 0 21905 joined -;
+mon => $timescale 1 us $end $var wire 1 a SCL $end $var wire 1 b CEC $end $enddefinitions $end;#5;0a;#3705;1a;#4505;0a;#5105;1a;#21000;0b;#24700;1b;#40000; => 0 12305 joined -;
 mon --from-start => $timescale 1 us $end $var wire 1 a SCL $end $var wire 1 b CEC $end $enddefinitions $end;#5;0a;#3705;1a;#4505;0a;#5105;1a;#40000; => 5 7256 silent 1;
 mon --glitch 5 => 500 0;503 1;1000 0;4700 1;4900 0;4904 1;5500 0;6100 1;20000 end; => 1000 8251 silent 1;
 mon --glitch 0 => 1000 0;4700 1;5500 0;6100 1;20000 end; => 1000 8251 silent 1;
-mon --from-idle => 1000 0;4700 1;5500 0;6100 1;20000 end; => 0 20000 joined -;
+mon --from-idle => 1000 0;4700 1;5500 0;6100 1;13299 end; => 0 13299 joined -;
 mon --from-start --from csv => Time,CEC;0,1;0.001,0;0.0047,1;0.0055,0;0.0061,1; => 1000 8251 silent 1;
-mon => Time,CEC;0,1;0.001,0;0.0047,1;0.0055,0;0.0061,1;0.03,0;0.0304,1;0.04,1; => 0 22900 joined -;30000 30400 bad-start -;
+mon => Time,CEC;0,1;0.001,0;0.0047,1;0.0055,0;0.0061,1;0.03,0;0.0304,1;0.04,1; => 0 13300 joined -;30000 30400 bad-start -;
 ";
 
 #[test]
@@ -86,6 +86,83 @@ fn audits_a_capture(rt: HostRuntime) {
             && text.contains("\n  all readings\n");
         expect(&rt, right, line, text);
     }
+}
+
+/// `4>0`, a poll's header, which nobody acknowledges: a note, and no remark.
+const NOT_TAKEN: &[u8] = b"100000 0
+103700 1
+104500 0
+106000 1
+106900 0
+107500 1
+109300 0
+110800 1
+111700 0
+113200 1
+114100 0
+115600 1
+116500 0
+118000 1
+118900 0
+120400 1
+121300 0
+122800 1
+123700 0
+124300 1
+126100 0
+126700 1
+200000 end
+";
+
+/// A start bit and a bit that is low for 820, and the same with one of 600: nobody goes on.
+const REMARKED: &[u8] = b"21000 0\n24700 1\n25500 0\n26320 1\n40000 end\n";
+
+const UNREMARKED: &[u8] = b"21000 0\n24700 1\n25500 0\n26100 1\n40000 end\n";
+
+/// A strict audit has the same output, and status 1 where there is a remark. A note is none: nobody takes a block.
+#[test]
+fn strict_audits_fail_where_there_is_a_remark(rt: HostRuntime) {
+    for flags in ["--audit", "--timing", "--audit --json"] {
+        let line = format!(in rt.alloc(); "mon {flags}").expect(&rt, "a line");
+        let strict = format!(in rt.alloc(); "mon {flags} --strict").expect(&rt, "a line");
+        let text = written(&rt, line.as_str(), REMARKED);
+        let reported = reported_of(&rt, strict.as_str(), REMARKED, None);
+        let err = b"hdminet: the audit has a remark\n";
+        ends(
+            &rt,
+            reported,
+            1,
+            text.as_bytes(),
+            err,
+            strict.as_str(),
+            "a remark",
+        );
+        for quiet in [UNREMARKED, NOT_TAKEN] {
+            let text = written(&rt, line.as_str(), quiet);
+            gives(&rt, strict.as_str(), "none", quiet, text.as_str());
+        }
+    }
+}
+
+/// The object of each line of an audit: a bit that is low for 820 (CEC 5.2.2: 400 to 800).
+const AUDIT_OBJECTS: &str =
+    r#"{"line":"21000 28251 silent 1","type":"reading","begin":21000,"close":28251,"ending":"silent","bits":"1"}
+{"line":"  slot 1 block 1 bit 1 low 820 not 400..800","type":"remark","remark":"bit-low","section":"5.2.2","slot":1,"block":1,"bit":1,"width":820,"least":400,"most":800}
+{"line":"  all readings","type":"summary"}
+{"line":"  start low 3700..3700 mean 3700 of 1","type":"widths","kind":"start low","least":3700,"greatest":3700,"mean":3700,"count":1}
+{"line":"  start total 4500..4500 mean 4500 of 1","type":"widths","kind":"start total","least":4500,"greatest":4500,"mean":4500,"count":1}
+{"line":"  one low 820..820 mean 820 of 1","type":"widths","kind":"one low","least":820,"greatest":820,"mean":820,"count":1}
+"#;
+
+#[test]
+fn writes_an_audit_as_objects(rt: HostRuntime) {
+    gives(
+        &rt,
+        "mon --audit --json",
+        "objects",
+        REMARKED,
+        AUDIT_OBJECTS,
+    );
 }
 
 /// A command line, an input, and why it is refused.

@@ -31,6 +31,8 @@ asm --help => 4f821000
 run --help => --as
 run --help => --drives
 mon --help => --from-idle
+mon --help => --strict
+mon --help => or a remark with --strict
 mon --help => --signal
 mon --help => 0 T joined -
 edid --help => --meaning
@@ -41,6 +43,10 @@ edid --help =>   made 10 2011
 edid --help => --text
 edid --help => --hex
 edid --help => --only-address
+edid --help => --ddc
+edid --help => --eeodb
+edid --help => --as-source
+edid --help => --nth
 edid --help => warn overscan
 edid --help => --explain
 --help => With --explain a fault is followed by
@@ -62,7 +68,7 @@ asm --help => TEXT is 1 to 14 printable characters in double quotes;
 asm --help => for each operand, of which there are 14 at most;
 dis --help =>   length     no byte, or more than 16;
 mon --help => Times are whole microseconds, at most 2000000000000.;
-mon --help => been high for 16800 microseconds
+mon --help => been high for 7200 microseconds
 mon --help => with --from past 67108864
 edid --help => of 128, 256, 384 or 512 bytes: a base block of E-EDID 1.3 or 1.4
 edid --help => in this port, 1 to 15
@@ -134,8 +140,9 @@ dis --json
 asm --meaning
 run --json --edges
 run --edges --as vcd --json
-mon --json --audit
-mon --timing --json
+mon --strict --json
+mon --from-start --strict
+mon --audit --strict --strict
 mon --json --json
 step --json
 live --json
@@ -187,8 +194,12 @@ edid --port 1 --address 1.0.0.0
 edid --below amp
 edid --port 1 --below tv
 edid --raw --check
-edid --meaning --port 1
-edid --only-address --port 1
+edid --nth 1
+edid --text --nth 1
+edid --hex --nth 0
+edid --hex --nth 1 --nth 2
+edid --eeodb --as-source
+edid --ddc --raw
 edid --text --text
 mon --edges
 mon --from

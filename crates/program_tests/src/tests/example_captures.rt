@@ -427,7 +427,7 @@ const CAPTURE_READINGS: &str = "\
 ";
 
 const CAPTURE_JOINED: &str = "\
-0 55500 joined -
+12000 39150 complete 0>0 nack
 55500 178650 complete 0>f report-physical-address 0.0.0.0 tv ok
 300000 300400 bad-start -
 400000 407251 silent 1

@@ -23,7 +23,7 @@ at 5..9/0 press tv power;end 19 => script line 1: number
 at 5..1000000000001 press tv power;end 19 => script line 1: number
 at 5..6 press tv power;at 7..8 press tv power;end 19 => script line 2: range
 at 9..5 pres tv power;end 19 => script line 1: order
-at 5..20 press tv power;end 9 => script line 2: end at 9
+at 5..20 press tv power;end 9 => script line 1: order with line 2
 expect from 0 to 5..6 * * * * *;end 9 => script line 1: word at 5
 at 5..6 press p1 power;end 9 => script line 1: name at 5
 ";

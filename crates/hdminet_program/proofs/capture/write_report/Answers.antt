@@ -15,10 +15,5 @@ returns-in-FromIdle g c =
 
 pub returns-in-Audit : goal.returns-in-Audit
 returns-in-Audit g c =
-    let P : Report → Type 0 = λ r. OnOk c.write_audit.result (Reports r c.args.capture.now (g.W.Sink.contents c.args.out.now) (g.W.Sink.contents c.write_audit.new.out)) in
-    subst P (sym c.in-Audit.is) c.write_audit.ensures
-
-pub returns-in-Timing : goal.returns-in-Timing
-returns-in-Timing g c =
-    let P : Report → Type 0 = λ r. OnOk c.write_timing.result (Reports r c.args.capture.now (g.W.Sink.contents c.args.out.now) (g.W.Sink.contents c.write_timing.new.out)) in
-    subst P (sym c.in-Timing.is) c.write_timing.ensures
+    let P : Report → Type 0 = λ r. OnOk c.write_any_audit.result (Reports r c.args.capture.now (g.W.Sink.contents c.args.out.now) (g.W.Sink.contents c.write_any_audit.new.out)) in
+    subst P (sym c.in-Audit.is) c.write_any_audit.ensures

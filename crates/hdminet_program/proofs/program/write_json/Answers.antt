@@ -1,13 +1,15 @@
+use Rattle.std.proofs.Common.{OnOk, subst, sym}
 use Rattle.hdminet_program.specs.Done.{Writes}
-use Rattle.hdminet_program.proofs.ObjectLemmas.{objects_done}
-use Rattle.hdminet_program.proofs.ShownLemmas.{on_ok}
 use Rattle.hdminet_words.specs.declared.choice.Choice.TheVariants.{Json}
+use Rattle.hdminet_words.specs.declared.choice.Objects.{Objects}
 use Rattle.hdminet_program.proofs.program.write_json.Goals as goal
 
-pub returns : goal.returns
-returns g c =
-    let reported = c.in_ok-write_objects_of.ensures in
-    on_ok c.write_lines-done.result _ (Writes (Json c.args.objects) c.args.signal.now c.args.input.now (g.W.Sink.contents c.args.out.now) (g.W.Sink.contents c.write_objects_of.new.out))
-    (λ lines. objects_done c.args.objects c.args.signal.now c.args.input.now c.bytes.result.now reported.0 _ _ (g.W.Sink.contents c.args.out.now) (g.W.Sink.contents c.write_objects_of.new.out)
-    lines c.new-held.ensures.contents c.bytes.ensures reported.1 reported.2)
-    c.write_lines-done.ensures
+pub returns-in-Trace : goal.returns-in-Trace
+returns-in-Trace g c =
+    let P : Objects → Type 0 = λ o. OnOk c.run_to_objects.result (Writes (Json o) c.args.signal.now c.args.input.now (g.W.Sink.contents c.args.out.now) (g.W.Sink.contents c.run_to_objects.new.out)) in
+    subst P (sym c.in-Trace.is) c.run_to_objects.ensures
+
+pub returns-in-Room : goal.returns-in-Room
+returns-in-Room g c =
+    let P : Objects → Type 0 = λ o. OnOk c.run_to_room.result (Writes (Json o) c.args.signal.now c.args.input.now (g.W.Sink.contents c.args.out.now) (g.W.Sink.contents c.run_to_room.new.out)) in
+    subst P (sym c.in-Room.is) c.run_to_room.ensures

@@ -1,0 +1,46 @@
+//! The devices that a name at fault could be.
+use hdminet_help::Draft;
+use hdminet_marks::{Place, declared_by, is_line_end};
+
+// Whether a line above declares a device of this name.
+fn is_declared(place: Place<'_>, word: &str) -> bool {
+    let above = place.number.saturating_sub(1);
+    for line in place.input.split(is_line_end).take(above) {
+        if declared_by(line) == Some(word) {
+            return true;
+        }
+    }
+    false
+}
+
+// What stands before a name of a list.
+fn before_name(is_first: bool) -> &'static str {
+    if is_first {
+        "  the topology has `"
+    } else {
+        "`, `"
+    }
+}
+
+/// The devices that the lines above declare.
+pub fn add_declared(draft: &mut Draft, place: Place<'_>) {
+    let above = place.number.saturating_sub(1);
+    let mut is_first = true;
+    for line in place.input.split(is_line_end).take(above) {
+        if let Some(name) = declared_by(line) {
+            draft.add(before_name(is_first));
+            draft.add(name);
+            is_first = false;
+        }
+    }
+    if !is_first {
+        draft.add("`\n");
+    }
+}
+
+/// A name that a line above has given already.
+pub fn add_taken(draft: &mut Draft, place: Place<'_>, word: &str) {
+    if is_declared(place, word) {
+        draft.add_all(&["  `", word, "` has a `device` line already\n"]);
+    }
+}
