@@ -5,9 +5,8 @@ use Rattle.std.specs.Option.{option_to_list}
 use Rattle.cec_wave.specs.Line.{Line, is_fall, is_rise}
 use Rattle.cec_frame.specs.declared.Ending.{Ending}
 use Rattle.cec_frame.specs.declared.Ending.TheVariants.{Short}
-use Rattle.cec_bits.specs.declared.After.{After}
-use Rattle.cec_bits.specs.declared.After.TheVariants.{Next, Ends}
-use Rattle.cec_bits.specs.Reading.{next_fall, next_rise, Read, slots_by, read_on, read_then, after_by, after_fall_by, after_last, last_ending, sample, bit_sampled_at, last_heard, read_start_by, start_by, start_rise_by, start_fall_by}
+use Rattle.cec_bits.specs.Reading.After.{Next, Ends}
+use Rattle.cec_bits.specs.Reading.{next_fall, next_rise, Read, slots_by, read_on, read_then, after_by, after_fall_by, after_last, last_ending, sample, bit_sampled_at, last_heard, read_start_by, start_by, start_rise_by, start_fall_by, After}
 use Rattle.cec_bits.specs.Readings.{ReadingsAreOwnBy}
 use Rattle.cec_bits.proofs.Search.{first_in_agree, first_in_till, first_in_longer, found_first, found_none}
 use Rattle.cec_bits.proofs.CausesBy.{IsPlain, last_plain, not_over}

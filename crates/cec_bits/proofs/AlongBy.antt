@@ -7,9 +7,8 @@ use Rattle.std.proofs.lemmas.Bool.{cases_lt}
 use Rattle.cec_wave.specs.Line.{Line, is_fall}
 use Rattle.cec_frame.specs.declared.Ending.{Ending}
 use Rattle.cec_frame.specs.declared.Ending.TheVariants.{Complete, Short, Long}
-use Rattle.cec_bits.specs.declared.After.{After}
-use Rattle.cec_bits.specs.declared.After.TheVariants.{Next, Ends}
-use Rattle.cec_bits.specs.Reading.{next_fall, Read, Slot, Known, known_at, known_slot, reading_by, read_start_by, slots_by, read_on, read_then, after_by, after_fall_by, after_last, last_ending, last_heard, sample, bit_sampled_at, start_by}
+use Rattle.cec_bits.specs.Reading.After.{Next, Ends}
+use Rattle.cec_bits.specs.Reading.{next_fall, Read, Slot, Known, known_at, known_slot, reading_by, read_start_by, slots_by, read_on, read_then, after_by, after_fall_by, after_last, last_ending, last_heard, sample, bit_sampled_at, start_by, After}
 use Rattle.cec_bits.proofs.Search.{first_in_none, first_in_some, found_first}
 use Rattle.cec_bits.proofs.CausesBy.{with_slots, AreSampled, known_front, known_then, late_read, nothing, not_over}
 use Rattle.cec_bits.proofs.EndsBy.{slots_until}
@@ -27,7 +26,7 @@ next_here low fall t within q a l f = first_in_some (is_fall low) (fall + 1) wit
 pub next_none : (low : Line) (fall t within : ℕ) → ((u : ℕ) → fall < u → u < t → is_fall low u ≡ false) → fall + within < t → next_fall low fall within ≡ None
 next_none low fall t within q l = first_in_none (is_fall low) (fall + 1) within (λ u b c. q u (omega arith) (omega arith))
 
-slots_assoc : (xs : List Slot) (s : Slot) (r : Read) → with_slots (xs ++ s ∷ []) r ≡ with_slots xs (read_then s r)
+pub slots_assoc : (xs : List Slot) (s : Slot) (r : Read) → with_slots (xs ++ s ∷ []) r ≡ with_slots xs (read_then s r)
 slots_assoc xs s r = ap (λ (ys : List Slot). let q : Read = record { slots = ys; ending = r.ending; at = r.at; until = r.until } in q) (append_assoc xs (s ∷ []) r.slots)
 
 one_reported : (o : Option Bool) → cons_option o [] ≡ option_to_list o

@@ -6,10 +6,9 @@ use Rattle.std.specs.Option.{option_to_list}
 use Rattle.cec_wave.specs.Line.{Line, is_fall, is_rise}
 use Rattle.cec_frame.specs.declared.Ending.{Ending}
 use Rattle.cec_frame.specs.declared.Ending.TheVariants.{Complete, Short, BadStart, Long, Open}
-use Rattle.cec_bits.specs.declared.After.{After}
-use Rattle.cec_bits.specs.declared.After.TheVariants.{Next, Ends}
+use Rattle.cec_bits.specs.Reading.After.{Next, Ends}
 use Rattle.cec_bits.proofs.Search.{first_in_agree}
-use Rattle.cec_bits.specs.Reading.{first_in, next_fall, next_rise, Read, Slot, slots_by, read_on, read_then, after_by, after_fall_by, after_last, last_ending, sample, bit_sampled_at, last_heard, Known, known_at, known_slot, read_start_by, reading_by, start_by, start_rise_by, start_fall_by}
+use Rattle.cec_bits.specs.Reading.{first_in, next_fall, next_rise, Read, Slot, slots_by, read_on, read_then, after_by, after_fall_by, after_last, last_ending, sample, bit_sampled_at, last_heard, Known, known_at, known_slot, read_start_by, reading_by, start_by, start_rise_by, start_fall_by, After}
 use Rattle.cec_bits.specs.declared.times.Windows.{Windows}
 use Rattle.cec_bits.specs.Windows.{AreWindows, sample_at}
 

@@ -5,9 +5,8 @@ use Rattle.std.specs.Option.{option_to_list}
 use Rattle.cec_wave.specs.Line.{Line, was_low, is_fall, is_rise}
 use Rattle.cec_frame.specs.declared.Ending.{Ending}
 use Rattle.cec_frame.specs.declared.Ending.TheVariants.{Complete, Short, Silent, BadStart, Long, Open}
-use Rattle.cec_bits.specs.declared.After.{After}
-use Rattle.cec_bits.specs.declared.After.TheVariants.{Next, Ends}
-use Rattle.cec_bits.specs.Reading.{next_fall, next_rise, Read, slots_by, read_on, after_by, after_fall_by, after_last, last_ending, bit_sampled_at, last_heard, read_start_by, reading_by, start_by, start_rise_by, start_fall_by}
+use Rattle.cec_bits.specs.Reading.After.{Next, Ends}
+use Rattle.cec_bits.specs.Reading.{next_fall, next_rise, Read, slots_by, read_on, after_by, after_fall_by, after_last, last_ending, bit_sampled_at, last_heard, read_start_by, reading_by, start_by, start_rise_by, start_fall_by, After}
 use Rattle.cec_bits.specs.Sending.{has_all}
 use Rattle.cec_bits.proofs.Search.{Found, found_first}
 use Rattle.cec_bits.proofs.CausesBy.{IsPlain, last_plain, not_over}

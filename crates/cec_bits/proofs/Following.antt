@@ -18,15 +18,6 @@ use Rattle.cec_bits.specs.Kept.{running_from}
 use Rattle.cec_bits.specs.Phase.{standing_from}
 pub use Rattle.cec_bits.proofs.FollowingBy.{hears_by}
 
-pub heard_same : (low : Line) (n : ℕ) (b : Bool) → ((w : ℕ) → wake_of (hears low n) ≡ Some w → n < w) → hear_in n b b (hears low n) ≡ reported_so (hears low n) Nothing
-unfolding read_slots running_from standing_from hears StandsIn
-heard_same = by.heard_same standard standard_are
-
-pub calm_to : (low : Line) (n t : ℕ) (b : Bool) → n ≤ t → was_low low n ≡ b → ((u : ℕ) → n ≤ u → u < t → low u ≡ b) → ((w : ℕ) → wake_of (hears low n) ≡ Some w → t ≤ w)
-    → (hears low t ≡ hears low n) × (was_low low t ≡ b)
-unfolding read_slots running_from standing_from hears StandsIn
-calm_to = by.calm_to standard standard_are
-
 -- what a tick leads to on a line that goes on as it was told
 pub follows_so : (h new : Hears) (was is_low : Bool) (t : ℕ) (reported : Told) → reported_so new reported ≡ hear_in t was is_low h
     → (low : Line) (before : ℕ) → h ≡ kept_before low before → was ≡ was_low low before → before ≤ t → ((u : ℕ) → before ≤ u → u < t → low u ≡ was) → low t ≡ is_low
@@ -54,18 +45,6 @@ pub again_so : (h new : Hears) (was is_low : Bool) (t : ℕ) (reported : Told) �
     → ((u : ℕ) → u < t → other u ≡ low u) → other t ≡ is_low → (new ≡ kept_of other t) × (reported ≡ Nothing)
 unfolding read_slots running_from standing_from hears StandsIn
 again_so = by.again_so standard standard_are
-
-abbrev pub WakesNow : ℕ → Bool → ReceiverState → ℕ → ℕ → List Bool → ℕ → Type 0
-WakesNow = by.WakesNow standard standard_are
-
-pub wakes_now : (low : Line) (n : ℕ) (b : Bool) (place : ReceiverState) (begin fall : ℕ) (bits : List Bool) → StandsIn low n place begin fall bits → (w : ℕ) → wake_of (hears_by place begin fall bits) ≡ Some w → WakesNow n b place begin fall bits w
-unfolding read_slots running_from standing_from hears StandsIn
-wakes_now = by.wakes_now standard standard_are
-
--- a wake is not past
-pub wake_late : (h : Hears) (low : Line) (n w : ℕ) → h ≡ kept_before low n → wake_of h ≡ Some w → n ≤ w
-unfolding read_slots running_from standing_from hears StandsIn
-wake_late = by.wake_late standard standard_are
 
 pub wakes_so : (h : Hears) (was : Bool) (low : Line) (t : ℕ) → h ≡ kept_before low t → was ≡ was_low low t → ((u : ℕ) → t ≤ u → low u ≡ was) → IsNextReported low t (wake_of h)
 unfolding read_slots running_from standing_from hears StandsIn

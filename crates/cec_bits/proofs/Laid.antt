@@ -1,12 +1,12 @@
 -- Where a frame's stretches are low, by the slot of a microsecond and the place in it, and where that changes next.
-use Rattle.std.proofs.Common.{◌≡◌, ℕ, zero, suc, ◌+◌, ◌-◌, ◌*◌, ◌/◌, ◌%◌, ◌<◌, ◌≤◌, Bool, true, false, not, ◌&&◌, ◌||◌, nat_lt, nat_le, if◌then◌else◌, List, [], ◌∷◌, length, length-append, slice_index_or, inl, inr, Option, Some, None, refl, arith, ap, ◌∙◌, sym}
+use Rattle.std.proofs.Common.{◌≡◌, ℕ, zero, suc, ◌+◌, ◌-◌, ◌*◌, ◌/◌, ◌%◌, ◌<◌, ◌≤◌, Bool, true, false, not, ◌&&◌, ◌||◌, nat_lt, nat_le, if◌then◌else◌, List, [], ◌∷◌, length, length-append, slice_index_or, inl, inr, Option, Some, None, refl, arith, ap, ap₂, min, ◌∙◌, sym}
 use Rattle.std.proofs.lemmas.Bool.{cases_lt}
 use Rattle.std.proofs.lemmas.Bool.Decides.{nat_tests}
 use Rattle.cec_wave.specs.Line.{line_of, covers}
 use Rattle.cec_wave.specs.Sender.{slot_stretches, sender_stretches}
 use Rattle.cec_frame.specs.Bits.{block_bits, frame_bits}
 use Rattle.cec_bits.specs.Sends.{low_of}
-use Rattle.cec_bits.specs.Sending.{IsNextChange, Lasts}
+use Rattle.cec_bits.specs.Sending.{IsNextChange, RisesAt}
 
 -- ---- in the slots
 
@@ -150,61 +150,62 @@ and_true : (b : Bool) → (b && true) ≡ b
 and_true true = refl
 and_true false = refl
 
+within : (pull : ℕ → Bool) (last u : ℕ) → u ≤ last → (pull u && nat_le u last) ≡ pull u
+within pull last u l = ap (λ b. pull u && b) (let x : nat_le u last ≡ true = grind (arith, nat_tests) in x) ∙ and_true (pull u)
+
 and_false : (b : Bool) → (b && false) ≡ false
 and_false true = refl
 and_false false = refl
 
-pub change_sending : (pull : ℕ → Bool) (t : ℕ) (o : Option ℕ) → IsNextChange pull t o → IsNextChange (λ u. pull u && true) t o
-change_sending pull t None c = λ u g. and_true (pull u) ∙ c u g ∙ sym (and_true (pull t))
-change_sending pull t (Some change) c = (c.0, and_true (pull change) ∙ c.1 ∙ ap not (sym (and_true (pull t))), λ u g m. and_true (pull u) ∙ c.2 u g m ∙ sym (and_true (pull t)))
-
-within : (pull : ℕ → Bool) (last u : ℕ) → u ≤ last → (pull u && nat_le u last) ≡ pull u
-within pull last u l = ap (λ b. pull u && b) (let x : nat_le u last ≡ true = grind (arith, nat_tests) in x) ∙ and_true (pull u)
-
 beyond : (pull : ℕ → Bool) (last u : ℕ) → last < u → (pull u && nat_le u last) ≡ false
 beyond pull last u l = ap (λ b. pull u && b) (let x : nat_le u last ≡ false = grind (arith, nat_tests) in x) ∙ and_false (pull u)
 
-pub change_past : (pull : ℕ → Bool) (last t : ℕ) → last < t → IsNextChange (λ u. pull u && nat_le u last) t None
-change_past pull last t l = λ u g. beyond pull last u (omega arith) ∙ sym (beyond pull last t l)
+-- ---- where a pull rises
 
-pub change_within : (pull : ℕ → Bool) (last t change : ℕ) → change ≤ last → IsNextChange pull t (Some change) → IsNextChange (λ u. pull u && nat_le u last) t (Some change)
-change_within pull last t change l c = (
-  c.0,
-  within pull last change l ∙ c.1 ∙ ap not (sym (within pull last t (omega (arith, c.0, l)))),
-  λ u g m. within pull last u (omega arith) ∙ c.2 u g m ∙ sym (within pull last t (omega (arith, c.0, l))),
-)
+as_late : (a b w : ℕ) → nat_lt a w ≡ nat_lt (b + a) (b + w)
+as_late a b w = grind (arith, nat_tests)
 
--- nothing changes up to the last microsecond
-abbrev pub IsLater : ℕ → Option ℕ → Type 0
-IsLater last None = Unit {0}
-IsLater last (Some change) = last < change
+pub rises_in_slot : (bits : List Bool) (n q a t : ℕ) → t ≡ n + 2400 * q + a → a < 2400 → q < length bits → RisesAt (line_of (slot_stretches n bits)) t (t - a + low_of (slice_index_or bits q false)) (t - a + 2400)
+rises_in_slot bits n q a t e l k u g h =
+    slot_at bits n q (u - (t - a)) u (omega (arith, e, g)) (omega (arith, h, g, e)) k
+    ∙ as_late (u - (t - a)) (t - a) (low_of (slice_index_or bits q false)) ∙ ap (λ v. nat_lt v (t - a + low_of (slice_index_or bits q false))) (let x : t - a + (u - (t - a)) ≡ u = omega (arith, g) in x)
 
-calm_to_last : (pull : ℕ → Bool) (last t : ℕ) (o : Option ℕ) → IsLater last o → IsNextChange pull t o → (u : ℕ) → t ≤ u → u ≤ last → pull u ≡ pull t
-calm_to_last pull last t None l c u g m = c u g
-calm_to_last pull last t (Some change) l c u g m = c.2 u g (omega (arith, l, m))
+pub rises_over : (bits : List Bool) (n t rise until : ℕ) → n + 2400 * length bits ≤ t → rise ≤ t → RisesAt (line_of (slot_stretches n bits)) t rise until
+rises_over bits n t rise until l r u g h = slots_over bits n u (omega (arith, l, g)) ∙ sym (test_false u rise (omega (arith, r, g)))
 
-pub change_last_low : (pull : ℕ → Bool) (last t : ℕ) (o : Option ℕ) → t ≤ last → pull t ≡ true → IsLater last o → IsNextChange pull t o → IsNextChange (λ u. pull u && nat_le u last) t (Some (last + 1))
-change_last_low pull last t o l h k c =
-    let here : (pull t && nat_le t last) ≡ true = within pull last t l ∙ h in (
-      omega arith,
-      beyond pull last (last + 1) (omega arith) ∙ sym (ap not here),
-      λ u g m. within pull last u (omega arith) ∙ calm_to_last pull last t o k c u g (omega arith) ∙ sym (within pull last t l),
-    )
+pub rises_before : (bits : List Bool) (begin t : ℕ) → RisesAt (line_of (sender_stretches begin bits)) t 0 begin
+rises_before bits begin t u g h = before_start bits begin u h ∙ sym (test_false u 0 (omega arith))
 
-pub change_last_high : (pull : ℕ → Bool) (last t : ℕ) (o : Option ℕ) → t ≤ last → pull t ≡ false → IsLater last o → IsNextChange pull t o → IsNextChange (λ u. pull u && nat_le u last) t None
-change_last_high pull last t o l h k c = λ u g.
-    elim (cases_lt last u) [
-      | inl lt ↦ beyond pull last u lt ∙ sym (within pull last t l ∙ h)
-      | inr ge ↦ within pull last u ge ∙ calm_to_last pull last t o k c u g ge ∙ sym (within pull last t l)
-    ]
+pub rises_start : (bits : List Bool) (begin t : ℕ) → begin ≤ t → RisesAt (line_of (sender_stretches begin bits)) t (begin + 3700) (begin + 4500)
+rises_start bits begin t l u g h = start_at bits begin u (omega (arith, l, g)) h
 
--- ---- how long a pull lasts
+pub rises_slots : (bits : List Bool) (begin t rise until : ℕ) → begin + 4500 ≤ t → RisesAt (line_of (slot_stretches (begin + 4500) bits)) t rise until → RisesAt (line_of (sender_stretches begin bits)) t rise until
+rises_slots bits begin t rise until l r u g h = after_start bits begin u (omega (arith, l, g)) ∙ r u g h
 
-pub lasts_until : (pull : ℕ → Bool) (t change : ℕ) → IsNextChange pull t (Some change) → Lasts pull t change
-lasts_until pull t change c = c.2
+pub rises_sending : (pull : ℕ → Bool) (t rise until : ℕ) → RisesAt pull t rise until → RisesAt (λ u. pull u && true) t rise until
+rises_sending pull t rise until r u g h = and_true (pull u) ∙ r u g h
 
-pub lasts_on : (pull : ℕ → Bool) (t until : ℕ) → IsNextChange pull t None → Lasts pull t until
-lasts_on pull t until c u g h = c u g
+pub rises_past : (pull : ℕ → Bool) (last t until : ℕ) → last < t → RisesAt (λ u. pull u && nat_le u last) t 0 until
+rises_past pull last t until l u g h = beyond pull last u (omega (arith, l, g)) ∙ sym (test_false u 0 (omega arith))
+
+pub rises_last : (pull : ℕ → Bool) (last t rise until : ℕ) → RisesAt pull t rise until → RisesAt (λ u. pull u && nat_le u last) t (min rise (last + 1)) until
+rises_last pull last t rise until r u g h = ap (λ b. b && nat_le u last) (r u g h) ∙ sooner rise last u
+  where
+    over : (last u : ℕ) → last < u → nat_le u last ≡ false
+    over last u l = grind (arith, nat_tests)
+
+    inside : (last u : ℕ) → u ≤ last → nat_le u last ≡ true
+    inside last u l = grind (arith, nat_tests)
+
+    sooner : (rise last u : ℕ) → (nat_lt u rise && nat_le u last) ≡ nat_lt u (min rise (last + 1))
+    sooner rise last u =
+        elim (cases_lt u rise) [
+          | inl lt ↦ elim (cases_lt last u) [
+            | inl past ↦ ap₂ (λ a b. a && b) (test_true u rise lt) (over last u past) ∙ sym (test_false u (min rise (last + 1)) (omega (arith, past)))
+            | inr by ↦ ap₂ (λ a b. a && b) (test_true u rise lt) (inside last u by) ∙ sym (test_true u (min rise (last + 1)) (omega (arith, lt, by)))
+          ]
+          | inr ge ↦ ap (λ a. a && nat_le u last) (test_false u rise ge) ∙ sym (test_false u (min rise (last + 1)) (omega (arith, ge)))
+        ]
 
 -- ---- a frame has slots
 

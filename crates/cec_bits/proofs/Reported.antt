@@ -7,13 +7,13 @@ use Rattle.std.proofs.lemmas.Bool.Decides.{nat_tests}
 use Rattle.cec_wave.specs.Line.{Line, was_low, is_fall}
 use Rattle.cec_frame.specs.declared.Ending.{Ending}
 use Rattle.cec_frame.specs.declared.Ending.TheVariants.{Short, Open}
-use Rattle.cec_bits.specs.declared.After.{After}
-use Rattle.cec_bits.specs.declared.After.TheVariants.{Next, Ends}
+use Rattle.cec_bits.specs.Reading.After.{Next, Ends}
 use Rattle.cec_bits.specs.declared.receiver.ReceiverState.{ReceiverState}
 use Rattle.cec_bits.specs.declared.receiver.ReceiverState.TheVariants.{Rest, StartLow, StartHigh, Unsampled, Sampled}
 use Rattle.cec_bits.specs.declared.receiver.Told.{Told}
 use Rattle.cec_bits.specs.declared.receiver.Told.TheVariants.{Nothing, Bit, Last, Ended}
-use Rattle.cec_bits.specs.Reading.{first_in, next_fall, Read, Slot, known_at, known_slot, known_slots, reading_of, read_start, read_slots, read_on, after_slot, after_fall, after_last, last_ending, sample, bit_sampled_at, start_of, bits_of, reported_of}
+use Rattle.cec_bits.specs.Windows.{standard, sample_at}
+use Rattle.cec_bits.specs.Reading.{first_in, next_fall, Read, Slot, known_at, known_slot, known_slots, reading_of, read_start, read_slots, read_on, after_slot, after_fall, after_last, last_ending, sample, bit_sampled_at, start_of, bits_of, reported_of, After}
 use Rattle.cec_bits.specs.Readings.{Listed, reading_from, listed_on, readings_from, readings_of, IsFirstFall}
 use Rattle.cec_bits.specs.Ended.{has_ended, ended_by}
 use Rattle.cec_bits.specs.Hears.{Hears, Heard, hear_in, hears, wake_of}
@@ -26,18 +26,17 @@ use Rattle.cec_bits.proofs.Ends.{at_by, begin_by, ends_after, slots_until}
 use Rattle.cec_bits.proofs.Lists.{none_left}
 use Rattle.cec_bits.proofs.OneByOne.{same_reported, keep_all}
 use Rattle.cec_bits.proofs.Stood.{ArePast, past_later, past_more, HasBegun, AtRest, StandsIn, runs_in, KnowsEnd, step, stands_at, was_now}
-use Rattle.cec_bits.proofs.Following.{heard_same, calm_to, wakes_now}
 use Rattle.cec_bits.proofs.Keeping.{kept_heard, before_heard, reported_heard, running_knows}
 
 -- ---- all bits of a reading that is over are known
 
 -- what follows a slot that is sampled comes after its sample
 IsAfter : ℕ → After → Type 0
-IsAfter e (Next f) = e + 1050 < f
-IsAfter e (Ends ending at) = e + 1050 ≤ at
+IsAfter e (Next f) = e + sample_at < f
+IsAfter e (Ends ending at) = e + sample_at ≤ at
 
-unbroken : (low : Line) (e : ℕ) (b : Bool) → bit_sampled_at low e ≡ Some b → next_fall low e 1050 ≡ None
-unbroken low e b h = by_fall (next_fall low e 1050) h
+unbroken : (low : Line) (e : ℕ) (b : Bool) → bit_sampled_at low e ≡ Some b → next_fall low e sample_at ≡ None
+unbroken low e b h = by_fall (next_fall low e sample_at) h
   where
     by_fall : (o : Option ℕ) → sample low e o ≡ Some b → o ≡ None
     by_fall None k = refl
@@ -45,24 +44,24 @@ unbroken low e b h = by_fall (next_fall low e 1050) h
 
 after_sample : (low : Line) (e : ℕ) (b : Bool) (last : Option Ending) → bit_sampled_at low e ≡ Some b → IsAfter e (after_slot low e last)
 unfolding IsAfter
-after_sample low e b None h = by_fall (next_fall low e 2750) refl
+after_sample low e b None h = by_fall (next_fall low e standard.bit_total.most) refl
   where
-    by_time : (f : ℕ) → e + 1050 < f → (c : Bool) → IsAfter e (if c then Ends Short f else Next f)
+    by_time : (f : ℕ) → e + sample_at < f → (c : Bool) → IsAfter e (if c then Ends Short f else Next f)
     by_time f l true = omega (arith, l)
     by_time f l false = l
 
-    by_fall : (o : Option ℕ) → next_fall low e 2750 ≡ o → IsAfter e (after_fall e o)
+    by_fall : (o : Option ℕ) → next_fall low e standard.bit_total.most ≡ o → IsAfter e (after_fall e o)
     by_fall None k = omega arith
     by_fall (Some f) k =
-        let d = found_first (is_fall low) (e + 1) 2750 f k in
-        let late : e + 1050 < f = elim (cases_lt (e + 1050) f) [
+        let d = found_first (is_fall low) (e + 1) standard.bit_total.most f k in
+        let late : e + sample_at < f = elim (cases_lt (e + sample_at) f) [
           | inl lt ↦ lt
-          | inr ge ↦ (let x : true ≡ false = sym d.passes ∙ found_none (is_fall low) (e + 1) 1050 (unbroken low e b h) f d.after (omega (arith, ge)) in cc)
+          | inr ge ↦ (let x : true ≡ false = sym d.passes ∙ found_none (is_fall low) (e + 1) sample_at (unbroken low e b h) f d.after (omega (arith, ge)) in cc)
         ] in
-        by_time f late (nat_lt f (e + 2050))
+        by_time f late (nat_lt f (e + standard.bit_total.least))
 after_sample low e b (Some ending) h = subst (λ o. IsAfter e (after_last e ending o)) (sym (unbroken low e b h)) (omega arith)
 
-sampled_by : (low : Line) (e at : ℕ) (b : Bool) (rest : ℕ → Read) (a : After) → IsAfter e a → ((f : ℕ) → f ≤ (rest f).at) → e + 1050 ≤ (read_on rest a).at
+sampled_by : (low : Line) (e at : ℕ) (b : Bool) (rest : ℕ → Read) (a : After) → IsAfter e a → ((f : ℕ) → f ≤ (rest f).at) → e + sample_at ≤ (read_on rest a).at
 unfolding IsAfter
 sampled_by low e at b rest (Next f) l h = omega (arith, l, h f)
 sampled_by low e at b rest (Ends ending x) l h = l
@@ -73,16 +72,16 @@ slots_at low left bits e = omega (arith, not_over low left bits e, slots_until l
 bits_in : List Slot → List Bool
 bits_in ss = filter_map (λ (s : Slot). s.bit) ss
 
-one_bit : (t e : ℕ) (o : Option Bool) (known_rest rest : List Bool) → known_rest ≡ rest → ((b : Bool) → o ≡ Some b → e + 1050 < t)
-    → cons_option (if nat_lt (e + 1050) t then o else None) known_rest ≡ cons_option o rest
-one_bit t e None known_rest rest h k = by_time (nat_lt (e + 1050) t)
+one_bit : (t e : ℕ) (o : Option Bool) (known_rest rest : List Bool) → known_rest ≡ rest → ((b : Bool) → o ≡ Some b → e + sample_at < t)
+    → cons_option (if nat_lt (e + sample_at) t then o else None) known_rest ≡ cons_option o rest
+one_bit t e None known_rest rest h k = by_time (nat_lt (e + sample_at) t)
   where
     by_time : (c : Bool) → cons_option (if c then None else None) known_rest ≡ rest
     by_time true = h
     by_time false = h
 one_bit t e (Some b) known_rest rest h k =
     let l = k b refl in
-    ap (λ c. cons_option (if c then Some b else None) known_rest) (let x : nat_lt (e + 1050) t ≡ true = grind (arith, nat_tests) in x) ∙ ap (λ bs. b ∷ bs) h
+    ap (λ c. cons_option (if c then Some b else None) known_rest) (let x : nat_lt (e + sample_at) t ≡ true = grind (arith, nat_tests) in x) ∙ ap (λ bs. b ∷ bs) h
 
 all_slots : (low : Line) (t left : ℕ) (bits : List Bool) (e : ℕ) → (read_slots low left bits e).at < t
     → bits_in (known_slots t (read_slots low left bits e).slots) ≡ bits_in (read_slots low left bits e).slots
@@ -99,7 +98,7 @@ all_slots low t (suc left) bits e l = by_after (after_slot low e (last_ending bi
     begun : e < t
     begun = omega (arith, l, slots_at low (suc left) bits e)
 
-    heard : (b : Bool) → bit_sampled_at low e ≡ Some b → e + 1050 < t
+    heard : (b : Bool) → bit_sampled_at low e ≡ Some b → e + sample_at < t
     heard b h =
         let x = sampled_by low e 0 b more (after_slot low e (last_ending bits)) (after_sample low e b (last_ending bits) h) (λ f. slots_at low left (bits ++ option_to_list (bit_sampled_at low e)) f) in
         omega (arith, x, l)
@@ -384,74 +383,6 @@ endings_are_reported low (suc t) =
     subst (λ m. ended_by low m ≡ ended_by low t ++ option_to_list (ended_of (hear_in m (was_low low m) (low m) (hears low (suc t))).reported m (running_by (hears low (suc t)) m))) same (reported_now low t) in
     h ∙ ap (λ x. ended_by low t ++ option_to_list (ended_of x (suc t) (running_by (hears low (suc t)) (suc t)))) (sym (reported_heard low (suc t)))
     ∙ ap (λ x. ended_by low t ++ option_to_list (ended_of (reported_at low (suc t)) (suc t) (running_by x (suc t)))) (sym (kept_heard low t))
-
--- ---- up to the next edge or wake
-
-reported_calm : (low : Line) (n v : ℕ) (b : Bool) → n ≤ v → was_low low n ≡ b → ((u : ℕ) → n ≤ u → u < v + 1 → low u ≡ b) → ((w : ℕ) → wake_of (hears low n) ≡ Some w → v < w) → reported_at low v ≡ Nothing
-reported_calm low n v b l w q k =
-    let c = calm_to low n v b l w (λ u a d. q u a (omega (arith, d))) (λ x e. let y = k x e in omega (arith, y)) in
-    reported_heard low v
-    ∙ ap (λ x. (hear_in v x (low v) (hears low v)).reported) c.1 ∙ ap (λ x. (hear_in v b x (hears low v)).reported) (q v l (omega arith))
-    ∙ ap (λ (x : Heard). x.reported) (heard_same low v b (λ x e. k x (ap wake_of (sym c.0) ∙ e)))
-
-ended_calm : (low : Line) (n m : ℕ) (b : Bool) → was_low low n ≡ b → ((u : ℕ) → n ≤ u → u < n + m → low u ≡ b) → ((w : ℕ) → wake_of (hears low n) ≡ Some w → n + m ≤ w)
-    → ended_before low (n + m) ≡ ended_before low n
-ended_calm low n zero b w q k = ap (ended_before low) (let x : n + zero ≡ n = omega arith in x)
-ended_calm low n (suc m) b w q k =
-    ap (ended_before low) (let x : n + suc m ≡ suc (n + m) = omega arith in x)
-    ∙ endings_are_reported low (n + m)
-    ∙ ap (λ x. ended_before low (n + m) ++ option_to_list (ended_of x (n + m) (running_by (kept_before low (n + m)) (n + m))))
-    (reported_calm low n (n + m) b (omega arith) w (λ u a c. q u a (omega (arith, c))) (λ v e. let x = k v e in omega (arith, x)))
-    ∙ append-nil (ended_before low (n + m))
-    ∙ ended_calm low n m b w (λ u a c. q u a (omega (arith, c))) (λ v e. let x = k v e in omega (arith, x))
-
--- where nothing happens from n to t, what is kept and has ended stays
-pub record Stays (low : Line) (h : Hears) (n t : ℕ) (b : Bool) : Type 0 where
-  pub kept : kept_before low t ≡ h
-  pub level : was_low low t ≡ b
-  pub ended : ended_before low t ≡ ended_before low n
-
-pub stays : (low : Line) (h : Hears) (n t : ℕ) (b : Bool) → n ≤ t → h ≡ kept_before low n → was_low low n ≡ b → ((u : ℕ) → n ≤ u → u < t → low u ≡ b)
-    → ((w : ℕ) → wake_of h ≡ Some w → t ≤ w) → Stays low h n t b
-stays low h n t b l is level q k =
-    let same : h ≡ hears low n = is ∙ before_heard low n in
-    let wakes : (w : ℕ) → wake_of (hears low n) ≡ Some w → t ≤ w = λ w e. k w (ap wake_of same ∙ e) in
-    let c = calm_to low n t b l level q wakes in
-    let split : n + (t - n) ≡ t = omega (arith, l) in
-    record {
-      kept = before_heard low t ∙ c.0 ∙ sym same;
-      level = c.1;
-      ended = ap (ended_before low) (sym split) ∙ ended_calm low n (t - n) b level (λ u a d. q u a (omega (arith, d, l))) (λ w e. let x = wakes w e in omega (arith, x, l));
-    }
-
--- a wake does not come before what was heard
-pub wake_after : (low : Line) (h : Hears) (n w : ℕ) → h ≡ kept_before low n → wake_of h ≡ Some w → n ≤ w
-wake_after low h n w is e =
-    let same : h ≡ hears low n = is ∙ before_heard low n in
-    (wakes_now low n true (hears low n).place (hears low n).begin (hears low n).fall (hears low n).bits (stands_at low n) w (ap wake_of (sym same) ∙ e)).from
-
--- ---- a microsecond
-
--- what it leads to, and what it ends
-pub record Hearing (low : Line) (h : Hears) (t : ℕ) (was is : Bool) : Type 0 where
-  pub kept : kept_before low (t + 1) ≡ (hear_in t was is h).state
-  pub level : was_low low (t + 1) ≡ is
-  pub ended : ended_before low (t + 1) ≡ ended_before low t ++ option_to_list (ended_of (hear_in t was is h).reported t (running_by h t))
-
-pub hearing : (low : Line) (h : Hears) (t : ℕ) (was is : Bool) → h ≡ kept_before low t → was_low low t ≡ was → low t ≡ is → Hearing low h t was is
-unfolding hears
-hearing low h t was is keeps before now =
-    let same : h ≡ hears low t = keeps ∙ before_heard low t in
-    let made : hear_in t (was_low low t) (low t) (hears low t) ≡ hear_in t was is h =
-    ap (λ b. hear_in t b (low t) (hears low t)) before ∙ ap (λ b. hear_in t was b (hears low t)) now ∙ ap (hear_in t was is) (sym same) in
-    let next : t + 1 ≡ suc t = omega arith in
-    record {
-      kept = ap (kept_before low) next ∙ kept_heard low t ∙ ap (λ (x : Heard). x.state) made;
-      level = was_now low t ∙ now;
-      ended = ap (ended_before low) next ∙ endings_are_reported low t
-          ∙ ap (λ x. ended_before low t ++ option_to_list (ended_of x t (running_by (kept_before low t) t))) (reported_heard low t ∙ ap (λ (x : Heard). x.reported) made)
-          ∙ ap (λ k. ended_before low t ++ option_to_list (ended_of (hear_in t was is h).reported t (running_by k t))) (sym keeps);
-    }
 
 -- ---- what has ended stays
 

@@ -17,6 +17,7 @@ use Rattle.cec_bits.specs.declared.receiver.Told.{Told}
 use Rattle.cec_bits.specs.declared.receiver.Told.TheVariants.{Nothing, Bit, Last, Ended}
 use Rattle.cec_bits.specs.declared.sender.SenderState.{SenderState}
 use Rattle.cec_bits.specs.declared.sender.SenderState.TheVariants.{Sending, Out, Stopped}
+use Rattle.cec_bits.specs.Windows.{standard, sample_at}
 use Rattle.cec_bits.specs.Reading.{Known, known_at, read_slots, reading_of, last_ending}
 use Rattle.cec_bits.specs.Hears.{Hears, Heard, reported_so, rest, starts, sample_as, hear_at, hear_in, hears}
 use Rattle.cec_bits.specs.Kept.{running_of, reported_at}
@@ -188,7 +189,7 @@ GoesBy begin bits h (Ended ending) = Unit {0}
 pub goes_by : (n : ℕ) (place : ReceiverState) (begin fall : ℕ) (bits : List Bool) (falls rises is_low : Bool) (b : ℕ) → runs_in place begin ≡ Some b
     → GoesBy begin bits (hear_at place n falls rises is_low (record { place = place; begin = begin; fall = fall; bits = bits })).state (hear_at place n falls rises is_low (record { place = place; begin = begin; fall = fall; bits = bits })).reported
 goes_by n Rest begin fall bits falls rises is_low b e = cc
-goes_by n StartLow begin fall bits falls rises is_low b e = by_tests (nat_lt (begin + 3900) n) rises (nat_lt n (begin + 3500))
+goes_by n StartLow begin fall bits falls rises is_low b e = by_tests (nat_lt (begin + standard.start_low.most) n) rises (nat_lt n (begin + standard.start_low.least))
   where
     go : Bool → Bool → Bool → Heard
     go x y z = if x then reported_so (starts n falls) (Ended BadStart)
@@ -199,7 +200,7 @@ goes_by n StartLow begin fall bits falls rises is_low b e = by_tests (nat_lt (be
     by_tests false true true = tt
     by_tests false true false = (refl, refl)
     by_tests false false z = (refl, refl)
-goes_by n StartHigh begin fall bits falls rises is_low b e = by_tests (nat_lt (begin + 4700) n) falls (nat_lt n (begin + 4300))
+goes_by n StartHigh begin fall bits falls rises is_low b e = by_tests (nat_lt (begin + standard.start_total.most) n) falls (nat_lt n (begin + standard.start_total.least))
   where
     go : Bool → Bool → Bool → Heard
     go x y z = if x then reported_so (starts n falls) (Ended BadStart)
@@ -210,7 +211,7 @@ goes_by n StartHigh begin fall bits falls rises is_low b e = by_tests (nat_lt (b
     by_tests false true true = tt
     by_tests false true false = (refl, refl)
     by_tests false false z = (refl, refl)
-goes_by n Unsampled begin fall bits falls rises is_low b e = by_tests falls (n == fall + 1050) (last_ending bits)
+goes_by n Unsampled begin fall bits falls rises is_low b e = by_tests falls (n == fall + sample_at) (last_ending bits)
   where
     h : Hears
     h = record { place = Unsampled; begin = begin; fall = fall; bits = bits }
@@ -224,7 +225,7 @@ goes_by n Unsampled begin fall bits falls rises is_low b e = by_tests falls (n =
     by_tests false true None = (refl, refl, refl)
     by_tests false true (Some ending) = tt
     by_tests false false last = (refl, refl)
-goes_by n Sampled begin fall bits falls rises is_low b e = by_tests (nat_lt (fall + 2750) n) falls (nat_lt n (fall + 2050))
+goes_by n Sampled begin fall bits falls rises is_low b e = by_tests (nat_lt (fall + standard.bit_total.most) n) falls (nat_lt n (fall + standard.bit_total.least))
   where
     go : Bool → Bool → Bool → Heard
     go x y z = if x then reported_so (starts n falls) (Ended Silent)
@@ -244,9 +245,6 @@ state_known low n begin bits whole over sent k =
     ap (λ (bs : List Bool). state_by (out_by bs (is_whole (known_at n (reading_of low begin)).ended) sent) (nat_lt (reading_of low begin).at n)) k.bits_are
     ∙ ap (λ w. state_by (out_by bits w sent) (nat_lt (reading_of low begin).at n)) k.whole_is
     ∙ ap (λ o. state_by (out_by bits whole sent) o) k.over_is
-
-is_it : {X : Type 0} (a b : X) → Some a ≡ Some b → a ≡ b
-is_it a b e = cc
 
 -- with a bit
 with_bit : (bits sent : List Bool) (v : Bool) (slot : ℕ) → slot ≡ length bits + 1 → state_by (out_by (bits ++ v ∷ []) false sent) false ≡ after_reported sent (state_by (out_by bits false sent) false) (Bit slot v)

@@ -7,13 +7,12 @@ use Rattle.std.proofs.lemmas.Bool.Decides.{nat_tests}
 use Rattle.cec_wave.specs.Line.{Line, was_low, is_fall, is_rise}
 use Rattle.cec_frame.specs.declared.Ending.{Ending}
 use Rattle.cec_frame.specs.declared.Ending.TheVariants.{Complete, Short, Silent, BadStart, Long, Open}
-use Rattle.cec_bits.specs.declared.After.{After}
-use Rattle.cec_bits.specs.declared.After.TheVariants.{Next, Ends}
+use Rattle.cec_bits.specs.Reading.After.{Next, Ends}
 use Rattle.cec_bits.specs.declared.receiver.ReceiverState.{ReceiverState}
 use Rattle.cec_bits.specs.declared.receiver.ReceiverState.TheVariants.{Rest, StartLow, StartHigh, Unsampled, Sampled}
 use Rattle.cec_bits.specs.declared.receiver.Told.{Told}
 use Rattle.cec_bits.specs.declared.receiver.Told.TheVariants.{Nothing, Bit, Last, Ended}
-use Rattle.cec_bits.specs.Reading.{next_fall, next_rise, Read, Slot, End, known_at, known_slot, reading_by, read_start_by, after_by, after_fall_by, after_last, last_ending, last_heard, bit_sampled_at, start_by, start_rise_by, start_fall_by}
+use Rattle.cec_bits.specs.Reading.{next_fall, next_rise, Read, Slot, End, known_at, known_slot, reading_by, read_start_by, after_by, after_fall_by, after_last, last_ending, last_heard, bit_sampled_at, start_by, start_rise_by, start_fall_by, After}
 use Rattle.cec_bits.specs.Readings.{IsFirstFall}
 use Rattle.cec_bits.specs.Hears.{Hears, Heard, reported_so, rest, starts, hear_start_low_by, hear_start_high_by, hear_unsampled, hear_sampled_by, sample_as, hear_in_by, hears_with}
 use Rattle.cec_bits.specs.Sending.{known_bits, has_all, is_whole}

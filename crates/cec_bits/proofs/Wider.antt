@@ -5,11 +5,10 @@ use Rattle.std.specs.Option.{option_to_list}
 use Rattle.cec_wave.specs.Line.{Line, is_fall, is_rise}
 use Rattle.cec_frame.specs.declared.Ending.{Ending}
 use Rattle.cec_frame.specs.declared.Ending.TheVariants.{Short, Silent}
-use Rattle.cec_bits.specs.declared.After.{After}
-use Rattle.cec_bits.specs.declared.After.TheVariants.{Next, Ends}
+use Rattle.cec_bits.specs.Reading.After.{Next, Ends}
 use Rattle.cec_bits.specs.declared.times.Windows.{Windows}
 use Rattle.cec_bits.specs.Windows.{standard, wider, sample_at}
-use Rattle.cec_bits.specs.Reading.{next_fall, next_rise, Read, read_slots, slots_by, read_on, read_then, after_by, after_fall_by, last_ending, sample, bit_sampled_at, read_start_by, reading_by, start_by, start_rise_by, start_fall_by}
+use Rattle.cec_bits.specs.Reading.{next_fall, next_rise, Read, read_slots, slots_by, read_on, read_then, after_by, after_fall_by, last_ending, sample, bit_sampled_at, read_start_by, reading_by, start_by, start_rise_by, start_fall_by, After}
 use Rattle.cec_bits.specs.Sending.{has_all}
 use Rattle.cec_bits.specs.Wider.{Hold, WholeAreAlike, MarginsAreAlike, AreLevels, BitsAreLevels, ReadsByStandard}
 use Rattle.cec_bits.proofs.Search.{first_in_longer}

@@ -109,15 +109,6 @@ wakes_left Sampled = 1
 
 -- ---- the same by the standard's windows
 
-abbrev pub hear_start_low : ℕ → Bool → Bool → Hears → Heard
-hear_start_low = hear_start_low_by standard
-
-abbrev pub hear_start_high : ℕ → Bool → Hears → Heard
-hear_start_high = hear_start_high_by standard
-
-abbrev pub hear_sampled : ℕ → Bool → Hears → Heard
-hear_sampled = hear_sampled_by standard
-
 abbrev pub hear_at : ReceiverState → ℕ → Bool → Bool → Bool → Hears → Heard
 hear_at = hear_at_by standard
 

@@ -13,7 +13,7 @@ use Rattle.cec_bits.specs.Readings.{Listed, readings_of}
 use Rattle.cec_bits.specs.Ended.{ended_by}
 use Rattle.cec_bits.specs.Hears.{Hears}
 use Rattle.cec_bits.specs.Kept.{kept_of, kept_before, reported_at}
-use Rattle.cec_bits.specs.Results.{reported_by}
+use Rattle.cec_bits.specs.Reading.{reported_by}
 
 -- a reading as it stands in a line's list
 abbrev pub listed_as : Reading → Listed

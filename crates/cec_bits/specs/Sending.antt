@@ -135,6 +135,6 @@ abbrev pub IsNextChange : (ℕ → Bool) → ℕ → Option ℕ → Type 0
 IsNextChange pull t None = (u : ℕ) → t ≤ u → pull u ≡ pull t
 IsNextChange pull t (Some change) = (t < change) × (pull change ≡ not (pull t)) × ((u : ℕ) → t ≤ u → u < change → pull u ≡ pull t)
 
--- a pull is what it is at t up to that instant
-abbrev pub Lasts : (ℕ → Bool) → ℕ → ℕ → Type 0
-Lasts pull t until = (u : ℕ) → t ≤ u → u < until → pull u ≡ pull t
+-- from t on, up to `until`, a pull is low before `rise` and not from then on
+abbrev pub RisesAt : (ℕ → Bool) → ℕ → ℕ → ℕ → Type 0
+RisesAt pull t rise until = (u : ℕ) → t ≤ u → u < until → pull u ≡ nat_lt u rise

@@ -24,10 +24,11 @@ pub enum SenderState {
     Stopped,
 }
 
-/// What a sender does from an instant on: whether it pulls the line low, and an instant up to which that stays so.
+/// What a sender does from an instant on, if it hears nothing more: it pulls the line low before `rise`, and not from then on,
+/// up to `until`.
 #[derive(Clone, Copy, Debug, PartialEq, Eq)]
 pub struct SenderPull {
-    pub is_low: bool,
+    pub rise: u64,
     pub until: u64,
 }
 
@@ -49,7 +50,7 @@ impl Sender {
     ghost use Rattle.cec_wave.specs.Line.{line_of};
     ghost use Rattle.cec_wave.specs.Sender.{slot_stretches, sender_stretches};
     ghost use Rattle.cec_frame.specs.Bits.{frame_bits};
-    ghost use Rattle.cec_bits.specs.Sending.{SenderStood, Hears, StopsAt, PullsSo, ShowsState, IsNextChange, Lasts, pull_of, stopped_pull, may_pull};
+    ghost use Rattle.cec_bits.specs.Sending.{SenderStood, Hears, StopsAt, PullsSo, ShowsState, IsNextChange, RisesAt, pull_of, stopped_pull, may_pull};
     ghost use Rattle.cec_bits.specs.Sends.{low_of, takes_all, is_out_there, after_reported};
 
     /// The same sender again.
@@ -210,21 +211,75 @@ impl Sender {
         }
     }
 
-    /// What it does at `t`, and until when, if it hears nothing more.
-    #[tactic(auto, using(crate::proofs::Laid::lasts_until, crate::proofs::Laid::lasts_on))]
+    // What the frame is laid to do in the slot of `t`, where the first slot falls at `fall`.
+    fn slot_at(&self, fall: u64, t: u64) -> SenderPull
+        requires from { fall ≤ t }
+        requires early { t ≤ latest_heard }
+        ensures later { t < result.until }
+        ensures rises { RisesAt (line_of (slot_stretches fall (frame_bits self.now.frame))) t result.rise result.until }
+    {
+        let slot = ((t - fall) / SLOT) as usize;
+        let from = t - (t - fall) % SLOT;
+        let until = from + SLOT;
+        if slot >= self.frame.slots() {
+            return SenderPull { rise: from, until };
+        }
+        SenderPull {
+            rise: from + self.low_in(slot + 1),
+            until,
+        }
+    }
+
+    // The same from the start bit on.
+    fn laid_at(&self, t: u64) -> SenderPull
+        requires early { t ≤ latest_heard }
+        ensures later { t < result.until }
+        ensures rises { RisesAt (line_of (sender_stretches self.now.begin (frame_bits self.now.frame))) t result.rise result.until }
+    {
+        if t < self.begin {
+            SenderPull {
+                rise: 0,
+                until: self.begin,
+            }
+        } else if t < self.begin + FIRST_SLOT {
+            SenderPull {
+                rise: self.begin + START_LOW,
+                until: self.begin + FIRST_SLOT,
+            }
+        } else {
+            self.slot_at(self.begin + FIRST_SLOT, t)
+        }
+    }
+
+    // The same of one that has stopped.
+    fn stopped_at(&self, t: u64) -> SenderPull
+        requires early { t ≤ latest_heard }
+        ensures later { t < result.until }
+        ensures rises { RisesAt (stopped_pull self.now) t result.rise result.until }
+    {
+        if t > self.last {
+            return SenderPull {
+                rise: 0,
+                until: t + FIRST_SLOT,
+            };
+        }
+        let laid = self.laid_at(t);
+        SenderPull {
+            rise: laid.rise.min(self.last + 1),
+            until: laid.until,
+        }
+    }
+
+    /// What it does from `t` on, if it hears nothing more: up to the end of the slot in which that is, or of its start bit.
     pub fn pull_at(&self, t: u64) -> SenderPull
         requires early { t ≤ latest_heard }
-        ensures low { result.is_low ≡ pull_of self.now t }
         ensures later { t < result.until }
-        ensures lasts { Lasts (pull_of self.now) t result.until }
+        ensures rises { RisesAt (pull_of self.now) t result.rise result.until }
     {
-        let is_low = self.is_pulling(t);
-        match self.next_change(t) {
-            Some(until) => SenderPull { is_low, until },
-            None => SenderPull {
-                is_low,
-                until: t + FIRST_SLOT,
-            },
+        match self.state {
+            SenderState::Sending => self.laid_at(t),
+            SenderState::Out(_) => self.stopped_at(t),
+            SenderState::Stopped => self.stopped_at(t),
         }
     }
 

@@ -2,7 +2,7 @@
 use Rattle.std.proofs.Common.{◌≡◌, ℕ, suc, ◌<◌, ◌≤◌, Bool, List, [], ◌∷◌, ◌++◌}
 use Rattle.cec_wave.specs.Line.{Line}
 use Rattle.cec_frame.specs.declared.Ending.{Ending}
-use Rattle.cec_bits.specs.declared.After.TheVariants.{Ends}
+use Rattle.cec_bits.specs.Reading.After.{Ends}
 use Rattle.cec_bits.specs.Reading.{Slot, known_at, known_slot, bit_sampled_at, reading_of, read_slots, after_slot, last_ending, last_heard}
 use Rattle.cec_bits.specs.Windows.{standard}
 use Rattle.cec_bits.proofs.Causes.{AreSampled}

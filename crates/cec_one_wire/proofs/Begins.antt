@@ -1,10 +1,12 @@
 -- Senders that begin, and that hear something, one after another.
-use Rattle.std.proofs.Common.{◌≡◌, ℕ, zero, suc, ◌+◌, ◌<◌, ◌≤◌, List, [], ◌∷◌, ◌++◌, length, take, drop, slice_set, slice_index_or, Option, refl, arith, ap, ◌∙◌, sym, subst}
+use Rattle.std.proofs.Common.{◌≡◌, ℕ, zero, suc, ◌+◌, ◌<◌, ◌≤◌, List, [], ◌∷◌, ◌++◌, length, take, drop, slice_set, slice_index_or, Option, Some, None, refl, arith, ap, ◌∙◌, sym, subst}
 use Rattle.std.specs.List.{refill}
 use Rattle.std.proofs.lemmas.Grind.{common_steps}
 use Rattle.cec_bits.specs.declared.receiver.Told.{Told}
 use Rattle.cec_bits.specs.declared.sender.Sender.{Sender}
 use Rattle.cec_wire.specs.declared.Seat.{Seat}
+use Rattle.cec_one_wire.specs.declared.senders.Places.{Places}
+use Rattle.cec_one_wire.specs.Pulls.{StandIn}
 use Rattle.cec_one_wire.specs.Listening.{IsSenderOf, AreBegun, HeardOne, AllHeard}
 
 -- ---- one after another
@@ -15,8 +17,21 @@ pub record HeardBy (reported : Told) (t i : ℕ) (olds now : List (Option Sender
   pub is : now ≡ news ++ drop i olds
   pub heard : AllHeard reported t (take i olds) news
 
-pub heard_begins : (reported : Told) (t : ℕ) (olds : List (Option Sender)) → HeardBy reported t 0 olds olds
-heard_begins reported t olds = record { news = []; is = refl; heard = tt }
+-- where no sender stands
+heard_none : (reported : Told) (t n : ℕ) (olds : List (Option Sender)) → ((k : ℕ) → k < n → slice_index_or olds k None ≡ None) → AllHeard reported t (take n olds) (take n olds)
+heard_none reported t zero [] h = tt
+heard_none reported t (suc n) [] h = tt
+heard_none reported t zero (o ∷ olds) h = tt
+heard_none reported t (suc n) (o ∷ olds) h = (subst (λ (x : Option Sender). HeardOne reported t x x) (sym (h 0 (omega arith))) refl, heard_none reported t n olds (λ k l. h (suc k) (omega (arith, l))))
+
+parts_are : (n : ℕ) (xs : List (Option Sender)) → xs ≡ take n xs ++ drop n xs
+parts_are zero [] = refl
+parts_are (suc n) [] = refl
+parts_are zero (x ∷ xs) = refl
+parts_are (suc n) (x ∷ xs) = ap (λ (ys : List (Option Sender)). x ∷ ys) (parts_are n xs)
+
+pub heard_from : (reported : Told) (t n : ℕ) (olds : List (Option Sender)) → n ≤ length olds → ((k : ℕ) → k < n → slice_index_or olds k None ≡ None) → HeardBy reported t n olds olds
+heard_from reported t n olds l h = record { news = take n olds; is = parts_are n olds; heard = heard_none reported t n olds h }
 
 heard_more : (reported : Told) (t i : ℕ) (olds news : List (Option Sender)) (now : List (Option Sender)) (o p : Option Sender) → i < length olds → now ≡ news ++ drop i olds → AllHeard reported t (take i olds) news
     → HeardOne reported t (slice_index_or now i o) p → HeardBy reported t (suc i) olds (slice_set now i p)
@@ -43,33 +58,53 @@ refill_same : (xs ys : List (Option Sender)) → length ys ≡ length xs → ref
 refill_same xs ys h = grind (arith, common_steps)
 
 -- where they are lent as a slice
-pub heard_lent : (reported : Told) (t : ℕ) (olds lent news : List (Option Sender)) → lent ≡ olds → AllHeard reported t lent news → AllHeard reported t olds (refill (length olds) olds news)
-heard_lent reported t olds lent news e h =
-    let g : AllHeard reported t olds news = subst (λ (ss : List (Option Sender)). AllHeard reported t ss news) e h in
-    subst (λ (ss : List (Option Sender)). AllHeard reported t olds ss) (sym (refill_same olds news (heard_count reported t olds news g))) g
+pub lent_back : (reported : Told) (t : ℕ) (olds lent news : List (Option Sender)) → lent ≡ olds → AllHeard reported t lent news → refill (length olds) olds news ≡ news
+lent_back reported t olds lent news e h = refill_same olds news (heard_count reported t olds news (subst (λ (ss : List (Option Sender)). AllHeard reported t ss news) e h))
 
-no_more : (reported : Told) (t : ℕ) (olds news rest : List (Option Sender)) → rest ≡ [] → AllHeard reported t olds news → AllHeard reported t olds (news ++ rest)
-no_more reported t [] [] rest e h = rw e tt
-no_more reported t [] (n ∷ news) rest e h = absurd h
-no_more reported t (o ∷ olds) [] rest e h = absurd h
-no_more reported t (o ∷ olds) (n ∷ news) rest e h = (h.0, no_more reported t olds news rest e h.1)
+take_none : (reported : Told) (t : ℕ) (xs : List (Option Sender)) → AllHeard reported t (take zero xs) []
+take_none reported t [] = tt
+take_none reported t (x ∷ xs) = tt
 
-drop_all : (xs : List (Option Sender)) (i : ℕ) → length xs ≤ i → drop i xs ≡ []
-drop_all [] zero l = refl
-drop_all [] (suc i) l = refl
-drop_all (x ∷ xs) zero l = absurd (omega (arith, l))
-drop_all (x ∷ xs) (suc i) l = drop_all xs i (omega (arith, l))
+drop_none : (xs : List (Option Sender)) → drop zero xs ≡ xs
+drop_none [] = refl
+drop_none (x ∷ xs) = refl
 
-take_all : (xs : List (Option Sender)) (i : ℕ) → length xs ≤ i → take i xs ≡ xs
-take_all [] zero l = refl
-take_all [] (suc i) l = refl
-take_all (x ∷ xs) zero l = absurd (omega (arith, l))
-take_all (x ∷ xs) (suc i) l = ap (λ (ys : List (Option Sender)). x ∷ ys) (take_all xs i (omega (arith, l)))
+heard_rest : (reported : Told) (t n : ℕ) (olds news : List (Option Sender)) → ((k : ℕ) → n ≤ k → slice_index_or olds k None ≡ None) → AllHeard reported t (take n olds) news → AllHeard reported t olds (news ++ drop n olds)
+heard_rest reported t zero [] [] h g = tt
+heard_rest reported t zero [] (x ∷ news) h g = absurd g
+heard_rest reported t (suc n) [] [] h g = tt
+heard_rest reported t (suc n) [] (x ∷ news) h g = absurd g
+heard_rest reported t zero (o ∷ olds) [] h g = (
+  subst (λ (x : Option Sender). HeardOne reported t x x) (sym (h 0 (omega arith))) refl,
+  subst (λ (ss : List (Option Sender)). AllHeard reported t olds ss) (drop_none olds) (heard_rest reported t zero olds [] (λ k l. h (suc k) (omega arith)) (take_none reported t olds)),
+)
+heard_rest reported t zero (o ∷ olds) (x ∷ news) h g = absurd g
+heard_rest reported t (suc n) (o ∷ olds) [] h g = absurd g
+heard_rest reported t (suc n) (o ∷ olds) (x ∷ news) h g = (g.0, heard_rest reported t n olds news (λ k l. h (suc k) (omega (arith, l))) g.1)
 
-pub heard_ends : (reported : Told) (t i : ℕ) (olds now : List (Option Sender)) → length olds ≤ i → HeardBy reported t i olds now → AllHeard reported t olds now
-heard_ends reported t i olds now l h =
-    subst (λ (ss : List (Option Sender)). AllHeard reported t olds ss) (sym h.is)
-    (no_more reported t olds h.news (drop i olds) (drop_all olds i l) (subst (λ (ss : List (Option Sender)). AllHeard reported t ss h.news) (take_all olds i l) h.heard))
+pub heard_to : (reported : Told) (t n : ℕ) (olds now : List (Option Sender)) → ((k : ℕ) → n ≤ k → slice_index_or olds k None ≡ None) → HeardBy reported t n olds now → AllHeard reported t olds now
+heard_to reported t n olds now l h = subst (λ (ss : List (Option Sender)). AllHeard reported t olds ss) (sym h.is) (heard_rest reported t n olds h.news l h.heard)
+
+-- ---- where they stand
+
+heard_one_none : (reported : Told) (t : ℕ) (old new : Option Sender) → old ≡ None → HeardOne reported t old new → new ≡ None
+heard_one_none reported t None new e h = h
+heard_one_none reported t (Some s) new e h = cc
+
+heard_item : (reported : Told) (t k : ℕ) (olds news : List (Option Sender)) → AllHeard reported t olds news → slice_index_or olds k None ≡ None → slice_index_or news k None ≡ None
+heard_item reported t k [] [] h e = e
+heard_item reported t k [] (n ∷ news) h e = absurd h
+heard_item reported t k (o ∷ olds) [] h e = absurd h
+heard_item reported t zero (o ∷ olds) (n ∷ news) h e = heard_one_none reported t o n e h.0
+heard_item reported t (suc k) (o ∷ olds) (n ∷ news) h e = heard_item reported t k olds news h.1 e
+
+pub heard_stand : (reported : Told) (t : ℕ) (places : Places) (olds news : List (Option Sender)) → AllHeard reported t olds news → StandIn places olds → StandIn places news
+heard_stand reported t places olds news h s = record {
+  order = s.order;
+  few = (let x = heard_count reported t olds news h in omega (arith, x, s.few));
+  before = λ k l. heard_item reported t k olds news h (s.before k l);
+  after = λ k l. heard_item reported t k olds news h (s.after k l);
+}
 
 -- ---- as the round begins
 

@@ -6,21 +6,15 @@ use Rattle.std.proofs.lemmas.Bool.Decides.{nat_tests}
 use Rattle.cec_wave.specs.declared.Stretch.{Stretch}
 use Rattle.cec_wave.specs.Line.{Line, line_of, covers, was_low, IsWave}
 use Rattle.cec_wave.specs.Pulses.{AreSparse}
-use Rattle.cec_wave.specs.Sender.{sender_stretches}
 use Rattle.cec_wave.specs.Bounds.{latest_heard}
-use Rattle.cec_frame.specs.Bits.{frame_bits}
-use Rattle.cec_bits.specs.Reading.{Read, End, Known, known_at, reading_of}
-use Rattle.cec_bits.specs.Sending.{goes_on, out_slot, sender_pulls}
+use Rattle.cec_bits.specs.Reading.{reading_of}
 use Rattle.cec_wire.specs.declared.Seat.{Seat}
-use Rattle.cec_wire.specs.declared.hearing.Ended.{Ended as Ending_kept}
-use Rattle.cec_wire.specs.declared.hearing.Stage.{Stage}
-use Rattle.cec_wire.specs.declared.hearing.Stage.TheVariants.{StartLow, StartHigh, InSlot, Over}
-use Rattle.cec_wire.specs.Edges.{heard_of}
-use Rattle.cec_wire.specs.Round.{frames_of, is_within, pulse_pulls, is_acknowledged, is_broken, IsRoundLine}
-use Rattle.cec_wire.proofs.Between.{heard_stands}
+use Rattle.cec_one_wire.specs.declared.reading.Ended.{Ended as Ending_kept}
+use Rattle.cec_wire.specs.Round.{IsRoundLine}
 use Rattle.cec_wire.proofs.Bounds.{rounds_are_short}
-use Rattle.cec_wire.proofs.Stands.{end_of, AtEnd, StandsAt}
-use Rattle.cec_wire.proofs.Still.{high_after}
+use Rattle.cec_wire.proofs.Early.{and_right}
+use Rattle.cec_wire.proofs.Law.{all_in}
+use Rattle.cec_wire.proofs.Still.{high_after, pulse_only}
 use Rattle.cec_one_wire.specs.declared.edge_wire.EdgeWire.{EdgeWire}
 use Rattle.cec_one_wire.specs.Line.{EndsInTime}
 use Rattle.cec_one_wire.specs.Told.{told_of}
@@ -30,102 +24,19 @@ use Rattle.cec_one_wire.specs.Wired.{EachLine, IsBegunWith, StandsOnLine, end_in
 use Rattle.cec_one_wire.proofs.Hearing.{low_next, kept_end}
 use Rattle.cec_one_wire.proofs.Turning.{made_line, made_round}
 
--- ---- one of several
-
-and_left : (a b : Bool) → (a && b) ≡ true → a ≡ true
-and_left true b e = refl
-and_left false b e = cc
-
-and_right : (a b : Bool) → (a && b) ≡ true → b ≡ true
-and_right true b e = e
-and_right false b e = cc
-
-or_cases : (a b : Bool) → (a || b) ≡ true → (a ≡ true) ⊎ (b ≡ true)
-or_cases true b e = inl refl
-or_cases false b e = inr e
-
-pulls_one : (P : Stretch → Type 0) (test : Stretch → Bool) (ps : List Stretch) → All P ps → list_any test ps ≡ true → (p : Stretch) × P p × (test p ≡ true)
-pulls_one P test [] h e = cc
-pulls_one P test (p ∷ ps) h e = elim (or_cases (test p) (list_any test ps) e) [
-  | inl a ↦ (p, h 0 p (omega arith), a)
-  | inr b ↦ pulls_one P test ps (λ k d l. h (suc k) d (omega (arith, l))) b
-]
-
-sends_one : (test : List ℕ → Bool) (fs : List (List ℕ)) → list_any test fs ≡ true → (f : List ℕ) × (test f ≡ true)
-sends_one test [] e = cc
-sends_one test (f ∷ fs) e = elim (or_cases (test f) (list_any test fs) e) [ inl a ↦ (f, a) | inr b ↦ sends_one test fs b ]
-
 -- ---- a pull alone
-
--- so long after the begin the reading is over
-over_by : (seats : List Seat) (low : Line) (begin t : ℕ) (bits : List Bool) (held : ℕ) (place : Stage) → StandsAt seats low begin t bits held place → begin + 470000 ≤ t → (e : Ending_kept) × AtEnd seats low begin t bits e held
-unfolding StandsAt
-over_by seats low begin t bits held StartLow s l = absurd (omega (arith, s.early))
-over_by seats low begin t bits held StartHigh s l = absurd (omega (arith, s.early))
-over_by seats low begin t bits held (InSlot fall last) s l = absurd (omega (arith, s.early, s.near, s.room))
-over_by seats low begin t bits held (Over e) s l = (e, s)
-
-pull_only : (seats : List Seat) (begin : ℕ) (pulses : List Stretch) (low : Line) (t : ℕ) (bits : List Bool) (e : Ending_kept) (held : ℕ) → IsRoundLine seats begin pulses low → AtEnd seats low begin t bits e held
-    → (P : Stretch → Type 0) → All P pulses → (u : ℕ) → e.at + 3600 ≤ u → low u ≡ true → (p : Stretch) × P p × (covers p u ≡ true)
-pull_only seats begin pulses low t bits e held line s P all u l h =
-    elim (or_cases (list_any (pulse_pulls begin (Some (end_of e)) (was_low low u) u) pulses) _ made) [
-      | inl a ↦ (let r = pulls_one P (pulse_pulls begin (Some (end_of e)) (was_low low u) u) pulses all a in (r.0, r.1, and_left (covers r.0 u) _ r.2))
-      | inr b ↦ elim (or_cases (list_any (sender_pulls begin k u) (frames_of seats) && (is_within (Some (end_of e)) u || was_low low u)) _ b) [
-        | inl a ↦ (let r = sends_one (sender_pulls begin k u) (frames_of seats) (and_left (list_any (sender_pulls begin k u) (frames_of seats)) _ a) in
-            absurd (stopped (sym (ap (λ (n : Option End). goes_on n u) (ap (λ (n : Known). n.ended) knows)) ∙ and_right (is_none (out_slot k (frame_bits r.0))) (goes_on k.ended u) (and_right (line_of (sender_stretches begin (frame_bits r.0)) u) _ r.1))))
-        | inr a ↦ absurd (let_go (sym (s.holds u past) ∙ a))
-      ]
-    ]
-  where
-    k : Known
-    k = known_at u (reading_of low begin)
-
-    past : e.until < u
-    past = omega (arith, s.later)
-
-    knows : known_at u (reading_of low begin) ≡ record { slots = s.zs; ended = Some (end_of e) }
-    knows = s.knows u past
-
-    made : (list_any (pulse_pulls begin (Some (end_of e)) (was_low low u) u) pulses
-        || ((list_any (sender_pulls begin k u) (frames_of seats) && (is_within (Some (end_of e)) u || was_low low u)) || (is_acknowledged seats k u || is_broken seats k u k.ended))) ≡ true
-    made = sym (ap (λ (n : Option End). list_any (pulse_pulls begin n (was_low low u) u) pulses
-        || ((list_any (sender_pulls begin k u) (frames_of seats) && (is_within n u || was_low low u)) || (is_acknowledged seats k u || is_broken seats k u k.ended))) (ap (λ (n : Known). n.ended) knows))
-        ∙ sym (line u) ∙ h
-
-    stopped : nat_le u e.at ≡ true → ⊥
-    stopped g = let x : u ≤ e.at = grind (arith, nat_tests) in omega arith
-
-    let_go : nat_lt u held ≡ true → ⊥
-    let_go g = let x : u < held = grind (arith, nat_tests) in omega (arith, s.brief)
 
 ends : (low : Line) (begin : ℕ) → (reading_of low begin).at ≤ begin + 444861
 ends = rounds_are_short.ends
 
--- where a reading that is over ended
-end_by : (seats : List Seat) (begin : ℕ) (pulses : List Stretch) (low : Line) (n : ℕ) → IsRoundLine seats begin pulses low → 470000 ≤ n
-    → (e : Ending_kept) × AtEnd seats low begin (begin + n) (heard_of seats low begin n).bits e (heard_of seats low begin n).held
-end_by seats begin pulses low n line l =
-    over_by seats low begin (begin + n) (heard_of seats low begin n).bits (heard_of seats low begin n).held (heard_of seats low begin n).place (heard_stands seats begin pulses low line n).stands (omega (arith, l))
-
-pull_late : (seats : List Seat) (begin : ℕ) (pulses : List Stretch) (low : Line) (n : ℕ) → IsRoundLine seats begin pulses low → 470000 ≤ n → (P : Stretch → Type 0) → All P pulses → (u : ℕ) → begin + 470000 ≤ u → low u ≡ true → (p : Stretch) × P p × (covers p u ≡ true)
-pull_late seats begin pulses low n line m P all u l h =
-    let e = end_by seats begin pulses low n line m in
-    let same : (reading_of low begin).at ≡ e.0.at = ap (λ (r : Read). r.at) e.1.reads in
-    pull_only seats begin pulses low (begin + n) (heard_of seats low begin n).bits e.0 (heard_of seats low begin n).held line e.1 P all u (omega (arith, l, same, ends low begin)) h
-
-high_late : (seats : List Seat) (begin : ℕ) (pulses : List Stretch) (low : Line) (n : ℕ) → IsRoundLine seats begin pulses low → 470000 ≤ n → AreSparse pulses → (u : ℕ) → begin + 458461 ≤ u → low u ≡ false
-high_late seats begin pulses low n line m sparse u l =
-    let e = end_by seats begin pulses low n line m in
-    let same : (reading_of low begin).at ≡ e.0.at = ap (λ (r : Read). r.at) e.1.reads in
-    high_after seats begin pulses low (begin + n) (heard_of seats low begin n).bits e.0 (heard_of seats low begin n).held line sparse e.1 u (omega (arith, l, same, ends low begin))
-
 -- 470,000 after its begin a round's line is low by its pulls alone
 pub low_by_pull : (seats : List Seat) (begin : ℕ) (pulses : List Stretch) (low : Line) → IsRoundLine seats begin pulses low → (P : Stretch → Type 0) → All P pulses → (u : ℕ) → begin + 470000 ≤ u → low u ≡ true → (p : Stretch) × P p × (covers p u ≡ true)
-low_by_pull seats begin pulses low line P all u l h = pull_late seats begin pulses low 470000 line (omega arith) P all u l h
+low_by_pull seats begin pulses low line P all u l h =
+    let p = pulse_only seats begin pulses low line u (omega (arith, l, ends low begin)) h in (p.0, all_in P pulses all p.0 p.1, p.2)
 
 -- and with sparse pulses it is high
 sparse_high : (seats : List Seat) (begin : ℕ) (pulses : List Stretch) (low : Line) → IsRoundLine seats begin pulses low → AreSparse pulses → (u : ℕ) → begin + 458461 ≤ u → low u ≡ false
-sparse_high seats begin pulses low line sparse u l = high_late seats begin pulses low 470000 line (omega arith) sparse u l
+sparse_high seats begin pulses low line sparse u l = high_after seats begin pulses low line sparse u (omega (arith, l, ends low begin))
 
 -- ---- of a wire
 

@@ -6,7 +6,7 @@ use Rattle.cec_wave.specs.declared.Stretch.{Stretch}
 use Rattle.cec_wave.specs.Line.{Line, line_of}
 use Rattle.cec_bits.specs.Reading.{End, Read, reading_of, bits_of}
 use Rattle.cec_wire.specs.declared.Outcome.{Outcome}
-use Rattle.cec_wire.specs.declared.hearing.Ended.{Ended as Ending_kept}
+use Rattle.cec_one_wire.specs.declared.reading.Ended.{Ended as Ending_kept}
 use Rattle.cec_wire.specs.Round.{IsRoundLine, rest_of, survivors_from, losers_from}
 use Rattle.cec_one_wire.specs.declared.edge_wire.EdgeWire.{EdgeWire}
 use Rattle.cec_one_wire.specs.States.{survivors_of, losers_of}

@@ -4,10 +4,12 @@ use Rattle.std.proofs.lemmas.Bool.{cases_lt}
 use Rattle.cec_wave.specs.declared.Stretch.{Stretch}
 use Rattle.cec_wave.specs.Bounds.{latest_heard, most_stretches}
 use Rattle.cec_wire.specs.declared.recorder.Recorder.{Recorder}
-use Rattle.cec_wire.specs.declared.hearing.Ended.{Ended as Ending_kept}
+use Rattle.cec_one_wire.specs.declared.reading.Ended.{Ended as Ending_kept}
 use Rattle.cec_wire.specs.Machine.{wave_after, low_since, IsReady}
 use Rattle.cec_one_wire.specs.declared.edge_wire.EdgeWire.{EdgeWire}
+use Rattle.cec_one_wire.specs.declared.senders.Places.{Places}
 use Rattle.cec_one_wire.specs.Line.{HaveBegun}
+use Rattle.cec_one_wire.specs.Pulls.{StandIn}
 use Rattle.cec_one_wire.specs.Told.{told_of}
 use Rattle.cec_one_wire.specs.Turns.{IsToldNext}
 use Rattle.cec_one_wire.specs.Wire.{IsRead}
@@ -79,10 +81,10 @@ begun_next begin past last t h = record { inside = h.inside; begun = λ i d m. (
 abbrev pub after_it : EdgeWire → EdgeWire → Recorder → EdgeWire
 after_it w v rec = record w { time = w.time + 1; receiver = v.receiver; senders = v.senders; pull = v.pull; bits = v.bits; ended = v.ended; held = v.held; recorder = rec }
 
-pub heard_on : (past : List Stretch) (w v : EdgeWire) (is_low : Bool) (rec : Recorder) → IsBegunWith past w → w.time < latest_heard → IsKept v → v.receiver.is_low ≡ v.receiver.was_low
+pub heard_on : (past : List Stretch) (w v : EdgeWire) (is_low : Bool) (rec : Recorder) → IsBegunWith past w → w.time < latest_heard → IsKept v → v.places ≡ w.places → v.time ≡ w.time → v.receiver.is_low ≡ v.receiver.was_low
     → EachLine w.seats.items w.begin past (w.time + 1) (λ low. (low w.time ≡ is_low) × IsToldNext w v (told_of low w.begin))
     → rec.wave ≡ wave_after w.recorder.wave w.recorder.low_since w.time is_low → rec.low_since ≡ low_since w.recorder.low_since w.time is_low → IsBegunWith past (after_it w v rec)
-heard_on past w v is_low rec b early kept level told wave_is since_is = record {
+heard_on past w v is_low rec b early kept places time level told wave_is since_is = record {
   early = b.early;
   from = omega (arith, b.from);
   near = omega (arith, early);
@@ -91,7 +93,11 @@ heard_on past w v is_low rec b early kept level told wave_is since_is = record {
   wave = b.wave;
   ends = b.ends;
   count = b.count;
-  kept = record { low = kept.low; near = kept.near };
+  kept = record {
+    low = λ u x y. kept.low u (omega (arith, x, time)) y;
+    near = (let x = kept.near in omega (arith, x, time));
+    places = subst (λ (ps : Places). StandIn ps v.senders.items) places kept.places;
+  };
   fresh = λ e. absurd (omega (arith, e, b.from));
   level = level;
   stands = λ after later low wave late line. record {

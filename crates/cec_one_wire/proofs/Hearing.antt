@@ -19,7 +19,7 @@ use Rattle.cec_bits.specs.Hears.{Hears, Heard, heard_by, hear_in, hear_at, hears
 use Rattle.cec_bits.specs.Kept.{reported_at}
 use Rattle.cec_bits.specs.Reading.{End}
 use Rattle.cec_wire.specs.declared.Seat.{Seat}
-use Rattle.cec_wire.specs.declared.hearing.Ended.{Ended as Ending_kept}
+use Rattle.cec_one_wire.specs.declared.reading.Ended.{Ended as Ending_kept}
 use Rattle.cec_wire.specs.Machine.{acks_until, is_short}
 use Rattle.cec_wire.specs.Round.{IsRoundLine}
 use Rattle.cec_one_wire.specs.Listening.{AreSenders, AreBegun}

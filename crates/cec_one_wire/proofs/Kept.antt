@@ -1,18 +1,25 @@
 -- What the senders do is kept for as long as it lasts.
-use Rattle.std.proofs.Common.{◌≡◌, ℕ, ◌+◌, ◌<◌, ◌≤◌, Bool, List, Option, arith, ap, ◌∙◌, sym}
+use Rattle.std.proofs.Common.{◌≡◌, ℕ, ◌+◌, ◌<◌, ◌≤◌, nat_lt, List, Option, arith, ap, ◌∙◌, sym, subst}
 use Rattle.std.specs.List.{list_any}
 use Rattle.cec_bits.specs.declared.sender.Sender.{Sender}
 use Rattle.cec_one_wire.specs.declared.edge_wire.EdgeWire.{EdgeWire}
-use Rattle.cec_one_wire.specs.Pulls.{pull_in}
+use Rattle.cec_one_wire.specs.declared.senders.Places.{Places}
+use Rattle.cec_one_wire.specs.Pulls.{StandIn, pull_in}
 use Rattle.cec_one_wire.specs.Wired.{IsKept}
 
-abbrev Lasts : List (Option Sender) → ℕ → ℕ → Type 0
-Lasts senders t until = (u : ℕ) → t ≤ u → u < until → list_any (pull_in u) senders ≡ list_any (pull_in t) senders
+abbrev IsLowTo : List (Option Sender) → ℕ → ℕ → ℕ → Type 0
+IsLowTo senders from rise until = (u : ℕ) → from ≤ u → u < until → list_any (pull_in u) senders ≡ nat_lt u rise
 
 -- as it was worked out, of a slice of them
-pub lasts_low : (senders slice : List (Option Sender)) (from t until : ℕ) (is_low : Bool) → slice ≡ senders → from ≡ t → is_low ≡ list_any (pull_in t) slice → Lasts slice t until → (u : ℕ) → from ≤ u → u < until → list_any (pull_in u) senders ≡ is_low
-lasts_low senders slice from t until is_low e f g lasts u a b =
-    ap (λ (os : List (Option Sender)). list_any (pull_in u) os) (sym e) ∙ lasts u (omega (arith, a, f)) b ∙ sym g
+pub low_of_slice : (senders slice : List (Option Sender)) (t rise until : ℕ) → slice ≡ senders → IsLowTo slice t rise until → IsLowTo senders t rise until
+low_of_slice senders slice t rise until e low u a b = ap (λ (os : List (Option Sender)). list_any (pull_in u) os) (sym e) ∙ low u a b
 
-pub kept_made : (w : EdgeWire) (slice : List (Option Sender)) (t : ℕ) → slice ≡ w.senders.items → w.pull.from ≡ t → w.pull.is_low ≡ list_any (pull_in t) slice → w.pull.until ≤ t + 4500 → Lasts slice t w.pull.until → IsKept w
-kept_made w slice t e f g near lasts = record { low = lasts_low w.senders.items slice w.pull.from t w.pull.until w.pull.is_low e f g lasts; near = omega (arith, near, f) }
+pub stand_in : (places : Places) (senders slice : List (Option Sender)) → slice ≡ senders → StandIn places slice → StandIn places senders
+stand_in places senders slice e h = subst (λ (os : List (Option Sender)). StandIn places os) e h
+
+pub kept_made : (w : EdgeWire) (slice : List (Option Sender)) → slice ≡ w.senders.items → w.pull.until ≤ w.time + 4500 → IsLowTo slice w.time w.pull.rise w.pull.until → StandIn w.places w.senders.items → IsKept w
+kept_made w slice e near low places = record { low = low_of_slice w.senders.items slice w.time w.pull.rise w.pull.until e low; near = near; places = places }
+
+-- at a later instant
+pub kept_later : (w : EdgeWire) (t : ℕ) → w.time ≤ t → IsKept w → IsKept (record w { time = t })
+kept_later w t l k = record { low = λ u a b. k.low u (omega (arith, a, l)) b; near = (let x = k.near in omega (arith, x, l)); places = k.places }

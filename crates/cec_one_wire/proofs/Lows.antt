@@ -10,7 +10,7 @@ use Rattle.cec_frame.specs.declared.Ending.{Ending}
 use Rattle.cec_frame.specs.declared.Ending.TheVariants.{Silent, BadStart}
 use Rattle.cec_frame.specs.Bits.{frame_bits}
 use Rattle.cec_bits.specs.Reading.{End, Known, Read, Slot, known_at, known_slot, bit_sampled_at, reading_of, read_start, start_of, start_fall, after_slot, after_fall, last_ending, read_slots}
-use Rattle.cec_bits.specs.declared.After.TheVariants.{Ends}
+use Rattle.cec_bits.specs.Reading.After.{Ends}
 use Rattle.cec_bits.proofs.Search.{first_in_none}
 use Rattle.cec_bits.proofs.Causes.{known_start_low, known_start_high, known_in_slot, start_risen, nothing}
 use Rattle.cec_one_wire.proofs.Along.{AreOver, Reached, over_sampled, next_none, ends_so, known_ending}

@@ -10,7 +10,7 @@ use Rattle.cec_wave.specs.Bounds.{latest_heard}
 use Rattle.cec_wave.specs.Pulses.{AreSparse, AreFarApart, IsNarrow}
 use Rattle.cec_bits.specs.Reading.{Read, reading_of}
 use Rattle.cec_wire.specs.declared.Seat.{Seat}
-use Rattle.cec_wire.specs.declared.hearing.Ended.{Ended as Ending_kept}
+use Rattle.cec_one_wire.specs.declared.reading.Ended.{Ended as Ending_kept}
 use Rattle.cec_wire.specs.Round.{IsRoundLine}
 use Rattle.cec_one_wire.specs.declared.edge_wire.EdgeWire.{EdgeWire}
 use Rattle.cec_one_wire.specs.Line.{EndsInTime, last_of}
@@ -219,7 +219,7 @@ took past v p b wave ends from = record {
   wave = wave;
   ends = all_more EndsInTime past p b.ends ends;
   count = ap (λ n. n + 1) b.count ∙ sym (length_more past p);
-  kept = record { low = b.kept.low; near = b.kept.near };
+  kept = record { low = b.kept.low; near = b.kept.near; places = b.kept.places };
   fresh = λ e. (let f = b.fresh e in record { heard = f.heard; level = f.level; senders = f.senders; bits = f.bits; ended = f.ended; held = f.held; wave = f.wave; silent = f.silent });
   level = b.level;
   stands = λ after later low w late line.

@@ -6,9 +6,8 @@ use Rattle.std.proofs.lemmas.Bool.Decides.{nat_tests}
 use Rattle.cec_wave.specs.Line.{Line, was_low, is_fall, is_rise}
 use Rattle.cec_frame.specs.declared.Ending.{Ending}
 use Rattle.cec_frame.specs.declared.Ending.TheVariants.{Short}
-use Rattle.cec_bits.specs.declared.After.{After}
-use Rattle.cec_bits.specs.declared.After.TheVariants.{Next, Ends}
-use Rattle.cec_bits.specs.Reading.{Read, next_fall, next_rise, reading_of, read_start, read_slots, read_on, read_then, start_rise, start_fall, after_slot, after_fall, after_last, last_ending, sample, bit_sampled_at}
+use Rattle.cec_bits.specs.Reading.After.{Next, Ends}
+use Rattle.cec_bits.specs.Reading.{Read, next_fall, next_rise, reading_of, read_start, read_slots, read_on, read_then, start_rise, start_fall, after_slot, after_fall, after_last, last_ending, sample, bit_sampled_at, After}
 use Rattle.cec_bits.proofs.Ends.{begin_by}
 use Rattle.cec_bits.proofs.Search.{first_in_agree, found_first}
 pub use Rattle.cec_wire.proofs.Still.{high_before}

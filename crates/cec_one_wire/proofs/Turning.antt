@@ -1,5 +1,5 @@
 -- A wire waits until somebody changes what he does.
-use Rattle.std.proofs.Common.{◌≡◌, ℕ, ◌+◌, ◌-◌, ◌<◌, ◌≤◌, Bool, true, false, List, [], ◌++◌, append-nil, inl, inr, Option, IfSome, refl, arith, ◌∙◌, sym, subst}
+use Rattle.std.proofs.Common.{◌≡◌, ℕ, ◌+◌, ◌-◌, ◌<◌, ◌≤◌, Bool, true, false, nat_lt, List, [], ◌++◌, append-nil, inl, inr, Option, IfSome, refl, arith, ◌∙◌, sym, subst}
 use Rattle.std.specs.List.{list_any, All}
 use mathlib.Core.Bool.{beq}
 use Rattle.std.proofs.lemmas.Bool.{cases_lt}
@@ -8,6 +8,7 @@ use Rattle.cec_wave.specs.Line.{was_low, IsWave}
 use Rattle.cec_wave.specs.Bounds.{latest_heard}
 pub use Rattle.cec_wire.proofs.Exists.{made_line, made_round}
 use Rattle.cec_one_wire.specs.declared.edge_wire.EdgeWire.{EdgeWire}
+use Rattle.cec_one_wire.specs.declared.senders.Pull.{Pull}
 use Rattle.cec_one_wire.specs.Line.{HaveBegun}
 use Rattle.cec_one_wire.specs.Pulls.{pull_in, low_in}
 use Rattle.cec_one_wire.specs.Told.{told_of}
@@ -15,6 +16,7 @@ use Rattle.cec_one_wire.specs.Wire.{IsAt, IsQuiet, until_by}
 use Rattle.cec_one_wire.specs.Wired.{EachLine, IsBegunWith, StandsOnLine, Records, end_in, is_low_in, pulls_in}
 use Rattle.cec_one_wire.specs.Turns.{IsWake, IsCalm}
 use Rattle.cec_one_wire.proofs.Calm.{told_stays}
+use Rattle.cec_one_wire.proofs.Kept.{kept_later}
 use Rattle.cec_one_wire.proofs.Recorded.{records_calm}
 use Rattle.cec_one_wire.proofs.Told.{told_is_read}
 use Rattle.cec_one_wire.proofs.UpTo.{between}
@@ -71,7 +73,7 @@ begun_later past w t b after le near stands = record {
   wave = b.wave;
   ends = b.ends;
   count = b.count;
-  kept = record { low = b.kept.low; near = b.kept.near };
+  kept = kept_later w t le b.kept;
   fresh = λ e. absurd (omega (arith, e, after, le));
   level = b.level;
   stands = λ x. stands;
@@ -112,6 +114,12 @@ pub waits_so : (past : List Stretch) (w : EdgeWire) (until t : ℕ) (next : Opti
 waits_so past w until t next b k near =
     begun_later past w t b (after_begin w.begin w.time b.from k.other) (waits_after past w until t next b k) (omega (arith, near))
     (λ later low wave late line. (waits_on past w until t next b (after_begin w.begin w.time b.from k.other) k.same k.lasts k.wake (waits_after past w until t next b k) later low wave late line).1)
+
+-- as long as the senders stay as they are now
+pub steady_low : (w : EdgeWire) (p : Pull) (until : ℕ) → ((t : ℕ) → w.time ≤ t → t < p.until → list_any (pull_in t) w.senders.items ≡ nat_lt t p.rise)
+    → until ≤ p.until → ((u : ℕ) → w.time ≤ u → u < until → nat_lt u p.rise ≡ nat_lt w.time p.rise)
+    → (u : ℕ) → w.time ≤ u → u < until → list_any (pull_in u) w.senders.items ≡ nat_lt w.time p.rise
+steady_low w p until low s lasts u a b = low u a (omega (arith, b, s)) ∙ lasts u a b
 
 -- with what the senders do as it was found at an instant before
 pub waits_by : (w : EdgeWire) (from until t : ℕ) (is_low low was : Bool) (next : Option Stretch) → (w.time ≡ w.begin → ⊥) → from ≤ w.time → w.time < until → until ≤ from + 4500

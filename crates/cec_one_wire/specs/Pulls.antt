@@ -1,5 +1,5 @@
 -- What a wire finds of the next microsecond, by its receiver, its senders, those who follow and the last pull. (own)
-use Rattle.std.specs.Prelude.{◌≡◌, ℕ, ◌+◌, ◌-◌, ◌==◌, ◌<◌, ◌≤◌, Bool, true, false, nat_lt, nat_le, ◌&&◌, ◌||◌, if◌then◌else◌, List, ◌++◌, length, take, Option, Some, None, All}
+use Rattle.std.specs.Prelude.{◌≡◌, ℕ, ◌+◌, ◌-◌, ◌==◌, ◌<◌, ◌≤◌, Bool, true, false, nat_lt, nat_le, ◌&&◌, ◌||◌, if◌then◌else◌, List, ◌++◌, length, take, slice_index_or, Option, Some, None, All}
 use Rattle.std.specs.List.{list_any}
 use Rattle.cec_wave.specs.declared.Stretch.{Stretch}
 use Rattle.cec_wave.specs.Line.{Line, was_low, IsWave}
@@ -15,6 +15,7 @@ use Rattle.cec_bits.specs.Follows.{StoodBefore}
 use Rattle.cec_wire.specs.declared.Seat.{Seat}
 use Rattle.cec_wire.specs.Round.{is_acknowledged, is_broken, IsRoundLine}
 use Rattle.cec_wire.specs.Machine.{sends_after, acks_until}
+use Rattle.cec_one_wire.specs.declared.senders.Places.{Places}
 use Rattle.cec_one_wire.specs.Listening.{IsReadOnce, AreSenders, AreSending}
 use Rattle.cec_one_wire.specs.Line.{HaveBegun}
 
@@ -22,6 +23,13 @@ use Rattle.cec_one_wire.specs.Line.{HaveBegun}
 abbrev pub pull_in : ℕ → Option Sender → Bool
 pull_in t None = false
 pull_in t (Some s) = pull_of s t
+
+-- these senders stand at these places: there are none elsewhere
+pub record StandIn (places : Places) (senders : List (Option Sender)) : Type 0 where
+  pub order : places.from ≤ places.to
+  pub few : places.to ≤ length senders
+  pub before : (k : ℕ) → k < places.from → slice_index_or senders k None ≡ None
+  pub after : (k : ℕ) → places.to ≤ k → slice_index_or senders k None ≡ None
 
 -- the last microsecond in which a pull begins that the round takes, by what is known of the ending before t
 abbrev pub until_of : Option End → ℕ → ℕ

@@ -1,5 +1,5 @@
 -- A wire of one receiver and its senders that stands in a round. (own)
-use Rattle.std.specs.Prelude.{◌≡◌, ℕ, ◌+◌, ◌-◌, ◌<◌, ◌≤◌, Bool, true, false, not, slice_get, nat_le, ◌&&◌, ◌||◌, List, [], ◌++◌, length, Option, Some, None, is_some, All, take, drop}
+use Rattle.std.specs.Prelude.{◌≡◌, ℕ, ◌+◌, ◌-◌, ◌<◌, ◌≤◌, Bool, true, false, not, slice_get, nat_le, nat_lt, ◌&&◌, ◌||◌, List, [], ◌++◌, length, Option, Some, None, is_some, All, take, drop}
 use Rattle.std.specs.List.{list_any}
 use Rattle.std.specs.Option.{option_to_list}
 use Rattle.cec_wave.specs.declared.Stretch.{Stretch}
@@ -14,14 +14,14 @@ use Rattle.cec_bits.specs.Reading.{End}
 use Rattle.cec_bits.specs.Sending.{SenderStood}
 use Rattle.cec_wire.specs.declared.Seat.{Seat}
 use Rattle.cec_wire.specs.declared.Outcome.{Outcome}
-use Rattle.cec_wire.specs.declared.hearing.Ended.{Ended}
+use Rattle.cec_one_wire.specs.declared.reading.Ended.{Ended}
 use Rattle.cec_wire.specs.Edges.{IsNextEdge}
 use Rattle.cec_wire.specs.Machine.{AreSentWell}
 use Rattle.cec_wire.specs.Round.{IsRoundLine, IsRound}
 use Rattle.cec_one_wire.specs.Listening.{AreBegun, IsIdle}
 use Rattle.cec_one_wire.specs.declared.edge_wire.EdgeWire.{EdgeWire}
 use Rattle.cec_one_wire.specs.Line.{HaveBegun, EndsInTime}
-use Rattle.cec_one_wire.specs.Pulls.{pull_in, low_in}
+use Rattle.cec_one_wire.specs.Pulls.{StandIn, pull_in, low_in}
 use Rattle.cec_one_wire.specs.Told.{told_of}
 use Rattle.cec_one_wire.specs.Wire.{IsAt, until_by}
 
@@ -39,10 +39,11 @@ is_low_in w = is_some w.recorder.low_since
 abbrev pub pulls_in : EdgeWire → Bool
 pulls_in w = low_in w.senders.items w.last (until_by w.receiver (end_in w.ended) w.time) w.held (is_low_in w) w.time
 
--- what the senders do is kept for as long as it lasts
+-- where the senders stand is kept, and what they do for as long as it lasts
 pub record IsKept (w : EdgeWire) : Type 0 where
-  pub low : (t : ℕ) → w.pull.from ≤ t → t < w.pull.until → list_any (pull_in t) w.senders.items ≡ w.pull.is_low
-  pub near : w.pull.until ≤ w.pull.from + 4500
+  pub low : (t : ℕ) → w.time ≤ t → t < w.pull.until → list_any (pull_in t) w.senders.items ≡ nat_lt t w.pull.rise
+  pub near : w.pull.until ≤ w.time + 4500
+  pub places : StandIn w.places w.senders.items
 
 -- ---- the line so far
 

@@ -1,23 +1,24 @@
 //! A line that goes from edge to edge: one receiver, which all seats share, and the senders of the seats that send.
-ghost use Rattle.std.specs.Prelude.{◌≡◌, ◌+◌, ◌-◌, ◌<◌, ◌≤◌, ◌++◌, ◌&&◌, ◌||◌, ◌==◌, not, true, false, if◌then◌else◌, length, [], ◌∷◌, All, take, drop, slice_get, IfSome, MatchOption, is_some, None, Some, ℕ, List};
+ghost use Rattle.std.specs.Prelude.{◌≡◌, ◌+◌, ◌-◌, ◌<◌, ◌≤◌, nat_le, nat_lt, ◌++◌, ◌&&◌, ◌||◌, ◌==◌, not, true, false, if◌then◌else◌, length, [], ◌∷◌, All, take, drop, slice_get, IfSome, MatchOption, is_some, None, Some, ℕ, List};
 ghost use Rattle.std.specs.List.{list_any};
 ghost use Rattle.cec_wave.specs.declared.Stretch.{Stretch as StretchValue};
 ghost use Rattle.cec_wave.specs.Bounds.{latest_begin, latest_heard};
 ghost use Rattle.cec_wire.specs.Machine.{AreSentWell};
 ghost use Rattle.cec_wire.specs.Round.{rest_of};
 ghost use Rattle.cec_bits.specs.Hears.{heard_by, hear_in, reported_so};
-ghost use Rattle.cec_one_wire.specs.Pulls.{pull_in, takes_last};
+ghost use Rattle.cec_one_wire.specs.Pulls.{pull_in};
 ghost use Rattle.cec_one_wire.specs.States.{survivor_at, survivors_of, losers_of, out_in};
 ghost use Rattle.cec_one_wire.specs.Line.{EndsInTime};
 ghost use Rattle.cec_one_wire.specs.Steps.{EdgeBy, StandsAfter, wakes_in};
 
-use crate::followers::{destination, is_acknowledged, is_broken};
-use crate::senders::{Pull, copied_senders, hear_all, pull_at, senders_of};
+use crate::followers::{is_acknowledged, is_broken};
+use crate::reading::Ended;
+use crate::senders::{Places, Pull, copied_senders, hear_all, places_of, pull_at, senders_of};
 use arrayvec::ArrayVec;
-use cec_bits::{Receiver, Sender, SenderState, Told, copied_bits};
+use cec_bits::{Receiver, Sender, SenderState, Told, copied_bits, destination};
 use cec_frame::{Ending, Reading};
 use cec_wave::{Edge, LATEST_HEARD, Pulses, Stretch};
-use cec_wire::{ACK_PULL, Ended, Loser, Outcome, Recorder, SHORT_PULL, Seat, Wire};
+use cec_wire::{ACK_PULL, Loser, Outcome, Recorder, SHORT_PULL, Seat, Wire};
 
 /// A round as far as it was heard: everything before `time`.
 #[derive(Debug, Drop)]
@@ -31,6 +32,8 @@ pub struct EdgeWire {
     time: u64,
     receiver: Receiver,
     senders: ArrayVec<Option<Sender>, 15>,
+    /// Where in that list senders stand: there are none elsewhere.
+    places: Places,
     /// What the senders do, for as long as that lasts.
     pull: Pull,
     /// What the receiver reported of the reading: its bits, and how it ended.
@@ -53,21 +56,25 @@ fn copied_seats(seats: &[Seat]) -> ArrayVec<Seat, 15>
     kept
 }
 
-// The last pull that began lasts, and the round takes it.
-fn is_taken(last: Option<Stretch>, until: u64, was: bool, t: u64) -> bool
-    ensures { result ≡ takes_last until was t last }
-{
-    match last {
-        None => false,
-        Some(pull) => t < pull.to && (pull.from <= until || was),
-    }
-}
-
 // A receiver that wakes there, by the number of where it stands, finds that no fall came in time.
 fn is_due_in(place: u8) -> bool
     ensures { result ≡ ((place == 2) || (place == 4)) }
 {
     place == 2 || place == 4
+}
+
+// Until when the senders do what they do at `t`.
+fn steady_until(pull: Pull, t: u64) -> u64
+    requires { t < pull.until }
+    ensures sooner { result ≤ pull.until }
+    ensures later { t < result }
+    ensures lasts { (u : ℕ) → t ≤ u → u < result → nat_lt u pull.rise ≡ nat_lt t pull.rise }
+{
+    if t < pull.rise {
+        pull.rise.min(pull.until)
+    } else {
+        pull.until
+    }
 }
 
 // The earlier of a wake and the end of the pull, where it lasts.
@@ -164,8 +171,8 @@ impl EdgeWire {
     ghost use Rattle.cec_bits.specs.Hears.{wake_of};
     ghost use Rattle.cec_wave.specs.Pulses.{AreSparse};
     ghost use Rattle.cec_one_wire.specs.Listening.{AllHeard};
-    ghost use Rattle.cec_wire.specs.declared.hearing.Ended.{Ended as EndedValue};
-    ghost use Rattle.cec_one_wire.specs.Pulls.{due_in};
+    ghost use Rattle.cec_one_wire.specs.declared.reading.Ended.{Ended as EndedValue};
+    ghost use Rattle.cec_one_wire.specs.Pulls.{due_in, takes_last};
     ghost use Rattle.cec_one_wire.specs.Told.{told_of};
     ghost use Rattle.cec_one_wire.specs.Wire.{until_by};
     ghost use Rattle.cec_one_wire.specs.Wired.{AreIdle, ArePulls, EachLine, EachOf, Follow, Found, IsBegunWith, IsKept, IsNext, IsReceiverIn, IsRoundOf, IsSenderIn, NextEdges, SameRound, SendsNothing, end_in, is_low_in, is_silent_in, pulls_in};
@@ -182,7 +189,8 @@ impl EdgeWire {
         ensures idle { AreIdle result }
     {
         let senders = senders_of(seats, start);
-        let pull = pull_at(senders.as_slice(), start);
+        let places = places_of(senders.as_slice());
+        let pull = pull_at(senders.as_slice(), places, start);
         EdgeWire {
             seats: copied_seats(seats),
             begin: start,
@@ -191,6 +199,7 @@ impl EdgeWire {
             time: start,
             receiver: Receiver::new(),
             senders,
+            places,
             pull,
             bits: ArrayVec::new(),
             ended: None,
@@ -219,6 +228,7 @@ impl EdgeWire {
             time: self.time,
             receiver: self.receiver.copy(),
             senders: copied_senders(self.senders.as_slice()),
+            places: self.places,
             pull: self.pull,
             bits: copied_bits(self.bits.as_slice()),
             ended: self.ended,
@@ -271,27 +281,33 @@ impl EdgeWire {
         self.time = start;
         self.receiver = Receiver::new();
         self.senders = senders_of(self.seats.as_slice(), start);
-        self.pull = pull_at(self.senders.as_slice(), start);
+        self.places = places_of(self.senders.as_slice());
+        self.pull = pull_at(self.senders.as_slice(), self.places, start);
         self.bits.clear();
         self.ended = None;
         self.held = 0;
         self.recorder.clear();
     }
 
+    // What is kept of the senders is what they do in the next microsecond.
+    fn is_pull_kept(&self) -> bool
+        ensures { result ≡ nat_lt self.now.time self.now.pull.until }
+    {
+        self.time < self.pull.until
+    }
+
     // What the senders do from the next microsecond on.
     fn pull_now(&self) -> Pull
         requires time { self.now.time ≤ latest_heard }
         requires kept { IsKept self.now }
-        ensures from { result.from ≤ self.now.time }
         ensures later { self.now.time < result.until }
-        ensures near { result.until ≤ result.from + 4500 }
-        ensures low { result.is_low ≡ list_any (pull_in self.now.time) self.now.senders.items }
-        ensures lasts { (t : ℕ) → result.from ≤ t → t < result.until → list_any (pull_in t) self.now.senders.items ≡ result.is_low }
+        ensures near { result.until ≤ self.now.time + 4500 }
+        ensures low { (t : ℕ) → self.now.time ≤ t → t < result.until → list_any (pull_in t) self.now.senders.items ≡ nat_lt t result.rise }
     {
-        if self.pull.from <= self.time && self.time < self.pull.until {
+        if self.is_pull_kept() {
             self.pull
         } else {
-            pull_at(self.senders.as_slice(), self.time)
+            pull_at(self.senders.as_slice(), self.places, self.time)
         }
     }
 
@@ -299,10 +315,7 @@ impl EdgeWire {
     fn is_due(&self) -> bool
         ensures { result ≡ due_in self.now.receiver.place self.now.receiver.begin self.now.receiver.fall self.now.time }
     {
-        match self.receiver.wakes_at() {
-            Some(wake) => wake == self.time && is_due_in(self.receiver.parts().place),
-            None => false,
-        }
+        is_due_in(self.receiver.parts().place) && wakes_in(self.receiver.wakes_at(), self.time)
     }
 
     // The last microsecond in which a pull begins that the round takes.
@@ -321,16 +334,33 @@ impl EdgeWire {
         }
     }
 
+    // A pull counts that begins by the last microsecond that the round takes, and another one where the line was low just
+    // before. That microsecond is looked for where it decides.
+    #[tactic(auto, using(crate::proofs::Pulling::or_swap))]
+    fn counts(&self, from: u64, was: bool) -> bool
+        ensures { result ≡ (nat_le from (until_by self.now.receiver (end_in self.now.ended) self.now.time) || was) }
+    {
+        was || from <= self.pulls_until()
+    }
+
+    // The last pull that began lasts, and the round takes it.
+    fn is_taken(&self, was: bool) -> bool
+        ensures { result ≡ takes_last (until_by self.now.receiver (end_in self.now.ended) self.now.time) was self.now.time self.now.last }
+    {
+        match self.last {
+            None => false,
+            Some(pull) => self.time < pull.to && self.counts(pull.from, was),
+        }
+    }
+
     // Whether the line is low in the next microsecond, where a sender pulls or none. At an ending for want of a fall a sender
     // makes no fall.
     fn is_pulled(&self, is_sent: bool) -> bool
         requires { is_sent ≡ list_any (pull_in self.now.time) self.now.senders.items }
         ensures { result ≡ pulls_in self.now }
     {
-        let until = self.pulls_until();
         let was = self.recorder.was_low();
-        is_taken(self.last, until, was, self.time)
-            || ((is_sent && (self.time <= until || was)) || self.time < self.held)
+        self.is_taken(was) || ((is_sent && self.counts(self.time, was)) || self.time < self.held)
     }
 
     // The next instant at which anybody changes what he does, or the reading may change.
@@ -349,10 +379,11 @@ impl EdgeWire {
         requires kept { IsKept self.old }
         ensures same { self.new ≡ record self.old { pull = self.new.pull } }
         ensures kept { IsKept self.new }
-        ensures from { self.new.pull.from ≤ self.old.time }
         ensures later { self.old.time < self.new.pull.until }
     {
-        self.pull = self.pull_now();
+        if !self.is_pull_kept() {
+            self.pull = pull_at(self.senders.as_slice(), self.places, self.time);
+        }
     }
 
     // Goes to the next instant at which the line or the reading may change.
@@ -368,8 +399,10 @@ impl EdgeWire {
         ensures stands { (past : List StretchValue) → IsBegunWith past self.old → IsBegunWith past self.new × EachOf past self.new (IsCalm self.old self.new.time) }
     {
         let pull = self.pull_now();
-        if self.time != self.begin && self.is_pulled(pull.is_low) == self.recorder.was_low() {
-            self.time = self.wake(pull.until, next);
+        if self.time != self.begin
+            && self.is_pulled(self.time < pull.rise) == self.recorder.was_low()
+        {
+            self.time = self.wake(steady_until(pull, self.time), next);
         }
     }
 
@@ -418,15 +451,17 @@ impl EdgeWire {
         }
     }
 
-    // The senders hear what this microsecond reported.
+    // The senders hear what this microsecond reported. What they do stays as it was, unless one of them stops.
     fn pass_on(&mut self, reported: Told)
         requires early { self.old.time < latest_heard }
+        requires kept { IsKept self.old }
         ensures same { self.new ≡ record self.old { senders = self.new.senders; pull = self.new.pull } }
         ensures heard { AllHeard reported self.old.time self.old.senders.items self.new.senders.items }
         ensures kept { IsKept self.new }
     {
-        hear_all(&mut self.senders, reported, self.time);
-        self.pull = pull_at(self.senders.as_slice(), self.time + 1);
+        if hear_all(&mut self.senders, self.places, reported, self.time) {
+            self.pull = pull_at(self.senders.as_slice(), self.places, self.time);
+        }
     }
 
     // What this microsecond reported of the reading that runs, in which a slot falls or none; `until` is the last microsecond
@@ -536,7 +571,7 @@ impl EdgeWire {
     {
         self.refresh();
         let was = self.recorder.was_low();
-        let is_low = self.is_pulled(self.pull.is_low);
+        let is_low = self.is_pulled(self.time < self.pull.rise);
         let at = self.time;
         self.tell(was, is_low);
         self.recorder.hear(at, is_low);
@@ -550,7 +585,9 @@ impl EdgeWire {
         ensures { result ≡ is_silent_in self.now }
     {
         match self.ended {
-            Some(_) => !self.recorder.was_low() && !self.is_pulled(self.pull_now().is_low),
+            Some(_) => {
+                !self.recorder.was_low() && !self.is_pulled(self.time < self.pull_now().rise)
+            }
             None => false,
         }
     }

@@ -1,9 +1,9 @@
 //! The senders of a round's seats: what they pull, and what they hear.
-ghost use Rattle.std.specs.Prelude.{◌≡◌, ◌<◌, ◌≤◌, ◌||◌, ◌+◌, ℕ, length};
+ghost use Rattle.std.specs.Prelude.{◌≡◌, ◌<◌, ◌≤◌, ◌||◌, ◌+◌, ℕ, false, length, nat_lt, slice_index_or, None};
 ghost use Rattle.std.specs.List.{list_any};
 ghost use Rattle.cec_wave.specs.Bounds.{latest_heard};
 ghost use Rattle.cec_one_wire.specs.Listening.{AllHeard, AreBegun, HeardOne, IsSenderOf};
-ghost use Rattle.cec_one_wire.specs.Pulls.{pull_in};
+ghost use Rattle.cec_one_wire.specs.Pulls.{StandIn, pull_in};
 ghost use Rattle.cec_one_wire.specs.States.{is_sending_on};
 
 use arrayvec::ArrayVec;
@@ -11,12 +11,18 @@ use cec_bits::{Sender, SenderState, Told};
 use cec_wave::FIRST_SLOT;
 use cec_wire::Seat;
 
-/// What the senders do from an instant on, up to another.
+/// What the senders do up to an instant: they pull the line low before `rise`, and not from then on.
 #[derive(Clone, Copy, Debug, PartialEq, Eq)]
 pub struct Pull {
-    pub from: u64,
+    pub rise: u64,
     pub until: u64,
-    pub is_low: bool,
+}
+
+/// Places in a list of senders, from one on, up to and without another.
+#[derive(Clone, Copy, Debug, PartialEq, Eq)]
+pub struct Places {
+    pub from: usize,
+    pub to: usize,
 }
 
 // The sender of a seat, if it sends.
@@ -43,46 +49,79 @@ pub fn senders_of(seats: &[Seat], begin: u64) -> ArrayVec<Option<Sender>, 15>
     senders
 }
 
-// What a sender does beside these, and until when.
+// The first place at which a sender stands, or the end of the list.
+fn first_place(senders: &[Option<Sender>]) -> usize
+    ensures few { result ≤ length senders.now }
+    ensures none { (k : ℕ) → k < result → slice_index_or senders.now k None ≡ None }
+{
+    for place in 0..senders.len() {
+        if senders[place].is_some() {
+            return place;
+        }
+    }
+    senders.len()
+}
+
+// The place from which on no sender stands, at `from` or later.
+fn end_place(senders: &[Option<Sender>], from: usize) -> usize
+    requires { from ≤ length senders.now }
+    ensures later { from ≤ result }
+    ensures few { result ≤ length senders.now }
+    ensures none { (k : ℕ) → result ≤ k → slice_index_or senders.now k None ≡ None }
+{
+    let mut end = senders.len();
+    'places: while end > from && senders[end - 1].is_none() {
+        end -= 1;
+    }
+    end
+}
+
+/// The places between which all senders stand.
+pub fn places_of(senders: &[Option<Sender>]) -> Places
+    ensures { StandIn result senders.now }
+{
+    let from = first_place(senders);
+    Places {
+        from,
+        to: end_place(senders, from),
+    }
+}
+
+// What a sender does beside these.
 fn pull_with(sender: &Option<Sender>, pull: Pull, t: u64) -> Pull
     requires early { t ≤ latest_heard }
-    ensures from { result.from ≡ pull.from }
-    ensures low { result.is_low ≡ (pull_in t sender.now || pull.is_low) }
     ensures sooner { result.until ≤ pull.until }
     ensures later { t < pull.until → t < result.until }
-    ensures lasts { (u : ℕ) → t ≤ u → u < result.until → pull_in u sender.now ≡ pull_in t sender.now }
+    ensures rises { (u : ℕ) → t ≤ u → u < result.until → nat_lt u result.rise ≡ (nat_lt u pull.rise || pull_in u sender.now) }
 {
     match sender {
         None => pull,
         Some(sender) => {
             let own = sender.pull_at(t);
             Pull {
-                from: pull.from,
+                rise: own.rise.max(pull.rise),
                 until: own.until.min(pull.until),
-                is_low: own.is_low || pull.is_low,
             }
         }
     }
 }
 
-/// What they do at `t`, and until when, if they hear nothing more.
-pub fn pull_at(senders: &[Option<Sender>], t: u64) -> Pull
+/// What the senders at these places do from `t` on, if they hear nothing more: there are none elsewhere.
+pub fn pull_at(senders: &[Option<Sender>], places: Places, t: u64) -> Pull
     requires early { t ≤ latest_heard }
-    ensures from { result.from ≡ t }
-    ensures low { result.is_low ≡ list_any (pull_in t) senders.now }
+    requires places { StandIn places senders.now }
     ensures near { result.until ≤ t + 4500 }
     ensures later { t < result.until }
-    ensures lasts { (u : ℕ) → t ≤ u → u < result.until → list_any (pull_in u) senders.now ≡ list_any (pull_in t) senders.now }
+    ensures low { (u : ℕ) → t ≤ u → u < result.until → list_any (pull_in u) senders.now ≡ nat_lt u result.rise }
 {
-    let [sender, others @ ..] = senders else {
-        return Pull {
-            from: t,
-            until: t + FIRST_SLOT,
-            is_low: false,
-        };
+    let mut pull = Pull {
+        rise: t,
+        until: t + FIRST_SLOT,
     };
-    let pull = pull_at(others, t);
-    pull_with(sender, pull, t)
+    for place in places.from..places.to {
+        pull = pull_with(&senders[place], pull, t);
+    }
+    pull
 }
 
 /// Its seat is sending.
@@ -98,24 +137,37 @@ pub fn is_sending(sender: &Option<Sender>) -> bool
     }
 }
 
-fn hear_one(sender: &mut Option<Sender>, reported: Told, t: u64)
+// Returns whether it stopped.
+fn hear_one(sender: &mut Option<Sender>, reported: Told, t: u64) -> bool
     requires early { t ≤ latest_heard }
-    ensures { HeardOne reported t sender.old sender.new }
+    ensures heard { HeardOne reported t sender.old sender.new }
+    ensures kept { result ≡ false → (u : ℕ) → pull_in u sender.new ≡ pull_in u sender.old }
 {
-    if let Some(sender) = sender {
-        sender.heard(reported, t);
+    match sender {
+        None => false,
+        Some(sender) => {
+            let state = sender.state();
+            sender.heard(reported, t);
+            sender.state() != state
+        }
     }
 }
 
-/// Each sender hears what the receiver reports at microsecond `t`.
-pub fn hear_all(senders: &mut [Option<Sender>], reported: Told, t: u64)
+/// Each sender hears what the receiver reports at microsecond `t`; they stand at these places. Returns whether one stopped.
+pub fn hear_all(senders: &mut [Option<Sender>], places: Places, reported: Told, t: u64) -> bool
     requires early { t ≤ latest_heard }
-    ensures { AllHeard reported t senders.old senders.new }
+    requires places { StandIn places senders.old }
+    ensures heard { AllHeard reported t senders.old senders.new }
+    ensures kept { result ≡ false → (u : ℕ) → list_any (pull_in u) senders.new ≡ list_any (pull_in u) senders.old }
 {
-    for place in 0..senders.len() {
+    let mut stopped = false;
+    for place in places.from..places.to {
         let sender = &mut senders[place];
-        hear_one(sender, reported, t);
+        if hear_one(sender, reported, t) {
+            stopped = true;
+        }
     }
+    stopped
 }
 
 // The same sender again, if there is one.

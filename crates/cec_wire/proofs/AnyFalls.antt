@@ -7,10 +7,9 @@ use Rattle.std.proofs.lemmas.List.Elements.{All-head, All-tail}
 use Rattle.cec_wave.specs.Line.{Line, was_low, is_fall, is_rise}
 use Rattle.cec_frame.specs.declared.Ending.{Ending}
 use Rattle.cec_frame.specs.declared.Ending.TheVariants.{Short}
-use Rattle.cec_bits.specs.declared.After.{After}
-use Rattle.cec_bits.specs.declared.After.TheVariants.{Next, Ends}
+use Rattle.cec_bits.specs.Reading.After.{Next, Ends}
 use Rattle.cec_bits.specs.Windows.{standard, sample_at}
-use Rattle.cec_bits.specs.Reading.{next_fall, next_rise, Read, read_slots, read_on, after_slot, after_fall, after_last, last_ending, last_heard, bit_sampled_at, read_start, reading_of, start_of, start_rise, start_fall}
+use Rattle.cec_bits.specs.Reading.{next_fall, next_rise, Read, read_slots, read_on, after_slot, after_fall, after_last, last_ending, last_heard, bit_sampled_at, read_start, reading_of, start_of, start_rise, start_fall, After}
 use Rattle.cec_bits.proofs.Search.{found_first, found_none}
 use Rattle.cec_bits.proofs.Causes.{IsPlain, last_plain}
 use Rattle.cec_bits.proofs.Stood.{was_now}

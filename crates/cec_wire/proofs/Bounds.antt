@@ -11,19 +11,13 @@ use Rattle.cec_bits.proofs.Ends.{at_by}
 use Rattle.cec_bits.proofs.Waves.{falls_of_wave}
 use Rattle.cec_wire.specs.declared.Seat.{Seat}
 use Rattle.cec_wire.specs.declared.Outcome.{Outcome}
-use Rattle.cec_wire.specs.declared.hearing.Ended.{Ended}
-use Rattle.cec_wire.specs.declared.hearing.Stage.{Stage}
-use Rattle.cec_wire.specs.declared.hearing.Stage.TheVariants.{StartLow, StartHigh, InSlot, Over}
 use Rattle.cec_wire.specs.Round.{IsRound, IsRoundLine}
 use Rattle.cec_wire.specs.Contend.{AreFrames}
-use Rattle.cec_wire.specs.Edges.{heard_of}
 use Rattle.cec_wire.specs.Bounds.{begun_within, RoundsAreShort}
 use Rattle.cec_wire.proofs.Differ.{In, any_in}
 use Rattle.cec_wire.proofs.OneOutcome.{covers_own}
 use Rattle.cec_wire.proofs.Spans.{reading_bound}
 use Rattle.cec_wire.proofs.Still.{high_after}
-use Rattle.cec_wire.proofs.Stands.{AtEnd, StandsAt}
-use Rattle.cec_wire.proofs.Between.{heard_stands}
 use Rattle.cec_wire.proofs.Afterwards.{no_fall_after}
 use Rattle.cec_wire.proofs.Alone.{in_all}
 use Rattle.cec_wire.proofs.Few.{begins_within, few_begun}
@@ -32,24 +26,6 @@ use Rattle.cec_wire.proofs.Few.{begins_within, few_begun}
 
 ends : (low : Line) (begin : ℕ) → (reading_of low begin).at ≤ begin + 444861
 ends low begin = omega (arith, at_by low begin, reading_bound low begin)
-
--- so long after the begin the reading is over
-over_by : (seats : List Seat) (low : Line) (begin t : ℕ) (bits : List Bool) (held : ℕ) (place : Stage) → StandsAt seats low begin t bits held place → begin + 470000 ≤ t
-    → (e : Ended) × AtEnd seats low begin t bits e held
-unfolding StandsAt
-over_by seats low begin t bits held StartLow s l = absurd (omega (arith, s.early))
-over_by seats low begin t bits held StartHigh s l = absurd (omega (arith, s.early))
-over_by seats low begin t bits held (InSlot fall last) s l = absurd (omega (arith, s.early, s.near, s.room))
-over_by seats low begin t bits held (Over e) s l = (e, s)
-
--- and the line is high 13,600 after the ending
-high_late : (seats : List Seat) (begin : ℕ) (pulses : List Stretch) (low : Line) (n : ℕ) → AreSparse pulses → IsRoundLine seats begin pulses low → 470000 ≤ n
-    → (u : ℕ) → (reading_of low begin).at + 13600 ≤ u → low u ≡ false
-high_late seats begin pulses low n sparse line l u m =
-    let h = heard_of seats low begin n in
-    let e = over_by seats low begin (begin + n) h.bits h.held h.place (heard_stands seats begin pulses low line n).stands (omega arith) in
-    let same : (reading_of low begin).at ≡ e.0.at = ap (λ (r : Read). r.at) e.1.reads in
-    high_after seats begin pulses low (begin + n) h.bits e.0 h.held line sparse e.1 u (omega (arith, m, same))
 
 wide : (from : ℕ) (ss : List Stretch) (s : Stretch) → IsWaveFrom from ss → In s ss → s.from < s.to
 wide from [] s w i = absurd i
@@ -68,8 +44,8 @@ rest_under until r bound (s ∷ ss) l h =
     by_test true = h s (inl refl)
     by_test false = l
 
-rests : (seats : List Seat) (begin : ℕ) (pulses : List Stretch) (o : Outcome) (n : ℕ) → 470000 ≤ n → AreSparse pulses → IsWave o.wave → IsRound seats begin pulses o → o.rest ≤ begin + 458461
-rests seats begin pulses o n l sparse wave round =
+rests : (seats : List Seat) (begin : ℕ) (pulses : List Stretch) (o : Outcome) → AreSparse pulses → IsWave o.wave → IsRound seats begin pulses o → o.rest ≤ begin + 458461
+rests seats begin pulses o sparse wave round =
     subst (λ r. r ≤ begin + 458461) (sym round.rest) (rest_under (reading_of (line_of o.wave) begin).until 0 (begin + 458461) o.wave (omega arith) each)
   where
     each : (s : Stretch) → In s o.wave → s.to ≤ begin + 458461
@@ -79,7 +55,7 @@ rests seats begin pulses o n l sparse wave round =
           let w : s.from < s.to = wide 0 o.wave s wave i in
           let own : covers s (s.to - 1) ≡ true = covers_own s (s.to - 1) (omega arith) (omega arith) in
           let low : line_of o.wave (s.to - 1) ≡ true = any_in (λ x. covers x (s.to - 1)) o.wave s i own in
-          let high : line_of o.wave (s.to - 1) ≡ false = high_late seats begin pulses (line_of o.wave) n sparse round.line l (s.to - 1) (omega (arith, lt, ends (line_of o.wave) begin)) in
+          let high : line_of o.wave (s.to - 1) ≡ false = high_after seats begin pulses (line_of o.wave) round.line sparse (s.to - 1) (omega (arith, lt, ends (line_of o.wave) begin)) in
           let no : true ≡ false = sym low ∙ high in cc)
     ]
 
@@ -114,8 +90,8 @@ same_count begin end (p ∷ ps) = by_test (nat_le begin p.from && nat_le p.from 
 pub rounds_are_short : RoundsAreShort
 rounds_are_short = record {
   ends = ends;
-  rests = λ seats begin pulses o sparse wave round. rests seats begin pulses o 470000 (omega arith) sparse wave round;
+  rests = rests;
   begins = begins;
   few = λ seats begin pulses o sparse wave round.
-      omega (arith, same_count begin o.rest pulses, few_begun begin o.rest pulses sparse (omega (arith, rests seats begin pulses o 470000 (omega arith) sparse wave round)));
+      omega (arith, same_count begin o.rest pulses, few_begun begin o.rest pulses sparse (omega (arith, rests seats begin pulses o sparse wave round)));
 }

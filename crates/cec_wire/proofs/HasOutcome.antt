@@ -1,43 +1,35 @@
 -- A round has an outcome: its reading ends, its line is high after that, and what was heard of it by then is all of it.
-use Rattle.std.proofs.Common.{◌≡◌, ℕ, ◌+◌, ◌-◌, ◌≤◌, Bool, true, false, ◌&&◌, ◌||◌, nat_lt, List, Option, Some, None, is_some, inl, inr, refl, sym, ap, ◌∙◌, subst, arith}
+use Rattle.std.proofs.Common.{◌≡◌, ℕ, zero, suc, ◌+◌, ◌-◌, ◌<◌, ◌≤◌, Bool, true, false, ◌&&◌, ◌||◌, nat_lt, List, [], Option, Some, None, is_some, inl, inr, refl, sym, ap, ◌∙◌, subst, arith}
 use Rattle.std.proofs.Math.Path.{fun_ext}
 use Rattle.std.proofs.lemmas.Bool.{cases_lt}
 use Rattle.cec_wave.specs.declared.Stretch.{Stretch}
 use Rattle.cec_wave.specs.Line.{Line, line_of, was_low, IsWave}
 use Rattle.cec_wave.specs.Pulses.{AreSparse}
-use Rattle.cec_bits.specs.Reading.{Read, bits_of, reading_of}
+use Rattle.cec_bits.specs.Reading.{bits_of, reading_of}
 use Rattle.cec_wire.specs.declared.Seat.{Seat}
 use Rattle.cec_wire.specs.declared.Outcome.{Outcome}
-use Rattle.cec_wire.specs.declared.hearing.Ended.{Ended}
-use Rattle.cec_wire.specs.declared.hearing.Stage.{Stage}
-use Rattle.cec_wire.specs.declared.hearing.Stage.TheVariants.{StartLow, StartHigh, InSlot, Over}
 use Rattle.cec_wire.specs.Round.{IsRoundLine, rest_of, survivors_from, losers_from}
-use Rattle.cec_wire.specs.Edges.{Heard, heard_of}
+use Rattle.cec_wire.specs.Machine.{wave_after, low_since}
 use Rattle.cec_wire.specs.OneOutcome.{RoundsHaveOutcomes}
 use Rattle.cec_wire.proofs.Bounds.{rounds_are_short}
-use Rattle.cec_wire.proofs.Between.{heard_stands}
 use Rattle.cec_wire.proofs.Exists.{made_line, made_round}
-use Rattle.cec_wire.proofs.Records.{Records, EndBefore, begun, lows, no_line}
-use Rattle.cec_wire.proofs.Stands.{AtEnd, StandsAt}
-use Rattle.cec_wire.proofs.Still.{high_after}
+use Rattle.cec_wire.proofs.Records.{Records, EndBefore, begun, lows, no_line, record_first, record_step}
+use Rattle.cec_wire.proofs.Still.{high_after, high_before}
 
--- so long after its begin the reading is over
-over_by : (seats : List Seat) (low : Line) (begin t : ℕ) (bits : List Bool) (held : ℕ) (place : Stage) → StandsAt seats low begin t bits held place → begin + 470000 ≤ t
-    → (e : Ended) × AtEnd seats low begin t bits e held
-unfolding StandsAt
-over_by seats low begin t bits held StartLow s l = absurd (omega (arith, s.early))
-over_by seats low begin t bits held StartHigh s l = absurd (omega (arith, s.early))
-over_by seats low begin t bits held (InSlot fall last) s l = absurd (omega (arith, s.early, s.near, s.room))
-over_by seats low begin t bits held (Over e) s l = (e, s)
+-- the line is high 458,461 after the round's begin
+high_late : (seats : List Seat) (begin : ℕ) (pulses : List Stretch) (low : Line) → AreSparse pulses → IsRoundLine seats begin pulses low → (u : ℕ) → begin + 458461 ≤ u → low u ≡ false
+high_late seats begin pulses low sparse line u l = high_after seats begin pulses low line sparse u (omega (arith, l, rounds_are_short.ends low begin))
 
--- and the line is high
-high_late : (seats : List Seat) (begin : ℕ) (pulses : List Stretch) (low : Line) (n : ℕ) → AreSparse pulses → IsRoundLine seats begin pulses low → 470000 ≤ n
-    → (u : ℕ) → begin + 458461 ≤ u → low u ≡ false
-high_late seats begin pulses low n sparse line l u m =
-    let h = heard_of seats low begin n in
-    let e = over_by seats low begin (begin + n) h.bits h.held h.place (heard_stands seats begin pulses low line n).stands (omega arith) in
-    let same : (reading_of low begin).at ≡ e.0.at = ap (λ (r : Read). r.at) e.1.reads in
-    high_after seats begin pulses low (begin + n) h.bits e.0 h.held line sparse e.1 u (omega (arith, m, same, rounds_are_short.ends low begin))
+-- a line's record, microsecond by microsecond
+abbrev Recorded : Line → ℕ → Type 0
+Recorded low t = (wave : List Stretch) × (since : Option ℕ) × Records low t wave since
+
+recorded : (low : Line) (begin n : ℕ) → ((u : ℕ) → u < begin → low u ≡ false) → Recorded low (begin + n)
+recorded low begin zero h = subst (Recorded low) (let x : begin ≡ begin + zero = omega arith in x) ([], None, record_first low begin h)
+recorded low begin (suc n) h =
+    let r = recorded low begin n h in
+    subst (Recorded low) (let x : begin + n + 1 ≡ begin + suc n = omega arith in x)
+    (wave_after r.0 r.1 (begin + n) (low (begin + n)), low_since r.1 (begin + n) (low (begin + n)), record_step low (begin + n) r.0 r.1 (low (begin + n)) r.2 refl)
 
 none_since : (o : Option ℕ) → is_some o ≡ false → o ≡ None
 none_since None h = refl
@@ -55,8 +47,9 @@ or_no false = refl
 abbrev HasWave : List Seat → ℕ → List Stretch → Type 0
 HasWave seats begin pulses = (ss : List Stretch) × IsWave ss × IsRoundLine seats begin pulses (line_of ss)
 
+-- what is recorded of the line by this time is all of it
 has_wave : (seats : List Seat) (begin : ℕ) (pulses : List Stretch) (n : ℕ) → 470000 ≤ n → AreSparse pulses → HasWave seats begin pulses
-has_wave seats begin pulses n big sparse = (heard.wave, records.order, subst (IsRoundLine seats begin pulses) (fun_ext same) line)
+has_wave seats begin pulses n big sparse = (kept.0, kept.2.order, subst (IsRoundLine seats begin pulses) (fun_ext same) line)
   where
     low : ℕ → Bool
     low = made_line seats begin pulses
@@ -64,28 +57,25 @@ has_wave seats begin pulses n big sparse = (heard.wave, records.order, subst (Is
     line : IsRoundLine seats begin pulses (made_line seats begin pulses)
     line = made_round seats begin pulses
 
-    heard : Heard
-    heard = heard_of seats low begin n
-
-    records : Records low (begin + n) heard.wave heard.since
-    records = (heard_stands seats begin pulses low line n).records
+    kept : Recorded (made_line seats begin pulses) (begin + n)
+    kept = recorded (made_line seats begin pulses) begin n (high_before seats begin pulses (made_line seats begin pulses) (made_round seats begin pulses))
 
     high : (u : ℕ) → begin + 458461 ≤ u → low u ≡ false
-    high = high_late seats begin pulses low n sparse line big
+    high = high_late seats begin pulses low sparse line
 
     was : was_low low (begin + n) ≡ false
     was = ap (λ b. nat_lt 0 (begin + n) && b) (high (begin + n - 1) (omega (arith, big))) ∙ and_no (nat_lt 0 (begin + n))
 
-    none : heard.since ≡ None
-    none = none_since heard.since (sym records.was ∙ was)
+    none : kept.1 ≡ None
+    none = none_since kept.1 (sym kept.2.was ∙ was)
 
-    ended : EndBefore (begin + n) heard.wave
-    ended = subst (λ o. EndBefore (begun o (begin + n)) heard.wave) none records.ends
+    ended : EndBefore (begin + n) kept.0
+    ended = subst (λ o. EndBefore (begun o (begin + n)) kept.0) none kept.2.ends
 
-    same : (u : ℕ) → low u ≡ line_of heard.wave u
+    same : (u : ℕ) → low u ≡ line_of kept.0 u
     same u = elim (cases_lt u (begin + n)) [
-      | inl lt ↦ records.same u lt ∙ ap (λ o. line_of heard.wave u || lows o u) none ∙ or_no (line_of heard.wave u)
-      | inr ge ↦ high u (omega (arith, ge, big)) ∙ sym (no_line (begin + n) u heard.wave ended ge)
+      | inl lt ↦ kept.2.same u lt ∙ ap (λ o. line_of kept.0 u || lows o u) none ∙ or_no (line_of kept.0 u)
+      | inr ge ↦ high u (omega (arith, ge, big)) ∙ sym (no_line (begin + n) u kept.0 ended ge)
     ]
 
 outcome_on : List Seat → ℕ → List Stretch → Outcome

@@ -1,5 +1,5 @@
 -- Before a round begins, and once it is over, the line is high.
-use Rattle.std.proofs.Common.{◌≡◌, ℕ, zero, suc, ◌+◌, ◌-◌, ◌<◌, ◌≤◌, Bool, true, false, not, ◌&&◌, ◌||◌, nat_lt, nat_le, List, ◌⊎◌, inl, inr, Option, Some, None, is_none, refl, arith, ap, ◌∙◌, sym}
+use Rattle.std.proofs.Common.{◌≡◌, ℕ, zero, suc, ◌+◌, ◌-◌, ◌<◌, ◌≤◌, Bool, true, false, not, ◌&&◌, ◌||◌, nat_lt, nat_le, if◌then◌else◌, List, [], ◌∷◌, ◌⊎◌, inl, inr, Option, Some, None, is_none, refl, arith, ap, ◌∙◌, sym}
 use Rattle.std.specs.List.{list_any}
 use Rattle.std.proofs.lemmas.Bool.{cases_lt}
 use Rattle.std.proofs.lemmas.Bool.Decides.{nat_tests}
@@ -8,18 +8,18 @@ use Rattle.cec_wave.specs.Line.{Line, line_of, covers, was_low, is_rise}
 use Rattle.cec_wave.specs.Pulses.{AreSparse, IsNarrow}
 use Rattle.cec_wave.specs.Sender.{sender_stretches}
 use Rattle.cec_frame.specs.Bits.{frame_bits}
-use Rattle.cec_bits.specs.Reading.{End, Known, known_at, reading_of}
+use Rattle.cec_bits.specs.Reading.{End, Known, Read, Slot, known_at, known_slots, reading_of}
 use Rattle.cec_bits.proofs.Causes.{known_start_low, nothing}
+use Rattle.cec_bits.proofs.Ends.{until_by}
 use Rattle.cec_wire.specs.declared.Seat.{Seat}
-use Rattle.cec_wire.specs.declared.hearing.Ended.{Ended}
 use Rattle.cec_bits.specs.Sending.{goes_on, out_slot, sender_pulls}
 use Rattle.cec_wire.specs.Round.{frames_of, is_within, pulse_pulls, is_acknowledged, is_broken, is_pulled, IsRoundLine}
 use Rattle.cec_wire.proofs.Differ.{In, in_any}
 use Rattle.cec_wire.proofs.Lows.{far_apart}
 use Rattle.cec_wire.proofs.Lays.{before_start}
-use Rattle.cec_wire.proofs.Early.{and_left, and_right, or_cases}
+use Rattle.cec_wire.proofs.Early.{AreDone, and_left, and_mid, and_right, no_acks, or_cases}
 use Rattle.cec_wire.proofs.Law.{all_in}
-use Rattle.cec_wire.proofs.Stands.{end_of, AtEnd}
+use Rattle.cec_wire.proofs.Spans.{AreReported, reading_spans}
 
 -- ---- before the round
 
@@ -51,54 +51,55 @@ high_before seats begin pulses low line u l = by_low (low u) refl
     by_low false e = e
     by_low true e = absurd (none_of (sym (ap (λ (n : Known). is_pulled seats begin pulses (was_low low u) n u) k) ∙ sym (line u) ∙ e))
 
--- so the line does not rise as the round begins
-pub no_rise : (seats : List Seat) (begin : ℕ) (pulses : List Stretch) (low : Line) → IsRoundLine seats begin pulses low → (t : ℕ) → t ≡ begin → is_rise low t ≡ false
-no_rise seats begin pulses low line zero e = and_no (not (low zero))
-  where
-    and_no : (b : Bool) → (b && false) ≡ false
-    and_no true = refl
-    and_no false = refl
-no_rise seats begin pulses low line (suc t) e =
-    let h : low (suc t - 1) ≡ false = high_before seats begin pulses low line (suc t - 1) (omega arith) in
-    let p : nat_lt 0 (suc t) ≡ true = grind (arith, nat_tests) in
-    ap (λ b. not (low (suc t)) && (b && low (suc t - 1))) p ∙ ap (λ b. not (low (suc t)) && (true && b)) h ∙ and_no (not (low (suc t)))
-  where
-    and_no : (b : Bool) → (b && false) ≡ false
-    and_no true = refl
-    and_no false = refl
-
 -- ---- after it
 
+abbrev end_of : Read → End
+end_of r = record { ending = r.ending; at = r.at; until = r.until }
+
+-- a pulse that lasts at u, of whose begin this is so
 abbrev pub PulseOver : List Stretch → ℕ → (ℕ → Type 0) → Type 0
 PulseOver pulses u P = (p : Stretch) × In p pulses × (covers p u ≡ true) × P p.from
 
+slots_done : (until u : ℕ) (ss : List Slot) → AreReported until ss → until + 1500 ≤ u → AreDone u (known_slots u ss)
+slots_done until u [] d l = tt
+slots_done until u (s ∷ ss) d l = rw (let f : nat_lt s.fall u ≡ true = grind (arith, nat_tests, d.0) in f) (omega (arith, d.0, l), slots_done until u ss d.2 l)
+
+-- 3,600 after a reading's ending nobody acknowledges any more, and nobody answers a fall too early
+let_go : (seats : List Seat) (low : Line) (begin u : ℕ) → (reading_of low begin).at + 3600 ≤ u
+    → (is_acknowledged seats (known_at u (reading_of low begin)) u || is_broken seats (known_at u (reading_of low begin)) u (Some (end_of (reading_of low begin)))) ≡ false
+let_go seats low begin u l =
+    let acks : is_acknowledged seats (known_at u (reading_of low begin)) u ≡ false = no_acks seats (known_at u (reading_of low begin)) u (known_slots u (reading_of low begin).slots) 1
+    (slots_done (reading_of low begin).until u (reading_of low begin).slots (reading_spans low begin).reported (omega (arith, l, until_by low begin))) in
+    let late : nat_lt u ((reading_of low begin).at + 3600) ≡ false = grind (arith, nat_tests) in
+    rw acks (and_mid _ (nat_lt u ((reading_of low begin).at + 3600)) _ late)
+
 -- 3,600 after the ending only a pulse pulls: one that the round took, or one that touches a low line
-pulse_only : (seats : List Seat) (begin : ℕ) (pulses : List Stretch) (low : Line) (t : ℕ) (bits : List Bool) (e : Ended) (held : ℕ) → IsRoundLine seats begin pulses low → AtEnd seats low begin t bits e held
-    → (u : ℕ) → e.at + 3600 ≤ u → low u ≡ true → PulseOver pulses u (λ from. (from ≤ e.until) ⊎ (was_low low u ≡ true))
-pulse_only seats begin pulses low t bits e held line s u l h =
-    elim (or_cases (list_any (pulse_pulls begin (Some (end_of e)) (was_low low u) u) pulses) _ made) [
-      | inl a ↦ (let r = in_any (pulse_pulls begin (Some (end_of e)) (was_low low u) u) pulses a in
+pub pulse_only : (seats : List Seat) (begin : ℕ) (pulses : List Stretch) (low : Line) → IsRoundLine seats begin pulses low
+    → (u : ℕ) → (reading_of low begin).at + 3600 ≤ u → low u ≡ true → PulseOver pulses u (λ from. (from ≤ (reading_of low begin).until) ⊎ (was_low low u ≡ true))
+pulse_only seats begin pulses low line u l h =
+    elim (or_cases (list_any (pulse_pulls begin (Some e) (was_low low u) u) pulses) _ made) [
+      | inl a ↦ (let r = in_any (pulse_pulls begin (Some e) (was_low low u) u) pulses a in
           (r.0, r.1, and_left (covers r.0 u) _ r.2, taken r.0 (or_cases (nat_le r.0.from e.until) (was_low low u) (and_right (nat_le begin r.0.from) _ (and_right (covers r.0 u) _ r.2)))))
-      | inr b ↦ elim (or_cases (list_any (sender_pulls begin k u) (frames_of seats) && (is_within (Some (end_of e)) u || was_low low u)) _ b) [
+      | inr b ↦ elim (or_cases (list_any (sender_pulls begin k u) (frames_of seats) && (is_within (Some e) u || was_low low u)) _ b) [
         | inl a ↦ (let r = in_any (sender_pulls begin k u) (frames_of seats) (and_left (list_any (sender_pulls begin k u) (frames_of seats)) _ a) in
-            absurd (stopped (sym (ap (λ (n : Option End). goes_on n u) (ap (λ (n : Known). n.ended) knows)) ∙ and_right (is_none (out_slot k (frame_bits r.0))) (goes_on k.ended u) (and_right (line_of (sender_stretches begin (frame_bits r.0)) u) _ r.2))))
-        | inr a ↦ absurd (let_go (sym (s.holds u past) ∙ a))
+            absurd (stopped (sym (ap (λ (n : Option End). goes_on n u) ended) ∙ and_right (is_none (out_slot k (frame_bits r.0))) (goes_on k.ended u) (and_right (line_of (sender_stretches begin (frame_bits r.0)) u) _ r.2))))
+        | inr a ↦ (let no : true ≡ false = sym a ∙ let_go seats low begin u l in cc)
       ]
     ]
   where
     k : Known
     k = known_at u (reading_of low begin)
 
-    past : e.until < u
-    past = omega (arith, s.later)
+    e : End
+    e = end_of (reading_of low begin)
 
-    knows : known_at u (reading_of low begin) ≡ record { slots = s.zs; ended = Some (end_of e) }
-    knows = s.knows u past
+    ended : k.ended ≡ Some e
+    ended = ap (λ b. let o : Option End = if b then Some (end_of (reading_of low begin)) else None in o) (let x : nat_lt (reading_of low begin).until u ≡ true = (let past = until_by low begin in grind (arith, nat_tests)) in x)
 
-    made : (list_any (pulse_pulls begin (Some (end_of e)) (was_low low u) u) pulses
-        || ((list_any (sender_pulls begin k u) (frames_of seats) && (is_within (Some (end_of e)) u || was_low low u)) || (is_acknowledged seats k u || is_broken seats k u k.ended))) ≡ true
+    made : (list_any (pulse_pulls begin (Some e) (was_low low u) u) pulses
+        || ((list_any (sender_pulls begin k u) (frames_of seats) && (is_within (Some e) u || was_low low u)) || (is_acknowledged seats k u || is_broken seats k u (Some e)))) ≡ true
     made = sym (ap (λ (n : Option End). list_any (pulse_pulls begin n (was_low low u) u) pulses
-        || ((list_any (sender_pulls begin k u) (frames_of seats) && (is_within n u || was_low low u)) || (is_acknowledged seats k u || is_broken seats k u k.ended))) (ap (λ (n : Known). n.ended) knows))
+        || ((list_any (sender_pulls begin k u) (frames_of seats) && (is_within n u || was_low low u)) || (is_acknowledged seats k u || is_broken seats k u n))) ended)
         ∙ sym (line u) ∙ h
 
     taken : (p : Stretch) → (nat_le p.from e.until ≡ true) ⊎ (was_low low u ≡ true) → (p.from ≤ e.until) ⊎ (was_low low u ≡ true)
@@ -107,9 +108,6 @@ pulse_only seats begin pulses low t bits e held line s u l h =
 
     stopped : nat_le u e.at ≡ true → ⊥
     stopped g = let x : u ≤ e.at = grind (arith, nat_tests) in omega arith
-
-    let_go : nat_lt u held ≡ true → ⊥
-    let_go g = let x : u < held = grind (arith, nat_tests) in omega (arith, s.brief)
 
 was_before : (low : Line) (u : ℕ) → was_low low u ≡ true → low (u - 1) ≡ true
 was_before low u h = and_right (nat_lt 0 u) (low (u - 1)) h
@@ -127,31 +125,34 @@ meet pulses sparse p q i j u c d l =
     omega (arith, far_apart pulses sparse.far sparse.narrow q p j i l, n.1, bounds p u c, bounds q (u - 1) d)
 
 -- such a pulse began by then
-pulse_held : (seats : List Seat) (begin : ℕ) (pulses : List Stretch) (low : Line) (t : ℕ) (bits : List Bool) (e : Ended) (held : ℕ) → IsRoundLine seats begin pulses low → AreSparse pulses → AtEnd seats low begin t bits e held
-    → (n : ℕ) → low (e.at + 3600 + n) ≡ true → PulseOver pulses (e.at + 3600 + n) (λ from. from ≤ e.at + 3600)
-pulse_held seats begin pulses low t bits e held line sparse s zero h =
-    let p = pulse_only seats begin pulses low t bits e held line s (e.at + 3600 + zero) (omega arith) h in
-    (p.0, p.1, p.2, omega (arith, bounds p.0 (e.at + 3600 + zero) p.2))
-pulse_held seats begin pulses low t bits e held line sparse s (suc n) h =
-    let u : ℕ = e.at + 3600 + suc n in
-    let p = pulse_only seats begin pulses low t bits e held line s (e.at + 3600 + suc n) (omega arith) h in
-    elim (cases_lt (e.at + 3600) p.0.from) [
+pulse_held : (seats : List Seat) (begin : ℕ) (pulses : List Stretch) (low : Line) (at : ℕ) → IsRoundLine seats begin pulses low → AreSparse pulses → (reading_of low begin).at ≡ at
+    → (n : ℕ) → low (at + 3600 + n) ≡ true → PulseOver pulses (at + 3600 + n) (λ from. from ≤ at + 3600)
+pulse_held seats begin pulses low at line sparse same zero h =
+    let p = pulse_only seats begin pulses low line (at + 3600 + zero) (omega (arith, same)) h in
+    (p.0, p.1, p.2, omega (arith, bounds p.0 (at + 3600 + zero) p.2))
+pulse_held seats begin pulses low at line sparse same (suc n) h =
+    let p = pulse_only seats begin pulses low line (at + 3600 + suc n) (omega (arith, same)) h in
+    elim (cases_lt (at + 3600) p.0.from) [
       | inr le ↦ (p.0, p.1, p.2, le)
       | inl late ↦ elim p.3 [
-        | inl a ↦ absurd (omega (arith, a, s.later))
-        | inr w ↦ (let before : low (e.at + 3600 + n) ≡ true = ap low (let x : e.at + 3600 + n ≡ e.at + 3600 + suc n - 1 = omega arith in x) ∙ was_before low (e.at + 3600 + suc n) w in
-            let q = pulse_held seats begin pulses low t bits e held line sparse s n before in
-            absurd (meet pulses sparse p.0 q.0 p.1 q.1 (e.at + 3600 + suc n) p.2 (ap (covers q.0) (let x : e.at + 3600 + suc n - 1 ≡ e.at + 3600 + n = omega arith in x) ∙ q.2) (omega (arith, q.3, late))))
+        | inl a ↦ absurd (omega (arith, a, until_by low begin, same, late))
+        | inr w ↦ (let before : low (at + 3600 + n) ≡ true = ap low (let x : at + 3600 + n ≡ at + 3600 + suc n - 1 = omega arith in x) ∙ was_before low (at + 3600 + suc n) w in
+            let q = pulse_held seats begin pulses low at line sparse same n before in
+            absurd (meet pulses sparse p.0 q.0 p.1 q.1 (at + 3600 + suc n) p.2 (ap (covers q.0) (let x : at + 3600 + suc n - 1 ≡ at + 3600 + n = omega arith in x) ∙ q.2) (omega (arith, q.3, late))))
       ]
     ]
 
-pub high_after : (seats : List Seat) (begin : ℕ) (pulses : List Stretch) (low : Line) (t : ℕ) (bits : List Bool) (e : Ended) (held : ℕ) → IsRoundLine seats begin pulses low → AreSparse pulses → AtEnd seats low begin t bits e held
-    → (u : ℕ) → e.at + 13600 ≤ u → low u ≡ false
-high_after seats begin pulses low t bits e held line sparse s u l = by_low (low u) refl
+-- and 13,600 after it the line is high, where pulses are sparse
+pub high_after : (seats : List Seat) (begin : ℕ) (pulses : List Stretch) (low : Line) → IsRoundLine seats begin pulses low → AreSparse pulses
+    → (u : ℕ) → (reading_of low begin).at + 13600 ≤ u → low u ≡ false
+high_after seats begin pulses low line sparse u l = by_low (low u) refl
   where
+    at : ℕ
+    at = (reading_of low begin).at
+
     by_low : (b : Bool) → low u ≡ b → low u ≡ false
     by_low false h = h
     by_low true h =
-        let p = pulse_held seats begin pulses low t bits e held line sparse s (u - (e.at + 3600)) (ap low (let x : e.at + 3600 + (u - (e.at + 3600)) ≡ u = omega arith in x) ∙ h) in
+        let p = pulse_held seats begin pulses low at line sparse refl (u - (at + 3600)) (ap low (let x : at + 3600 + (u - (at + 3600)) ≡ u = omega arith in x) ∙ h) in
         let n : IsNarrow p.0 = all_in IsNarrow pulses sparse.narrow p.0 p.1 in
-        absurd (omega (arith, n.1, p.3, bounds p.0 (e.at + 3600 + (u - (e.at + 3600))) p.2))
+        absurd (omega (arith, n.1, p.3, bounds p.0 (at + 3600 + (u - (at + 3600))) p.2))

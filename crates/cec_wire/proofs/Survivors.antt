@@ -8,10 +8,9 @@ use Rattle.cec_wave.specs.Line.{Line}
 use Rattle.cec_frame.specs.Bits.{frame_bits}
 use Rattle.cec_frame.specs.declared.Ending.TheVariants.{Complete}
 use Rattle.cec_frame.proofs.Slots.{length-frame_bits}
-use Rattle.cec_bits.specs.declared.After.{After}
-use Rattle.cec_bits.specs.declared.After.TheVariants.{Next, Ends}
+use Rattle.cec_bits.specs.Reading.After.{Next, Ends}
 use Rattle.cec_bits.specs.Windows.{sample_at}
-use Rattle.cec_bits.specs.Reading.{bits_of, next_fall, reading_of, read_start, read_slots, read_on, after_slot, last_ending, sample, bit_sampled_at, start_of}
+use Rattle.cec_bits.specs.Reading.{bits_of, next_fall, reading_of, read_start, read_slots, read_on, after_slot, last_ending, sample, bit_sampled_at, start_of, After}
 use Rattle.cec_bits.specs.Sending.{bit_read, destination, is_whole, is_out_by, out_by}
 use Rattle.cec_wire.specs.Round.{all_known}
 use Rattle.cec_wire.specs.Contend.{CompleteIsSurvivors, HasBits, Stays, leaves}

@@ -7,9 +7,8 @@ use Rattle.std.proofs.lemmas.Bool.{cases_lt}
 use Rattle.std.proofs.lemmas.Bool.Decides.{nat_tests}
 use Rattle.cec_wave.specs.Line.{Line, covers, line_of}
 use Rattle.cec_frame.specs.Bits.{frame_bits}
-use Rattle.cec_bits.specs.declared.After.{After}
-use Rattle.cec_bits.specs.declared.After.TheVariants.{Next, Ends}
-use Rattle.cec_bits.specs.Reading.{Known, Slot, known_at, known_slot, known_slots, reading_of, read_start, read_slots, read_on, after_slot, last_ending, bit_sampled_at, start_of}
+use Rattle.cec_bits.specs.Reading.After.{Next, Ends}
+use Rattle.cec_bits.specs.Reading.{Known, Slot, known_at, known_slot, known_slots, reading_of, read_start, read_slots, read_on, after_slot, last_ending, bit_sampled_at, start_of, After}
 use Rattle.cec_bits.specs.Sending.{bit_read, destination, known_bits, is_whole, is_out_by}
 use Rattle.cec_wire.specs.declared.Seat.{Seat}
 use Rattle.cec_wire.specs.declared.Outcome.{Outcome}

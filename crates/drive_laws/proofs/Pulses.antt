@@ -19,7 +19,7 @@ use Rattle.cec_wire.proofs.Early.{or_cases, and_left, and_right}
 use Rattle.cec_wire.proofs.Lasting.{rest_past, rest_rises}
 use Rattle.cec_wire.proofs.Law.{all_in}
 use Rattle.cec_wire.proofs.OneOutcome.{covers_own}
-use Rattle.cec_wire.proofs.Wakes.{any_agree_in}
+use Rattle.cec_wire.proofs.Differ.{any_agree_in}
 use Rattle.cec_drives.specs.Drives.{pulse_line}
 use Rattle.drive_laws.proofs.Acks.{both_ways}
 

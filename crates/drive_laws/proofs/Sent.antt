@@ -6,11 +6,10 @@ use mathlib.Core.Bool.{beq}
 use Rattle.std.proofs.lemmas.Bool.{cases_lt}
 use Rattle.std.proofs.lemmas.Bool.Decides.{nat_tests}
 use Rattle.cec_wave.specs.Line.{Line}
-use Rattle.cec_bits.specs.declared.After.{After}
-use Rattle.cec_bits.specs.declared.After.TheVariants.{Next, Ends}
+use Rattle.cec_bits.specs.Reading.After.{Next, Ends}
 use Rattle.cec_frame.specs.declared.Ending.{Ending}
 use Rattle.cec_frame.specs.declared.Ending.TheVariants.{Complete, Short, Silent, BadStart, Long, Open}
-use Rattle.cec_bits.specs.Reading.{after_fall, after_last, last_heard, next_fall, sample, Read, Known, Slot, known_at, known_slots, reading_of, read_start, read_slots, read_on, after_slot, last_ending, bit_sampled_at, start_of, bits_of}
+use Rattle.cec_bits.specs.Reading.{after_fall, after_last, last_heard, next_fall, sample, Read, Known, Slot, known_at, known_slots, reading_of, read_start, read_slots, read_on, after_slot, last_ending, bit_sampled_at, start_of, bits_of, After}
 use Rattle.cec_bits.specs.Sending.{bit_read, destination, known_bits, is_whole, has_all, is_out_by, out_by, out_slot, goes_on}
 use Rattle.cec_bits.proofs.Ends.{until_by}
 use Rattle.cec_wire.specs.Round.{all_known, is_not_before}

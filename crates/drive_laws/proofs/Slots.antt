@@ -8,9 +8,8 @@ use Rattle.cec_wave.specs.declared.Stretch.{Stretch}
 use Rattle.cec_wave.specs.Line.{Line, is_fall, is_rise, line_of, IsWaveFrom}
 use Rattle.cec_frame.specs.declared.Ending.{Ending}
 use Rattle.cec_frame.specs.declared.Ending.TheVariants.{Short}
-use Rattle.cec_bits.specs.declared.After.{After}
-use Rattle.cec_bits.specs.declared.After.TheVariants.{Next, Ends}
-use Rattle.cec_bits.specs.Reading.{Slot, reading_of, read_start, read_slots, read_on, start_of, start_rise, start_fall, next_rise, next_fall, after_slot, after_fall, after_last, last_ending, bit_sampled_at}
+use Rattle.cec_bits.specs.Reading.After.{Next, Ends}
+use Rattle.cec_bits.specs.Reading.{Slot, reading_of, read_start, read_slots, read_on, start_of, start_rise, start_fall, next_rise, next_fall, after_slot, after_fall, after_last, last_ending, bit_sampled_at, After}
 use Rattle.cec_bits.proofs.Causes.{not_over}
 use Rattle.cec_bits.proofs.Ends.{slots_until}
 use Rattle.cec_bits.proofs.Search.{Found, found_first, found_none}

@@ -12,9 +12,8 @@ use Rattle.cec_frame.specs.Bits.{frame_bits, least_among}
 use Rattle.cec_frame.specs.declared.Ending.{Ending}
 use Rattle.cec_frame.specs.declared.Ending.TheVariants.{Complete, Short, Silent, BadStart, Long, Open}
 use Rattle.cec_frame.proofs.Slots.{length-frame_bits}
-use Rattle.cec_bits.specs.declared.After.{After}
-use Rattle.cec_bits.specs.declared.After.TheVariants.{Next, Ends}
-use Rattle.cec_bits.specs.Reading.{next_fall, next_rise, Read, Slot, known_at, reading_of, read_slots, read_on, read_start, after_slot, after_fall, after_last, last_ending, last_heard, bit_sampled_at, start_of, start_fall, bits_of}
+use Rattle.cec_bits.specs.Reading.After.{Next, Ends}
+use Rattle.cec_bits.specs.Reading.{next_fall, next_rise, Read, Slot, known_at, reading_of, read_slots, read_on, read_start, after_slot, after_fall, after_last, last_ending, last_heard, bit_sampled_at, start_of, start_fall, bits_of, After}
 use Rattle.cec_bits.proofs.Search.{first_in_some, found_first, found_none}
 use Rattle.cec_bits.proofs.Causes.{nothing, known_start_low, known_start_high, start_risen}
 use Rattle.cec_wire.specs.declared.Seat.{Seat}

@@ -12,7 +12,7 @@ use Rattle.cec_frame.specs.Bits.{frame_bits, least_among}
 use Rattle.cec_frame.specs.declared.Ending.{Ending}
 use Rattle.cec_frame.specs.declared.Ending.TheVariants.{Complete, Short, Silent, BadStart, Long, Open}
 use Rattle.cec_frame.proofs.Slots.{ack_slot}
-use Rattle.cec_bits.specs.declared.After.TheVariants.{Ends}
+use Rattle.cec_bits.specs.Reading.After.{Ends}
 use Rattle.cec_bits.specs.Reading.{next_fall, Slot, End, Known, known_at, known_slot, reading_of, read_slots, after_slot, after_last, last_ending, last_heard, bit_sampled_at}
 use Rattle.cec_bits.specs.Sending.{bit_read, out_slot, sender_pulls, goes_on}
 use Rattle.cec_bits.proofs.Search.{first_in_none}

@@ -1,13 +1,8 @@
 //! Worked lines: what is laid, what is read, and what receivers and frames tell.
-ghost use Rattle.std.specs.Prelude.{IsTrue};
-ghost use Rattle.cec_wave.specs.Line.{IsWave};
-
 use crate::frames::{order_text, part_text, received_text};
-use crate::receivers::{last_text, standing_text};
+use crate::receivers::{last_text, read_text, standing_text};
 use crate::senders::{pull_text, state_text};
-use crate::words::{bits_of, bits_text, is_reported, number, stretches_of};
-use cec_bits::read_line;
-use cec_frame::Reading;
+use crate::words::{bits_of, is_reported, number, stretches_of};
 use cec_wave::{Pulses, Stretch, Wave, lay};
 use std::process::Abort;
 
@@ -105,30 +100,6 @@ pulls 16600 short@16600 => true Some(16601)
 pulls 16601 short@16600 => false None
 ";
 
-/// Whether one to three stretches stand in order, with a gap between each two.
-fn is_line(line: &[Stretch]) -> bool
-    ensures { IsTrue result → IsWave line.now }
-{
-    match line {
-        [a] => a.from < a.to,
-        [a, b] => a.from < a.to && a.to < b.from && b.from < b.to,
-        [a, b, c] => {
-            a.from < a.to && a.to < b.from && b.from < b.to && b.to < c.from && c.from < c.to
-        }
-        _ => false,
-    }
-}
-
-/// What is read of stretches from the first one's fall on.
-fn reading_of(line: &[Stretch]) -> Option<Reading> {
-    let begin = line.first()?.from;
-    if begin <= 2_000_000_000_000 && is_line(line) {
-        Some(read_line(line, begin))
-    } else {
-        None
-    }
-}
-
 /// What a sender of such bits pulls, as `12000:01`.
 pub(crate) fn laid(rt: &impl Abort, word: &str) -> Wave<161> {
     let (start, bits) = word.split_once(':').expect(rt, "bits");
@@ -165,27 +136,6 @@ fn crowd_text(rt: &(impl Abort + AllocGlobal), words: &str) -> String {
         Err(error) => format!(in rt.alloc(); "{error:?}"),
     };
     text.expect(rt, "a text")
-}
-
-/// What is read of what a sender pulls.
-fn reading_of_sender(rt: &impl Abort, word: &str) -> Reading {
-    let (start, _bits) = word.split_once(':').expect(rt, "bits");
-    let start = u64::from(number(rt, start));
-    read_line(laid(rt, word).as_slice(), start)
-}
-
-fn reading_of_words(rt: &impl Abort, words: &str) -> Reading {
-    if words.contains(':') {
-        return reading_of_sender(rt, words);
-    }
-    reading_of(&stretches_of(rt, words)).expect(rt, "a line")
-}
-
-/// When and how a reading ends, and its bits.
-fn read_text(rt: &(impl Abort + AllocGlobal), words: &str) -> String {
-    let reading = reading_of_words(rt, words);
-    let bits = bits_text(rt, &reading.bits);
-    format!(in rt.alloc(); "{} {:?} [{bits}]", reading.at, reading.ending).expect(rt, "a text")
 }
 
 /// What is reported of what is asked.

@@ -1,14 +1,17 @@
 //! Receivers that hear a line from edge to edge.
 use crate::lines::laid;
-use crate::words::number;
+use crate::words::{bits_text, number, stretches_of};
+use arrayvec::ArrayVec;
 use cec_bits::{Receiver, Told};
+use cec_frame::Ending;
 use cec_wave::Stretch;
 use std::process::Abort;
 
 /// No line of these tests goes on longer.
-const END: u64 = 1_000_000;
+const END: u64 = 2_000_000;
 
-/// A receiver that is told edges, whether the line is low, how often something was told, and what last, and when.
+/// A receiver that is told edges, whether the line is low, how often something was told, and what last, and when; and the
+/// bits of its first reading, and when and how that ended.
 #[derive(Drop)]
 struct Listener {
     receiver: Receiver,
@@ -16,6 +19,8 @@ struct Listener {
     count: u32,
     at: u64,
     reported: Told,
+    bits: ArrayVec<bool, 160>,
+    ended: Option<(u64, Ending)>,
 }
 
 impl Listener {
@@ -26,6 +31,32 @@ impl Listener {
             count: 0,
             at: 0,
             reported: Told::Nothing,
+            bits: ArrayVec::new(),
+            ended: None,
+        }
+    }
+
+    fn end(&mut self, t: u64, ending: Ending) {
+        if self.ended.is_none() {
+            self.ended = Some((t, ending));
+        }
+    }
+
+    fn read(&mut self, bit: bool) {
+        if self.ended.is_none() {
+            let _ = self.bits.try_push(bit);
+        }
+    }
+
+    fn take_reported(&mut self, t: u64, reported: Told) {
+        match reported {
+            Told::Nothing => {}
+            Told::Bit(_, bit) => self.read(bit),
+            Told::Last(bit, ending) => {
+                self.read(bit);
+                self.end(t, ending);
+            }
+            Told::Ended(ending) => self.end(t, ending),
         }
     }
 
@@ -37,6 +68,7 @@ impl Listener {
                     self.count = self.count.saturating_add(1);
                     self.at = t;
                     self.reported = reported;
+                    self.take_reported(t, reported);
                 }
             }
         }
@@ -100,6 +132,20 @@ pub(crate) fn last_text(rt: &(impl Abort + AllocGlobal), words: &str) -> String 
     let mut listener = listener_of(rt, words);
     listener.wait(END);
     format!(in rt.alloc(); "{} {:?}", listener.at, listener.reported).expect(rt, "a text")
+}
+
+/// When and how the first reading ends of a line of these stretches, or of what a sender pulls, and its bits.
+pub(crate) fn read_text(rt: &(impl Abort + AllocGlobal), words: &str) -> String {
+    let mut listener = Listener::new();
+    if words.contains(':') {
+        listener.hear_line(laid(rt, words).as_slice());
+    } else {
+        listener.hear_line(&stretches_of(rt, words));
+    }
+    listener.wait(END);
+    let (at, ending) = listener.ended.expect(rt, "an ending");
+    let bits = bits_text(rt, &listener.bits);
+    format!(in rt.alloc(); "{at} {ending:?} [{bits}]").expect(rt, "a text")
 }
 
 /// Where it stands before it wakes again, when that is, and how often something was told.

@@ -4,7 +4,8 @@ ghost use Rattle.cec_bits.specs.Parts.{ArePartsOf, number_of};
 ghost use Rattle.cec_bits.specs.declared.receiver.ReceiverState.{ReceiverState as PlaceValue};
 ghost use Rattle.cec_bits.specs.declared.receiver.Receiver.{Receiver as ReceiverValue};
 
-use crate::receiver::{Receiver, ReceiverState, copied_bits};
+use crate::reading::copied_bits;
+use crate::receiver::{Receiver, ReceiverState};
 use cec_frame::MOST_BITS;
 use cec_wave::LATEST_HEARD;
 

@@ -11,7 +11,7 @@ pub is_pulled-is_low-requires : goal.is_pulled-is_low-requires
 is_pulled-is_low-requires c =
     let w = c.refresh.new.self in
     let t : w.time ≡ c.args.self.now.time = ap (λ (x : EdgeWire). x.time) c.refresh.ensures.same in
-    sym (c.refresh.ensures.kept.low w.time (omega (arith, t, c.refresh.ensures.from)) (omega (arith, t, c.refresh.ensures.later)))
+    sym (c.refresh.ensures.kept.low w.time (omega arith) (omega (arith, t, c.refresh.ensures.later)))
 
 pub tell-requires-clause-begun : goal.tell-requires-clause-begun
 tell-requires-clause-begun c = (c.requires.begun.0, refreshed c.requires.begun.0 c.args.self.now c.refresh.new.self c.refresh.ensures.same c.refresh.ensures.kept c.requires.begun.1)
@@ -34,7 +34,7 @@ returns-clause-stands c = λ past b.
     let told = c.tell.ensures.stands past first in
     let same : v.recorder ≡ w.recorder = ap (λ (x : EdgeWire). x.recorder) c.tell.ensures.same in (
       subst (λ (x : EdgeWire). IsBegunWith past (record x { time = x.time + 1; recorder = c.hear.new.self })) (sym c.tell.ensures.same)
-          (heard_on past w v c.is_pulled-is_low.result c.hear.new.self first (let t : w.time ≡ c.args.self.now.time = ap (λ (x : EdgeWire). x.time) c.refresh.ensures.same in omega (arith, t, c.requires.early)) c.tell.ensures.kept c.tell.ensures.level told
+          (heard_on past w v c.is_pulled-is_low.result c.hear.new.self first (let t : w.time ≡ c.args.self.now.time = ap (λ (x : EdgeWire). x.time) c.refresh.ensures.same in omega (arith, t, c.requires.early)) c.tell.ensures.kept (ap (λ (x : EdgeWire). x.places) c.tell.ensures.same) (ap (λ (x : EdgeWire). x.time) c.tell.ensures.same) c.tell.ensures.level told
           (c.hear.ensures.wave ∙ ap (λ (x : Recorder). wave_after x.wave x.low_since w.time c.is_pulled-is_low.result) same)
           (c.hear.ensures.since ∙ ap (λ (x : Recorder). low_since x.low_since w.time c.is_pulled-is_low.result) same)),
       subst (λ (x : EdgeWire). EachLine x.seats.items x.begin past (x.time + 1) (λ low. low c.args.self.now.time ≡ pulls_in c.args.self.now)) (sym c.tell.ensures.same)

@@ -1,16 +1,20 @@
-use Rattle.std.proofs.Common.{List, refl, sym, subst}
+use Rattle.std.proofs.Common.{List, refl, sym, subst, ◌∙◌}
 use Rattle.cec_wire.specs.declared.Seat.{Seat}
 use Rattle.cec_one_wire.specs.Listening.{AreBegun}
 use Rattle.cec_one_wire.proofs.Fresh.{begins_fresh}
 use Rattle.cec_one_wire.proofs.Idling.{idle_on_high}
-use Rattle.cec_one_wire.proofs.Kept.{kept_made}
+use Rattle.cec_one_wire.proofs.Kept.{kept_made, stand_in}
 use Rattle.cec_one_wire.proofs.edge_wire.EdgeWire.started.Goals as goal
+
+pub pull_at-pull-requires-clause-places : goal.pull_at-pull-requires-clause-places
+pull_at-pull-requires-clause-places c = stand_in c.places_of-places.result c.as_slice-2.result.now c.as_slice.result.now (c.as_slice.ensures.value ∙ sym c.as_slice-2.ensures.value) c.places_of-places.ensures
 
 pub returns-clause-begun : goal.returns-clause-begun
 returns-clause-begun c =
     let e = c.pull_at-pull.ensures in
     let r = c.new.ensures in
-    begins_fresh _ c.requires.early refl c.copied_seats.ensures.sends refl refl (kept_made _ c.as_slice.result.now c.args.start c.as_slice.ensures.value e.from e.low e.near e.lasts)
+    begins_fresh _ c.requires.early refl c.copied_seats.ensures.sends refl refl
+    (kept_made _ c.as_slice-2.result.now c.as_slice-2.ensures.value e.near e.low (stand_in c.places_of-places.result c.senders_of-senders.result.items c.as_slice.result.now c.as_slice.ensures.value c.places_of-places.ensures))
     (record {
       heard = r.rests.0;
       level = (r.rests.1, r.rests.2);
