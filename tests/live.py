@@ -203,6 +203,11 @@ def device_under_test():
     return is_right('dut.py')
 
 
+def television_under_test():
+    """A television from outside takes address 0, is woken, asks, answers and sends all to sleep."""
+    return is_right('television.py')
+
+
 def claimed_twice():
     """A device from outside claims an address that another one holds."""
     return is_right('claims.py')
@@ -222,7 +227,7 @@ def main():
         sys.exit('live: no program at %s: start ./hdminet once' % PROGRAM)
     signal.alarm(600)
     passed = failed = 0
-    for test in [answers_at_once, ends_early, has_faults, closed, examples_cut, pulses_let_go, edge_by_edge, driver, device_under_test, claimed_twice, shell]:
+    for test in [answers_at_once, ends_early, has_faults, closed, examples_cut, pulses_let_go, edge_by_edge, driver, device_under_test, television_under_test, claimed_twice, shell]:
         if test():
             passed += 1
         else:

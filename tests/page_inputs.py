@@ -100,7 +100,7 @@ def random_room():
               "get-menu-language", 'set-osd-string hold "x"', "routing-change 1.0.0.0 2.0.0.0"]
     keys = ["play", "stop", "power", "menu", "eject", "volume-up", "audio on", "arc on", "port 2"]
     names = ["tv"]
-    lines = ["device tv tv 4"]
+    lines = [f"device tv {random.choice(['tv', 'tv', 'outside-tv'])} 4"]
     free = [("tv", port) for port in range(1, 5)]
     plugs = []
     for number in range(random.randint(1, 9)):

@@ -17,6 +17,7 @@ sys.path.insert(0, os.path.join(TOP, "examples/suite"))
 
 from faulty import SLIPS  # noqa: E402
 import faulty_features  # noqa: E402, F401
+import faulty_televisions  # noqa: E402, F401
 from dut import Dut  # noqa: E402
 from emulated import Emulated  # noqa: E402
 from reference import Reference  # noqa: E402
@@ -35,6 +36,7 @@ KNOWN = {
     ("combo", "player"): ([], ["active-woken"]),
     ("amp", "amp"): ([], ["audio-standby"]),
     ("switch", "switch"): ([], []),
+    ("tv", "tv"): ([], []),
 }
 # The frames that were spelled by now; each process has its own.
 FRAMES = runner.Frames(PROGRAM)
@@ -250,7 +252,7 @@ def broken_devices(pool):
         if got.returncode != 1 or "# the device under test: " + fault not in got.stdout or "not ok 1 - osd-name" not in got.stdout:
             print("suite: %s: %s %s" % (command, got.stdout, got.stderr))
             right = False
-    for words in (["--kind", "tv"], ["--kind", "player", "no-such-test"], [], ["--kind", "player", "--port", "5"]):
+    for words in (["--kind", "combo"], ["--kind", "player", "no-such-test"], [], ["--kind", "player", "--port", "5"]):
         right = right and suite_of("true", *words).returncode == 2
     return right and suite_of("/no/such/program", "--kind", "player").returncode == 2
 

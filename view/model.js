@@ -7,6 +7,9 @@ import { addressName } from './words.js';
 
 /* The logical addresses that each kind polls, by unit (docs/behaviour.md). A combo has two units. */
 const POLLS = { __proto__: null, tv: ['0e'], amp: ['5'], player: ['48b'], recorder: ['129'], combo: ['129', '48b'] };
+/* Who is the root of the tree, and who polls no address. */
+const TELEVISIONS = ['tv', 'outside-tv'];
+const SILENT = ['outside', 'outside-tv', 'switch'];
 /* Idle time from which on it is folded, and an attempt is a new frame, in microseconds. */
 const FOLDED_IDLE = 250000;
 const SHORTEST_FOLD = 50000;
@@ -140,7 +143,7 @@ class Tree {
   portsTo(device) {
     const ports = [];
     for (let depth = 0; depth < 16; depth++) {
-      if (this.kinds.get(device) === 'tv') return ports;
+      if (TELEVISIONS.includes(this.kinds.get(device))) return ports;
       const up = this.parents.get(device);
       if (!up) return null;
       ports.unshift(up[1]);
@@ -161,7 +164,7 @@ class Holders {
   /* What a device holds that has just come on the wire. All others poll. */
   atFirst({ name, kind }) {
     if (this.tree && !this.tree.isJoined(name)) return [];
-    if (kind === 'outside' || kind === 'switch') return ['f'];
+    if (SILENT.includes(kind)) return ['f'];
     return this.tree && this.tree.physicalOf(name) === 'f.f.f.f' ? (POLLS[kind] || ['']).map(() => 'f') : [];
   }
   /* Writes a lane's addresses down, where a row has changed them. */

@@ -37,9 +37,9 @@ class DeviceUnderTest:
             if heard or answer.endswith(" idle"):
                 return heard[0] if heard else None
 
-    def claim(self):
+    def claim(self, addresses):
         """Polls each address until nobody acknowledges one, and holds that. Each poll is made once."""
-        for address in PLAYBACK:
+        for address in addresses:
             poll = "%s>%s" % (address, address)
             self.send(poll)
             heard = self.next_round()
@@ -62,7 +62,7 @@ def main():
     room = Room(sys.argv[1], WITH_SEAT)
     dut = DeviceUnderTest(room)
     dut.now = 400000
-    dut.claim()
+    dut.claim(PLAYBACK)
     dut.send("%s>f report-physical-address 2.0.0.0 playback" % dut.address)
     room.ask("at 1000000 send tv 0>%s give-osd-name" % dut.address)
     asked = answered = None
@@ -78,4 +78,5 @@ def main():
     sys.exit(not (in_time and room.is_of_run()))
 
 
-main()
+if __name__ == "__main__":
+    main()

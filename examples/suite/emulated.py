@@ -4,8 +4,9 @@
     tools/suite --dut 'examples/suite/emulated.py release/hdminet' --kind player
     tools/suite --dut 'examples/suite/emulated.py release/hdminet combo' --kind player
 
-The second room has a television, the device `own`, which is emulated, and seats for the rest of the world: `hears` hands it what
-the first room says, and holds the address that a frame comes from, so that an answer is taken; `taken` and `more` hold the addresses that
+The second room has a television, the device `own`, which is emulated (and is the television where one is under test), and seats for
+the rest of the world: `hears` hands it what the first room says, and holds the address that a frame comes from, so that an answer is
+taken, and those of a player and an amplifier where a television has a key; `taken` and `more` hold the addresses that
 were acknowledged in the first room. What `own` says there is said in the first room. No device of the emulator waits for
 anything, so the second room is at rest after each line, and its times are its own."""
 
@@ -18,6 +19,7 @@ from dut import Dut  # noqa: E402
 from room import Room  # noqa: E402
 
 BROADCAST, TELEVISION = 15, 0
+PLAYER_AND_AMPLIFIER = "4+5"
 
 
 class Emulated(Dut):
@@ -47,9 +49,10 @@ class Emulated(Dut):
         """A new room, in which the addresses of `self.taken` are taken. Its device has settled."""
         self.close()
         digits = [digit for digit in "%04x" % self.physical if digit != "0"]
-        lines, above = ["device tv tv 15", "device hears outside 0", "device taken outside 0", "device more outside 0"], "tv"
-        free = [port for port in range(1, 16) if port != int(digits[0], 16)]
-        lines += ["plug hears tv %d" % free[0], "plug taken tv %d" % free[1], "plug more tv %d" % free[2]]
+        above = root = "tv" if digits else "own"
+        lines = ["device %s tv 15" % root, "device hears outside 0", "device taken outside 0", "device more outside 0"]
+        free = [port for port in range(1, 16) if not digits or port != int(digits[0], 16)]
+        lines += ["plug %s %s %d" % (seat, root, port) for seat, port in zip(("hears", "taken", "more"), free)]
         for level, digit in enumerate(digits, 1):
             is_last = level == len(digits)
             name = "own" if is_last else "box%d" % level
@@ -121,13 +124,19 @@ class Emulated(Dut):
             self.room.ask("at %d hold hears %x" % (self.at, initiator))
         self.do("send hears " + self.spell("dis", data.hex()))
 
+    def use(self, line):
+        """A key, whose frames are taken by those that a television speaks to."""
+        if self.room is None:
+            return
+        if self.kind == "tv":
+            self.room.ask("at %d hold hears %s" % (self.at, PLAYER_AND_AMPLIFIER))
+        self.do(line)
+
     def press(self, key):
-        if self.room is not None:
-            self.do("press own " + key)
+        self.use("press own " + key)
 
     def release(self, key):
-        if self.room is not None:
-            self.do("release own " + key)
+        self.use("release own " + key)
 
 
 if __name__ == "__main__":

@@ -1,5 +1,5 @@
 #!/usr/bin/env python3
-"""A player, a recorder, a tuner, an amplifier or a switch that keeps HDMI 1.4, CEC, as a device under test:
+"""A television, a player, a recorder, a tuner, an amplifier or a switch that keeps HDMI 1.4, CEC, as a device under test:
 
     tools/suite --dut examples/suite/reference.py --kind player
 
@@ -10,16 +10,18 @@ from collections import namedtuple
 from dut import Dut
 
 # The logical addresses of each kind in the order in which it polls them (CEC 10.2), and its device type (CEC 17).
-ADDRESSES = {"player": (4, 8, 11), "recorder": (1, 2, 9), "tuner": (3, 6, 7, 10), "amp": (5,), "switch": ()}
-TYPES = {"player": 4, "recorder": 1, "tuner": 3, "amp": 5, "switch": 6}
+ADDRESSES = {"tv": (0, 14), "player": (4, 8, 11), "recorder": (1, 2, 9), "tuner": (3, 6, 7, 10), "amp": (5,), "switch": ()}
+TYPES = {"tv": 0, "player": 4, "recorder": 1, "tuner": 3, "amp": 5, "switch": 6}
 UNREGISTERED = BROADCAST = 15
-TELEVISION = 0
+TELEVISION, AUDIO_SYSTEM = 0, 5
 
 # Times in microseconds: how long it thinks, how often a held key acts, and when a press that is not repeated counts as released (CEC 13.13).
 THINKS, REPEATS, RELEASES = 20_000, 300_000, 550_000
 
 UNRECOGNIZED, WRONG_MODE, INVALID_OPERAND, REFUSED = 0, 1, 3, 4
 DECK_PLAY, DECK_STILL, DECK_FAST, DECK_NO_MEDIUM, DECK_STOP = 0x11, 0x14, 0x17, 0x19, 0x1A
+# Codes of a remote control (CEC table 27), by the words of the keys that a television has for them.
+CODES = {"volume-up": 0x41, "volume-down": 0x42, "mute": 0x43, "play": 0x44, "stop": 0x45, "pause": 0x46}
 MODES = {0x24: DECK_PLAY, 0x25: DECK_STILL, 5: DECK_FAST, 6: DECK_FAST, 7: DECK_FAST, 9: 0x18, 10: 0x18, 11: 0x18}
 CONTROLS = {1: 0x1B, 2: 0x1C, 3: DECK_STOP, 4: DECK_NO_MEDIUM}
 
@@ -27,23 +29,28 @@ CONTROLS = {1: 0x1B, 2: 0x1C, 3: DECK_STOP, 4: DECK_NO_MEDIUM}
 # kind refuses it as unrecognized, as it does what is not here.
 Message = namedtuple("Message", "least way kinds")
 DIRECT, TO_ALL, BOTH = "direct", "to all", "both"
-DECKS, AMP = ("player", "recorder"), ("amp",)
+DECKS, AMP, TV = ("player", "recorder"), ("amp",), ("tv",)
 ALL = tuple(ADDRESSES)
 MESSAGES = {
     0x00: Message(2, DIRECT, ALL),  # Feature Abort
+    0x04: Message(0, DIRECT, TV),  # Image View On
+    0x0D: Message(0, DIRECT, TV),  # Text View On
     0x1A: Message(1, DIRECT, DECKS),  # Give Deck Status
+    0x1B: Message(1, DIRECT, TV),  # Deck Status
     0x32: Message(3, TO_ALL, ALL),  # Set Menu Language
     0x36: Message(0, BOTH, ALL),  # Standby
     0x41: Message(1, DIRECT, DECKS),  # Play
     0x42: Message(1, DIRECT, DECKS),  # Deck Control
-    0x44: Message(1, DIRECT, DECKS + AMP),  # User Control Pressed
-    0x45: Message(0, DIRECT, DECKS + AMP),  # User Control Released
+    0x44: Message(1, DIRECT, DECKS + AMP + TV),  # User Control Pressed
+    0x45: Message(0, DIRECT, DECKS + AMP + TV),  # User Control Released
     0x46: Message(0, DIRECT, ALL),  # Give OSD Name
     0x47: Message(1, DIRECT, ALL),  # Set OSD Name
     0x70: Message(0, DIRECT, AMP),  # System Audio Mode Request
     0x71: Message(0, DIRECT, AMP),  # Give Audio Status
     0x72: Message(1, BOTH, ALL),  # Set System Audio Mode
+    0x7A: Message(1, DIRECT, TV),  # Report Audio Status
     0x7D: Message(0, DIRECT, AMP),  # Give System Audio Mode Status
+    0x7E: Message(1, DIRECT, TV),  # System Audio Mode Status
     0x80: Message(4, TO_ALL, ALL),  # Routing Change
     0x81: Message(2, TO_ALL, ALL),  # Routing Information
     0x82: Message(2, TO_ALL, ALL),  # Active Source
@@ -54,14 +61,19 @@ MESSAGES = {
     0x87: Message(3, TO_ALL, ALL),  # Device Vendor ID
     0x8C: Message(0, DIRECT, ALL),  # Give Device Vendor ID
     0x8D: Message(1, DIRECT, DECKS),  # Menu Request
+    0x8E: Message(1, DIRECT, TV),  # Menu Status
     0x8F: Message(0, DIRECT, ALL),  # Give Device Power Status
     0x90: Message(1, DIRECT, ALL),  # Report Power Status
+    0x91: Message(0, DIRECT, TV),  # Get Menu Language
+    0x9D: Message(2, DIRECT, TV),  # Inactive Source
     0x9E: Message(1, DIRECT, ALL),  # CEC Version
     0x9F: Message(0, DIRECT, ALL),  # Get CEC Version
+    0xC0: Message(0, DIRECT, TV),  # Initiate ARC
     0xC1: Message(0, DIRECT, AMP),  # Report ARC Initiated
     0xC2: Message(0, DIRECT, AMP),  # Report ARC Terminated
     0xC3: Message(0, DIRECT, AMP),  # Request ARC Initiation
     0xC4: Message(0, DIRECT, AMP),  # Request ARC Termination
+    0xC5: Message(0, DIRECT, TV),  # Terminate ARC
     0xFF: Message(0, DIRECT, ALL),  # Abort
 }
 
@@ -164,6 +176,12 @@ class Reference(Dut):
     def on_ff(self, initiator, operands):
         return UNRECOGNIZED
 
+    def on_04(self, initiator, operands):
+        self.on = True
+
+    def on_0d(self, initiator, operands):
+        self.on = True
+
     def on_1a(self, initiator, operands):
         if operands[0] not in (1, 2, 3):
             return INVALID_OPERAND
@@ -206,6 +224,9 @@ class Reference(Dut):
     def on_8f(self, initiator, operands):
         self.say(initiator, 0x90, 0 if self.on else 1)
 
+    def on_91(self, initiator, operands):
+        self.say_all(0x32, *b"eng")
+
     def on_9f(self, initiator, operands):
         self.say(initiator, 0x9E, 5)
 
@@ -215,9 +236,9 @@ class Reference(Dut):
         self.on, self.active, self.menu, self.held, self.notified = False, False, False, None, None
         if self.deck != DECK_NO_MEDIUM:
             self.deck = DECK_STOP
-        if self.audio:
-            self.audio = False
+        if self.audio and self.kind == "amp":
             self.say_all(0x72, 0)
+        self.audio = False
 
     def on_80(self, initiator, operands):
         self.active = False
@@ -308,8 +329,18 @@ class Reference(Dut):
     def on_71(self, initiator, operands):
         self.report_audio(initiator)
 
+    def on_72(self, initiator, operands):
+        if self.kind == "tv":
+            self.audio = operands[0] == 1
+
     def on_7d(self, initiator, operands):
         self.say(initiator, 0x7E, 1 if self.audio else 0)
+
+    def on_c0(self, initiator, operands):
+        self.say(initiator, 0xC1)
+
+    def on_c5(self, initiator, operands):
+        self.say(initiator, 0xC2)
 
     def on_c3(self, initiator, operands):
         if initiator != TELEVISION:
@@ -326,7 +357,9 @@ class Reference(Dut):
     def press(self, key):
         if self.la is None:
             return
-        if key == "play" and self.is_deck():
+        if self.kind == "tv":
+            self.press_of_television(*key.split(" "))
+        elif key == "play" and self.is_deck():
             self.on = self.active = True
             self.say(TELEVISION, 0x04)
             self.say_all(0x82, *self.bytes_of(self.physical))
@@ -346,6 +379,30 @@ class Reference(Dut):
         elif key.startswith("port ") and self.kind == "switch" and self.port != int(key[5:]):
             old, self.port = self.port, int(key[5:])
             self.say_all(0x80, *self.bytes_of(self.below(old)), *self.bytes_of(self.below(self.port)))
+
+    def press_of_television(self, key, *values):
+        if key == "power" and self.on:
+            self.say_all(0x36)
+            self.on_36(TELEVISION, b"")
+        elif key == "power":
+            self.on = True
+        elif key == "watch":
+            self.say_all(0x86, *bytes.fromhex(values[0].replace(".", "")))
+        elif key == "audio":
+            self.say(AUDIO_SYSTEM, 0x70, *(b"\0\0" if values[0] == "on" else b""))
+        elif key == "remote":
+            self.say(int(values[0], 16), 0x44, CODES[values[1]])
+        elif key in CODES and self.audio:
+            self.say(AUDIO_SYSTEM, 0x44, CODES[key])
+
+    def release(self, key):
+        if self.la is None or self.kind != "tv":
+            return
+        key, *values = key.split(" ")
+        if key == "remote":
+            self.say(int(values[0], 16), 0x45)
+        elif key in CODES and self.audio:
+            self.say(AUDIO_SYSTEM, 0x45)
 
 
 if __name__ == "__main__":

@@ -1,5 +1,5 @@
 """Devices with one slip each, which the tests of suite/ have to see. `SLIPS` has them by name, with their kind. Here stand those
-that err in times, addresses, refusals and frames, and in faulty_features.py the others.
+that err in times, addresses, refusals and frames, in faulty_televisions.py televisions, and in faulty_features.py the others.
 
 Each is the device of examples/suite/reference.py but for what stands here; tests/suite/faulty.txt says which tests each fails."""
 

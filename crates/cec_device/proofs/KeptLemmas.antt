@@ -2,7 +2,7 @@
 use Rattle.std.proofs.Common.{◌≡◌, ℕ, ◌+◌, ◌*◌, ◌%◌, ◌/◌, Bool, true, false, not, ◌&&◌, ◌||◌, if◌then◌else◌, nat_lt, List, [], ◌∷◌, length, slice_index, Option, Some, None, ◌⊎◌, inl, inr, refl, sym, subst, ◌∙◌, arith}
 use Rattle.std.proofs.lemmas.Bool.Decides.{nat_tests}
 use Rattle.hdmi_core.specs.declared.kind.Kind.{Kind}
-use Rattle.hdmi_core.specs.declared.kind.Kind.TheVariants.{Tv, Amp, Player, Recorder, Switch, Combo, Outside}
+use Rattle.hdmi_core.specs.declared.kind.Kind.TheVariants.{Tv, Amp, Player, Recorder, Switch, Combo, Outside, OutsideTv}
 use Rattle.cec_device.specs.declared.place.Place.{Place}
 use Rattle.cec_device.specs.declared.place.Place.TheVariants.{Polls}
 use Rattle.cec_feature.specs.Kinds.{addresses, is_in, is_outside, recorders, second_addresses}
@@ -33,6 +33,7 @@ other_unit Player first a h k = cc
 other_unit Amp first a h k = cc
 other_unit Switch first a h k = cc
 other_unit Outside first a h k = cc
+other_unit OutsideTv first a h k = cc
 other_unit Combo first a h k = other_list first a h (players_are a k)
 
 first_not : (b : Bool) → b ≡ false → not (b || (false || false)) ≡ true

@@ -3,7 +3,7 @@ use Rattle.std.proofs.Common.{◌≡◌, ℕ, ◌<◌, ◌==◌, Bool, true, fal
 use Rattle.std.specs.List.{list_all}
 use Rattle.std.proofs.lemmas.Bool.Decides.{nat_tests}
 use Rattle.hdmi_core.specs.declared.kind.Kind.{Kind}
-use Rattle.hdmi_core.specs.declared.kind.Kind.TheVariants.{Tv, Amp, Player, Recorder, Switch, Combo, Outside}
+use Rattle.hdmi_core.specs.declared.kind.Kind.TheVariants.{Tv, Amp, Player, Recorder, Switch, Combo, Outside, OutsideTv}
 use Rattle.hdmi_core.specs.declared.phys.Phys.{Phys}
 use Rattle.cec_device.specs.declared.place.Place.{Place}
 use Rattle.cec_device.specs.declared.place.Place.TheVariants.{Off, Polls, Settled}
@@ -58,6 +58,7 @@ begun_listed Player a h = h
 begun_listed Amp a h = h
 begun_listed Switch a h = h
 begun_listed Outside a h = h
+begun_listed OutsideTv a h = h
 begun_listed Combo a h = both (may_take (addresses Combo) a) true h refl
 
 settled_listed : (kind : Kind) (found : Option ℕ) (a : ℕ) → Found kind found → may_take (list_of kind found) a ≡ true → listed_at kind (settles kind found a) ≡ true
@@ -96,6 +97,7 @@ first_own Amp = refl
 first_own Switch = refl
 first_own Combo = refl
 first_own Outside = refl
+first_own OutsideTv = refl
 
 second_own : (kind : Kind) → list_all (is_in (second_addresses kind)) (second_addresses kind) ≡ true
 second_own Tv = refl
@@ -105,6 +107,7 @@ second_own Amp = refl
 second_own Switch = refl
 second_own Combo = refl
 second_own Outside = refl
+second_own OutsideTv = refl
 
 list_own : (kind : Kind) (found : Option ℕ) → list_all (is_in (list_of kind found)) (list_of kind found) ≡ true
 list_own kind None = first_own kind
@@ -128,6 +131,7 @@ unplaced_listed Amp = refl
 unplaced_listed Switch = refl
 unplaced_listed Combo = refl
 unplaced_listed Outside = refl
+unplaced_listed OutsideTv = refl
 
 start_listed : (kind : Kind) (phys : Phys) → listed_at kind (start_place kind phys) ≡ true
 start_listed kind phys =
@@ -184,6 +188,7 @@ lists_apart Player a h k = cc
 lists_apart Amp a h k = cc
 lists_apart Switch a h k = cc
 lists_apart Outside a h k = cc
+lists_apart OutsideTv a h k = cc
 lists_apart Combo a h k = let e = no_recorder a (players_are a k) in cc
 
 past_two : (place : Place) (unit a : ℕ) → slice_get (addresses_held place) (suc (suc unit)) ≡ Some (Some a) → ⊥

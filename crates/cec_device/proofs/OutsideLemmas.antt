@@ -1,7 +1,7 @@
 -- A device from outside does what it is told, and nothing by itself.
 use Rattle.std.proofs.Common.{◌≡◌, ℕ, ◌==◌, ◌%◌, Bool, true, false, not, ◌&&◌, ◌||◌, if◌then◌else◌, List, [], ◌∷◌, Some, None, refl, sym, ap, subst, ◌∙◌}
 use Rattle.hdmi_core.specs.declared.kind.Kind.{Kind}
-use Rattle.hdmi_core.specs.declared.kind.Kind.TheVariants.{Tv, Amp, Player, Recorder, Switch, Combo, Outside}
+use Rattle.hdmi_core.specs.declared.kind.Kind.TheVariants.{Tv, Amp, Player, Recorder, Switch, Combo, Outside, OutsideTv}
 use Rattle.hdmi_core.specs.declared.phys.Phys.{Phys}
 use Rattle.cec_feature.specs.declared.keys.Key.{Key}
 use Rattle.cec_feature.specs.declared.keys.Key.TheVariants.{Play, Stop, Eject, Load, Menu, Power, Watch, Port, Audio, Arc, Volume, Language, Remote}
@@ -21,14 +21,16 @@ use Rattle.cec_device.specs.Keys.{after_key, keyed_by}
 use Rattle.cec_device.specs.Outside.{after_act, acted_by, OnlyOutside}
 use Rattle.cec_device.proofs.PlaceLemmas.{place_goes_by_fates}
 
-from_outside : (kind : Kind) → is_outside kind ≡ true → kind ≡ Outside
-from_outside Tv e = cc
-from_outside Amp e = cc
-from_outside Player e = cc
-from_outside Recorder e = cc
-from_outside Switch e = cc
-from_outside Combo e = cc
-from_outside Outside e = refl
+-- what holds of both kinds from outside holds of each
+from_outside : (P : Kind → Type 0) → P Outside → P OutsideTv → (kind : Kind) → is_outside kind ≡ true → P kind
+from_outside P p q Tv e = cc
+from_outside P p q Amp e = cc
+from_outside P p q Player e = cc
+from_outside P p q Recorder e = cc
+from_outside P p q Switch e = cc
+from_outside P p q Combo e = cc
+from_outside P p q Outside e = p
+from_outside P p q OutsideTv e = q
 
 -- ---- what it is told
 
@@ -81,43 +83,50 @@ following limit at (header ∷ opcode ∷ operands) d e =
     stays true b x h = refl
     stays false b x h = cc
 
-no_key : (ports : ℕ) (key : Key) → has_key Outside ports key ≡ false
-no_key ports Play = refl
-no_key ports Stop = refl
-no_key ports Eject = refl
-no_key ports Load = refl
-no_key ports Menu = refl
-no_key ports Power = refl
-no_key ports (Watch to) = refl
-no_key ports (Port port) = refl
-no_key ports (Audio on) = refl
-no_key ports (Arc on) = refl
-no_key ports (Volume key) = refl
-no_key ports (Language language) = refl
-no_key ports (Remote to code) = refl
+no_key : (ports : ℕ) (key : Key) → (has_key Outside ports key ≡ false) × (has_key OutsideTv ports key ≡ false)
+no_key ports Play = (refl, refl)
+no_key ports Stop = (refl, refl)
+no_key ports Eject = (refl, refl)
+no_key ports Load = (refl, refl)
+no_key ports Menu = (refl, refl)
+no_key ports Power = (refl, refl)
+no_key ports (Watch to) = (refl, refl)
+no_key ports (Port port) = (refl, refl)
+no_key ports (Audio on) = (refl, refl)
+no_key ports (Arc on) = (refl, refl)
+no_key ports (Volume key) = (refl, refl)
+no_key ports (Language language) = (refl, refl)
+no_key ports (Remote to code) = (refl, refl)
 
 keying : (limit at : ℕ) (key : Key) (press : Bool) (d : State) → is_outside d.kind ≡ true → after_key limit d key press at ≡ d
 keying limit at key press d e =
-    by (is_off d.place) (has_key d.kind d.ports key) (ap (λ (k : Kind). has_key k d.ports key) (from_outside d.kind e) ∙ no_key d.ports key)
+    let none = no_key d.ports key in
+    by (is_off d.place) (has_key d.kind d.ports key) (from_outside (λ k. has_key k d.ports key ≡ false) none.0 none.1 d.kind e)
   where
     by : (off has : Bool) → has ≡ false → keyed_by limit d key press at (if off then Some OffWire else (if has then None else Some NotForKind)) ≡ d
     by true has h = refl
     by false false h = refl
     by false true h = cc
 
-joining-place : (phys : Phys) → start_place Outside phys ≡ Settled 15 None
+joining-place : (phys : Phys) → (start_place Outside phys ≡ Settled 15 None) × (start_place OutsideTv phys ≡ Settled 15 None)
 joining-place phys = by (is_nowhere phys)
   where
-    by : (b : Bool) → (if b then unregistered (second_addresses Outside) else tries Outside None (addresses Outside)) ≡ Settled 15 None
-    by true = refl
-    by false = refl
+    by : (b : Bool) → ((if b then unregistered (second_addresses Outside) else tries Outside None (addresses Outside)) ≡ Settled 15 None)
+        × ((if b then unregistered (second_addresses OutsideTv) else tries OutsideTv None (addresses OutsideTv)) ≡ Settled 15 None)
+    by true = (refl, refl)
+    by false = (refl, refl)
 
-joining-queue : (limit number at : ℕ) (phys : Phys) (d : State) (kind : Kind) → kind ≡ Outside
-    → (with_reports limit at (record (fresh kind d.name d.ports) { number = number; phys = phys; place = start_place kind phys; poll_ready = at })).queue ≡ []
+-- a device of a kind as it comes on the wire, at a place
+abbrev joined_at : ℕ → ℕ → ℕ → Phys → State → Kind → Place → State
+joined_at limit number at phys d kind place =
+    with_reports limit at (record (fresh kind d.name d.ports) { number = number; phys = phys; place = place; poll_ready = at })
+
+joining-queue : (limit number at : ℕ) (phys : Phys) (d : State) (kind : Kind) → is_outside kind ≡ true
+    → (joined_at limit number at phys d kind (start_place kind phys)).queue ≡ []
 joining-queue limit number at phys d kind e =
-    let P : Kind → Type 0 = λ k. (with_reports limit at (record (fresh k d.name d.ports) { number = number; phys = phys; place = start_place k phys; poll_ready = at })).queue ≡ [] in
-    let Q : Place → Type 0 = λ p. (with_reports limit at (record (fresh Outside d.name d.ports) { number = number; phys = phys; place = p; poll_ready = at })).queue ≡ [] in
-    subst P (sym e) (subst Q (sym (joining-place phys)) refl)
+    let Q : Kind → Place → Type 0 = λ k p. (joined_at limit number at phys d k p).queue ≡ [] in
+    from_outside (λ k. Q k (start_place k phys))
+    (subst (Q Outside) (sym ((joining-place phys).0)) refl) (subst (Q OutsideTv) (sym ((joining-place phys).1)) refl) kind e
 
 pub only_outside : OnlyOutside
 only_outside = record {
@@ -125,8 +134,9 @@ only_outside = record {
   following = following;
   keying = keying;
   joining = λ limit number at phys d e. (
-    place_goes_by_fates.joining limit number at phys d ∙ ap (λ (k : Kind). start_place k phys) (from_outside d.kind e) ∙ joining-place phys,
-    joining-queue limit number at phys d d.kind (from_outside d.kind e),
+    place_goes_by_fates.joining limit number at phys d
+        ∙ from_outside (λ k. start_place k phys ≡ Settled 15 None) ((joining-place phys).0) ((joining-place phys).1) d.kind e,
+    joining-queue limit number at phys d d.kind e,
   );
   number = number;
   wire = wire;

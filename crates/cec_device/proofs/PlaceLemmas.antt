@@ -1,7 +1,7 @@
 -- Step by step, and by all fates at once.
 use Rattle.std.proofs.Common.{◌≡◌, ℕ, List, [], ◌∷◌, Option, Some, None, refl, ap, ◌∙◌}
 use Rattle.hdmi_core.specs.declared.kind.Kind.{Kind}
-use Rattle.hdmi_core.specs.declared.kind.Kind.TheVariants.{Tv, Amp, Player, Recorder, Switch, Combo, Outside}
+use Rattle.hdmi_core.specs.declared.kind.Kind.TheVariants.{Tv, Amp, Player, Recorder, Switch, Combo, Outside, OutsideTv}
 use Rattle.cec_device.specs.declared.place.Place.{Place}
 use Rattle.cec_device.specs.declared.place.Place.TheVariants.{Off, Polls, Settled}
 use Rattle.cec_frame.specs.declared.Fate.{Fate}
@@ -65,6 +65,7 @@ by_all Player =
 by_all Amp = last Amp None (second_after []) (alone Amp refl) 5 refl
 by_all Switch = settled Switch 15 None
 by_all Outside = settled Outside 15 None
+by_all OutsideTv = settled OutsideTv 15 None
 by_all Combo =
     before Combo None (second_after players) player_searches 1 2 (9 ∷ []) refl
     (before Combo None (second_after players) player_searches 2 9 [] refl (last Combo None (second_after players) player_searches 9 refl))

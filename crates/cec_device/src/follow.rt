@@ -8,7 +8,6 @@ use crate::device::Device;
 use cec_feature::{Heard, Identity, refuse};
 use cec_frame::{Addr, Frame};
 use cec_opcode::{Decoded, Reason, decode, rule};
-use hdmi_core::Kind;
 
 fn heard_of(header: u8, opcode: u8, operands: &[u8], at: u64) -> Heard
     ensures { result ≡ heard_of header opcode operands.now at }
@@ -42,7 +41,7 @@ impl<const Q: usize> Device<Q> {
     fn is_for(&self, to: Addr, opcode: u8) -> bool
         ensures { result ≡ is_for self.now to opcode }
     {
-        if self.kind == Kind::Outside {
+        if self.kind.is_outside() {
             return false;
         }
         let rule = rule(opcode);

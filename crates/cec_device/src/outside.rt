@@ -8,7 +8,6 @@ use crate::keys::KeyError;
 use crate::place::Place;
 use arrayvec::ArrayVec;
 use cec_frame::Addr;
-use hdmi_core::Kind;
 
 /// What the driver of a device from outside makes it do.
 #[derive(Clone, Copy)]
@@ -52,7 +51,7 @@ impl<const Q: usize> Device<Q> {
         if self.place == Place::Off {
             return Err(KeyError::OffWire);
         }
-        if self.kind != Kind::Outside {
+        if !self.kind.is_outside() {
             return Err(KeyError::NotForKind);
         }
         self.take(act);

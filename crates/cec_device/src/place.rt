@@ -343,10 +343,10 @@ impl<const Q: usize> Device<Q> {
         if self.place == Place::Off {
             return Err(SubmitError::OffWire);
         }
-        if self.kind != Kind::Outside && !self.is_settled_at(frame.initiator()) {
+        if !self.kind.is_outside() && !self.is_settled_at(frame.initiator()) {
             return Err(SubmitError::NoAddress);
         }
-        if self.kind != Kind::Outside && self.holds(frame.destination()) {
+        if !self.kind.is_outside() && self.holds(frame.destination()) {
             return Err(SubmitError::OwnAddress);
         }
         if self.queue.len() >= Q {

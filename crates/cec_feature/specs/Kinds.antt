@@ -2,9 +2,11 @@
 use Rattle.std.specs.Prelude.{ℕ, ◌==◌, Bool, true, false, ◌&&◌, List, [], ◌∷◌, if◌then◌else◌}
 use Rattle.std.specs.List.{list_any}
 use Rattle.hdmi_core.specs.declared.kind.Kind.{Kind}
-use Rattle.hdmi_core.specs.declared.kind.Kind.TheVariants.{Tv, Amp, Player, Recorder, Switch, Combo, Outside}
+use Rattle.hdmi_core.specs.declared.kind.Kind.TheVariants.{Tv, Amp, Player, Recorder, Switch, Combo, Outside, OutsideTv}
 use Rattle.hdmi_core.specs.declared.phys.Phys.{Phys}
+pub use Rattle.hdmi_core.specs.Kind.{is_outside}
 
+-- a television that does by itself what the tables say
 abbrev pub is_tv : Kind → Bool
 is_tv Tv = true
 is_tv _ = false
@@ -22,11 +24,6 @@ is_deck _ = false
 abbrev pub is_switch : Kind → Bool
 is_switch Switch = true
 is_switch _ = false
-
--- a device from outside, whose behaviour is its driver's (own)
-abbrev pub is_outside : Kind → Bool
-is_outside Outside = true
-is_outside _ = false
 
 -- this address is one of a list
 abbrev pub is_in : List ℕ → ℕ → Bool
@@ -49,6 +46,7 @@ addresses Amp = 5 ∷ []
 addresses Switch = []
 addresses Combo = recorders
 addresses Outside = []
+addresses OutsideTv = []
 
 -- those that its second unit may take: a box has a player beside its recorder, any other kind has one unit
 abbrev pub second_addresses : Kind → List ℕ
@@ -59,6 +57,7 @@ second_addresses Amp = []
 second_addresses Switch = []
 second_addresses Combo = players
 second_addresses Outside = []
+second_addresses OutsideTv = []
 
 -- The device type that Report Physical Address carries (CEC 17, Device Type), by the address that it comes from: the
 -- units of a box differ in it. A device from outside carries none by itself.
@@ -70,6 +69,7 @@ type_of Amp from = 5
 type_of Switch from = 6
 type_of Combo from = if is_in recorders from then 1 else 4
 type_of Outside from = 6
+type_of OutsideTv from = 0
 
 abbrev pub same_phys : Phys → Phys → Bool
 same_phys p q = (p.high == q.high) && (p.low == q.low)

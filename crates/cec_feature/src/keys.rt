@@ -99,7 +99,7 @@ pub fn has_key(kind: Kind, ports: Port, key: &Key) -> bool
     let count = ports.value();
     match key {
         Key::Play | Key::Stop | Key::Eject | Key::Load | Key::Menu => is_deck(kind),
-        Key::Power => kind != Kind::Outside,
+        Key::Power => !kind.is_outside(),
         Key::Port(port) => kind == Kind::Switch && *port >= 1 && *port <= count,
         Key::Arc { .. } | Key::Volume(_) => matches!(kind, Kind::Tv | Kind::Amp),
         Key::Watch(_) | Key::Audio { .. } | Key::Language(_) | Key::Remote { .. } => {

@@ -33,7 +33,7 @@ pub fn addresses(kind: Kind) -> &'static [u8]
         Kind::Recorder | Kind::Combo => &[1, 2, 9],
         Kind::Player => &[4, 8, 11],
         Kind::Amp => &[5],
-        Kind::Switch | Kind::Outside => &[],
+        Kind::Switch | Kind::Outside | Kind::OutsideTv => &[],
     }
 }
 

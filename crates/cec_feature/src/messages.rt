@@ -25,7 +25,7 @@ pub fn report_of(kind: Kind, phys: Phys, from: Addr) -> Message
     Message::ReportPhysicalAddress {
         address: phys,
         kind: match kind {
-            Kind::Tv => DeviceType::Tv,
+            Kind::Tv | Kind::OutsideTv => DeviceType::Tv,
             Kind::Recorder => DeviceType::Recorder,
             Kind::Player => DeviceType::Playback,
             Kind::Amp => DeviceType::Audio,

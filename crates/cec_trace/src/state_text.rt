@@ -192,7 +192,7 @@ fn outside_pieces<'a>(
 pub fn add_state<S: Sink>(out: &mut Counted<'_, S>, device: &Device<16>)
     ensures { Adds out.old out.new (state_line device.now) }
 {
-    if device.kind() == Kind::Outside {
+    if device.kind().is_outside() {
         let address = held_bytes(device.held());
         out.add_line(&outside_pieces(device, &address, UNKNOWN_RECORD));
         return;

@@ -11,6 +11,7 @@ const ROWS: &[(Kind, &[u8], &[u8])] = &[
     (Kind::Switch, &[], &[]),
     (Kind::Combo, &[1, 2, 9], &[4, 8, 11]),
     (Kind::Outside, &[], &[]),
+    (Kind::OutsideTv, &[], &[]),
 ];
 
 #[test]

@@ -16,6 +16,7 @@ pub(crate) fn kind_of(word: &str) -> Option<Kind> {
         "switch" => Some(Kind::Switch),
         "combo" => Some(Kind::Combo),
         "outside" => Some(Kind::Outside),
+        "outside-tv" => Some(Kind::OutsideTv),
         _ => None,
     }
 }
@@ -27,13 +28,13 @@ pub(crate) fn own_address(kind: Kind) -> u8 {
         Kind::Amp => 5,
         Kind::Player | Kind::Combo => 4,
         Kind::Recorder => 1,
-        Kind::Switch | Kind::Outside => 15,
+        Kind::Switch | Kind::Outside | Kind::OutsideTv => 15,
     }
 }
 
 /// A television is at 0.0.0.0, any other device at 1.0.0.0.
 pub(crate) fn phys_at(kind: Kind) -> Phys {
-    let high = if kind == Kind::Tv { 0 } else { 0x10 };
+    let high = if kind.is_television() { 0 } else { 0x10 };
     Phys { high, low: 0 }
 }
 

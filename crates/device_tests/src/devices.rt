@@ -441,6 +441,61 @@ queue => 0 0
 submit 48 46 => queued
 front => 48 46";
 
+// A television from outside polls no address and reports none, and follows nothing: no Image View On, no Active Source, no
+// question and no Set System Audio Mode.
+const TELEVISION: &str = "\
+drop => OffWire
+join 0000 0
+held => Some(15) None
+stands => on settled
+queue => 0 0
+holds 0 => false
+follow 4f 82 10 00
+follow 0f 36
+queue => 0 0
+hold 0 15 => done
+held => Some(0) Some(15)
+holds 0 => true
+holds 14 => false
+follow 40 04
+follow 40 46
+follow 40 83
+follow 4f 91
+follow 5f 72 01
+queue => 0 0
+press power => NotForKind
+press watch 1000 => NotForKind
+press mute => NotForKind
+press arc on => NotForKind
+release mute => NotForKind
+submit 04 46 => queued
+submit 0f 86 10 00 => queued
+submit 40 04 => queued
+submit ee => queued
+front => 04 46
+queue => 4 0
+drop => done
+queue => 0 0
+leave
+holds 0 => false
+join 0000 0
+held => Some(15) None
+queue => 0 0";
+
+// A television that is not from outside polls its address, reports itself, and is told nothing.
+const BY_ITSELF: &str = "\
+hold 0 15 => OffWire
+join 0000 0
+hold 0 15 => NotForKind
+front => 00
+sent unacked
+held => Some(0) None
+front => 0f 84 00 00 00
+drop => NotForKind
+queue => 1 0
+hold 4 15 => NotForKind
+held => Some(0) None";
+
 const NOT_OUTSIDE: &str = "\
 hold 3 15 => NotForKind
 drop => NotForKind
@@ -474,6 +529,9 @@ const RUNS: &[(&str, &[(usize, &str)])] = &[
     ("new box", &[(1, TOO_FAR_BELOW)]),
     ("new outside", &[(1, HOLDS)]),
     ("new outside", &[(1, DROPS)]),
+    ("new outside-tv", &[(1, TELEVISION)]),
+    ("new outside-tv", &[(1, DROPS)]),
+    ("new television", &[(1, BY_ITSELF)]),
     ("settled player", &[(1, NOT_OUTSIDE)]),
 ];
 
@@ -482,6 +540,8 @@ fn device_of(words: &str) -> Device<16> {
         "settled player" => settled(Kind::Player),
         "new player" => Device::new(Kind::Player, b"p1", 0),
         "new outside" => Device::new(Kind::Outside, b"dut", 0),
+        "new outside-tv" => Device::new(Kind::OutsideTv, b"dut", 4),
+        "new television" => Device::new(Kind::Tv, b"tv", 4),
         _ => Device::new(Kind::Combo, b"b", 0),
     }
 }

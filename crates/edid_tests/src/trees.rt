@@ -38,6 +38,41 @@ number b => Some(4)
 count devices => 5
 ";
 
+/// A television from outside is the root as any other: there is one television, its own or from outside, and it is never
+/// plugged in. A device from outside is none.
+const ROOTS: &str = "\
+add amp amp 1 => -
+add box outside 2 => -
+wire 1 => false
+address 0 => None
+add tv outside-tv 4 => -
+add tv2 tv 1 => SecondRoot
+add tv2 outside-tv 1 => SecondRoot
+add tv outside-tv 1 => Name
+add 2nd outside-tv 1 => Name
+plug 2 0 1 => NotLoose
+plug 0 2 5 => PortRange
+plug 0 2 1 => -
+plug 1 2 4 => -
+plug 2 1 2 => NotLoose
+unplug 2 => NotPlugged
+address 2 => Some(Phys { high: 0, low: 0 })
+address 0 => Some(Phys { high: 16, low: 0 })
+address 1 => Some(Phys { high: 64, low: 0 })
+wire 2 => true
+wire 1 => true
+device 2 => tv OutsideTv 4
+count devices => 3
+";
+
+/// An emulated television keeps one from outside out too.
+const FIRST_ROOT: &str = "\
+add tv tv 4 => -
+add tv2 outside-tv 1 => SecondRoot
+add p1 player 0 => -
+count devices => 2
+";
+
 /// A tree takes fifteen devices. What is wrong with a sixteenth besides does not matter.
 const FULL: &str = "\
 add tv tv 4 => -
@@ -93,6 +128,21 @@ port 0 5 of tv..0151 speaking..e8 => PortRange
 port 0 1 of tv..0052 => NoHdmiBlock
 ";
 
+/// A television from outside passes on its EDID as any other.
+const FROM_OUTSIDE: &str = "\
+add box outside 2 => -
+add tv outside-tv 4 => -
+add amp amp 1 => -
+plug 0 1 2 => -
+plug 2 1 1 => -
+port 1 1 of tv..0151 speaking..e8 => tv..0151 speaking..d8 148=10
+port 1 2 of tv..0151 speaking..e8 => tv..0151 speaking..c8 148=20
+port 1 5 of tv..0151 speaking..e8 => PortRange
+port 0 2 of tv..0151 speaking..e8 => tv..0151 speaking..c6 148=22
+port 2 1 of tv..0151 speaking..e8 => tv..0151 020319f143900403260f7f071507508301000065030c001100..e7
+learn 2 1 of tv..0151 speaking..e8 => Ok(Phys { high: 17, low: 0 })
+";
+
 /// A television, an amplifier in its first port with a switch in its own, and a switch in the second: the ports above the
 /// amplifier and beside it, its own, and the one below.
 const AMPLIFIER: &str = "\
@@ -123,6 +173,8 @@ fn kind_of(word: &str) -> Option<Kind> {
         "tv" => Some(Kind::Tv),
         "amp" => Some(Kind::Amp),
         "player" => Some(Kind::Player),
+        "outside" => Some(Kind::Outside),
+        "outside-tv" => Some(Kind::OutsideTv),
         "switch" => Some(Kind::Switch),
         _ => None,
     }
@@ -256,9 +308,12 @@ fn grows(rt: &(impl Abort + AllocGlobal), steps: &str) {
 #[test]
 fn trees_grow_and_pass_on_addresses(rt: HostRuntime) {
     grows(&rt, REFUSALS);
+    grows(&rt, ROOTS);
+    grows(&rt, FIRST_ROOT);
     grows(&rt, FULL);
     grows(&rt, CHAIN);
     grows(&rt, TELEVISION);
     grows(&rt, AMPLIFIER);
+    grows(&rt, FROM_OUTSIDE);
     grows(&rt, LEARNT);
 }

@@ -4,7 +4,7 @@ use Rattle.std.specs.Str.{bytes_eq}
 use Rattle.std.proofs.lemmas.Slice.Eq.{bytes_eq-Decides}
 use Rattle.hdmi_core.specs.Kind.{kind_named, kind_word}
 use Rattle.hdmi_core.specs.declared.kind.Kind.{Kind}
-use Rattle.hdmi_core.specs.declared.kind.Kind.TheVariants.{Tv, Amp, Player, Recorder, Switch, Combo, Outside}
+use Rattle.hdmi_core.specs.declared.kind.Kind.TheVariants.{Tv, Amp, Player, Recorder, Switch, Combo, Outside, OutsideTv}
 
 -- what is found passes the test
 found_step : {T : Type 0} (p : T → Bool) (x w : T) (rest : Option T) (b : Bool) → p x ≡ b → (rest ≡ Some w → p w ≡ true) → cond b (Some x) rest ≡ Some w → p w ≡ true
@@ -27,3 +27,4 @@ kind_read_again Recorder = refl
 kind_read_again Switch = refl
 kind_read_again Combo = refl
 kind_read_again Outside = refl
+kind_read_again OutsideTv = refl

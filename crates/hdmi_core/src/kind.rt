@@ -1,6 +1,6 @@
 //! The kinds of device that stand on the wire, and their words.
 ghost use Rattle.std.specs.Prelude.{◌≡◌};
-ghost use Rattle.hdmi_core.specs.Kind.{kind_named, kind_word};
+ghost use Rattle.hdmi_core.specs.Kind.{is_outside, is_television, kind_named, kind_word};
 
 /// What a device is. Its kind decides the logical addresses it may take and what it does with a frame.
 #[derive(Clone, Copy, Debug, PartialEq, Eq)]
@@ -14,6 +14,8 @@ pub enum Kind {
     Combo,
     /// A device whose behaviour comes from outside: it holds and sends what it is told, and follows nothing.
     Outside,
+    /// A television whose behaviour comes from outside.
+    OutsideTv,
 }
 
 impl Kind {
@@ -26,6 +28,7 @@ impl Kind {
         Kind::Switch,
         Kind::Combo,
         Kind::Outside,
+        Kind::OutsideTv,
     ];
 
     /// The word for it in topologies and traces.
@@ -40,7 +43,22 @@ impl Kind {
             Kind::Switch => "switch",
             Kind::Combo => "combo",
             Kind::Outside => "outside",
+            Kind::OutsideTv => "outside-tv",
         }
+    }
+
+    /// Whether it is a television, the root of the tree.
+    pub fn is_television(self) -> bool
+        ensures { result ≡ is_television self }
+    {
+        matches!(self, Kind::Tv | Kind::OutsideTv)
+    }
+
+    /// Whether its behaviour comes from outside.
+    pub fn is_outside(self) -> bool
+        ensures { result ≡ is_outside self }
+    {
+        matches!(self, Kind::Outside | Kind::OutsideTv)
     }
 
     /// The kind that a word stands for.

@@ -5,7 +5,7 @@ use Rattle.std.specs.List.{All, flat_map, list_all, range_with_len}
 use Rattle.std.specs.Option.{option_to_list}
 use Rattle.std.specs.Str.{bytes_eq}
 use Rattle.hdmi_core.specs.declared.kind.Kind.{Kind}
-use Rattle.hdmi_core.specs.declared.kind.Kind.TheVariants.{Tv, Amp, Player, Recorder, Switch, Combo, Outside}
+use Rattle.hdmi_core.specs.declared.kind.Kind.TheVariants.{Tv, Amp, Player, Recorder, Switch, Combo, Outside, OutsideTv}
 use Rattle.hdmi_core.specs.Piece.{dash_or, hex_or_dash, hex_text, nibble_text, phys_text, switch_text}
 use Rattle.hdmi_blocks.specs.declared.edid.Edid.{Edid}
 use Rattle.hdmi_topo.specs.Node.{Node}
@@ -119,6 +119,7 @@ plain_kind Recorder = plain_codes (codes "recorder") refl
 plain_kind Switch = plain_codes (codes "switch") refl
 plain_kind Combo = plain_codes (codes "combo") refl
 plain_kind Outside = plain_codes (codes "outside") refl
+plain_kind OutsideTv = plain_codes (codes "outside-tv") refl
 
 plain_unit : (unit : Option ℕ) → IsPlain (unit_text unit)
 plain_unit unit = plain_dash (λ n. nibble_text (n % 16)) unit (λ n. plain_nibble (n % 16))
@@ -136,6 +137,8 @@ plain_address Switch [] = tt
 plain_address Switch (u ∷ us) = plain_unit u
 plain_address Outside [] = tt
 plain_address Outside (u ∷ us) = plain_unit u
+plain_address OutsideTv [] = tt
+plain_address OutsideTv (u ∷ us) = plain_unit u
 plain_address Combo [] = tt
 plain_address Combo (u ∷ []) = plain_unit u
 plain_address Combo (u ∷ v ∷ us) = plain_more (unit_text u ++ codes "+") (unit_text v) (plain_more (unit_text u) (codes "+") (plain_unit u) (plain_codes (codes "+") refl)) (plain_unit v)

@@ -1,4 +1,4 @@
-//! Inputs of `run` in examples/, and two more: each a topology, a line `script` and a script in the order of its times.
+//! Inputs of `run` in examples/, and three more: each a topology, a line `script` and a script in the order of its times.
 
 pub(crate) const ROOMS: &[&str] = &[
     "\
@@ -113,6 +113,21 @@ pulse 30000 5000
 pulse 60000 10000
 at 100000 send tv 0>f standby
 end 400000
+",
+    "\
+device dut outside-tv 2
+device p1 player 0
+device p2 player 0
+plug p1 dut 1
+plug p2 dut 2
+script
+at 600000 press p1 play
+at 800000 send dut 0>0
+at 850000 hold dut 0
+at 900000 send dut 0>4 give-osd-name
+pulse 950000 600
+at 1000000 drop dut
+end 1300000
 ",
 ];
 

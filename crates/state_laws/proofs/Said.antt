@@ -10,7 +10,7 @@ use Rattle.hdmi_core.specs.Bytes.{are_bytes}
 use Rattle.hdmi_core.specs.Kind.{kind_word}
 use Rattle.hdmi_core.specs.Piece.{dash_or, hex_or_dash, hex_text, nibble_text, phys_text, switch_text}
 use Rattle.hdmi_core.specs.declared.kind.Kind.{Kind}
-use Rattle.hdmi_core.specs.declared.kind.Kind.TheVariants.{Tv, Amp, Player, Recorder, Switch, Combo, Outside}
+use Rattle.hdmi_core.specs.declared.kind.Kind.TheVariants.{Tv, Amp, Player, Recorder, Switch, Combo, Outside, OutsideTv}
 use Rattle.hdmi_core.specs.declared.phys.Phys.{Phys}
 use Rattle.cec_opcode.specs.DeckWords.{deck_info_byte}
 use Rattle.cec_feature.specs.declared.record.Note.{Note}
@@ -210,6 +210,7 @@ two_are Player first second = unit_is (unit_text first) (maybe_nibble first)
 two_are Recorder first second = unit_is (unit_text first) (maybe_nibble first)
 two_are Switch first second = unit_is (unit_text first) (maybe_nibble first)
 two_are Outside first second = unit_is (unit_text first) (maybe_nibble first)
+two_are OutsideTv first second = unit_is (unit_text first) (maybe_nibble first)
 
 address_is : (kind : Kind) (place : Place) → IsStateWord (address_text kind (addresses_held place))
 address_is kind Off = two_are kind None None

@@ -1,0 +1,147 @@
+"""Televisions with one slip each, as the devices in faulty.py."""
+
+from faulty import RefusesBroadcasts, RefusesNothing, ReportsNothing, slip
+from reference import Reference
+
+
+# Addresses
+
+@slip("tv")
+class TakesTheSecond(Reference):
+    """Takes address 14, though it is the root and 0 is free."""
+
+    def poll(self):
+        self.candidates = self.candidates[-1:]
+        super().poll()
+
+
+@slip("tv")
+class HoldsFourteen(Reference):
+    """Holds 14 beside 0."""
+
+    def hold(self, addresses, after=0):
+        super().hold(addresses + [14] if addresses else [], after)
+
+
+@slip("tv")
+class IsNoTelevision(Reference):
+    """Reports that it is a recorder."""
+
+    def report_physical(self):
+        self.say_all(0x84, *self.bytes_of(self.physical), 1)
+
+
+@slip("tv")
+class ComesSilently(ReportsNothing):
+    """Does not report its physical address."""
+
+
+# Refusals
+
+@slip("tv")
+class TakesAll(RefusesNothing):
+    """Never sends Feature Abort."""
+
+
+@slip("tv")
+class RefusesToAll(RefusesBroadcasts):
+    """Sends Feature Abort for a broadcast that it does not know."""
+
+
+# Questions
+
+@slip("tv")
+class HasNoVersion(Reference):
+    """Does not answer Get CEC Version."""
+
+    def on_9f(self, initiator, operands):
+        pass
+
+
+@slip("tv")
+class HasNoLanguage(Reference):
+    """Does not answer Get Menu Language."""
+
+    def on_91(self, initiator, operands):
+        pass
+
+
+@slip("tv")
+class HasNoStatus(Reference):
+    """Does not answer Give Device Power Status."""
+
+    def on_8f(self, initiator, operands):
+        pass
+
+
+# On and off
+
+@slip("tv")
+class StaysOn(Reference):
+    """Does not obey Standby."""
+
+    def on_36(self, initiator, operands):
+        if initiator == 0:
+            super().on_36(initiator, operands)
+
+
+@slip("tv")
+class IgnoresPictures(Reference):
+    """Is not woken by Image View On."""
+
+    def on_04(self, initiator, operands):
+        pass
+
+
+@slip("tv")
+class WaitsForPictures(Reference):
+    """Is not woken by Text View On."""
+
+    def on_0d(self, initiator, operands):
+        pass
+
+
+@slip("tv")
+class SleepsAlone(Reference):
+    """Goes to standby without Standby to all."""
+
+    def say_all(self, opcode, *operands):
+        if opcode != 0x36:
+            super().say_all(opcode, *operands)
+
+
+# Keys, and sound
+
+@slip("tv")
+class HasNoKeys(Reference):
+    """Passes no key on, and shows no device."""
+
+    def press_of_television(self, key, *values):
+        if key not in ("watch", "remote"):
+            super().press_of_television(key, *values)
+
+
+@slip("tv")
+class KeepsItsKeys(Reference):
+    """Does not say that a key of the remote control is released."""
+
+    def release(self, key):
+        if not key.startswith("remote "):
+            super().release(key)
+
+
+@slip("tv")
+class KeepsItsSound(Reference):
+    """Asks no amplifier for system audio mode."""
+
+    def press_of_television(self, key, *values):
+        if key != "audio":
+            super().press_of_television(key, *values)
+
+
+@slip("tv")
+class HasNoReturnChannel(Reference):
+    """Does not answer Initiate ARC."""
+
+    def on_c0(self, initiator, operands):
+        pass
