@@ -2,7 +2,7 @@
 use Rattle.std.proofs.Common.{◌≡◌, ℕ, Bool, true, false, List, [], ◌∷◌, map, refl, ap, ◌∙◌}
 use Rattle.hdmi_core.specs.Lines.{lines_of}
 use Rattle.cec_judge.specs.Judged.{first_state, is_of_state, later_states, states_for}
-use Rattle.cec_check.specs.Report.{Report, report}
+use Rattle.cec_check.specs.Report.{Report, tests}
 use Rattle.cec_capture_check.specs.Marks.{no_states}
 
 no_first : (b : Bool) → first_state b [] ≡ []
@@ -20,5 +20,5 @@ no_states_for (line ∷ lines) =
     ∙ ap (λ (states : List (List ℕ)). [] ∷ states_for lines states) (none_later (is_of_state line))
     ∙ ap (λ (states : List (List ℕ)). [] ∷ states) (no_states_for lines)
 
-pub stateless : (script trace : List ℕ) (r : Report) → r ≡ report script trace (states_for (lines_of script) []) → r ≡ report script trace (no_states script)
-stateless script trace r is = is ∙ ap (report script trace) (no_states_for (lines_of script))
+pub stateless : (script trace : List ℕ) (r : Report) → r ≡ tests script trace (states_for (lines_of script) []) → r ≡ tests script trace (no_states script)
+stateless script trace r is = is ∙ ap (tests script trace) (no_states_for (lines_of script))

@@ -3,16 +3,23 @@ use Rattle.std.specs.Prelude.{◌≡◌, ℕ, ◌<◌, Bool, true, false, List, 
 use Rattle.std.specs.Io.KnownBytes.{Appends}
 use Rattle.cec_signal.specs.Edges.{Captured}
 use Rattle.cec_check.specs.Check.{tally_of}
-use Rattle.cec_check.specs.Report.{Report, report}
+use Rattle.cec_audit.specs.Audit.{audit_text}
+use Rattle.cec_check.specs.Report.{Report, report_with_plan, tests}
 use Rattle.cec_check.specs.declared.checking.Tally.{Tally}
 use Rattle.cec_capture_check.specs.Faults.{first_fault}
 use Rattle.cec_capture_check.specs.Marks.{capture_trace, no_states}
+use Rattle.cec_capture_check.specs.Wanted.{plain_text, with_wanted_lines}
+use Rattle.hdmi_core.specs.Lines.{lines_of}
 use Rattle.cec_capture_check.specs.declared.checking.CaptureCheckError.{CaptureCheckError}
 use Rattle.cec_capture_check.specs.declared.checking.CaptureCheckError.TheVariants.{Expect, Write, Memory}
 
--- the report of expectations, by what is judged of a capture
+-- the tests of expectations of readings, by what is judged of a capture
+abbrev pub reading_tests : List ℕ → Captured → Report
+reading_tests text capture = tests text (capture_trace text capture) (no_states text)
+
+-- the report of expectations: after those of readings stand those of the remarks of the capture's audit
 abbrev pub capture_report : List ℕ → Captured → Report
-capture_report text capture = report text (capture_trace text capture) (no_states text)
+capture_report text capture = report_with_plan (with_wanted_lines (lines_of (audit_text false capture)) (reading_tests (plain_text text) capture) 1 (lines_of text))
 
 -- no line is at fault, and the report is written
 pub record IsCaptureChecked (text : List ℕ) (capture : Captured) (old new : Option (List ℕ)) (tally : Tally) : Type 0 where

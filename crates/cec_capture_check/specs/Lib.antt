@@ -1,4 +1,5 @@
 pub mod Lines
+pub mod Wanted
 pub mod Faults
 pub mod Marks
 pub mod Check

@@ -1,12 +1,15 @@
 //! From expectations and a capture to their report.
 ghost use Rattle.std.specs.Prelude.{◌≡◌, ◌↔◌, false, IfOk, IfErr, IsTrue};
-ghost use Rattle.cec_capture_check.specs.Check.{IsCaptureChecked, IsCaptureCut, IsCaptureReported, capture_report, is_write};
+ghost use Rattle.cec_capture_check.specs.Check.{IsCaptureChecked, IsCaptureCut, IsCaptureReported, capture_report, is_write, reading_tests};
 ghost use Rattle.cec_capture_check.specs.Marks.{capture_trace};
+ghost use Rattle.cec_capture_check.specs.Wanted.{plain_text};
 ghost use Rattle.cec_check.specs.Report.{report_as};
 
 use crate::faults::first_fault;
 use crate::marks::push_marks;
-use cec_check::{Held, ReportDraft, Tally, tally_of, whole_report};
+use crate::remarks::add_wanted;
+use crate::wanted::plain_text;
+use cec_check::{Held, ReportDraft, Tally, add_plan, open_report, tally_of};
 use cec_expect::ExpectFault;
 use cec_mon::watch_capture;
 use cec_signal::Capture;
@@ -39,21 +42,39 @@ fn capture_trace(alloc: Global, expectations: &[u8], capture: &Capture) -> Resul
     }
 }
 
+// The tests of expectations of readings.
 #[tactic(auto, using(crate::proofs::Stateless::stateless))]
-fn report_of(
+fn reading_tests(
     alloc: Global,
     expectations: &[u8],
     capture: &Capture,
 ) -> Result<ReportDraft, AllocError>
-    ensures { IfOk result (λ draft. report_as draft ≡ capture_report expectations.now capture.now) }
+    ensures { IfOk result (λ draft. report_as draft ≡ reading_tests expectations.now capture.now) }
 {
     let held = capture_trace(alloc, expectations, capture)?;
-    whole_report(alloc, expectations, &held.bytes, &[])
+    open_report(alloc, expectations, &held.bytes, &[])
+}
+
+// The report; `plain` are the expectations of readings.
+fn report_of(
+    alloc: Global,
+    expectations: &[u8],
+    plain: &[u8],
+    capture: &Capture,
+) -> Result<ReportDraft, AllocError>
+    requires { plain.now ≡ plain_text expectations.now }
+    ensures { IfOk result (λ draft. report_as draft ≡ capture_report expectations.now capture.now) }
+{
+    let mut draft = reading_tests(alloc, plain, capture)?;
+    add_wanted(alloc, &mut draft, expectations, capture)?;
+    add_plan(&mut draft)?;
+    Ok(draft)
 }
 
 /// Writes the report of whether the readings of a capture are as the expectations have it, as `check` writes that of a run. The
-/// lines of the expectations are those of a script, with `label NAME at T` in place of events: it names an instant. The report and
-/// the lines of the readings are held in memory.
+/// lines of the expectations are those of a script, with `label NAME at T` in place of events: it names an instant. After them stand
+/// the tests of the remarks of its audit, `expect no-remark` and `expect remark PATTERN`. The report, the lines of the readings and,
+/// where remarks are spoken of, the audit are held in memory.
 ///
 /// # Errors
 ///
@@ -70,14 +91,17 @@ pub fn check_capture<S: Sink>(
     ensures write { S.is_stuck out.old ≡ false → (IsTrue (is_write result) ↔ IsTrue (S.is_stuck out.new)) }
     ensures cut { IfErr result (IsCaptureCut expectations.now capture.now (S.contents out.old) (S.contents out.new)) }
 {
-    let Ok(fault) = first_fault(alloc, expectations) else {
+    let Ok(plain) = plain_text(alloc, expectations) else {
+        return Err(CaptureCheckError::Memory);
+    };
+    let Ok(fault) = first_fault(alloc, expectations, &plain) else {
         return Err(CaptureCheckError::Memory);
     };
     match fault {
         Some(fault) => return Err(CaptureCheckError::Expect(fault)),
         None => {}
     }
-    let Ok(report) = report_of(alloc, expectations, capture) else {
+    let Ok(report) = report_of(alloc, expectations, &plain, capture) else {
         return Err(CaptureCheckError::Memory);
     };
     match put_all(out, &report.text.bytes) {

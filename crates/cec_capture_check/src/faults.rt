@@ -5,13 +5,15 @@ ghost use Rattle.hdmi_core.specs.Lines.{lines_of};
 ghost use Rattle.hdmi_core.specs.Words.{words_after};
 ghost use Rattle.cec_expect.specs.Fault.{after_label};
 ghost use Rattle.cec_expect.specs.Line.{has_verb};
-ghost use Rattle.cec_capture_check.specs.Lines.{expectation_fault, instant_fault, instant_of, kind_fault, line_fault, named_fault, number_by, time_fault, verb_fault};
-ghost use Rattle.cec_capture_check.specs.Faults.{earlier, first_fault, kinds_from};
+ghost use Rattle.cec_capture_check.specs.Lines.{event_fault, expectation_fault, instant_fault, instant_of, is_event_word, is_passed, kind_fault, line_fault, named_fault, number_by, time_fault, time_word, verb_fault};
+ghost use Rattle.cec_capture_check.specs.Wanted.{plain_text};
+ghost use Rattle.cec_capture_check.specs.Faults.{earlier, first_fault, kinds_from, readings_fault};
 
+use crate::wanted::wanted_fault_in;
 use cec_expect::{
     ExpectCause, ExpectFault, LineFault, after_label, at_word, exact_number, unlabelled,
 };
-use hdmi_core::{first_line, first_word, one_word};
+use hdmi_core::{first_line, first_word, is_skipped};
 use std::alloc::{AllocError, Global};
 
 // Whether this is the first word.
@@ -33,23 +35,52 @@ fn number_by(word: Option<&[u8]>) -> Option<u64>
     exact_number(word?)
 }
 
+// Whether an event of a script begins with this word after its time.
+fn is_event_word(word: &[u8]) -> bool
+    ensures { result ≡ is_event_word word.now }
+{
+    word == b"plug".as_slice()
+        || word == b"unplug".as_slice()
+        || word == b"press".as_slice()
+        || word == b"release".as_slice()
+        || word == b"send".as_slice()
+        || word == b"hold".as_slice()
+        || word == b"drop".as_slice()
+}
+
+// A time, alone or with an event after it.
+fn time_word(rest: Option<&[u8]>) -> Option<&[u8]>
+    ensures { option_copied result ≡ time_word (words_after (option_copied rest.entry)) }
+{
+    let (time, others) = first_word(rest?);
+    let Some(others) = others else {
+        return Some(time);
+    };
+    let (word, _words) = first_word(others);
+    if is_event_word(word) {
+        Some(time)
+    } else {
+        None
+    }
+}
+
 /// The instant that a line gives a name.
 pub(crate) fn instant_of(line: &[u8]) -> Option<u64>
     ensures { result ≡ instant_of line.now }
 {
     let (verb, others) = first_word(unlabelled(line).rest?);
     if verb == b"at".as_slice() {
-        number_by(one_word(others))
+        number_by(time_word(others))
     } else {
         None
     }
 }
 
-fn time_fault(time: Option<u64>) -> Option<LineFault>
-    ensures { result ≡ time_fault time }
+fn time_fault(word: usize, time: Option<u64>) -> Option<LineFault>
+    ensures { result ≡ time_fault word time }
 {
     match time {
-        None => Some(at_word(3, ExpectCause::Number)),
+        None => Some(at_word(word, ExpectCause::Number)),
         Some(_) => None,
     }
 }
@@ -62,11 +93,33 @@ fn named_fault(rest: Option<&[u8]>) -> Option<LineFault>
     };
     let (time, others) = first_word(text);
     match others {
-        None => time_fault(exact_number(time)),
+        None => time_fault(3, exact_number(time)),
         Some(others) => {
-            let (_word, _words) = first_word(others);
-            Some(at_word(4, ExpectCause::Word))
+            let (word, _words) = first_word(others);
+            if is_event_word(word) {
+                time_fault(3, exact_number(time))
+            } else {
+                Some(at_word(4, ExpectCause::Word))
+            }
         }
+    }
+}
+
+fn event_fault(rest: Option<&[u8]>) -> Option<LineFault>
+    ensures { result ≡ event_fault (words_after (option_copied rest.entry)) }
+{
+    let Some(text) = rest else {
+        return Some(at_word(0, ExpectCause::Word));
+    };
+    let (time, others) = first_word(text);
+    let Some(others) = others else {
+        return Some(at_word(0, ExpectCause::Word));
+    };
+    let (word, _words) = first_word(others);
+    if is_event_word(word) {
+        time_fault(1, exact_number(time))
+    } else {
+        Some(at_word(0, ExpectCause::Word))
     }
 }
 
@@ -74,7 +127,7 @@ fn instant_fault(label: Option<&[u8]>, rest: Option<&[u8]>) -> Option<LineFault>
     ensures { result ≡ instant_fault (option_copied label.entry) (words_after (option_copied rest.entry)) }
 {
     match label {
-        None => Some(at_word(0, ExpectCause::Word)),
+        None => event_fault(rest),
         Some(_) => named_fault(rest),
     }
 }
@@ -111,6 +164,16 @@ fn verb_fault(label: Option<&[u8]>, verb: &[u8]) -> LineFault
     }
 }
 
+// Whether a line of a script is passed over.
+fn is_passed(label: Option<&[u8]>, verb: &[u8]) -> bool
+    ensures { result ≡ is_passed (option_copied label.entry) verb.now }
+{
+    match label {
+        None => verb == b"pulse".as_slice() || verb == b"end".as_slice(),
+        Some(_) => false,
+    }
+}
+
 fn kind_fault(label: Option<&[u8]>, rest: Option<&[u8]>) -> Option<LineFault>
     ensures { result ≡ kind_fault (option_copied label.entry) (words_after (option_copied rest.entry)) }
 {
@@ -122,6 +185,8 @@ fn kind_fault(label: Option<&[u8]>, rest: Option<&[u8]>) -> Option<LineFault>
         expectation_fault(label, others)
     } else if verb == b"at".as_slice() {
         instant_fault(label, others)
+    } else if is_passed(label, verb) {
+        None
     } else {
         Some(verb_fault(label, verb))
     }
@@ -130,6 +195,9 @@ fn kind_fault(label: Option<&[u8]>, rest: Option<&[u8]>) -> Option<LineFault>
 fn line_fault(line: &[u8]) -> Option<LineFault>
     ensures { result ≡ line_fault line.now }
 {
+    if is_skipped(line) {
+        return None;
+    }
     let line = unlabelled(line);
     kind_fault(line.label, line.rest)
 }
@@ -172,14 +240,27 @@ fn earlier(fault: Option<ExpectFault>, other: Option<ExpectFault>) -> Option<Exp
     }
 }
 
-/// The first line of expectations of a capture that is at fault.
+// The first line of expectations of readings that is at fault.
+fn readings_fault(alloc: Global, text: &[u8]) -> Result<Option<ExpectFault>, AllocError>
+    ensures { IfOk result (λ fault. fault ≡ readings_fault text.now) }
+{
+    let fault = cec_expect::first_fault(alloc, &[], text)?;
+    Ok(earlier(kind_fault_in(text), fault))
+}
+
+/// The first line of expectations of a capture that is at fault; `plain` are those of its readings.
 ///
 /// # Errors
 ///
 /// Want of memory.
-pub(crate) fn first_fault(alloc: Global, text: &[u8]) -> Result<Option<ExpectFault>, AllocError>
+pub(crate) fn first_fault(
+    alloc: Global,
+    text: &[u8],
+    plain: &[u8],
+) -> Result<Option<ExpectFault>, AllocError>
+    requires { plain.now ≡ plain_text text.now }
     ensures { IfOk result (λ fault. fault ≡ first_fault text.now) }
 {
-    let fault = cec_expect::first_fault(alloc, &[], text)?;
-    Ok(earlier(kind_fault_in(text), fault))
+    let fault = readings_fault(alloc, plain)?;
+    Ok(earlier(wanted_fault_in(text), fault))
 }

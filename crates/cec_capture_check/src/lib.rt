@@ -4,5 +4,7 @@
 mod checking;
 mod faults;
 mod marks;
+mod remarks;
+mod wanted;
 
 pub use checking::{CaptureCheckError, check_capture};

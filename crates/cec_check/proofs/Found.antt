@@ -5,7 +5,7 @@ use Rattle.hdmi_core.specs.Lines.{lines_of}
 use Rattle.cec_judge.specs.Judged.{finding_as, findings_from, findings_of, or_more, states_for, verdicts_of}
 use Rattle.cec_judge.specs.declared.judge.Judged.{Judged}
 use Rattle.cec_judge.specs.declared.judge.Finding.{Finding as FindingRead}
-use Rattle.cec_check.specs.Report.{Report, report, report_by, report_start, report_with_plan, with_findings, with_found, with_line, with_lines, with_refusals}
+use Rattle.cec_check.specs.Report.{Report, report, report_by, report_start, report_with_plan, tests, tests_by, with_findings, with_found, with_line, with_lines, with_refusals}
 
 itself : (n : ℕ) → (n == n) ≡ true
 itself n = grind (arith, nat_tests)
@@ -52,10 +52,21 @@ all_lines trace r number (line ∷ lines) (state ∷ states) (j ∷ js) = by j.h
         else with_findings trace r (number + 1) lines (or_more number state j (Some holds) (findings_from (number + 1) states js))) (itself number)
         ∙ more (with_line trace state r number line j)
 
+tests_again : (script trace : List ℕ) (states : List (List ℕ)) (js : List Judged) → tests_by script trace (findings_from 1 states js)
+    ≡ with_refusals script (with_lines trace report_start 1 (lines_of script) states js) (lines_of trace)
+tests_again script trace states js = ap (λ (r : Report). with_refusals script r (lines_of trace)) (all_lines trace report_start 1 (lines_of script) states js)
+
 pub report_again : (script trace : List ℕ) (states : List (List ℕ)) (js : List Judged) → report_by script trace (findings_from 1 states js)
     ≡ report_with_plan (with_refusals script (with_lines trace report_start 1 (lines_of script) states js) (lines_of trace))
-report_again script trace states js =
-    ap (λ (r : Report). report_with_plan (with_refusals script r (lines_of trace))) (all_lines trace report_start 1 (lines_of script) states js)
+report_again script trace states js = ap report_with_plan (tests_again script trace states js)
+
+pub tests_are : (script named trace : List ℕ) (states : List (List ℕ)) (found lent : List FindingRead) (r : Report) → named ≡ script
+    → map finding_as found ≡ findings_of named trace (states_for (lines_of named) states) → lent ≡ found → r ≡ tests_by named trace (map finding_as lent)
+    → r ≡ tests script trace (states_for (lines_of script) states)
+tests_are script named trace states found lent r same is again made =
+    made ∙ ap (λ (fs : List FindingRead). tests_by named trace (map finding_as fs)) again ∙ ap (tests_by named trace) is
+    ∙ tests_again named trace (states_for (lines_of named) states) (verdicts_of named trace (states_for (lines_of named) states))
+    ∙ ap (λ t. tests t trace (states_for (lines_of t) states)) same
 
 pub report_is : (script named trace : List ℕ) (states : List (List ℕ)) (found lent : List FindingRead) (r : Report) → named ≡ script
     → map finding_as found ≡ findings_of named trace (states_for (lines_of named) states) → lent ≡ found → r ≡ report_by named trace (map finding_as lent)

@@ -134,14 +134,21 @@ plan_line count = concat (codes "1.." ∷ decimal count ∷ codes "\n" ∷ [])
 abbrev pub report_with_plan : Report → Report
 report_with_plan r = record r { text = r.text ++ plan_line (length r.verdicts) }
 
--- the report of a script, by the trace of its run, the state line that each line speaks of, and what is found of each line
-abbrev pub found_report : List ℕ → List ℕ → List (List ℕ) → List Judged → Report
-found_report script trace states found = report_with_plan (with_refusals script (with_lines trace report_start 1 (lines_of script) states found) (lines_of trace))
+-- the tests of a script, by the trace of its run, the state line that each line speaks of, and what is found of each line
+abbrev pub found_tests : List ℕ → List ℕ → List (List ℕ) → List Judged → Report
+found_tests script trace states found = with_refusals script (with_lines trace report_start 1 (lines_of script) states found) (lines_of trace)
 
 -- the same by what is found of the lines that expect something
-abbrev pub report_by : List ℕ → List ℕ → List Finding → Report
-report_by script trace fs = report_with_plan (with_refusals script (with_findings trace report_start 1 (lines_of script) fs) (lines_of trace))
+abbrev pub tests_by : List ℕ → List ℕ → List Finding → Report
+tests_by script trace fs = with_refusals script (with_findings trace report_start 1 (lines_of script) fs) (lines_of trace)
 
--- the report of a script, by the trace of its run and, of each line, the state line that it speaks of
+abbrev pub report_by : List ℕ → List ℕ → List Finding → Report
+report_by script trace fs = report_with_plan (tests_by script trace fs)
+
+-- the tests of a script, by the trace of its run and, of each line, the state line that it speaks of
+abbrev pub tests : List ℕ → List ℕ → List (List ℕ) → Report
+tests script trace states = found_tests script trace states (verdicts_of script trace states)
+
+-- and its report
 abbrev pub report : List ℕ → List ℕ → List (List ℕ) → Report
-report script trace states = found_report script trace states (verdicts_of script trace states)
+report script trace states = report_with_plan (tests script trace states)

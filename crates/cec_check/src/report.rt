@@ -8,7 +8,7 @@ ghost use Rattle.cec_judge.specs.Judged.{finding_as, states_for};
 ghost use Rattle.cec_judge.specs.Index.{lines_among};
 ghost use Rattle.cec_judge.specs.Told.{event_as};
 ghost use Rattle.cec_check.specs.Kept.{are_timed, is_unmet, kept};
-ghost use Rattle.cec_check.specs.Report.{report_start, report_with_plan, escaped_text, escaped_byte, remarks, report, report_as, report_by, shown_text, shown_line, span_remarks, verdict_word, with_event, with_findings, with_line, with_refusals, with_test, with_word};
+ghost use Rattle.cec_check.specs.Report.{report_start, report_with_plan, escaped_text, escaped_byte, remarks, report, report_as, report_by, tests, tests_by, shown_text, shown_line, span_remarks, verdict_word, with_event, with_findings, with_line, with_refusals, with_test, with_word};
 
 use crate::held::Held;
 use cec_expect::{Form, Labels, form_in, unlabelled};
@@ -77,8 +77,8 @@ fn verdict_word(holds: bool) -> &'static str
     if holds { "ok " } else { "not ok " }
 }
 
-// Appends a test.
-fn add_test(
+/// Appends a test: of a line of this number, its text after some words.
+pub fn add_test(
     draft: &mut ReportDraft,
     holds: bool,
     line: u64,
@@ -303,7 +303,8 @@ fn add_refusals(
     Ok(())
 }
 
-fn add_plan(draft: &mut ReportDraft) -> Result<(), AllocError>
+/// Appends the count of tests, which ends a report.
+pub fn add_plan(draft: &mut ReportDraft) -> Result<(), AllocError>
     ensures { OnOk result (report_as draft.new ≡ report_with_plan (report_as draft.old)) }
 {
     let count = draft.verdicts.len() as u64;
@@ -347,6 +348,23 @@ fn is_any_unmet(found: &[Finding<'_>]) -> bool
     false
 }
 
+// The tests by what is found of the lines that expect something.
+fn tests_found(
+    alloc: Global,
+    labels: &Labels<'_>,
+    trace: &[u8],
+    found: &[Finding<'_>],
+) -> Result<ReportDraft, AllocError>
+    ensures { IfOk result (λ draft. report_as draft ≡ tests_by labels.now.script.now trace.now (map finding_as found.now)) }
+{
+    let expected = Expected::new(alloc, labels)?;
+    let rounds = RoundLines::new(alloc, trace)?;
+    let mut draft = report_start(alloc)?;
+    add_lines(&mut draft, labels.script, &rounds, found)?;
+    add_refusals(&mut draft, &expected, trace)?;
+    Ok(draft)
+}
+
 // The report by what is found of the lines that expect something.
 fn report_found(
     alloc: Global,
@@ -356,12 +374,24 @@ fn report_found(
 ) -> Result<ReportDraft, AllocError>
     ensures { IfOk result (λ draft. report_as draft ≡ report_by labels.now.script.now trace.now (map finding_as found.now)) }
 {
-    let expected = Expected::new(alloc, labels)?;
-    let rounds = RoundLines::new(alloc, trace)?;
-    let mut draft = report_start(alloc)?;
-    add_lines(&mut draft, labels.script, &rounds, found)?;
-    add_refusals(&mut draft, &expected, trace)?;
+    let mut draft = tests_found(alloc, labels, trace, found)?;
     add_plan(&mut draft)?;
+    Ok(draft)
+}
+
+/// The report of a script without its last line, the count of tests, by the trace of its run and the state lines of the lines that
+/// speak of one, in order.
+pub fn open_report(
+    alloc: Global,
+    script: &[u8],
+    trace: &[u8],
+    states: &[Vec<u8>],
+) -> Result<ReportDraft, AllocError>
+    ensures { IfOk result (λ draft. report_as draft ≡ tests script.now trace.now (states_for (lines_of script.now) (map (λ state. state.items) states.now))) }
+{
+    let labels = Labels::new(alloc, script)?;
+    let found = all_judged(alloc, &labels, trace, states)?;
+    let draft = tests_found(alloc, &labels, trace, &found)?;
     Ok(draft)
 }
 

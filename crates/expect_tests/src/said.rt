@@ -52,6 +52,7 @@ fn words_that_state_lines_have(rt: HostRuntime) {
     for word in [
         b"tv".as_slice(),
         b"outside".as_slice(),
+        b"outside-tv".as_slice(),
         b"on".as_slice(),
         b"standby".as_slice(),
         b"-".as_slice(),

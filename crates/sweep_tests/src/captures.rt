@@ -1,5 +1,5 @@
 //! Expectations of captures.
-use crate::rows::{END, EXPECTED, FAULTS, FRAMES, REPORT};
+use crate::rows::{END, EXPECTED, FAULTS, FRAMES, REMARKED, REMARKS_REPORT, REPORT, WANTED};
 use cec_capture_check::{CaptureCheckError, check_capture};
 use cec_check::Tally;
 use cec_mon::read_edges;
@@ -76,6 +76,14 @@ fn readings_are_judged(rt: HostRuntime) {
     let (text, counts) = report_of(&rt, EXPECTED, &captured(&rt, FRAMES));
     holds(&rt, counts.as_str() == "3 of 7", "counts");
     holds(&rt, text.as_str() == REPORT, "report");
+}
+
+#[test]
+fn remarks_are_judged(rt: HostRuntime) {
+    let capture = read_edges(rt.alloc(), REMARKED.as_bytes()).expect(&rt, "a capture");
+    let (text, counts) = report_of(&rt, WANTED, &capture);
+    holds(&rt, counts.as_str() == "3 of 6", "counts");
+    holds(&rt, text.as_str() == REMARKS_REPORT, "report");
 }
 
 #[test]

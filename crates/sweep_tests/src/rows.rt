@@ -114,17 +114,39 @@ label a at 5|expect refused => expectations line 2: word in word 1
 expect state 5 tv on => expectations line 1: word in word 1
 label a at 5|expect => expectations line 2: word in word 1
 at 5 => expectations line 1: word in word 0
-label a at 5 press tv mute => expectations line 1: word in word 4
+label a at 5 mute tv => expectations line 1: word in word 4
+label a at x press tv mute => expectations line 1: number in word 3
+label a at 5 press tv mute|at 7 unplug p1|pulse 100 10|expect within 1 of a short|end 10 => none
+at x press tv mute => expectations line 1: number in word 1
+at 5 mute tv => expectations line 1: word in word 0
+label a pulse 100 10 => expectations line 1: word in word 2
+pulses 100 10 => expectations line 1: word in word 0
 label a at => expectations line 1: word in word 3
 label a expect refused b off-wire => expectations line 1: word in word 3
 label a end 10 => expectations line 1: word in word 2
 label a label b at 5 => expectations line 1: word in word 2
 label a => expectations line 1: word in word 2
 label => expectations line 1: word in word 1
-label a at 5||expect within 1 of a short => expectations line 2: word in word 0
-# remark => expectations line 1: word in word 0
-end 10 => expectations line 1: word in word 0
-pulse 5 10 => expectations line 1: word in word 0
+label a at 5||expect within 1 of a short => none
+# a comment => none
+expect no-remark => none
+expect no-remark more => expectations line 1: word in word 2
+expect no-remark  => expectations line 1: word in word 2
+label a expect no-remark => expectations line 1: word in word 3
+expect no-remarks => expectations line 1: word in word 1
+expect remark => expectations line 1: word in word 2
+expect remark free => none
+expect remark *-low => none
+expect remark bit-low slot * block 2 => none
+expect remark fre => expectations line 1: pattern in word 2
+expect remark attempt => expectations line 1: pattern in word 2
+expect remark * * * * * low => expectations line 1: word in word 2
+expect remark free  => expectations line 1: word in word 2
+label a expect remark free => expectations line 1: word in word 3
+expect remark fre|other => expectations line 1: pattern in word 2
+other|expect remark fre => expectations line 1: word in word 0
+end 10 => none
+pulse 5 10 => none
 label a at x => expectations line 1: number in word 3
 label a at 05 => expectations line 1: number in word 3
 label a at 18446744073709551615 => none
@@ -138,6 +160,42 @@ expect within 1 of a short|label a at 5 => expectations line 1: label in word 4
 expect from 2 to 1 short => expectations line 1: order in word 4
 expect from 2 to 1 short|other => expectations line 1: order in word 4
 other|expect from 2 to 1 short => expectations line 1: word in word 0";
+
+/// A start bit, and a bit that is low for 820 microseconds (CEC 5.2.2: 400 to 800).
+pub(crate) const REMARKED: &str = "\
+21000 0
+24700 1
+25500 0
+26320 1
+40000 end
+";
+
+/// What is expected of its remarks, and of its readings.
+pub(crate) const WANTED: &str = "\
+expect no-remark
+expect remark bit-low
+
+# of any bit in the first block
+expect remark *-low slot * block 1
+expect remark bit-low slot 2
+expect remark free
+expect from 0 to 40000 silent 1
+";
+
+/// Those of readings, and after them those of remarks; below each that fails stand the remarks.
+pub(crate) const REMARKS_REPORT: &str = "\
+TAP version 13
+ok 1 - line 8: expect from 0 to 40000 silent 1
+not ok 2 - line 1: expect no-remark
+#   slot 1 block 1 bit 1 low 820 not 400..800
+ok 3 - line 2: expect remark bit-low
+ok 4 - line 5: expect remark *-low slot * block 1
+not ok 5 - line 6: expect remark bit-low slot 2
+#   slot 1 block 1 bit 1 low 820 not 400..800
+not ok 6 - line 7: expect remark free
+#   slot 1 block 1 bit 1 low 820 not 400..800
+1..6
+";
 
 /// When a frame begins, and its bits: a television's poll, a frame to it, and one that is not over at the end.
 pub(crate) const FRAMES: &str = "\

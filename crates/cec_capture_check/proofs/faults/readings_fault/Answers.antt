@@ -2,7 +2,7 @@ use Rattle.std.proofs.Common.{ap, ◌∙◌}
 use Rattle.hdmi_core.specs.Lines.{lines_of}
 use Rattle.cec_capture_check.specs.Faults.{earlier, kinds_from}
 use Rattle.cec_capture_check.proofs.First.{first_is}
-use Rattle.cec_capture_check.proofs.faults.first_fault.Goals as goal
+use Rattle.cec_capture_check.proofs.faults.readings_fault.Goals as goal
 
 pub returns : goal.returns
 returns c =
