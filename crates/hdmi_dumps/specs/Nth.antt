@@ -1,5 +1,5 @@
 -- A text with the dumps of several EDIDs: each begins at a line whose bytes begin with the header (own).
-use Rattle.std.specs.Prelude.{◌≡◌, ℕ, ◌+◌, ◌-◌, ◌^◌, ◌==◌, Bool, if◌then◌else◌, min, List, [], ◌∷◌, filter, length, Result, Ok, Err}
+use Rattle.std.specs.Prelude.{ℕ, ◌+◌, ◌-◌, ◌^◌, ◌==◌, Bool, if◌then◌else◌, min, List, [], ◌∷◌, filter, length, Result, Ok, Err}
 use Rattle.hdmi_core.specs.Lines.{lines_of}
 use Rattle.hdmi_dump.specs.Dump.{dumped_from, edid_in_dump, has_dump}
 use Rattle.hdmi_dump.specs.declared.dump.DumpError.{DumpError}

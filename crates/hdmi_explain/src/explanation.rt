@@ -38,6 +38,24 @@ fn explanation(
     }
 }
 
+// What explains each rule that an EDID of these parts breaks.
+fn explanations(
+    alloc: Global,
+    origin: Origin,
+    base: &Base,
+    extensions: &[Ext],
+) -> Result<String, AllocError>
+    requires { length extensions.now ≤ 3 }
+{
+    let mut text = String::new(alloc);
+    let found = check(origin, base, extensions);
+    for finding in found.as_slice() {
+        let lines = explanation(alloc, *finding, base, extensions)?;
+        text.push_str(lines.as_str())?;
+    }
+    Ok(text)
+}
+
 /// What explains each rule that the EDID breaks that some bytes spell, in the order of the findings. Of bytes that are no
 /// EDID it is empty.
 ///
@@ -45,14 +63,30 @@ fn explanation(
 ///
 /// Where memory runs out.
 pub fn explain_findings(alloc: Global, origin: Origin, bytes: &[u8]) -> Result<String, AllocError> {
-    let mut text = String::new(alloc);
     let mut extensions = ArrayVec::new();
-    if let Ok(base) = &read_parts(bytes, &mut extensions) {
-        let found = check(origin, base, extensions.as_slice());
-        for finding in found.as_slice() {
-            let lines = explanation(alloc, *finding, base, extensions.as_slice())?;
-            text.push_str(lines.as_str())?;
-        }
+    match &read_parts(bytes, &mut extensions) {
+        Ok(base) => explanations(alloc, origin, base, extensions.as_slice()),
+        Err(_) => Ok(String::new(alloc)),
     }
-    Ok(text)
+}
+
+/// The same where byte 126 of the bytes as they came was this count, by which the rules judge.
+///
+/// # Errors
+///
+/// Where memory runs out.
+pub fn explain_counted(
+    alloc: Global,
+    origin: Origin,
+    count: u8,
+    bytes: &[u8],
+) -> Result<String, AllocError> {
+    let mut extensions = ArrayVec::new();
+    match read_parts(bytes, &mut extensions) {
+        Ok(mut base) => {
+            base.extensions = count;
+            explanations(alloc, origin, &base, extensions.as_slice())
+        }
+        Err(_) => Ok(String::new(alloc)),
+    }
 }

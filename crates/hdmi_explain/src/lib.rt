@@ -11,5 +11,5 @@ mod hints;
 mod places;
 mod values;
 
-pub use explanation::explain_findings;
+pub use explanation::{explain_counted, explain_findings};
 pub use hints::{explain_no_hdmi, first_overrun, lacks_line_feed};

@@ -181,7 +181,7 @@ fn reported_of_edid(
             Ok(Some(format!(in alloc; "serial number {serial}")?))
         }
         Rule::BlockMap => {
-            let count = base.extensions;
+            let count = extensions.len();
             Ok(Some(format!(in alloc; "{count} extensions")?))
         }
         Rule::VideoCodeOnce => repeated_reported(alloc, extensions),

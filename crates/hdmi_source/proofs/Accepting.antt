@@ -1,5 +1,5 @@
 -- What holds of bytes that a source takes.
-use Rattle.std.proofs.Common.{◌≡◌, refl, ℕ, ◌+◌, ◌*◌, ◌<◌, ◌≤◌, Bool, true, false, nat_lt, cond, arith, tests, List, length, Option, Some, None}
+use Rattle.std.proofs.Common.{◌≡◌, refl, ℕ, ◌+◌, ◌*◌, ◌≤◌, Bool, true, false, nat_lt, cond, arith, tests, List, length, Option, Some, None}
 use Rattle.hdmi_edid.specs.declared.base.BaseError.{BaseError}
 use Rattle.hdmi_blocks.specs.declared.bytes.EdidError.{EdidError}
 use Rattle.hdmi_blocks.specs.declared.bytes.EdidError.TheVariants.{Length, Count}

@@ -1,11 +1,11 @@
 -- What a source takes is refused by the strict reader for no reason.
-use Rattle.std.proofs.Common.{◌≡◌, refl, ◌∙◌, sym, ap, subst, ℕ, zero, suc, ◌+◌, ◌-◌, ◌*◌, ◌/◌, ◌%◌, ◌<◌, ◌≤◌, ◌==◌, Bool, true, false, ◌&&◌, ◌||◌, nat_le, nat_lt, cond, not, arith, List, [], ◌∷◌, ◌++◌, length, get_or, sum, take, drop, Option, Some, None, Result, Ok, Err, append_assoc, take_at, length-append, length-drop, lit≤, lit<, eq-eqb}
+use Rattle.std.proofs.Common.{◌≡◌, refl, ◌∙◌, sym, ap, subst, ℕ, zero, suc, ◌+◌, ◌-◌, ◌*◌, ◌/◌, ◌%◌, ◌<◌, ◌≤◌, ◌==◌, Bool, true, false, ◌&&◌, ◌||◌, nat_le, nat_lt, cond, not, arith, List, [], ◌∷◌, ◌++◌, length, get_or, sum, take, drop, Option, Some, None, Ok, append_assoc, take_at, length-append, length-drop, lit≤, eq-eqb}
 use Rattle.std.proofs.lemmas.List.{get_or-append_right, get_or_append_left, length-take-le}
 use borrow.Author.Tests.{tests}
 use Rattle.hdmi_edid.proofs.Accepted.{summed_is}
-use Rattle.hdmi_edid.specs.Check.{block_with_checksum, check_of}
+use Rattle.hdmi_edid.specs.Check.{check_of}
 use Rattle.hdmi_edid.specs.Header.{has_header, header}
-use Rattle.hdmi_edid.specs.Letters.{has_letters, is_number}
+use Rattle.hdmi_edid.specs.Letters.{has_letters}
 use Rattle.hdmi_edid.specs.Refusals.{has_revision, refusal as base_cause}
 use Rattle.hdmi_edid.specs.declared.base.BaseError.{BaseError}
 use Rattle.hdmi_edid.specs.declared.base.BaseError.TheVariants.{Header, Checksum, Revision, Maker}
@@ -17,7 +17,7 @@ use Rattle.hdmi_source.specs.Count.{extension_count}
 use Rattle.hdmi_source.specs.Extensions.{blocks_taken}
 use Rattle.hdmi_source.specs.Front.{mended_block, mended_letter, mended_maker, mended_revision}
 use Rattle.hdmi_source.specs.Laws.{IsTakenStrictly}
-use Rattle.hdmi_source.specs.Source.{as_source, refusal, source_bytes, source_by, with_extensions}
+use Rattle.hdmi_source.specs.Source.{refusal, source_bytes, source_by, with_extensions}
 use Rattle.hdmi_source.proofs.Accepting.{room_for}
 use Rattle.hdmi_source.proofs.Taken.{AreBlocks, after, taken_are}
 

@@ -1,5 +1,5 @@
 -- One block of those that are taken or left out.
-use Rattle.std.proofs.Common.{◌≡◌, refl, ◌∙◌, sym, ap, ℕ, zero, suc, ◌-◌, ◌<◌, true, false, arith, List, ◌++◌, take, drop, append_assoc}
+use Rattle.std.proofs.Common.{◌≡◌, refl, ℕ, zero, suc, ◌-◌, ◌<◌, true, false, arith, List, ◌++◌, take, drop, append_assoc}
 use Rattle.hdmi_source.specs.Extensions.{blocks_taken, is_taken, mended_extension}
 
 one_less : (n : ℕ) → suc n - 1 ≡ n

@@ -1,5 +1,5 @@
 -- The base block as a source takes it: what Linux does not ask of it is mended (own form).
-use Rattle.std.specs.Prelude.{ℕ, suc, ◌+◌, ◌*◌, ◌/◌, ◌%◌, ◌==◌, ◌&&◌, nat_le, if◌then◌else◌, List, [], ◌∷◌, ◌++◌, take, drop, slice_index}
+use Rattle.std.specs.Prelude.{ℕ, ◌+◌, ◌*◌, ◌/◌, ◌%◌, ◌==◌, ◌&&◌, nat_le, if◌then◌else◌, List, [], ◌∷◌, ◌++◌, take, drop, slice_index}
 use Rattle.hdmi_edid.specs.Check.{block_with_checksum}
 use Rattle.hdmi_edid.specs.Header.{header}
 

@@ -1,5 +1,5 @@
 -- What a source mends in an EDID, and what it passes over: a line each (own).
-use Rattle.std.specs.Prelude.{ℕ, zero, suc, ◌+◌, ◌-◌, ◌*◌, ◌%◌, ◌==◌, ◌||◌, Bool, not, nat_lt, Option, Some, None, if◌then◌else◌, List, [], ◌∷◌, ◌++◌, length, take, drop, slice_index, sum, codes}
+use Rattle.std.specs.Prelude.{ℕ, zero, suc, ◌+◌, ◌-◌, ◌*◌, ◌%◌, ◌==◌, ◌||◌, Bool, not, nat_lt, Option, Some, None, if◌then◌else◌, List, [], ◌++◌, length, take, drop, slice_index, sum, codes}
 use Rattle.std.specs.Fmt.{decimal}
 use Rattle.hdmi_core.specs.Piece.{hex_text}
 use Rattle.hdmi_edid.specs.Header.{header}

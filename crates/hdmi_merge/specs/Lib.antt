@@ -1,0 +1,7 @@
+pub mod Subjects
+pub mod Mixing
+pub mod Blocks
+pub mod Bases
+pub mod Merge
+pub mod Tables
+pub mod Speakers

@@ -1,0 +1,17 @@
+//! The EDID that a repeater answers with: of a display's and of the receiver's own, by a table of one row for each kind of block.
+#![tactic(auto)]
+
+mod base;
+mod blocks;
+mod extension;
+mod mixing;
+mod repeater;
+mod speakers;
+mod subject;
+mod table;
+
+pub use mixing::Way;
+pub use repeater::{MergeError, TooLong, Unfit, merge, merge_bytes};
+pub use speakers::{SpeakersError, with_speakers};
+pub use subject::{Subject, subject_of};
+pub use table::{Bits, Numbers, Table, Whose};
