@@ -10,7 +10,8 @@ ghost use Rattle.hdmi_core.specs.Adds.{Adds};
 ghost use Rattle.cec_driven.specs.Driven.{IsBeside, round_drives};
 
 use crate::seats::seats_of;
-use cec_drives::drives_of;
+use arrayvec::ArrayVec;
+use cec_drives::put_drives;
 use cec_net::Net;
 use cec_wave::{Pulses, Stretch};
 use cec_wire::{Outcome, Seat};
@@ -33,7 +34,8 @@ fn add_round<S: Sink>(
     requires rest { (begin ≤ outcome.now.rest) × (outcome.now.rest ≤ latest_heard) }
     ensures { Adds out.old out.new (round_drives seats.now begin pulses.now outcome.now) }
 {
-    let drives = drives_of(seats, begin, pulses, outcome);
+    let mut drives = ArrayVec::new();
+    put_drives(&mut drives, seats, begin, pulses, outcome);
     add_wires(
         out,
         outcome.wave.as_slice(),

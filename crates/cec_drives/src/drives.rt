@@ -1,5 +1,5 @@
 //! The drives of a round: of each seat, and of the pulses.
-ghost use Rattle.std.specs.Prelude.{◌≡◌, ◌+◌, ◌<◌, ◌≤◌, ◌++◌, length};
+ghost use Rattle.std.specs.Prelude.{◌≡◌, ◌+◌, ◌<◌, ◌≤◌, ◌++◌, [], length};
 ghost use Rattle.cec_wave.specs.Bounds.{latest_instant, latest_heard, most_stretches};
 ghost use Rattle.cec_wire.specs.Bounds.{begun_within};
 ghost use Rattle.cec_drives.specs.Stretches.{drives_from, drives_of};
@@ -61,22 +61,24 @@ fn push_drives(
 }
 
 /// Who drives the line of a round that begins at `begin` and gave this outcome: the stretches of each seat, and after them
-/// those of the pulses that begin in the round, of which there are few.
-pub fn drives_of(
+/// those of the pulses that begin in the round, of which there are few. They are put into an empty list of the caller's, since
+/// they are large.
+#[inline(never)]
+pub fn put_drives(
+    drives: &mut ArrayVec<Drive, MOST_DRIVES>,
     seats: &[Seat],
     begin: u64,
     pulses: &[Stretch],
     outcome: &Outcome,
-) -> ArrayVec<Drive, MOST_DRIVES>
+)
+    requires fresh { drives.old.items ≡ [] }
     requires seats { length seats.now ≤ 15 }
     requires pulses { length (begun_within begin outcome.now.rest pulses.now) ≤ most_stretches }
     requires begin { begin ≤ latest_instant }
     requires early { outcome.now.reading.at ≤ latest_heard }
-    ensures drives { result.items ≡ drives_of seats.now begin pulses.now outcome.now }
-    ensures few { length result.items ≤ 16 }
+    ensures drives { drives.new.items ≡ drives_of seats.now begin pulses.now outcome.now }
+    ensures few { length drives.new.items ≤ 16 }
 {
-    let mut drives = ArrayVec::new();
-    push_drives(&mut drives, outcome, 0, seats, begin);
+    push_drives(drives, outcome, 0, seats, begin);
     drives.push(begun_drive(pulses, begin, outcome.rest));
-    drives
 }

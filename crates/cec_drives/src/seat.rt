@@ -5,12 +5,12 @@ ghost use Rattle.cec_wave.specs.Sender.{sender_stretches};
 ghost use Rattle.cec_wave.specs.Bounds.{latest_instant, latest_heard, most_sent, most_stretches};
 ghost use Rattle.cec_frame.specs.Bits.{frame_bits};
 ghost use Rattle.cec_bits.specs.Sending.{destination};
-ghost use Rattle.cec_wire.specs.Round.{holds_address, is_held};
+ghost use Rattle.cec_wire.specs.Round.{is_held};
 ghost use Rattle.cec_drives.specs.Stretches.{ack_in, acknowledges_in, break_stretches, breaks_off, cut_after, goes_to, is_short, last_pull, seat_stretches, seat_stretches_by, sent_stretches, slot_fall};
 
 use arrayvec::ArrayVec;
-use cec_bits::{BLOCK_SLOTS, SAMPLE};
-use cec_frame::{Addr, Ending, Frame};
+use cec_bits::{BLOCK_SLOTS, SAMPLE, destination};
+use cec_frame::{Ending, Frame};
 use cec_wave::{Stretch, lay};
 use cec_wire::{ACK_PULL, Outcome, SHORT_PULL, Seat};
 use cec_wires::Drive;
@@ -132,36 +132,11 @@ fn goes_to(sends: &Option<Frame>, out: Option<usize>, slot: usize) -> bool
         }
 }
 
-// A unit at this address, if it has settled, holds an address below 15.
-fn is_at(held: &Option<Addr>, address: u8) -> bool
-    ensures { result ≡ holds_address held.now address }
-{
-    match held {
-        None => false,
-        Some(held) => held.value() == address && held.value() < Addr::BROADCAST,
-    }
-}
-
-// One of the seat's units holds it.
-fn holds(seat: &Seat, address: u8) -> bool
-    ensures { result ≡ is_held seat.now.holds address }
-{
-    seat.holds.iter().any(|held| is_at(held, address))
-}
-
-// The destination, in slots 5 to 8.
-fn destination(bits: &[bool]) -> u8
-    requires { 8 ≤ length bits.now }
-    ensures { result ≡ destination bits.now }
-{
-    8 * u8::from(bits[4]) + 4 * u8::from(bits[5]) + 2 * u8::from(bits[6]) + u8::from(bits[7])
-}
-
 // The header was read, and goes to an address that the seat holds.
 fn is_called(seat: &Seat, bits: &[bool]) -> bool
     ensures { result ≡ (nat_le 8 (length bits.now) && is_held seat.now.holds (destination bits.now)) }
 {
-    bits.len() >= HEADER_BITS && holds(seat, destination(bits))
+    bits.len() >= HEADER_BITS && seat.has_address(destination(bits))
 }
 
 // Whether the seat acknowledges in a slot.

@@ -33,7 +33,17 @@ pub(crate) fn first_address(extensions: &[Ext]) -> Option<Phys>
     }
 }
 
-// An extension with another physical address, and with an amplifier's audio.
+// An extension with another physical address, and with an amplifier's audio. What is made on the way has a frame of its own.
+#[inline(never)]
+fn amplified(ext: &Ext, address: Phys) -> Result<Ext, NoHdmiBlock>
+    ensures bytes { IfOk result (λ e. ext_bytes e ≡ passed_bytes AudioFrom.Amplifier address ext.now) }
+    ensures addressed { IfOk result (λ e. address_of e ≡ Some address) }
+    ensures refused { IsErr result ↔ (address_of ext.now ≡ None) }
+{
+    with_address(&with_audio(ext), address)
+}
+
+// An extension with another physical address, and with an amplifier's audio where it is asked for.
 #[inline(never)]
 fn passed_extension(ext: &Ext, audio: AudioFrom, address: Phys) -> Result<Ext, NoHdmiBlock>
     ensures bytes { IfOk result (λ e. ext_bytes e ≡ passed_bytes audio address ext.now) }
@@ -42,7 +52,7 @@ fn passed_extension(ext: &Ext, audio: AudioFrom, address: Phys) -> Result<Ext, N
 {
     match audio {
         AudioFrom::Television => with_address(ext, address),
-        AudioFrom::Amplifier => with_address(&with_audio(ext), address),
+        AudioFrom::Amplifier => amplified(ext, address),
     }
 }
 

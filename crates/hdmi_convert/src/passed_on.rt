@@ -1,27 +1,16 @@
 //! The EDID that a device is given, what is wrong with it, and the address in an EDID.
-ghost use Rattle.std.specs.Prelude.{◌≡◌, ◌≤◌, ◌↔◌, false, IsTrue, length};
+ghost use Rattle.std.specs.Prelude.{◌≡◌, ◌↔◌, false, IsTrue};
 ghost use Rattle.hdmi_core.specs.Written.{WrittenLine};
 ghost use Rattle.hdmi_convert.specs.PassedOn.{AddressAnswers, PassedAnswers, PassedFindingAnswers, address_line, is_cut, is_check_cut};
 
-use crate::form::{Form, write_edid};
+use crate::form::{Form, write_in};
 use crate::in_place::first_address;
 use crate::passing::{PassOnError, Passing, pass_on};
 use arrayvec::ArrayVec;
-use hdmi_blocks::{Edid, read_parts};
+use hdmi_blocks::read_parts;
 use hdmi_check::{Origin, check, has_failure, write_findings};
 use hdmi_core::{Phys, Piece, Sink, WriteFault, write_line};
 use hdmi_cta::Ext;
-use hdmi_edid::Base;
-
-// The EDID of these parts.
-fn edid_of(base: Base, extensions: ArrayVec<Ext, 3>) -> Edid
-    requires counted { base.extensions ≡ length extensions.items }
-    requires few { length extensions.items ≤ 3 }
-    ensures base { result.base ≡ base }
-    ensures extensions { result.extensions.items ≡ extensions.items }
-{
-    Edid { base, extensions }
-}
 
 /// Writes the EDID that is passed on of the one that some bytes spell, to a device at a place: its address stands in the
 /// first HDMI block, the audio is the amplifier's where it is asked for, and the checksum is mended; all other bytes stay
@@ -43,9 +32,9 @@ pub fn write_passed_on<S: Sink>(
     ensures write { S.is_stuck out.old ≡ false → (IsTrue (is_cut result) ↔ IsTrue (S.is_stuck out.new)) }
 {
     let mut extensions = ArrayVec::new();
-    match pass_on(bytes, passing, &mut extensions) {
-        Err(error) => Err(error),
-        Ok(base) => match write_edid(&edid_of(base, extensions), form, out) {
+    match &pass_on(bytes, passing, &mut extensions) {
+        Err(error) => Err(*error),
+        Ok(base) => match write_in(base, &extensions, form, out) {
             Ok(()) => Ok(()),
             Err(fault) => Err(PassOnError::Write(fault.count)),
         },

@@ -79,8 +79,8 @@ pub fn parse_text(_alloc: Global, text: &[u8]) -> Result<Edid, TextError>
         rest = more;
         number += 1;
     }
-    match draft.finish() {
-        Some(edid) => Ok(edid),
-        None => Err(TextError::Syntax(number)),
+    if !draft.is_whole() {
+        return Err(TextError::Syntax(number));
     }
+    Ok(draft.finish())
 }

@@ -1,5 +1,5 @@
 //! Each line adds to a draft.
-ghost use Rattle.std.specs.Prelude.{◌≡◌, ◌⊎◌, ◌<◌, ◌∷◌, [], ◌++◌, ◌≤◌, false, true, MatchBool, MatchOption, length};
+ghost use Rattle.std.specs.Prelude.{◌≡◌, ◌⊎◌, ◌<◌, ◌∷◌, [], ◌++◌, ◌≤◌, false, true, IsTrue, MatchBool, MatchOption, length};
 ghost use Rattle.arrayvec.specs.ArrayVec.{array_vec_len};
 ghost use Rattle.hdmi_cta.specs.Block.{block_bytes};
 ghost use Rattle.hdmi_cta.specs.declared.raw.RawExt.{RawExt as RawValue};
@@ -277,13 +277,22 @@ impl EdidDraft {
         }
     }
 
-    /// The EDID whose lines these are all.
-    pub fn finish(self) -> Option<Edid>
-        ensures { MatchOption result ((e : EdidValue) → edid_lines e ≡ draft_lines (draft_of self) → ⊥) (λ e. edid_lines e ≡ draft_lines (draft_of self)) }
+    /// Whether the lines so far are all lines of an EDID.
+    pub fn is_whole(&self) -> bool
+        ensures whole { IsTrue result → self.now.stage ≡ Stage.Whole }
+        ensures begun { result ≡ false → (e : EdidValue) → edid_lines e ≡ draft_lines (draft_of self.now) → ⊥ }
     {
         match self.stage {
-            Stage::Whole => Some(edid_of(self.base, self.extensions)),
-            _ => None,
+            Stage::Whole => true,
+            _ => false,
         }
+    }
+
+    /// The EDID whose lines these are all.
+    pub fn finish(self) -> Edid
+        requires { self.stage ≡ Stage.Whole }
+        ensures { edid_lines result ≡ draft_lines (draft_of self) }
+    {
+        edid_of(self.base, self.extensions)
     }
 }

@@ -1,20 +1,21 @@
-use Rattle.hdmi_convert.proofs.Parts.{passed_count, passed_parts}
+use Rattle.std.proofs.Common.{Result, IfOk, subst}
+use Rattle.hdmi_edid.specs.declared.base.Base.{Base}
+use Rattle.hdmi_convert.specs.Passing.{IsPassedOnIn}
+use Rattle.hdmi_convert.specs.declared.passing.PassOnError.{PassOnError}
+use Rattle.hdmi_convert.proofs.Parts.{same_form}
 use Rattle.hdmi_convert.proofs.passed_on.write_passed_on.Goals as goal
 
-pub edid_of-requires-clause-counted : goal.edid_of-requires-clause-counted
-edid_of-requires-clause-counted g c = passed_count c.args.bytes.now c.args.passing c.in-Ok.base c.pass_on.new.extensions.items c.in-Ok.ensures.passed
+pub returns-in-Ok-write_in-clause-answers : goal.returns-in-Ok-write_in-clause-answers
+returns-in-Ok-write_in-clause-answers g c =
+    let P : Result Base PassOnError → Type 0 = λ r. IfOk r (λ base. IsPassedOnIn c.args.bytes.now c.args.passing base c.pass_on.new.extensions.items) in
+    let passed = subst P c.in-Ok.is c.pass_on.ensures.passed in
+    let same = same_form c.args.form c.in-Ok.base c.pass_on.new.extensions.items passed.0 passed.1 passed.2 in
+    let written = rw same at c.in-Ok-write_in.ensures in
+    (passed.0, passed.3, written.0, written.1)
 
-pub returns-in-Ok-write_edid-clause-answers : goal.returns-in-Ok-write_edid-clause-answers
-returns-in-Ok-write_edid-clause-answers g c = (
-  c.edid_of.result,
-  passed_parts c.args.bytes.now c.args.passing c.in-Ok.base c.pass_on.new.extensions.items c.edid_of.result c.edid_of.ensures.base c.edid_of.ensures.extensions c.in-Ok.ensures.passed,
-  c.in-Ok-write_edid.ensures.0,
-  c.in-Ok-write_edid.ensures.1,
-)
-
-pub returns-in-Err-write_edid-clause-answers : goal.returns-in-Err-write_edid-clause-answers
-returns-in-Err-write_edid-clause-answers g c = (
-  c.edid_of.result,
-  passed_parts c.args.bytes.now c.args.passing c.in-Ok.base c.pass_on.new.extensions.items c.edid_of.result c.edid_of.ensures.base c.edid_of.ensures.extensions c.in-Ok.ensures.passed,
-  c.in-Err-write_edid.ensures,
-)
+pub returns-in-Err-write_in-clause-answers : goal.returns-in-Err-write_in-clause-answers
+returns-in-Err-write_in-clause-answers g c =
+    let P : Result Base PassOnError → Type 0 = λ r. IfOk r (λ base. IsPassedOnIn c.args.bytes.now c.args.passing base c.pass_on.new.extensions.items) in
+    let passed = subst P c.in-Ok.is c.pass_on.ensures.passed in
+    let same = same_form c.args.form c.in-Ok.base c.pass_on.new.extensions.items passed.0 passed.1 passed.2 in
+    (passed.0, passed.3, rw same at c.in-Err-write_in.ensures)

@@ -86,29 +86,31 @@ loop-line-preserved c =
       reported = one_more_reported (draft_lines d) (draft_lines next) read line i.reported added c.in-Some-read_line.ensures.found c.in-Some-read_line.ensures.only;
     }
 
-pub returns-in-Some-finish-clause-found : goal.returns-in-Some-finish-clause-found
-returns-in-Some-finish-clause-found c =
+pub returns-clause-found : goal.returns-clause-found
+returns-clause-found c =
     let d = draft_of c.loop-line.draft in
     let lines = c.loop-line.invariant.lines ∙ ap (λ x. map line_text (draft_lines d) ++ x) c.in_default.ensures.lines in
-    found_text c.in-Some-finish.edid (draft_lines d) c.args.text.now c.in-Some-finish.ensures lines
+    found_text c.finish.result (draft_lines d) c.args.text.now c.finish.ensures lines
 
-pub returns-in-Some-finish-clause-only : goal.returns-in-Some-finish-clause-only
-returns-in-Some-finish-clause-only c =
+pub returns-clause-only : goal.returns-clause-only
+returns-clause-only c =
     let d = draft_of c.loop-line.draft in
     let lines = c.loop-line.invariant.lines ∙ ap (λ x. map line_text (draft_lines d) ++ x) c.in_default.ensures.lines in
-    λ e h. ap (λ x. Ok x) (only_one c.in-Some-finish.edid (draft_lines d) c.args.text.now c.loop-line.invariant.reported c.in-Some-finish.ensures lines e h)
+    λ e h. ap (λ x. Ok x) (only_one c.finish.result (draft_lines d) c.args.text.now c.loop-line.invariant.reported c.finish.ensures lines e h)
 
-pub returns-in-None-clause-only : goal.returns-in-None-clause-only
-returns-in-None-clause-only c =
+pub returns-then-not-is_whole-clause-only : goal.returns-then-not-is_whole-clause-only
+returns-then-not-is_whole-clause-only c =
     let i = c.loop-line.invariant in
     let d = draft_of c.loop-line.draft in
     let lines = i.lines ∙ ap (λ x. map line_text (draft_lines d) ++ x) c.in_default.ensures.lines in
-    let bad = unfinished d (lines_with_feeds c.args.text.now) c.loop-line.number i.reported lines i.count c.in-None.ensures in
+    let begun : c.is_whole.result ≡ false = search rules in
+    let bad = unfinished d (lines_with_feeds c.args.text.now) c.loop-line.number i.reported lines i.count (c.is_whole.ensures.begun begun) in
     λ e h. absurd (no_bad (lines_with_feeds c.args.text.now) c.loop-line.number bad e (cut_again e c.args.text.now h))
 
-pub returns-in-None-clause-refused : goal.returns-in-None-clause-refused
-returns-in-None-clause-refused c =
+pub returns-then-not-is_whole-clause-refused : goal.returns-then-not-is_whole-clause-refused
+returns-then-not-is_whole-clause-refused c =
     let i = c.loop-line.invariant in
     let d = draft_of c.loop-line.draft in
     let lines = i.lines ∙ ap (λ x. map line_text (draft_lines d) ++ x) c.in_default.ensures.lines in
-    refusal_at_end d (lines_with_feeds c.args.text.now) c.loop-line.number i.reported lines i.count c.in-None.ensures
+    let begun : c.is_whole.result ≡ false = search rules in
+    refusal_at_end d (lines_with_feeds c.args.text.now) c.loop-line.number i.reported lines i.count (c.is_whole.ensures.begun begun)
