@@ -7,6 +7,7 @@ use Rattle.hdmi_core.proofs.CutShort.{Appends-trans}
 use Rattle.hdmi_core.specs.declared.sink.WriteFault.{WriteFault}
 use Rattle.hdmi_core.specs.Cut.{WrittenText}
 use Rattle.cec_incoming.specs.Incoming.{IsWhole, Leads}
+use Rattle.cec_session.specs.declared.live.Answered.{Answered}
 use Rattle.cec_session.specs.declared.live.Step.{Step}
 use Rattle.cec_session.specs.declared.live.LiveError.{LiveError}
 use Rattle.cec_session.specs.declared.live.LiveError.TheVariants as live
@@ -60,12 +61,12 @@ line_answered s asked t line text step old mid new going asks due put keep = rec
 }
 
 -- it was put whole, and is handed on or not
-pub whole_answered : (s t : Session) (line : List ℕ) (reported count : ℕ) (was is : Bool) (old mid new : Option (List ℕ)) (result : Result Unit SessionError) → s.notes.end ≡ None → IsLineTaken s line t old mid was is (Ok reported)
+pub whole_answered : (s t : Session) (line : List ℕ) (answered : Answered) (count : ℕ) (was is : Bool) (old mid new : Option (List ℕ)) (result : Result Unit SessionError) → s.notes.end ≡ None → IsLineTaken s line t old mid was is (Ok answered)
     → Keeps mid new → IfErr result (λ error. error ≡ Write count) → IsLineAnswered s line t old new result
-whole_answered s t line reported count was is old mid new (Ok done) going (step, asked, asks, (text, due, len, put, flag)) keep error = line_answered s asked t line text step old mid new going asks due put keep
-whole_answered s t line reported count was is old mid new (Err fault) going (step, asked, asks, (text, due, len, put, flag)) keep error =
+whole_answered s t line answered count was is old mid new (Ok done) going (asked, asks, (text, due, len, put, flag)) keep error = line_answered s asked t line text answered.step old mid new going asks due put keep
+whole_answered s t line answered count was is old mid new (Err fault) going (asked, asks, (text, due, len, put, flag)) keep error =
     subst (λ (error : SessionError). IsLineAnswered s line t old new (Err error)) (sym error) (
-      step,
+      answered.step,
       asked,
       asks,
       text,
@@ -84,25 +85,25 @@ cut_answered s t line at count was is old mid new (Err fault) (step, asked, asks
 pub memory_answered : (s t : Session) (line : List ℕ) (was is : Bool) (old new : Option (List ℕ)) → IsLineTaken s line t old new was is (Err live.Memory) → IsLineAnswered s line t old new (Err Memory)
 memory_answered s t line was is old new taken = taken.1
 
-pub whole_from : (s t : Session) (line : List ℕ) (reported count : ℕ) (was is : Bool) (old mid new : Option (List ℕ)) (taken : Result ℕ LiveError) (result : Result Unit SessionError) → taken ≡ Ok reported → s.notes.end ≡ None
+pub whole_from : (s t : Session) (line : List ℕ) (answered : Answered) (count : ℕ) (was is : Bool) (old mid new : Option (List ℕ)) (taken : Result Answered LiveError) (result : Result Unit SessionError) → taken ≡ Ok answered → s.notes.end ≡ None
     → IsLineTaken s line t old mid was is taken → Keeps mid new → IfErr result (λ error. error ≡ Write count) → IsLineAnswered s line t old new result
-whole_from s t line reported count was is old mid new taken result e going w keep error =
-    whole_answered s t line reported count was is old mid new result going (subst (λ (taken : Result ℕ LiveError). IsLineTaken s line t old mid was is taken) e w) keep error
+whole_from s t line answered count was is old mid new taken result e going w keep error =
+    whole_answered s t line answered count was is old mid new result going (subst (λ (taken : Result Answered LiveError). IsLineTaken s line t old mid was is taken) e w) keep error
 
-pub cut_from : (s t : Session) (line : List ℕ) (at count : ℕ) (was is : Bool) (old mid new : Option (List ℕ)) (taken : Result ℕ LiveError) (inner : LiveError) (result : Result Unit SessionError) → taken ≡ Err inner → inner ≡ live.Write at
+pub cut_from : (s t : Session) (line : List ℕ) (at count : ℕ) (was is : Bool) (old mid new : Option (List ℕ)) (taken : Result Answered LiveError) (inner : LiveError) (result : Result Unit SessionError) → taken ≡ Err inner → inner ≡ live.Write at
     → IsLineTaken s line t old mid was is taken → Keeps mid new → (is ≡ true → IsErr result) → IfErr result (λ error. error ≡ Write count) → IsLineAnswered s line t old new result
 cut_from s t line at count was is old mid new taken inner result e f w keep failed error =
     let cut : IsLineTaken s line t old mid was is (Err (live.Write at)) =
-    subst (λ (inner : LiveError). IsLineTaken s line t old mid was is (Err inner)) f (subst (λ (taken : Result ℕ LiveError). IsLineTaken s line t old mid was is taken) e w) in
+    subst (λ (inner : LiveError). IsLineTaken s line t old mid was is (Err inner)) f (subst (λ (taken : Result Answered LiveError). IsLineTaken s line t old mid was is taken) e w) in
     cut_answered s t line at count was is old mid new result cut keep (failed cut.3.1) error
 
-pub memory_from : (s t : Session) (line : List ℕ) (was is : Bool) (old new : Option (List ℕ)) (taken : Result ℕ LiveError) (inner : LiveError) → taken ≡ Err inner → inner ≡ live.Memory → IsLineTaken s line t old new was is taken
+pub memory_from : (s t : Session) (line : List ℕ) (was is : Bool) (old new : Option (List ℕ)) (taken : Result Answered LiveError) (inner : LiveError) → taken ≡ Err inner → inner ≡ live.Memory → IsLineTaken s line t old new was is taken
     → IsLineAnswered s line t old new (Err Memory)
 memory_from s t line was is old new taken inner e f w =
     memory_answered s t line was is old new
-    (subst (λ (inner : LiveError). IsLineTaken s line t old new was is (Err inner)) f (subst (λ (taken : Result ℕ LiveError). IsLineTaken s line t old new was is taken) e w))
+    (subst (λ (inner : LiveError). IsLineTaken s line t old new was is (Err inner)) f (subst (λ (taken : Result Answered LiveError). IsLineTaken s line t old new was is taken) e w))
 
-pub of_memory : (taken : Result ℕ LiveError) (inner : LiveError) → taken ≡ Err inner → inner ≡ live.Memory → IsOfMemory taken
+pub of_memory : (taken : Result Answered LiveError) (inner : LiveError) → taken ≡ Err inner → inner ≡ live.Memory → IsOfMemory taken
 of_memory taken inner e f = subst IsOfMemory (sym e) (subst (λ (inner : LiveError). IsOfMemory (Err inner)) (sym f) tt)
 
 -- ---- what stands first

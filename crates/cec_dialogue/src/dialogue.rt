@@ -7,11 +7,12 @@ ghost use Rattle.cec_dialogue.specs.Dialogue.{AreHanded, IsAnswering, IsFirstPut
 ghost use Rattle.cec_dialogue.specs.declared.error.SessionError.TheVariants.{Write};
 
 use crate::error::{ScriptEnd, SessionError};
+use crate::hearing::{Hearer, Silent};
 use crate::limits::{LONGEST_LINE, MOST_LINES};
 use crate::opening::{begin, topology_text};
 use arrayvec::ArrayVec;
 use cec_incoming::{LineFault, Lines};
-use cec_session::{Live, LiveError};
+use cec_session::{Live, LiveError, Step};
 use hdmi_core::{Buffered, Sink};
 use std::alloc::Global;
 use std::io::Read;
@@ -68,18 +69,32 @@ fn next_line<R: Read>(
     }
 }
 
-// Answers a line, and hands the answer on.
-fn answer_line<S: Sink>(
+// Has a refused line heard of.
+fn tell<H: Hearer>(step: Step, topology: &[u8], number: u64, line: &[u8], hearer: &mut H) {
+    if let Step::Refuse(refusal) = step {
+        hearer.hear(topology, number, line, refusal);
+    }
+}
+
+// Answers a line, the one of this number, and hands the answer on; then a refusal is heard of.
+fn answer_line<S: Sink, H: Hearer>(
     live: &mut Live,
+    topology: &[u8],
+    number: u64,
     line: &[u8],
     out: &mut Buffered<S>,
+    hearer: &mut H,
 ) -> Result<(), SessionError>
     requires going { live.old.notes.end ≡ None }
     ensures answered { IsLineAnswered live.old line.now live.new (⟦<Buffered<S> as Sink>⟧.contents out.old) (⟦<Buffered<S> as Sink>⟧.contents out.new) result }
     ensures handed { AreHanded ⟦<Buffered<S> as Sink>⟧.is_stuck out.old out.new result }
 {
     match live.line(line, out) {
-        Ok(_reported) => hand_on(out),
+        Ok(answered) => {
+            let handed = hand_on(out);
+            tell(answered.step, topology, number, line, hearer);
+            handed
+        }
         Err(error) => match error {
             LiveError::Write(_count) => hand_on(out),
             LiveError::Memory => Err(SessionError::Memory),
@@ -88,12 +103,14 @@ fn answer_line<S: Sink>(
 }
 
 // Answers line after line, up to the end of the script, to which it has not come.
-fn answer<R: Read, S: Sink>(
+fn answer<R: Read, S: Sink, H: Hearer>(
     live: &mut Live,
+    topology: &[u8],
     lines: &mut Lines,
     input: &mut R,
     line: &mut ArrayVec<u8, LONGEST_LINE>,
     out: &mut Buffered<S>,
+    hearer: &mut H,
 ) -> Result<(), SessionError>
     requires going { live.old.notes.end ≡ None }
     ensures answered { IsAnswering (to_come lines.old (R.remaining input.old)) (to_come lines.new (R.remaining input.new)) live.old
@@ -103,7 +120,14 @@ fn answer<R: Read, S: Sink>(
     for answered in 0..MOST_LINES {
         match next_line(lines, input, line, answered + 1) {
             Err(error) => return Err(error),
-            Ok(()) => match answer_line(live, line.as_slice(), out) {
+            Ok(()) => match answer_line(
+                live,
+                topology,
+                answered + 1,
+                line.as_slice(),
+                out,
+                hearer,
+            ) {
                 Err(error) => return Err(error),
                 Ok(()) => {}
             },
@@ -116,12 +140,14 @@ fn answer<R: Read, S: Sink>(
 }
 
 // Writes what stands first, and answers line after line.
-fn talk<R: Read, S: Sink>(
+fn talk<R: Read, S: Sink, H: Hearer>(
     live: &mut Live,
+    topology: &[u8],
     lines: &mut Lines,
     input: &mut R,
     line: &mut ArrayVec<u8, LONGEST_LINE>,
     out: &mut Buffered<S>,
+    hearer: &mut H,
 ) -> Result<(), SessionError>
     requires going { live.old.notes.end ≡ None }
     ensures talked { IsTalk (to_come lines.old (R.remaining input.old)) (to_come lines.new (R.remaining input.new)) live.old
@@ -130,7 +156,7 @@ fn talk<R: Read, S: Sink>(
 {
     match put_first(live, out) {
         Err(error) => Err(error),
-        Ok(()) => answer(live, lines, input, line, out),
+        Ok(()) => answer(live, topology, lines, input, line, out, hearer),
     }
 }
 
@@ -151,13 +177,39 @@ pub fn session<R: Read, S: Sink>(
     ensures session { (after : Option (List ℕ)) × IsSession (R.remaining input.old) after (⟦<Buffered<S> as Sink>⟧.contents out.old) (⟦<Buffered<S> as Sink>⟧.contents out.new) result }
     ensures handed { AreHanded ⟦<Buffered<S> as Sink>⟧.is_stuck out.old out.new result }
 {
+    session_heard(alloc, input, out, &mut Silent)
+}
+
+/// [`session`], of which each refused line is heard of once its answer is handed on.
+///
+/// # Errors
+///
+/// Those of [`session`].
+pub fn session_heard<R: Read, S: Sink, H: Hearer>(
+    alloc: Global,
+    input: &mut R,
+    out: &mut Buffered<S>,
+    hearer: &mut H,
+) -> Result<(), SessionError>
+    ensures limits { IsInLimits (R.remaining input.old) result }
+    ensures session { (after : Option (List ℕ)) × IsSession (R.remaining input.old) after (⟦<Buffered<S> as Sink>⟧.contents out.old) (⟦<Buffered<S> as Sink>⟧.contents out.new) result }
+    ensures handed { AreHanded ⟦<Buffered<S> as Sink>⟧.is_stuck out.old out.new result }
+{
     let mut lines = Lines::new();
     let mut line = ArrayVec::new();
     match topology_text(alloc, &mut lines, input, &mut line) {
         Err(error) => Err(error),
         Ok(text) => match begin(alloc, text.as_slice()) {
             Err(error) => Err(error),
-            Ok(mut live) => talk(&mut live, &mut lines, input, &mut line, out),
+            Ok(mut live) => talk(
+                &mut live,
+                text.as_slice(),
+                &mut lines,
+                input,
+                &mut line,
+                out,
+                hearer,
+            ),
         },
     }
 }

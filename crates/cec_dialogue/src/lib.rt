@@ -3,8 +3,10 @@
 
 mod dialogue;
 mod error;
+mod hearing;
 mod limits;
 mod opening;
 
-pub use dialogue::session;
+pub use dialogue::{session, session_heard};
 pub use error::{ScriptEnd, SessionError};
+pub use hearing::{Hearer, Silent};

@@ -11,12 +11,12 @@ use Rattle.cec_run.proofs.Turns.{same_outcome}
 use Rattle.cec_wave.specs.declared.Stretch.{Stretch}
 use Rattle.cec_session.specs.declared.edges.Span.{Span}
 use Rattle.cec_session.specs.Edges.{edge_line, edge_reported, edges_reported, first_edge, is_in}
-use Rattle.cec_session.specs.declared.answer.Refusal.TheVariants.{Past}
+use Rattle.cec_session.specs.declared.answer.RefusalCause.TheVariants.{Past}
 use Rattle.cec_session.specs.declared.live.Step.{Step}
-use Rattle.cec_session.specs.declared.live.Step.TheVariants.{Refuse, Edge}
-use Rattle.cec_session.specs.Session.{Session, edge_horizon, IsEdge, IsEdgeStep, IsEdgeStepBy}
+use Rattle.cec_session.specs.declared.live.Step.TheVariants.{Edge}
+use Rattle.cec_session.specs.Session.{Session, edge_horizon, refuse, IsEdge, IsEdgeStep, IsEdgeStepBy}
 
-pub edge_past : (s t : Session) (until : ℕ) (step : Step) → until < s.horizon → step ≡ Refuse Past → t ≡ s → IsEdgeStep s (Some until) step t
+pub edge_past : (s t : Session) (until : ℕ) (step : Step) → until < s.horizon → step ≡ refuse 1 Past → t ≡ s → IsEdgeStep s (Some until) step t
 edge_past s t until step l asks stands = let e : nat_lt until s.horizon ≡ true = grind (arith, nat_tests) in subst (λ (b : Bool). IsEdgeStepBy b s until step t) (sym e) (asks, stands)
 
 pub edge_on : (s t : Session) (until to : ℕ) (step : Step) → s.horizon ≤ until → step ≡ Edge → IsEdge s.horizon until s.place to → t ≡ record s { horizon = max s.horizon to } → IsEdgeStep s (Some until) step t

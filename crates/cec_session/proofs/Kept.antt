@@ -8,13 +8,13 @@ use Rattle.cec_asm.proofs.Adding.{read_again}
 use Rattle.cec_asm.specs.Script.{Course, Notes, ScriptFault, IsLineRead, AreLinesRead, course_at_end, no_notes}
 use Rattle.cec_asm.specs.declared.fault.LineFault.{LineFault}
 use Rattle.cec_run.specs.Run.{Config}
-use Rattle.cec_session.specs.declared.answer.Refusal.TheVariants.{Past}
+use Rattle.cec_session.specs.declared.answer.RefusalCause.TheVariants.{Past}
 use Rattle.cec_session.specs.declared.command.Command.{Command}
 use Rattle.cec_session.specs.declared.command.Command.TheVariants as commands
 use Rattle.cec_session.specs.declared.live.Step.{Step}
 use Rattle.cec_session.specs.declared.live.Step.TheVariants.{Refuse, Idle, Show, Go, Edge, Finish}
 use Rattle.cec_session.specs.Command.{command_of}
-use Rattle.cec_session.specs.Session.{Session, first_session, with_line_counted, standing, with_standing, standing_with, step_noted, step_by, is_late, after_to, after_wait, IsEdgeStep, IsEdgeStepBy, IsStepBy, IsDue}
+use Rattle.cec_session.specs.Session.{Session, first_session, refuse, with_line_counted, standing, with_standing, standing_with, step_noted, step_by, is_late, after_to, after_wait, IsEdgeStep, IsEdgeStepBy, IsStepBy, IsDue}
 use Rattle.cec_session.specs.Whole.{kept_line, IsLine, AreLines, SessionsReportTracesOf}
 use Rattle.cec_session.proofs.Extends.{line_extends}
 use Rattle.cec_session.proofs.Noting.{taken}
@@ -82,12 +82,12 @@ refused_reads s t e = empty_reads s t (subst (λ (t : Session). Stays s t) (sym 
 taken_reads : (s : Session) (line : List ℕ) (new : Notes) (late : Bool) (t : Session) → IsLineRead s.tree s.notes (length s.place.net.pulses) s.lines line (Ok new) → is_late (standing s) new ≡ late
     → t ≡ with_standing s (standing_with (standing s) (Ok new)) → Reads s (kept_line commands.Script (step_noted (standing s) (Ok new)) line) t
 taken_reads s line new true t read e stands =
-    let step : step_noted (standing s) (Ok new) ≡ Refuse Past = ap (λ b. if b then Refuse Past else step_by new.end) e in
+    let step : step_noted (standing s) (Ok new) ≡ refuse 1 Past = ap (λ b. if b then refuse 1 Past else step_by new.end) e in
     let same : standing_with (standing s) (Ok new) ≡ standing s = ap (λ b. if b then standing s else taken (standing s) new) e in
     subst (λ (step : Step). Reads s (kept_line commands.Script step line) t) (sym step)
     (refused_reads s t (stands ∙ ap (with_standing s) same))
 taken_reads s line new false t read e stands =
-    let step : step_noted (standing s) (Ok new) ≡ step_by new.end = ap (λ b. if b then Refuse Past else step_by new.end) e in
+    let step : step_noted (standing s) (Ok new) ≡ step_by new.end = ap (λ b. if b then refuse 1 Past else step_by new.end) e in
     let same : standing_with (standing s) (Ok new) ≡ taken (standing s) new = ap (λ b. if b then standing s else taken (standing s) new) e in
     subst (λ (step : Step). Reads s (kept_line commands.Script step line) t) (sym step) (subst (λ (kept : List ℕ). Reads s kept t) (sym (keeps new.end))
     (subst (λ (t : Session). Reads s line t) (sym (stands ∙ ap (with_standing s) same)) (record { tree = refl; lines = refl; read = read })))

@@ -9,10 +9,10 @@ use Rattle.cec_asm.specs.declared.script.TimedEvent.{TimedEvent}
 use Rattle.cec_asm.specs.declared.fault.LineFault.{LineFault}
 use Rattle.cec_asm.proofs.Sound.{AreSound, line-keeps}
 use Rattle.cec_certain.specs.Certain.{with_pulses}
-use Rattle.cec_session.specs.declared.answer.Refusal.TheVariants.{Past}
-use Rattle.cec_session.specs.declared.live.Step.TheVariants.{Refuse, Go, Finish}
+use Rattle.cec_session.specs.declared.answer.RefusalCause.TheVariants.{Past}
+use Rattle.cec_session.specs.declared.live.Step.TheVariants.{Go, Finish}
 use Rattle.cec_session.specs.Note.{Extends, IsSettled}
-use Rattle.cec_session.specs.Session.{Session, Standing, AreFit, IsReady, standing, with_standing, standing_with, step_by, is_late, is_past, refuses_pulse, horizon_by, new_events, new_pulses}
+use Rattle.cec_session.specs.Session.{Session, Standing, AreFit, IsReady, refuse, standing, with_standing, standing_with, step_by, is_late, is_past, refuses_pulse, horizon_by, new_events, new_pulses}
 use Rattle.cec_session.proofs.Extends.{line_extends, front_all}
 
 -- ---- what becomes of a line
@@ -31,9 +31,9 @@ abbrev pub taken : Standing → Notes → Standing
 taken s new = record { notes = new; horizon = horizon_by s.horizon new.end; net = with_pulses (new_pulses s.notes new) s.net }
 
 settled_late : (s : Standing) (new : Notes) → Extends s.notes new → s.notes.end ≡ None → is_late s new ≡ true
-    → IsSettled s (Ok new) (Refuse Past) (record { notes = back s.notes new; horizon = s.horizon; net = s.net })
+    → IsSettled s (Ok new) (refuse 1 Past) (record { notes = back s.notes new; horizon = s.horizon; net = s.net })
 settled_late s new e none late = record {
-  asks = sym (ap (λ b. if b then Refuse Past else step_by new.end) late);
+  asks = sym (ap (λ b. if b then refuse 1 Past else step_by new.end) late);
   stands = ap (λ (n : Notes). let t : Standing = record { notes = n; horizon = s.horizon; net = s.net } in t) (back_is s.notes new e none) ∙ sym (ap (λ b. if b then s else taken s new) late);
 }
 
@@ -50,18 +50,18 @@ or_none true b e f = e
 or_none false b e f = f
 
 pub settled_past : (old new : Notes) (horizon : ℕ) (net : NetState) → Extends old new → old.end ≡ None → is_past horizon old new ≡ true
-    → IsSettled (record { notes = old; horizon = horizon; net = net }) (Ok new) (Refuse Past) (record { notes = back old new; horizon = horizon; net = net })
+    → IsSettled (record { notes = old; horizon = horizon; net = net }) (Ok new) (refuse 1 Past) (record { notes = back old new; horizon = horizon; net = net })
 settled_past old new horizon net e none past =
     settled_late (record { notes = old; horizon = horizon; net = net }) new e none (or_true (is_past horizon old new) (refuses_pulse (new_pulses old new) net) past)
 
 pub settled_refused : (old new : Notes) (horizon : ℕ) (net : NetState) → Extends old new → old.end ≡ None → is_past horizon old new ≡ false → refuses_pulse (new_pulses old new) net ≡ true
-    → IsSettled (record { notes = old; horizon = horizon; net = net }) (Ok new) (Refuse Past) (record { notes = back old new; horizon = horizon; net = net })
+    → IsSettled (record { notes = old; horizon = horizon; net = net }) (Ok new) (refuse 1 Past) (record { notes = back old new; horizon = horizon; net = net })
 settled_refused old new horizon net e none past refused =
     settled_late (record { notes = old; horizon = horizon; net = net }) new e none (or_else (is_past horizon old new) (refuses_pulse (new_pulses old new) net) past refused)
 
 settled_taken : (s : Standing) (new : Notes) → is_late s new ≡ false → IsSettled s (Ok new) (step_by new.end) (taken s new)
 settled_taken s new late = record {
-  asks = sym (ap (λ b. if b then Refuse Past else step_by new.end) late);
+  asks = sym (ap (λ b. if b then refuse 1 Past else step_by new.end) late);
   stands = sym (ap (λ b. if b then s else taken s new) late);
 }
 

@@ -21,14 +21,14 @@ use Rattle.cec_certain.proofs.Apart.{faultless_are_apart}
 use Rattle.cec_certain.proofs.Certainty.{turns_stay_certain, reported_is_front}
 use Rattle.cec_certain.proofs.Before.{all_on}
 use Rattle.cec_asm.specs.declared.script.ScriptCause.TheVariants.{Number}
-use Rattle.cec_session.specs.declared.answer.Refusal.TheVariants.{Script, Past}
+use Rattle.cec_session.specs.declared.answer.RefusalCause.TheVariants.{Script, Past}
 use Rattle.cec_session.specs.declared.command.Command.{Command}
 use Rattle.cec_session.specs.declared.command.Command.TheVariants as commands
 use Rattle.cec_session.specs.declared.live.Step.{Step}
 use Rattle.cec_session.specs.declared.live.Step.TheVariants.{Refuse, Idle, Show, Go, Edge, Finish}
 use Rattle.cec_session.specs.Turns.{IsReported, Goes}
 use Rattle.cec_session.specs.Command.{command_of}
-use Rattle.cec_session.specs.Session.{Session, Standing, first_session, with_line_counted, standing, with_standing, standing_with, step_noted, step_by, step_to, after_to, step_wait, after_wait, step_show, span_of, is_late, is_past, refuses_pulse, ends_before, horizon_by, new_events, new_pulses, IsEdgeStep, IsEdgeStepBy, IsStepBy, IsDue, SessionGoes}
+use Rattle.cec_session.specs.Session.{Session, Standing, first_session, refuse, with_line_counted, standing, with_standing, standing_with, step_noted, step_by, step_to, after_to, step_wait, after_wait, step_show, span_of, is_late, is_past, refuses_pulse, ends_before, horizon_by, new_events, new_pulses, IsEdgeStep, IsEdgeStepBy, IsStepBy, IsDue, SessionGoes}
 use Rattle.cec_session.specs.Whole.{reported_of, AreLines, SessionsReportFronts, SessionsReportTraces}
 use Rattle.cec_session.proofs.Extends.{line_extends}
 use Rattle.cec_session.proofs.Going.{goes_of}
@@ -142,10 +142,10 @@ end_taken s new (Some end) e = e
 asked_late : (edid : Option Edid) (tree : List Node) (s : Session) (reported line : List ℕ) (new : Notes) (late : Bool) → is_late (standing s) new ≡ late → SoFar edid tree s reported → s.notes.end ≡ None
     → IsLineRead s.tree s.notes (length s.place.net.pulses) s.lines line (Ok new) → Asked edid tree (step_noted (standing s) (Ok new)) (with_standing s (standing_with (standing s) (Ok new))) reported
 asked_late edid tree s reported line new true e r going read =
-    subst (λ (b : Bool). Asked edid tree (if b then Refuse Past else step_by new.end) (with_standing s (if b then standing s else taken (standing s) new)) reported) (sym e)
-    (subst (λ (t : Session). Asked edid tree (Refuse Past) t reported) (sym (same_standing s)) (record { so_far = r; ended = going }))
+    subst (λ (b : Bool). Asked edid tree (if b then refuse 1 Past else step_by new.end) (with_standing s (if b then standing s else taken (standing s) new)) reported) (sym e)
+    (subst (λ (t : Session). Asked edid tree (refuse 1 Past) t reported) (sym (same_standing s)) (record { so_far = r; ended = going }))
 asked_late edid tree s reported line new false e r going read =
-    subst (λ (b : Bool). Asked edid tree (if b then Refuse Past else step_by new.end) (with_standing s (if b then standing s else taken (standing s) new)) reported) (sym e)
+    subst (λ (b : Bool). Asked edid tree (if b then refuse 1 Past else step_by new.end) (with_standing s (if b then standing s else taken (standing s) new)) reported) (sym e)
     (record { so_far = asked_taken edid tree s reported line new r read e; ended = ended new.end refl })
   where
     ended : (end : Option ℕ) → new.end ≡ end → EndBy (step_by new.end) (with_standing s (taken (standing s) new))
@@ -155,7 +155,7 @@ asked_late edid tree s reported line new false e r going read =
 asked_read : (edid : Option Edid) (tree : List Node) (s : Session) (reported line : List ℕ) (read : Result Notes LineFault) → SoFar edid tree s reported → s.notes.end ≡ None
     → IsLineRead s.tree s.notes (length s.place.net.pulses) s.lines line read → Asked edid tree (step_noted (standing s) read) (with_standing s (standing_with (standing s) read)) reported
 asked_read edid tree s reported line (Err fault) r going read =
-    subst (λ (t : Session). Asked edid tree (Refuse (Script fault.cause)) t reported) (sym (same_standing s)) (record { so_far = r; ended = going })
+    subst (λ (t : Session). Asked edid tree (refuse fault.word (Script fault.cause)) t reported) (sym (same_standing s)) (record { so_far = r; ended = going })
 asked_read edid tree s reported line (Ok new) r going read = asked_late edid tree s reported line new (is_late (standing s) new) refl r going read
 
 -- ---- its other lines
@@ -166,9 +166,9 @@ asked_to edid tree s reported (Some time) r going = by_test (nat_lt time s.horiz
   where
     by_test : (b : Bool) → nat_lt time s.horizon ≡ b → Asked edid tree (step_to s (Some time)) (after_to s (Some time)) reported
     by_test true e =
-        subst (λ (b : Bool). Asked edid tree (if b then Refuse Past else Go) (if b then s else record s { horizon = time }) reported) (sym e) (record { so_far = r; ended = going })
+        subst (λ (b : Bool). Asked edid tree (if b then refuse 2 Past else Go) (if b then s else record s { horizon = time }) reported) (sym e) (record { so_far = r; ended = going })
     by_test false e =
-        subst (λ (b : Bool). Asked edid tree (if b then Refuse Past else Go) (if b then s else record s { horizon = time }) reported) (sym e)
+        subst (λ (b : Bool). Asked edid tree (if b then refuse 2 Past else Go) (if b then s else record s { horizon = time }) reported) (sym e)
         (record { so_far = raised edid tree s reported time r (grind (arith, nat_tests)); ended = going })
 
 asked_wait : (edid : Option Edid) (tree : List Node) (s : Session) (reported : List ℕ) (soon : Option ℕ) → SoFar edid tree s reported → s.notes.end ≡ None → Asked edid tree (step_wait soon) (after_wait s soon) reported
@@ -182,12 +182,12 @@ asked_show edid tree s reported (Some device) r going = record { so_far = r; end
 asked_edge : (edid : Option Edid) (tree : List Node) (s : Session) (reported : List ℕ) (time : Option ℕ) (step : Step) (t : Session) → SoFar edid tree s reported → s.notes.end ≡ None → IsEdgeStep s time step t
     → Asked edid tree step t reported
 asked_edge edid tree s reported None step t r going (asks, stands) =
-    subst (λ (step : Step). Asked edid tree step t reported) (sym asks) (subst (λ (t : Session). Asked edid tree (Refuse (Script Number)) t reported) (sym stands) (record { so_far = r; ended = going }))
+    subst (λ (step : Step). Asked edid tree step t reported) (sym asks) (subst (λ (t : Session). Asked edid tree (refuse 1 (Script Number)) t reported) (sym stands) (record { so_far = r; ended = going }))
 asked_edge edid tree s reported (Some until) step t r going is = by_test (nat_lt until s.horizon) is
   where
     by_test : (b : Bool) → IsEdgeStepBy b s until step t → Asked edid tree step t reported
     by_test true (asks, stands) =
-        subst (λ (step : Step). Asked edid tree step t reported) (sym asks) (subst (λ (t : Session). Asked edid tree (Refuse Past) t reported) (sym stands) (record { so_far = r; ended = going }))
+        subst (λ (step : Step). Asked edid tree step t reported) (sym asks) (subst (λ (t : Session). Asked edid tree (refuse 1 Past) t reported) (sym stands) (record { so_far = r; ended = going }))
     by_test false (asks, to, edge, stands) =
         subst (λ (step : Step). Asked edid tree step t reported) (sym asks) (subst (λ (t : Session). Asked edid tree Edge t reported) (sym stands)
         (record { so_far = raised edid tree s reported (max s.horizon to) r (omega arith); ended = going }))

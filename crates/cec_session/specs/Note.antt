@@ -6,10 +6,9 @@ use Rattle.cec_asm.specs.declared.script.TimedEvent.{TimedEvent}
 use Rattle.cec_asm.specs.declared.fault.LineFault.{LineFault}
 use Rattle.cec_asm.specs.declared.script.ScriptLineError.{ScriptLineError}
 use Rattle.cec_asm.specs.declared.script.ScriptLineError.TheVariants.{Fault, Memory}
-use Rattle.cec_session.specs.declared.answer.Refusal.TheVariants.{Script}
+use Rattle.cec_session.specs.declared.answer.RefusalCause.TheVariants.{Script}
 use Rattle.cec_session.specs.declared.live.Step.{Step}
-use Rattle.cec_session.specs.declared.live.Step.TheVariants.{Refuse}
-use Rattle.cec_session.specs.Session.{Standing, step_noted, standing_with}
+use Rattle.cec_session.specs.Session.{Standing, refuse, step_noted, standing_with}
 
 -- one event at most, and one pulse at most
 pub record Extends (old new : Notes) : Type 0 where
@@ -27,5 +26,5 @@ pub record IsSettled (s : Standing) (read : Result Notes LineFault) (step : Step
 
 -- a line that is not taken is refused, or memory ran out
 abbrev pub refused_by : ScriptLineError → Option Step
-refused_by (Fault fault) = Some (Refuse (Script fault.cause))
+refused_by (Fault fault) = Some (refuse fault.word (Script fault.cause))
 refused_by Memory = None

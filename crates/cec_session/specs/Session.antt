@@ -27,7 +27,8 @@ use Rattle.cec_certain.specs.Certain.{with_pulses}
 use Rattle.cec_session.specs.declared.command.Command.{Command}
 use Rattle.cec_session.specs.declared.command.Command.TheVariants as commands
 use Rattle.cec_session.specs.declared.answer.Refusal.{Refusal}
-use Rattle.cec_session.specs.declared.answer.Refusal.TheVariants.{Script, Past}
+use Rattle.cec_session.specs.declared.answer.RefusalCause.{RefusalCause}
+use Rattle.cec_session.specs.declared.answer.RefusalCause.TheVariants.{Script, Past}
 use Rattle.cec_session.specs.declared.live.Step.{Step}
 use Rattle.cec_session.specs.declared.live.Step.TheVariants.{Refuse, Idle, Show, Go, Edge, Finish}
 use Rattle.cec_session.specs.Command.{command_of}
@@ -100,10 +101,14 @@ abbrev pub step_by : Option ℕ → Step
 step_by None = Go
 step_by (Some end) = Finish
 
--- what the line asks for: it is refused for its own cause, or else because it is too late, or else taken
+-- it is refused for a cause, with this word at fault: its number from 0, or where one is missing the number that it would have
+abbrev pub refuse : ℕ → RefusalCause → Step
+refuse word cause = Refuse (record { cause = cause; word = word })
+
+-- what the line asks for: it is refused for its own cause, or else because it is too late, with its time at fault, or else taken
 abbrev pub step_noted : Standing → Result Notes LineFault → Step
-step_noted s (Err fault) = Refuse (Script fault.cause)
-step_noted s (Ok new) = if is_late s new then Refuse Past else step_by new.end
+step_noted s (Err fault) = refuse fault.word (Script fault.cause)
+step_noted s (Ok new) = if is_late s new then refuse 1 Past else step_by new.end
 
 -- and what it changes; a refusal changes nothing
 abbrev pub standing_with : Standing → Result Notes LineFault → Standing
@@ -125,8 +130,8 @@ with_standing s t = record s {
 -- ---- `run to T`
 
 abbrev pub step_to : Session → Option ℕ → Step
-step_to s None = Refuse (Script Number)
-step_to s (Some time) = if nat_lt time s.horizon then Refuse Past else Go
+step_to s None = refuse 2 (Script Number)
+step_to s (Some time) = if nat_lt time s.horizon then refuse 2 Past else Go
 
 abbrev pub after_to : Session → Option ℕ → Session
 after_to s None = s
@@ -171,17 +176,17 @@ abbrev pub IsEdge : ℕ → ℕ → Config → ℕ → Type 0
 IsEdge from until c to = IsEdgeBy from until c.net (turn_at until c) to
 
 abbrev pub IsEdgeStepBy : Bool → Session → ℕ → Step → Session → Type 0
-IsEdgeStepBy true s until step t = (step ≡ Refuse Past) × (t ≡ s)
+IsEdgeStepBy true s until step t = (step ≡ refuse 1 Past) × (t ≡ s)
 IsEdgeStepBy false s until step t = (step ≡ Edge) × (to : ℕ) × IsEdge s.horizon until s.place to × (t ≡ record s { horizon = max s.horizon to })
 
 abbrev pub IsEdgeStep : Session → Option ℕ → Step → Session → Type 0
-IsEdgeStep s None step t = (step ≡ Refuse (Script Number)) × (t ≡ s)
+IsEdgeStep s None step t = (step ≡ refuse 1 (Script Number)) × (t ≡ s)
 IsEdgeStep s (Some until) step t = IsEdgeStepBy (nat_lt until s.horizon) s until step t
 
 -- ---- `show NAME`
 
 abbrev pub step_show : Option ℕ → Step
-step_show None = Refuse (Script Name)
+step_show None = refuse 1 (Script Name)
 step_show (Some device) = Show device
 
 -- ---- what a line asks for
@@ -201,7 +206,7 @@ IsStep s line step t = IsStepBy (with_line_counted s) (command_of s.tree line) l
 
 -- ---- what is due
 
-abbrev pub refusal_cause : Refusal → List ℕ
+abbrev pub refusal_cause : RefusalCause → List ℕ
 refusal_cause Past = codes "past"
 refusal_cause (Script cause) = script_cause cause
 
@@ -213,7 +218,7 @@ abbrev pub idle_line : ℕ → List ℕ
 idle_line horizon = codes "= " ++ (decimal horizon ++ codes " idle\n")
 
 abbrev pub refused_line : ℕ → Refusal → List ℕ
-refused_line line refusal = codes "! " ++ (decimal line ++ (codes " " ++ (refusal_cause refusal ++ codes "\n")))
+refused_line line refusal = codes "! " ++ (decimal line ++ (codes " " ++ (refusal_cause refusal.cause ++ codes "\n")))
 
 -- the instants whose edges are reported where a session goes on: none, those from the horizon before the line on to the horizon, or
 -- all that are left

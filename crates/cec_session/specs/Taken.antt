@@ -5,6 +5,7 @@ use Rattle.hdmi_core.specs.declared.sink.WriteFault.{WriteFault}
 use Rattle.hdmi_core.specs.Adds.{Adds, Tally}
 use Rattle.hdmi_core.specs.Cut.{CutOff, reported_count}
 use Rattle.cec_run.specs.Run.{Config}
+use Rattle.cec_session.specs.declared.live.Answered.{Answered}
 use Rattle.cec_session.specs.declared.live.Step.{Step}
 use Rattle.cec_session.specs.declared.live.LiveError.{LiveError}
 use Rattle.cec_session.specs.declared.live.LiveError.TheVariants.{Write, Memory}
@@ -39,17 +40,17 @@ abbrev pub IsAnswered : Step → Session → Session → Option (List ℕ) → O
 IsAnswered step s t old new was is (Ok reported) = (text : List ℕ) × IsDue step s text t × (reported ≡ reported_count (length text)) × Appends old new text × (is ≡ was)
 IsAnswered step s t old new was is (Err fault) = ((text : List ℕ) × (after : Session) × IsDue step s text after × CutOff old new text fault) × (is ≡ true) × StandsSomewhere s t
 
--- A line asks for a step, and what is due of that was written. After a failed write the front of the text that is due was
+-- A line asks for a step, which is said, and what is due of that was written. After a failed write the front of the text that is due was
 -- written, as long as the fault says, and the session is the one that was asked, but for the place where its run stands. Where memory ran out the line counts, and nothing else has changed.
-abbrev pub IsLineTaken : Session → List ℕ → Session → Option (List ℕ) → Option (List ℕ) → Bool → Bool → Result ℕ LiveError → Type 0
-IsLineTaken s line t old new was is (Ok reported) =
-    (step : Step) × (asked : Session) × IsStep s line step asked × IsAnswered step asked t old new was is (Ok reported)
+abbrev pub IsLineTaken : Session → List ℕ → Session → Option (List ℕ) → Option (List ℕ) → Bool → Bool → Result Answered LiveError → Type 0
+IsLineTaken s line t old new was is (Ok answered) =
+    (asked : Session) × IsStep s line answered.step asked × IsAnswered answered.step asked t old new was is (Ok answered.count)
 IsLineTaken s line t old new was is (Err (Write count)) =
     (step : Step) × (asked : Session) × IsStep s line step asked × IsAnswered step asked t old new was is (Err (record { count = count }))
 IsLineTaken s line t old new was is (Err Memory) = (t ≡ with_line_counted s) × (new ≡ old) × (is ≡ was)
 
 -- memory ran out
-abbrev pub IsOfMemory : Result ℕ LiveError → Type 0
-IsOfMemory (Ok reported) = ⊥
+abbrev pub IsOfMemory : Result Answered LiveError → Type 0
+IsOfMemory (Ok answered) = ⊥
 IsOfMemory (Err (Write count)) = ⊥
 IsOfMemory (Err Memory) = Unit {0}

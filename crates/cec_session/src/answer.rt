@@ -13,11 +13,18 @@ use hdmi_core::{Counted, Piece, Sink};
 
 /// Why a line is refused: the first that applies.
 #[derive(Clone, Copy, Debug, Drop, PartialEq, Eq)]
-pub enum Refusal {
+pub enum RefusalCause {
     /// As a line of a script is.
     Script(ScriptCause),
     /// It is for an instant before the horizon.
     Past,
+}
+
+/// Why a line is refused, and the word at fault, counted from 0; where a word is missing, the number that it would have.
+#[derive(Clone, Copy, Debug, Drop, PartialEq, Eq)]
+pub struct Refusal {
+    pub cause: RefusalCause,
+    pub word: usize,
 }
 
 // The words of a frame's cause.
@@ -49,12 +56,12 @@ fn script_cause(cause: ScriptCause) -> &'static str
     }
 }
 
-fn refusal_cause(refusal: Refusal) -> &'static str
-    ensures { result.now ≡ refusal_cause refusal }
+fn refusal_cause(cause: RefusalCause) -> &'static str
+    ensures { result.now ≡ refusal_cause cause }
 {
-    match refusal {
-        Refusal::Script(cause) => script_cause(cause),
-        Refusal::Past => "past",
+    match cause {
+        RefusalCause::Script(cause) => script_cause(cause),
+        RefusalCause::Past => "past",
     }
 }
 
@@ -84,7 +91,7 @@ pub(crate) fn add_idle<S: Sink>(out: &mut Counted<'_, S>, horizon: u64)
 pub(crate) fn add_refused<S: Sink>(out: &mut Counted<'_, S>, line: u64, refusal: Refusal)
     ensures { Adds out.old out.new (refused_line line refusal) }
 {
-    let cause = refusal_cause(refusal);
+    let cause = refusal_cause(refusal.cause);
     out.add_line(&[
         Piece::Text("! "),
         Piece::Decimal(line),

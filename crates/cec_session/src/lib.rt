@@ -11,9 +11,9 @@ mod note;
 mod session_text;
 mod turns;
 
-pub use answer::Refusal;
+pub use answer::{Refusal, RefusalCause};
 pub use laws::{
     edges_stay, sessions_report_fronts, sessions_report_traces, sessions_report_traces_of,
     steps_have_one_text,
 };
-pub use live::{Live, LiveError, Step};
+pub use live::{Answered, Live, LiveError, Step};

@@ -1,9 +1,9 @@
 //! A run whose script comes line by line.
 ghost use Rattle.std.specs.Prelude.{◌≡◌, IfOk, Option, option_map};
 ghost use Rattle.cec_wave.specs.Bounds.{latest_event};
-ghost use Rattle.cec_session.specs.Session.{step_show};
+ghost use Rattle.cec_session.specs.Session.{refuse, step_show};
 
-use crate::answer::{Refusal, add_idle, add_refused, add_shown, add_taken};
+use crate::answer::{Refusal, RefusalCause, add_idle, add_refused, add_shown, add_taken};
 use crate::command::{Command, command_in};
 use crate::edges::Span;
 use crate::foreseen::Foreseen;
@@ -35,6 +35,14 @@ pub enum Step {
     Edge,
     /// The run goes on to its end.
     Finish,
+}
+
+/// What a line has asked for, and how many bytes were written of what is due then.
+#[derive(Clone, Copy, Debug, Drop, PartialEq, Eq)]
+pub struct Answered {
+    pub step: Step,
+    /// It stays at its greatest value.
+    pub count: u128,
 }
 
 /// Why a line was not answered.
@@ -102,11 +110,18 @@ impl Model for Live {
         × (l.applied ≤ length l.draft.events.items) };
 }
 
+// A line is refused, with this word at fault.
+fn refuse(word: usize, cause: RefusalCause) -> Step
+    ensures { result ≡ refuse word cause }
+{
+    Step::Refuse(Refusal { cause, word })
+}
+
 fn shown(device: Option<usize>) -> Step
     ensures { result ≡ step_show device }
 {
     match device {
-        None => Step::Refuse(Refusal::Script(ScriptCause::Name)),
+        None => refuse(1, RefusalCause::Script(ScriptCause::Name)),
         Some(device) => Step::Show(device),
     }
 }
@@ -217,10 +232,10 @@ impl Live {
         ensures after { self.new ≡ after_to self.old time }
     {
         match time {
-            None => Step::Refuse(Refusal::Script(ScriptCause::Number)),
+            None => refuse(2, RefusalCause::Script(ScriptCause::Number)),
             Some(time) => {
                 if time < self.horizon {
-                    return Step::Refuse(Refusal::Past);
+                    return refuse(2, RefusalCause::Past);
                 }
                 self.horizon = time;
                 Step::Go
@@ -234,10 +249,10 @@ impl Live {
         ensures { IsEdgeStep self.old time result self.new }
     {
         let Some(until) = time else {
-            return Step::Refuse(Refusal::Script(ScriptCause::Number));
+            return refuse(1, RefusalCause::Script(ScriptCause::Number));
         };
         if until < self.horizon {
-            return Step::Refuse(Refusal::Past);
+            return refuse(1, RefusalCause::Past);
         }
         let horizon = next_edge(
             &mut self.net,
@@ -411,7 +426,7 @@ impl Live {
     ///
     /// Memory ran out: then nothing was written, and the line is not taken. A `put` took none: then the front of what is due
     /// was written, as long as the error says.
-    pub fn line<S: Sink>(&mut self, line: &[u8], out: &mut S) -> Result<u128, LiveError>
+    pub fn line<S: Sink>(&mut self, line: &[u8], out: &mut S) -> Result<Answered, LiveError>
         requires going { self.old.notes.end ≡ None }
         ensures taken { IsLineTaken self.old line.now self.new (S.contents out.old) (S.contents out.new) (S.is_stuck out.old) (S.is_stuck out.new) result }
         ensures memory { IsOfMemory result → out.new ≡ out.old }
@@ -420,7 +435,7 @@ impl Live {
             return Err(LiveError::Memory);
         };
         match self.write(step, out) {
-            Ok(count) => Ok(count),
+            Ok(count) => Ok(Answered { step, count }),
             Err(fault) => Err(LiveError::Write(fault.count)),
         }
     }

@@ -5,11 +5,10 @@ ghost use Rattle.cec_asm.specs.Script.{IsLineRead, Notes, notes_of};
 ghost use Rattle.cec_asm.specs.declared.fault.LineFault.{LineFault as LineFaultValue};
 ghost use Rattle.cec_certain.specs.Certain.{with_pulses};
 ghost use Rattle.cec_session.specs.Note.{Extends, IsSettled, refused_by};
-ghost use Rattle.cec_session.specs.Session.{ends_before, refuses_pulse};
-ghost use Rattle.cec_session.specs.declared.answer.Refusal.TheVariants.{Past};
-ghost use Rattle.cec_session.specs.declared.live.Step.TheVariants.{Refuse};
+ghost use Rattle.cec_session.specs.Session.{ends_before, refuse, refuses_pulse};
+ghost use Rattle.cec_session.specs.declared.answer.RefusalCause.TheVariants.{Past};
 
-use crate::answer::Refusal;
+use crate::answer::{Refusal, RefusalCause};
 use crate::foreseen::Foreseen;
 use crate::live::Step;
 use cec_asm::{ScriptDraft, ScriptLineError, TimedEvent, take_line};
@@ -84,12 +83,15 @@ fn is_past(draft: &ScriptDraft, events: usize, pulses: usize, horizon: u64) -> b
 // Takes a line back, before which there were so many events and pulses and no end, and refuses it.
 fn take_back(draft: &mut ScriptDraft, events: usize, pulses: usize) -> Step
     ensures notes { notes_of draft.new ≡ record { events = take events draft.old.events.items; pulses = take pulses draft.old.pulses.items; end = None } }
-    ensures step { result ≡ Refuse Past }
+    ensures step { result ≡ refuse 1 Past }
 {
     draft.events.truncate(events);
     draft.pulses.truncate(pulses);
     draft.end = None;
-    Step::Refuse(Refusal::Past)
+    Step::Refuse(Refusal {
+        cause: RefusalCause::Past,
+        word: 1,
+    })
 }
 
 // What becomes of a line that the draft has taken, before which there were so many events and pulses and no end.
@@ -124,7 +126,10 @@ fn refused_by(error: ScriptLineError) -> Option<Step>
     ensures { result ≡ refused_by error }
 {
     match error {
-        ScriptLineError::Fault(fault) => Some(Step::Refuse(Refusal::Script(fault.cause))),
+        ScriptLineError::Fault(fault) => Some(Step::Refuse(Refusal {
+            cause: RefusalCause::Script(fault.cause),
+            word: fault.word,
+        })),
         ScriptLineError::Memory => None,
     }
 }

@@ -8,6 +8,7 @@ mod explained;
 mod explanations;
 mod meant;
 mod numbers;
+mod rows;
 mod slips;
 
 /// What a run of the program answers and writes.

@@ -8,8 +8,8 @@ use hdmi_explain::lacks_line_feed;
 use hdmi_lines::WORD_TEXTS;
 use hdminet_help::Draft;
 use hdminet_marks::{
-    Fault, Gaps, Input, Mark, Place, gaps_of, is_line_end, label_words, marked, place_of, plain,
-    slip_of, span_of, word_at,
+    Fault, Gaps, Input, Mark, Place, Slip, gaps_of, is_line_end, label_words, marked,
+    place_in_session, place_of, plain, slip_of, span_of, word_at,
 };
 use hdminet_meant::{add_meant, add_right_forms, add_slip};
 use std::alloc::{AllocError, Global};
@@ -110,12 +110,15 @@ fn add_marked(draft: &mut Draft, what: Input, place: Place<'_>, fault: Fault, li
     let mark = marked(what, fault, line);
     add_shown(draft, place, line, gaps_of(fault), mark);
     add_hints(draft, of_line(place.line, line).as_slice());
-    if let Some(found) = slip_of(fault, line) {
+    let slip = slip_of(fault, line);
+    if let Some(found) = slip {
         add_slip(draft, found.slip);
     }
     let is_said = add_right_forms(draft, what, place, fault, line);
-    if let Some(mark) = mark {
-        add_word(draft, what, place, fault, line, mark);
+    match (mark, slip) {
+        (Some(_), Some(found)) if found.slip == Slip::NoName => {}
+        (Some(mark), _) => add_word(draft, what, place, fault, line, mark),
+        (None, _) => {}
     }
     is_said
 }
@@ -217,6 +220,27 @@ pub fn explain(
         add_lack(&mut draft, place);
     }
     add_input_hints(&mut draft, what, fault, input);
+    draft.finish()
+}
+
+/// The indented lines that follow a refused line of a session, the one of this number after the line `script`, with the topology above
+/// it: the line, the word marked, and what would be right.
+///
+/// # Errors
+///
+/// Where memory runs out.
+pub fn explain_line(
+    alloc: Global,
+    fault: Fault,
+    topology: &[u8],
+    number: u64,
+    line: &[u8],
+) -> Result<String, AllocError> {
+    let mut draft = Draft::new(alloc);
+    let place = place_in_session(topology, number, line);
+    if !add_place(&mut draft, Input::Session, place, fault) {
+        draft.add_line(right(fault));
+    }
     draft.finish()
 }
 

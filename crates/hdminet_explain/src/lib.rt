@@ -8,4 +8,4 @@ mod explanation;
 mod hints;
 mod right;
 
-pub use explanation::{counts, explain};
+pub use explanation::{counts, explain, explain_line};

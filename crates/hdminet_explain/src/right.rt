@@ -12,7 +12,7 @@ use hdminet_marks::{Fault, RangeSlip};
 fn of_topology(cause: TopologyCause) -> &'static str {
     match cause {
         TopologyCause::Word => {
-            "KIND is tv, amp, player, recorder, switch, combo or outside; words stand one space apart; `edid` comes once"
+            "KIND is tv, amp, player, recorder, switch, combo, outside or outside-tv; words stand one space apart; `edid` comes once"
         }
         TopologyCause::Number => {
             "PORTS is a decimal number from 0 to 15, and PORT a decimal number; neither has a zero before it"
@@ -21,8 +21,10 @@ fn of_topology(cause: TopologyCause) -> &'static str {
             "NAME is new, of 1 to 14 of a to z, 0 to 9 and `-`, first a letter; CHILD and PARENT have a `device` line above"
         }
         TopologyCause::Full => "a network has at most 15 devices",
-        TopologyCause::SecondRoot => "a network has one device of the kind tv, its root",
-        TopologyCause::NoRoot => "a network has a device of the kind tv, as `device tv tv 4`",
+        TopologyCause::SecondRoot =>
+            "a network has one device of the kind tv or outside-tv, its root",
+        TopologyCause::NoRoot =>
+            "a network has a device of the kind tv or outside-tv, as `device tv tv 4`",
         TopologyCause::PortRange => "PORT is from 1 to the PORTS that the line of PARENT gives it",
         TopologyCause::PortTaken => {
             "one device stands in a port; another one has this port already"
@@ -195,6 +197,9 @@ pub fn right(fault: Fault) -> &'static str {
     match fault {
         Fault::Topology { cause, .. } => of_topology(cause),
         Fault::Script { cause, .. } => of_script(cause),
+        Fault::Past { .. } => {
+            "T is the horizon or later: the number after `=` in the last answer"
+        }
         Fault::Expectation { cause, .. } => of_expectation(cause),
         Fault::Range { cause, .. } => of_range(cause),
         Fault::Steps { .. } => {

@@ -55,6 +55,11 @@ pub enum Fault {
         cause: ScriptCause,
         word: usize,
     },
+    /// A line of a session that is for an instant before its horizon.
+    Past {
+        line: u64,
+        word: usize,
+    },
     /// A line with a label or an expectation, of a script or of a capture. Words are those of the line with its label.
     Expectation {
         line: u64,

@@ -51,8 +51,54 @@ const BESIDE_ROUNDS: &[&str] = &[
     "label NAME LINE",
 ];
 
+/// The words with which events are refused.
+pub const REFUSALS: &[&str] = &[
+    "port-range",
+    "port-taken",
+    "not-loose",
+    "loop",
+    "not-plugged",
+    "not-for-kind",
+    "off-wire",
+    "queue-full",
+    "own-address",
+    "no-address",
+];
+
+/// The kinds of remarks.
+pub const REMARKS: &[&str] = &[
+    "no-answer",
+    "late-answer",
+    "free",
+    "start-low",
+    "start-total",
+    "bit-low",
+    "bit-total",
+    "low-drive",
+    "drive-within",
+    "unfinished",
+    "too-many-attempts",
+    "receivers",
+    "operands",
+];
+
 // What expectations of a capture have besides them: no event is refused there, and there are no devices whose states it has.
-const BESIDE_READINGS: &[&str] = &["label NAME at T", "label NAME LINE"];
+const BESIDE_READINGS: &[&str] = &[
+    "expect no-remark",
+    "expect remark PATTERN",
+    "label NAME at T",
+    "label NAME LINE",
+];
+
+// The lines that a session has besides those of a script.
+const OF_SESSION: &[&str] = &[
+    "run to T",
+    "wait",
+    "show NAME",
+    "edge T",
+    "edges on",
+    "edges off",
+];
 
 // The lines of steps.
 const OF_STEPS: &[&str] = &[
@@ -69,6 +115,12 @@ pub const TOPOLOGY: &[&[&str]] = &[OF_TOPOLOGY];
 
 /// The lines of a script.
 pub const SCRIPT: &[&[&str]] = &[OF_SCRIPT];
+
+/// The lines of a session after the line `script`.
+pub const SESSION: &[&[&str]] = &[OF_SCRIPT, OF_SESSION];
+
+/// The lines that a session has besides those of a script.
+pub const SESSION_ALONE: &[&[&str]] = &[OF_SESSION];
 
 /// The lines of a topology and a script, and the one between them.
 pub const NETWORK: &[&[&str]] = &[OF_TOPOLOGY, PARTING, OF_SCRIPT];
@@ -151,6 +203,22 @@ pub fn most_fitting(forms: &[&[&str]], line: &str) -> usize {
         }
     }
     most
+}
+
+/// The word that stands for itself and that a line has to have at a place, where one form alone fits the words before it.
+pub fn wanted_at<'a>(forms: &[&[&'a str]], line: &str, place: usize) -> Option<&'a str> {
+    let mut wanted = None;
+    for some in forms {
+        for form in *some {
+            if fitting(form, line) == place {
+                if wanted.is_some() {
+                    return None;
+                }
+                wanted = form.split(' ').nth(place);
+            }
+        }
+    }
+    wanted.filter(|word| !is_value(word))
 }
 
 /// The word that a line lacks at its end, where one form alone fits all that it has.

@@ -2,6 +2,7 @@
 use crate::edges::in_line;
 use crate::expectations::{after_label, label_words};
 use crate::fault::{Fault, Input};
+use crate::grammar::{SESSION_ALONE, most_fitting};
 use crate::slips::slip_of;
 use crate::words::{Gaps, word_at};
 use cec_asm::ScriptCause;
@@ -124,14 +125,30 @@ fn in_text(line: &str, word: usize) -> Option<Mark> {
     }
 }
 
+// A line of a session that begins as one of its own does, and has another form: the first word that does not fit.
+fn in_session(what: Input, cause: ScriptCause, line: &str) -> Option<Mark> {
+    let most = most_fitting(SESSION_ALONE, line);
+    if what == Input::Session && cause == ScriptCause::Word && most > 0 {
+        one(most)
+    } else {
+        None
+    }
+}
+
+// A line of a script, in a test with its label, or in a session.
+fn in_line_of_script(what: Input, cause: ScriptCause, word: usize, line: &str) -> Option<Mark> {
+    match in_session(what, cause, line) {
+        Some(mark) => Some(mark),
+        None => after_label(label_words(what, line), in_script(cause, word)),
+    }
+}
+
 // The words at fault where nothing else slipped.
 fn told(what: Input, fault: Fault, line: &str) -> Option<Mark> {
     match fault {
         Fault::Topology { word, .. } => one(word),
-        Fault::Script { cause, word, .. } => after_label(
-            label_words(what, line),
-            in_script(cause, word),
-        ),
+        Fault::Script { cause, word, .. } => in_line_of_script(what, cause, word, line),
+        Fault::Past { word, .. } => one(word),
         Fault::Expectation { cause, word, .. } => in_expectation(cause, word),
         Fault::Range { word, .. } => one(word),
         Fault::Steps { word, .. } => one(word),

@@ -119,6 +119,18 @@ fn edid_line(what: Input, input: &[u8]) -> Option<Place<'_>> {
     }
 }
 
+/// A line of a session, the one of this number after the line `script`. Of what came before only the topology is known.
+pub fn place_in_session<'a>(topology: &'a [u8], number: u64, line: &'a [u8]) -> Place<'a> {
+    // The topology's last line has an end, so that there is one more than it has lines: for the line `script`.
+    let before = topology.split(is_line_end).count();
+    Place {
+        input: topology,
+        before,
+        number: before.saturating_add(usize::try_from(number).unwrap_or(usize::MAX)),
+        line,
+    }
+}
+
 /// Where a fault stands in a whole input.
 pub fn place_of(input: &[u8], what: Input, fault: Fault) -> Option<Place<'_>> {
     if what == Input::Session {
@@ -130,7 +142,7 @@ pub fn place_of(input: &[u8], what: Input, fault: Fault) -> Option<Place<'_>> {
             ..
         } => None,
         Fault::Topology { line, .. } => line_of(input, 0, line),
-        Fault::Script { line, .. } | Fault::Range { line, .. } => {
+        Fault::Script { line, .. } | Fault::Range { line, .. } | Fault::Past { line, .. } => {
             line_of(input, before_script(input), line)
         }
         Fault::Expectation { line, .. } => line_of(input, before_expectations(what, input), line),
@@ -169,6 +181,17 @@ fn declaration(line: &[u8]) -> Option<&str> {
 pub fn declared_by(line: &[u8]) -> Option<&str> {
     let (name, _) = declaration(line)?.split_once(' ')?;
     Some(name)
+}
+
+/// The PORTS of a device that a line above a place declares.
+pub fn ports_of<'a>(place: Place<'a>, name: &str) -> Option<&'a str> {
+    let above = place.number.saturating_sub(1);
+    for line in place.input.split(is_line_end).take(above) {
+        if declared_by(line) == Some(name) {
+            return declaration(line)?.split(' ').nth(2);
+        }
+    }
+    None
 }
 
 /// The word of the kind of a device that a line above a place declares.

@@ -1,11 +1,13 @@
 //! Slips that make another word of a line at fault than the one that was written wrong.
 use crate::expectations::without_label;
 use crate::fault::Fault;
+use crate::grammar::REFUSALS;
 use crate::marks::{Mark, is_word};
-use crate::words::word_at;
+use crate::words::{word_at, word_count};
 use cec_asm::{ScriptCause, TopologyCause};
 use cec_expect::ExpectCause;
 use cec_feature::KeyWord;
+use hdmi_core::Kind;
 
 /// What slipped.
 #[derive(Clone, Copy, Debug, PartialEq, Eq)]
@@ -18,6 +20,14 @@ pub enum Slip {
     NoTime,
     /// The key stands before the device's name.
     KeyFirst,
+    /// The duration is missing.
+    NoDuration,
+    /// The name of a label is missing.
+    NoName,
+    /// The count of ports stands before the kind.
+    PortsFirst,
+    /// A word stands between the devices of a `plug` line.
+    StrayWord,
 }
 
 /// A slip, and its words.
@@ -95,12 +105,50 @@ fn in_state(line: &str) -> Option<Slipped> {
     }
 }
 
+// Of an expectation of rounds that has no duration, by the number of the word `within`.
+fn in_window(line: &str, within: usize) -> Option<Slipped> {
+    let after = within.saturating_add(1);
+    if is_word(line, after, "of") {
+        at_words(Slip::NoDuration, after, after)
+    } else {
+        None
+    }
+}
+
+// Of `expect refused NAME WORD` without NAME.
+fn in_refusal(line: &str) -> Option<Slipped> {
+    let word = word_at(line, 2)?;
+    if REFUSALS.contains(&word) && word_count(line) == 3 {
+        at_words(Slip::NoName, 2, 2)
+    } else {
+        None
+    }
+}
+
+fn in_expected(line: &str) -> Option<Slipped> {
+    match (word_at(line, 1), word_at(line, 2)) {
+        (Some("state"), _) => in_state(line),
+        (Some("refused"), _) => in_refusal(line),
+        (Some("within"), _) => in_window(line, 1),
+        (Some("none" | "once"), Some("within")) => in_window(line, 2),
+        _ => None,
+    }
+}
+
+// Of a label without its name.
+fn in_label(line: &str) -> Option<Slipped> {
+    match (word_at(line, 0), word_at(line, 1)) {
+        (Some("label"), Some("at" | "pulse" | "expect")) => at_words(Slip::NoName, 1, 1),
+        _ => None,
+    }
+}
+
 // Of a line without a label, where a word is at fault that may not stand there.
 fn in_line(line: &str) -> Option<Slipped> {
     match word_at(line, 0) {
         Some("at") => in_event(line),
         Some("pulse" | "end") if is_word(line, 1, "at") => at_words(Slip::StrayAt, 1, 1),
-        Some("expect") if is_word(line, 1, "state") => in_state(line),
+        Some("expect") => in_expected(line),
         _ => None,
     }
 }
@@ -136,9 +184,37 @@ fn or_slipped(first: Option<Slipped>, second: Option<Slipped>) -> Option<Slipped
     }
 }
 
+fn is_kind(word: Option<&str>) -> bool {
+    match word {
+        Some(word) => Kind::named(word.as_bytes()).is_some(),
+        None => false,
+    }
+}
+
+fn begins_with_digit(word: Option<&str>) -> bool {
+    matches!(word.unwrap_or("").as_bytes(), [first, ..] if first.is_ascii_digit())
+}
+
+fn in_topology(line: &str) -> Option<Slipped> {
+    match word_at(line, 0) {
+        Some("device") if is_kind(word_at(line, 3)) && begins_with_digit(word_at(line, 2)) => {
+            at_words(Slip::PortsFirst, 2, 3)
+        }
+        Some("plug") => match word_at(line, 2) {
+            Some("to" | "into" | "in" | "on" | "at") if word_count(line) == 5 => {
+                at_words(Slip::StrayWord, 2, 2)
+            }
+            _ => None,
+        },
+        _ => None,
+    }
+}
+
 fn of_topology(line: &str, cause: TopologyCause, word: usize) -> Option<Slipped> {
     match cause {
-        TopologyCause::Word | TopologyCause::Number | TopologyCause::Name => before(line, word),
+        TopologyCause::Word | TopologyCause::Number | TopologyCause::Name => {
+            or_slipped(before(line, word), in_topology(line))
+        }
         _ => None,
     }
 }
@@ -148,8 +224,8 @@ fn of_script(line: &str, cause: ScriptCause, word: usize) -> Option<Slipped> {
     let shown = word.saturating_add(own.words);
     match cause {
         ScriptCause::Word | ScriptCause::Number | ScriptCause::Name => or_slipped(
-            before(line, shown),
-            in_script(own.line, own.words, word),
+            in_label(line),
+            or_slipped(before(line, shown), in_script(own.line, own.words, word)),
         ),
         _ => None,
     }
@@ -159,8 +235,11 @@ fn of_expectation(line: &str, cause: ExpectCause, word: usize) -> Option<Slipped
     let own = without_label(line);
     match cause {
         ExpectCause::Word | ExpectCause::Number | ExpectCause::Name => or_slipped(
-            before(line, word),
-            in_script(own.line, own.words, word.saturating_sub(own.words)),
+            in_label(line),
+            or_slipped(
+                before(line, word),
+                in_script(own.line, own.words, word.saturating_sub(own.words)),
+            ),
         ),
         _ => None,
     }

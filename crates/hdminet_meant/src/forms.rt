@@ -1,18 +1,16 @@
 //! What a line at fault would have to look like.
 use crate::fields::fields_of;
+use crate::frames::add_frame;
 use crate::keys::{add_key, is_of_key};
 use crate::order::add_order;
 use crate::room::{add_field_count, add_lack_of_room};
 use cec_asm::{ScriptCause, TopologyCause};
-use cec_dis::{frame_in, remark};
 use cec_expect::ExpectCause;
-use cec_frame::Frame;
-use cec_opcode::code_named;
-use cec_text::{AssembleError, frame_text};
-use hdminet_help::{Draft, add_name, add_shape};
+use hdminet_help::Draft;
 use hdminet_marks::{
-    Fault, Input, Place, SCRIPT, STEPS, TEST, TOPOLOGY, as_form, fitting, forms_of, is_word,
-    missing, most_fitting, plain, slip_of, without_label, word_at, word_count,
+    Fault, Input, Place, REFUSALS, REMARKS, SCRIPT, SESSION, STEPS, TEST, TOPOLOGY, as_form,
+    fitting, forms_of, is_word, missing, most_fitting, plain, slip_of, without_label, word_at,
+    word_count,
 };
 
 /// What the words of a state are.
@@ -52,6 +50,7 @@ fn add_forms(draft: &mut Draft, forms: &[&[&str]], line: &str) {
 fn script_forms(what: Input) -> &'static [&'static [&'static str]] {
     match what {
         Input::Test => TEST,
+        Input::Session => SESSION,
         _ => SCRIPT,
     }
 }
@@ -85,116 +84,11 @@ fn add_script_line(
     is_key && add_key(draft, place, line, word)
 }
 
-// The digits of an opcode: after `op-`, `0x` or `:`, or alone.
-fn opcode_digits(word: &str) -> &str {
-    for before in ["op-", "0x", ":"] {
-        if let Some(digits) = word.strip_prefix(before) {
-            return digits;
-        }
-    }
-    word
-}
-
-// The opcode whose two hex digits a word has.
-fn code_in_digits(word: &str) -> Option<u8> {
-    let digits = opcode_digits(word);
-    if digits.len() != 2 {
-        return None;
-    }
-    u8::from_str_radix(digits, 16).ok()
-}
-
-// Whether a line has hex of operands that stands in more than one word, after its first words.
-fn is_spaced_hex(line: &str, operands: usize) -> bool {
-    match word_at(line, operands) {
-        Some(word) => word.starts_with(":") && word_count(line) > operands.saturating_add(1),
+// Whether the word after the first one has hex digits alone.
+fn begins_with_hex(line: &str) -> bool {
+    match word_at(line, 1) {
+        Some(word) => word.bytes().all(|byte| byte.is_ascii_hexdigit()),
         None => false,
-    }
-}
-
-// The hex of an operand that has a word in the standard, which `dis` shows after the frame.
-fn add_operand_hex(draft: &mut Draft, code: u8, word: &str) {
-    for operand in 0..=u8::MAX {
-        if remark_of(&[0, code, operand]) == Some(word) {
-            writeln!(
-                draft,
-                "  `{word}` is no word of a frame's text: `:{operand:02x}` stands for it"
-            );
-            return;
-        }
-    }
-}
-
-// What the operands of a frame are whose opcode is a word of a line.
-fn add_operands(draft: &mut Draft, line: &str, at: usize) {
-    if let Some(word) = word_at(line, at) {
-        let code = code_named(word.as_bytes());
-        add_shape(draft, code);
-        if let (Some(code), Some(operand)) = (code, word_at(line, at.saturating_add(1))) {
-            add_operand_hex(draft, code, operand);
-        }
-    }
-    if is_spaced_hex(line, at.saturating_add(1)) {
-        draft.add_line("the digits after `:` stand without spaces");
-    }
-}
-
-// What the standard calls a frame's opcode or operand, where the text of the frame has no word for it.
-fn remark_of(bytes: &[u8]) -> Option<&'static str> {
-    remark(&Frame::new(bytes).ok()?)
-}
-
-// The opcode that has a name in the standard, and none in a frame's text.
-fn add_standard_name(draft: &mut Draft, word: &str) {
-    for code in 0..=u8::MAX {
-        if remark_of(&[0, code]) == Some(word) {
-            return add_name(draft, code, word);
-        }
-    }
-}
-
-// What the opcode of a frame would be, whose digits or name in the standard are a word of a line.
-fn add_opcode(draft: &mut Draft, line: &str, at: usize) {
-    if let Some(word) = word_at(line, at) {
-        match code_in_digits(word) {
-            Some(code) => add_name(draft, code, word),
-            None => add_standard_name(draft, word),
-        }
-    }
-}
-
-// The part of a line from a word on.
-fn tail_from(line: &str, word: usize) -> &str {
-    let mut rest = line;
-    for _ in 0..word {
-        rest = match rest.split_once(' ') {
-            Some((_, after)) => after,
-            None => return "",
-        };
-    }
-    rest
-}
-
-// The text of a frame that stands in hex.
-fn add_text(draft: &mut Draft, line: &str) {
-    if let Ok(frame) = frame_in(line.as_bytes()) {
-        let text = frame_text(&frame);
-        draft.add_all(&[
-            "  this is a frame in hex, as `hdminet dis` reads it; its text is `",
-            str::from_utf8(&text).unwrap_or(""),
-            "`\n",
-        ]);
-    }
-}
-
-// What the frame of a line would be, which begins at a word and is refused for a cause.
-fn add_frame(draft: &mut Draft, cause: AssembleError, line: &str, at: usize) {
-    let name = at.saturating_add(1);
-    match cause {
-        AssembleError::Address => add_text(draft, tail_from(line, at)),
-        AssembleError::Name => add_opcode(draft, line, name),
-        AssembleError::Count | AssembleError::Operand => add_operands(draft, line, name),
-        AssembleError::TooLong => {}
     }
 }
 
@@ -202,7 +96,11 @@ fn add_frame(draft: &mut Draft, cause: AssembleError, line: &str, at: usize) {
 fn add_topology_forms(draft: &mut Draft, line: &str) {
     add_forms(draft, TOPOLOGY, line);
     if line.starts_with("edid ") && word_count(line) > 2 {
-        draft.add_line("HEX is one word: its digits stand without spaces");
+        draft.add_line(if begins_with_hex(line) {
+            "HEX is one word: its digits stand without spaces"
+        } else {
+            "no name stands before HEX: the EDID is that of the television"
+        });
     }
 }
 
@@ -268,6 +166,35 @@ fn add_state_words(draft: &mut Draft, line: &str) -> bool {
     is_state
 }
 
+// The words that may stand somewhere.
+fn add_words(draft: &mut Draft, about: &str, words: &[&str]) {
+    draft.add(about);
+    for word in words {
+        draft.add_all(&[" `", word, "`"]);
+    }
+    draft.add("\n");
+}
+
+// The words with which an event is refused. Returns whether the line is of a refusal.
+fn add_refusals(draft: &mut Draft, line: &str) -> bool {
+    let is_refusal = without_label(line).line.starts_with("expect refused ");
+    if is_refusal {
+        let about = "  WORD is one with which an event is refused:";
+        add_words(draft, about, REFUSALS);
+    }
+    is_refusal
+}
+
+// The kinds of remarks. Returns whether the line is of a remark.
+fn add_remarks(draft: &mut Draft, line: &str) -> bool {
+    let is_remark = line.starts_with("expect remark ");
+    if is_remark {
+        let about = "  PATTERN begins with a kind of remarks:";
+        add_words(draft, about, REMARKS);
+    }
+    is_remark
+}
+
 // What a line of expectations would be that is refused for a cause. Returns whether more would be of no use.
 fn add_expectation(
     draft: &mut Draft,
@@ -280,7 +207,11 @@ fn add_expectation(
         ExpectCause::Word | ExpectCause::Pattern => {
             add_expectation_forms(draft, what, fault, line);
         }
-        ExpectCause::Unmet => return add_state_words(draft, line),
+        ExpectCause::Unmet => {
+            return add_state_words(draft, line)
+                || add_refusals(draft, line)
+                || add_remarks(draft, line);
+        }
         ExpectCause::Number | ExpectCause::Name | ExpectCause::Label | ExpectCause::Order => {}
     }
     false
@@ -322,7 +253,8 @@ pub fn add_right_forms(
         Fault::Frame { cause, .. } => add_frame(draft, cause, line, 0),
         Fault::TextField { .. } => return add_fields(draft, place, line),
         Fault::TextSyntax { .. } => return add_field_count(draft, line),
-        Fault::Range { .. }
+        Fault::Past { .. }
+        | Fault::Range { .. }
         | Fault::Hex { .. }
         | Fault::Capture { .. }
         | Fault::Edid(_)

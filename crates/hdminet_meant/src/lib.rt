@@ -3,16 +3,18 @@
 //! All of it is text for people, so that tests speak of it and no contract does.
 #![tactic(auto)]
 
+mod expected;
 mod fields;
 mod forms;
+mod frames;
 mod keys;
 mod meant;
 mod names;
-mod near;
-mod numbers;
 mod order;
 mod room;
 mod slipped;
+mod topology;
+mod wanted;
 
 pub use forms::add_right_forms;
 pub use meant::add_meant;

@@ -1,96 +1,21 @@
 //! What the word at fault may have been meant for.
+use crate::expected::add_expected_meant;
+use crate::frames::add_frame_meant;
 use crate::keys::is_of_key;
-use crate::names::{add_declared, add_taken};
-use crate::near::is_near;
-use crate::numbers::add_number;
-use cec_asm::{ScriptCause, TopologyCause};
-use cec_expect::ExpectCause;
+use crate::names::add_name_meant;
+use crate::topology::add_topology_meant;
+use crate::wanted::add_nearest_of;
+use cec_asm::ScriptCause;
 use cec_feature::KeyWord;
 use cec_formats::{Cause, Form};
-use cec_opcode::{WordSet, code_named, name};
-use cec_text::AssembleError;
-use hdmi_core::Kind;
+use cec_opcode::{WordSet, code_named};
 use hdmi_lines::WORD_TEXTS;
 use hdminet_help::Draft;
 use hdminet_marks::{
-    EXPECTATIONS, Fault, Input, NETWORK, Place, STEPS, declared_by, is_line_end, is_number,
-    is_value, is_word, labelled_by, without_label, word_at, word_count,
+    EXPECTATIONS, Fault, Input, NETWORK, Place, SESSION, SESSION_ALONE, STEPS, is_number, is_word,
+    most_fitting, word_at,
 };
-
-/// Words that stand for kinds elsewhere, each with the KIND here.
-const OTHER_KINDS: &[(&str, &str)] = &[
-    ("television", "tv"),
-    ("display", "tv"),
-    ("avr", "amp"),
-    ("receiver", "amp"),
-    ("amplifier", "amp"),
-    ("audio-system", "amp"),
-    ("soundbar", "amp"),
-    ("playback", "player"),
-    ("source", "player"),
-    ("recording", "recorder"),
-    ("splitter", "switch"),
-    ("hub", "switch"),
-    ("matrix", "switch"),
-    ("audio", "amp"),
-    ("bluray", "player"),
-    ("blu-ray", "player"),
-    ("dvd", "player"),
-    ("console", "player"),
-    ("external", "outside"),
-];
-
-/// Words of a round's line that stand for themselves.
-const ROUND_WORDS: &[&str] = &[
-    "short",
-    "silent",
-    "bad-start",
-    "long",
-    "open",
-    "ack",
-    "nack",
-    "ok",
-    "refused",
-    "by",
-    "out",
-];
-
-/// The words with which events are refused.
-const REFUSALS: &[&str] = &[
-    "port-range",
-    "port-taken",
-    "not-loose",
-    "loop",
-    "not-plugged",
-    "not-for-kind",
-    "off-wire",
-    "queue-full",
-    "own-address",
-    "no-address",
-];
-
-/// The sets of words that stand for an operand of a frame.
-const OPERAND_WORDS: &[WordSet] = &[
-    WordSet::Reason,
-    WordSet::Power,
-    WordSet::OnOff,
-    WordSet::DeviceType,
-    WordSet::StatusRequest,
-    WordSet::DeckInfo,
-    WordSet::PlayMode,
-    WordSet::DeckControl,
-    WordSet::Display,
-    WordSet::MenuRequest,
-    WordSet::MenuState,
-    WordSet::Version,
-    WordSet::UserControl,
-];
-
-/// The words with which lines of a topology begin, and the one between it and a script.
-const TOPOLOGY_VERBS: &[&str] = &["device", "plug", "edid", "script"];
-
-/// The words with which lines of a script begin.
-const SCRIPT_VERBS: &[&str] = &["at", "pulse", "end", "label", "expect"];
+use hdminet_near::{add_near, add_nearest, add_number, add_other, add_set_meant, add_suggestion};
 
 /// The latest time of a capture, in microseconds.
 const LATEST_INSTANT: u64 = 2_000_000_000_000;
@@ -109,14 +34,30 @@ const LEVELS: &[(&str, &str)] = &[
 /// Words that are written for no logical address.
 const NO_ADDRESS: &[&str] = &["none", "no", "nothing", "empty", "off"];
 
-/// The keys of a state line, with the mark after each.
-const STATE_KEYS: &[&str] = &[
-    "active=", "path=", "deck=", "menu=", "audio=", "volume=", "mute=", "arc=", "sel=", "lang=",
-    "osd=", "held=", "heard=", "sub=", "queue=", "dropped=",
+/// Keys that are called otherwise elsewhere.
+const OTHER_KEYS: &[(&str, &str)] = &[
+    ("standby", "power"),
+    ("on", "power"),
+    ("off", "power"),
+    ("vol-up", "volume-up"),
+    ("vol-down", "volume-down"),
+    ("vol+", "volume-up"),
+    ("vol-", "volume-down"),
+    ("select", "watch"),
+    ("input", "port"),
+    ("open", "eject"),
+    ("insert", "load"),
 ];
 
-/// The words of a state line that have no key.
-const STATE_WORDS: &[&str] = &["on", "standby"];
+/// Words with which lines of a script begin elsewhere.
+const OTHER_VERBS: &[(&str, &str)] = &[
+    ("finish", "end"),
+    ("stop", "end"),
+    ("quit", "end"),
+    ("exit", "end"),
+    ("assert", "expect"),
+    ("glitch", "pulse"),
+];
 
 /// The words that mute, audio and arc take.
 const SWITCHES: &[&str] = &["on", "off"];
@@ -131,203 +72,19 @@ const OTHER_SWITCHES: &[(&str, &str)] = &[
     ("0", "off"),
 ];
 
-// Suggests a word.
-fn add_suggestion(draft: &mut Draft, near: &str, word: &str) {
-    draft.add_all(&["  `", word, "`: did you mean `", near, "`?\n"]);
-}
-
-// A known word, if another may have been meant for it. Returns whether it may.
-fn add_near(draft: &mut Draft, near: &str, word: &str) -> bool {
-    let is_meant = is_near(draft, near, word);
-    if is_meant {
-        add_suggestion(draft, near, word);
+// The first word of a key that a word may have been meant for: one that is near, or one that is called so elsewhere.
+fn add_nearest_key(draft: &mut Draft, line: &str, word: &str) {
+    match (word, word_at(line, 5)) {
+        ("volume", Some("up")) => return add_suggestion(draft, "volume-up", "volume up"),
+        ("volume", Some("down")) => return add_suggestion(draft, "volume-down", "volume down"),
+        _ => {}
     }
-    is_meant
-}
-
-// The first of some known words that a word may have been meant for. Returns whether there is one.
-fn add_nearest(draft: &mut Draft, known: &[&str], word: &str) -> bool {
-    for near in known {
-        if add_near(draft, near, word) {
-            return true;
-        }
-    }
-    false
-}
-
-// The first word of a form that stands for itself and that a word may have been meant for. Returns whether there is one.
-fn add_nearest_of_form(draft: &mut Draft, form: &str, word: &str) -> bool {
-    for near in form.split(' ') {
-        if !is_value(near) && add_near(draft, near, word) {
-            return true;
-        }
-    }
-    false
-}
-
-// The first such word of some forms. Returns whether there is one.
-fn add_nearest_of(draft: &mut Draft, forms: &[&[&str]], word: &str) -> bool {
-    for some in forms {
-        for form in *some {
-            if add_nearest_of_form(draft, form, word) {
-                return true;
-            }
-        }
-    }
-    false
-}
-
-// The first name of an opcode that a word may have been meant for. Returns whether there is one.
-fn add_nearest_opcode(draft: &mut Draft, word: &str) -> bool {
-    for code in 0..=u8::MAX {
-        if let Some(near) = name(code) {
-            if add_near(draft, near, word) {
-                return true;
-            }
-        }
-    }
-    false
-}
-
-// The first word of an operand that a word may have been meant for. Returns whether there is one.
-fn add_nearest_operand(draft: &mut Draft, word: &str) -> bool {
-    for set in OPERAND_WORDS {
-        for operand in set.words() {
-            if add_near(draft, operand.text, word) {
-                return true;
-            }
-        }
-    }
-    false
-}
-
-// What a word of a pattern that no round's line meets, or one with which no event is refused, may have been meant for.
-fn add_nearest_of_round(draft: &mut Draft, word: &str) {
-    let _ = add_nearest_opcode(draft, word)
-        || add_nearest(draft, ROUND_WORDS, word)
-        || add_nearest(draft, REFUSALS, word)
-        || add_nearest_operand(draft, word);
-}
-
-// The first code of a remote control that a word may have been meant for.
-fn add_nearest_code(draft: &mut Draft, word: &str) {
-    for code in WordSet::UserControl.words() {
-        if add_near(draft, code.text, word) {
-            return;
-        }
-    }
-}
-
-// The first name of a device that a word may have been meant for. Returns whether there is one.
-fn add_nearest_name(draft: &mut Draft, place: Place<'_>, word: &str) -> bool {
-    let above = place.number.saturating_sub(1);
-    for line in place.input.split(is_line_end).take(above) {
-        if let Some(name) = declared_by(line) {
-            if add_near(draft, name, word) {
-                return true;
-            }
-        }
-    }
-    false
-}
-
-// The name of a device that a word may have been meant for, or else all of them.
-fn add_name_meant(draft: &mut Draft, place: Place<'_>, word: &str) {
-    if !add_nearest_name(draft, place, word) {
-        add_declared(draft, place);
-    }
-}
-
-// What a name of a topology's line may have been meant for, by its line.
-fn of_topology_name(draft: &mut Draft, place: Place<'_>, word: &str) {
-    if place.line.starts_with(b"plug ") {
-        add_name_meant(draft, place, word);
-    } else {
-        add_taken(draft, place, word);
-    }
-}
-
-// The first label that a word may have been meant for.
-fn add_nearest_label(draft: &mut Draft, place: Place<'_>, word: &str) {
-    let above = place.number.saturating_sub(1);
-    for line in place.input.split(is_line_end).take(above) {
-        if let Some(name) = labelled_by(line) {
-            if add_near(draft, name, word) {
-                return;
-            }
-        }
-    }
-}
-
-// The first word of a key that a word may have been meant for.
-fn add_nearest_key(draft: &mut Draft, word: &str) {
     for key in KeyWord::ALL {
         if add_near(draft, key.text(), word) {
             return;
         }
     }
-}
-
-// The kind that a word may have been meant for: one that is near, or one that is called so elsewhere.
-fn add_nearest_kind(draft: &mut Draft, word: &str) {
-    for kind in Kind::ALL {
-        if add_near(draft, kind.word(), word) {
-            return;
-        }
-    }
-    let _ = add_other(draft, OTHER_KINDS, word);
-}
-
-// What the first word of a topology's line may have been meant for: one with which such a line begins, or a line of the script.
-fn of_topology_verb(draft: &mut Draft, word: &str) {
-    if SCRIPT_VERBS.contains(&word) {
-        draft.add_line("this line is one of a script, which stands below the line `script`");
-    } else {
-        let _ = add_nearest(draft, TOPOLOGY_VERBS, word);
-    }
-}
-
-// What a word of a topology that may not stand there may have been meant for, by its number in the line.
-fn of_topology_word(draft: &mut Draft, word: &str, number: usize) {
-    match number {
-        0 => of_topology_verb(draft, word),
-        2 => add_nearest_kind(draft, word),
-        _ => {}
-    }
-}
-
-// What a word of a topology may have been meant for, by its number in the line.
-fn of_topology(
-    draft: &mut Draft,
-    place: Place<'_>,
-    cause: TopologyCause,
-    word: &str,
-    number: usize,
-) {
-    match cause {
-        TopologyCause::Name => of_topology_name(draft, place, word),
-        TopologyCause::Number => add_number(draft, word),
-        TopologyCause::Word => of_topology_word(draft, word, number),
-        TopologyCause::Full
-        | TopologyCause::SecondRoot
-        | TopologyCause::NoRoot
-        | TopologyCause::PortRange
-        | TopologyCause::PortTaken
-        | TopologyCause::NotLoose
-        | TopologyCause::Loop
-        | TopologyCause::Hex => {}
-    }
-}
-
-// The word that another one stands for in such a list. Returns whether there is one.
-fn add_other(draft: &mut Draft, others: &[(&str, &str)], word: &str) -> bool {
-    for (other, meant) in others {
-        if word.eq_ignore_ascii_case(other) {
-            add_suggestion(draft, meant, word);
-            return true;
-        }
-    }
-    false
+    let _ = add_other(draft, OTHER_KEYS, word);
 }
 
 // What stands for `on` or `off`.
@@ -338,8 +95,10 @@ fn add_switch(draft: &mut Draft, word: &str) {
 // What a word of a key may have been meant for, by the key's first word and its own number in the line.
 fn of_key(draft: &mut Draft, line: &str, word: &str, number: usize) {
     match (word_at(line, 4), number) {
-        (_, 4) => add_nearest_key(draft, word),
-        (Some("remote"), 6) => add_nearest_code(draft, word),
+        (_, 4) => add_nearest_key(draft, line, word),
+        (Some("remote"), 6) => {
+            let _ = add_set_meant(draft, WordSet::UserControl, word);
+        }
         (Some("audio" | "arc"), 5) => add_switch(draft, word),
         _ => {}
     }
@@ -366,6 +125,30 @@ fn of_addresses(draft: &mut Draft, word: &str) {
     }
 }
 
+// What a word with which a script's line or its event begins may have been meant for.
+fn add_nearest_verb(draft: &mut Draft, what: Input, word: &str) {
+    let is_said = add_nearest_of(draft, NETWORK, word)
+        || what == Input::Test && add_nearest_of(draft, EXPECTATIONS, word);
+    if !is_said {
+        let _ = add_other(draft, OTHER_VERBS, word);
+    }
+}
+
+// What a word may have been meant for with which no line of a script begins.
+fn of_script_verb(draft: &mut Draft, what: Input, line: &str, word: &str) {
+    if is_number(word, u64::MAX) {
+        draft.add_line("`at` is missing before T");
+    } else if word == "script" {
+        draft.add_line("a line `script` stands above already");
+    } else if most_fitting(SESSION_ALONE, line) > 0 {
+        draft.add_all(&["  `", word, "` begins a line of `hdminet live` alone\n"]);
+    } else if word == "sleep" {
+        draft.add_line("nothing waits: each event has its time, `at T`");
+    } else {
+        add_nearest_verb(draft, what, word);
+    }
+}
+
 // What a word that a script's line may not have there may have been meant for.
 fn of_script_word(draft: &mut Draft, what: Input, line: &str, word: &str, number: usize) {
     if number == 4 && is_word(line, 2, "hold") {
@@ -374,31 +157,12 @@ fn of_script_word(draft: &mut Draft, what: Input, line: &str, word: &str, number
     if is_of_key(line, number) {
         return of_key(draft, line, word, number);
     }
-    let is_verb = number == 0 || number == 2;
-    if is_verb && !add_nearest_of(draft, NETWORK, word) && what == Input::Test {
-        let _ = add_nearest_of(draft, EXPECTATIONS, word);
-    }
-}
-
-// What the first of a frame's operands, from this word of a line on, that is near another one may have been meant for.
-fn add_operand_meant(draft: &mut Draft, line: &str, first: usize) {
-    for number in first..word_count(line) {
-        if let Some(word) = word_at(line, number) {
-            if add_nearest_operand(draft, word) {
-                return;
-            }
-        }
-    }
-}
-
-// What a word of a frame, by its number in the line, may have been meant for.
-fn of_frame(draft: &mut Draft, cause: AssembleError, line: &str, word: &str, number: usize) {
-    match cause {
-        AssembleError::Name => {
-            let _ = add_nearest_opcode(draft, word);
-        }
-        AssembleError::Operand => add_operand_meant(draft, line, number),
-        AssembleError::Address | AssembleError::TooLong | AssembleError::Count => {}
+    if what == Input::Session {
+        let _ = add_nearest_of(draft, SESSION, word);
+    } else if number == 0 {
+        of_script_verb(draft, what, line, word);
+    } else if number == 2 {
+        add_nearest_verb(draft, what, word);
     }
 }
 
@@ -418,71 +182,12 @@ fn of_script(
         ScriptCause::Name => add_name_meant(draft, place, word),
         ScriptCause::Number => add_number(draft, word),
         ScriptCause::Word => of_script_word(draft, what, line, word, number),
-        ScriptCause::Frame(cause) => of_frame(draft, cause, line, word, number),
+        ScriptCause::Frame(cause) => add_frame_meant(draft, cause, line, number),
         ScriptCause::Width
         | ScriptCause::Order
         | ScriptCause::Close
         | ScriptCause::TooMany
         | ScriptCause::End => {}
-    }
-}
-
-// A key of a state line that another one is near, with the value that stands after it. Returns whether there is one.
-fn add_nearest_key_of_state(draft: &mut Draft, key: &str, value: &str) -> bool {
-    for known in STATE_KEYS {
-        if let Some(near) = known.strip_suffix("=") {
-            if is_near(draft, near, key) {
-                draft.add_all(&[
-                    "  `",
-                    key,
-                    "=",
-                    value,
-                    "`: did you mean `",
-                    known,
-                    value,
-                    "`?\n",
-                ]);
-                return true;
-            }
-        }
-    }
-    false
-}
-
-// What a word of a state that no state line has may have been meant for.
-fn of_state_word(draft: &mut Draft, word: &str) {
-    let is_said = match word.split_once("=") {
-        Some(("power", value)) => {
-            add_suggestion(draft, value, word);
-            true
-        }
-        Some((key, value)) => add_nearest_key_of_state(draft, key, value),
-        None => add_nearest(draft, STATE_WORDS, word),
-    };
-    if !is_said {
-        draft.add_all(&["  no state line has the word `", word, "`\n"]);
-    }
-}
-
-// What a word may have been meant for that nothing meets, in the line of an expectation without its label.
-fn of_unmet(draft: &mut Draft, line: &str, word: &str) {
-    if without_label(line).line.starts_with("expect state ") {
-        of_state_word(draft, word);
-    } else {
-        add_nearest_of_round(draft, word);
-    }
-}
-
-// What a word of an expectation may have been meant for.
-fn of_expectation(draft: &mut Draft, place: Place<'_>, cause: ExpectCause, line: &str, word: &str) {
-    match cause {
-        ExpectCause::Label => add_nearest_label(draft, place, word),
-        ExpectCause::Name => add_name_meant(draft, place, word),
-        ExpectCause::Number => add_number(draft, word),
-        ExpectCause::Unmet => of_unmet(draft, line, word),
-        ExpectCause::Word | ExpectCause::Pattern | ExpectCause::Order => {
-            let _ = add_nearest_of(draft, EXPECTATIONS, word);
-        }
     }
 }
 
@@ -536,11 +241,13 @@ pub fn add_meant(
         return;
     };
     match fault {
-        Fault::Topology { cause, .. } => of_topology(draft, place, cause, word, number),
+        Fault::Topology { cause, .. } => add_topology_meant(draft, place, cause, line, number),
         Fault::Script { cause, .. } => of_script(draft, what, place, cause, line, number),
-        Fault::Expectation { cause, .. } => of_expectation(draft, place, cause, line, word),
+        Fault::Expectation { cause, .. } => {
+            add_expected_meant(draft, place, cause, line, number);
+        }
         Fault::Steps { .. } => of_step(draft, place, line, word, number),
-        Fault::Frame { cause, .. } => of_frame(draft, cause, line, word, number),
+        Fault::Frame { cause, .. } => add_frame_meant(draft, cause, line, number),
         Fault::TextSyntax { .. } => {
             let _ = add_nearest(draft, WORD_TEXTS, word);
         }
@@ -549,7 +256,8 @@ pub fn add_meant(
             cause: Cause::Line,
             ..
         } => of_edge(draft, word, number),
-        Fault::Range { .. }
+        Fault::Past { .. }
+        | Fault::Range { .. }
         | Fault::Hex { .. }
         | Fault::Capture { .. }
         | Fault::Edid(_)

@@ -1,6 +1,7 @@
 //! The devices that a name at fault could be.
 use hdminet_help::Draft;
 use hdminet_marks::{Place, declared_by, is_line_end};
+use hdminet_near::add_near;
 
 // Whether a line above declares a device of this name.
 fn is_declared(place: Place<'_>, word: &str) -> bool {
@@ -42,5 +43,25 @@ pub fn add_declared(draft: &mut Draft, place: Place<'_>) {
 pub fn add_taken(draft: &mut Draft, place: Place<'_>, word: &str) {
     if is_declared(place, word) {
         draft.add_all(&["  `", word, "` has a `device` line already\n"]);
+    }
+}
+
+// The first name of a device that a word may have been meant for. Returns whether there is one.
+fn add_nearest_name(draft: &mut Draft, place: Place<'_>, word: &str) -> bool {
+    let above = place.number.saturating_sub(1);
+    for line in place.input.split(is_line_end).take(above) {
+        if let Some(name) = declared_by(line) {
+            if add_near(draft, name, word) {
+                return true;
+            }
+        }
+    }
+    false
+}
+
+/// The name of a device that a word may have been meant for, or else all of them.
+pub fn add_name_meant(draft: &mut Draft, place: Place<'_>, word: &str) {
+    if !add_nearest_name(draft, place, word) {
+        add_declared(draft, place);
     }
 }

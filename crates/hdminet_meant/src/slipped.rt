@@ -8,6 +8,12 @@ pub fn add_slip(draft: &mut Draft, slip: Slip) {
         Slip::Gap => {}
         Slip::StrayAt => draft.add_line("the time stands here by itself, without `at`"),
         Slip::NoTime => draft.add_line("T is missing before this word"),
+        Slip::NoDuration => draft.add_line("D is missing before this word"),
+        Slip::NoName => draft.add_line("NAME is missing before this word"),
+        Slip::PortsFirst => {
+            draft.add_line("KIND stands before PORTS, as `device tv tv 4`");
+        }
+        Slip::StrayWord => draft.add_line("nothing stands between CHILD and PARENT"),
         Slip::KeyFirst => draft.add_line("NAME stands before KEY, as `press tv mute`"),
     }
 }

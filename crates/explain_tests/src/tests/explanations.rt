@@ -17,7 +17,7 @@ end 5
                     ^^^^^
   a line here reads `device NAME KIND PORTS`
   `playr`: did you mean `player`?
-  KIND is tv, amp, player, recorder, switch, combo or outside; words stand one space apart; `edid` comes once
+  KIND is tv, amp, player, recorder, switch, combo, outside or outside-tv; words stand one space apart; `edid` comes once
 --
 run --explain
 DEVICE tv tv 4
@@ -28,7 +28,7 @@ end 5
           ^^^^^^
   a line here reads `device NAME KIND PORTS`, `plug CHILD PARENT PORT`, `edid HEX`
   `DEVICE`: did you mean `device`?
-  KIND is tv, amp, player, recorder, switch, combo or outside; words stand one space apart; `edid` comes once
+  KIND is tv, amp, player, recorder, switch, combo, outside or outside-tv; words stand one space apart; `edid` comes once
 --
 run --explain
 \u{feff}device tv tv 4
@@ -39,7 +39,7 @@ end 5
           ^^^^^^^^^
   this line has bytes that are no printable text; `.` stands for each
   a line here reads `device NAME KIND PORTS`, `plug CHILD PARENT PORT`, `edid HEX`
-  KIND is tv, amp, player, recorder, switch, combo or outside; words stand one space apart; `edid` comes once
+  KIND is tv, amp, player, recorder, switch, combo, outside or outside-tv; words stand one space apart; `edid` comes once
   the input begins with a byte order mark, ef bb bf, which is no part of the text
 --
 run --explain
@@ -73,7 +73,7 @@ device p1 player 0
 script
 end 5
 => topology line 2: no-root
-  a network has a device of the kind tv, as `device tv tv 4`
+  a network has a device of the kind tv or outside-tv, as `device tv tv 4`
 --
 run --explain
 device tv tv 4
@@ -97,6 +97,7 @@ end 1e6
 => script line 1: number
   line 3 of the input: end 1e6
                            ^^^
+  `1e6`: a number has digits alone
   T is decimal microseconds, 0 to 1000000000000; PORT and WIDTH are decimal numbers; none has a zero before it
 --
 run --explain
@@ -404,6 +405,7 @@ end 9
 => script line 2: label
   line 4 of the input: label film expect from 0 to 5 short
                              ^^^^
+  line 3 of the input has the label `film`
   a label is a word that no other line has, on a line above those that name it; `refused` names that of an event
 --
 check --explain
@@ -415,6 +417,7 @@ end 9
 => script line 2: label
   line 4 of the input: expect refused none off-wire
                                       ^^^^
+  line 3 of the input has the label `none`
   a label is a word that no other line has, on a line above those that name it; `refused` names that of an event
 --
 check --explain

@@ -113,7 +113,7 @@ end 5
                  ^
   two spaces stand side by side here
   a line here reads `device NAME KIND PORTS`
-  KIND is tv, amp, player, recorder, switch, combo or outside; words stand one space apart; `edid` comes once
+  KIND is tv, amp, player, recorder, switch, combo, outside or outside-tv; words stand one space apart; `edid` comes once
 --
 run --explain
 device tv tv 4
@@ -251,7 +251,7 @@ end 5
           ^^^
   a line here reads `device NAME KIND PORTS`, `plug CHILD PARENT PORT`, `edid HEX`
   this line is one of a script, which stands below the line `script`
-  KIND is tv, amp, player, recorder, switch, combo or outside; words stand one space apart; `edid` comes once
+  KIND is tv, amp, player, recorder, switch, combo, outside or outside-tv; words stand one space apart; `edid` comes once
 --
 run --explain
 device tv tv 4
@@ -265,7 +265,7 @@ end 5
           ^^
   a line here reads `device NAME KIND PORTS`, `plug CHILD PARENT PORT`, `edid HEX`
   this line is one of a script, which stands below the line `script`
-  KIND is tv, amp, player, recorder, switch, combo or outside; words stand one space apart; `edid` comes once
+  KIND is tv, amp, player, recorder, switch, combo, outside or outside-tv; words stand one space apart; `edid` comes once
 --
 check --explain
 device tv tv 4

@@ -264,7 +264,7 @@ end 9
                          ^
   a line here reads `device NAME KIND PORTS`
   `#` begins a remark at the start of a line alone
-  KIND is tv, amp, player, recorder, switch, combo or outside; words stand one space apart; `edid` comes once
+  KIND is tv, amp, player, recorder, switch, combo, outside or outside-tv; words stand one space apart; `edid` comes once
 --
 run --explain
 device tv tv 4
@@ -276,7 +276,7 @@ end 9
                    ^^^^^^^^
   a line here reads `device NAME KIND PORTS`
   `playback`: did you mean `player`?
-  KIND is tv, amp, player, recorder, switch, combo or outside; words stand one space apart; `edid` comes once
+  KIND is tv, amp, player, recorder, switch, combo, outside or outside-tv; words stand one space apart; `edid` comes once
 --
 run --explain
 device tv tv 4
@@ -288,7 +288,39 @@ end 9
                    ^^^
   a line here reads `device NAME KIND PORTS`
   `avr`: did you mean `amp`?
-  KIND is tv, amp, player, recorder, switch, combo or outside; words stand one space apart; `edid` comes once
+  KIND is tv, amp, player, recorder, switch, combo, outside or outside-tv; words stand one space apart; `edid` comes once
+--
+run --explain
+device dut outside_tv 4
+script
+end 9
+=> topology line 1: word
+  line 1: device dut outside_tv 4
+                     ^^^^^^^^^^
+  a line here reads `device NAME KIND PORTS`
+  `outside_tv`: did you mean `outside-tv`?
+  KIND is tv, amp, player, recorder, switch, combo, outside or outside-tv; words stand one space apart; `edid` comes once
+--
+run --explain
+device dut external-tv 4
+script
+end 9
+=> topology line 1: word
+  line 1: device dut external-tv 4
+                     ^^^^^^^^^^^
+  a line here reads `device NAME KIND PORTS`
+  `external-tv`: did you mean `outside-tv`?
+  KIND is tv, amp, player, recorder, switch, combo, outside or outside-tv; words stand one space apart; `edid` comes once
+--
+run --explain
+device dut outside-tv 4
+device tv tv 4
+script
+end 9
+=> topology line 2: second-root
+  line 2: device tv tv 4
+                    ^^
+  a network has one device of the kind tv or outside-tv, its root
 --
 run --explain
 device tv tv 4
@@ -299,7 +331,7 @@ end 9
   line 2: device p player
   a line here reads `device NAME KIND PORTS`
   PORTS is missing at the end of the line
-  KIND is tv, amp, player, recorder, switch, combo or outside; words stand one space apart; `edid` comes once
+  KIND is tv, amp, player, recorder, switch, combo, outside or outside-tv; words stand one space apart; `edid` comes once
 --
 run --explain
 device tv tv 4
@@ -311,7 +343,7 @@ end 5
                   ^^
   a line here reads `edid HEX`
   HEX is one word: its digits stand without spaces
-  KIND is tv, amp, player, recorder, switch, combo or outside; words stand one space apart; `edid` comes once
+  KIND is tv, amp, player, recorder, switch, combo, outside or outside-tv; words stand one space apart; `edid` comes once
 --
 run --explain
 device tv tv 4
@@ -539,7 +571,7 @@ capture
 => expectations line 2: word
   line 2: expect refused a word x
                  ^^^^^^^
-  a line here reads `expect within D of NAME PATTERN`, `expect from T to U PATTERN`, `expect none within D of NAME PATTERN`, `expect none from T to U PATTERN`, `expect once within D of NAME PATTERN`, `expect once from T to U PATTERN`
+  a line here reads `expect within D of NAME PATTERN`, `expect from T to U PATTERN`, `expect none within D of NAME PATTERN`, `expect none from T to U PATTERN`, `expect once within D of NAME PATTERN`, `expect once from T to U PATTERN`, `expect no-remark`, `expect remark PATTERN`
   words stand one space apart; PATTERN has 1 to 160 bytes, at most four `*` and no space at an end; a label stands before an event, a pulse or an expectation
 --
 check --capture --explain
@@ -549,7 +581,7 @@ capture
 => expectations line 1: word
   line 1: expect state 5 tv tv
                  ^^^^^
-  a line here reads `expect within D of NAME PATTERN`, `expect from T to U PATTERN`, `expect none within D of NAME PATTERN`, `expect none from T to U PATTERN`, `expect once within D of NAME PATTERN`, `expect once from T to U PATTERN`
+  a line here reads `expect within D of NAME PATTERN`, `expect from T to U PATTERN`, `expect none within D of NAME PATTERN`, `expect none from T to U PATTERN`, `expect once within D of NAME PATTERN`, `expect once from T to U PATTERN`, `expect no-remark`, `expect remark PATTERN`
   words stand one space apart; PATTERN has 1 to 160 bytes, at most four `*` and no space at an end; a label stands before an event, a pulse or an expectation
 --
 check --capture --explain
@@ -559,7 +591,7 @@ capture
 => expectations line 1: word
   line 1: expct within
           ^^^^^
-  a line here reads `expect within D of NAME PATTERN`, `expect from T to U PATTERN`, `expect none within D of NAME PATTERN`, `expect none from T to U PATTERN`, `expect once within D of NAME PATTERN`, `expect once from T to U PATTERN`, `label NAME at T`, `label NAME LINE`
+  a line here reads `expect within D of NAME PATTERN`, `expect from T to U PATTERN`, `expect none within D of NAME PATTERN`, `expect none from T to U PATTERN`, `expect once within D of NAME PATTERN`, `expect once from T to U PATTERN`, `expect no-remark`, `expect remark PATTERN`, `label NAME at T`, `label NAME LINE`
   `expct`: did you mean `expect`?
   words stand one space apart; PATTERN has 1 to 160 bytes, at most four `*` and no space at an end; a label stands before an event, a pulse or an expectation
 --
@@ -580,6 +612,26 @@ capture
   line 1: label a at 5 x
                        ^
   a line here reads `label NAME at T`
+  words stand one space apart; PATTERN has 1 to 160 bytes, at most four `*` and no space at an end; a label stands before an event, a pulse or an expectation
+--
+check --capture --explain
+expect remark fre
+capture
+1000 end
+=> expectations line 1: pattern
+  line 1: expect remark fre
+                        ^^^
+  PATTERN begins with a kind of remarks: `no-answer` `late-answer` `free` `start-low` `start-total` `bit-low` `bit-total` `low-drive` `drive-within` `unfinished` `too-many-attempts` `receivers` `operands`
+  `fre`: did you mean `free`?
+--
+check --capture --explain
+expect no-remark 5
+capture
+1000 end
+=> expectations line 1: word
+  line 1: expect no-remark 5
+                           ^
+  a line here reads `expect no-remark`
   words stand one space apart; PATTERN has 1 to 160 bytes, at most four `*` and no space at an end; a label stands before an event, a pulse or an expectation
 ";
 

@@ -1,5 +1,21 @@
 //! Numbers that are written otherwise.
+use crate::near::add_other;
 use hdminet_help::Draft;
+
+/// Numbers in words.
+const IN_WORDS: &[(&str, &str)] = &[
+    ("zero", "0"),
+    ("one", "1"),
+    ("two", "2"),
+    ("three", "3"),
+    ("four", "4"),
+    ("five", "5"),
+    ("six", "6"),
+    ("seven", "7"),
+    ("eight", "8"),
+    ("nine", "9"),
+    ("ten", "10"),
+];
 
 /// Units of time after a number, and how many microseconds each is.
 const UNITS: &[(&str, u64)] = &[("us", 1), ("ms", 1_000), ("s", 1_000_000)];
@@ -40,14 +56,15 @@ fn add_digits(draft: &mut Draft, word: &str) {
     }
 }
 
-// A number with a sign or a point.
-fn add_mark(draft: &mut Draft, word: &str) {
+// A number with a sign or a point. Returns whether it is one.
+fn add_mark(draft: &mut Draft, word: &str) -> bool {
     let mark = match word.as_bytes() {
         [b'-' | b'+', digits @ ..] if is_all_digits(digits) => "sign",
         bytes if is_pointed(bytes) => "point",
-        _ => return,
+        _ => return false,
     };
     draft.add_all(&["  `", word, "`: a number has no ", mark, "\n"]);
+    true
 }
 
 fn is_all_digits(bytes: &[u8]) -> bool {
@@ -67,11 +84,32 @@ fn is_pointed(bytes: &[u8]) -> bool {
     points == 1 && bytes.len() > 1
 }
 
+// A number with a unit or another mark after it.
+fn add_tail(draft: &mut Draft, word: &str) {
+    let begins_so = matches!(word.as_bytes(), [first, ..] if is_digit(*first));
+    if begins_so && word.contains(".") {
+        draft.add_all(&[
+            "  `",
+            word,
+            "`: times are whole microseconds, and no unit follows them\n",
+        ]);
+    } else if begins_so {
+        draft.add_all(&["  `", word, "`: a number has digits alone\n"]);
+    }
+}
+
+// A number with a sign or a point, or with something after it.
+fn add_odd(draft: &mut Draft, word: &str) {
+    if !add_mark(draft, word) && !add_other(draft, IN_WORDS, word) {
+        add_tail(draft, word);
+    }
+}
+
 // A word that is no number for its spelling.
 fn add_spelling(draft: &mut Draft, word: &str) {
     match digits_of(word) {
         Some(_) => add_digits(draft, word),
-        None => add_mark(draft, word),
+        None => add_odd(draft, word),
     }
 }
 

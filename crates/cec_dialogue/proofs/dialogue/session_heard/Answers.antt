@@ -6,7 +6,7 @@ use Rattle.cec_session.specs.Session.{Session}
 use Rattle.cec_dialogue.specs.Dialogue.{HasRoom, IsOpened, IsOpening}
 use Rattle.cec_dialogue.proofs.Putting.{handed_same, held, is_stuck}
 use Rattle.cec_dialogue.proofs.Whole.{in_limits, refused_is, refused_quiet, session_is, unopened_is, unopened_limits, unopened_quiet}
-use Rattle.cec_dialogue.proofs.dialogue.session.Goals as goal
+use Rattle.cec_dialogue.proofs.dialogue.session_heard.Goals as goal
 
 -- at first all is to come that the reader has
 start_is : (pending : List ℕ) (rest : Option (List ℕ)) → pending ≡ [] → prepend_known pending rest ≡ rest

@@ -42,3 +42,38 @@ pub fn is_near(draft: &mut Draft, known: &str, word: &str) -> bool {
     }
     known.len() > 2 && word.len() < 64 && is_one_edit(draft, known, word)
 }
+
+/// Suggests a word.
+pub fn add_suggestion(draft: &mut Draft, near: &str, word: &str) {
+    draft.add_all(&["  `", word, "`: did you mean `", near, "`?\n"]);
+}
+
+/// A known word, if another may have been meant for it. Returns whether it may.
+pub fn add_near(draft: &mut Draft, near: &str, word: &str) -> bool {
+    let is_meant = is_near(draft, near, word);
+    if is_meant {
+        add_suggestion(draft, near, word);
+    }
+    is_meant
+}
+
+/// The first of some known words that a word may have been meant for. Returns whether there is one.
+pub fn add_nearest(draft: &mut Draft, known: &[&str], word: &str) -> bool {
+    for near in known {
+        if add_near(draft, near, word) {
+            return true;
+        }
+    }
+    false
+}
+
+/// The word that another one stands for in such a list. Returns whether there is one.
+pub fn add_other(draft: &mut Draft, others: &[(&str, &str)], word: &str) -> bool {
+    for (other, meant) in others {
+        if word.eq_ignore_ascii_case(other) {
+            add_suggestion(draft, meant, word);
+            return true;
+        }
+    }
+    false
+}

@@ -1,0 +1,16 @@
+//! Known words that are near one, and words that stand for others elsewhere: numbers, and the words of frames.
+//!
+//! All of it is text for people, so that tests speak of it and no contract does.
+#![tactic(auto)]
+
+mod frames;
+mod near;
+mod numbers;
+mod operands;
+
+pub use frames::{
+    add_address_meant, add_header_meant, add_nearest_opcode, add_opcode_meant, add_text,
+};
+pub use near::{add_near, add_nearest, add_other, add_suggestion, is_near};
+pub use numbers::add_number;
+pub use operands::{add_count_meant, add_nearest_operand, add_operands_meant, add_set_meant};
