@@ -204,11 +204,11 @@ class Audit:
         return ''.join(self.out) + self.all.text()
 
 
-def audit(data, timing):
+def audit(data, timing, margin=0):
     """(status, output, fault) of an edge file"""
-    status, out, fault = wire.mon(data)
+    status, out, fault = wire.mon(data, margin)
     if status: return status, out, fault
     lines = [line.split(b' ') for line in wire.lines_of(data) if not wire.skipped(line)]
     edges = [(int(t), level == b'0') for t, level in lines if level != b'end']
     end = int(lines[-1][0])
-    return 0, Audit(edges, end, timing).text(wire.Reader(edges, end).readings).encode(), ''
+    return 0, Audit(edges, end, timing).text(wire.Reader(edges, end, margin).readings).encode(), ''

@@ -1,6 +1,8 @@
 """The rules that an EDID is to keep, and the other ways in which `edid` writes one: a plain model."""
 import collections
 
+import merge
+
 from edid import check_edid, edid_text, first_hdmi, hdmi_place, is_hdmi, port_edid, read_ext
 from wire import pa_text, parse_pa
 
@@ -477,26 +479,57 @@ def in_port(address, port):
     return 0xFFFF
 
 
+def recounted(e, count):
+    """the bytes with another count in byte 126, and their checksum"""
+    b = bytearray(e)
+    b[127] = (b[127] + b[126] - count) % 256
+    b[126] = count
+    return bytes(b)
+
+
+def override(e):
+    """the count of extensions by the HDMI Forum's override where the first one begins with it, else byte 126"""
+    if e[126] and len(e) > 134 and e[128] == 2 and e[129] >= 3 and e[130] >= 7 and e[132:134] == b'\xe2\x78':
+        return e[134]
+    return e[126]
+
+
 def value_of(args, flag):
     return args[args.index(flag) + 1] if flag in args else None
 
 
 def edid_way(args, data):
-    """(status, output, fault) of `edid` with --check, --address A, --port N, --below amp, --only-address or --raw"""
+    """(status, output, fault) of `edid` with --merge, --rows R, --eeodb, --check, --address A, --port N, --below amp, --speakers own,
+    --only-address or --raw"""
     port, address = value_of(args, '--port'), value_of(args, '--address')
+    if '--merge' in args:
+        data, cause = merge.merge(*merge.halves(data), merge.rows_of(value_of(args, '--rows')))
+        if cause:
+            return 1, b'', 'merge: ' + cause
+    kept = None
+    if '--eeodb' in args and len(data) in (128, 256, 384, 512):
+        kept = data[126]
+        data = recounted(data, override(data))
     fault = check_edid(data)
     if fault:
         return 1, b'', 'edid: ' + ' '.join(str(x) for x in fault)
     own = own_address(data)
     if own is None and (port or address or '--only-address' in args):
         return 1, b'', 'edid: no-hdmi-block'
-    if '--only-address' in args:
-        return 0, (pa_text(own) + '\n').encode(), ''
     if port or address:
         place = in_port(own, int(port)) if port else parse_pa(address.encode())
         data = port_edid(data, place, '--below' in args)
+        own = own_address(data)
+    if '--speakers' in args:
+        data = merge.with_speakers(data)
+        if data is None:
+            return 1, b'', 'edid: no-room'
+    if '--only-address' in args:
+        return 0, (pa_text(own) + '\n').encode(), ''
     if '--check' in args:
-        lines = findings(data, bool(port or address))
+        lines = findings(data if kept is None else recounted(data, kept), bool(port or address))
         fails = has_failure(lines)
         return 5 if fails else 0, ''.join(l + '\n' for l in lines).encode(), 'edid: a rule fails' if fails else ''
-    return 0, data if '--raw' in args else edid_text(data), ''
+    if '--raw' in args:
+        return 0, data if kept is None else recounted(data, kept), ''
+    return 0, edid_text(data), ''

@@ -1,13 +1,14 @@
 #!/usr/bin/env python3
 """python3 compare.py PROGRAM KIND COUNT START: random inputs of KIND through PROGRAM and the model; prints differences.
-KIND: run feat wire edges mon audit step asm edid edtext check ways met expect sweep json odd."""
+KIND: run feat wire edges mon audit step asm edid edtext merge check ways met expect sweep capture json odd."""
 import os, random, re, subprocess, sys, time
-import wire, edid, expectations, net, patterns, sweep
+import wire, captures, edid, expectations, merge, net, patterns, sweep
 from model import model
 
 
 MAXDIFF = int(os.environ.get('MODEL_MAX', '5'))
 KINDS6 = ['tv', 'amp', 'player', 'recorder', 'switch', 'combo', 'combo', 'outside']
+ROOTS = ['tv', 'tv', 'tv', 'tv', 'outside-tv']
 
 
 def prog(program, args, data):
@@ -17,6 +18,7 @@ def prog(program, args, data):
         return 'timeout', b'', ''
     e = p.stderr.decode('latin1').split('\n')[0]
     f = e[9:] if e.startswith('hdminet: ') else ('?' + e if e else '')
+    if args[0] == 'mon' and p.returncode == 0: f = ''      # what may have to be asked for otherwise is not in the model
     out = p.stdout
     if '--audit' in args or '--timing' in args:     # what the standard calls what is left as bytes is not in the model
         out = b''.join(line for line in out.splitlines(True) if not line.startswith((b'  # ', b'{"line":"  # ')))
@@ -150,8 +152,8 @@ def gen_topology(r, edid_chance=.15):
     ls, names, ports, kinds = [], [], [], []
     tv = r.randrange(n)
     for i in range(n):
-        k = 'tv' if i == tv else r.choice(KINDS6[1:])
-        p = r.choice([0, 1, 2, 3, 4, 15]) if k != 'tv' else r.choice([1, 3, 4, 8, 15])
+        k = r.choice(ROOTS) if i == tv else r.choice(KINDS6[1:])
+        p = r.choice([0, 1, 2, 3, 4, 15]) if i != tv else r.choice([1, 3, 4, 8, 15])
         if k == 'switch' and r.random() < .7: p = r.choice([1, 2, 3, 4])
         nm = '%s%d' % (k[0], i)
         names.append(nm); ports.append(p); kinds.append(k)
@@ -231,7 +233,7 @@ def gen_key(r, kind, near=None):
           'remote %s %s' % (r.choice('45118'), r.choice(['power', 'volume-up', 'mute', 'play', 'stop', 'root-menu', 'exit', 'power-on', 'power-off', 'pause']))]
     amp = ['power', 'arc on', 'arc off', 'volume-up', 'volume-down', 'mute']
     sw = ['power', 'port %d' % r.choice([0, 1, 2, 3, 4, 15, 255, 300])] + ['port %d' % r.choice([1, 2, 3])] * 3
-    by = {'outside': deck, 'combo': deck, 'tv': tv, 'amp': amp, 'player': deck, 'recorder': deck, 'switch': sw}
+    by = {'outside': deck, 'outside-tv': tv, 'combo': deck, 'tv': tv, 'amp': amp, 'player': deck, 'recorder': deck, 'switch': sw}
     if r.random() < .07: kind = r.choice(KINDS6)
     return r.choice(by[kind])
 
@@ -275,7 +277,7 @@ def gen_script(r, topo, names, ports, kinds, feat=False):
         t += r.choice([0, 0, 1, 1000, 40000, 160000, 160000, 300000]) if not feat else r.choice([0, 1, 20000, 90000, 160000, 160000, 250000])
         i = r.randrange(len(names))
         k = r.random()
-        if (kinds[i] == 'outside' and r.random() < .7) or r.random() < .01:
+        if (kinds[i] in net.OUTSIDE and r.random() < .7) or r.random() < .01:
             ls.append('at %d %s' % (t, gen_act(r, names[i], las, near)))
             continue
         if k < (.06 if feat else .2):
@@ -561,10 +563,18 @@ def gen_frame_slots(r, frame, takes, at):
     return lines, e - 2400
 
 
+def gen_margin(r):
+    """the same, by wider windows or not, with its levels turned or not"""
+    args, text = gen_mon(r)
+    if r.random() < .2: args = args + ['--invert']
+    return args + r.choice([[], ['--margin', str(r.choice([0, 1, 20, 50, 300, r.randrange(301)]))]]), text
+
+
 def gen_audit(r):
     """frames that are tried again, answered late, too soon, to others than they are for; or any edges"""
     flags = r.choice([['--audit'], ['--audit'], ['--timing'], ['--audit', '--timing']])
     flags += r.choice([[], [], ['--strict']]) + r.choice([[], [], ['--json']])
+    flags += r.choice([[], [], ['--margin', str(r.choice([1, 20, 50, 300, r.randrange(301)]))]])
     if r.random() < .3:
         args, text = gen_mon(r)
         return args + flags, text
@@ -696,15 +706,52 @@ def gen_check(r):
             b[place] = r.choice([0, 1, 255, r.randrange(256), b[place] ^ 1 << r.randrange(8)])
     if r.random() < .3:
         b[19] = r.choice([3, 4])
-    e = b''.join(edid.mend(bytes(b[i:i + 128])) for i in range(0, len(b), 128))
     way = r.choice([[], [], ['--port', str(r.randint(1, 15))], ['--address', pa_word(r)]])
+    if r.random() < .2 and len(b) > 128:
+        # an override of the count in the place of the first data block, and perhaps another byte 126
+        b[132:135] = bytes([0xe2, 0x78, r.choice([1, 1, len(b) // 128 - 1, r.randrange(4)])])
+        b[126] = r.choice([1, 1, 2, 3, len(b) // 128 - 1])
+        way.append('--eeodb')
+    e = b''.join(edid.mend(bytes(b[i:i + 128])) for i in range(0, len(b), 128))
     return ['edid', '--check'] + way, e
 
 
 def gen_ways(r):
     e = gen_edidcmd(r)[1] if r.random() < .5 else EXAMPLE
-    way = r.choice([['--port', str(r.randint(1, 15))], ['--port', str(r.randint(1, 15)), '--below', 'amp'], ['--address', pa_word(r)], ['--only-address']])
+    amp = ['--port', str(r.randint(1, 15)), '--below', 'amp']
+    way = r.choice([['--port', str(r.randint(1, 15))], amp, amp + ['--speakers', 'own'], ['--address', pa_word(r)], ['--only-address']])
     return ['edid'] + way + r.choice([[], ['--raw']] if way != ['--only-address'] else [[]]), e
+
+
+def gen_sink(r):
+    """an EDID of one block of CTA with what a receiver and a display may both have"""
+    b = bytearray(EXAMPLE if r.random() < .5 else gen_edid(r, 1))
+    body = b''
+    some = [(1, b''.join(bytes([r.choice([9, 15, 0x3d, 0x57]), r.randrange(128), r.randrange(256)]) for _ in range(r.randint(1, 4)))),
+            (2, bytes(r.choice([1, 3, 4, 16, 31, 0x90, 97]) for _ in range(r.randint(1, 8)))), (4, bytes(r.randrange(256) for _ in range(3))),
+            (3, bytes([3, 12, 0, r.randrange(256), r.randrange(256)] + [r.randrange(256) for _ in range(r.randint(0, 9))])),
+            (3, bytes([0xd8, 0x5d, 0xc4] + [r.randrange(256) if r.random() < .7 else 0 for _ in range(r.randint(0, 12))])),
+            (7, bytes([r.choice([0, 5, 6, 1, 7, 14, 15, 17, 18, 20, 0x78, 32])] + [r.randrange(256) for _ in range(r.randint(0, 6))])),
+            (7, bytes([r.choice([0, 5, 6])] + [r.randrange(256) for _ in range(r.randint(0, 4))])), (7, b''), (5, b'x'), (3, b'\x46\xd0\0\1')]
+    for tag, data in r.sample(some, r.randint(3, len(some))):
+        if len(body) + 1 + len(data) <= 123: body += bytes([tag << 5 | len(data)]) + data
+    tail = bytes(b[54:72]) * r.choice([0, 0, 1, 2]) + (b'\1' if r.random() < .1 else b'')
+    b[126] = 1
+    if r.random() < .5: b[72:90] = b'\0\0\0' + bytes([r.choice([0xfc, 0xff])]) + b'\0NAME' + bytes([48 + r.randrange(10)]) + b'\n' + b' ' * 7
+    ext = (bytes([2, 3, 4 + len(body), r.randrange(256)]) + body + tail)[:127].ljust(127, b'\0') + b'\0'
+    return edid.mend(bytes(b[:128])) + edid.mend(ext)
+
+
+def gen_merge(r):
+    """two EDIDs, of which one is made, perhaps with rows, or one below an amplifier with its speakers"""
+    if r.random() < .3:
+        return ['edid', '--port', '2', '--below', 'amp', '--speakers', 'own'], gen_sink(r)
+    rows = []
+    for kind in r.sample(list(merge.ROWS), r.choice([0, 0, 1, 2, 5, 12])):
+        rows.append('%s=%s' % (kind, r.choice(merge.words_of(kind))))
+    two = [gen_sink(r) if r.random() < .95 else gen_edidcmd(r)[1] for _ in range(2)]
+    way = r.choice([[], ['--raw'], ['--check'], ['--port', '3']])
+    return ['edid', '--merge'] + (['--rows', ','.join(rows)] if rows else []) + way, b''.join(two)
 
 
 def star(r, word):
@@ -877,6 +924,38 @@ def gen_sweep(r):
     return args + r.choice([[], [], ['--json']]), topology + '\nscript\n' + '\n'.join(lines)
 
 
+def gen_capture(r):
+    """a capture with labels and expectations of its readings and remarks, many at the border of what holds; a part with a line at fault"""
+    capture = r.choice([gen_mon, gen_audit, gen_audit])(r)[1]
+    readings = [line.decode() for line in wire.mon(capture.encode())[1].splitlines()] or ['0 27150 complete 0>0 nack']
+    remarks = captures.remarks_of(capture.encode()) if wire.mon(capture.encode())[0] == 0 else []
+    out, labels = [], []
+    for _ in range(r.choice([0, 2, 5, 9])):
+        near = r.choice(readings)
+        begin, close = (int(x) for x in near.split(' ')[:2])
+        k = r.random()
+        if k < .2:
+            labels.append(('a%d' % len(labels), max(0, begin + r.choice([0, 0, -1, 1, -50000]))))
+            out.append('label %s at %d' % labels[-1])
+        elif k < .35:
+            out.append('expect no-remark')
+        elif k < .6:
+            kind, line = r.choice(remarks) if remarks and r.random() < .9 else (r.choice(captures.KINDS), b'  no answer to 4>0 8f of 5')
+            words = [kind.decode()] + line.decode()[2:].split(' ')
+            words = words[:r.choice([1, 1, len(words), r.randrange(1, len(words) + 1)])]
+            for _ in range(r.choice([0, 0, 1, 2])):
+                i = r.randrange(len(words))
+                words[i] = star(r, words[i])
+            out.append('expect remark ' + ' '.join(words))
+        else:
+            pattern = gen_pattern(r, near)
+            out.append('expect %s%s %s' % (r.choice(['', '', 'none ', 'once ']), gen_window(r, readings, labels, close, near), pattern))
+    if r.random() < .15:
+        out.insert(r.randrange(len(out) + 1), r.choice(['', '# a remark', 'expect no-remark ', 'expect no-remark x', 'expect remark', 'expect remark fre', 'expect remark attempt',
+            'expect remark * * * * *', 'label b expect no-remark', 'expect refused a off-wire', 'expect state 5 tv on', 'at 5', 'end 10', 'label x', 'label', 'label a0 at 5', 'label  at 5', 'label y at 05']))
+    return ['check', '--capture', '--from', 'edges'], '\n'.join(out + ['capture', capture])
+
+
 def gen_odd(r):
     g = r.choice(ODD)
     a, d = g(r)
@@ -905,7 +984,7 @@ def gen_odd(r):
         # special lines of topologies and scripts
         ls = d.decode('latin1').split('\n')
         i = r.randrange(len(ls))
-        sp = r.choice(['device x tv 1', 'device x player 16', 'device x player 015', 'device xxxxxxxxxxxxxxx player 1', 'device -x player 1', 'device X player 1', 'device x combo 0', 'device x tv', 'device x tv 1 1',
+        sp = r.choice(['device x tv 1', 'device x outside-tv 1', 'device x player 16', 'device x player 015', 'device xxxxxxxxxxxxxxx player 1', 'device -x player 1', 'device X player 1', 'device x combo 0', 'device x tv', 'device x tv 1 1',
                        'plug x y 1', 'plug x', 'plug tv tv 1', 'plug p1 tv 0', 'plug p1 tv 300', 'plug tv p1 1', 'edid 00', 'edid zz', 'edid 0', 'edid', 'edid -', 'edid ', 'device  tv 1', 'device x player ', 'device x  1',
                        'end 5', 'end', 'end 1000000000001', 'end 1000000000000', 'end 01', 'end x', 'end ', 'pulse 5 0', 'pulse 5 1', 'pulse 5 3001', 'pulse 1000000000001 1', 'pulse 5', 'pulse 5 99999999999999999999999', 'pulse 5 01', 'pulse  5',
                        'at 5 plug p1 tv', 'at 5 plug p1 tv x', 'at 5 unplug', 'at 5 unplug x', 'at 5 unplug ', 'at 5 press tv', 'at 5 press tv ', 'at 5 press tv power ', 'at 5 press tv watch 1.0.0', 'at 5 press tv port 01', 'at 5 press tv port x', 'at 5 press x port x', 'at 5 press x power',
@@ -929,7 +1008,7 @@ def small_run(r):
 
 
 ODD = [gen_run, small_run, small_run, gen_asm, gen_edidcmd, gen_edtext, gen_mon, gen_step, gen_expect]
-GEN = dict(ops=gen_ops, met=gen_met, amp=gen_amp, run=gen_run, feat=gen_feat, wire=gen_wire, edges=gen_edges, mon=gen_mon, audit=gen_audit, step=gen_step, asm=gen_asm, edid=gen_edidcmd, edtext=gen_edtext, check=gen_check, ways=gen_ways, expect=gen_expect, sweep=gen_sweep, json=gen_json, odd=gen_odd)
+GEN = dict(ops=gen_ops, met=gen_met, amp=gen_amp, run=gen_run, feat=gen_feat, wire=gen_wire, edges=gen_edges, mon=gen_margin, audit=gen_audit, step=gen_step, asm=gen_asm, edid=gen_edidcmd, edtext=gen_edtext, merge=gen_merge, check=gen_check, ways=gen_ways, expect=gen_expect, sweep=gen_sweep, capture=gen_capture, json=gen_json, odd=gen_odd)
 
 
 def main():

@@ -8,7 +8,7 @@ ROUND = re.compile(rb'\d+ \d+ (complete|short|silent|bad-start|long) ')
 EVENT = re.compile(rb'(\d+) event (\d+) (ok|refused ([a-z-]+))')
 PHYSICAL = rb'[0-9a-f]\.[0-9a-f]\.[0-9a-f]\.[0-9a-f]'
 STATE_WORD = re.compile(rb'|'.join((
-    rb'tv|amp|player|recorder|switch|combo|outside|on|standby|-', rb'[0-9a-f]', rb'[0-9a-f-]\+[0-9a-f-]', PHYSICAL,
+    rb'tv|amp|player|recorder|switch|combo|outside|outside-tv|on|standby|-', rb'[0-9a-f]', rb'[0-9a-f-]\+[0-9a-f-]', PHYSICAL,
     rb'(active|path)=(-|' + PHYSICAL + rb')', rb'(deck|held)=(-|[0-9a-f]{2})', rb'(menu|audio|mute|arc)=(-|on|off)', rb'(volume|sel)=(-|[0-9]+)',
     rb'(lang|osd)=(-|[0-9a-f]{2,})', rb'heard=(-|[0-9a-f]:[0-9a-f]{2}:[0-9a-f]{2})', rb'sub=(-|[0-9a-f])', rb'(queue|dropped)=[0-9]+')))
 SHOWN = 8

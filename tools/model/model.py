@@ -1,9 +1,14 @@
 #!/usr/bin/env python3
 """python3 model.py SUB [flag] < input: the model as a program; fault text on standard error."""
 import sys
-import audit, check, net, objects, sweep, wire, edid
+import audit, captures, check, net, objects, sweep, wire, edid
 
 LIMIT = 1048576
+
+
+def margin_of(args):
+    """the margin that is asked for"""
+    return int(args[args.index('--margin') + 1]) if '--margin' in args else 0
 
 
 def model(args, data):
@@ -19,14 +24,17 @@ def model(args, data):
             return status, objects.objects(out, objects.audit_told_of), fault
         told_of = objects.told_of if sub != 'check' else objects.report_told_of if out.startswith(b'TAP') else objects.stretch_told_of
         return status, objects.objects(out, told_of), fault
+    if sub == 'mon' and '--invert' in args:
+        return model([word for word in args if word != '--invert'], wire.turned(data)) if wire.mon(data)[0] == 0 else wire.mon(data)
     if sub == 'run': return net.run(data, '--edges' in args)
+    if sub == 'check' and '--capture' in args: return captures.check(data)
     if sub == 'check': return sweep.check(data)
     if sub == 'step': return net.step(data)
     if sub == 'mon' and ('--audit' in args or '--timing' in args):
-        status, out, fault = audit.audit(data, '--timing' in args)
+        status, out, fault = audit.audit(data, '--timing' in args, margin_of(args))
         if '--strict' in args and objects.has_remark(out): return 1, out, 'the audit has a remark'
         return status, out, fault
-    if sub == 'mon': return wire.mon(data)
+    if sub == 'mon': return wire.mon(data, margin_of(args))
     if sub == 'asm': return wire.asm(data)
     if sub == 'edid' and '--text' in args:
         status, out, fault = edid.text_cmd(data)

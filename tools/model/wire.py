@@ -341,9 +341,11 @@ def reading_text(r):
 
 
 class Reader:
-    """The readings of a list of edges (time, low) that is known up to and including tend; readings ended by tend."""
+    """The readings of a list of edges (time, low) that is known up to and including tend; readings ended by tend. The windows of
+    the start bit and of the bit period are so much wider at either side."""
 
-    def __init__(self, edges, tend):
+    def __init__(self, edges, tend, margin=0):
+        self.margin = margin
         self.E = edges
         self.tend = tend
         self.i = 0
@@ -363,7 +365,7 @@ class Reader:
     def one(self, F, R, i):
         """the reading from fall i; gives the index of the next reading's fall. rise i follows fall i."""
         e = begin = F[i]
-        tend = self.tend
+        tend, m = self.tend, self.margin
         bits = []
 
         def done(at, ending, upto):
@@ -377,18 +379,18 @@ class Reader:
             self.open_state = state
             return len(F)
         r = R[i] if i < len(R) else None
-        if r is not None and r < e + 3500:
+        if r is not None and r < e + 3500 - m:
             return done(r, 'bad-start', i + 1)
-        if r is None or r > e + 3900:
-            if e + 3901 <= tend:
-                return done(e + 3901, 'bad-start', i + 1)
+        if r is None or r > e + 3900 + m:
+            if e + 3901 + m <= tend:
+                return done(e + 3901 + m, 'bad-start', i + 1)
             return openr('start-low')
         f = F[i + 1] if i + 1 < len(F) else None
-        if f is not None and f < e + 4300:
+        if f is not None and f < e + 4300 - m:
             return done(f, 'bad-start', i + 2)
-        if f is None or f > e + 4700:
-            if e + 4701 <= tend:
-                return done(e + 4701, 'bad-start', i + 1)
+        if f is None or f > e + 4700 + m:
+            if e + 4701 + m <= tend:
+                return done(e + 4701 + m, 'bad-start', i + 1)
             return openr('start-high')
         i += 1
         k = 1
@@ -405,11 +407,11 @@ class Reader:
             bits.append(0 if (r is None or r > e + 1050) else 1)
             if last:
                 return done(e + 1050, 'complete' if bits[k - 2] == 1 else 'long', i + 1)
-            if f is not None and f < e + 2050:
+            if f is not None and f < e + 2050 - m:
                 return done(f, 'short', i + 2)
-            if f is None or f > e + 2750:
-                if e + 2751 <= tend:
-                    return done(e + 2751, 'silent', i + 1)
+            if f is None or f > e + 2750 + m:
+                if e + 2751 + m <= tend:
+                    return done(e + 2751 + m, 'silent', i + 1)
                 return openr('slot:%d:%s' % (k, bits_text(bits)))
             i += 1
             k += 1
@@ -424,7 +426,14 @@ def standing_at(edges):
     return 'wait-high' if edges[-1][1] else 'idle'
 
 
-def mon(data):
+def turned(data):
+    """the edge file of the line that is low where that of this one is high; before 0 both are high"""
+    lines = [line.split(b' ') for line in lines_of(data) if not skipped(line)]
+    times = {int(t) for t, level in lines if level != b'end'} ^ {0}
+    return b''.join(b'%d %d\n' % (t, k % 2) for k, t in enumerate(sorted(times))) + b'%d end\n' % int(lines[-1][0])
+
+
+def mon(data, margin=0):
     edges = []
     ended = None
     low = False
@@ -450,7 +459,7 @@ def mon(data):
         edges.append((t, low))
     if ended is None:
         return 1, b'', 'line %d: line' % (len(ls) + 1)
-    rd = Reader(edges, ended)
+    rd = Reader(edges, ended, margin)
     return 0, ''.join(reading_text(r) + '\n' for r in rd.readings).encode(), ''
 
 

@@ -3,8 +3,8 @@
 #![tactic(auto)]
 
 use hdmi_core::Writes;
-use hdminet_program::ProgramFault;
-use hdminet_program::program::{program, write_fault};
+use hdminet_faults::{ProgramFault, write_fault};
+use hdminet_program::program::program;
 use std::env;
 use std::process::ExitCode;
 

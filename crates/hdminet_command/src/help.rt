@@ -105,8 +105,8 @@ The input has two parts, parted by a line `script`. Lines that are empty or begi
 skipped. Words stand one space apart. Times are microseconds.
 
 The topology declares the devices and how they are plugged together at the start:
-  device NAME KIND PORTS        KIND is tv, amp, player, recorder, switch, combo or outside;
-                                PORTS is 0 to 15
+  device NAME KIND PORTS        KIND is tv, amp, player, recorder, switch, combo, outside or
+                                outside-tv; PORTS is 0 to 15
   plug CHILD PARENT PORT        into a port of a device declared above, counted from 1
   edid HEX                      the television's EDID, once at most; its ports pass it on
 
@@ -276,7 +276,11 @@ of the script: events and pulses in order of time, `end` after each event, no st
 
 With --capture the input is expectations, a line `capture`, and a capture in any form that `hdminet mon`
 reads, of which they are to hold. Here `label NAME at T` names an instant, and the other lines are
-expectations of rounds; a round says what its reading says in the lines of mon --from-start:
+expectations of rounds; a round says what its reading says in the lines of mon --from-start. Lines that
+are empty or begin with `#` are skipped. Two more speak of the audit that mon --audit writes:
+  expect no-remark                       it has no remark
+  expect remark PATTERN                  it has one: its kind as of mon --audit --json, and what it says
+Their tests stand after the others; below one that fails stand the first eight remarks:
   (cat film.expect; echo capture; cat film.vcd) | hdminet check --capture --glitch 50
 
 With --json each line of the report is an object of JSON.
@@ -290,7 +294,8 @@ nothing is written then. CAUSE is the first of these that applies:
   label      a label that is empty or stands above already; one that no line above has; for a refusal, one
              that is no event's
   order      a window ends before it begins, or the time of a state is past `end`
-  pattern    the line of no round meets the pattern; no event is refused with the word; no state line has it
+  pattern    the line of no round meets the pattern; no event is refused with the word; no state line has it;
+             no kind of remarks is called so
   range      more than 1000000 instants, or a second range
   order with line M   an instant of the range, and line M of the script, are out of order
 The faults of a range come first of all; a script that is refused at an instant T of it has ` at T` after
@@ -359,6 +364,7 @@ Answers:
   = state NAME ...        after `show`
   ! N CAUSE               line N after `script` is refused, for a cause of scripts, or last `past`:
                           it is for an instant before the horizon. It changes nothing
+With --explain a refused line is shown on standard error after its answer, with what would be right.
 An edge is a line `~ T 0` or `~ T 1`, the level that the line then has, above its round's line.
 Without the answers and the edges, what is written is the trace that `hdminet run` writes of the
 lines taken.
@@ -466,6 +472,10 @@ pub const MON_FLAGS: &[(&str, &str)] = &[
         "Prints one line for the readings that begin before the line was first idle",
     ),
     (
+        "invert",
+        "Reads the levels the other way round, as of a probe that turns them",
+    ),
+    (
         "audit",
         "Prints below each reading what the standard would have otherwise",
     ),
@@ -500,10 +510,15 @@ pub const MON_VALUES: &[(&str, &str, &str)] = &[
         "MICROSECONDS",
         "Passes over pulses and gaps that are shorter; 50 is safe",
     ),
+    (
+        "margin",
+        "MICROSECONDS",
+        "Reads by windows that are wider at either side, by 300 at most",
+    ),
 ];
 
 pub const MON_RULES: &str = "
-  --from takes edges, vcd, pin or csv; --glitch a number of microseconds
+  --from takes edges, vcd, pin or csv; --glitch a number of microseconds, --margin one up to 300
   --signal goes with vcd and csv alone; of --from-start and --from-idle one is given at most, and neither
   with --audit and --timing; --strict goes with one of these two
 ";
@@ -541,7 +556,11 @@ events of cec-ctl (pin), and comma-separated values of Logic (csv). The first li
 Of these forms one line, `0 T joined -`, stands for the readings that begin before T, when the line had
 been high for 7200 microseconds, since a capture may begin in the middle of a frame: that is --from-idle.
 With --from-start all readings are printed. With --glitch pulses and gaps of fewer microseconds are passed
-over. Events that a pin file has lost are named on standard error.
+over. With --margin the windows of a start bit and of a bit's period are so many microseconds wider at
+either side, for devices that are nearly right; an audit still names each width that is out of the
+standard's. With --invert a level that is captured as low is high, and the other way round. Events that
+a pin file has lost are named on standard error, and so is what may have to be asked for otherwise:
+another wire, --glitch, --margin or --invert.
 
 With --audit indented lines below each reading say what the standard would have otherwise, and at the end
 stands a summary; with --timing the widths of each reading's parts too:
@@ -590,6 +609,10 @@ pub const EDID_FLAGS: &[(&str, &str)] = &[
         "Prints what a reading over DDC gives, segment by segment",
     ),
     (
+        "merge",
+        "Reads a display's EDID and a receiver's, and prints what the receiver answers with",
+    ),
+    (
         "eeodb",
         "Goes by the HDMI Forum's count of extensions, in place of byte 126",
     ),
@@ -617,6 +640,16 @@ pub const EDID_VALUES: &[(&str, &str, &str)] = &[
         "With --port: the device is an amplifier, amp",
     ),
     (
+        "speakers",
+        "WHOSE",
+        "With --below: the speakers are the amplifier's too, own",
+    ),
+    (
+        "rows",
+        "ROWS",
+        "With --merge: whose blocks are taken, as video=keep,audio=own",
+    ),
+    (
         "nth",
         "NUMBER",
         "With --hex: reads this EDID of several, from 1",
@@ -626,9 +659,11 @@ pub const EDID_VALUES: &[(&str, &str, &str)] = &[
 pub const EDID_RULES: &str = "
   of --text and --hex one is given at most, of --raw, --check, --meaning,
   --only-address and --ddc, of --address and --port, and of --eeodb and --as-source
-  --address takes an address as 1.0.0.0, --port 1 to 15, --below amp, --nth
-  a number from 1
-  --below goes with --port alone, --nth with --hex alone
+  --address takes an address as 1.0.0.0, --port 1 to 15, --below amp,
+  --speakers own, --nth a number from 1, --rows KIND=ROW, a comma apart
+  --below goes with --port alone, --speakers with --below alone, --nth with
+  --hex alone, --rows with --merge alone, which goes with none of --text, --nth,
+  --eeodb and --as-source
 ";
 
 pub const EDID_HELP: &str = "\
@@ -688,6 +723,28 @@ device: the EDID that a device there reads. Below an amplifier it has the amplif
   ./hdminet edid --port 2 --below amp --raw < tv.edid > player.edid
   ./hdminet edid --only-address < player.edid
 
+With --speakers own it has the amplifier's speakers too, FL FR, LFE, FC, BL BR and RLC RRC, for its eight
+channels. Where they have no room the EDID is refused as `edid: no-room`.
+
+With --merge the input is a display's EDID and after it a receiver's own, or with --hex their dumps, and
+the EDID is the one that the receiver answers with. --rows says whose blocks of a kind are taken: keep, the
+display's; own, the receiver's; and, the bits that both have; least, these and the lesser clock:
+  product own      keep, own               maker, product, serial number, date and name
+  video keep       keep, own               video codes, formats in 4:2:0
+  audio own        keep, own
+  speakers own     keep, own, and
+  hdmi least       keep, own, least        the address is the receiver's, but with keep
+  forum least      keep, own, least        the HDMI Forum's block
+  capability keep  keep, own, and          of video
+  colorimetry and  keep, own, and
+  hdr and          keep, own, and          its luminances are the display's
+  maker-video keep  keep, own              as that of Dolby Vision, and dynamic HDR
+  maker-audio own  keep, own               as that of Dolby, rooms and places of speakers
+  other keep       keep, own
+The timings of the extension stay as far as they have room. The other extensions are the display's:
+  cat tv.edid receiver.edid | ./hdminet edid --merge --raw > answer.edid
+  cat tv.edid receiver.edid | ./hdminet edid --merge --rows video=own,hdr=keep
+
 With --eeodb the extensions are as many as the HDMI Forum's override says, HF-EEODB, where block 1 begins
 with it (E2 78 and the count): televisions with HDMI 2.1 have 1 in byte 126 and three extensions. The text
 is that of all blocks, and bytes that are written keep byte 126; those of a text have 1 there.
@@ -704,7 +761,8 @@ rows of an offset and sixteen bytes, FF where a block is missing.
 Faults: `edid: CAUSE` with length, count (byte 126 does not tell the extensions), base header, base
 checksum, base revision, base maker or ext N checksum, and no-hdmi-block where there is no place for an
 address; `dump: none`, `dump: cut N` or `dump: long N` with --hex, where no line begins an EDID, or line N
-does not go on with it, or goes past 512 bytes; `edid: a rule fails` after the rules of --check; with --text `text: syntax N` or
+does not go on with it, or goes past 512 bytes; `merge: CAUSE` with display or receiver and the cause of that
+EDID, or one-cta (not one extension has data blocks), or long (they have no room); `edid: a rule fails` after the rules of --check; with --text `text: syntax N` or
 `text: field N`, for the first line that no EDID's text has there. Nothing is written then.
 
 Exit status: 0 done; 1 input refused; 2 command line refused; 3 a read or write fault, or input

@@ -1,9 +1,5 @@
-pub mod AuditLemmas
-pub mod LineLemmas
 pub mod ShownLemmas
 pub mod ServedLemmas
-pub mod CaptureLemmas
 pub mod ObjectLemmas
 pub mod TestLemmas
 pub mod LiveLemmas
-pub mod EdidLemmas

@@ -6,7 +6,7 @@ use Rattle.std.proofs.lemmas.List.Elements.{All-append, All-cons, All-nil, All-w
 use Rattle.std.proofs.lemmas.List.Sums.{AllPass-from_list_all}
 use Rattle.hdmi_core.specs.declared.buffered.Buffered.{Buffered}
 use Rattle.hdmi_core.specs.Buffered.{below, pending}
-use Rattle.hdmi_core.proofs.CutShort.{Appends-trans}
+pub use Rattle.hdmi_core.proofs.CutShort.{Appends-trans}
 use Rattle.hdmi_core.specs.Lines.{lines_of}
 use Rattle.cec_incoming.specs.Incoming.{IsWhole, text_of_lines}
 use Rattle.cec_incoming.proofs.Coming.{lines_again}

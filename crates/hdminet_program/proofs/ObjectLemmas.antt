@@ -9,7 +9,7 @@ use Rattle.cec_run.specs.Emulate.{IsTraceOf}
 use Rattle.cec_run.specs.declared.run.Totals.{Totals}
 use Rattle.hdmi_core.specs.Lines.{lines_of}
 use Rattle.hdminet_program.specs.Done.{AreObjectsOf, Writes, WritesLines, are_of_run}
-use Rattle.hdminet_program.specs.Parted.{IsRunInput}
+use Rattle.hdminet_faults.specs.Parted.{IsRunInput}
 use Rattle.hdminet_program.proofs.ShownLemmas.{on_ok}
 use Rattle.hdminet_words.specs.declared.choice.Choice.TheVariants.{Json}
 use Rattle.hdminet_words.specs.declared.choice.Objects.{Objects}
@@ -26,7 +26,7 @@ clash k = cc
 any_input : (objects : Objects) (input lines text : List ℕ) → are_of_run objects ≡ false → AreObjectsOf objects [] lines text → AreObjectsOf objects input lines text
 any_input (of.Trace strict) input lines text e are = absurd (clash e)
 any_input (of.Room strict) input lines text e are = absurd (clash e)
-any_input (of.Capture form glitch report) input lines text e are = are
+any_input (of.Capture form glitch margin inverted report) input lines text e are = are
 any_input (of.Test traced) input lines text e are = are
 any_input (of.CaptureTest form glitch) input lines text e are = are
 

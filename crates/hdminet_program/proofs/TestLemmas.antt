@@ -1,19 +1,15 @@
--- What is written of a test: a report, a report and after it the remarks of a trace, stretches, the report of a capture.
+-- What is written of a test: a report, a report and after it the remarks of a trace, stretches.
 use Rattle.std.proofs.Common.{◌≡◌, ℕ, Bool, true, List, ◌++◌, Option, Some, None, Result, Ok, Err, inl, inr, not, length, filter, refl, sym, ap, subst, ◌∙◌}
 use Rattle.std.specs.Io.KnownBytes.{Appends}
-use Rattle.cec_capture_check.specs.Check.{IsCaptureChecked, capture_report}
 use Rattle.cec_check.specs.Check.{IsChecked}
 use Rattle.cec_check.specs.declared.checking.Tally.{Tally}
-use Rattle.cec_signal.specs.Edges.{Captured}
 use Rattle.cec_sweep.specs.Order.{crossing, ordered, ordered_range, unless_crossing}
 use Rattle.cec_sweep.specs.Script.{range_of}
 use Rattle.cec_sweep.specs.Series.{Series}
 use Rattle.cec_sweep.specs.declared.script.RangeFault.{RangeFault}
 use Rattle.cec_sweep.specs.Stretches.{stretches_text}
 use Rattle.cec_sweep.specs.Sweep.{IsSwept}
-use Rattle.hdmi_core.proofs.CutShort.{Appends-trans}
-use Rattle.hdminet_program.specs.CaptureTests.{WritesPassedBy}
-use Rattle.hdminet_program.specs.Captures.{without_short}
+use Rattle.hdminet_program.proofs.LiveLemmas.{Appends-trans}
 use Rattle.hdminet_program.specs.Tests.{AreRemarksOf, WritesPassed, WritesTest}
 use Rattle.hdminet_words.specs.declared.choice.TestView.TheVariants as views
 
@@ -46,11 +42,3 @@ reported topology script old middle new none same written =
 pub swept : (topology script : List ℕ) (old new : Option (List ℕ)) (holds : Bool) → IsSwept topology script old new holds → holds ≡ true
     → WritesTest views.Report topology script old new
 swept topology script old new holds are all = (stretches_text are.0, inr (are.0, are.1, sym are.2 ∙ all, refl), are.3)
-
--- the report of a capture, by the one that it is without short pulses and gaps
-pub passed_by : (expectations : List ℕ) (glitch : ℕ) (whole kept : Captured) (old new : Option (List ℕ)) (tally : Tally) → kept ≡ without_short glitch whole
-    → IsCaptureChecked expectations kept old new tally → tally.failed ≡ 0 → WritesPassedBy expectations glitch whole old new
-passed_by expectations glitch whole kept old new tally same checked none =
-    let is : IsCaptureChecked expectations (without_short glitch whole) old new tally = subst (λ k. IsCaptureChecked expectations k old new tally) same checked in
-    let hold : length (filter not (capture_report expectations (without_short glitch whole)).verdicts) ≡ 0 = sym (ap (λ t. t.failed) is.tally_is) ∙ none in
-    ((capture_report expectations (without_short glitch whole)).text, record { accepted = is.accepted; hold = hold; report = refl }, is.written)

@@ -32,11 +32,11 @@ use Rattle.hdminet_words.specs.declared.choice.Report.{Report as CaptureReport}
 use Rattle.hdminet_words.specs.declared.choice.Report.TheVariants.{Audit}
 use Rattle.hdminet_words.specs.declared.choice.TestView.{TestView}
 use Rattle.hdminet_words.specs.declared.choice.TestView.TheVariants.{Report, Traced}
-use Rattle.hdminet_program.specs.CaptureTests.{IsCaptureTest}
-use Rattle.hdminet_program.specs.Captures.{IsHeard, form_of, name_of, report_of}
-use Rattle.hdminet_program.specs.Edids.{IsMade}
+use Rattle.hdminet_captures.specs.CaptureTests.{IsCaptureTest}
+use Rattle.hdminet_captures.specs.Captures.{IsHeard, form_of, name_of, report_of}
+use Rattle.hdminet_edids.specs.Edids.{IsMade}
 use Rattle.hdminet_program.specs.Live.{IsLiveDone}
-use Rattle.hdminet_program.specs.Parted.{IsParted, IsRunInput}
+use Rattle.hdminet_faults.specs.Parted.{IsParted, IsRunInput}
 use Rattle.hdminet_program.specs.Tests.{IsTestOf}
 
 -- this text with these counts is the trace of the run that the input spells
@@ -95,7 +95,7 @@ report_view true = Traced
 abbrev pub AreLines : Objects → List ℕ → List ℕ → List ℕ → Type 0
 AreLines (of.Trace strict) name input text = (totals : Totals) × IsRunDone input text totals × (strict ≡ true → totals.refused ≡ 0)
 AreLines (of.Room strict) name input text = (totals : Totals) × IsRunDone input text totals × (strict ≡ true → totals.refused ≡ 0)
-AreLines (of.Capture form glitch report) name input text = IsHeard (form_of form input) name glitch (report_of report (form_of form input)) input text
+AreLines (of.Capture form glitch margin inverted report) name input text = IsHeard (form_of form input) name inverted glitch margin (report_of report (form_of form input)) input text
 AreLines (of.Test traced) name input text = IsTestDone (report_view traced) input text
 AreLines (of.CaptureTest form glitch) name input text = IsCaptureTest form name glitch input text
 
@@ -103,7 +103,7 @@ AreLines (of.CaptureTest form glitch) name input text = IsCaptureTest form name 
 abbrev pub are_of_run : Objects → Bool
 are_of_run (of.Trace strict) = true
 are_of_run (of.Room strict) = true
-are_of_run (of.Capture form glitch report) = false
+are_of_run (of.Capture form glitch margin inverted report) = false
 are_of_run (of.Test traced) = false
 are_of_run (of.CaptureTest form glitch) = false
 
@@ -139,7 +139,7 @@ WritesCaptureObjects audited lines old new = (text : List ℕ) × AreCaptureObje
 abbrev pub AreObjectsOf : Objects → List ℕ → List ℕ → List ℕ → Type 0
 AreObjectsOf (of.Trace strict) input lines text = AreObjects (lines_of lines) text
 AreObjectsOf (of.Room strict) input lines text = AreRoomDone input lines text
-AreObjectsOf (of.Capture form glitch report) input lines text = AreCaptureObjects (is_audit report) lines text
+AreObjectsOf (of.Capture form glitch margin inverted report) input lines text = AreCaptureObjects (is_audit report) lines text
 AreObjectsOf (of.Test traced) input lines text = AreReportObjects (report_kind lines) (lines_of lines) text
 AreObjectsOf (of.CaptureTest form glitch) input lines text = AreReportObjects kinds.Expectations (lines_of lines) text
 
@@ -162,7 +162,7 @@ IsDone Step name input text = AreStepsDone input text
 IsDone Live name input text = IsLiveDone input text
 IsDone Asm name input text = (frames : List (List ℕ)) × AreTextsOf (lines_of_frames (lines_of input)) frames × (text ≡ flat_map frame_line frames)
 IsDone (Dis meaning) name input text = (first_fault 1 (lines_of input) ≡ None) × (text ≡ flat_map (dis_text meaning) (lines_of input))
-IsDone (Mon form glitch report) name input text = IsHeard (form_of form input) name glitch (report_of report (form_of form input)) input text
+IsDone (Mon form glitch margin inverted report) name input text = IsHeard (form_of form input) name inverted glitch margin (report_of report (form_of form input)) input text
 IsDone (Json objects) name input text = (lines : List ℕ) × AreLines objects name input lines × AreObjectsOf objects input lines text
 IsDone (Edid source reading view) name input text = IsMade source reading view input text
 

@@ -2,25 +2,15 @@
 ghost use Rattle.std.specs.Prelude.{◌≡◌, ◌++◌, true, OnOk, IfOk};
 ghost use Rattle.hdminet_program.specs.Tests.{AreRemarksOf, WritesPassed, WritesTest, remark_line, trace_remarks};
 
-use crate::fault::ProgramFault;
-use cec_check::{CheckError, Tally, check};
+use cec_check::{CheckError, check};
 use cec_expect::{first_fault, plain_script};
 use cec_json::Held;
 use cec_run::emulate::{EmulateError, emulate};
 use cec_sweep::{SweepError, sweep};
 use hdmi_core::{Piece, Sink, first_line, put_all, write_pieces};
+use hdminet_faults::{ProgramFault, passed};
 use hdminet_words::TestView;
 use std::alloc::{AllocError, Global};
-
-/// Nothing, unless a test of a report failed.
-pub fn passed(tally: Tally) -> Result<(), ProgramFault>
-    ensures { OnOk result (tally.failed ≡ 0) }
-{
-    if tally.failed > 0 {
-        return Err(ProgramFault::TestsFailed(tally));
-    }
-    Ok(())
-}
 
 // Nothing, unless a test failed at an instant of a range.
 fn held_throughout(holds: bool) -> Result<(), ProgramFault>

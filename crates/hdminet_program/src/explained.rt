@@ -1,7 +1,4 @@
 //! The faults of the program as they are explained.
-use crate::capture::form_of;
-use crate::fault::ProgramFault;
-use crate::parts::capture_parts;
 use cec_asm::ScriptCause;
 use cec_check::CheckError;
 use cec_dialogue::{ScriptEnd, SessionError};
@@ -13,6 +10,9 @@ use cec_sweep::{RangeCause, RangeFault};
 use cec_text::FrameLinesError;
 use hdmi_blocks::EdidCause;
 use hdmi_convert::{EdidToTextError, PassOnError, TextToHexError};
+use hdminet_captures::form_of;
+use hdminet_faults::ProgramFault;
+use hdminet_faults::parts::capture_parts;
 use hdminet_marks::{Fault as Explained, Input, RangeSlip};
 use hdminet_words::{Choice, Objects, Source};
 
@@ -32,8 +32,8 @@ pub fn input_of(choice: Choice) -> Input {
         | Choice::Mon { .. }
         | Choice::Json(Objects::Capture { .. }) => { Input::Lines }
         Choice::Edid { source, .. } => match source {
-            Source::Bytes => Input::EdidBytes,
-            Source::Dump { .. } => Input::Lines,
+            Source::Bytes | Source::Pair { dumps: false, .. } => Input::EdidBytes,
+            Source::Dump { .. } | Source::Pair { dumps: true, .. } => Input::Lines,
             Source::Text => Input::EdidText,
         },
     }
@@ -231,7 +231,9 @@ pub fn explained(form: Form, fault: &ProgramFault) -> Option<Explained> {
         | ProgramFault::TestsFailed(_)
         | ProgramFault::SweepFailed
         | ProgramFault::Remarked
-        | ProgramFault::RuleFails => {
+        | ProgramFault::RuleFails
+        | ProgramFault::Merge(_)
+        | ProgramFault::Speakers(_) => {
             return None;
         }
     };

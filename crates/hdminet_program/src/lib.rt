@@ -1,16 +1,14 @@
 //! The program: its input, its output, its faults, over readers and sinks that it is handed.
 #![tactic(auto)]
 
-mod capture;
-mod capture_test;
-mod edid;
-mod edid_explained;
-mod edid_given;
+mod check;
 mod expectations;
 mod explained;
-mod fault;
+mod input;
 mod live;
-mod parts;
+mod objects;
+mod perform;
 pub mod program;
-
-pub use fault::ProgramFault;
+mod run;
+mod said;
+mod told;

@@ -3,22 +3,80 @@ ghost use Rattle.std.specs.Prelude.{OnOk};
 ghost use Rattle.hdmi_core.specs.Buffered.{below};
 ghost use Rattle.hdminet_program.specs.Live.{Lives};
 
-use crate::fault::ProgramFault;
-use cec_dialogue::session;
-use hdmi_core::{Buffered, Sink};
-use std::alloc::Global;
+use cec_dialogue::{Hearer, session_heard};
+use cec_session::{Refusal, RefusalCause};
+use hdmi_core::{Buffered, Sink, put_all};
+use hdminet_explain::explain_line;
+use hdminet_faults::ProgramFault;
+use hdminet_marks::Fault;
+use std::alloc::{AllocError, Global};
 use std::io::Read;
 
-/// Answers each line of an input before it reads the next one. What was put to the sink before is handed on first.
-#[inline(never)]
-pub(crate) fn live<R: Read, W: Sink>(
+/// Explains refused lines, where that is asked for.
+#[derive(Drop)]
+struct Explainer<'e, E: Sink> {
     alloc: Global,
+    explains: bool,
+    err: &'e mut E,
+}
+
+fn fault_of(line: u64, refusal: Refusal) -> Fault {
+    let word = refusal.word;
+    match refusal.cause {
+        RefusalCause::Script(cause) => Fault::Script { line, cause, word },
+        RefusalCause::Past => Fault::Past { line, word },
+    }
+}
+
+// The line of a refusal, as that of a script which is refused, and what would be right.
+fn explained(
+    alloc: Global,
+    topology: &[u8],
+    number: u64,
+    line: &[u8],
+    refusal: Refusal,
+) -> Result<String, AllocError> {
+    let mut text = match refusal.cause {
+        RefusalCause::Script(cause) => format!(in alloc;
+            "hdminet: script line {number}: {cause}\n"
+        )?,
+        RefusalCause::Past => format!(in alloc; "hdminet: script line {number}: past\n")?,
+    };
+    let fault = fault_of(number, refusal);
+    text.push_str(explain_line(alloc, fault, topology, number, line)?.as_str())?;
+    Ok(text)
+}
+
+impl<E: Sink> Hearer for Explainer<'_, E> {
+    fn hear(&mut self, topology: &[u8], number: u64, line: &[u8], refusal: Refusal) {
+        if !self.explains {
+            return;
+        }
+        // Where memory runs out the answer stands alone.
+        if let Ok(text) = explained(self.alloc, topology, number, line, refusal) {
+            let _ = put_all(self.err, text.as_bytes());
+        }
+    }
+}
+
+/// Answers each line of an input before it reads the next one. What was put to the sink before is handed on first. A refused line is
+/// explained where that is asked for.
+#[inline(never)]
+pub(crate) fn live<R: Read, W: Sink, E: Sink>(
+    alloc: Global,
+    explains: bool,
     input: &mut R,
     out: &mut Buffered<W>,
+    err: &mut E,
 ) -> Result<(), ProgramFault>
     ensures { OnOk result (Lives (R.remaining input.old) (⟦<Buffered<W> as Sink>⟧.contents out.old) (W.contents (below out.new))) }
 {
     out.flush()?;
-    session(alloc, input, out)?;
+    let mut explainer = Explainer {
+        alloc,
+        explains,
+        err,
+    };
+    session_heard(alloc, input, out, &mut explainer)?;
     Ok(())
 }

@@ -14,13 +14,14 @@ use Rattle.hdminet_words.specs.declared.choice.Objects.TheVariants as objects
 use Rattle.hdminet_words.specs.declared.choice.TestView.{TestView}
 use Rattle.hdminet_words.specs.declared.choice.TestView.TheVariants.{Report, Traced, Plain}
 use Rattle.hdminet_words.specs.declared.mon_flags.MonValue.{MonValue}
-use Rattle.hdminet_words.specs.declared.mon_flags.MonValue.TheVariants.{From, Signal, Glitch}
+use Rattle.hdminet_words.specs.declared.mon_flags.MonValue.TheVariants.{From, Signal, Glitch, Margin}
 
 -- the flags with the value of the last
 abbrev pub with_check_value : CheckFlags → MonValue → List ℕ → Option CheckFlags
 with_check_value flags From word = option_map (λ form. record flags { form = Some form; waits = None }) (form_of word)
 with_check_value flags Signal word = Some (record flags { named = true; waits = None })
 with_check_value flags Glitch word = option_map (λ glitch. record flags { glitch = Some glitch; waits = None }) (micros_of word)
+with_check_value flags Margin word = None
 
 -- the flags with one more; each stands once at most
 abbrev pub with_check_flag : CheckFlags → List ℕ → Option CheckFlags

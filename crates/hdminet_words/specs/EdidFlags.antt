@@ -1,16 +1,21 @@
 -- The flags of `edid` (own).
-use Rattle.std.specs.Prelude.{ℕ, List, [], ◌∷◌, Bool, Option, Some, None, if◌then◌else◌, true, false, codes, ◌&&◌, nat_le, is_some, unwrap_or, option_and_then, is_none, not}
+use Rattle.std.specs.Prelude.{ℕ, List, [], ◌∷◌, Bool, Option, Some, None, if◌then◌else◌, true, false, codes, ◌&&◌, ◌||◌, nat_le, is_some, unwrap_or, option_and_then, is_none, not}
 use Rattle.std.specs.Option.{option_map}
 use Rattle.std.specs.Str.{bytes_eq}
 use Rattle.hdmi_core.specs.Number.{number_of}
 use Rattle.hdmi_core.specs.Phys.{phys_of}
 use Rattle.hdmi_core.specs.declared.phys.Phys.{Phys}
+use Rattle.hdmi_merge.specs.Tables.{receiver_table}
+use Rattle.hdmi_merge.specs.declared.table.Table.{Table}
 use Rattle.hdminet_words.specs.Joined.{joined}
+use Rattle.hdminet_words.specs.Rows.{rows_of}
 use Rattle.hdminet_words.specs.declared.choice.Asked.{Asked}
 use Rattle.hdminet_words.specs.declared.choice.Choice.TheVariants.{Edid}
 use Rattle.hdminet_words.specs.declared.choice.Reading.TheVariants as readings
 use Rattle.hdminet_words.specs.declared.choice.Recipient.{Recipient}
 use Rattle.hdminet_words.specs.declared.choice.Recipient.TheVariants.{Own, At, Port}
+use Rattle.hdminet_words.specs.declared.choice.Sound.{Sound}
+use Rattle.hdminet_words.specs.declared.choice.Sound.TheVariants.{Kept, Amplified, Spoken}
 use Rattle.hdminet_words.specs.declared.choice.Source.{Source}
 use Rattle.hdminet_words.specs.declared.choice.Source.TheVariants as sources
 use Rattle.hdminet_words.specs.declared.choice.Shape.{Shape}
@@ -42,11 +47,16 @@ nth_of word = nth_number (number_of word)
 abbrev pub amplified_of : List ℕ → Bool
 amplified_of word = bytes_eq word (codes "amp")
 
+abbrev pub spoken_of : List ℕ → Bool
+spoken_of word = bytes_eq word (codes "own")
+
 -- the flags with the value of the last
 abbrev pub with_edid_value : EdidFlags → EdidValue → List ℕ → Option EdidFlags
 with_edid_value flags values.Address word = option_map (λ address. record flags { address = Some address; waits = None }) (phys_of word)
 with_edid_value flags values.Port word = option_map (λ port. record flags { port = Some port; waits = None }) (port_of word)
 with_edid_value flags values.Below word = if amplified_of word then Some (record flags { amplified = true; waits = None }) else None
+with_edid_value flags values.Speakers word = if spoken_of word then Some (record flags { spoken = true; waits = None }) else None
+with_edid_value flags values.Rows word = option_map (λ rows. record flags { rows = Some rows; waits = None }) (rows_of receiver_table word)
 with_edid_value flags values.Nth word = option_map (λ nth. record flags { nth = Some nth; waits = None }) (nth_of word)
 
 -- the flags with one more; each stands once at most, and those that exclude one another not together
@@ -64,6 +74,9 @@ with_edid_flag flags word =
     else if bytes_eq word (codes "--address") && is_none flags.address then Some (record flags { waits = Some values.Address })
     else if bytes_eq word (codes "--port") && is_none flags.port then Some (record flags { waits = Some values.Port })
     else if bytes_eq word (codes "--below") && not flags.amplified then Some (record flags { waits = Some values.Below })
+    else if bytes_eq word (codes "--speakers") && not flags.spoken then Some (record flags { waits = Some values.Speakers })
+    else if bytes_eq word (codes "--merge") && not flags.merges then Some (record flags { merges = true })
+    else if bytes_eq word (codes "--rows") && is_none flags.rows then Some (record flags { waits = Some values.Rows })
     else if bytes_eq word (codes "--nth") && is_none flags.nth then Some (record flags { waits = Some values.Nth })
     else if bytes_eq word (codes "--explain") && not flags.explains then Some (record flags { explains = true })
     else None
@@ -87,27 +100,48 @@ abbrev pub edid_flags : EdidFlags → List (List ℕ) → Option EdidFlags
 edid_flags flags [] = Some flags
 edid_flags flags (word ∷ words) = option_and_then (λ more. edid_flags more words) (with_edid_word flags flags.waits word)
 
--- the device that the EDID is for, by an address, a port and an amplifier, of which not each goes with each
-abbrev pub place_by : Option Phys → Option ℕ → Bool → Option Recipient
-place_by None None false = Some Own
-place_by (Some address) None false = Some (At address)
-place_by None (Some port) amplified = Some (Port port amplified)
-place_by address port amplified = None
+-- whose sound is passed on: the speakers are an amplifier's with its audio alone
+abbrev pub edid_sound : Bool → Bool → Option Sound
+edid_sound false false = Some Kept
+edid_sound true false = Some Amplified
+edid_sound true true = Some Spoken
+edid_sound false true = None
+
+-- the device that the EDID is for, by an address, a port and the sound, of which not each goes with each
+abbrev pub place_by : Option Phys → Option ℕ → Sound → Option Recipient
+place_by None None Kept = Some Own
+place_by (Some address) None Kept = Some (At address)
+place_by None (Some port) sound = Some (Port port sound)
+place_by address port sound = None
 
 abbrev pub edid_place : EdidFlags → Option Recipient
-edid_place flags = place_by flags.address flags.port flags.amplified
+edid_place flags = option_and_then (λ sound. place_by flags.address flags.port sound) (edid_sound flags.amplified flags.spoken)
 
 -- how an EDID is written where no flag says it: that of a text as hex, and else as its text
 abbrev pub own_shape : Source → Shape
 own_shape sources.Text = shapes.Hex
 own_shape sources.Bytes = shapes.Text
 own_shape (sources.Dump nth) = shapes.Text
+own_shape (sources.Pair dumps table) = shapes.Text
 
--- what the EDID is read from; of a dump alone one of several is chosen
-abbrev pub edid_source : Option Source → Option ℕ → Option Source
-edid_source source None = Some (unwrap_or source sources.Bytes)
-edid_source (Some (sources.Dump one)) (Some nth) = Some (sources.Dump nth)
-edid_source source (Some nth) = None
+-- one EDID; of a dump alone one of several is chosen
+abbrev pub one_source : Option Source → Option ℕ → Option Source
+one_source source None = Some (unwrap_or source sources.Bytes)
+one_source (Some (sources.Dump one)) (Some nth) = Some (sources.Dump nth)
+one_source source (Some nth) = None
+
+-- two EDIDs, as bytes or as dumps
+abbrev pub pair_source : Option Source → Table → Option Source
+pair_source None table = Some (sources.Pair false table)
+pair_source (Some (sources.Dump one)) table = Some (sources.Pair true table)
+pair_source source table = None
+
+-- what the EDID is read from; rows go with two EDIDs alone, which are read as they stand, and of which none is chosen
+abbrev pub edid_source : EdidFlags → Option Source
+edid_source flags =
+    if flags.merges then (if is_some flags.nth || is_some flags.reading then None else pair_source flags.source (unwrap_or flags.rows receiver_table))
+    else if is_some flags.rows then None
+    else one_source flags.source flags.nth
 
 -- what is written
 abbrev pub edid_view : Option Wanted → Recipient → Shape → View
@@ -128,4 +162,4 @@ asked_by_view flags source place = record {
 abbrev pub edid_asked : EdidFlags → Option Asked
 edid_asked flags =
     if is_some flags.waits then None
-    else option_and_then (λ source. option_map (asked_by_view flags source) (edid_place flags)) (edid_source flags.source flags.nth)
+    else option_and_then (λ source. option_map (asked_by_view flags source) (edid_place flags)) (edid_source flags)

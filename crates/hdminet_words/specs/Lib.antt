@@ -1,5 +1,6 @@
 pub mod Joined
 pub mod Micros
+pub mod Rows
 pub mod RunFlags
 pub mod CheckFlags
 pub mod DisFlags

@@ -1,7 +1,8 @@
 -- The flags of `mon` (own).
-use Rattle.std.specs.Prelude.{ℕ, List, [], ◌∷◌, Bool, Option, Some, None, if◌then◌else◌, true, false, codes, not, ◌&&◌, ◌||◌, is_some, unwrap_or, option_and_then, take, drop, is_none}
+use Rattle.std.specs.Prelude.{ℕ, nat_le, List, [], ◌∷◌, Bool, Option, Some, None, if◌then◌else◌, true, false, codes, not, ◌&&◌, ◌||◌, is_some, unwrap_or, option_and_then, take, drop, is_none}
 use Rattle.std.specs.Option.{option_map, option_or}
 use Rattle.std.specs.Str.{bytes_eq}
+use Rattle.hdmi_core.specs.Number.{number_of}
 use Rattle.hdminet_words.specs.Joined.{joined}
 use Rattle.hdminet_words.specs.Micros.{micros_of}
 use Rattle.hdminet_words.specs.declared.choice.Asked.{Asked}
@@ -14,7 +15,7 @@ use Rattle.hdminet_words.specs.declared.choice.Report.{Report}
 use Rattle.hdminet_words.specs.declared.choice.Report.TheVariants.{Audit, FromIdle, Readings}
 use Rattle.hdminet_words.specs.declared.mon_flags.MonFlags.{MonFlags}
 use Rattle.hdminet_words.specs.declared.mon_flags.MonValue.{MonValue}
-use Rattle.hdminet_words.specs.declared.mon_flags.MonValue.TheVariants.{From, Signal, Glitch}
+use Rattle.hdminet_words.specs.declared.mon_flags.MonValue.TheVariants.{From, Signal, Glitch, Margin}
 
 -- the form of a capture that a word names
 abbrev pub form_of : List ℕ → Option Form
@@ -25,11 +26,20 @@ form_of word =
     else if bytes_eq word (codes "csv") then Some Csv
     else None
 
+-- by how many microseconds windows are wider, 300 at most
+abbrev pub margin_by : Option ℕ → Option ℕ
+margin_by None = None
+margin_by (Some n) = if nat_le n 300 then Some n else None
+
+abbrev pub margin_of : List ℕ → Option ℕ
+margin_of word = margin_by (number_of word)
+
 -- the flags with the value of the last
 abbrev pub with_mon_value : MonFlags → MonValue → List ℕ → Option MonFlags
 with_mon_value flags From word = option_map (λ form. record flags { form = Some form; waits = None }) (form_of word)
 with_mon_value flags Signal word = Some (record flags { named = true; waits = None })
 with_mon_value flags Glitch word = option_map (λ glitch. record flags { glitch = Some glitch; waits = None }) (micros_of word)
+with_mon_value flags Margin word = option_map (λ margin. record flags { margin = Some margin; waits = None }) (margin_of word)
 
 -- the flags with one more; each stands once at most, and those that exclude one another not together
 abbrev pub with_mon_flag : MonFlags → List ℕ → Option MonFlags
@@ -37,6 +47,8 @@ with_mon_flag flags word =
     if bytes_eq word (codes "--from") && is_none flags.form then Some (record flags { waits = Some From })
     else if bytes_eq word (codes "--signal") && not flags.named then Some (record flags { waits = Some Signal })
     else if bytes_eq word (codes "--glitch") && is_none flags.glitch then Some (record flags { waits = Some Glitch })
+    else if bytes_eq word (codes "--margin") && is_none flags.margin then Some (record flags { waits = Some Margin })
+    else if bytes_eq word (codes "--invert") && not flags.inverted then Some (record flags { inverted = true })
     else if bytes_eq word (codes "--from-start") && is_none flags.start then Some (record flags { start = Some Readings })
     else if bytes_eq word (codes "--from-idle") && is_none flags.start then Some (record flags { start = Some FromIdle })
     else if bytes_eq word (codes "--audit") && not flags.audit then Some (record flags { audit = true })
@@ -81,9 +93,9 @@ mon_report None true timing strict = Some (Some (Audit timing strict))
 mon_report (Some start) true timing strict = None
 
 -- what is done with the capture
-abbrev pub mon_choice : Bool → Option Form → ℕ → Option Report → Choice
-mon_choice true form glitch report = Json (objects.Capture form glitch report)
-mon_choice false form glitch report = Mon form glitch report
+abbrev pub mon_choice : Bool → Option Form → ℕ → ℕ → Bool → Option Report → Choice
+mon_choice true form glitch margin inverted report = Json (objects.Capture form glitch margin inverted report)
+mon_choice false form glitch margin inverted report = Mon form glitch margin inverted report
 
 -- a value is missing, or a wire has no name
 abbrev pub is_misfit : MonFlags → Bool
@@ -94,7 +106,7 @@ abbrev pub mon_asked : MonFlags → Option Asked
 mon_asked flags =
     if is_misfit flags then None
     else option_map (λ report. record {
-      choice = mon_choice flags.json flags.form (unwrap_or flags.glitch 0) report;
+      choice = mon_choice flags.json flags.form (unwrap_or flags.glitch 0) (unwrap_or flags.margin 0) flags.inverted report;
       explains = flags.explains;
     }) (mon_report flags.start (flags.audit || flags.timing) flags.timing flags.strict)
 

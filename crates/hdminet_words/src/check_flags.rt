@@ -64,6 +64,7 @@ fn with_check_value(flags: CheckFlags, value: MonValue, word: &str) -> Option<Ch
                 ..flags
             })
         }
+        MonValue::Margin => None,
     }
 }
 

@@ -1,5 +1,6 @@
 //! What a command line asks for.
 use hdmi_core::Phys;
+use hdmi_merge::Table;
 
 /// What is written of a run.
 #[derive(Clone, Copy, Debug)]
@@ -73,6 +74,8 @@ pub enum Objects {
     Capture {
         form: Option<Form>,
         glitch: u64,
+        margin: u64,
+        inverted: bool,
         report: Option<Report>,
     },
     /// The lines of the report of a test of a run, with its trace after it or without.
@@ -95,6 +98,9 @@ pub enum Source {
     Dump { nth: u64 },
     /// Its text.
     Text,
+    /// The EDIDs of a display and of a receiver, of which that is made that the receiver answers with by a table: their bytes one
+    /// after the other, or the first two hex dumps of a text.
+    Pair { dumps: bool, table: Table },
 }
 
 /// How the bytes of an EDID are read.
@@ -108,6 +114,17 @@ pub enum Reading {
     AsSource,
 }
 
+/// Whose sound an EDID reports that is passed on.
+#[derive(Clone, Copy, Debug)]
+pub enum Sound {
+    /// That of the device that has the EDID.
+    Kept,
+    /// The audio of an amplifier that has its address.
+    Amplified,
+    /// The audio and the speakers of that amplifier.
+    Spoken,
+}
+
 /// The device that an EDID is for.
 #[derive(Clone, Copy, Debug)]
 pub enum Recipient {
@@ -115,8 +132,8 @@ pub enum Recipient {
     Own,
     /// One at this address.
     At(Phys),
-    /// One in this port, from 1 to 15, of the device that has it, or of an amplifier that has its address.
-    Port { port: u8, amplified: bool },
+    /// One in this port, from 1 to 15, of the device that has it.
+    Port { port: u8, sound: Sound },
 }
 
 /// How an EDID is written.
@@ -172,10 +189,13 @@ pub enum Choice {
         meaning: bool,
     },
     /// What a capture reports. Its first line reports its form where none is given; pulses and gaps shorter than so many
-    /// microseconds are passed over; and where no report is given, that is by the form.
+    /// microseconds are passed over; the windows are so many microseconds wider, 300 at most; the levels are read as they stand, or
+    /// the other way round; and where no report is given, that is by the form.
     Mon {
         form: Option<Form>,
         glitch: u64,
+        margin: u64,
+        inverted: bool,
         report: Option<Report>,
     },
     /// Lines of a run or of a capture, as objects.

@@ -1,10 +1,12 @@
 //! The flags of `edid`.
 ghost use Rattle.std.specs.Prelude.{◌≡◌, map, string_bytes, option_and_then};
-ghost use Rattle.hdminet_words.specs.EdidFlags.{amplified_of, edid_asked, edid_flags, edid_place, edid_source, edid_view, nth_of, own_shape, port_of, waited_edid, with_edid_flag, with_edid_value, with_edid_word};
+ghost use Rattle.hdminet_words.specs.EdidFlags.{amplified_of, edid_asked, edid_flags, edid_place, edid_sound, edid_source, edid_view, nth_of, one_source, own_shape, pair_source, place_by, port_of, spoken_of, waited_edid, with_edid_flag, with_edid_value, with_edid_word};
 
-use crate::choice::{Asked, Choice, Reading, Recipient, Shape, Source, View};
+use crate::choice::{Asked, Choice, Reading, Recipient, Shape, Sound, Source, View};
 use crate::joined::joined;
+use crate::rows::rows_of;
 use hdmi_core::{Phys, number_in};
+use hdmi_merge::Table;
 
 /// A flag of `edid` that a value follows.
 #[derive(Clone, Copy, Debug)]
@@ -12,7 +14,9 @@ pub enum EdidValue {
     Address,
     Port,
     Below,
+    Speakers,
     Nth,
+    Rows,
 }
 
 /// A flag of `edid` that says what is written.
@@ -38,6 +42,12 @@ pub struct EdidFlags {
     pub address: Option<Phys>,
     pub port: Option<u8>,
     pub amplified: bool,
+    /// The amplifier's speakers are its own.
+    pub spoken: bool,
+    /// The EDID is made of two.
+    pub merges: bool,
+    /// The rows of the table by which it is.
+    pub rows: Option<Table>,
     pub explains: bool,
     /// The flag whose value comes next.
     pub waits: Option<EdidValue>,
@@ -53,6 +63,9 @@ impl EdidFlags {
         address: None,
         port: None,
         amplified: false,
+        spoken: false,
+        merges: false,
+        rows: None,
         explains: false,
         waits: None,
     };
@@ -85,6 +98,13 @@ fn amplified_of(word: &str) -> bool
     word == "amp"
 }
 
+// Whether a word says that speakers are the amplifier's own.
+fn spoken_of(word: &str) -> bool
+    ensures { result ≡ spoken_of word.now }
+{
+    word == "own"
+}
+
 // The flags with the value of the last.
 fn with_edid_value(flags: EdidFlags, value: EdidValue, word: &str) -> Option<EdidFlags>
     ensures { result ≡ with_edid_value flags value word.now }
@@ -112,6 +132,20 @@ fn with_edid_value(flags: EdidFlags, value: EdidValue, word: &str) -> Option<Edi
             ..flags
         }),
         EdidValue::Below => None,
+        EdidValue::Speakers if spoken_of(word) => Some(EdidFlags {
+            spoken: true,
+            waits: None,
+            ..flags
+        }),
+        EdidValue::Speakers => None,
+        EdidValue::Rows => {
+            let rows = rows_of(Table::RECEIVER, word)?;
+            Some(EdidFlags {
+                rows: Some(rows),
+                waits: None,
+                ..flags
+            })
+        }
         EdidValue::Nth => {
             let nth = nth_of(word)?;
             Some(EdidFlags {
@@ -176,6 +210,18 @@ fn with_edid_flag(flags: EdidFlags, word: &str) -> Option<EdidFlags>
             waits: Some(EdidValue::Below),
             ..flags
         }),
+        "--speakers" if !flags.spoken => Some(EdidFlags {
+            waits: Some(EdidValue::Speakers),
+            ..flags
+        }),
+        "--merge" if !flags.merges => Some(EdidFlags {
+            merges: true,
+            ..flags
+        }),
+        "--rows" if flags.rows.is_none() => Some(EdidFlags {
+            waits: Some(EdidValue::Rows),
+            ..flags
+        }),
         "--nth" if flags.nth.is_none() => Some(EdidFlags {
             waits: Some(EdidValue::Nth),
             ..flags
@@ -219,22 +265,40 @@ pub fn edid_flags(flags: EdidFlags, words: &[String]) -> Option<EdidFlags>
     }
 }
 
+// Whose sound is passed on. The speakers are an amplifier's with its audio alone.
+fn edid_sound(amplified: bool, spoken: bool) -> Option<Sound>
+    ensures { result ≡ edid_sound amplified spoken }
+{
+    match (amplified, spoken) {
+        (false, false) => Some(Sound::Kept),
+        (true, false) => Some(Sound::Amplified),
+        (true, true) => Some(Sound::Spoken),
+        (false, true) => None,
+    }
+}
+
+// The device that the EDID is for, with this sound. Only in a port it is an amplifier's.
+fn place_with(flags: &EdidFlags, sound: Sound) -> Option<Recipient>
+    ensures { result ≡ place_by flags.now.address flags.now.port sound }
+{
+    match flags.port {
+        Some(port) if flags.address.is_none() => Some(Recipient::Port { port, sound }),
+        Some(_) => None,
+        None => match sound {
+            Sound::Kept => match flags.address {
+                Some(address) => Some(Recipient::At(address)),
+                None => Some(Recipient::Own),
+            },
+            Sound::Amplified | Sound::Spoken => None,
+        },
+    }
+}
+
 // The device that the EDID is for.
 fn edid_place(flags: &EdidFlags) -> Option<Recipient>
     ensures { result ≡ edid_place flags.now }
 {
-    match flags.port {
-        Some(port) if flags.address.is_none() => Some(Recipient::Port {
-            port,
-            amplified: flags.amplified,
-        }),
-        Some(_) => None,
-        None if flags.amplified => None,
-        None => match flags.address {
-            Some(address) => Some(Recipient::At(address)),
-            None => Some(Recipient::Own),
-        },
-    }
+    place_with(flags, edid_sound(flags.amplified, flags.spoken)?)
 }
 
 // How an EDID is written where no flag says it: that of a text as hex, and else as its text.
@@ -243,13 +307,13 @@ fn own_shape(source: Source) -> Shape
 {
     match source {
         Source::Text => Shape::Hex,
-        Source::Bytes | Source::Dump { .. } => Shape::Text,
+        Source::Bytes | Source::Dump { .. } | Source::Pair { .. } => Shape::Text,
     }
 }
 
-// What the EDID is read from. Of a dump alone one of several is chosen.
-fn edid_source(source: Option<Source>, nth: Option<u64>) -> Option<Source>
-    ensures { result ≡ edid_source source nth }
+// One EDID. Of a dump alone one of several is chosen.
+fn one_source(source: Option<Source>, nth: Option<u64>) -> Option<Source>
+    ensures { result ≡ one_source source nth }
 {
     let Some(nth) = nth else {
         return Some(source.unwrap_or(Source::Bytes));
@@ -258,6 +322,36 @@ fn edid_source(source: Option<Source>, nth: Option<u64>) -> Option<Source>
         Some(Source::Dump { .. }) => Some(Source::Dump { nth }),
         _ => None,
     }
+}
+
+// Two EDIDs, as bytes or as dumps.
+fn pair_source(source: Option<Source>, table: Table) -> Option<Source>
+    ensures { result ≡ pair_source source table }
+{
+    match source {
+        None => Some(Source::Pair {
+            dumps: false,
+            table,
+        }),
+        Some(Source::Dump { .. }) => Some(Source::Pair { dumps: true, table }),
+        Some(_) => None,
+    }
+}
+
+// What the EDID is read from. Rows go with two EDIDs alone, which are read as they stand, and of which none is chosen.
+fn edid_source(flags: &EdidFlags) -> Option<Source>
+    ensures { result ≡ edid_source flags.now }
+{
+    if flags.merges {
+        if flags.nth.is_some() || flags.reading.is_some() {
+            return None;
+        }
+        return pair_source(flags.source, flags.rows.unwrap_or(Table::RECEIVER));
+    }
+    if flags.rows.is_some() {
+        return None;
+    }
+    one_source(flags.source, flags.nth)
 }
 
 // What is written.
@@ -281,7 +375,7 @@ pub fn edid_asked(flags: &EdidFlags) -> Option<Asked>
     if flags.waits.is_some() {
         return None;
     }
-    let source = edid_source(flags.source, flags.nth)?;
+    let source = edid_source(flags)?;
     let place = edid_place(flags)?;
     let view = edid_view(flags.wanted, place, own_shape(source));
     let reading = flags.reading.unwrap_or(Reading::Strict);

@@ -9,12 +9,13 @@ mod joined;
 mod line;
 mod micros;
 mod mon_flags;
+mod rows;
 mod run_flags;
 mod subcommand;
 
 pub use choice::{
-    Asked, Choice, Form, Listing, Objects, Reading, Recipient, Report, Shape, Source, TestView,
-    View,
+    Asked, Choice, Form, Listing, Objects, Reading, Recipient, Report, Shape, Sound, Source,
+    TestView, View,
 };
 pub use line::asked_by;
 pub use mon_flags::signal_in;

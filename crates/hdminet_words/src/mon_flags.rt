@@ -1,11 +1,14 @@
 //! The flags of `mon`.
 ghost use Rattle.std.specs.Prelude.{◌≡◌, map, string_bytes, Some, None, MatchOption, option_and_then};
-ghost use Rattle.hdminet_words.specs.MonFlags.{form_of, has_names, is_misfit, joined_signal, mon_asked, mon_choice, mon_flags, mon_report, signal_in, waited_mon, with_mon_flag, with_mon_value, with_mon_word};
+ghost use Rattle.hdminet_words.specs.MonFlags.{form_of, has_names, margin_of, is_misfit, joined_signal, mon_asked, mon_choice, mon_flags, mon_report, signal_in, waited_mon, with_mon_flag, with_mon_value, with_mon_word};
 
 use crate::choice::{Asked, Choice, Form, Objects, Report};
 use crate::joined::joined;
 use crate::micros::micros_of;
-use hdmi_core::{after, before};
+use hdmi_core::{after, before, number_in};
+
+/// The most by which windows are made wider, in microseconds.
+const MOST_MARGIN: u64 = 300;
 
 /// A flag of a capture that a value follows.
 #[derive(Clone, Copy, Debug)]
@@ -13,6 +16,7 @@ pub enum MonValue {
     From,
     Signal,
     Glitch,
+    Margin,
 }
 
 /// The flags that `mon` was given.
@@ -22,6 +26,8 @@ pub struct MonFlags {
     /// Whether `--signal` names a wire, which `signal_in` returns.
     pub named: bool,
     pub glitch: Option<u64>,
+    pub margin: Option<u64>,
+    pub inverted: bool,
     /// The readings that `--from-start` or `--from-idle` asks for.
     pub start: Option<Report>,
     pub audit: bool,
@@ -39,6 +45,8 @@ impl MonFlags {
         form: None,
         named: false,
         glitch: None,
+        margin: None,
+        inverted: false,
         start: None,
         audit: false,
         timing: false,
@@ -58,6 +66,16 @@ pub fn form_of(word: &str) -> Option<Form>
         "vcd" => Some(Form::Vcd),
         "pin" => Some(Form::Pin),
         "csv" => Some(Form::Csv),
+        _ => None,
+    }
+}
+
+// By how many microseconds windows are wider: 300 at most.
+fn margin_of(word: &[u8]) -> Option<u64>
+    ensures { result ≡ margin_of word.now }
+{
+    match number_in(word) {
+        Some(margin) if margin <= MOST_MARGIN => Some(margin),
         _ => None,
     }
 }
@@ -88,6 +106,14 @@ fn with_mon_value(flags: MonFlags, value: MonValue, word: &str) -> Option<MonFla
                 ..flags
             })
         }
+        MonValue::Margin => {
+            let margin = margin_of(word.as_bytes())?;
+            Some(MonFlags {
+                margin: Some(margin),
+                waits: None,
+                ..flags
+            })
+        }
     }
 }
 
@@ -106,6 +132,14 @@ fn with_mon_flag(flags: MonFlags, word: &str) -> Option<MonFlags>
         }),
         "--glitch" if flags.glitch.is_none() => Some(MonFlags {
             waits: Some(MonValue::Glitch),
+            ..flags
+        }),
+        "--margin" if flags.margin.is_none() => Some(MonFlags {
+            waits: Some(MonValue::Margin),
+            ..flags
+        }),
+        "--invert" if !flags.inverted => Some(MonFlags {
+            inverted: true,
             ..flags
         }),
         "--from-start" if flags.start.is_none() => Some(MonFlags {
@@ -200,19 +234,30 @@ fn mon_report(
 }
 
 // What is done with a capture.
-fn mon_choice(json: bool, form: Option<Form>, glitch: u64, report: Option<Report>) -> Choice
-    ensures { result ≡ mon_choice json form glitch report }
+fn mon_choice(
+    json: bool,
+    form: Option<Form>,
+    glitch: u64,
+    margin: u64,
+    inverted: bool,
+    report: Option<Report>,
+) -> Choice
+    ensures { result ≡ mon_choice json form glitch margin inverted report }
 {
     if json {
         Choice::Json(Objects::Capture {
             form,
             glitch,
+            margin,
+            inverted,
             report,
         })
     } else {
         Choice::Mon {
             form,
             glitch,
+            margin,
+            inverted,
             report,
         }
     }
@@ -235,7 +280,14 @@ pub fn mon_asked(flags: &MonFlags) -> Option<Asked>
     let audited = flags.audit || flags.timing;
     let report = mon_report(flags.start, audited, flags.timing, flags.strict)?;
     Some(Asked {
-        choice: mon_choice(flags.json, flags.form, flags.glitch.unwrap_or(0), report),
+        choice: mon_choice(
+            flags.json,
+            flags.form,
+            flags.glitch.unwrap_or(0),
+            flags.margin.unwrap_or(0),
+            flags.inverted,
+            report,
+        ),
         explains: flags.explains,
     })
 }

@@ -8,6 +8,7 @@ mod captures;
 mod command_line;
 mod edge_files;
 mod edid_flags;
+mod edid_merges;
 mod edid_sources;
 mod edids;
 mod example_captures;

@@ -24,7 +24,8 @@ fn reads_captures_in_each_form(rt: HostRuntime) {
 }
 
 /// A command line, an input with `;` for a line feed, and what is read in it, with `;` for one: forms by their names; a wire by
-/// its name and the first; a pulse of 3 and a gap of 4, which are passed over; readings that begin before the line was idle.
+/// its name and the first; a pulse of 3 and a gap of 4, which are passed over; levels that are turned; readings that begin before
+/// the line was idle.
 const FLAGS: &str = "\
 mon --from edges => 1000 0;4700 1;5500 0;6100 1;20000 end; => 1000 8251 silent 1;
 mon --from csv --signal CEC => Time,SCL,CEC;0,1,1;0.021,1,0;0.0247,1,1;0.0255,1,0;0.0261,1,1; => 21000 28251 silent 1;
@@ -34,6 +35,10 @@ mon => $timescale 1 us $end $var wire 1 a SCL $end $var wire 1 b CEC $end $endde
 mon --from-start => $timescale 1 us $end $var wire 1 a SCL $end $var wire 1 b CEC $end $enddefinitions $end;#5;0a;#3705;1a;#4505;0a;#5105;1a;#40000; => 5 7256 silent 1;
 mon --glitch 5 => 500 0;503 1;1000 0;4700 1;4900 0;4904 1;5500 0;6100 1;20000 end; => 1000 8251 silent 1;
 mon --glitch 0 => 1000 0;4700 1;5500 0;6100 1;20000 end; => 1000 8251 silent 1;
+mon --invert => 0 0;1000 1;4700 0;5500 1;6100 0;20000 end; => 1000 8251 silent 1;
+mon --invert => 3700 0;4500 1;5100 0;20000 end; => 0 7251 silent 1;
+mon --invert --glitch 5 => 0 0;1000 1;4700 0;4900 1;4904 0;5500 1;6100 0;20000 end; => 1000 8251 silent 1;
+mon --from-start --invert => Time,CEC;0,0;0.001,1;0.0047,0;0.0055,1;0.0061,0; => 1000 8251 silent 1;
 mon --from-idle => 1000 0;4700 1;5500 0;6100 1;13299 end; => 0 13299 joined -;
 mon --from-start --from csv => Time,CEC;0,1;0.001,0;0.0047,1;0.0055,0;0.0061,1; => 1000 8251 silent 1;
 mon => Time,CEC;0,1;0.001,0;0.0047,1;0.0055,0;0.0061,1;0.03,0;0.0304,1;0.04,1; => 0 13300 joined -;30000 30400 bad-start -;
@@ -163,6 +168,37 @@ fn writes_an_audit_as_objects(rt: HostRuntime) {
         REMARKED,
         AUDIT_OBJECTS,
     );
+}
+
+/// A command line, a capture, and what standard error says of it.
+const HINTS: &str = "\
+mon => $timescale 1 us $end;$var wire 1 a SCL $end;$var wire 1 b CEC $end;$enddefinitions $end;#0;1a;1b;#21000;0b;#24700;1b;#40000; => hdminet: the first wire has no edge, --signal takes one of SCL, CEC;
+mon => $timescale 1 us $end;$var wire 1 a SCL $end;$var wire 1 b CEC $end;$enddefinitions $end;#5;0a;#3705;1a;#21000;0b;#24700;1b;#40000; => hdminet: nothing complete was read on the first wire, --signal takes one of SCL, CEC;
+mon --signal SCL => $timescale 1 us $end;$var wire 1 a SCL $end;$var wire 1 b CEC $end;$enddefinitions $end;#5;0a;#3705;1a;#40000; => 
+mon => Time,SCL,CEC;0,1,1;0.021,1,0;0.0247,1,1; => hdminet: the first wire has no edge, --signal takes one of SCL, CEC;
+mon => Time[s], SCL, CEC;0, 1, 1;0.021, 1, 0;0.0247, 1, 1; => hdminet: the first wire has no edge, --signal takes one of SCL, CEC;
+mon => Time,CEC;0,0;0.021,1;0.0247,0;0.04,0; => hdminet: the line is low most of the time, --invert reads it the other way round;
+mon --invert => Time,CEC;0,1;0.021,0;0.0247,1;0.04,1; => hdminet: with --invert the line is low most of the time;
+mon --invert => Time,CEC;0,0;0.021,1;0.0247,0;0.04,0; => 
+mon => 1000 0;1099 1;1198 0;1297 1;1396 0;1495 1;1594 0;1693 1;1792 0;20000 1;40000 end; => hdminet: 8 pulses and gaps are shorter than 100 microseconds, --glitch 100 passes over them;
+mon => 1000 0;1099 1;1198 0;1297 1;1396 0;1495 1;1594 0;1693 1;1793 0;20000 1;40000 end; => 
+mon --glitch 100 => 1000 0;1099 1;1198 0;1297 1;1396 0;1495 1;1594 0;1693 1;1792 0;20000 1;40000 end; => 
+mon --audit => 1000 0;4700 1;5500 0;7000 1;7540 0;8140 1;9580 0;11080 1;11620 0;13120 1;13660 0;15160 1;15700 0;17200 1;17740 0;19240 1;19780 0;21280 1;21820 0;22420 1;23860 0;25360 1;40000 end; => hdminet: --margin 200 reads 1 frame more;
+mon --margin 10 => 1000 0;4700 1;5500 0;7000 1;7540 0;8140 1;9580 0;11080 1;11620 0;13120 1;13660 0;15160 1;15700 0;17200 1;17740 0;19240 1;19780 0;21280 1;21820 0;22420 1;23860 0;25360 1;40000 end; => 
+";
+
+/// What may have to be asked for otherwise is said on standard error, and the status is 0. A capture that is right, or read as it is
+/// asked for, has no such line.
+#[test]
+fn says_what_to_ask_for_otherwise(rt: HostRuntime) {
+    for case in HINTS.lines() {
+        let (line, text, want) = three_parts(&rt, case);
+        let input = with_lines(&rt, text);
+        let want = with_lines(&rt, want);
+        let reported = reported_of(&rt, line, input.as_str().as_bytes(), None);
+        let right = reported.status == 0 && reported.err.as_slice() == want.as_bytes();
+        expect(&rt, right, line, text);
+    }
 }
 
 /// A command line, an input, and why it is refused.

@@ -1,6 +1,5 @@
 use super::*;
-use hdminet_program::ProgramFault;
-use hdminet_program::program::write_fault;
+use hdminet_faults::{ProgramFault, write_fault};
 use std::alloc::AllocError;
 use std::process::Abort;
 
@@ -30,6 +29,8 @@ run --help =>   watch PA       tv
 asm --help => 4f821000
 run --help => --as
 run --help => --drives
+mon --help => --margin
+mon --help => --invert
 mon --help => --from-idle
 mon --help => --strict
 mon --help => or a remark with --strict
@@ -47,13 +48,16 @@ edid --help => --ddc
 edid --help => --eeodb
 edid --help => --as-source
 edid --help => --nth
+edid --help => --merge
+edid --help => --rows
+edid --help => --speakers
 edid --help => warn overscan
 edid --help => --explain
 --help => With --explain a fault is followed by
 --help =>       device tv tv 4
 --help => `4>f active-source 1.0.0.0`
 --help => or input past 1048576 bytes
-run --help =>                                 PORTS is 0 to 15;
+run --help => PORTS is 0 to 15;
 run --help =>                                 of 0 to e, as 4 or 1+4;
 run --help => is pulled low from outside: 1 to 10000 microseconds, each;
 run --help =>                                 at least 25000 after the end of the one above, at most 4096;
@@ -199,6 +203,17 @@ edid --text --nth 1
 edid --hex --nth 0
 edid --hex --nth 1 --nth 2
 edid --eeodb --as-source
+edid --speakers own
+edid --port 1 --speakers own
+edid --port 1 --below amp --speakers tv
+edid --rows video=own
+edid --merge --rows video=least
+edid --merge --rows=video
+edid --merge --rows sound=own
+edid --merge --rows video=own,
+edid --merge --text
+edid --merge --hex --nth 2
+edid --merge --eeodb
 edid --ddc --raw
 edid --text --text
 mon --edges
@@ -208,6 +223,15 @@ mon --signal
 mon --signal CEC --from pin
 mon --signal CEC --from edges
 mon --signal A --signal B
+mon --margin
+mon --margin 301
+mon --margin few
+mon --margin 010
+mon --margin 50 --margin 50
+mon --invert --invert
+mon --invert=yes
+check --capture --invert
+check --capture --margin 50
 mon --glitch few
 mon --glitch 18446744073709551616
 mon --glitch 36893488147419103232

@@ -121,6 +121,33 @@ fn other_edids_have_no_override(rt: HostRuntime) {
     );
 }
 
+/// An override that counts one extension, with its checksum 8a, where byte 126 counts one or two, and the last line of what is
+/// found.
+const COUNTED: &str = "\
+0151 => warn no-video-capability
+0250 => fail eeodb-count
+";
+
+#[test]
+fn judges_the_count_as_it_stands(rt: HostRuntime) {
+    let digits = blocks(
+        &rt,
+        "020319f1e2780143900403230907078301000065030c000000",
+        "8a",
+    );
+    let front = digits.as_str().get(..252).unwrap_or("");
+    let rest = digits.as_str().get(256..).unwrap_or("");
+    for case in COUNTED.lines() {
+        let (count, last) = two_parts(&rt, case);
+        let whole = format!(in rt.alloc(); "{front}{count}{rest}").expect(&rt, "two blocks");
+        let bytes = bytes_of(&rt, whole.as_str());
+        let reported = reported_of(&rt, "edid --eeodb --check", bytes.as_slice(), None);
+        let line = format!(in rt.alloc(); "{last}\n").expect(&rt, "a line");
+        let right = reported.status == 5 && reported.out.ends_with(line.as_str().as_bytes());
+        expect(&rt, right, "edid --eeodb --check", case);
+    }
+}
+
 /// The bytes that differ from those of an EDID of two blocks, by place, those of the EDID that is written, and what is said. What is
 /// written is cut to so many bytes, where a number stands before it.
 const MENDED: &str = "\

@@ -170,7 +170,6 @@ fn names_the_events_that_a_tested_capture_lost(rt: HostRuntime) {
 const REFUSED: &str = "\
 expect from 0 to 5 short;20 end => no capture line
 expect state 5 tv on;capture;20 end => expectations line 1: word
-at 5 press tv power;capture;20 end => expectations line 1: word
 label x at 5;label x at 6;capture;20 end => expectations line 2: label
 expect from 0 to 5 short;expect from 6 to 5 short;capture;20 end => expectations line 2: order
 expect from 0 to 5 short;capture;20 => line 1: line

@@ -316,6 +316,98 @@ state p1 player 4 2.0.0.0 on active=- path=- deck=1a menu=off audio=off volume=2
 3000000 end
 ";
 
+/// A television from outside: nobody answers for it until it holds its address, and again when it holds none; it is the root.
+const TELEVISION: &str = "\
+device p1 player 0
+device dut outside-tv 3
+device amp amp 2
+device p2 player 0
+plug p1 dut 1
+plug amp dut 2
+plug p2 amp 1
+";
+
+const TELEVISION_SCRIPT: &str = "\
+at 700000 press p1 play
+at 1200000 send dut 0>0
+at 1300000 hold dut 0
+at 1300000 send dut 0>f report-physical-address 0.0.0.0 tv
+at 1500000 send p1 4>0 give-device-power-status
+at 1550000 send dut 0>4 report-power-status on
+at 1700000 press p1 stop
+at 1800000 press dut power
+at 1800000 plug dut amp 2
+at 1800000 unplug dut
+at 1800000 send p2 0>f standby
+at 1900000 press p1 play
+at 2200000 send dut 0>4 deck-control stop
+at 2300000 send dut 0>f routing-change 1.0.0.0 2.1.0.0
+at 2500000 hold dut -
+at 2500000 send p2 8>0
+at 2600000 send p2 8>0 image-view-on
+at 2700000 drop p2
+at 2700000 send dut 0>f standby
+at 2700000 drop dut
+end 3200000
+";
+
+const TELEVISION_TRACE: &str = "\
+12000 39150 complete 4>4 nack by p1 out -
+50706 77856 complete 5>5 nack by amp out -
+89406 212556 complete 4>f report-physical-address 1.0.0.0 playback ok by p1 out -
+224106 347256 complete 5>f report-physical-address 2.0.0.0 audio ok by amp out -
+358819 385969 complete 4>4 ack by p2 out -
+403219 430369 complete 8>8 nack by p2 out -
+446719 569869 complete 8>f report-physical-address 2.1.0.0 playback ok by p2 out -
+700000 event 1 ok
+700000 728851 silent 0100000001 by - out p1@10
+733900 762751 silent 0100000001 by - out p1@10
+767800 796651 silent 0100000001 by - out p1@10
+801700 830551 silent 0100000001 by - out p1@10
+835600 864451 silent 0100000001 by - out p1@10
+869500 898351 silent 0100000001 by - out p1@10
+913000 1012150 complete 4>f active-source 1.0.0.0 ok by p1 out -
+1200000 event 2 ok
+1200000 1227150 complete 0>0 nack by dut out -
+1300000 event 3 ok
+1300000 event 4 ok
+1300000 1423150 complete 0>f report-physical-address 0.0.0.0 tv ok by dut out -
+1500000 event 5 ok
+1500000 1551150 complete 4>0 give-device-power-status ack by p1 out -
+1551600 event 6 ok
+1563600 1638750 complete 0>4 report-power-status on ack by dut out -
+1700000 event 7 ok
+1800000 event 8 refused not-for-kind
+1800000 event 9 refused not-loose
+1800000 event 10 refused not-plugged
+1800000 event 11 refused no-address
+1900000 event 12 ok
+1900000 1951150 complete 4>0 image-view-on ack by p1 out -
+1968400 2067550 complete 4>f active-source 1.0.0.0 ok by p1 out -
+2200000 event 13 ok
+2200000 2275150 complete 0>4 deck-control stop ack by dut out -
+2300000 event 14 ok
+2300000 2447150 complete 0>f routing-change 1.0.0.0 2.1.0.0 ok by dut out -
+2500000 event 15 ok
+2500000 event 16 ok
+2500000 2527150 complete 8>0 nack by p2 out -
+2600000 event 17 ok
+2600000 2628851 silent 1000000001 by - out p2@10
+2633900 2662751 silent 1000000001 by - out p2@10
+2667800 2696651 silent 1000000001 by - out p2@10
+2700000 event 18 refused not-for-kind
+2700000 event 19 ok
+2700000 event 20 ok
+2701700 2730551 silent 1000000001 by - out p2@10
+2735600 2764451 silent 1000000001 by - out p2@10
+2769500 2798351 silent 1000000001 by - out p2@10
+state p1 player 4 1.0.0.0 on active=- path=2.1.0.0 deck=1a menu=off audio=off volume=20 mute=off arc=off sel=- lang=656e67 osd=- held=- heard=0:90:00 sub=- queue=0 dropped=0
+state dut outside-tv f 0.0.0.0 - active=- path=- deck=- menu=- audio=- volume=- mute=- arc=- sel=- lang=- osd=- held=- heard=- sub=- queue=0 dropped=0
+state amp amp 5 2.0.0.0 on active=- path=2.1.0.0 deck=1a menu=off audio=off volume=20 mute=off arc=off sel=- lang=656e67 osd=- held=- heard=0:84:00 sub=- queue=0 dropped=0
+state p2 player 8 2.1.0.0 on active=- path=2.1.0.0 deck=1a menu=off audio=off volume=20 mute=off arc=off sel=- lang=656e67 osd=- held=- heard=0:84:00 sub=- queue=0 dropped=0
+3200000 end
+";
+
 const TREES: &[Traced<'static>] = &[
     Traced {
         name: "four players find three addresses",
@@ -366,6 +458,13 @@ const TREES: &[Traced<'static>] = &[
         trace: OUTSIDE_TRACE,
         counted: "rounds 10, complete rounds 10, refused events 3",
     },
+    Traced {
+        name: "a television from outside does what it is told",
+        topology: TELEVISION,
+        script: TELEVISION_SCRIPT,
+        trace: TELEVISION_TRACE,
+        counted: "rounds 29, complete rounds 17, refused events 5",
+    },
 ];
 
 #[test]
@@ -414,9 +513,8 @@ fn reports_why_an_edid_is_refused(rt: HostRuntime) {
     refuses_edid(&rt, "00", "length");
 }
 
-/// An amplifier in a switch, both still loose.
+/// An amplifier in a switch, both still loose; the television stands above them.
 const PARTS: &str = "\
-device tv tv 2
 device sw switch 2
 device a amp 1
 plug a sw 1
@@ -431,9 +529,20 @@ at 7 plug a tv 1
 end 8
 ";
 
-/// What is traced after the lines of events and ports.
+/// The kinds of television, and the state that each has at the end.
+const TELEVISIONS: &[(&str, &str)] = &[
+    (
+        "tv",
+        "- 0.0.0.0 on active=- path=- deck=1a menu=off audio=off volume=20 mute=off arc=off sel=- lang=656e67 osd=- held=- heard=- sub=- queue=0 dropped=0",
+    ),
+    (
+        "outside-tv",
+        "f 0.0.0.0 - active=- path=- deck=- menu=- audio=- volume=- mute=- arc=- sel=- lang=- osd=- held=- heard=- sub=- queue=0 dropped=0",
+    ),
+];
+
+/// What is traced after the lines of events and ports, and the television's state.
 const PARTS_STATES: &str = "\
-state tv tv - 0.0.0.0 on active=- path=- deck=1a menu=off audio=off volume=20 mute=off arc=off sel=- lang=656e67 osd=- held=- heard=- sub=- queue=0 dropped=0
 state sw switch f 2.0.0.0 on active=- path=- deck=1a menu=off audio=off volume=20 mute=off arc=off sel=1 lang=656e67 osd=- held=- heard=- sub=- queue=1 dropped=0
 state a amp - 1.0.0.0 on active=- path=- deck=1a menu=off audio=off volume=20 mute=off arc=off sel=- lang=656e67 osd=- held=- heard=- sub=- queue=0 dropped=0
 8 end
@@ -464,22 +573,25 @@ fn with_edid(rt: &(impl Abort + AllocGlobal), line: &str) -> String {
     format!(in rt.alloc(); "{port} {digits}\n").expect(rt, "a line")
 }
 
-/// All that is traced.
-fn whole_trace(rt: &(impl Abort + AllocGlobal)) -> String {
+/// All that is traced, where the television's state is this one.
+fn whole_trace(rt: &(impl Abort + AllocGlobal), state: &str) -> String {
     let mut trace = String::new(rt.alloc());
     for line in PARTS_TRACE.lines() {
         let line = with_edid(rt, line);
         trace.push_str(line.as_str()).expect(rt, "a trace");
     }
+    trace.push_str(state).expect(rt, "a trace");
     trace.push_str(PARTS_STATES).expect(rt, "a trace");
     trace
 }
 
-#[test]
-fn traces_ports_of_what_comes_onto_the_wire(rt: HostRuntime) {
-    let edid = blocks(&rt, EXTENSION, "e8");
-    let topology = format!(in rt.alloc(); "{PARTS}edid {edid}\n").expect(&rt, "a topology");
-    let trace = whole_trace(&rt);
+/// A television of this kind has its ports traced, and ends in this state.
+fn has_ports(rt: &(impl Abort + AllocGlobal), kind: &str, state: &str) {
+    let edid = blocks(rt, EXTENSION, "e8");
+    let topology = format!(in rt.alloc(); "device tv {kind} 2\n{PARTS}edid {edid}\n");
+    let topology = topology.expect(rt, "a topology");
+    let state = format!(in rt.alloc(); "state tv {kind} {state}\n").expect(rt, "a state");
+    let trace = whole_trace(rt, state.as_str());
     let run = Traced {
         name: "ports",
         topology: topology.as_str(),
@@ -487,5 +599,12 @@ fn traces_ports_of_what_comes_onto_the_wire(rt: HostRuntime) {
         trace: trace.as_str(),
         counted: "rounds 0, complete rounds 0, refused events 2",
     };
-    is_traced(&rt, &run);
+    is_traced(rt, &run);
+}
+
+#[test]
+fn traces_ports_of_what_comes_onto_the_wire(rt: HostRuntime) {
+    for (kind, state) in TELEVISIONS {
+        has_ports(&rt, kind, state);
+    }
 }

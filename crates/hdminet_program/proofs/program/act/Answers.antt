@@ -1,7 +1,7 @@
 use Rattle.std.proofs.Common.{map, string_bytes}
 use Rattle.hdminet_words.specs.Line.{asked_by}
 use Rattle.hdminet_words.specs.MonFlags.{signal_in}
-use Rattle.hdminet_program.specs.Captures.{name_of}
+use Rattle.hdminet_captures.specs.Captures.{name_of}
 use Rattle.hdminet_program.proofs.ServedLemmas.{chosen, helped}
 use Rattle.hdminet_program.proofs.program.act.Goals as goal
 

@@ -1,5 +1,5 @@
 use Rattle.std.proofs.Common.{ap, sym, ◌∙◌}
-use Rattle.hdminet_program.specs.Captures.{name_of}
+use Rattle.hdminet_captures.specs.Captures.{name_of}
 use Rattle.hdminet_program.proofs.program.name_of.Goals as goal
 
 pub returns-in-None : goal.returns-in-None

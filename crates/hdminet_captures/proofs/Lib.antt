@@ -1,0 +1,4 @@
+pub mod ShownLemmas
+pub mod CaptureLemmas
+pub mod AuditLemmas
+pub mod TestLemmas

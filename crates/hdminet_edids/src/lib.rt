@@ -1,0 +1,9 @@
+//! What the program does with an EDID, and what it says of it.
+#![tactic(auto)]
+
+pub mod edid;
+mod edid_explained;
+mod edid_given;
+mod edid_judged;
+
+pub use edid_explained::{explain_lack, explain_merge, explain_rules, explain_speakers, name_read};

@@ -1,7 +1,0 @@
-use Rattle.std.proofs.Common.{refl}
-use Rattle.cec_audit.specs.Audit.{audit_text}
-use Rattle.hdminet_program.proofs.AuditLemmas.{holds_all}
-use Rattle.hdminet_program.proofs.capture.held_audit.Goals as goal
-
-pub returns-in-Ok : goal.returns-in-Ok
-returns-in-Ok c = holds_all _ _ _ (audit_text c.args.timing c.args.capture.now) c.new-held.ensures.contents refl c.in-Ok.ensures.0

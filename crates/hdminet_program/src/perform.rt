@@ -1,0 +1,117 @@
+//! What the program does for a choice.
+ghost use Rattle.std.specs.Prelude.{◌≢◌, true, false, [], OnOk};
+ghost use Rattle.hdminet_program.specs.Done.{Writes};
+
+use crate::check::{test, test_capture};
+use crate::objects::write_json;
+use crate::run::{run, run_to_drives, run_to_line};
+use crate::told::Told;
+use cec_dis::dis_lines;
+use cec_line::Format;
+use cec_meaning::dis_with_meaning;
+use cec_step::step_run::step_run;
+use cec_text::asm_lines;
+use hdmi_core::Sink;
+use hdminet_captures::monitor;
+use hdminet_edids::edid::edid;
+use hdminet_faults::ProgramFault;
+use hdminet_faults::parts::{parted, parts};
+use hdminet_words::{Choice, Listing};
+use std::alloc::Global;
+
+#[inline(never)]
+fn step<W: Sink>(alloc: Global, input: &[u8], out: &mut W) -> Result<Told, ProgramFault>
+    ensures { OnOk result (Writes Choice.Step [] input.now (W.contents out.old) (W.contents out.new)) }
+{
+    let (topology, rest) = parts(input)?;
+    let (script, steps) = parted(rest, b"steps").ok_or(ProgramFault::NoStepsLine)?;
+    step_run(alloc, topology, script, steps, out)?;
+    Ok(Told::Nothing)
+}
+
+// Writes the texts of frames.
+fn write_frames<W: Sink>(input: &[u8], out: &mut W) -> Result<Told, ProgramFault>
+    ensures { OnOk result (Writes (Choice.Dis false) [] input.now (W.contents out.old) (W.contents out.new)) }
+{
+    dis_lines(input, out)?;
+    Ok(Told::Nothing)
+}
+
+// Writes the texts of frames, and what they mean.
+fn write_meanings<W: Sink>(input: &[u8], out: &mut W) -> Result<Told, ProgramFault>
+    ensures { OnOk result (Writes (Choice.Dis true) [] input.now (W.contents out.old) (W.contents out.new)) }
+{
+    dis_with_meaning(input, out)?;
+    Ok(Told::Nothing)
+}
+
+#[inline(never)]
+fn disassemble<W: Sink>(meaning: bool, input: &[u8], out: &mut W) -> Result<Told, ProgramFault>
+    ensures { OnOk result (Writes (Choice.Dis meaning) [] input.now (W.contents out.old) (W.contents out.new)) }
+{
+    if meaning {
+        write_meanings(input, out)
+    } else {
+        write_frames(input, out)
+    }
+}
+
+#[inline(never)]
+fn assemble<W: Sink>(input: &[u8], out: &mut W) -> Result<Told, ProgramFault>
+    ensures { OnOk result (Writes Choice.Asm [] input.now (W.contents out.old) (W.contents out.new)) }
+{
+    asm_lines(input, out)?;
+    Ok(Told::Nothing)
+}
+
+/// Does what is asked for. Of a run the result has the counts.
+pub fn perform<W: Sink>(
+    alloc: Global,
+    choice: Choice,
+    signal: &[u8],
+    input: &[u8],
+    out: &mut W,
+) -> Result<Told, ProgramFault>
+    requires { choice ≢ Choice.Live }
+    ensures { OnOk result (Writes choice signal.now input.now (W.contents out.old) (W.contents out.new)) }
+{
+    match choice {
+        Choice::Run { listing, strict } => match listing {
+            Listing::Trace => run(alloc, strict, input, out),
+            Listing::Edges => run_to_line(alloc, Format::Edges, strict, input, out),
+            Listing::Vcd => run_to_line(alloc, Format::Vcd, strict, input, out),
+            Listing::Pin => run_to_line(alloc, Format::Pin, strict, input, out),
+            Listing::Csv => run_to_line(alloc, Format::Csv, strict, input, out),
+            Listing::Drives => run_to_drives(alloc, strict, input, out),
+        },
+        Choice::Check(view) => test(alloc, view, input, out),
+        Choice::CheckCapture { form, glitch } => {
+            test_capture(alloc, form, signal, glitch, input, out)
+        }
+        Choice::Step => step(alloc, input, out),
+        Choice::Live => unreachable!(),
+        Choice::Asm => assemble(input, out),
+        Choice::Dis { meaning } => disassemble(meaning, input, out),
+        Choice::Mon {
+            form,
+            glitch,
+            margin,
+            inverted,
+            report,
+        } => {
+            let signs = monitor(
+                alloc, form, signal, inverted, glitch, margin, report, input, out,
+            )?;
+            Ok(Told::Capture(signs))
+        }
+        Choice::Json(objects) => write_json(alloc, objects, signal, input, out),
+        Choice::Edid {
+            source,
+            reading,
+            view,
+        } => {
+            edid(alloc, source, reading, view, input, out)?;
+            Ok(Told::Nothing)
+        }
+    }
+}

@@ -1,0 +1,112 @@
+//! What is written of a run.
+ghost use Rattle.std.specs.Prelude.{◌≡◌, true, [], OnOk};
+ghost use Rattle.hdminet_program.specs.Done.{Writes, WritesLine};
+
+use crate::told::Told;
+use cec_driven::emulate_drives;
+use cec_json::PlainLines;
+use cec_line::Format;
+use cec_room_json::RoomLines;
+use cec_run::Totals;
+use cec_run::emulate::emulate;
+use cec_run::line::emulate_line;
+use cec_run_json::emulate_objects;
+use hdmi_core::Sink;
+use hdminet_faults::ProgramFault;
+use hdminet_faults::parts::parts;
+use hdminet_words::{Choice, Listing, Objects};
+use std::alloc::Global;
+
+// The counts of a run, unless it is strict and an event was refused.
+fn accepted(totals: Totals, strict: bool) -> Result<Told, ProgramFault>
+    ensures { OnOk result (strict ≡ true → totals.refused ≡ 0) }
+{
+    if strict && totals.refused > 0 {
+        return Err(ProgramFault::EventsRefused(totals));
+    }
+    Ok(Told::Run(totals))
+}
+
+/// Each of these takes its memory on the stack where it is asked for, and not in every start. The result has what there is to
+/// say of it.
+#[inline(never)]
+pub fn run<W: Sink>(
+    alloc: Global,
+    strict: bool,
+    input: &[u8],
+    out: &mut W,
+) -> Result<Told, ProgramFault>
+    ensures { OnOk result (Writes (Choice.Run Listing.Trace strict) [] input.now (W.contents out.old) (W.contents out.new)) }
+{
+    let (topology, script) = parts(input)?;
+    let totals = emulate(alloc, topology, script, out)?;
+    accepted(totals, strict)
+}
+
+/// Writes the line of a run in a format.
+#[inline(never)]
+pub fn run_to_line<W: Sink>(
+    alloc: Global,
+    format: Format,
+    strict: bool,
+    input: &[u8],
+    out: &mut W,
+) -> Result<Told, ProgramFault>
+    ensures { OnOk result (WritesLine format strict input.now (W.contents out.old) (W.contents out.new)) }
+{
+    let (topology, script) = parts(input)?;
+    let totals = emulate_line(alloc, topology, script, format, out)?;
+    accepted(totals, strict)
+}
+
+/// Writes the line of a run, and who drives it.
+#[inline(never)]
+pub fn run_to_drives<W: Sink>(
+    alloc: Global,
+    strict: bool,
+    input: &[u8],
+    out: &mut W,
+) -> Result<Told, ProgramFault>
+    ensures { OnOk result (Writes (Choice.Run Listing.Drives strict) [] input.now (W.contents out.old) (W.contents out.new)) }
+{
+    let (topology, script) = parts(input)?;
+    let totals = emulate_drives(alloc, topology, script, out)?;
+    accepted(totals, strict)
+}
+
+/// Writes the objects of the lines of a run's trace while it runs.
+#[inline(never)]
+#[tactic(auto, using(crate::proofs::ObjectLemmas::trace_ended))]
+pub fn run_to_objects<W: Sink>(
+    alloc: Global,
+    strict: bool,
+    input: &[u8],
+    out: &mut W,
+) -> Result<Told, ProgramFault>
+    ensures { OnOk result (Writes (Choice.Json (Objects.Trace strict)) [] input.now (W.contents out.old) (W.contents out.new)) }
+{
+    let (topology, script) = parts(input)?;
+    let totals = emulate_objects(alloc, topology, script, PlainLines, out)?;
+    accepted(totals, strict)
+}
+
+/// The same with those of its room.
+#[inline(never)]
+pub fn run_to_room<W: Sink>(
+    alloc: Global,
+    strict: bool,
+    input: &[u8],
+    out: &mut W,
+) -> Result<Told, ProgramFault>
+    ensures { OnOk result (Writes (Choice.Json (Objects.Room strict)) [] input.now (W.contents out.old) (W.contents out.new)) }
+{
+    let (topology, script) = parts(input)?;
+    let totals = emulate_objects(
+        alloc,
+        topology,
+        script,
+        RoomLines::new(topology, script),
+        out,
+    )?;
+    accepted(totals, strict)
+}

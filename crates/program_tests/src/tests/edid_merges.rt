@@ -1,0 +1,164 @@
+//! The EDID that a receiver answers with, of a display's and of its own, and with the speakers of an amplifier.
+use super::edids::{EXTENSION, after_base, blocks, bytes_of};
+use super::example_edids::{DENON_AVR_X2300W_EDID, LG_OLED55B6V_EDID};
+use super::*;
+
+/// The lines of the pair of examples/ that a receiver answers with. Its own EDID has six codes more, and its blocks and descriptors in
+/// another order; as there, the third timing has no room.
+const ANSWER: &str = "\
+edid 1.3
+maker DON
+product 76
+serial 16843009
+made 0 2016
+input 80
+size 160 90
+gamma 120
+features 0a
+chroma 655 338 307 614 154 61 320 337
+established a10800
+standard 640 1 60
+standard 800 1 60
+standard 1024 1 60
+standard 1152 1 60
+standard 1280 2 60
+standard unused
+standard unused
+standard unused
+timing 59400 3840 560 2160 90 176 88 8 10 1600 900 0 0 1e
+timing 14850 1920 280 1080 45 88 44 4 5 1600 900 0 0 1e
+range 003a3e1e883c000a202020202020
+name \"DENON-AVR\"
+cta f1
+video 6160101f0413051403021220212215015d5e5f6566626364
+extended 0f030018
+audio 0f7f073d1ec01507505f7e03570603677e035f7e01
+speakers 5f0000
+hdmi 2.5.0.0 b83c20008001020304
+vendor d85dc401788003
+extended 00cf
+extended 05c000
+extended 060d01
+extended 0146d00024180900ad5244a9230c
+extended 1146d0007000
+tail -
+";
+
+#[test]
+fn answers_as_the_receiver_does(rt: HostRuntime) {
+    let pair = format!(in rt.alloc();
+        "{LG_OLED55B6V_EDID}receiver\n{DENON_AVR_X2300W_EDID}"
+    ).expect(&rt, "a pair");
+    gives(
+        &rt,
+        "edid --hex --merge",
+        "the pair of examples/",
+        pair.as_str().as_bytes(),
+        ANSWER,
+    );
+}
+
+/// The receiver's own lines are those of the answer, but for its video codes, which are six more.
+#[test]
+fn the_pair_differs_in_its_codes(rt: HostRuntime) {
+    let own = written(&rt, "edid --hex", DENON_AVR_X2300W_EDID.as_bytes());
+    for line in own.as_str().lines() {
+        let there = ANSWER.lines().any(|it| it == line);
+        expect(
+            &rt,
+            there != line.starts_with("video "),
+            "edid --merge",
+            line,
+        );
+    }
+}
+
+/// An extension of a display up to its zeros, with a clock of 150 MHz and high dynamic range. Its checksum is 0b.
+const DISPLAY: &str = "02031cf143900403230907078301000067030c001000b81ee3060501";
+
+/// One of a receiver, with other codes, eight channels and their speakers, a clock of 300 MHz and no deep colour. Its checksum is
+/// a2.
+const OWN: &str = "020317f1421f14230f7f07834f000067030c002000803c";
+
+/// Flags, and the lines of the extension.
+const ROWS: &str = "\
+--merge => video 900403/audio 0f7f07/speakers 4f0000/hdmi 2.0.0.0 801e
+--merge --rows video=own => video 1f14/audio 0f7f07/speakers 4f0000/hdmi 2.0.0.0 801e
+--merge --rows=audio=keep,hdr=keep => video 900403/audio 090707/speakers 4f0000/hdmi 2.0.0.0 801e/extended 060501
+--merge --rows speakers=and,hdmi=keep => video 900403/audio 0f7f07/speakers 010000/hdmi 1.0.0.0 b81e
+--merge --rows hdmi=own --port 3 => video 900403/audio 0f7f07/speakers 4f0000/hdmi 2.3.0.0 803c
+";
+
+/// The bytes of two EDIDs with these extensions.
+fn two_of(rt: &(impl Abort + AllocGlobal), display: &str, own: &str) -> Vec<u8> {
+    bytes_of(
+        rt,
+        format!(in rt.alloc(); "{display}{own}")
+            .expect(rt, "two EDIDs")
+            .as_str(),
+    )
+}
+
+#[test]
+fn goes_by_the_rows(rt: HostRuntime) {
+    let display = blocks(&rt, DISPLAY, "0b");
+    let own = blocks(&rt, OWN, "a2");
+    let pair = two_of(&rt, display.as_str(), own.as_str());
+    for case in ROWS.lines() {
+        let (flags, lines) = two_parts(&rt, case);
+        let line = format!(in rt.alloc(); "edid {flags}").expect(&rt, "a line");
+        let lines = lines.replace(rt.alloc(), '/', "\n").expect(&rt, "lines");
+        let text = format!(in rt.alloc(); "cta f1\n{lines}\ntail -\n").expect(&rt, "a text");
+        let text = after_base(&rt, text.as_str());
+        gives(&rt, line.as_str(), "two EDIDs", &pair, text.as_str());
+    }
+}
+
+/// Three vendor blocks of 31 bytes, and one of ten formats of audio, each up to its zeros.
+const LONG: &str =
+    "020364f17f0000ff000000000000000000000000000000000000000000000000000000007f0000ff000000000000000000000000000000000000000000000000000000007f0000ff00000000000000000000000000000000000000000000000000000000";
+
+const MANY: &str = "020323f13e0f7f070f7f070f7f070f7f070f7f070f7f070f7f070f7f070f7f070f7f07";
+
+#[test]
+fn refuses_what_is_no_pair(rt: HostRuntime) {
+    let display = blocks(&rt, DISPLAY, "0b");
+    let bare = blocks(&rt, "020300f1", "0a");
+    let alone = bytes_of(&rt, display.as_str());
+    refuses(
+        &rt,
+        "edid --merge",
+        "one EDID",
+        &alone,
+        "merge: receiver: length",
+    );
+    let text = display.as_str().as_bytes();
+    refuses(&rt, "edid --merge --hex", "one dump", text, "dump: none");
+    let pair = two_of(&rt, bare.as_str(), display.as_str());
+    refuses(
+        &rt,
+        "edid --merge",
+        "no data blocks",
+        &pair,
+        "merge: display: one-cta",
+    );
+    let long = blocks(&rt, LONG, "2c");
+    let many = blocks(&rt, MANY, "d7");
+    let pair = two_of(&rt, long.as_str(), many.as_str());
+    refuses(&rt, "edid --merge", "no room", &pair, "merge: long");
+}
+
+/// Below an amplifier with its speakers, and where something else than zeros stands after the timings. Checksums are e8 and e7.
+#[test]
+fn answers_with_the_speakers(rt: HostRuntime) {
+    let bytes = bytes_of(&rt, blocks(&rt, EXTENSION, "e8").as_str());
+    let text = after_base(
+        &rt,
+        "cta f1\nvideo 900403\naudio 0f7f07150750\nspeakers 4f0000\nhdmi 2.0.0.0 -\ntail -\n",
+    );
+    let line = "edid --port 2 --below amp --speakers own";
+    gives(&rt, line, "speakers", &bytes, text.as_str());
+    let full = "020316f143900403230907078301000065030c00000000000000000000000000000001";
+    let bytes = bytes_of(&rt, blocks(&rt, full, "e7").as_str());
+    refuses(&rt, line, "no zeros", &bytes, "edid: no-room");
+}

@@ -1,0 +1,127 @@
+"""The EDID that a receiver answers with, of a display's and of its own, and the speakers of an amplifier: a plain model."""
+import edid
+from edid import check_edid, is_hdmi, mend, read_ext
+
+ROWS = {'product': 'own', 'video': 'keep', 'audio': 'own', 'speakers': 'own', 'hdmi': 'least', 'forum': 'least', 'capability': 'keep',
+        'colorimetry': 'and', 'hdr': 'and', 'maker-video': 'keep', 'maker-audio': 'own', 'other': 'keep'}
+WORDS = {'speakers': 'keep own and', 'capability': 'keep own and', 'colorimetry': 'keep own and', 'hdr': 'keep own and',
+         'hdmi': 'keep own least', 'forum': 'keep own least'}
+EXTENDED = {0: 'capability', 1: 'maker-video', 7: 'maker-video', 5: 'colorimetry', 6: 'hdr', 14: 'video', 15: 'video', 0x78: 'override',
+            **{tag: 'maker-audio' for tag in (17, 18, 19, 20)}}
+
+
+def words_of(kind):
+    return WORDS.get(kind, 'keep own').split()
+
+
+def kind_of(tag, data):
+    if tag == 3:
+        return 'hdmi' if is_hdmi(tag, data) else 'forum' if data[:3] == b'\xd8\x5d\xc4' else 'other'
+    if tag == 7:
+        return EXTENDED.get(data[0], 'other') if data else 'other'
+    return {1: 'audio', 2: 'video', 4: 'speakers'}.get(tag, 'other')
+
+
+def spell(tag, data):
+    return bytes([tag << 5 | len(data)]) + bytes(data)
+
+
+def one_of_two(kind, d, o):
+    """the payload of one block of the first of the display's and the first of the receiver's"""
+    d, o = bytearray(d), bytes(o) + bytes(32)
+    if kind == 'hdmi':
+        for i in range(len(d)):
+            if i in (3, 4): d[i] = o[i]
+            elif i == 5: d[i] = o[i] & 0x80 | d[i] & o[i] & 0x7f
+            elif i == 6: d[i] = min(d[i], o[i])
+    elif kind == 'forum':
+        for i in range(len(d)):
+            if i == 4: d[i] = min(d[i], o[i])
+            elif i in (5, 7): d[i] &= o[i]
+            elif i == 6: d[i] = min(d[i] >> 4, o[i] >> 4) << 4 | d[i] & o[i] & 15
+            elif 8 <= i <= 12 and o[i] == 0: d[i] = 0
+    else:
+        flags = {'speakers': (0, 1, 2), 'capability': (1,)}.get(kind, (1, 2))
+        for i in flags:
+            if i < len(d): d[i] &= o[i]
+    return bytes(d)
+
+
+def merged_blocks(rows, display, own):
+    out = b''
+    for kind in list(ROWS)[1:]:
+        d, o = ([(tag, data) for _, tag, data in x['blocks'] if kind_of(tag, data) == kind] for x in (display, own))
+        if rows[kind] == 'keep': out += b''.join(spell(*it) for it in d)
+        elif rows[kind] == 'own': out += b''.join(spell(*it) for it in o)
+        elif d and o: out += spell(d[0][0], one_of_two(kind, d[0][1], o[0][1]))
+    return out
+
+
+def descriptors(display, own):
+    for i in range(54, 126, 18):
+        d = display[i:i + 18]
+        tag = edid.descriptor_text(d).split()[0] if not (d[0] or d[1]) else 'timing'
+        if tag in ('name', 'serial-text'):
+            there = [own[k:k + 18] for k in range(54, 126, 18) if edid.descriptor_text(own[k:k + 18]).split()[0] == tag]
+            d = there[0] if there else bytes([0, 0, 0, 0x10]) + bytes(14)
+        yield d
+
+
+def one_cta(e):
+    """the place of the one extension with data blocks, or None"""
+    full = [i for i in range(128, len(e), 128) if read_ext(e[i:i + 128]) is not None and read_ext(e[i:i + 128])['d']]
+    return full[0] if len(full) == 1 else None
+
+
+def merge(display, own, rows):
+    """(the bytes, the cause) of which one is None"""
+    for name, e in (('display', display), ('receiver', own)):
+        fault = check_edid(e)
+        if fault: return None, '%s: %s' % (name, ' '.join(str(x) for x in fault))
+        if one_cta(e) is None: return None, name + ': one-cta'
+    place, there = one_cta(display), one_cta(own)
+    d, o = read_ext(display[place:place + 128]), read_ext(own[there:there + 128])
+    blocks = merged_blocks(rows, d, o)
+    if len(blocks) > 123: return None, 'long'
+    body = blocks
+    for timing in d['timings']:
+        if len(body) + 18 > 123: break
+        body += timing
+    flags = d['flags'] if rows['audio'] == 'keep' else d['flags'] & 0xbf | o['flags'] & 0x40
+    ext = mend(bytes([2, 3, len(blocks) + 4, flags]) + body.ljust(123, b'\0') + b'\0')
+    base = display[:128]
+    if rows['product'] == 'own':
+        base = mend(base[:8] + own[8:18] + base[18:54] + b''.join(descriptors(display, own)) + base[126:128])
+    return base + display[128:place] + ext + display[place + 128:], None
+
+
+def rows_of(text):
+    """the rows, or None"""
+    rows = dict(ROWS)
+    for row in text.split(',') if text is not None else []:
+        kind, _, word = row.partition('=')
+        if kind not in rows or word not in words_of(kind): return None
+        rows[kind] = word
+    return rows
+
+
+def halves(data):
+    end = 128 * (data[126] if len(data) > 126 else 0) + 128
+    return data[:end], data[end:]
+
+
+def with_speakers(e):
+    """the bytes with an amplifier's speakers, or None where they have no room"""
+    i = edid.first_hdmi(e)
+    if i is None: return e
+    x = read_ext(e[128 * i:128 * i + 128])
+    audio = [n for n, (_, tag, _) in enumerate(x['blocks']) if tag == 1]
+    if not audio: return e
+    blocks = b''
+    for n, (_, tag, data) in enumerate(x['blocks']):
+        if tag != 4: blocks += spell(tag, data)
+        if n == audio[0]: blocks += b'\x83\x4f\0\0'
+    body = blocks + b''.join(x['timings'])
+    if any(x['tail']) or len(body) > 123: return None
+    new = mend(bytes([2, 3, len(blocks) + 4, x['flags']]) + body.ljust(123, b'\0') + b'\0')
+    return e[:128 * i] + new + e[128 * i + 128:]
