@@ -499,11 +499,11 @@ def hostile_inputs_are_harmless(t, b):
 def inferences_are_the_programs(t, b):
     """What the page infers is what the program says: bits, who acknowledged, addresses and places, of random rooms."""
     b.open(BARE)
-    random.seed("rooms of the page")
+    draw = random.Random("rooms")
     rooms = rounds = 0
     faults = []
     while rooms < 15:
-        room = random_room()
+        room = random_room(draw)
         objects = program(room, "run", "--json")
         if not objects:
             continue

@@ -72,66 +72,66 @@ def hostile_inputs(program, room):
     yield "control characters", ["\0\1\2" * 1000]
     yield "a long line", ['{"type":"round","line":"' + "a" * 1000000 + '"}']
     yield "edges out of order", ["5 1\n5 1\n3 0\n9 0\n9 0\n1 end\n"]
-    random.seed("broken texts")
+    draw = random.Random("texts")
     objects = program(room, "run", "--json")
     dump = program(room, "run", "--edges", "--as", "vcd", "--drives")
 
     def mutant(text):
         characters = list(text)
-        for _ in range(random.randint(1, 30)):
-            at = random.randrange(len(characters))
-            kind = random.random()
+        for _ in range(draw.randint(1, 30)):
+            at = draw.randrange(len(characters))
+            kind = draw.random()
             if kind < 0.4:
-                characters[at] = random.choice('0123456789{}[]":,<>abcfxyz -\n')
+                characters[at] = draw.choice('0123456789{}[]":,<>abcfxyz -\n')
             elif kind < 0.7:
-                del characters[at:at + random.randint(1, 200)]
+                del characters[at:at + draw.randint(1, 200)]
             else:
-                characters[at:at] = characters[random.randrange(len(characters)):][:random.randint(1, 200)]
+                characters[at:at] = characters[draw.randrange(len(characters)):][:draw.randint(1, 200)]
         return "".join(characters)
 
     for number in range(8):
         yield f"mutant {number}", [mutant(objects), mutant(dump)] if number % 3 else [mutant(objects), dump, mutant(room)]
 
 
-def random_room():
+def random_room(draw):
     kinds = ["amp", "player", "player", "recorder", "switch", "combo", "outside"]
     frames = ["give-osd-name", "give-physical-address", "give-device-power-status", "image-view-on", "standby",
               "request-active-source", "active-source 1.0.0.0", "menu-request query", "give-deck-status on", "op-e5 :",
               "get-menu-language", 'set-osd-string hold "x"', "routing-change 1.0.0.0 2.0.0.0"]
     keys = ["play", "stop", "power", "menu", "eject", "volume-up", "audio on", "arc on", "port 2"]
     names = ["tv"]
-    lines = [f"device tv {random.choice(['tv', 'tv', 'outside-tv'])} 4"]
+    lines = [f"device tv {draw.choice(['tv', 'tv', 'outside-tv'])} 4"]
     free = [("tv", port) for port in range(1, 5)]
     plugs = []
-    for number in range(random.randint(1, 9)):
-        kind, ports = random.choice(kinds), random.choice([0, 1, 1, 3])
+    for number in range(draw.randint(1, 9)):
+        kind, ports = draw.choice(kinds), draw.choice([0, 1, 1, 3])
         name = f"{kind[:2]}{number}"
         names.append(name)
         lines.append(f"device {name} {kind} {ports}")
-        if free and random.random() < 0.85:
-            place = free.pop(random.randrange(len(free)))
+        if free and draw.random() < 0.85:
+            place = free.pop(draw.randrange(len(free)))
             plugs.append(f"plug {name} {place[0]} {place[1]}")
         free += [(name, port) for port in range(1, ports + 1)]
     lines += [*plugs, "script"]
-    now = random.choice([0, 100000, 2000000])
+    now = draw.choice([0, 100000, 2000000])
     next_pulse = 0
-    for _ in range(random.randint(2, 30)):
-        now += random.choice([0, 0, 1000, 60000, 300000, 1000000])
-        name, chance = random.choice(names), random.random()
+    for _ in range(draw.randint(2, 30)):
+        now += draw.choice([0, 0, 1000, 60000, 300000, 1000000])
+        name, chance = draw.choice(names), draw.random()
         if chance < 0.4:
-            initiator, destination = random.choice("0123456789abcdef"), random.choice("0123456789abcdef")
-            lines.append(f"at {now} send {name} {initiator}>{destination} {random.choice(frames)}")
+            initiator, destination = draw.choice("0123456789abcdef"), draw.choice("0123456789abcdef")
+            lines.append(f"at {now} send {name} {initiator}>{destination} {draw.choice(frames)}")
         elif chance < 0.55:
-            lines.append(f"at {now} press {name} {random.choice(keys)}")
+            lines.append(f"at {now} press {name} {draw.choice(keys)}")
         elif chance < 0.65:
             lines.append(f"at {now} unplug {name}")
         elif chance < 0.75:
-            lines.append(f"at {now} plug {name} {random.choice(names)} {random.randint(1, 4)}")
+            lines.append(f"at {now} plug {name} {draw.choice(names)} {draw.randint(1, 4)}")
         elif chance < 0.85:
-            lines.append(f"at {now} hold {name} {random.choice(['-', '1', '4+1', 'b', 'e', '0+5'])}")
+            lines.append(f"at {now} hold {name} {draw.choice(['-', '1', '4+1', 'b', 'e', '0+5'])}")
         elif now + 500000 > next_pulse:
-            width = random.randint(1, 9000)
-            at = max(next_pulse, now + random.randint(0, 300000))
+            width = draw.randint(1, 9000)
+            at = max(next_pulse, now + draw.randint(0, 300000))
             lines.append(f"pulse {at} {width}")
             next_pulse = at + width + 25000
     return "\n".join(lines) + f"\nend {max(now, next_pulse) + 3000000}\n"

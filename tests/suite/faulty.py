@@ -21,6 +21,10 @@ def slip(kind):
     return note
 
 
+def passed_over(_device, _initiator, _operands):
+    """A message that is neither obeyed nor answered."""
+
+
 # Times
 
 @slip("player")

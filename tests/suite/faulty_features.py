@@ -1,6 +1,6 @@
 """Devices with one slip each, as in faulty.py: those that err in a feature of CEC 13."""
 
-from faulty import slip
+from faulty import passed_over, slip
 from reference import DECK_PLAY, DECK_STOP, Reference
 
 
@@ -18,24 +18,21 @@ class AlwaysActive(Reference):
 class KeepsActive(Reference):
     """Does not see that another device is the active source."""
 
-    def on_82(self, initiator, operands):
-        pass
+    on_82 = passed_over
 
 
 @slip("recorder")
 class NotRouted(Reference):
     """Does not see that the picture is routed away."""
 
-    def on_80(self, initiator, operands):
-        pass
+    on_80 = passed_over
 
 
 @slip("player")
 class IgnoresPath(Reference):
     """Ignores Set Stream Path."""
 
-    def on_86(self, initiator, operands):
-        pass
+    on_86 = passed_over
 
 
 @slip("recorder")
@@ -286,16 +283,14 @@ class MenuKeyUnsaid(Reference):
 class IgnoresRemote(Reference):
     """Does nothing for User Control Pressed."""
 
-    def on_44(self, initiator, operands):
-        pass
+    on_44 = passed_over
 
 
 @slip("amp")
 class NeverReleases(Reference):
     """Goes on with a key for ever."""
 
-    def on_45(self, initiator, operands):
-        pass
+    on_45 = passed_over
 
     def is_released(self):
         return False
@@ -331,16 +326,14 @@ class IgnoresVolume(Reference):
 class LoudnessUnsaid(Reference):
     """Does not say how loud it is."""
 
-    def on_71(self, initiator, operands):
-        pass
+    on_71 = passed_over
 
 
 @slip("amp")
 class NoChannel(Reference):
     """Does not begin the audio return channel."""
 
-    def on_c3(self, initiator, operands):
-        pass
+    on_c3 = passed_over
 
 
 @slip("amp")
@@ -392,8 +385,7 @@ class ChannelForAll(Reference):
 class ChannelStays(Reference):
     """Does not end the audio return channel."""
 
-    def on_c4(self, initiator, operands):
-        pass
+    on_c4 = passed_over
 
 
 # Switches
@@ -418,16 +410,14 @@ class SwitchAny(Reference):
 class SwitchStays(Reference):
     """Does not select the port of the path."""
 
-    def on_86(self, initiator, operands):
-        pass
+    on_86 = passed_over
 
 
 @slip("switch")
 class SwitchBlind(Reference):
     """Does not select the port of the active source."""
 
-    def on_82(self, initiator, operands):
-        pass
+    on_82 = passed_over
 
 
 @slip("switch")

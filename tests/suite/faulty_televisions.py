@@ -1,6 +1,6 @@
 """Televisions with one slip each, as the devices in faulty.py."""
 
-from faulty import RefusesBroadcasts, RefusesNothing, ReportsNothing, slip
+from faulty import AcknowledgesAll, RefusesBroadcasts, RefusesNothing, ReportsNothing, passed_over, slip
 from reference import Reference
 
 
@@ -16,11 +16,8 @@ class TakesTheSecond(Reference):
 
 
 @slip("tv")
-class HoldsFourteen(Reference):
+class HoldsFourteen(AcknowledgesAll):
     """Holds 14 beside 0."""
-
-    def hold(self, addresses, after=0):
-        super().hold(addresses + [14] if addresses else [], after)
 
 
 @slip("tv")
@@ -54,24 +51,21 @@ class RefusesToAll(RefusesBroadcasts):
 class HasNoVersion(Reference):
     """Does not answer Get CEC Version."""
 
-    def on_9f(self, initiator, operands):
-        pass
+    on_9f = passed_over
 
 
 @slip("tv")
 class HasNoLanguage(Reference):
     """Does not answer Get Menu Language."""
 
-    def on_91(self, initiator, operands):
-        pass
+    on_91 = passed_over
 
 
 @slip("tv")
 class HasNoStatus(Reference):
     """Does not answer Give Device Power Status."""
 
-    def on_8f(self, initiator, operands):
-        pass
+    on_8f = passed_over
 
 
 # On and off
@@ -89,16 +83,14 @@ class StaysOn(Reference):
 class IgnoresPictures(Reference):
     """Is not woken by Image View On."""
 
-    def on_04(self, initiator, operands):
-        pass
+    on_04 = passed_over
 
 
 @slip("tv")
 class WaitsForPictures(Reference):
     """Is not woken by Text View On."""
 
-    def on_0d(self, initiator, operands):
-        pass
+    on_0d = passed_over
 
 
 @slip("tv")
@@ -143,5 +135,4 @@ class KeepsItsSound(Reference):
 class HasNoReturnChannel(Reference):
     """Does not answer Initiate ARC."""
 
-    def on_c0(self, initiator, operands):
-        pass
+    on_c0 = passed_over
