@@ -1,8 +1,7 @@
 -- A receiver that skips to the next edge or wake keeps what the line's readings say, by the standard's windows.
-use Rattle.std.proofs.Common.{◌≡◌, ℕ, ◌<◌, ◌≤◌, Bool, false, List, Some}
+use Rattle.std.proofs.Common.{◌≡◌, ℕ, ◌<◌, ◌≤◌, Bool, false, Some}
 use Rattle.cec_wave.specs.Line.{Line, was_low}
 use Rattle.cec_frame.specs.declared.Ending.{Ending}
-use Rattle.cec_bits.specs.declared.receiver.ReceiverState.{ReceiverState}
 use Rattle.cec_bits.specs.declared.receiver.Told.{Told}
 use Rattle.cec_bits.specs.declared.receiver.Told.TheVariants.{Nothing, Ended}
 use Rattle.cec_bits.specs.Hears.{Hears, reported_so, rest, hear_in, hears, wake_of, wakes_left}

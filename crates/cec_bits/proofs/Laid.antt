@@ -3,9 +3,8 @@ use Rattle.std.proofs.Common.{◌≡◌, ℕ, zero, suc, ◌+◌, ◌-◌, ◌*�
 use Rattle.std.proofs.lemmas.Bool.{cases_lt}
 use Rattle.std.proofs.lemmas.Bool.Decides.{nat_tests}
 use Rattle.cec_wave.specs.Line.{line_of, covers}
-use Rattle.cec_wave.specs.Sender.{slot_stretches, sender_stretches}
+use Rattle.cec_wave.specs.Sender.{low_of, slot_stretches, sender_stretches}
 use Rattle.cec_frame.specs.Bits.{block_bits, frame_bits}
-use Rattle.cec_bits.specs.Sends.{low_of}
 use Rattle.cec_bits.specs.Sending.{IsNextChange, RisesAt}
 
 -- ---- in the slots

@@ -16,17 +16,17 @@ use Rattle.cec_bits.specs.Windows.{standard, sample_at}
 use Rattle.cec_bits.specs.Reading.{first_in, next_fall, Read, Slot, known_at, known_slot, known_slots, reading_of, read_start, read_slots, read_on, after_slot, after_fall, after_last, last_ending, sample, bit_sampled_at, start_of, bits_of, reported_of, After}
 use Rattle.cec_bits.specs.Readings.{Listed, reading_from, listed_on, readings_from, readings_of, IsFirstFall}
 use Rattle.cec_bits.specs.Ended.{has_ended, ended_by}
-use Rattle.cec_bits.specs.Hears.{Hears, Heard, hear_in, hears, wake_of}
+use Rattle.cec_bits.specs.Hears.{hear_in, hears}
 use Rattle.cec_bits.specs.Kept.{Sample, sample_in, reported_with, reported_in, reported_at, kept_of, kept_before}
 use Rattle.cec_bits.specs.Sending.{known_bits}
-use Rattle.cec_bits.specs.Reports.{ends_with, running_by, ended_of, ended_before, EndingsAreReported, RunningIsKept}
+use Rattle.cec_bits.specs.Reports.{ends_with, running_by, ended_of, EndingsAreReported, RunningIsKept}
 use Rattle.cec_bits.proofs.Search.{first_in_none, first_in_some, found_first, found_none}
 use Rattle.cec_bits.proofs.Causes.{not_over}
 use Rattle.cec_bits.proofs.Ends.{at_by, begin_by, ends_after, slots_until}
 use Rattle.cec_bits.proofs.Lists.{none_left}
 use Rattle.cec_bits.proofs.OneByOne.{same_reported, keep_all}
-use Rattle.cec_bits.proofs.Stood.{ArePast, past_later, past_more, HasBegun, AtRest, StandsIn, runs_in, KnowsEnd, step, stands_at, was_now}
-use Rattle.cec_bits.proofs.Keeping.{kept_heard, before_heard, reported_heard, running_knows}
+use Rattle.cec_bits.proofs.Stood.{ArePast, past_later, past_more, HasBegun, AtRest, StandsIn, runs_in, KnowsEnd, step, stands_at}
+use Rattle.cec_bits.proofs.Keeping.{kept_heard, reported_heard, running_knows}
 
 -- ---- all bits of a reading that is over are known
 

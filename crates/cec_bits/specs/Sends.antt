@@ -26,7 +26,3 @@ by_reported sent (Ended ending) = Stopped
 abbrev pub after_reported : List Bool → SenderState → Told → SenderState
 after_reported sent Sending reported = by_reported sent reported
 after_reported sent state reported = state
-
--- how long it is low in a slot of this bit
-abbrev pub low_of : Bool → ℕ
-low_of bit = if bit then 600 else 1500

@@ -48,10 +48,10 @@ pub struct Sender {
 impl Sender {
     ghost use Rattle.std.specs.Prelude.{◌&&◌, true, Option};
     ghost use Rattle.cec_wave.specs.Line.{line_of};
-    ghost use Rattle.cec_wave.specs.Sender.{slot_stretches, sender_stretches};
+    ghost use Rattle.cec_wave.specs.Sender.{low_of, slot_stretches, sender_stretches};
     ghost use Rattle.cec_frame.specs.Bits.{frame_bits};
     ghost use Rattle.cec_bits.specs.Sending.{SenderStood, Hears, StopsAt, PullsSo, ShowsState, IsNextChange, RisesAt, pull_of, stopped_pull, may_pull};
-    ghost use Rattle.cec_bits.specs.Sends.{low_of, takes_all, is_out_there, after_reported};
+    ghost use Rattle.cec_bits.specs.Sends.{takes_all, is_out_there, after_reported};
 
     /// The same sender again.
     pub fn copy(&self) -> Self

@@ -1,12 +1,13 @@
 -- How late a wire may still have something to hear.
-use Rattle.std.proofs.Common.{◌≡◌, ℕ, suc, ◌+◌, ◌-◌, ◌<◌, ◌≤◌, Bool, true, false, not, ◌&&◌, ◌||◌, nat_lt, nat_le, ◌⊎◌, inl, inr, List, [], ◌∷◌, ◌++◌, append-nil, Option, Some, None, is_some, is_none, refl, arith, ap, ◌∙◌, sym, subst}
-use Rattle.std.specs.List.{list_any, All}
+use Rattle.std.proofs.Common.{◌≡◌, ℕ, ◌+◌, ◌-◌, ◌<◌, ◌≤◌, Bool, true, false, not, ◌&&◌, nat_lt, nat_le, ◌⊎◌, inl, inr, List, [], ◌++◌, append-nil, Option, Some, None, is_some, refl, arith, ap, ◌∙◌, sym, subst}
+use Rattle.std.specs.List.{All}
 use Rattle.std.proofs.lemmas.Bool.{cases_lt}
 use Rattle.std.proofs.lemmas.Bool.Decides.{nat_tests}
 use Rattle.cec_wave.specs.declared.Stretch.{Stretch}
-use Rattle.cec_wave.specs.Line.{Line, line_of, covers, was_low, IsWave}
+use Rattle.cec_wave.specs.Line.{Line, covers, IsWave}
 use Rattle.cec_wave.specs.Pulses.{AreSparse}
 use Rattle.cec_wave.specs.Bounds.{latest_heard}
+use Rattle.cec_wave.specs.Sender.{first_slot}
 use Rattle.cec_bits.specs.Reading.{reading_of}
 use Rattle.cec_wire.specs.declared.Seat.{Seat}
 use Rattle.cec_one_wire.specs.declared.reading.Ended.{Ended as Ending_kept}
@@ -14,9 +15,9 @@ use Rattle.cec_wire.specs.Round.{IsRoundLine}
 use Rattle.cec_wire.proofs.Bounds.{rounds_are_short}
 use Rattle.cec_wire.proofs.Early.{and_right}
 use Rattle.cec_wire.proofs.Law.{all_in}
-use Rattle.cec_wire.proofs.Still.{high_after, pulse_only}
+use Rattle.cec_wire.proofs.Still.{high_sparse, pulse_only}
 use Rattle.cec_one_wire.specs.declared.edge_wire.EdgeWire.{EdgeWire}
-use Rattle.cec_one_wire.specs.Line.{EndsInTime}
+use Rattle.cec_wave.specs.Pulls.{EndsInTime}
 use Rattle.cec_one_wire.specs.Told.{told_of}
 use Rattle.cec_one_wire.specs.Turns.{IsCalm}
 use Rattle.cec_one_wire.specs.Wire.{IsRead}
@@ -36,7 +37,7 @@ low_by_pull seats begin pulses low line P all u l h =
 
 -- and with sparse pulses it is high
 sparse_high : (seats : List Seat) (begin : ℕ) (pulses : List Stretch) (low : Line) → IsRoundLine seats begin pulses low → AreSparse pulses → (u : ℕ) → begin + 458461 ≤ u → low u ≡ false
-sparse_high seats begin pulses low line sparse u l = high_after seats begin pulses low line sparse u (omega (arith, l, ends low begin))
+sparse_high seats begin pulses low line sparse u l = high_sparse seats begin pulses low line sparse u (omega (arith, l, ends low begin))
 
 -- ---- of a wire
 
@@ -96,7 +97,7 @@ goes_near past w b goes = elim (cases_lt (w.begin + 470000) w.time) [
 ]
 
 -- and up to the next wake
-pub waits_near : (past : List Stretch) (w : EdgeWire) (t : ℕ) → IsBegunWith past w → is_silent_in w ≡ false → w.time ≤ t → t ≤ w.time + 4500 → pulls_in w ≡ is_low_in w → EachLine w.seats.items w.begin past t (IsCalm w t) → t < latest_heard
+pub waits_near : (past : List Stretch) (w : EdgeWire) (t : ℕ) → IsBegunWith past w → is_silent_in w ≡ false → w.time ≤ t → t ≤ w.time + first_slot → pulls_in w ≡ is_low_in w → EachLine w.seats.items w.begin past t (IsCalm w t) → t < latest_heard
 waits_near past w t b goes le near same calm = elim (cases_lt (w.begin + 470000) w.time) [
   | inr ge ↦ omega (arith, ge, b.early, near)
   | inl lt ↦ (elim (cases_lt w.time t) [

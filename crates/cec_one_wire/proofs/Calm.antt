@@ -7,11 +7,14 @@ use Rattle.cec_bits.specs.declared.receiver.ReceiverState.TheVariants.{StartLow}
 use Rattle.cec_frame.specs.declared.Ending.TheVariants.{BadStart}
 use Rattle.cec_bits.specs.declared.receiver.Told.TheVariants.{Nothing, Ended}
 use Rattle.cec_bits.specs.Hears.{Hears, Heard, heard_by, wake_of, hear_in, hears, hears_with, reported_so, starts}
+use Rattle.cec_bits.specs.declared.receiver.Receiver.{Receiver}
+use Rattle.cec_bits.specs.Follows.{StoodBefore}
 use Rattle.cec_one_wire.specs.Listening.{IsReadOnce}
-use Rattle.cec_one_wire.specs.Told.{is_high_for, told_of, ToldStays, ToldNow}
+use Rattle.cec_one_wire.specs.Told.{is_high_for, told_of}
 use Rattle.cec_one_wire.proofs.First.{begins_so}
 use Rattle.cec_one_wire.proofs.Told.{and_no, or_no, was_is, all_high, told_since, told_low, told_late}
 use Rattle.cec_one_wire.proofs.Lows.{before_heard}
+use Rattle.cec_one_wire.specs.Wire.{ToldSo}
 
 -- a receiver that is told low since the begin waits for the start bit's rise
 pub start_stays : (told : Line) (begin k : ℕ) → IsReadOnce told begin → begin + 1 + k ≤ begin + 3901 → ((u : ℕ) → begin ≤ u → u < begin + 1 + k → told u ≡ true)
@@ -44,7 +47,9 @@ high_longer low from n zero h = ap (is_high_for low from) (let x : n + zero ≡ 
 high_longer low from n (suc m) h =
     ap (is_high_for low from) (let x : n + suc m ≡ suc (n + m) = omega arith in x) ∙ ap (λ b. not (low (from + (n + m))) && b) (high_longer low from n m h) ∙ and_no (not (low (from + (n + m))))
 
-pub told_stays : ToldStays
+-- As long as the line stays as it was, so does what the receiver is told, up to the receiver's wake.
+pub told_stays : (low : ℕ → Bool) (begin : ℕ) (r : Receiver) (t w : ℕ) → IsReadOnce (told_of low begin) begin → StoodBefore r (told_of low begin) t → begin < t → ((n : ℕ) → wake_of (heard_by r) ≡ Some n → w ≤ n)
+    → ToldSo low (told_of low begin) r.was_low t w
 told_stays low begin r t w once stood from wakes u a b calm = by_high (is_high_for low begin (t - begin)) refl
   where
     was : told_of low begin (t - 1) ≡ r.was_low
@@ -98,7 +103,9 @@ told_stays low begin r t w once stood from wakes u a b calm = by_high (is_high_f
     by_high true h = by_time h (cases_lt u (begin + 3901)) late_or
     by_high false h = since h
 
-pub told_now : ToldNow
+-- Where the line changes, or the receiver wakes, the receiver is told what the line does.
+pub told_now : (low : ℕ → Bool) (begin : ℕ) (r : Receiver) (t : ℕ) → IsReadOnce (told_of low begin) begin → StoodBefore r (told_of low begin) t → begin < t
+    → (low t ≡ not (was_low low t)) ⊎ (wake_of (heard_by r) ≡ Some t) → told_of low begin t ≡ low t
 told_now low begin r t once stood from why = by_high (is_high_for low begin (t - begin)) refl
   where
     high_to : is_high_for low begin (t - begin) ≡ true → (v : ℕ) → begin ≤ v → v < t → low v ≡ false

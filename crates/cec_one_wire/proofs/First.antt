@@ -1,9 +1,10 @@
 -- The first microsecond of a round.
-use Rattle.std.proofs.Common.{◌≡◌, ℕ, zero, suc, ◌+◌, ◌-◌, ◌<◌, ◌≤◌, Bool, true, false, not, ◌&&◌, ◌||◌, nat_lt, nat_le, List, [], ◌∷◌, ◌++◌, Option, Some, None, refl, arith, ap, ◌∙◌, sym}
+use Rattle.std.proofs.Common.{◌≡◌, ℕ, zero, suc, ◌+◌, ◌-◌, ◌<◌, ◌≤◌, Bool, true, false, not, ◌&&◌, ◌||◌, nat_lt, nat_le, List, [], ◌∷◌, ◌++◌, Option, Some, None, refl, arith, ap, ◌∙◌, sym, All}
 use Rattle.std.specs.List.{list_any, filter_map, cons_option}
 use Rattle.std.proofs.lemmas.Bool.Decides.{nat_tests}
-use Rattle.cec_wave.specs.Line.{Line, line_of, was_low}
+use Rattle.cec_wave.specs.Line.{Line, line_of, was_low, IsWave}
 use Rattle.cec_wave.specs.Sender.{sender_stretches}
+use Rattle.cec_wave.specs.declared.Stretch.{Stretch}
 use Rattle.cec_frame.specs.Bits.{frame_bits}
 use Rattle.cec_bits.specs.declared.receiver.ReceiverState.TheVariants.{StartLow}
 use Rattle.cec_bits.specs.declared.sender.Sender.{Sender}
@@ -15,14 +16,18 @@ use Rattle.cec_bits.specs.Kept.{kept_before}
 use Rattle.cec_bits.specs.Sending.{out_slot, state_by, state_before, may_pull, pull_of, sender_pulls, SenderStood}
 use Rattle.cec_bits.proofs.Causes.{nothing, known_start_low}
 use Rattle.cec_bits.proofs.Ends.{ends_after}
+use Rattle.cec_bits.specs.declared.receiver.Receiver.{Receiver}
+use Rattle.cec_bits.specs.declared.receiver.Told.{Told}
 pub use Rattle.cec_bits.proofs.Stood.{was_now}
 use Rattle.cec_wire.specs.declared.Seat.{Seat}
-use Rattle.cec_wire.specs.Round.{frames_of, pulled_by}
+use Rattle.cec_wire.specs.Round.{frames_of, pulled_by, IsRoundLine}
 use Rattle.cec_one_wire.specs.Listening.{IsReadOnce, IsSenderOf, SendsFor, AreBegun, AreSenders, IsSending, AreSending}
-use Rattle.cec_one_wire.specs.Pulls.{pull_in, takes_last, held_in}
-use Rattle.cec_one_wire.specs.Told.{FirstLow, FirstTick}
+use Rattle.cec_one_wire.specs.Pulls.{pull_in, takes_last, held_in, low_in}
+use Rattle.cec_one_wire.specs.Told.{FirstTicked}
 use Rattle.cec_one_wire.proofs.Lows.{pulls_by_last, was_high, before_heard}
 use Rattle.cec_one_wire.proofs.Told.{high_before}
+use Rattle.cec_one_wire.specs.Line.{HaveBegun}
+use Rattle.cec_one_wire.specs.Wire.{IsAt}
 
 -- ---- senders that begin
 
@@ -70,7 +75,10 @@ was_off low begin (suc n) h l = ap (λ b. nat_lt 0 (suc n) && b) (h (suc n - 1) 
     and_no true = refl
     and_no false = refl
 
-pub first_low : FirstLow
+-- In the round's first microsecond nothing is known yet: the line is low where a sender or a pull begins.
+pub first_low : (seats : List Seat) (begin : ℕ) (past later : List Stretch) (last : Option Stretch) (senders : List (Option Sender)) (low : ℕ → Bool) (w : ℕ)
+    → IsWave (past ++ later) → IsRoundLine seats begin (past ++ later) low → All (λ p. w ≤ p.from) later → begin < w → HaveBegun begin past last begin
+    → AreBegun seats begin senders → low begin ≡ low_in senders last begin 0 false begin
 unfolding nothing
 first_low seats begin past later last senders low w wave line far near begun h =
     line begin
@@ -117,7 +125,9 @@ begun_sends [] low begin (x ∷ os) h = absurd h
 begun_sends (y ∷ seats) low begin [] h = absurd h
 begun_sends (y ∷ seats) low begin (x ∷ os) h = (one_sends y low begin x h.0, begun_sends seats low begin os h.1)
 
-pub first_tick : FirstTick
+-- And after it the wire stands.
+pub first_tick : (seats : List Seat) (begin : ℕ) (r new : Receiver) (reported : Told) (senders : List (Option Sender)) (low : ℕ → Bool)
+    → IsReadOnce low begin → FirstTicked begin r new reported → AreBegun seats begin senders → IsAt seats begin new senders [] None 0 low (begin + 1)
 first_tick seats begin r new reported senders low once k h = record {
   from = omega arith;
   once = once;

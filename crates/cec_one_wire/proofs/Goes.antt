@@ -1,7 +1,8 @@
 -- The wire goes from microsecond to microsecond.
-use Rattle.std.proofs.Common.{◌≡◌, ℕ, zero, suc, ◌+◌, ◌==◌, ◌<◌, ◌≤◌, Bool, true, false, nat_lt, if◌then◌else◌, List, Option, Some, None, refl, arith, ap, ◌∙◌, sym, subst}
+use Rattle.std.proofs.Common.{◌≡◌, ℕ, zero, suc, ◌+◌, ◌==◌, ◌<◌, ◌≤◌, Bool, true, false, nat_lt, if◌then◌else◌, List, ◌++◌, Option, Some, None, refl, arith, ap, ◌∙◌, sym, subst, All}
 use Rattle.std.proofs.lemmas.Bool.Decides.{nat_tests}
-use Rattle.cec_wave.specs.Line.{Line, was_low}
+use Rattle.cec_wave.specs.Line.{Line, was_low, IsWave}
+use Rattle.cec_wave.specs.declared.Stretch.{Stretch}
 use Rattle.cec_bits.specs.declared.receiver.Receiver.{Receiver}
 use Rattle.cec_bits.specs.declared.receiver.Told.TheVariants.{Nothing}
 use Rattle.cec_bits.specs.declared.sender.Sender.{Sender}
@@ -11,11 +12,13 @@ use Rattle.cec_bits.specs.Reading.{End, known_at, reading_of}
 use Rattle.cec_bits.specs.Kept.{Sample, kept_before, reported_with, reported_in, reported_at, sample_in}
 use Rattle.cec_bits.proofs.Following.{stood_calm, once_so}
 use Rattle.cec_wire.specs.declared.Seat.{Seat}
+use Rattle.cec_wire.specs.Round.{IsRoundLine}
 use Rattle.cec_one_wire.specs.Listening.{IsReadOnce}
-use Rattle.cec_one_wire.specs.Pulls.{Stands, until_of, IsHeld}
-use Rattle.cec_one_wire.specs.Wire.{IsRead, IsAt, until_by, LowIsFound, CalmStays, CalmTo}
+use Rattle.cec_one_wire.specs.Pulls.{Stands, until_of, IsHeld, low_in}
+use Rattle.cec_one_wire.specs.Wire.{IsRead, IsAt, until_by}
 use Rattle.cec_one_wire.proofs.Standing.{all_later, until_by as until_at}
 use Rattle.cec_one_wire.proofs.Lows.{low_is_heard, due_is_heard, held_when_due, runs_in_it}
+use Rattle.cec_one_wire.specs.Line.{HaveBegun}
 
 over_known : (low : Line) (begin t : ℕ) (end : End) → (reading_of low begin).at < t → end ≡ record { ending = (reading_of low begin).ending; at = (reading_of low begin).at; until = (reading_of low begin).until }
     → until_of (known_at t (reading_of low begin)).ended t ≡ end.until
@@ -41,7 +44,11 @@ stands_so seats begin r senders bits (Some end) held low t s = record {
   held_is = s.read.3 t (omega arith);
 }
 
-pub low_is_found : LowIsFound
+-- The next microsecond's low, as the wire finds it, is that of each line that the round can have.
+pub low_is_found : (seats : List Seat) (begin : ℕ) (past later : List Stretch) (last : Option Stretch) (r : Receiver) (senders : List (Option Sender)) (bits : List Bool) (ended : Option End) (held : ℕ) (low told : ℕ → Bool) (t w : ℕ)
+    → IsWave (past ++ later) → IsRoundLine seats begin (past ++ later) low → All (λ p. w ≤ p.from) later → t < w → HaveBegun begin past last t
+    → reading_of told begin ≡ reading_of low begin → IsAt seats begin r senders bits ended held told t
+    → low t ≡ low_in senders last (until_by r ended t) held (was_low low t) t
 low_is_found seats begin past later last r senders bits ended held low told t w wave line far near begun reads s =
     low_is_heard seats begin past later last senders (until_by r ended t) held low told t w wave line far near begun reads (stands_so seats begin r senders bits ended held told t s)
 
@@ -68,7 +75,10 @@ read_stays : (seats : List Seat) (begin : ℕ) (r : Receiver) (bits : List Bool)
 read_stays seats begin r bits None held low t once from none h = (let x = not_at low begin t once from h.0 none in omega (arith, x), h.1, h.2)
 read_stays seats begin r bits (Some end) held low t once from none h = (omega (arith, h.0), h.1, h.2, λ u l. h.3 u (omega (arith, l)))
 
-pub calm_stays : CalmStays
+-- Where the line stays as it was and the receiver does not wake, the wire stands a microsecond later as it does.
+pub calm_stays : (seats : List Seat) (begin : ℕ) (r : Receiver) (senders : List (Option Sender)) (bits : List Bool) (ended : Option End) (held : ℕ) (low : ℕ → Bool) (t : ℕ)
+    → IsAt seats begin r senders bits ended held low t → low t ≡ r.was_low → ((w : ℕ) → wake_of (heard_by r) ≡ Some w → t < w)
+    → IsAt seats begin r senders bits ended held low (t + 1)
 calm_stays seats begin r senders bits ended held low t s same wakes = record {
   from = omega (arith, s.from);
   once = s.once;
@@ -90,7 +100,10 @@ calm_stays seats begin r senders bits ended held low t s same wakes = record {
     c : (heard_by r ≡ kept_before low (t + 1)) × (r.was_low ≡ was_low low (t + 1))
     c = stood_calm (heard_by r) r.was_low low t (t + 1) s.stood.keeps s.stood.level (omega arith) calm wake
 
-pub calm_to : CalmTo
+-- Where the line has no edge before an instant and the receiver does not wake before it, the wire stands there as it does.
+pub calm_to : (seats : List Seat) (begin : ℕ) (r : Receiver) (senders : List (Option Sender)) (bits : List Bool) (ended : Option End) (held : ℕ) (low : ℕ → Bool) (t n : ℕ)
+    → IsAt seats begin r senders bits ended held low t → ((u : ℕ) → t ≤ u → u < t + n → low u ≡ r.was_low) → ((w : ℕ) → wake_of (heard_by r) ≡ Some w → t + n ≤ w)
+    → IsAt seats begin r senders bits ended held low (t + n)
 calm_to seats begin r senders bits ended held low t zero s calm wake = subst (λ m. IsAt seats begin r senders bits ended held low m) (let x : t ≡ t + zero = omega arith in x) s
 calm_to seats begin r senders bits ended held low t (suc n) s calm wake =
     subst (λ m. IsAt seats begin r senders bits ended held low m) (let x : t + n + 1 ≡ t + suc n = omega arith in x)

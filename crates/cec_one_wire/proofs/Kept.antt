@@ -1,6 +1,7 @@
 -- What the senders do is kept for as long as it lasts.
 use Rattle.std.proofs.Common.{◌≡◌, ℕ, ◌+◌, ◌<◌, ◌≤◌, nat_lt, List, Option, arith, ap, ◌∙◌, sym, subst}
 use Rattle.std.specs.List.{list_any}
+use Rattle.cec_wave.specs.Sender.{first_slot}
 use Rattle.cec_bits.specs.declared.sender.Sender.{Sender}
 use Rattle.cec_one_wire.specs.declared.edge_wire.EdgeWire.{EdgeWire}
 use Rattle.cec_one_wire.specs.declared.senders.Places.{Places}
@@ -17,7 +18,7 @@ low_of_slice senders slice t rise until e low u a b = ap (λ (os : List (Option 
 pub stand_in : (places : Places) (senders slice : List (Option Sender)) → slice ≡ senders → StandIn places slice → StandIn places senders
 stand_in places senders slice e h = subst (λ (os : List (Option Sender)). StandIn places os) e h
 
-pub kept_made : (w : EdgeWire) (slice : List (Option Sender)) → slice ≡ w.senders.items → w.pull.until ≤ w.time + 4500 → IsLowTo slice w.time w.pull.rise w.pull.until → StandIn w.places w.senders.items → IsKept w
+pub kept_made : (w : EdgeWire) (slice : List (Option Sender)) → slice ≡ w.senders.items → w.pull.until ≤ w.time + first_slot → IsLowTo slice w.time w.pull.rise w.pull.until → StandIn w.places w.senders.items → IsKept w
 kept_made w slice e near low places = record { low = low_of_slice w.senders.items slice w.time w.pull.rise w.pull.until e low; near = near; places = places }
 
 -- at a later instant

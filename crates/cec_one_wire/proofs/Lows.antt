@@ -25,13 +25,13 @@ use Rattle.cec_bits.proofs.Stood.{StandsIn, Knows, runs_in, stands_at}
 pub use Rattle.cec_bits.proofs.Keeping.{one_runs, before_heard, reported_heard, running_knows, runs_so}
 use Rattle.cec_bits.proofs.Sent.{pulls_so}
 use Rattle.cec_wire.specs.declared.Seat.{Seat}
-use Rattle.cec_wire.specs.Round.{frames_of, is_within, pulse_pulls, is_acknowledged, is_broken, pulled_by}
-use Rattle.cec_wire.specs.Machine.{acks_until}
+use Rattle.cec_wire.specs.Round.{frames_of, is_within, pulse_pulls, is_acknowledged, is_broken, pulled_by, IsRoundLine}
+use Rattle.cec_wire.specs.Machine.{acks_until, sends_after}
 use Rattle.cec_wire.proofs.Holding.{acks_now}
 use Rattle.cec_wire.proofs.Walk as wire
 use Rattle.cec_one_wire.specs.Listening.{IsReadOnce, AreSenders, AreSending, SendsFor, IsSending}
 use Rattle.cec_one_wire.specs.Line.{last_of, HaveBegun}
-use Rattle.cec_one_wire.specs.Pulls.{pull_in, until_of, takes_last, low_in, LowIsHeard, BitsAreHeard, due_in, DueIsHeard, is_on, SendingIsHeard, IsHeld, held_in, HeldIsHeard, HeldWhenDue}
+use Rattle.cec_one_wire.specs.Pulls.{pull_in, until_of, takes_last, low_in, due_in, is_on, IsHeld, held_in, Stands}
 
 -- ---- the last pull that began
 
@@ -121,7 +121,11 @@ within_so : (ended : Option End) (t : ℕ) → is_within ended t ≡ nat_le t (u
 within_so None t = let e : true ≡ nat_le t t = grind (arith, nat_tests) in e
 within_so (Some end) t = refl
 
-pub low_is_heard : LowIsHeard
+-- `told` is what the receiver is told of that line, which is read as the line is
+pub low_is_heard : (seats : List Seat) (begin : ℕ) (past later : List Stretch) (last : Option Stretch) (senders : List (Option Sender)) (until held : ℕ) (low told : ℕ → Bool) (t w : ℕ)
+    → IsWave (past ++ later) → IsRoundLine seats begin (past ++ later) low → All (λ p. w ≤ p.from) later → t < w → HaveBegun begin past last t
+    → reading_of told begin ≡ reading_of low begin → Stands seats begin senders until held told t
+    → low t ≡ low_in senders last until held (was_low low t) t
 low_is_heard seats begin past later last senders until held low told t w wave line far near begun reads s =
     line t
     ∙ ap (λ (r : Read). pulled_by (frames_of seats) seats begin (past ++ later) (was_low low t) (known_at t r) t) (sym reads)
@@ -167,7 +171,9 @@ begin_is StartHigh begin b e = cc
 begin_is Unsampled begin b e = cc
 begin_is Sampled begin b e = cc
 
-pub bits_are_heard : BitsAreHeard
+-- while the reading runs, the receiver's bits are those that are known, and none of its endings has all blocks
+pub bits_are_heard : (r : Receiver) (low : ℕ → Bool) (begin t : ℕ) → IsReadOnce low begin → StoodBefore r low t → begin < t → t ≤ (reading_of low begin).at
+    → (known_bits (known_at t (reading_of low begin)) ≡ r.bits.items) × (is_whole (known_at t (reading_of low begin)).ended ≡ false)
 unfolding read_slots
 bits_are_heard r low begin t once stood from runs =
     let k = knows_there low begin t once from runs in
@@ -221,7 +227,9 @@ due_at low t Sampled begin fall bits b s e = by_due (t == fall + 2751) refl
         (known_in_slot low begin t fall s.slot.left s.slot.xs s.before s.slot.reached.goes (over_sampled fall t s.slot.xs (omega (arith, s.slot.after)) s.slot.reached.over) s.slot.after s.slot.quiet l
         (λ w. let x : IsSome {T = Ending} None = subst (λ (o : Option Ending). IsSome o) s.plain w in cc))
 
-pub due_is_heard : DueIsHeard
+-- what is known of the ending, as long as none was told, is what the receiver's next wake says
+pub due_is_heard : (r : Receiver) (low : ℕ → Bool) (begin t : ℕ) → IsReadOnce low begin → StoodBefore r low t → begin < t → t ≤ (reading_of low begin).at
+    → until_of (known_at t (reading_of low begin)).ended t ≡ (if due_in r.place r.begin r.fall t then t - 1 else t)
 due_is_heard r low begin t once stood from runs =
     let h = runs_there low begin t once from runs in
     let b = begin_is (hears low t).place (hears low t).begin begin h in
@@ -236,7 +244,9 @@ on_by : (o : Option ℕ) → is_on (state_by o false) ≡ is_none o
 on_by None = refl
 on_by (Some slot) = refl
 
-pub sending_is_heard : SendingIsHeard
+-- a sender goes on exactly where the receiver's bits do not tell it to stop
+pub sending_is_heard : (r : Receiver) (s : Sender) (low : ℕ → Bool) (begin t : ℕ) → IsReadOnce low begin → StoodBefore r low t → begin < t → t ≤ (reading_of low begin).at
+    → SenderStood s low t → s.begin ≡ begin → is_on s.state ≡ sends_after r.bits.items (Some s.frame)
 sending_is_heard r s low begin t once stood from runs h b =
     let k = bits_are_heard r low begin t once stood from runs in
     ap is_on (h.state ∙ ap (λ n. state_by (out_by (known_bits (known_at t (reading_of low n))) (is_whole (known_at t (reading_of low n)).ended) (frame_bits s.frame)) (nat_lt (reading_of low n).at t)) b)
@@ -313,7 +323,9 @@ held_there seats low t StartHigh begin fall bits b s e d = held_at seats low t S
 held_there seats low t Unsampled begin fall bits b s e d = held_at seats low t Unsampled begin fall bits b s e (λ x. cc) d
 held_there seats low t Sampled begin fall bits b s e d = held_sampled seats low t begin fall bits s d
 
-pub held_is_heard : HeldIsHeard
+-- that is what the round's rule says, while the reading runs and is not due to end for want of a fall
+pub held_is_heard : (seats : List Seat) (r : Receiver) (low : ℕ → Bool) (begin t : ℕ) → IsReadOnce low begin → StoodBefore r low t → begin < t → t ≤ (reading_of low begin).at
+    → due_in r.place r.begin r.fall t ≡ false → IsHeld seats low begin t (held_in seats r.place r.fall r.bits.items)
 held_is_heard seats r low begin t once stood from runs d =
     let h = runs_there low begin t once from runs in
     let b = begin_is (hears low t).place (hears low t).begin begin h in
@@ -367,7 +379,9 @@ held_due seats low t StartHigh begin fall bits s d = held_bad seats low t begin 
 held_due seats low t Unsampled begin fall bits s d = cc
 held_due seats low t Sampled begin fall bits s d = held_silent seats low t begin fall bits s (let x : t ≡ fall + 2751 = grind (arith, nat_tests) in x)
 
-pub held_when_due : HeldWhenDue
+-- and where it is due, too: an ending for want of a fall makes nobody pull
+pub held_when_due : (seats : List Seat) (r : Receiver) (low : ℕ → Bool) (begin t : ℕ) → IsReadOnce low begin → StoodBefore r low t → begin < t → t ≤ (reading_of low begin).at
+    → IsHeld seats low begin t (held_in seats r.place r.fall r.bits.items)
 held_when_due seats r low begin t once stood from runs = by_due (due_in r.place r.begin r.fall t) refl
   where
     by_due : (d : Bool) → due_in r.place r.begin r.fall t ≡ d → IsHeld seats low begin t (held_in seats r.place r.fall r.bits.items)

@@ -1,5 +1,5 @@
 -- How many stretches a line of one reading has.
-use Rattle.std.proofs.Common.{◌≡◌, ℕ, zero, suc, ◌+◌, ◌≤◌, true, false, not, List, [], ◌∷◌, length, map, inl, inr, refl, arith, ap, ◌∙◌, sym}
+use Rattle.std.proofs.Common.{◌≡◌, ℕ, zero, suc, ◌+◌, ◌≤◌, true, false, not, List, [], ◌∷◌, length, map, inl, inr, refl, arith, ap, ◌∙◌, sym, Bool}
 use Rattle.std.specs.List.{All}
 use Rattle.std.proofs.lemmas.Bool.{cases_lt}
 use Rattle.cec_wave.specs.declared.Stretch.{Stretch}
@@ -8,7 +8,9 @@ use Rattle.cec_bits.specs.Reading.{reading_of}
 use Rattle.cec_wire.specs.Falls.{AreRisingFrom}
 use Rattle.cec_wire.proofs.Early.{and_left}
 use Rattle.cec_wire.proofs.AnyFalls.{falls_are_read}
-use Rattle.cec_one_wire.specs.Told.{IsLone, RoomIsLeft}
+use Rattle.cec_wire.specs.Round.{IsRoundLine}
+use Rattle.cec_wire.specs.declared.Seat.{Seat}
+use Rattle.cec_one_wire.specs.Told.{IsLone}
 use Rattle.cec_one_wire.proofs.Told.{round_is_lone}
 
 after_begin : (low : Line) (begin u : ℕ) → IsLone low begin → is_fall low u ≡ true → begin ≤ u
@@ -40,7 +42,8 @@ length-begins : (ss : List Stretch) → length (map (λ s. s.from) ss) ≡ lengt
 length-begins [] = refl
 length-begins (s ∷ ss) = ap suc (length-begins ss)
 
-pub room_is_left : RoomIsLeft
+-- Such a line has room in a wave: it falls where a slot of its one reading falls, and nowhere else.
+pub room_is_left : (seats : List Seat) (begin : ℕ) (pulses : List Stretch) (low : ℕ → Bool) (wave : List Stretch) → IsRoundLine seats begin pulses low → IsWave wave → All (λ s. is_fall low s.from ≡ true) wave → length wave ≤ 162
 room_is_left seats begin pulses low wave line w f =
     let lone = round_is_lone seats begin pulses low line in
     omega (arith, length-begins wave, falls_are_read low begin (map (λ s. s.from) wave) (from_begin low begin wave lone w f) (all_read low begin wave lone f))

@@ -8,12 +8,14 @@ use Rattle.cec_wave.specs.declared.Edge.{Edge}
 use Rattle.cec_wave.specs.Line.{Line, was_low, is_fall, IsWave, IsWaveFrom}
 use Rattle.cec_wave.specs.Bounds.{latest_heard}
 use Rattle.cec_wave.specs.Pulses.{AreSparse, AreFarApart, IsNarrow}
+use Rattle.cec_wave.specs.Sender.{first_slot}
 use Rattle.cec_bits.specs.Reading.{Read, reading_of}
 use Rattle.cec_wire.specs.declared.Seat.{Seat}
 use Rattle.cec_one_wire.specs.declared.reading.Ended.{Ended as Ending_kept}
 use Rattle.cec_wire.specs.Round.{IsRoundLine}
 use Rattle.cec_one_wire.specs.declared.edge_wire.EdgeWire.{EdgeWire}
-use Rattle.cec_one_wire.specs.Line.{EndsInTime, last_of}
+use Rattle.cec_wave.specs.Pulls.{EndsInTime}
+use Rattle.cec_one_wire.specs.Line.{last_of}
 use Rattle.cec_one_wire.specs.Steps.{EdgeBy}
 use Rattle.cec_one_wire.specs.Told.{told_of}
 use Rattle.cec_one_wire.specs.Turns.{IsCalm, Takes}
@@ -178,7 +180,7 @@ pub record Turns (w : EdgeWire) (next : Option Stretch) (v x y : EdgeWire) (edge
   pub waits : v ≡ record w { time = v.time }
   pub goes : is_silent_in w ≡ false
   pub waits_later : w.time ≤ v.time
-  pub waits_near : v.time ≤ w.time + 4500
+  pub waits_near : v.time ≤ w.time + first_slot
   pub waits_next : IfSome next (λ p. v.time ≤ p.from)
   pub waits_stands : (past : List Stretch) → IsBegunWith past w → IsBegunWith past v × EachOf past v (IsCalm w v.time)
   pub takes : Takes v next x

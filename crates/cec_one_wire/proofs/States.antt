@@ -1,5 +1,5 @@
 -- What the senders' states say.
-use Rattle.std.proofs.Common.{◌≡◌, ℕ, zero, suc, ◌+◌, ◌==◌, ◌<◌, ◌≤◌, Bool, true, false, not, ◌&&◌, ◌||◌, nat_lt, nat_le, if◌then◌else◌, List, [], ◌∷◌, ◌++◌, length, Option, Some, None, refl, arith, ap, ◌∙◌, sym, subst}
+use Rattle.std.proofs.Common.{◌≡◌, ◌≢◌, ℕ, zero, suc, ◌+◌, ◌==◌, ◌<◌, ◌≤◌, Bool, true, false, not, ◌&&◌, ◌||◌, nat_lt, nat_le, if◌then◌else◌, List, [], ◌∷◌, ◌++◌, length, Option, Some, None, refl, arith, ap, ◌∙◌, sym, subst}
 use Rattle.std.specs.List.{list_any, find, range_with_len}
 use Rattle.std.proofs.lemmas.Bool.Decides.{nat_tests}
 use Rattle.cec_wave.specs.Line.{Line}
@@ -12,17 +12,18 @@ use Rattle.cec_bits.specs.declared.receiver.Told.TheVariants.{Nothing, Ended}
 use Rattle.cec_bits.specs.declared.sender.Sender.{Sender}
 use Rattle.cec_bits.specs.declared.sender.SenderState.{SenderState}
 use Rattle.cec_bits.specs.Follows.{StoodBefore}
-use Rattle.cec_bits.specs.Hears.{Heard, reported_so, rest, starts, sample_as}
-use Rattle.cec_bits.specs.Reading.{Read, reading_of, bits_of, last_ending}
+use Rattle.cec_bits.specs.Hears.{Heard, reported_so, rest, starts, sample_as, hear_at}
+use Rattle.cec_bits.specs.Reading.{Read, reading_of, bits_of, last_ending, End}
 use Rattle.cec_bits.specs.Sending.{destination, is_whole, is_out_by, out_by, out_slot, state_by, state_before, SenderStood}
+use Rattle.cec_bits.specs.declared.receiver.ReceiverState.{ReceiverState}
 use Rattle.cec_wire.specs.declared.Seat.{Seat}
 use Rattle.cec_wire.specs.declared.Loser.{Loser}
 use Rattle.cec_wire.specs.Machine.{acks_after, breaks_after, acks_until, sends_after}
 use Rattle.cec_wire.specs.Round.{is_held, is_not_before, lost_at, out_of, all_known, sends_in, survivors_from, losers_from}
 use Rattle.cec_one_wire.specs.Listening.{IsReadOnce, AreSenders, AreSending, SendsFor, IsSending}
 use Rattle.cec_one_wire.specs.Pulls.{is_on, held_in}
-use Rattle.cec_one_wire.specs.Wire.{goes_on}
-use Rattle.cec_one_wire.specs.States.{acks_to, breaks_by, out_at, out_in, stays_at, survivor_at, survivors_of, losers_of, FollowersAreHeard, HeldGoes, StatesAreFates}
+use Rattle.cec_one_wire.specs.Wire.{goes_on, IsAt}
+use Rattle.cec_one_wire.specs.States.{acks_to, breaks_by, out_at, out_in, stays_at, survivor_at, survivors_of, losers_of}
 use Rattle.cec_one_wire.proofs.Lows.{sending_is_heard, take_most}
 use Rattle.cec_one_wire.proofs.Standing.{over_state, until_by as until_at, reading_spans, reported_bits}
 
@@ -68,14 +69,23 @@ breaks_same (x ∷ xs) begin bits (None ∷ os) a h =
 breaks_same (x ∷ xs) begin bits (Some s ∷ os) a h =
     ap (λ b. (x.plugged && not b) || breaks_by xs os) (one_sends x begin bits s a.0 h.0) ∙ ap (λ b. breaks_after bits x || b) (breaks_same xs begin bits os a.1 h.1)
 
-pub followers_are_heard : FollowersAreHeard
+-- While the reading runs, those who follow are those who follow by its bits.
+pub followers_are_heard : (seats : List Seat) (begin : ℕ) (r : Receiver) (senders : List (Option Sender)) (bits : List Bool) (held : ℕ) (low : ℕ → Bool) (t : ℕ) → IsAt seats begin r senders bits None held low t
+    → (acks_to (destination bits) seats senders ≡ list_any (acks_after bits) seats) × (breaks_by seats senders ≡ list_any (breaks_after bits) seats)
 followers_are_heard seats begin r senders bits held low t s =
     let h : AllOn bits senders = subst (λ (bs : List Bool). AllOn bs senders) (sym s.read.1) (all_on seats begin r low t senders s.once s.stood s.from s.read.0 s.sending) in
     (acks_same seats begin bits senders s.whose h, breaks_same seats begin bits senders s.whose h)
 
 -- ---- how long they hold the line
 
-pub held_goes : HeldGoes
+-- Where the reading goes on with a microsecond, those who follow hold the line from a fall, which begins a slot, for as long as
+-- that slot's acknowledgers do, and else as before.
+pub held_goes : (seats : List Seat) (t : ℕ) (place : ReceiverState) (begin fall : ℕ) (bits : List Bool) (falls rises is_low : Bool) → place ≢ Rest → (place ≡ StartLow → falls ≡ false)
+    → goes_on (hear_at place t falls rises is_low (record { place = place; begin = begin; fall = fall; bits = bits })).reported ≡ true
+    → held_in seats (hear_at place t falls rises is_low (record { place = place; begin = begin; fall = fall; bits = bits })).state.place
+    (hear_at place t falls rises is_low (record { place = place; begin = begin; fall = fall; bits = bits })).state.fall
+    (hear_at place t falls rises is_low (record { place = place; begin = begin; fall = fall; bits = bits })).state.bits
+    ≡ (if falls then acks_until seats bits t else held_in seats place fall bits)
 held_goes seats t Rest begin fall bits falls rises is_low e first g = absurd (e refl)
 held_goes seats t StartLow begin fall bits falls rises is_low e first g = by_tests (nat_lt (begin + 3900) t) rises (nat_lt t (begin + 3500)) falls (first refl) g
   where
@@ -196,6 +206,8 @@ all_lose low begin t n (x ∷ xs) (o ∷ os) a s l m =
     ap (λ (y : Option ℕ). lost_at n y ++ losers_of (n + 1) os) (loses_one low begin t x o a.0 s.0 l m)
     ∙ ap (λ (rest : List Loser). lost_at n (out_of (reading_of low begin) x.sends) ++ rest) (all_lose low begin t (n + 1) xs os a.1 s.1 l m)
 
-pub states_are_fates : StatesAreFates
+-- Once the reading has ended, who is not out is still sending.
+pub states_are_fates : (seats : List Seat) (begin : ℕ) (r : Receiver) (senders : List (Option Sender)) (bits : List Bool) (end : End) (held : ℕ) (low : ℕ → Bool) (t : ℕ) → IsAt seats begin r senders bits (Some end) held low t
+    → (survivors_of 0 senders ≡ survivors_from (reading_of low begin) 0 seats) × (losers_of 0 senders ≡ losers_from (reading_of low begin) 0 seats)
 states_are_fates seats begin r senders bits end held low t s =
     (all_survive low begin t 0 seats senders s.whose s.sending s.from s.read.0, all_lose low begin t 0 seats senders s.whose s.sending s.from s.read.0)

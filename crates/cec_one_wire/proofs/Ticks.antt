@@ -12,10 +12,11 @@ use Rattle.cec_bits.specs.Reading.{End, known_at, reading_of, read_slots, bits_o
 use Rattle.cec_bits.specs.Kept.{Sample, kept_before, reported_with, reported_in, reported_at, sample_in}
 use Rattle.cec_bits.proofs.Stood.{runs_in, was_now, KnowsEnd, step, stands_at}
 use Rattle.cec_bits.specs.Sending.{known_bits}
+use Rattle.cec_bits.specs.Follows.{StandsOn}
 use Rattle.cec_wire.specs.declared.Seat.{Seat}
 use Rattle.cec_one_wire.specs.Listening.{IsReadOnce, AreSending}
 use Rattle.cec_one_wire.specs.Pulls.{until_of, held_in, IsHeld}
-use Rattle.cec_one_wire.specs.Wire.{IsAt, Ticked, until_by, goes_on, bits_in, ends_as, held_from, TickGoes, TickEnds, TickOver, TickAfter}
+use Rattle.cec_one_wire.specs.Wire.{IsAt, Ticked, until_by, goes_on, bits_in, ends_as, held_from}
 use Rattle.cec_one_wire.proofs.Ended.{EndsHeld, ends_held}
 use Rattle.cec_one_wire.proofs.By.{GoesBy, goes_by}
 use Rattle.cec_one_wire.proofs.Standing.{all_later, all_told, runs_after, until_by as until_at, reading_spans, reported_bits}
@@ -55,7 +56,10 @@ sent_on seats begin r new reported senders news low t once from s k (Bit slot va
 sent_on seats begin r new reported senders news low t once from s k (Last value ending) e = let n : reported ≢ Nothing = λ z. let y : Last value ending ≡ Nothing = sym e ∙ z in cc in all_told low begin t reported senders news once k.reported_is n (k.each n) s
 sent_on seats begin r new reported senders news low t once from s k (Ended ending) e = let n : reported ≢ Nothing = λ z. let y : Ended ending ≡ Nothing = sym e ∙ z in cc in all_told low begin t reported senders news once k.reported_is n (k.each n) s
 
-pub tick_goes : TickGoes
+-- where the reading goes on the wire stands after it
+pub tick_goes : (seats : List Seat) (begin : ℕ) (r new : Receiver) (reported : Told) (senders news : List (Option Sender)) (bits : List Bool) (held : ℕ) (low : ℕ → Bool) (t : ℕ)
+    → IsAt seats begin r senders bits None held low t → Ticked seats begin r new reported senders news low t → goes_on reported ≡ true
+    → IsAt seats begin new news (bits ++ bits_in reported) None (held_in seats new.place new.fall new.bits.items) low (t + 1)
 tick_goes seats begin r new reported senders news bits held low t s k goes = record {
   from = omega (arith, s.from);
   once = s.once;
@@ -96,7 +100,10 @@ end_bits low begin t bits (Bit slot value) ending k e = cc
 end_bits low begin t bits (Last value x) ending k e = k.0.bits_are
 end_bits low begin t bits (Ended x) ending k e = k.bits_are ∙ sym (append-nil bits)
 
-pub tick_ends : TickEnds
+-- where it ends, it ends at t, so, and its last microsecond is that which was due
+pub tick_ends : (seats : List Seat) (begin : ℕ) (r new : Receiver) (reported : Told) (senders news : List (Option Sender)) (bits : List Bool) (held : ℕ) (low : ℕ → Bool) (t : ℕ) (ending : Ending)
+    → IsAt seats begin r senders bits None held low t → Ticked seats begin r new reported senders news low t → ends_as reported ≡ Some ending
+    → ((reading_of low begin).at ≡ t) × ((reading_of low begin).ending ≡ ending) × ((reading_of low begin).until ≡ until_by r None t) × (bits ++ bits_in reported ≡ bits_of (reading_of low begin))
 tick_ends seats begin r new reported senders news bits held low t ending s k ends =
     let o = sample_in t 1 (known_at (t + 1) (reading_of low begin)).slots in
     let n = ends_now o ((reading_of low begin).at == t) (reading_of low begin).ending ending (ap ends_as (sym (k.reported_is ∙ told_now low begin t s.once s.from s.read.0)) ∙ ends) in
@@ -161,7 +168,10 @@ over_held seats begin r new reported senders news bits held low t ending s k end
     by_told (Last value x) e q n = subst (λ y. (u : ℕ) → t < u → IsHeld seats low begin u (held_from seats bits y held t)) (sym e) q
     by_told (Ended x) e q n = subst (λ y. (u : ℕ) → t < u → IsHeld seats low begin u (held_from seats bits y held t)) (sym e) q
 
-pub tick_over : TickOver
+-- and the wire stands a microsecond later
+pub tick_over : (seats : List Seat) (begin : ℕ) (r new : Receiver) (reported : Told) (senders news : List (Option Sender)) (bits : List Bool) (held : ℕ) (low : ℕ → Bool) (t : ℕ) (ending : Ending)
+    → IsAt seats begin r senders bits None held low t → Ticked seats begin r new reported senders news low t → ends_as reported ≡ Some ending
+    → IsAt seats begin new news (bits ++ bits_in reported) (Some (record { ending = ending; at = t; until = until_by r None t })) (held_from seats bits reported held t) low (t + 1)
 tick_over seats begin r new reported senders news bits held low t ending s k ends = record {
   from = omega (arith, s.from);
   once = s.once;
@@ -182,7 +192,9 @@ tick_over seats begin r new reported senders news bits held low t ending s k end
     e : ((reading_of low begin).at ≡ t) × ((reading_of low begin).ending ≡ ending) × ((reading_of low begin).until ≡ until_by r None t) × (bits ++ bits_in reported ≡ bits_of (reading_of low begin))
     e = tick_ends seats begin r new reported senders news bits held low t ending s k ends
 
-pub tick_after : TickAfter
+-- Once it has ended, no tick changes more than where the receiver stands.
+pub tick_after : (seats : List Seat) (begin : ℕ) (r new : Receiver) (senders : List (Option Sender)) (bits : List Bool) (end : End) (held : ℕ) (low : ℕ → Bool) (t : ℕ)
+    → IsAt seats begin r senders bits (Some end) held low t → StandsOn new low t → IsAt seats begin new senders bits (Some end) held low (t + 1)
 tick_after seats begin r new senders bits end held low t s k = record {
   from = omega (arith, s.from);
   once = s.once;

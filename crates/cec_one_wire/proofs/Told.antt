@@ -4,6 +4,7 @@ use Rattle.std.specs.Option.{option_to_list}
 use Rattle.std.proofs.lemmas.Bool.{cases_lt}
 use Rattle.std.proofs.lemmas.Bool.Decides.{nat_tests}
 use Rattle.cec_wave.specs.Line.{Line, was_low, is_fall, is_rise}
+use Rattle.cec_wave.specs.declared.Stretch.{Stretch}
 use Rattle.cec_frame.specs.declared.Ending.{Ending}
 use Rattle.cec_frame.specs.declared.Ending.TheVariants.{Short}
 use Rattle.cec_bits.specs.Reading.After.{Next, Ends}
@@ -12,8 +13,10 @@ use Rattle.cec_bits.proofs.Ends.{begin_by}
 use Rattle.cec_bits.proofs.Search.{first_in_agree, found_first}
 pub use Rattle.cec_wire.proofs.Still.{high_before}
 use Rattle.cec_wire.proofs.Afterwards.{no_fall_after}
+use Rattle.cec_wire.specs.Round.{IsRoundLine}
+use Rattle.cec_wire.specs.declared.Seat.{Seat}
 use Rattle.cec_one_wire.specs.Listening.{IsReadOnce}
-use Rattle.cec_one_wire.specs.Told.{is_high_for, told_of, IsLone, ToldAsItIs, ToldIsRead, RoundIsLone, ToldIsOnce}
+use Rattle.cec_one_wire.specs.Told.{is_high_for, told_of, IsLone}
 
 pub and_no : (b : Bool) → (b && false) ≡ false
 and_no true = refl
@@ -89,7 +92,8 @@ told_from low begin x u l h m = elim (cases_lt x u) [
       ap (λ b. b || (nat_le begin u && (nat_lt u (begin + 3901) && is_high_for low begin (u + 1 - begin)))) (ap low e ∙ h) ∙ sym (ap low e ∙ h))
 ]
 
-pub told_as_it_is : ToldAsItIs
+-- a line that is low as the round begins is told as it is
+pub told_as_it_is : (low : ℕ → Bool) (begin : ℕ) → low begin ≡ true → (u : ℕ) → told_of low begin u ≡ low u
 told_as_it_is low begin h u = elim (cases_lt u begin) [
   | inl lt ↦ told_before low begin u lt
   | inr ge ↦ told_from low begin begin u (omega arith) h ge
@@ -182,7 +186,8 @@ start_same p q begin (Err at) from s l = refl
 
 -- ---- the reading
 
-pub told_is_read : ToldIsRead
+-- What is told is read as the line is.
+pub told_is_read : (low : ℕ → Bool) (begin : ℕ) → reading_of (told_of low begin) begin ≡ reading_of low begin
 told_is_read low begin =
     ap (λ o. read_start (told_of low begin) begin (start_rise (told_of low begin) begin o)) (first_in_agree (is_rise (told_of low begin)) (is_rise low) (begin + 1) 3900 (λ u a b. rise_same low begin u (omega arith) (omega arith)))
     ∙ by_rise (next_rise low begin 3900) refl
@@ -224,7 +229,8 @@ told_is_read low begin =
 fall_off : (p : Line) (u : ℕ) → 0 < u → p (u - 1) ≡ true → is_fall p u ≡ false
 fall_off p u l h = ap (λ b. p u && not b) (was_is p u l ∙ h) ∙ and_no (p u)
 
-pub round_is_lone : RoundIsLone
+-- A round's line is such.
+pub round_is_lone : (seats : List Seat) (begin : ℕ) (pulses : List Stretch) (low : ℕ → Bool) → IsRoundLine seats begin pulses low → IsLone low begin
 round_is_lone seats begin pulses low line = record {
   before = high_before seats begin pulses low line;
   quiet = no_fall_after seats begin pulses low line;
@@ -257,5 +263,6 @@ lone_is_once low begin lone = record {
             (told_since low begin u (omega (arith, after)) (ap (λ n. is_high_for low begin n) (let x : u - begin ≡ u - 1 + 1 - begin = omega (arith, after) in x) ∙ high_more low begin (u - 1) (omega (arith, after)) ∙ ap (λ b. not (low (u - 1)) && b) h ∙ and_no (not (low (u - 1)))))
             (told_since low begin (u - 1) (omega (arith, after)) h)
 
-pub told_is_once : ToldIsOnce
+-- So it has that reading alone.
+pub told_is_once : (seats : List Seat) (begin : ℕ) (pulses : List Stretch) (low : ℕ → Bool) → IsRoundLine seats begin pulses low → IsReadOnce (told_of low begin) begin
 told_is_once seats begin pulses low line = lone_is_once low begin (round_is_lone seats begin pulses low line)

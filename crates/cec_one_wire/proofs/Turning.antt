@@ -6,6 +6,7 @@ use Rattle.std.proofs.lemmas.Bool.{cases_lt}
 use Rattle.cec_wave.specs.declared.Stretch.{Stretch}
 use Rattle.cec_wave.specs.Line.{was_low, IsWave}
 use Rattle.cec_wave.specs.Bounds.{latest_heard}
+use Rattle.cec_wave.specs.Sender.{first_slot}
 pub use Rattle.cec_wire.proofs.Exists.{made_line, made_round}
 use Rattle.cec_one_wire.specs.declared.edge_wire.EdgeWire.{EdgeWire}
 use Rattle.cec_one_wire.specs.declared.senders.Pull.{Pull}
@@ -97,7 +98,7 @@ waits_later past w until t next b after lt n wake =
 pub record Waits (w : EdgeWire) (until t : ℕ) (next : Option Stretch) : Type 0 where
   pub other : w.time ≡ w.begin → ⊥
   pub later : w.time < until
-  pub near : until ≤ w.time + 4500
+  pub near : until ≤ w.time + first_slot
   pub lasts : (u : ℕ) → w.time ≤ u → u < until → list_any (pull_in u) w.senders.items ≡ list_any (pull_in w.time) w.senders.items
   pub same : pulls_in w ≡ is_low_in w
   pub comes : IfSome next (λ p. w.time ≤ p.from)
@@ -122,7 +123,7 @@ pub steady_low : (w : EdgeWire) (p : Pull) (until : ℕ) → ((t : ℕ) → w.ti
 steady_low w p until low s lasts u a b = low u a (omega (arith, b, s)) ∙ lasts u a b
 
 -- with what the senders do as it was found at an instant before
-pub waits_by : (w : EdgeWire) (from until t : ℕ) (is_low low was : Bool) (next : Option Stretch) → (w.time ≡ w.begin → ⊥) → from ≤ w.time → w.time < until → until ≤ from + 4500
+pub waits_by : (w : EdgeWire) (from until t : ℕ) (is_low low was : Bool) (next : Option Stretch) → (w.time ≡ w.begin → ⊥) → from ≤ w.time → w.time < until → until ≤ from + first_slot
     → ((u : ℕ) → from ≤ u → u < until → list_any (pull_in u) w.senders.items ≡ is_low) → low ≡ pulls_in w → was ≡ is_low_in w → beq low was ≡ true → IfSome next (λ p. w.time ≤ p.from) → IsWake w until next t → Waits w until t next
 waits_by w from until t is_low low was next n l m near lasts e f g comes wake = record {
   other = n;

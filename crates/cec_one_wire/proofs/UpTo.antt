@@ -1,10 +1,10 @@
 -- The wire stands as it does until somebody changes what he does.
-use Rattle.std.proofs.Common.{◌≡◌, ℕ, zero, suc, ◌+◌, ◌-◌, ◌<◌, ◌≤◌, Bool, true, false, ◌&&◌, ◌||◌, nat_lt, nat_le, if◌then◌else◌, inl, inr, List, [], ◌∷◌, Option, Some, None, refl, arith, ap, ◌∙◌, sym, subst}
+use Rattle.std.proofs.Common.{◌≡◌, ℕ, zero, suc, ◌+◌, ◌-◌, ◌<◌, ◌≤◌, Bool, true, false, ◌&&◌, ◌||◌, nat_lt, nat_le, if◌then◌else◌, inl, inr, List, [], ◌∷◌, ◌++◌, Option, Some, None, refl, arith, ap, ◌∙◌, sym, subst}
 use Rattle.std.specs.List.{list_any, All}
 use Rattle.std.proofs.lemmas.Bool.Decides.{nat_tests}
 use Rattle.std.proofs.lemmas.Bool.{cases_lt}
 use Rattle.cec_wave.specs.declared.Stretch.{Stretch}
-use Rattle.cec_wave.specs.Line.{Line, was_low}
+use Rattle.cec_wave.specs.Line.{Line, was_low, IsWave}
 use Rattle.cec_bits.specs.declared.receiver.Receiver.{Receiver}
 use Rattle.cec_bits.specs.declared.receiver.ReceiverState.{ReceiverState}
 use Rattle.cec_bits.specs.declared.receiver.ReceiverState.TheVariants.{Rest, StartLow, StartHigh, Unsampled, Sampled}
@@ -12,9 +12,10 @@ use Rattle.cec_bits.specs.declared.sender.Sender.{Sender}
 use Rattle.cec_bits.specs.Hears.{heard_by, wake_of}
 use Rattle.cec_bits.specs.Reading.{End, reading_of}
 use Rattle.cec_wire.specs.declared.Seat.{Seat}
+use Rattle.cec_wire.specs.Round.{IsRoundLine}
 use Rattle.cec_one_wire.specs.Line.{last_of, HaveBegun}
 use Rattle.cec_one_wire.specs.Pulls.{pull_in, due_in, low_in, takes_last}
-use Rattle.cec_one_wire.specs.Wire.{IsAt, IsRead, until_by, IsQuiet, Between}
+use Rattle.cec_one_wire.specs.Wire.{IsAt, IsRead, until_by, IsQuiet, ToldSo}
 use Rattle.cec_one_wire.proofs.Goes.{low_is_found, calm_stays}
 use Rattle.cec_one_wire.proofs.Standing.{until_by as until_at}
 
@@ -92,7 +93,13 @@ last_from (x ∷ y ∷ ps) t h p e = last_from (y ∷ ps) t (λ k d l. h (suc k)
 begun_later : (begin : ℕ) (past : List Stretch) (last : Option Stretch) (t u : ℕ) → t ≤ u → HaveBegun begin past last t → HaveBegun begin past last u
 begun_later begin past last t u l h = record { inside = h.inside; begun = λ i d m. (let x = h.begun i d m in omega (arith, x, l)); last_is = h.last_is }
 
-pub between : Between
+-- Where nobody changes what he does from t on before w, and the line does not change at t, it has no edge before w, and the
+-- wire stands there as it does.
+pub between : (seats : List Seat) (begin : ℕ) (past later : List Stretch) (last : Option Stretch) (r : Receiver) (senders : List (Option Sender)) (bits : List Bool) (ended : Option End) (held : ℕ) (low told : ℕ → Bool) (t w : ℕ)
+    → IsWave (past ++ later) → IsRoundLine seats begin (past ++ later) low → All (λ p. w ≤ p.from) later → HaveBegun begin past last t
+    → reading_of told begin ≡ reading_of low begin → ToldSo low told r.was_low t w → IsAt seats begin r senders bits ended held told t → IsQuiet r senders last held t w
+    → low_in senders last (until_by r ended t) held (was_low low t) t ≡ was_low low t
+    → (n : ℕ) → t + n ≤ w → IsAt seats begin r senders bits ended held told (t + n) × ((u : ℕ) → t ≤ u → u < t + n → low u ≡ was_low low t)
 between seats begin past later last r senders bits ended held low told t w wave line far begun reads so s q now zero l =
     (subst (λ n. IsAt seats begin r senders bits ended held told n) (let x : t ≡ t + zero = omega arith in x) s, λ u a b. absurd (omega (arith, a, b)))
 between seats begin past later last r senders bits ended held low told t w wave line far begun reads so s q now (suc n) l =

@@ -1,7 +1,6 @@
 -- The pulls of a round that have begun: a wave, of which the last is kept. (own)
-use Rattle.std.specs.Prelude.{◌≡◌, ℕ, ◌<◌, ◌≤◌, List, [], ◌∷◌, Option, Some, None, All}
+use Rattle.std.specs.Prelude.{◌≡◌, ℕ, ◌≤◌, List, [], ◌∷◌, Option, Some, None, All}
 use Rattle.cec_wave.specs.declared.Stretch.{Stretch}
-use Rattle.cec_wave.specs.Bounds.{latest_heard}
 
 abbrev pub last_of : List Stretch → Option Stretch
 last_of [] = None
@@ -13,7 +12,3 @@ pub record HaveBegun (begin : ℕ) (past : List Stretch) (last : Option Stretch)
   pub inside : All (λ p. begin ≤ p.from) past
   pub begun : All (λ p. p.from ≤ t) past
   pub last_is : last ≡ last_of past
-
--- a pull ends before the latest instant that receivers and senders are told of
-abbrev pub EndsInTime : Stretch → Type 0
-EndsInTime p = p.to < latest_heard

@@ -1,23 +1,21 @@
 -- What a wire finds of the next microsecond, by its receiver, its senders, those who follow and the last pull. (own)
-use Rattle.std.specs.Prelude.{◌≡◌, ℕ, ◌+◌, ◌-◌, ◌==◌, ◌<◌, ◌≤◌, Bool, true, false, nat_lt, nat_le, ◌&&◌, ◌||◌, if◌then◌else◌, List, ◌++◌, length, take, slice_index_or, Option, Some, None, All}
+use Rattle.std.specs.Prelude.{◌≡◌, ℕ, ◌+◌, ◌-◌, ◌==◌, ◌<◌, ◌≤◌, Bool, true, false, nat_lt, nat_le, ◌&&◌, ◌||◌, List, length, take, slice_index_or, Option, Some, None}
 use Rattle.std.specs.List.{list_any}
 use Rattle.cec_wave.specs.declared.Stretch.{Stretch}
-use Rattle.cec_wave.specs.Line.{Line, was_low, IsWave}
-use Rattle.cec_bits.specs.declared.receiver.Receiver.{Receiver}
+use Rattle.cec_wave.specs.Line.{Line}
 use Rattle.cec_bits.specs.declared.receiver.ReceiverState.{ReceiverState}
 use Rattle.cec_bits.specs.declared.receiver.ReceiverState.TheVariants.{StartHigh, Unsampled, Sampled}
 use Rattle.cec_bits.specs.declared.sender.SenderState.{SenderState}
 use Rattle.cec_bits.specs.declared.sender.SenderState.TheVariants.{Sending}
 use Rattle.cec_bits.specs.declared.sender.Sender.{Sender}
+use Rattle.cec_bits.specs.Windows.{standard}
 use Rattle.cec_bits.specs.Reading.{End, known_at, reading_of}
-use Rattle.cec_bits.specs.Sending.{known_bits, is_whole, pull_of, SenderStood}
-use Rattle.cec_bits.specs.Follows.{StoodBefore}
+use Rattle.cec_bits.specs.Sending.{pull_of}
 use Rattle.cec_wire.specs.declared.Seat.{Seat}
-use Rattle.cec_wire.specs.Round.{is_acknowledged, is_broken, IsRoundLine}
-use Rattle.cec_wire.specs.Machine.{sends_after, acks_until}
+use Rattle.cec_wire.specs.Round.{is_acknowledged, is_broken}
+use Rattle.cec_wire.specs.Machine.{acks_until}
 use Rattle.cec_one_wire.specs.declared.senders.Places.{Places}
-use Rattle.cec_one_wire.specs.Listening.{IsReadOnce, AreSenders, AreSending}
-use Rattle.cec_one_wire.specs.Line.{HaveBegun}
+use Rattle.cec_one_wire.specs.Listening.{AreSenders, AreSending}
 
 -- a seat's sender pulls at t
 abbrev pub pull_in : ℕ → Option Sender → Bool
@@ -59,50 +57,18 @@ pub record Stands (seats : List Seat) (begin : ℕ) (senders : List (Option Send
   pub until_is : until ≡ until_of (known_at t (reading_of low begin)).ended t
   pub held_is : IsHeld seats low begin t held
 
--- `told` is what the receiver is told of that line, which is read as the line is
-abbrev pub LowIsHeard : Type 0
-LowIsHeard = (seats : List Seat) (begin : ℕ) (past later : List Stretch) (last : Option Stretch) (senders : List (Option Sender)) (until held : ℕ) (low told : ℕ → Bool) (t w : ℕ)
-    → IsWave (past ++ later) → IsRoundLine seats begin (past ++ later) low → All (λ p. w ≤ p.from) later → t < w → HaveBegun begin past last t
-    → reading_of told begin ≡ reading_of low begin → Stands seats begin senders until held told t
-    → low t ≡ low_in senders last until held (was_low low t) t
-
--- while the reading runs, the receiver's bits are those that are known, and none of its endings has all blocks
-abbrev pub BitsAreHeard : Type 0
-BitsAreHeard = (r : Receiver) (low : ℕ → Bool) (begin t : ℕ) → IsReadOnce low begin → StoodBefore r low t → begin < t → t ≤ (reading_of low begin).at
-    → (known_bits (known_at t (reading_of low begin)) ≡ r.bits.items) × (is_whole (known_at t (reading_of low begin)).ended ≡ false)
-
 -- the receiver that stands so tells at t that no fall came in time: the reading's last microsecond was the one before
 abbrev pub due_in : ReceiverState → ℕ → ℕ → ℕ → Bool
-due_in StartHigh begin fall t = t == begin + 4701
-due_in Sampled begin fall t = t == fall + 2751
+due_in StartHigh begin fall t = t == begin + (standard.start_total.most + 1)
+due_in Sampled begin fall t = t == fall + (standard.bit_total.most + 1)
 due_in _ begin fall t = false
-
--- what is known of the ending, as long as none was told, is what the receiver's next wake says
-abbrev pub DueIsHeard : Type 0
-DueIsHeard = (r : Receiver) (low : ℕ → Bool) (begin t : ℕ) → IsReadOnce low begin → StoodBefore r low t → begin < t → t ≤ (reading_of low begin).at
-    → until_of (known_at t (reading_of low begin)).ended t ≡ (if due_in r.place r.begin r.fall t then t - 1 else t)
 
 abbrev pub is_on : SenderState → Bool
 is_on Sending = true
 is_on _ = false
-
--- a sender goes on exactly where the receiver's bits do not tell it to stop
-abbrev pub SendingIsHeard : Type 0
-SendingIsHeard = (r : Receiver) (s : Sender) (low : ℕ → Bool) (begin t : ℕ) → IsReadOnce low begin → StoodBefore r low t → begin < t → t ≤ (reading_of low begin).at
-    → SenderStood s low t → s.begin ≡ begin → is_on s.state ≡ sends_after r.bits.items (Some s.frame)
 
 -- until when those who acknowledge hold the line, by where the receiver stands
 abbrev pub held_in : List Seat → ReceiverState → ℕ → List Bool → ℕ
 held_in seats Unsampled fall bits = acks_until seats bits fall
 held_in seats Sampled fall bits = acks_until seats (take (length bits - 1) bits) fall
 held_in seats _ fall bits = 0
-
--- that is what the round's rule says, while the reading runs and is not due to end for want of a fall
-abbrev pub HeldIsHeard : Type 0
-HeldIsHeard = (seats : List Seat) (r : Receiver) (low : ℕ → Bool) (begin t : ℕ) → IsReadOnce low begin → StoodBefore r low t → begin < t → t ≤ (reading_of low begin).at
-    → due_in r.place r.begin r.fall t ≡ false → IsHeld seats low begin t (held_in seats r.place r.fall r.bits.items)
-
--- and where it is due, too: an ending for want of a fall makes nobody pull
-abbrev pub HeldWhenDue : Type 0
-HeldWhenDue = (seats : List Seat) (r : Receiver) (low : ℕ → Bool) (begin t : ℕ) → IsReadOnce low begin → StoodBefore r low t → begin < t → t ≤ (reading_of low begin).at
-    → IsHeld seats low begin t (held_in seats r.place r.fall r.bits.items)

@@ -12,6 +12,7 @@ use Rattle.cec_bits.specs.Reading.{End}
 use Rattle.cec_bits.specs.Sending.{destination}
 use Rattle.cec_wire.specs.declared.Seat.{Seat}
 use Rattle.cec_wire.specs.Machine.{is_short}
+use Rattle.cec_wire.specs.Round.{ack_pull, short_pull}
 use Rattle.cec_one_wire.specs.Listening.{AllHeard}
 use Rattle.cec_one_wire.specs.declared.edge_wire.EdgeWire.{EdgeWire}
 use Rattle.cec_one_wire.specs.States.{acks_to, breaks_by}
@@ -43,11 +44,11 @@ Takes old next new =
 
 -- until when those who follow hold the line from the fall of a slot on, by what the senders are doing
 abbrev pub acks_by : List Seat → List (Option Sender) → List Bool → ℕ → ℕ
-acks_by seats senders bits t = if ((length bits + 1) % 10 == 0) && acks_to (destination bits) seats senders then t + 1500 else 0
+acks_by seats senders bits t = if ((length bits + 1) % 10 == 0) && acks_to (destination bits) seats senders then t + ack_pull else 0
 
 -- and after an ending
 abbrev pub breaks_until : List Seat → List (Option Sender) → Ending → ℕ → ℕ → ℕ
-breaks_until seats senders ending held t = if is_short ending && breaks_by seats senders then t + 3600 else held
+breaks_until seats senders ending held t = if is_short ending && breaks_by seats senders then t + short_pull else held
 
 abbrev pub ended_by : Told → ℕ → ℕ → Option End
 ended_by (Last value ending) t until = Some (record { ending = ending; at = t; until = until })

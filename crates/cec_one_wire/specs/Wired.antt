@@ -4,6 +4,7 @@ use Rattle.std.specs.List.{list_any}
 use Rattle.std.specs.Option.{option_to_list}
 use Rattle.cec_wave.specs.declared.Stretch.{Stretch}
 use Rattle.cec_wave.specs.declared.Edge.{Edge}
+use Rattle.cec_wave.specs.Sender.{first_slot}
 use Rattle.cec_wave.specs.Line.{Line, line_of, was_low, is_fall, IsWave}
 use Rattle.cec_wave.specs.Bounds.{latest_begin, latest_heard}
 use Rattle.cec_bits.specs.declared.receiver.Receiver.{Receiver}
@@ -20,7 +21,8 @@ use Rattle.cec_wire.specs.Machine.{AreSentWell}
 use Rattle.cec_wire.specs.Round.{IsRoundLine, IsRound}
 use Rattle.cec_one_wire.specs.Listening.{AreBegun, IsIdle}
 use Rattle.cec_one_wire.specs.declared.edge_wire.EdgeWire.{EdgeWire}
-use Rattle.cec_one_wire.specs.Line.{HaveBegun, EndsInTime}
+use Rattle.cec_wave.specs.Pulls.{EndsInTime}
+use Rattle.cec_one_wire.specs.Line.{HaveBegun}
 use Rattle.cec_one_wire.specs.Pulls.{StandIn, pull_in, low_in}
 use Rattle.cec_one_wire.specs.Told.{told_of}
 use Rattle.cec_one_wire.specs.Wire.{IsAt, until_by}
@@ -42,7 +44,7 @@ pulls_in w = low_in w.senders.items w.last (until_by w.receiver (end_in w.ended)
 -- where the senders stand is kept, and what they do for as long as it lasts
 pub record IsKept (w : EdgeWire) : Type 0 where
   pub low : (t : ℕ) → w.time ≤ t → t < w.pull.until → list_any (pull_in t) w.senders.items ≡ nat_lt t w.pull.rise
-  pub near : w.pull.until ≤ w.time + 4500
+  pub near : w.pull.until ≤ w.time + first_slot
   pub places : StandIn w.places w.senders.items
 
 -- ---- the line so far

@@ -1,23 +1,25 @@
 //! A line that goes from edge to edge: one receiver, which all seats share, and the senders of the seats that send.
-ghost use Rattle.std.specs.Prelude.{◌≡◌, ◌+◌, ◌-◌, ◌<◌, ◌≤◌, nat_le, nat_lt, ◌++◌, ◌&&◌, ◌||◌, ◌==◌, not, true, false, if◌then◌else◌, length, [], ◌∷◌, All, take, drop, slice_get, IfSome, MatchOption, is_some, None, Some, ℕ, List};
+ghost use Rattle.std.specs.Prelude.{◌≡◌, ◌+◌, ◌-◌, ◌<◌, ◌≤◌, nat_le, nat_lt, ◌++◌, ◌&&◌, ◌||◌, ◌==◌, not, true, false, if◌then◌else◌, length, [], ◌∷◌, All, take, drop, slice_get, IfSome, IsTrue, MatchOption, is_some, None, Some, ℕ, List};
 ghost use Rattle.std.specs.List.{list_any};
 ghost use Rattle.cec_wave.specs.declared.Stretch.{Stretch as StretchValue};
 ghost use Rattle.cec_wave.specs.Bounds.{latest_begin, latest_heard};
+ghost use Rattle.cec_wave.specs.Line.{IsWave};
+ghost use Rattle.cec_wave.specs.Sender.{first_slot};
 ghost use Rattle.cec_wire.specs.Machine.{AreSentWell};
 ghost use Rattle.cec_wire.specs.Round.{rest_of};
 ghost use Rattle.cec_bits.specs.Hears.{heard_by, hear_in, reported_so};
 ghost use Rattle.cec_one_wire.specs.Pulls.{pull_in};
 ghost use Rattle.cec_one_wire.specs.States.{survivor_at, survivors_of, losers_of, out_in};
-ghost use Rattle.cec_one_wire.specs.Line.{EndsInTime};
-ghost use Rattle.cec_one_wire.specs.Steps.{EdgeBy, StandsAfter, wakes_in};
+ghost use Rattle.cec_one_wire.specs.Steps.{EdgeBy, StandsAfter};
 
 use crate::followers::{is_acknowledged, is_broken};
 use crate::reading::Ended;
 use crate::senders::{Places, Pull, copied_senders, hear_all, places_of, pull_at, senders_of};
+use crate::wakes::{steady_until, until_begin, until_due, until_end, until_held, wakes_in};
 use arrayvec::ArrayVec;
 use cec_bits::{Receiver, Sender, SenderState, Told, copied_bits, destination};
 use cec_frame::{Ending, Reading};
-use cec_wave::{Edge, LATEST_HEARD, Pulses, Stretch};
+use cec_wave::{Edge, Pulls, Stretch};
 use cec_wire::{ACK_PULL, Loser, Outcome, Recorder, SHORT_PULL, Seat, Wire};
 
 /// A round as far as it was heard: everything before `time`.
@@ -61,75 +63,6 @@ fn is_due_in(place: u8) -> bool
     ensures { result ≡ ((place == 2) || (place == 4)) }
 {
     place == 2 || place == 4
-}
-
-// Until when the senders do what they do at `t`.
-fn steady_until(pull: Pull, t: u64) -> u64
-    requires { t < pull.until }
-    ensures sooner { result ≤ pull.until }
-    ensures later { t < result }
-    ensures lasts { (u : ℕ) → t ≤ u → u < result → nat_lt u pull.rise ≡ nat_lt t pull.rise }
-{
-    if t < pull.rise {
-        pull.rise.min(pull.until)
-    } else {
-        pull.until
-    }
-}
-
-// The earlier of a wake and the end of the pull, where it lasts.
-fn until_end(last: Option<Stretch>, t: u64, wake: u64) -> u64
-    ensures sooner { result ≤ wake }
-    ensures ends { (p : StretchValue) → last ≡ Some p → t < p.to → result ≤ p.to }
-    ensures later { t ≤ wake → t ≤ result }
-{
-    match last {
-        Some(pull) if t < pull.to => wake.min(pull.to),
-        _ => wake,
-    }
-}
-
-// The earlier of a wake and the next pull's begin.
-fn until_begin(next: Option<Stretch>, wake: u64) -> u64
-    ensures sooner { result ≤ wake }
-    ensures begins { IfSome next (λ p. result ≤ p.from) }
-    ensures later { (t : ℕ) → t ≤ wake → IfSome next (λ p. t ≤ p.from) → t ≤ result }
-{
-    match next {
-        None => wake,
-        Some(pull) => wake.min(pull.from),
-    }
-}
-
-// The earlier of a wake and the receiver's.
-fn until_due(due: Option<u64>, wake: u64) -> u64
-    ensures sooner { result ≤ wake }
-    ensures wakes { (n : ℕ) → due ≡ Some n → result ≤ n }
-    ensures later { (t : ℕ) → t ≤ wake → ((n : ℕ) → due ≡ Some n → t ≤ n) → t ≤ result }
-{
-    match due {
-        None => wake,
-        Some(due) => wake.min(due),
-    }
-}
-
-// The earlier of a wake and the instant up to which the line is held, where that is to come.
-fn until_held(held: u64, t: u64, wake: u64) -> u64
-    ensures sooner { result ≤ wake }
-    ensures holds { t < held → result ≤ held }
-    ensures later { t ≤ wake → t ≤ result }
-{
-    if t < held { wake.min(held) } else { wake }
-}
-
-// Whether a wake is at `t`.
-fn wakes_in(due: Option<u64>, t: u64) -> bool
-    ensures { result ≡ wakes_in due t }
-{
-    match due {
-        None => false,
-        Some(due) => due == t,
-    }
 }
 
 // Whether the line falls, where it was low or not just before.
@@ -244,6 +177,13 @@ impl EdgeWire {
         self.begin
     }
 
+    /// The instant before which the round was heard.
+    pub fn heard_until(&self) -> u64
+        ensures { result ≡ self.now.time }
+    {
+        self.time
+    }
+
     /// How many pulls have begun in the round.
     pub fn pulses_begun(&self) -> usize
         ensures { result ≡ self.now.begun }
@@ -301,7 +241,7 @@ impl EdgeWire {
         requires time { self.now.time ≤ latest_heard }
         requires kept { IsKept self.now }
         ensures later { self.now.time < result.until }
-        ensures near { result.until ≤ self.now.time + 4500 }
+        ensures near { result.until ≤ self.now.time + first_slot }
         ensures low { (t : ℕ) → self.now.time ≤ t → t < result.until → list_any (pull_in t) self.now.senders.items ≡ nat_lt t result.rise }
     {
         if self.is_pull_kept() {
@@ -393,7 +333,7 @@ impl EdgeWire {
         requires next { IfSome next (λ p. self.old.time ≤ p.from) }
         ensures same { self.new ≡ record self.old { time = self.new.time } }
         ensures later { self.old.time ≤ self.new.time }
-        ensures near { self.new.time ≤ self.old.time + 4500 }
+        ensures near { self.new.time ≤ self.old.time + first_slot }
         ensures time { self.new.time < latest_heard }
         ensures next { IfSome next (λ p. self.new.time ≤ p.from) }
         ensures stands { (past : List StretchValue) → IsBegunWith past self.old → IsBegunWith past self.new × EachOf past self.new (IsCalm self.old self.new.time) }
@@ -799,27 +739,10 @@ fn skipped(stretches: &[Stretch], start: u64) -> usize
     skipped
 }
 
-// How many pulls end while receivers and senders are told of them.
-fn in_time(pulls: &[Stretch]) -> usize
-    ensures few { result ≤ length pulls.now }
-    ensures ends { All EndsInTime (take result pulls.now) }
-    ensures late { IfSome (slice_get pulls.now result) (λ p. latest_heard ≤ p.to) }
-{
-    let mut count = 0;
-    for pull in pulls {
-        if pull.to >= LATEST_HEARD {
-            return count;
-        }
-        count += 1;
-    }
-    count
-}
-
 impl Wire for EdgeWire {
-    fn round(&mut self, seats: &[Seat], start: u64, pulses: &Pulses) -> Outcome {
-        let stretches = pulses.as_slice();
-        let (_before, since) = stretches.split_at(skipped(stretches, start));
-        let (pulls, _far) = since.split_at(in_time(since));
+    fn round(&mut self, seats: &[Seat], start: u64, pulls: &Pulls) -> Outcome {
+        let stretches = pulls.as_slice();
+        let (_before, pulls) = stretches.split_at(skipped(stretches, start));
         self.begin(seats, start);
         'edges: while self.next_edge_among(pulls).is_some() {}
         self.finished()

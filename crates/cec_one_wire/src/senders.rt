@@ -2,6 +2,7 @@
 ghost use Rattle.std.specs.Prelude.{◌≡◌, ◌<◌, ◌≤◌, ◌||◌, ◌+◌, ℕ, false, length, nat_lt, slice_index_or, None};
 ghost use Rattle.std.specs.List.{list_any};
 ghost use Rattle.cec_wave.specs.Bounds.{latest_heard};
+ghost use Rattle.cec_wave.specs.Sender.{first_slot};
 ghost use Rattle.cec_one_wire.specs.Listening.{AllHeard, AreBegun, HeardOne, IsSenderOf};
 ghost use Rattle.cec_one_wire.specs.Pulls.{StandIn, pull_in};
 ghost use Rattle.cec_one_wire.specs.States.{is_sending_on};
@@ -12,14 +13,14 @@ use cec_wave::FIRST_SLOT;
 use cec_wire::Seat;
 
 /// What the senders do up to an instant: they pull the line low before `rise`, and not from then on.
-#[derive(Clone, Copy, Debug, PartialEq, Eq)]
+#[derive(Clone, Copy, Debug)]
 pub struct Pull {
     pub rise: u64,
     pub until: u64,
 }
 
 /// Places in a list of senders, from one on, up to and without another.
-#[derive(Clone, Copy, Debug, PartialEq, Eq)]
+#[derive(Clone, Copy, Debug)]
 pub struct Places {
     pub from: usize,
     pub to: usize,
@@ -110,7 +111,7 @@ fn pull_with(sender: &Option<Sender>, pull: Pull, t: u64) -> Pull
 pub fn pull_at(senders: &[Option<Sender>], places: Places, t: u64) -> Pull
     requires early { t ≤ latest_heard }
     requires places { StandIn places senders.now }
-    ensures near { result.until ≤ t + 4500 }
+    ensures near { result.until ≤ t + first_slot }
     ensures later { t < result.until }
     ensures low { (u : ℕ) → t ≤ u → u < result.until → list_any (pull_in u) senders.now ≡ nat_lt u result.rise }
 {

@@ -3,6 +3,8 @@
 use Rattle.std.specs.Prelude.{ℕ, ◌-◌, ◌==◌, Bool, true, false, not, nat_lt, nat_le, ◌&&◌, if◌then◌else◌, List, [], ◌∷◌, length, slice_index_or, Option, Some, None}
 use Rattle.cec_frame.specs.declared.Ending.{Ending}
 use Rattle.cec_frame.specs.declared.Ending.TheVariants.{Complete, Short, Long}
+use Rattle.cec_bits.specs.declared.times.Span.{Span}
+use Rattle.cec_bits.specs.Windows.{standard}
 use Rattle.cec_timing.specs.declared.low.Low.{Low as LowOf}
 use Rattle.cec_timing.specs.declared.misfit.Window.{Window}
 use Rattle.cec_timing.specs.declared.misfit.Kind.{Kind}
@@ -11,6 +13,10 @@ use Rattle.cec_timing.specs.declared.misfit.Misfit.{Misfit}
 
 abbrev pub window : ℕ → ℕ → Window
 window least greatest = record { least = least; greatest = greatest }
+
+-- the same as the rule of reading has it
+abbrev pub window_of : Span → Window
+window_of s = window s.least s.most
 
 -- within it, its ends too
 abbrev pub fits : Window → ℕ → Bool
@@ -24,10 +30,10 @@ slot_bit bits slot = slice_index_or bits (slot - 1) true
 
 -- slot 0 is the start bit (CEC 5.2.1); a 1 is low for 600, a 0 for 1,500, both within 200 (CEC 5.2.2)
 abbrev pub low_window : List Bool → ℕ → Window
-low_window bits slot = if slot == 0 then window 3500 3900 else if slot_bit bits slot then window 400 800 else window 1300 1700
+low_window bits slot = if slot == 0 then window_of standard.start_low else if slot_bit bits slot then window 400 800 else window 1300 1700
 
 abbrev pub total_window : ℕ → Window
-total_window slot = if slot == 0 then window 4300 4700 else window 2050 2750
+total_window slot = if slot == 0 then window_of standard.start_total else window_of standard.bit_total
 
 -- ---- what is out of them
 

@@ -3,17 +3,18 @@ ghost use Rattle.std.specs.Prelude.{◌≡◌, ◌-◌, ◌<◌};
 ghost use Rattle.cec_timing.specs.Misfits.{drive_within, fits, has_all, is_total, last_of, last_slot, long_by, long_low, low_drive, low_misfit, low_window, misfit_of, slot_bit, total_misfit, total_window};
 
 use crate::low::Low;
+use cec_bits::STANDARD;
 use cec_frame::Ending;
 
 /// The start bit's low period, and the whole of it (CEC 5.2.1).
 const START_LOW: Window = Window {
-    least: 3_500,
-    greatest: 3_900,
+    least: STANDARD.start_low.least,
+    greatest: STANDARD.start_low.most,
 };
 
 const START_TOTAL: Window = Window {
-    least: 4_300,
-    greatest: 4_700,
+    least: STANDARD.start_total.least,
+    greatest: STANDARD.start_total.most,
 };
 
 /// The low periods of a 1 and of a 0, and the whole of a bit (CEC 5.2.2).
@@ -28,8 +29,8 @@ const ZERO_LOW: Window = Window {
 };
 
 const BIT_TOTAL: Window = Window {
-    least: 2_050,
-    greatest: 2_750,
+    least: STANDARD.bit_total.least,
+    greatest: STANDARD.bit_total.most,
 };
 
 /// The low drive with which a message is broken (CEC 7.4): 1.4 to 1.6 nominal bit periods.

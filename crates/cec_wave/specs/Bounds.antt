@@ -24,6 +24,14 @@ latest_heard = 3000000000000
 abbrev pub most_pulses : ℕ
 most_pulses = 4096
 
+-- the most pulses and pulls of a script, and those of a session that wait
+abbrev pub most_pulls : ℕ
+most_pulls = 16384
+
+-- the widest pull of a script, in microseconds
+abbrev pub widest_pull : ℕ
+widest_pull = 10000000
+
 -- the most slots of a message after its start bit: ten for each of 16 blocks (CEC 6)
 abbrev pub most_slots : ℕ
 most_slots = 160

@@ -4,20 +4,21 @@ use Rattle.std.specs.List.{All, fold}
 use Rattle.std.proofs.lemmas.Bool.{cases_lt}
 use Rattle.std.proofs.lemmas.Bool.Decides.{nat_tests}
 use Rattle.cec_wave.specs.declared.Stretch.{Stretch}
-use Rattle.cec_wave.specs.Line.{Line, line_of, covers, is_fall, IsWave, IsWaveFrom}
-use Rattle.cec_wave.specs.Pulses.{AreSparse}
-use Rattle.cec_bits.specs.Reading.{Read, reading_of}
+use Rattle.cec_wave.specs.Line.{Line, line_of, covers, is_fall, IsWave}
+use Rattle.cec_wave.specs.Pulses.{IsNarrow, AreSparse}
+use Rattle.cec_bits.specs.Reading.{reading_of}
 use Rattle.cec_bits.proofs.Ends.{at_by}
 use Rattle.cec_bits.proofs.Waves.{falls_of_wave}
 use Rattle.cec_wire.specs.declared.Seat.{Seat}
 use Rattle.cec_wire.specs.declared.Outcome.{Outcome}
-use Rattle.cec_wire.specs.Round.{IsRound, IsRoundLine}
-use Rattle.cec_wire.specs.Contend.{AreFrames}
+use Rattle.cec_wire.specs.Round.{IsRound}
 use Rattle.cec_wire.specs.Bounds.{begun_within, RoundsAreShort}
 use Rattle.cec_wire.proofs.Differ.{In, any_in}
+use Rattle.cec_wire.proofs.Law.{all_in}
+use Rattle.cec_wire.proofs.Lows.{wave_wide}
 use Rattle.cec_wire.proofs.OneOutcome.{covers_own}
 use Rattle.cec_wire.proofs.Spans.{reading_bound}
-use Rattle.cec_wire.proofs.Still.{high_after}
+use Rattle.cec_wire.proofs.Still.{high_after, sparse_order}
 use Rattle.cec_wire.proofs.Afterwards.{no_fall_after}
 use Rattle.cec_wire.proofs.Alone.{in_all}
 use Rattle.cec_wire.proofs.Few.{begins_within, few_begun}
@@ -26,14 +27,6 @@ use Rattle.cec_wire.proofs.Few.{begins_within, few_begun}
 
 ends : (low : Line) (begin : ℕ) → (reading_of low begin).at ≤ begin + 444861
 ends low begin = omega (arith, at_by low begin, reading_bound low begin)
-
-wide : (from : ℕ) (ss : List Stretch) (s : Stretch) → IsWaveFrom from ss → In s ss → s.from < s.to
-wide from [] s w i = absurd i
-wide from (x ∷ ss) s w (inl e) =
-    let f : s.from ≡ x.from = ap (λ (y : Stretch). y.from) e in
-    let t : s.to ≡ x.to = ap (λ (y : Stretch). y.to) e in
-    omega (arith, w.1, f, t)
-wide from (x ∷ ss) s w (inr i) = wide (x.to + 1) ss s w.2 i
 
 rest_under : (until r bound : ℕ) (ss : List Stretch) → r ≤ bound → ((s : Stretch) → In s ss → s.to ≤ bound) → fold (λ rest s. if nat_le s.from until then s.to else rest) r ss ≤ bound
 rest_under until r bound [] l h = l
@@ -44,26 +37,34 @@ rest_under until r bound (s ∷ ss) l h =
     by_test true = h s (inl refl)
     by_test false = l
 
-rests : (seats : List Seat) (begin : ℕ) (pulses : List Stretch) (o : Outcome) → AreSparse pulses → IsWave o.wave → IsRound seats begin pulses o → o.rest ≤ begin + 458461
-rests seats begin pulses o sparse wave round =
-    subst (λ r. r ≤ begin + 458461) (sym round.rest) (rest_under (reading_of (line_of o.wave) begin).until 0 (begin + 458461) o.wave (omega arith) each)
+rests : (seats : List Seat) (begin : ℕ) (pulls : List Stretch) (o : Outcome) (bound : ℕ) → IsWave pulls → IsWave o.wave → IsRound seats begin pulls o
+    → begin + 448461 ≤ bound → All (λ p. p.from ≤ begin + 448461 → p.to ≤ bound) pulls → o.rest ≤ bound
+rests seats begin pulls o bound order wave round late all =
+    subst (λ r. r ≤ bound) (sym round.rest) (rest_under (reading_of (line_of o.wave) begin).until 0 bound o.wave (omega arith) each)
   where
-    each : (s : Stretch) → In s o.wave → s.to ≤ begin + 458461
-    each s i = elim (cases_lt (begin + 458461) s.to) [
+    each : (s : Stretch) → In s o.wave → s.to ≤ bound
+    each s i = elim (cases_lt bound s.to) [
       | inr ge ↦ ge
       | inl lt ↦ (
-          let w : s.from < s.to = wide 0 o.wave s wave i in
+          let w : s.from < s.to = (wave_wide 0 o.wave s wave i).1 in
+          let at = ends (line_of o.wave) begin in
           let own : covers s (s.to - 1) ≡ true = covers_own s (s.to - 1) (omega arith) (omega arith) in
           let low : line_of o.wave (s.to - 1) ≡ true = any_in (λ x. covers x (s.to - 1)) o.wave s i own in
-          let high : line_of o.wave (s.to - 1) ≡ false = high_after seats begin pulses (line_of o.wave) round.line sparse (s.to - 1) (omega (arith, lt, ends (line_of o.wave) begin)) in
+          let high : line_of o.wave (s.to - 1) ≡ false = high_after seats begin pulls (line_of o.wave) round.line order (s.to - 1) (omega (arith, lt, at, late))
+          (λ p j e. let x = all_in (λ p. p.from ≤ begin + 448461 → p.to ≤ bound) pulls all p j (omega (arith, e, at)) in omega (arith, x, lt)) in
           let no : true ≡ false = sym low ∙ high in cc)
     ]
 
+sparse : (seats : List Seat) (begin : ℕ) (pulses : List Stretch) (o : Outcome) → AreSparse pulses → IsWave o.wave → IsRound seats begin pulses o → o.rest ≤ begin + 458461
+sparse seats begin pulses o narrow wave round =
+    rests seats begin pulses o (begin + 458461) (sparse_order pulses narrow) wave round (omega arith) (in_all (λ p. p.from ≤ begin + 448461 → p.to ≤ begin + 458461) pulses
+    (λ p i e. let n : IsNarrow p = all_in IsNarrow pulses narrow.narrow p i in omega (arith, n.1, e)))
+
 -- ---- where the last stretch begins
 
-begins : (seats : List Seat) (begin : ℕ) (pulses : List Stretch) (o : Outcome) → AreFrames seats → AreSparse pulses → IsWave o.wave → IsRound seats begin pulses o
+begins : (seats : List Seat) (begin : ℕ) (pulls : List Stretch) (o : Outcome) → IsWave o.wave → IsRound seats begin pulls o
     → All (λ s. s.from ≤ (reading_of (line_of o.wave) begin).until) o.wave
-begins seats begin pulses o frames sparse wave round = in_all (λ s. s.from ≤ (reading_of (line_of o.wave) begin).until) o.wave each
+begins seats begin pulls o wave round = in_all (λ s. s.from ≤ (reading_of (line_of o.wave) begin).until) o.wave each
   where
     each : (s : Stretch) → In s o.wave → s.from ≤ (reading_of (line_of o.wave) begin).until
     each s i = elim (cases_lt (reading_of (line_of o.wave) begin).until s.from) [
@@ -71,7 +72,7 @@ begins seats begin pulses o frames sparse wave round = in_all (λ s. s.from ≤ 
       | inl lt ↦ (
           let own : (s.from == s.from) ≡ true = grind (arith, nat_tests) in
           let fall : is_fall (line_of o.wave) s.from ≡ true = falls_of_wave o.wave 0 s.from wave ∙ any_in (λ x. x.from == s.from) o.wave s i own in
-          let none : is_fall (line_of o.wave) s.from ≡ false = no_fall_after seats begin pulses (line_of o.wave) round.line s.from lt in
+          let none : is_fall (line_of o.wave) s.from ≡ false = no_fall_after seats begin pulls (line_of o.wave) round.line s.from lt in
           let no : true ≡ false = sym fall ∙ none in cc)
     ]
 
@@ -91,7 +92,8 @@ pub rounds_are_short : RoundsAreShort
 rounds_are_short = record {
   ends = ends;
   rests = rests;
+  sparse = sparse;
   begins = begins;
-  few = λ seats begin pulses o sparse wave round.
-      omega (arith, same_count begin o.rest pulses, few_begun begin o.rest pulses sparse (omega (arith, rests seats begin pulses o sparse wave round)));
+  few = λ seats begin pulses o narrow wave round.
+      omega (arith, same_count begin o.rest pulses, few_begun begin o.rest pulses narrow (omega (arith, sparse seats begin pulses o narrow wave round)));
 }

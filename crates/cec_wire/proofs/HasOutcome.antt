@@ -1,24 +1,32 @@
 -- A round has an outcome: its reading ends, its line is high after that, and what was heard of it by then is all of it.
-use Rattle.std.proofs.Common.{◌≡◌, ℕ, zero, suc, ◌+◌, ◌-◌, ◌<◌, ◌≤◌, Bool, true, false, ◌&&◌, ◌||◌, nat_lt, List, [], Option, Some, None, is_some, inl, inr, refl, sym, ap, ◌∙◌, subst, arith}
+use Rattle.std.proofs.Common.{◌≡◌, ℕ, zero, suc, ◌+◌, ◌-◌, ◌<◌, ◌≤◌, Bool, true, false, ◌&&◌, ◌||◌, nat_lt, List, [], ◌∷◌, Option, Some, None, is_some, inl, inr, refl, sym, ap, ◌∙◌, subst, arith}
 use Rattle.std.proofs.Math.Path.{fun_ext}
 use Rattle.std.proofs.lemmas.Bool.{cases_lt}
 use Rattle.cec_wave.specs.declared.Stretch.{Stretch}
 use Rattle.cec_wave.specs.Line.{Line, line_of, was_low, IsWave}
-use Rattle.cec_wave.specs.Pulses.{AreSparse}
 use Rattle.cec_bits.specs.Reading.{bits_of, reading_of}
 use Rattle.cec_wire.specs.declared.Seat.{Seat}
 use Rattle.cec_wire.specs.declared.Outcome.{Outcome}
 use Rattle.cec_wire.specs.Round.{IsRoundLine, rest_of, survivors_from, losers_from}
 use Rattle.cec_wire.specs.Machine.{wave_after, low_since}
 use Rattle.cec_wire.specs.OneOutcome.{RoundsHaveOutcomes}
+use Rattle.cec_wire.proofs.Differ.{In}
 use Rattle.cec_wire.proofs.Bounds.{rounds_are_short}
 use Rattle.cec_wire.proofs.Exists.{made_line, made_round}
 use Rattle.cec_wire.proofs.Records.{Records, EndBefore, begun, lows, no_line, record_first, record_step}
 use Rattle.cec_wire.proofs.Still.{high_after, high_before}
 
--- the line is high 458,461 after the round's begin
-high_late : (seats : List Seat) (begin : ℕ) (pulses : List Stretch) (low : Line) → AreSparse pulses → IsRoundLine seats begin pulses low → (u : ℕ) → begin + 458461 ≤ u → low u ≡ false
-high_late seats begin pulses low sparse line u l = high_after seats begin pulses low line sparse u (omega (arith, l, rounds_are_short.ends low begin))
+-- pulls have ended by some instant
+ended_by : (ps : List Stretch) → (e : ℕ) × ((p : Stretch) → In p ps → p.to ≤ e)
+ended_by [] = (0, λ p i. absurd i)
+ended_by (x ∷ ps) =
+    let r = ended_by ps in (
+      x.to + r.0,
+      λ p i. elim i [
+        | inl e ↦ (let t : p.to ≡ x.to = ap (λ (y : Stretch). y.to) e in omega (arith, t))
+        | inr j ↦ (let l = r.1 p j in omega (arith, l))
+      ],
+    )
 
 -- a line's record, microsecond by microsecond
 abbrev Recorded : Line → ℕ → Type 0
@@ -48,8 +56,8 @@ abbrev HasWave : List Seat → ℕ → List Stretch → Type 0
 HasWave seats begin pulses = (ss : List Stretch) × IsWave ss × IsRoundLine seats begin pulses (line_of ss)
 
 -- what is recorded of the line by this time is all of it
-has_wave : (seats : List Seat) (begin : ℕ) (pulses : List Stretch) (n : ℕ) → 470000 ≤ n → AreSparse pulses → HasWave seats begin pulses
-has_wave seats begin pulses n big sparse = (kept.0, kept.2.order, subst (IsRoundLine seats begin pulses) (fun_ext same) line)
+has_wave : (seats : List Seat) (begin : ℕ) (pulses : List Stretch) (n e : ℕ) → 470000 ≤ n → e < n → ((p : Stretch) → In p pulses → p.to ≤ e) → IsWave pulses → HasWave seats begin pulses
+has_wave seats begin pulses n e big past ends order = (kept.0, kept.2.order, subst (IsRoundLine seats begin pulses) (fun_ext same) line)
   where
     low : ℕ → Bool
     low = made_line seats begin pulses
@@ -60,8 +68,10 @@ has_wave seats begin pulses n big sparse = (kept.0, kept.2.order, subst (IsRound
     kept : Recorded (made_line seats begin pulses) (begin + n)
     kept = recorded (made_line seats begin pulses) begin n (high_before seats begin pulses (made_line seats begin pulses) (made_round seats begin pulses))
 
-    high : (u : ℕ) → begin + 458461 ≤ u → low u ≡ false
-    high = high_late seats begin pulses low sparse line
+    high : (u : ℕ) → begin + n ≤ u + 1 → low u ≡ false
+    high u l =
+        let at = rounds_are_short.ends low begin in
+        high_after seats begin pulses low line order u (omega (arith, l, big, at)) (λ p i b. let x = ends p i in omega (arith, x, past, l))
 
     was : was_low low (begin + n) ≡ false
     was = ap (λ b. nat_lt 0 (begin + n) && b) (high (begin + n - 1) (omega (arith, big))) ∙ and_no (nat_lt 0 (begin + n))
@@ -75,7 +85,7 @@ has_wave seats begin pulses n big sparse = (kept.0, kept.2.order, subst (IsRound
     same : (u : ℕ) → low u ≡ line_of kept.0 u
     same u = elim (cases_lt u (begin + n)) [
       | inl lt ↦ kept.2.same u lt ∙ ap (λ o. line_of kept.0 u || lows o u) none ∙ or_no (line_of kept.0 u)
-      | inr ge ↦ high u (omega (arith, ge, big)) ∙ sym (no_line (begin + n) u kept.0 ended ge)
+      | inr ge ↦ high u (omega (arith, ge)) ∙ sym (no_line (begin + n) u kept.0 ended ge)
     ]
 
 outcome_on : List Seat → ℕ → List Stretch → Outcome
@@ -89,8 +99,9 @@ outcome_on seats begin wave = record {
 
 pub rounds_have_outcomes : RoundsHaveOutcomes
 unfolding outcome_on
-rounds_have_outcomes seats begin pulses sparse =
-    let w = has_wave seats begin pulses 470000 (omega arith) sparse in (
+rounds_have_outcomes seats begin pulses order =
+    let e = ended_by pulses in
+    let w = has_wave seats begin pulses (470000 + e.0) e.0 (omega arith) (omega arith) e.1 order in (
       outcome_on seats begin w.0,
       w.1,
       record { line = w.2; starts = refl; ends = refl; ending = refl; bits = refl; survivors = refl; losers = refl; rest = refl },

@@ -1,11 +1,12 @@
 -- Before a round begins, and once it is over, the line is high.
-use Rattle.std.proofs.Common.{◌≡◌, ℕ, zero, suc, ◌+◌, ◌-◌, ◌<◌, ◌≤◌, Bool, true, false, not, ◌&&◌, ◌||◌, nat_lt, nat_le, if◌then◌else◌, List, [], ◌∷◌, ◌⊎◌, inl, inr, Option, Some, None, is_none, refl, arith, ap, ◌∙◌, sym}
+use Rattle.std.proofs.Common.{◌≡◌, ℕ, zero, suc, ◌+◌, ◌-◌, ◌<◌, ◌≤◌, Bool, true, false, ◌&&◌, ◌||◌, nat_lt, nat_le, if◌then◌else◌, List, [], ◌∷◌, ◌⊎◌, inl, inr, Option, Some, None, is_none, refl, arith, ap, ◌∙◌, sym}
 use Rattle.std.specs.List.{list_any}
 use Rattle.std.proofs.lemmas.Bool.{cases_lt}
 use Rattle.std.proofs.lemmas.Bool.Decides.{nat_tests}
 use Rattle.cec_wave.specs.declared.Stretch.{Stretch}
-use Rattle.cec_wave.specs.Line.{Line, line_of, covers, was_low, is_rise}
+use Rattle.cec_wave.specs.Line.{Line, line_of, covers, was_low, IsWave}
 use Rattle.cec_wave.specs.Pulses.{AreSparse, IsNarrow}
+use Rattle.cec_wave.proofs.Kept.{sparse_wave}
 use Rattle.cec_wave.specs.Sender.{sender_stretches}
 use Rattle.cec_frame.specs.Bits.{frame_bits}
 use Rattle.cec_bits.specs.Reading.{End, Known, Read, Slot, known_at, known_slots, reading_of}
@@ -15,7 +16,7 @@ use Rattle.cec_wire.specs.declared.Seat.{Seat}
 use Rattle.cec_bits.specs.Sending.{goes_on, out_slot, sender_pulls}
 use Rattle.cec_wire.specs.Round.{frames_of, is_within, pulse_pulls, is_acknowledged, is_broken, is_pulled, IsRoundLine}
 use Rattle.cec_wire.proofs.Differ.{In, in_any}
-use Rattle.cec_wire.proofs.Lows.{far_apart}
+use Rattle.cec_wire.proofs.Lows.{wave_apart}
 use Rattle.cec_wire.proofs.Lays.{before_start}
 use Rattle.cec_wire.proofs.Early.{AreDone, and_left, and_mid, and_right, no_acks, or_cases}
 use Rattle.cec_wire.proofs.Law.{all_in}
@@ -118,34 +119,32 @@ bounds p u h =
     let b : nat_lt u p.to ≡ true = and_right (nat_le p.from u) (nat_lt u p.to) h in
     (let x : p.from ≤ u = grind (arith, nat_tests) in x, let y : u < p.to = grind (arith, nat_tests) in y)
 
--- two pulses never meet
-meet : (pulses : List Stretch) → AreSparse pulses → (p q : Stretch) → In p pulses → In q pulses → (u : ℕ) → covers p u ≡ true → covers q (u - 1) ≡ true → q.from < p.from → ⊥
-meet pulses sparse p q i j u c d l =
-    let n : IsNarrow q = all_in IsNarrow pulses sparse.narrow q j in
-    omega (arith, far_apart pulses sparse.far sparse.narrow q p j i l, n.1, bounds p u c, bounds q (u - 1) d)
+-- pulls in order never meet
+meet : (pulls : List Stretch) → IsWave pulls → (p q : Stretch) → In p pulls → In q pulls → (u : ℕ) → covers p u ≡ true → covers q (u - 1) ≡ true → q.from < p.from → ⊥
+meet pulls order p q i j u c d l = omega (arith, wave_apart 0 pulls q p order j i l, bounds p u c, bounds q (u - 1) d)
 
--- such a pulse began by then
-pulse_held : (seats : List Seat) (begin : ℕ) (pulses : List Stretch) (low : Line) (at : ℕ) → IsRoundLine seats begin pulses low → AreSparse pulses → (reading_of low begin).at ≡ at
-    → (n : ℕ) → low (at + 3600 + n) ≡ true → PulseOver pulses (at + 3600 + n) (λ from. from ≤ at + 3600)
-pulse_held seats begin pulses low at line sparse same zero h =
-    let p = pulse_only seats begin pulses low line (at + 3600 + zero) (omega (arith, same)) h in
+-- such a pull began by then
+pulse_held : (seats : List Seat) (begin : ℕ) (pulls : List Stretch) (low : Line) (at : ℕ) → IsRoundLine seats begin pulls low → IsWave pulls → (reading_of low begin).at ≡ at
+    → (n : ℕ) → low (at + 3600 + n) ≡ true → PulseOver pulls (at + 3600 + n) (λ from. from ≤ at + 3600)
+pulse_held seats begin pulls low at line order same zero h =
+    let p = pulse_only seats begin pulls low line (at + 3600 + zero) (omega (arith, same)) h in
     (p.0, p.1, p.2, omega (arith, bounds p.0 (at + 3600 + zero) p.2))
-pulse_held seats begin pulses low at line sparse same (suc n) h =
-    let p = pulse_only seats begin pulses low line (at + 3600 + suc n) (omega (arith, same)) h in
+pulse_held seats begin pulls low at line order same (suc n) h =
+    let p = pulse_only seats begin pulls low line (at + 3600 + suc n) (omega (arith, same)) h in
     elim (cases_lt (at + 3600) p.0.from) [
       | inr le ↦ (p.0, p.1, p.2, le)
       | inl late ↦ elim p.3 [
         | inl a ↦ absurd (omega (arith, a, until_by low begin, same, late))
         | inr w ↦ (let before : low (at + 3600 + n) ≡ true = ap low (let x : at + 3600 + n ≡ at + 3600 + suc n - 1 = omega arith in x) ∙ was_before low (at + 3600 + suc n) w in
-            let q = pulse_held seats begin pulses low at line sparse same n before in
-            absurd (meet pulses sparse p.0 q.0 p.1 q.1 (at + 3600 + suc n) p.2 (ap (covers q.0) (let x : at + 3600 + suc n - 1 ≡ at + 3600 + n = omega arith in x) ∙ q.2) (omega (arith, q.3, late))))
+            let q = pulse_held seats begin pulls low at line order same n before in
+            absurd (meet pulls order p.0 q.0 p.1 q.1 (at + 3600 + suc n) p.2 (ap (covers q.0) (let x : at + 3600 + suc n - 1 ≡ at + 3600 + n = omega arith in x) ∙ q.2) (omega (arith, q.3, late))))
       ]
     ]
 
--- and 13,600 after it the line is high, where pulses are sparse
-pub high_after : (seats : List Seat) (begin : ℕ) (pulses : List Stretch) (low : Line) → IsRoundLine seats begin pulses low → AreSparse pulses
-    → (u : ℕ) → (reading_of low begin).at + 13600 ≤ u → low u ≡ false
-high_after seats begin pulses low line sparse u l = by_low (low u) refl
+-- so once those that began by then have ended the line is high
+pub high_after : (seats : List Seat) (begin : ℕ) (pulls : List Stretch) (low : Line) → IsRoundLine seats begin pulls low → IsWave pulls
+    → (u : ℕ) → (reading_of low begin).at + 3600 ≤ u → ((p : Stretch) → In p pulls → p.from ≤ (reading_of low begin).at + 3600 → p.to ≤ u) → low u ≡ false
+high_after seats begin pulls low line order u l ended = by_low (low u) refl
   where
     at : ℕ
     at = (reading_of low begin).at
@@ -153,6 +152,14 @@ high_after seats begin pulses low line sparse u l = by_low (low u) refl
     by_low : (b : Bool) → low u ≡ b → low u ≡ false
     by_low false h = h
     by_low true h =
-        let p = pulse_held seats begin pulses low at line sparse refl (u - (at + 3600)) (ap low (let x : at + 3600 + (u - (at + 3600)) ≡ u = omega arith in x) ∙ h) in
-        let n : IsNarrow p.0 = all_in IsNarrow pulses sparse.narrow p.0 p.1 in
-        absurd (omega (arith, n.1, p.3, bounds p.0 (at + 3600 + (u - (at + 3600))) p.2))
+        let p = pulse_held seats begin pulls low at line order refl (u - (at + 3600)) (ap low (let x : at + 3600 + (u - (at + 3600)) ≡ u = omega arith in x) ∙ h) in
+        absurd (omega (arith, ended p.0 p.1 p.3, l, bounds p.0 (at + 3600 + (u - (at + 3600))) p.2))
+
+pub sparse_order : (pulses : List Stretch) → AreSparse pulses → IsWave pulses
+sparse_order pulses sparse = sparse_wave pulses sparse
+
+-- with sparse pulses 13,600 after the ending
+pub high_sparse : (seats : List Seat) (begin : ℕ) (pulses : List Stretch) (low : Line) → IsRoundLine seats begin pulses low → AreSparse pulses
+    → (u : ℕ) → (reading_of low begin).at + 13600 ≤ u → low u ≡ false
+high_sparse seats begin pulses low line sparse u l =
+    high_after seats begin pulses low line (sparse_order pulses sparse) u (omega (arith, l)) (λ p i e. let n : IsNarrow p = all_in IsNarrow pulses sparse.narrow p i in omega (arith, n.1, e, l))

@@ -3,11 +3,11 @@ use Rattle.std.specs.Prelude.{◌≡◌, ℕ, ◌+◌, ◌*◌, ◌<◌, ◌≤�
 use Rattle.std.specs.List.{Any}
 use Rattle.cec_wave.specs.declared.Stretch.{Stretch}
 use Rattle.cec_wave.specs.Line.{line_of, is_fall, IsWave}
-use Rattle.cec_wave.specs.Pulses.{AreSparse}
+use Rattle.cec_wave.specs.Sender.{first_slot, slot_width}
 use Rattle.cec_bits.specs.Reading.{reading_of}
 use Rattle.cec_wire.specs.declared.Seat.{Seat}
 use Rattle.cec_wire.specs.Round.{frames_of, IsRoundLine}
-use Rattle.cec_wire.specs.Contend.{IsWinnersLine, IsPulledBelow}
+use Rattle.cec_wire.specs.Contend.{IsPulledBelow}
 use Rattle.cec_wave.specs.Bounds.{most_slots}
 
 -- a frame has at most 16 blocks (CEC 6, frame description)
@@ -16,7 +16,7 @@ AreShortFrames seats = All (λ f. length f ≤ 16) (frames_of seats)
 
 -- one of a sender's at most 160 slots begins at t (CEC 5.2, bit timing)
 abbrev pub IsSlotBegin : ℕ → ℕ → Type 0
-IsSlotBegin begin t = (k : ℕ) × (k < most_slots) × (t ≡ begin + 4500 + 2400 * k)
+IsSlotBegin begin t = (k : ℕ) × (k < most_slots) × (t ≡ begin + first_slot + slot_width * k)
 
 -- one of these pulses begins at t, while the reading goes on (own)
 abbrev pub IsPulseBegin : ℕ → ℕ → List Stretch → ℕ → Type 0
@@ -42,17 +42,16 @@ AreRisingFrom from (t ∷ ts) = (from ≤ t) × AreRisingFrom (t + 1) ts
 abbrev pub FallsAreRead : Type 0
 FallsAreRead = (low : ℕ → Bool) (begin : ℕ) (falls : List ℕ) → AreRisingFrom begin falls → All (λ u. (u ≤ (reading_of low begin).until) × (is_fall low u ≡ true)) falls → length falls ≤ 162
 
--- So it falls at most 179 times: 161 stretches of the senders, and 18 pulses.
+-- So a line that keeps the round's rule below t falls at most so often below t, whatever pulls there are.
 abbrev pub FewFalls : Type 0
-FewFalls = (seats : List Seat) (begin : ℕ) (pulses : List Stretch) (t : ℕ) (low : ℕ → Bool) → AreShortFrames seats → AreSparse pulses → IsPulledBelow seats begin pulses t low
-    → (falls : List ℕ) → AreRisingFrom 0 falls → All (λ u. (u < t) × (is_fall low u ≡ true)) falls → length falls ≤ 179
+FewFalls = (seats : List Seat) (begin : ℕ) (pulses : List Stretch) (t : ℕ) (low : ℕ → Bool) → IsPulledBelow seats begin pulses t low
+    → (falls : List ℕ) → AreRisingFrom 0 falls → All (λ u. (u < t) × (is_fall low u ≡ true)) falls → length falls ≤ 162
 
--- A wave that keeps the rule below t, where all its stretches begin, has at most 179 stretches.
+-- A wave that keeps the rule below t, where all its stretches begin, has at most so many stretches.
 abbrev pub WaveFits : Type 0
-WaveFits = (seats : List Seat) (begin : ℕ) (pulses : List Stretch) (t : ℕ) (ss : List Stretch) → AreShortFrames seats → AreSparse pulses
-    → IsPulledBelow seats begin pulses t (line_of ss) → IsWave ss → All (λ s. s.from < t) ss → length ss ≤ 179
+WaveFits = (seats : List Seat) (begin : ℕ) (pulses : List Stretch) (t : ℕ) (ss : List Stretch) → IsPulledBelow seats begin pulses t (line_of ss)
+    → IsWave ss → All (λ s. s.from < t) ss → length ss ≤ 162
 
--- And so has the wave of a round, whoever is taken to pull: all who send, or the winners.
+-- And so has the wave of a round.
 abbrev pub RoundFits : Type 0
-RoundFits = (seats : List Seat) (begin : ℕ) (pulses ss : List Stretch) → AreShortFrames seats → AreSparse pulses
-    → IsRoundLine seats begin pulses (line_of ss) ⊎ IsWinnersLine seats begin pulses (line_of ss) → IsWave ss → length ss ≤ 179
+RoundFits = (seats : List Seat) (begin : ℕ) (pulses ss : List Stretch) → IsRoundLine seats begin pulses (line_of ss) → IsWave ss → length ss ≤ 162

@@ -3,7 +3,6 @@ use Rattle.std.specs.Prelude.{◌≡◌, ℕ, ◌==◌, ◌<◌, Bool, true, ◌
 use Rattle.std.specs.List.{list_any}
 use Rattle.cec_wave.specs.declared.Stretch.{Stretch}
 use Rattle.cec_wave.specs.Line.{IsWave}
-use Rattle.cec_wave.specs.Pulses.{AreSparse}
 use Rattle.cec_wire.specs.declared.Seat.{Seat}
 use Rattle.cec_wire.specs.declared.Outcome.{Outcome}
 use Rattle.cec_wire.specs.Round.{IsRound}
@@ -14,5 +13,5 @@ is_begun seats begin pulses = list_any (λ s. is_some s.sends) seats || list_any
 
 -- a round in which somebody pulls at once ends later, and its last low stretch too
 abbrev pub RoundsLast : Type 0
-RoundsLast = (seats : List Seat) (begin : ℕ) (pulses : List Stretch) (o : Outcome) → AreSparse pulses → IsWave o.wave → IsRound seats begin pulses o
+RoundsLast = (seats : List Seat) (begin : ℕ) (pulses : List Stretch) (o : Outcome) → IsWave pulses → IsWave o.wave → IsRound seats begin pulses o
     → is_begun seats begin pulses ≡ true → (begin < o.rest) × (begin < o.reading.at)

@@ -2,7 +2,6 @@
 use Rattle.std.specs.Prelude.{◌≡◌, ℕ, List}
 use Rattle.cec_wave.specs.declared.Stretch.{Stretch}
 use Rattle.cec_wave.specs.Line.{IsWave}
-use Rattle.cec_wave.specs.Pulses.{AreSparse}
 use Rattle.cec_wire.specs.declared.Seat.{Seat}
 use Rattle.cec_wire.specs.declared.Outcome.{Outcome}
 use Rattle.cec_wire.specs.Round.{IsRound}
@@ -27,6 +26,6 @@ OneOutcome = (seats : List Seat) (begin : ℕ) (pulses : List Stretch) (o p : Ou
 abbrev pub HasOutcome : List Seat → ℕ → List Stretch → Type 0
 HasOutcome seats begin pulses = (o : Outcome) × IsWave o.wave × IsRound seats begin pulses o
 
--- whoever sends, and whatever sparse pulses come, there is one
+-- whoever sends, and whatever pulls in order come, there is one
 abbrev pub RoundsHaveOutcomes : Type 0
-RoundsHaveOutcomes = (seats : List Seat) (begin : ℕ) (pulses : List Stretch) → AreSparse pulses → HasOutcome seats begin pulses
+RoundsHaveOutcomes = (seats : List Seat) (begin : ℕ) (pulses : List Stretch) → IsWave pulses → HasOutcome seats begin pulses

@@ -84,9 +84,8 @@ pub fn acknowledgers_hold()
 
 // ---- falls, and how long it lasts
 
-/// A line that keeps the round's rule falls only where a sender's stretch or a pulse begins, so it falls at
-/// most 179 times, and a wave of it has at most 179 stretches. Frames have at most 16 blocks (CEC 6), and
-/// the pulses are sparse.
+/// A line that keeps the round's rule falls only where a sender's stretch or a pulse begins, where frames have at most 16
+/// blocks (CEC 6). Whoever pulls, it falls at most 162 times, and a wave of it has at most 162 stretches.
 pub fn few_falls()
     ensures begins { EachFallBegins }
     ensures few { FewFalls }
@@ -105,14 +104,15 @@ pub fn rounds_last()
     ensures { RoundsLast }
 {}
 
-/// A round's line by itself is read once, from the round's begin: it is high before and from the rest on, and
-/// falls no more once the reading is over. That reading is the outcome's.
+/// A round's line by itself is read once, from the round's begin, whatever pulls in order there are: it is high before and from
+/// the rest on, and falls no more once the reading is over. That reading is the outcome's.
 pub fn rounds_are_lone()
     ensures { RoundsAreLone }
 {}
 
-/// A round's reading ends at most 444,861 microseconds after its begin, and its last low stretch at most 458,461
-/// after it. That stretch begins by the reading's last microsecond, and at most 19 pulses begin in all that time.
+/// A round's reading ends at most 444,861 microseconds after its begin, and its last low stretch at most 448,461 after it, or with
+/// a pull that began by then: with sparse pulses at most 458,461 after it. That stretch begins by the reading's last microsecond,
+/// and at most 19 sparse pulses begin in all that time.
 pub fn rounds_are_short()
     ensures { RoundsAreShort }
 {}
@@ -125,7 +125,7 @@ pub fn one_outcome()
     ensures { OneOutcome }
 {}
 
-/// Each round has an outcome, whoever sends and whatever sparse pulses come.
+/// Each round has an outcome, whoever sends and whatever pulls in order come.
 pub fn rounds_have_outcomes()
     ensures { RoundsHaveOutcomes }
 {}

@@ -8,7 +8,7 @@ use Rattle.cec_wave.specs.Line.{IsWave}
 use Rattle.cec_wave.specs.Pulses.{AreSparse}
 use Rattle.cec_one_wire.specs.declared.edge_wire.EdgeWire.{EdgeWire}
 use Rattle.cec_one_wire.specs.Wired.{Found, IsBegunWith, IsNext}
-use Rattle.cec_one_wire.proofs.Rounding.{sparse_wave}
+use Rattle.cec_wave.proofs.Kept.{sparse_wave}
 
 pub pulse_next : (past : List Stretch) (t : ℕ) (p : Stretch) → AreSparse (past ++ p ∷ []) → p.to < latest_heard → t ≤ p.from → IsNext past t (Some p)
 pulse_next past t p s e l = record { wave = sparse_wave (past ++ p ∷ []) s; ends = only (λ q. q.to < latest_heard) e; late = only (λ q. t ≤ q.from) l }

@@ -6,7 +6,7 @@ ghost use Rattle.cec_wire.specs.Lasting.{is_begun};
 use arrayvec::ArrayVec;
 use cec_frame::{Addr, Frame};
 use cec_one_wire::EdgeWire;
-use cec_wave::{Pulses, Stretch};
+use cec_wave::{Pulls, Stretch};
 use cec_wire::{Loser, Outcome, Seat, Wire};
 use std::alloc::Global;
 use std::process::Abort;
@@ -179,13 +179,13 @@ fn any_begins(pulses: &[Stretch], start: u64) -> bool
 }
 
 // Somebody pulls at once.
-fn is_begun(seats: &[Seat], start: u64, pulses: &Pulses) -> bool
+fn is_begun(seats: &[Seat], start: u64, pulses: &Pulls) -> bool
     ensures { result ≡ is_begun seats.now start pulses.now }
 {
     anybody_sends(seats) || any_begins(pulses.as_slice(), start)
 }
 
-fn round(rt: &impl Abort, seats: &[Seat], start: u64, pulses: &Pulses) -> Outcome
+fn round(rt: &impl Abort, seats: &[Seat], start: u64, pulses: &Pulls) -> Outcome
     requires few { length seats.now ≤ 15 }
 {
     assert!(rt; start <= 2_000_000_100_000 && is_begun(seats, start, pulses));
@@ -197,7 +197,7 @@ fn round_of(rt: &impl Abort, text: &str) -> Option<Outcome> {
     let (seats, rest) = text.split_once(" | ")?;
     let (start, pulse) = rest.split_once(" | ")?;
     let seats = seats_of(seats)?;
-    let pulses = Pulses::new(&[pulse_of(pulse)?]).ok()?;
+    let pulses = Pulls::new(&[pulse_of(pulse)?])?;
     let start: u64 = start.parse().ok()?;
     Some(round(rt, &seats, start, &pulses))
 }

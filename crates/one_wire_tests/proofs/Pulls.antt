@@ -4,7 +4,7 @@ use Rattle.std.specs.List.{All}
 use Rattle.cec_wave.specs.declared.Stretch.{Stretch}
 use Rattle.cec_wave.specs.Line.{IsWave, IsWaveFrom}
 use Rattle.cec_one_wire.specs.declared.edge_wire.EdgeWire.{EdgeWire}
-use Rattle.cec_one_wire.specs.Line.{EndsInTime}
+use Rattle.cec_wave.specs.Pulls.{EndsInTime}
 use Rattle.cec_one_wire.specs.Wired.{ArePulls, IsBegunWith}
 
 sooner : (a b : ℕ) (ps : List Stretch) → b ≤ a → IsWaveFrom a ps → IsWaveFrom b ps

@@ -2,7 +2,7 @@
 ghost use Rattle.std.specs.Prelude.{◌≡◌, ◌≤◌, IsTrue, All, ℕ, length};
 ghost use Rattle.cec_wave.specs.Line.{IsWaveFrom};
 ghost use Rattle.cec_wave.specs.Bounds.{latest_begin};
-ghost use Rattle.cec_one_wire.specs.Line.{EndsInTime};
+ghost use Rattle.cec_wave.specs.Pulls.{EndsInTime};
 
 use arrayvec::ArrayVec;
 use cec_one_wire::EdgeWire;

@@ -3,7 +3,7 @@ use crate::frames::{order_text, part_text, received_text};
 use crate::receivers::{last_text, read_text, standing_text};
 use crate::senders::{pull_text, state_text};
 use crate::words::{bits_of, is_reported, number, stretches_of};
-use cec_wave::{Pulses, Stretch, Wave, lay};
+use cec_wave::{Pulls, Pulses, Stretch, Wave, lay};
 use std::process::Abort;
 
 /// What is asked, of which words, and what is reported. `12000:01` are a sender's bits from 12,000 on.
@@ -21,6 +21,15 @@ crowd 4097 125001-125401 => TooMany
 crowd 4096 125001-125401 => Order
 crowd 4097 125000-125400 => TooMany
 crowd 4096 125000-125400 => Close
+# Pulls that are in order, and some that are not: one touches another, one is empty, one ends before it begins.
+dense 5-405 406-407 500-40000 => 3
+dense 5-405 405-407 => none
+dense 5-405 404-407 => none
+dense 5-5 => none
+dense 7-5 => none
+# A copy of those that begin after an instant.
+left 405 5-405 406-407 500-40000 => [Stretch { from: 406, to: 407 }, Stretch { from: 500, to: 40000 }]
+left 406 5-405 406-407 500-40000 => [Stretch { from: 500, to: 40000 }]
 # When and how a reading ends, and its bits: a sender that nobody acknowledges, and one that is cut off after its header.
 read 12000:0000000011 => 39150 Complete [0000000011]
 read 1000000:0100100001 => 1028851 Silent [0100100001]
@@ -138,6 +147,21 @@ fn crowd_text(rt: &(impl Abort + AllocGlobal), words: &str) -> String {
     text.expect(rt, "a text")
 }
 
+fn dense_text(rt: &(impl Abort + AllocGlobal), words: &str) -> String {
+    let text = match Pulls::new(&stretches_of(rt, words)) {
+        Some(pulls) => format!(in rt.alloc(); "{}", pulls.as_slice().len()),
+        None => format!(in rt.alloc(); "none"),
+    };
+    text.expect(rt, "a text")
+}
+
+fn left_text(rt: &(impl Abort + AllocGlobal), words: &str) -> String {
+    let (instant, stretches) = words.split_once(' ').expect(rt, "an instant");
+    let mut pulls = Pulls::new(&stretches_of(rt, stretches)).expect(rt, "pulls");
+    pulls.drop_until(u64::from(number(rt, instant)));
+    format!(in rt.alloc(); "{:?}", pulls.copy().as_slice()).expect(rt, "a text")
+}
+
 /// What is reported of what is asked.
 fn reported(rt: &(impl Abort + AllocGlobal), asked: &str) -> String {
     let (verb, words) = asked.split_once(' ').unwrap_or((asked, ""));
@@ -145,6 +169,8 @@ fn reported(rt: &(impl Abort + AllocGlobal), asked: &str) -> String {
         "lay" => laid_text(rt, words),
         "pulses" => pulses_text(rt, words),
         "crowd" => crowd_text(rt, words),
+        "dense" => dense_text(rt, words),
+        "left" => left_text(rt, words),
         "read" => read_text(rt, words),
         "last" => last_text(rt, words),
         "stand" => standing_text(rt, words),

@@ -1,6 +1,6 @@
 use Rattle.std.proofs.Common.{◌≡◌, ◌+◌, ◌-◌, ◌/◌, ◌%◌, nat_lt, false, slice_index_or, ap, sym, ◌∙◌, arith}
 use Rattle.cec_frame.specs.Bits.{frame_bits}
-use Rattle.cec_bits.specs.Sends.{low_of}
+use Rattle.cec_wave.specs.Sender.{low_of}
 use Rattle.cec_bits.proofs.Laid.{slot_at, slots_over}
 use Rattle.cec_bits.proofs.sender.Sender.is_low_in_slots.Goals as goal
 

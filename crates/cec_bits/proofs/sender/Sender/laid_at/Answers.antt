@@ -1,4 +1,4 @@
-use Rattle.std.proofs.Common.{◌+◌, arith}
+use Rattle.std.proofs.Common.{arith}
 use Rattle.cec_frame.specs.Bits.{frame_bits}
 use Rattle.cec_bits.proofs.Laid.{rises_before, rises_start, rises_slots}
 use Rattle.cec_bits.proofs.sender.Sender.laid_at.Goals as goal

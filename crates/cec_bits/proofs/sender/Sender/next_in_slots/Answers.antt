@@ -1,8 +1,7 @@
 use Rattle.std.proofs.Common.{◌≡◌, ◌+◌, ◌-◌, ◌/◌, ◌%◌, false, slice_index_or, Some, ap, sym, ◌∙◌, subst, arith}
 use Rattle.cec_wave.specs.Line.{line_of}
-use Rattle.cec_wave.specs.Sender.{slot_stretches}
+use Rattle.cec_wave.specs.Sender.{low_of, slot_stretches}
 use Rattle.cec_frame.specs.Bits.{frame_bits}
-use Rattle.cec_bits.specs.Sends.{low_of}
 use Rattle.cec_bits.specs.Sending.{IsNextChange}
 use Rattle.cec_bits.proofs.Laid.{change_over, change_low, change_high, change_last}
 use Rattle.cec_bits.proofs.sender.Sender.next_in_slots.Goals as goal

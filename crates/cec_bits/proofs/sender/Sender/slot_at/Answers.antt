@@ -1,8 +1,7 @@
 use Rattle.std.proofs.Common.{◌≡◌, ◌+◌, ◌-◌, ◌/◌, ◌%◌, false, slice_index_or, ap, sym, ◌∙◌, subst, arith}
 use Rattle.cec_wave.specs.Line.{line_of}
-use Rattle.cec_wave.specs.Sender.{slot_stretches}
+use Rattle.cec_wave.specs.Sender.{low_of, slot_stretches}
 use Rattle.cec_frame.specs.Bits.{frame_bits}
-use Rattle.cec_bits.specs.Sends.{low_of}
 use Rattle.cec_bits.specs.Sending.{RisesAt}
 use Rattle.cec_bits.proofs.Laid.{rises_in_slot, rises_over}
 use Rattle.cec_bits.proofs.sender.Sender.slot_at.Goals as goal

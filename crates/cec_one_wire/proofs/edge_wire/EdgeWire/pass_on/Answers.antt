@@ -1,7 +1,7 @@
-use Rattle.std.proofs.Common.{◌≡◌, ◌+◌, List, length, Option, ap, sym, ◌∙◌}
+use Rattle.std.proofs.Common.{◌≡◌, List, length, Option, ap, sym, ◌∙◌}
 use Rattle.std.specs.List.{list_any, refill}
 use Rattle.cec_bits.specs.declared.sender.Sender.{Sender}
-use Rattle.cec_one_wire.specs.Pulls.{StandIn, pull_in}
+use Rattle.cec_one_wire.specs.Pulls.{pull_in}
 use Rattle.cec_one_wire.proofs.Begins.{heard_stand, lent_back}
 use Rattle.cec_one_wire.proofs.Kept.{kept_made, stand_in}
 use Rattle.cec_one_wire.proofs.edge_wire.EdgeWire.pass_on.Goals as goal

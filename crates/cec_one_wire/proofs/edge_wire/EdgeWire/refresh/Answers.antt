@@ -1,5 +1,5 @@
 use Rattle.std.proofs.Common.{sym}
-use Rattle.cec_one_wire.proofs.Kept.{kept_made, stand_in}
+use Rattle.cec_one_wire.proofs.Kept.{stand_in}
 use Rattle.cec_one_wire.proofs.edge_wire.EdgeWire.refresh.Goals as goal
 
 pub pull_at-self-requires-clause-places : goal.pull_at-self-requires-clause-places

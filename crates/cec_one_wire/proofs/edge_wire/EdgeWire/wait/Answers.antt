@@ -1,4 +1,4 @@
-use Rattle.std.proofs.Common.{◌≤◌, arith, ◌∙◌}
+use Rattle.std.proofs.Common.{arith}
 use Rattle.cec_one_wire.proofs.Bounded.{goes_near, waits_near}
 use Rattle.cec_one_wire.proofs.Turning.{Waits, steady_low, waits_by, waits_after, waits_calm, waits_so}
 use Rattle.cec_one_wire.proofs.edge_wire.EdgeWire.wait.Goals as goal

@@ -1,4 +1,5 @@
-use Rattle.std.proofs.Common.{◌+◌, ◌-◌}
+use Rattle.std.proofs.Common.{◌-◌}
+use Rattle.cec_wave.specs.Bounds.{latest_heard}
 use Rattle.cec_one_wire.proofs.Rounding.{Rounds}
 use Rattle.cec_one_wire.proofs.edge_wire.EdgeWireWire.round.Given as goal
 
@@ -7,4 +8,4 @@ abbrev pub invariant-edges : goal.invariant-edges
 invariant-edges l = Rounds l.seats l.start l.pulls l.self
 
 abbrev pub decreases-edges : goal.decreases-edges
-decreases-edges l = l.start + 470001 - l.self.time
+decreases-edges l = latest_heard - l.self.time

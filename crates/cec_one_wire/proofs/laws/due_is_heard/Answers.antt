@@ -1,5 +1,0 @@
-use Rattle.cec_one_wire.proofs.Lows as Lows
-use Rattle.cec_one_wire.proofs.laws.due_is_heard.Goals as goal
-
-pub returns : goal.returns
-returns c = Lows.due_is_heard

@@ -1,5 +1,0 @@
-use Rattle.cec_one_wire.proofs.Ticks as Goes
-use Rattle.cec_one_wire.proofs.laws.tick_goes.Goals as goal
-
-pub returns : goal.returns
-returns c = Goes.tick_goes
