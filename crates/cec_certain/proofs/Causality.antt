@@ -1,7 +1,7 @@
 -- Why what is reported before an instant depends on what is known before it alone.
 use Rattle.std.proofs.Common.{◌≡◌, ℕ, ◌+◌, List, [], ◌∷◌, ◌++◌, Option, Some, None, sym, ap, ◌∙◌, subst}
 use Rattle.cec_wave.specs.declared.Stretch.{Stretch}
-use Rattle.cec_wave.specs.Pulses.{AreSparse}
+use Rattle.cec_wave.specs.Line.{IsWave, IsWaveFrom}
 use Rattle.hdmi_topo.specs.Node.{Node}
 use Rattle.hdmi_blocks.specs.declared.edid.Edid.{Edid}
 use Rattle.hdmi_blocks.proofs.OneEdid.{one_edid}
@@ -19,21 +19,20 @@ use Rattle.cec_run.specs.Emulate.{IsTraceOf}
 use Rattle.cec_run.proofs.HasRun.{runs_have_texts}
 use Rattle.cec_run.proofs.Accepted.{one_plan}
 use Rattle.cec_certain.specs.Causal.{Continues, RunsAreCausal, TracesAreCausal}
-use Rattle.cec_certain.proofs.Apart.{front_sparse}
 use Rattle.cec_certain.proofs.Certainty.{reported_is_front}
 use Rattle.cec_certain.proofs.Before.{has_all_before}
 
 -- ---- of runs
 
 pub runs_are_causal : RunsAreCausal
-runs_are_causal reporting tree pulses events until sparse framed =
-    let run = (runs_have_texts reporting tree pulses events until sparse).2.run in
+runs_are_causal reporting tree pulses events until order framed =
+    let run = (runs_have_texts reporting tree pulses events until order).2.run in
     let all = has_all_before reporting until run.turns (start (first_net tree pulses) events) run.last run.body run.leads run.stops in (
       all.0,
       all.1,
       all.2,
       λ more later end text totals comes reported.
-          reported_is_front reporting tree pulses later events more until end all.2.turns all.1 all.0 text totals (sparse.narrow, sparse.far) framed comes all.2.leads reported,
+          reported_is_front reporting tree pulses later events more until end all.2.turns all.1 all.0 text totals order framed comes all.2.leads reported,
     )
 
 -- ---- the first of some events
@@ -41,6 +40,12 @@ runs_are_causal reporting tree pulses events until sparse framed =
 pub front_framed : (es fs : List TimedEvent) → AreFramedEvents (es ++ fs) → AreFramedEvents es
 front_framed [] fs h = tt
 front_framed (e ∷ es) fs h = (h.0, front_framed es fs h.1)
+
+-- ---- the first of some pulses
+
+front_from : (from : ℕ) (ps qs : List Stretch) → IsWaveFrom from (ps ++ qs) → IsWaveFrom from ps
+front_from from [] qs h = tt
+front_from from (p ∷ ps) qs h = (h.0, h.1, front_from (p.to + 1) ps qs h.2)
 
 -- ---- of texts
 
@@ -70,11 +75,11 @@ traces_are_causal topology script other x y s t until p q agree =
     let sound = scripts_are_sound p.plan.tree script p.course p.accepted.course_is in
     let first = agree.first in
     let second = agree.second in
-    let sparse = front_sparse agree.pulses first.later (subst (λ (ps : List Stretch). AreSparse ps) first.pulses_are sound.sparse) in
+    let order = front_from 0 agree.pulses first.later (subst (λ (ps : List Stretch). IsWave ps) first.pulses_are sound.timely.order) in
     let framed = front_framed agree.events first.more (subst (λ (es : List TimedEvent). AreFramedEvents es) first.events_are sound.framed) in
     let plan : q.plan ≡ p.plan = one_plan topology p.plan q.plan p.accepted.plan_is q.accepted.plan_is in
     let root : q.edid ≡ p.edid = same_root p.plan.edid q.edid p.edid (subst (λ (r : Plan). IsRoot r.edid q.edid) plan q.root) p.root in
-    let causal = runs_are_causal (Trace p.edid) p.plan.tree agree.pulses agree.events until sparse framed in (
+    let causal = runs_are_causal (Trace p.edid) p.plan.tree agree.pulses agree.events until order framed in (
       causal.0,
       causal.1,
       causal.2,

@@ -3,19 +3,16 @@ use Rattle.std.proofs.Common.{◌≡◌, ℕ, zero, suc, ◌+◌, ◌-◌, ◌<�
 use Rattle.std.specs.List.{All, list_any}
 use Rattle.std.proofs.lemmas.Bool.Decides.{nat_tests}
 use Rattle.std.proofs.lemmas.Bool.{cases_lt}
-use Rattle.std.proofs.lemmas.List.{take-append-drop}
 use Rattle.std.proofs.lemmas.List.Folds.{list_any-append, list_any_none}
 use Rattle.std.proofs.lemmas.List.Elements.{filter-append}
 use Rattle.cec_wave.specs.declared.Stretch.{Stretch}
 use Rattle.cec_wave.specs.Line.{Line as WaveLine, IsWave, line_of, covers, was_low}
+use Rattle.cec_wave.proofs.Kept.{wave_filter}
 use Rattle.cec_bits.specs.Reading.{known_at, reading_of}
 use Rattle.cec_bits.proofs.Ends.{until_by}
 use Rattle.cec_wire.specs.declared.Seat.{Seat}
 use Rattle.cec_wire.specs.declared.Outcome.{Outcome}
 use Rattle.cec_wire.specs.Round.{IsRound, is_within, pulse_pulls, is_pulled, close_in}
-use Rattle.cec_wire.proofs.Bounds.{rounds_are_short}
-use Rattle.cec_wire.proofs.HasOutcome.{rounds_have_outcomes}
-use Rattle.cec_wire.proofs.OneOutcome.{one_outcome}
 use Rattle.cec_wire.proofs.Alone.{rounds_are_lone}
 use Rattle.cec_event.specs.declared.event.Event.{Event}
 use Rattle.cec_event.specs.declared.event.Event.TheVariants.{Plug, Unplug, Key, Send, Outside}
@@ -41,8 +38,7 @@ use Rattle.cec_run.specs.declared.run.Turn.TheVariants.{Stop, Apply, Round}
 use Rattle.cec_run.specs.Run.{Config, start, turn_at, turn_of, is_by, round_turn, event_turn, first_time, event_reported, counted_event, start_reported, IsEventTurn, IsRoundTurn, IsTurnBy, IsTurn, Leads}
 use Rattle.cec_run.proofs.Advance.{round_begins, event_keeps}
 use Rattle.cec_run.proofs.Turns.{front_of_text}
-use Rattle.cec_certain.specs.Certain.{AreApart, with_pulses, with_more, ComesFrom, IsOverBy, LeadsBy, TurnsAreCertain, TurnsStayCertain, ReportedIsFront}
-use Rattle.cec_certain.proofs.Apart.{apart_filter, far_late, from_begin, near_sparse, onset_near}
+use Rattle.cec_certain.specs.Certain.{with_pulses, with_more, ComesFrom, IsOverBy, LeadsBy, TurnsAreCertain, TurnsStayCertain, ReportedIsFront}
 
 -- ---- a pulse that begins after the close is no pulse of the round
 
@@ -114,27 +110,11 @@ round_more seats begin until pulses later o high c late r = record {
         ≡ is_pulled seats begin (pulses ++ later) (was_low (line_of o.wave) t) (known_at t (reading_of (line_of o.wave) begin)) t
     same t = rw (none_late begin (line_of o.wave) o.rest until t pulses later high rests ends late) refl
 
--- From its rest on a round's line is high, however many pulses there are: those that begin within 500,000 are few, with them
--- alone the round closes sooner than that, and so it has no others on its line.
-rests_high : (s : NetState) (begin : ℕ) (o : Outcome) → AreFramed s → AreApart s.pulses → next_start s ≡ Some begin → IsWave o.wave → IsRound (seats_of s begin) begin s.pulses o
+-- From its rest on a round's line is high.
+rests_high : (s : NetState) (begin : ℕ) (o : Outcome) → AreFramed s → IsWave s.pulses → next_start s ≡ Some begin → IsWave o.wave → IsRound (seats_of s begin) begin s.pulses o
     → (u : ℕ) → o.rest ≤ u → line_of o.wave u ≡ false
-rests_high s begin o framed apart begins wave round =
-    let seats : List Seat = seats_of s begin in
-    let near : List Stretch = take 20 s.pulses in
-    let few : NetState = record s { pulses = near } in
-    let next : next_start few ≡ Some begin = ap (sooner (least_start s.rest s.devices)) (onset_near s.pulses) ∙ begins in
-    let sparse = near_sparse s.pulses apart in
-    let own = rounds_have_outcomes seats begin near sparse in
-    let rest = rounds_are_short.rests seats begin near own.0 sparse own.1 own.2 in
-    let ends = rounds_are_short.ends (line_of own.0.wave) begin in
-    let soon : close_in own.0 < begin + 500000 = omega (arith, rest, ends, own.2.ends) in
-    let high : (u : ℕ) → own.0.rest ≤ u → line_of own.0.wave u ≡ false =
-    (rounds_are_lone.lone seats begin near own.0 (seats_fit s begin framed) sparse own.1 own.2 (begun few begin next)).after in
-    let late = far_late begin s.pulses apart (from_begin (least_start s.rest s.devices) begin s.pulses apart begins) in
-    let whole = subst (λ (ps : List Stretch). IsRound seats begin ps own.0) (take-append-drop 20 s.pulses)
-    (round_more seats begin (begin + 500000) near (drop 20 s.pulses) own.0 high soon late own.2) in
-    let same = one_outcome seats begin s.pulses o own.0 wave own.1 round whole in
-    λ u l. ap (λ w. line_of w u) same.wave ∙ high u (omega (arith, same.rest, l))
+rests_high s begin o framed order begins wave round =
+    (rounds_are_lone.lone (seats_of s begin) begin s.pulses o (seats_fit s begin framed) order wave round (begun s begin begins)).after
 
 -- ---- the next start
 
@@ -273,14 +253,14 @@ after_more s begin until o later l late =
     ap (λ (ps : List Stretch). filter (λ p. nat_lt o.rest p.from) s.pulses ++ ps) (sym (late_kept o.rest until later l late)) ∙ sym (filter-append (λ p. nat_lt o.rest p.from) s.pulses later) in
     ap (λ (ps : List Stretch). let n : NetState = record { tree = s.tree; devices = devices_after s.rest begin o s.devices; pulses = ps; close = close_in o; rest = o.rest; heard = None } in n) same
 
-round_turn_more : (reporting : Reporting) (begin until : ℕ) (s after : NetState) (later : List Stretch) (t u : Totals) (text : List ℕ) → AreApart s.pulses → AreFramed s → next_start s ≡ Some begin
+round_turn_more : (reporting : Reporting) (begin until : ℕ) (s after : NetState) (later : List Stretch) (t u : Totals) (text : List ℕ) → IsWave s.pulses → AreFramed s → next_start s ≡ Some begin
     → after.close < until → All (λ p. until ≤ p.from) later → IsRoundTurn reporting begin s t text after u → IsRoundTurn reporting begin (with_pulses later s) t text (with_pulses later after) u
-round_turn_more reporting begin until s after later t u text apart framed begins closed late r = record {
+round_turn_more reporting begin until s after later t u text order framed begins closed late r = record {
   outcome = r.outcome;
   wave = r.wave;
   next = record {
     round = round_more (seats_of s begin) begin until s.pulses later r.outcome
-        (rests_high s begin r.outcome framed apart begins r.wave r.next.round) soon late r.next.round;
+        (rests_high s begin r.outcome framed order begins r.wave r.next.round) soon late r.next.round;
     after_is = ap (with_pulses later) r.next.after_is ∙ after_more s begin until r.outcome later (omega (arith, soon)) late;
   };
   reported = r.reported;
@@ -292,7 +272,7 @@ round_turn_more reporting begin until s after later t u text apart framed begins
 
 -- what a place in a run has to have
 record IsReady (c : Config) : Type 0 where
-  apart : AreApart c.net.pulses
+  order : IsWave c.net.pulses
   framed : AreFramed c.net
   events : AreFramedEvents c.events
 
@@ -327,7 +307,7 @@ event_more reporting until end at (x ∷ xs) events later c d text same r h f t 
             (sym (applied_same later at x.event c.net)) (sym (fault_same later c.net x.event)),
       ),
       record {
-        apart = subst AreApart (sym kept.pulses) r.apart;
+        order = subst (λ (ps : List Stretch). IsWave ps) (sym kept.pulses) r.order;
         framed = subst AreFramed (sym net) (framed-applied at x.event c.net framed.0 r.framed);
         events = subst AreFramedEvents (sym (ap (λ (e : Config). e.events) t.1)) framed.1;
       },
@@ -346,12 +326,12 @@ turn_more reporting until end events later c d text (Apply at) r h f t o =
 turn_more reporting until end events later c d text (Round begin) r h f t o =
     let same : turn_at end (with_more events later c) ≡ Round begin = round_same until end begin c.net c.events events later h f in
     let starts : next_start c.net ≡ Some begin = (round_begins until c.net (first_time c.events) begin h).0 in
-    let round = round_turn_more reporting begin until c.net d.net later c.totals d.totals text r.apart r.framed starts o f.begun t.0 in
+    let round = round_turn_more reporting begin until c.net d.net later c.totals d.totals text r.order r.framed starts o f.begun t.0 in
     record {
       turn = subst (λ turn. IsTurnBy reporting turn (with_more events later c) text (with_more events later d)) (sym same) (round, ap (λ (xs : List TimedEvent). xs ++ events) t.1);
       over = subst (λ turn. IsOverBy end turn (with_more events later d)) (sym same) (omega (arith, o, f.over));
       ready = record {
-        apart = subst (λ (n : NetState). AreApart n.pulses) (sym t.0.next.after_is) (apart_filter (λ p. nat_lt t.0.outcome.rest p.from) c.net.pulses r.apart);
+        order = subst (λ (n : NetState). IsWave n.pulses) (sym t.0.next.after_is) (wave_filter (λ (p : Stretch). nat_lt t.0.outcome.rest p.from) c.net.pulses r.order);
         framed = subst AreFramed (sym t.0.next.after_is) (framed-round c.net begin t.0.outcome r.framed);
         events = subst AreFramedEvents (sym t.1) r.events;
       };
@@ -372,12 +352,12 @@ stay_certain reporting until on (suc turns) c d text events later r f (mid, repo
     (with_more events later mid, reported, rest, m.turn, m.over, stay_certain reporting until on turns mid d rest events later m.ready f after, e)
 
 pub turns_are_certain : TurnsAreCertain
-turns_are_certain reporting until end turns c d text events later apart framed known f l =
-    turns_certain reporting until end turns c d text events later (record { apart = apart; framed = framed; events = known }) f l
+turns_are_certain reporting until end turns c d text events later order framed known f l =
+    turns_certain reporting until end turns c d text events later (record { order = order; framed = framed; events = known }) f l
 
 pub turns_stay_certain : TurnsStayCertain
-turns_stay_certain reporting until on turns c d text events later apart framed known f l =
-    stay_certain reporting until on turns c d text events later (record { apart = apart; framed = framed; events = known }) f l
+turns_stay_certain reporting until on turns c d text events later order framed known f l =
+    stay_certain reporting until on turns c d text events later (record { order = order; framed = framed; events = known }) f l
 
 -- ---- the front of the text
 
@@ -386,8 +366,8 @@ started_same (Trace edid) tree pulses later = refl
 started_same (Line format) tree pulses later = refl
 
 pub reported_is_front : ReportedIsFront
-reported_is_front reporting tree pulses later known events until end turns d body whole totals apart framed f l w =
-    let leads = turns_are_certain reporting until end turns (start (first_net tree pulses) known) d body events later apart (framed-started tree pulses) framed f l in
+reported_is_front reporting tree pulses later known events until end turns d body whole totals order framed f l w =
+    let leads = turns_are_certain reporting until end turns (start (first_net tree pulses) known) d body events later order (framed-started tree pulses) framed f l in
     let front = front_of_text reporting end turns (start (first_net tree (pulses ++ later)) (known ++ events)) (with_more events later d) body w.rest totals leads w.run in (
       front.0,
       w.whole ∙ ap₂ (λ a b. a ++ b) (started_same reporting tree pulses later) front.1 ∙ sym (append_assoc (start_reported reporting (first_net tree pulses)) body front.0),

@@ -1,4 +1,3 @@
-pub mod Apart
 pub mod Certainty
 pub mod Before
 pub mod Causality

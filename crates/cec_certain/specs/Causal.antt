@@ -1,7 +1,7 @@
 -- What a run reports before an instant depends on what its script says before that instant alone (this profile's own).
 use Rattle.std.specs.Prelude.{◌≡◌, ℕ, List, ◌++◌}
 use Rattle.cec_wave.specs.declared.Stretch.{Stretch}
-use Rattle.cec_wave.specs.Pulses.{AreSparse}
+use Rattle.cec_wave.specs.Line.{IsWave}
 use Rattle.hdmi_topo.specs.Node.{Node}
 use Rattle.cec_asm.specs.Script.{Course, AreFramedEvents}
 use Rattle.cec_asm.specs.declared.script.TimedEvent.{TimedEvent}
@@ -26,7 +26,7 @@ before_reported reporting tree pulses body = start_reported reporting (first_net
 -- Every run that begins with these events and pulses, and in which all else comes at an instant or later, begins with one
 -- text: that of all turns that are over before the instant.
 abbrev pub RunsAreCausal : Type 0
-RunsAreCausal = (reporting : Reporting) (tree : List Node) (pulses : List Stretch) (events : List TimedEvent) (until : ℕ) → AreSparse pulses → AreFramedEvents events
+RunsAreCausal = (reporting : Reporting) (tree : List Node) (pulses : List Stretch) (events : List TimedEvent) (until : ℕ) → IsWave pulses → AreFramedEvents events
     → (body : List ℕ) × (last : Config) × AllBefore reporting until (start (first_net tree pulses) events) body last
     × ((more : List TimedEvent) (later : List Stretch) (end : ℕ) (text : List ℕ) (totals : Totals) → ComesFrom until more later end
     → IsRunText reporting end (start (first_net tree (pulses ++ later)) (events ++ more)) text totals

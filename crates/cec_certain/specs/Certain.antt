@@ -3,7 +3,6 @@ use Rattle.std.specs.Prelude.{◌≡◌, ℕ, zero, suc, ◌≤◌, ◌<◌, Lis
 use Rattle.cec_wave.specs.declared.Stretch.{Stretch}
 use Rattle.cec_wave.specs.Line.{IsWave}
 use Rattle.cec_wire.specs.declared.Outcome.{Outcome}
-use Rattle.cec_wave.specs.Pulses.{IsNarrow, AreFarApart}
 use Rattle.hdmi_topo.specs.Node.{Node}
 use Rattle.cec_net.specs.State.{NetState, first_net}
 use Rattle.cec_net.specs.Framed.{AreFramed}
@@ -15,10 +14,6 @@ use Rattle.cec_run.specs.declared.run.Totals.{Totals}
 use Rattle.cec_run.specs.declared.run.Turn.{Turn}
 use Rattle.cec_run.specs.declared.run.Turn.TheVariants.{Stop, Apply, Round}
 use Rattle.cec_run.specs.Run.{Config, start, start_reported, turn_at, IsTurn, IsRunText, Leads}
-
--- pulses as a script has them, however many
-abbrev pub AreApart : List Stretch → Type 0
-AreApart pulses = All IsNarrow pulses × AreFarApart pulses
 
 -- ---- what may still come
 
@@ -79,19 +74,19 @@ pub record AllBefore (reporting : Reporting) (until : ℕ) (c : Config) (text : 
 -- that instant or later: they report the same, and lead to the same place.
 abbrev pub TurnsAreCertain : Type 0
 TurnsAreCertain = (reporting : Reporting) (until end turns : ℕ) (c d : Config) (text : List ℕ) (events : List TimedEvent) (later : List Stretch)
-    → AreApart c.net.pulses → AreFramed c.net → AreFramedEvents c.events → ComesFrom until events later end
+    → IsWave c.net.pulses → AreFramed c.net → AreFramedEvents c.events → ComesFrom until events later end
     → LeadsBy reporting until turns c text d → Leads reporting end turns (with_more events later c) text (with_more events later d)
 
 -- So they are over before each later instant too, with whatever has come by then.
 abbrev pub TurnsStayCertain : Type 0
 TurnsStayCertain = (reporting : Reporting) (until on turns : ℕ) (c d : Config) (text : List ℕ) (events : List TimedEvent) (later : List Stretch)
-    → AreApart c.net.pulses → AreFramed c.net → AreFramedEvents c.events → ComesFrom until events later on
+    → IsWave c.net.pulses → AreFramed c.net → AreFramedEvents c.events → ComesFrom until events later on
     → LeadsBy reporting until turns c text d → LeadsBy reporting on turns (with_more events later c) text (with_more events later d)
 
 -- What is reported of a run by them is the front of what every such run reports in the end.
 abbrev pub ReportedIsFront : Type 0
 ReportedIsFront = (reporting : Reporting) (tree : List Node) (pulses later : List Stretch) (known events : List TimedEvent) (until end turns : ℕ) (d : Config)
-    (body whole : List ℕ) (totals : Totals) → AreApart pulses → AreFramedEvents known → ComesFrom until events later end
+    (body whole : List ℕ) (totals : Totals) → IsWave pulses → AreFramedEvents known → ComesFrom until events later end
     → LeadsBy reporting until turns (start (first_net tree pulses) known) body d
     → IsRunText reporting end (start (first_net tree (pulses ++ later)) (known ++ events)) whole totals
     → (more : List ℕ) × (whole ≡ (start_reported reporting (first_net tree pulses) ++ body) ++ more)

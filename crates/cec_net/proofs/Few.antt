@@ -4,15 +4,15 @@ use Rattle.std.specs.List.{filter}
 use Rattle.std.proofs.lemmas.List.Elements.{filter_passes}
 use Rattle.std.proofs.lemmas.Bool.Decides.{nat_tests}
 use Rattle.cec_wave.specs.declared.Stretch.{Stretch}
-use Rattle.cec_wave.proofs.Kept.{sparse-filter}
+use Rattle.cec_wave.proofs.Kept.{wave_filter}
 use Rattle.cec_event.specs.declared.event.Event.{Event}
 use Rattle.cec_net.specs.State.{NetState}
 use Rattle.cec_net.specs.Apply.{net_after}
 use Rattle.cec_net.specs.Step.{after_round}
 use Rattle.cec_net.specs.Line.{Happens, Goes}
 use Rattle.cec_net.specs.Few.{RunsAreShort}
-use Rattle.cec_net.proofs.Lines.{kept, sparse_kept}
-use Rattle.cec_net.proofs.Progress.{ComeLater, progress}
+use Rattle.cec_net.proofs.Lines.{kept, wave_kept}
+use Rattle.cec_net.proofs.Progress.{ComeLater, going}
 
 later_kept : (at : ℕ) (event : Event) (s : NetState) → ComeLater s.rest s.pulses → ComeLater (net_after at event s).rest (net_after at event s).pulses
 later_kept at event s h =
@@ -25,16 +25,16 @@ later_after : (rest : ℕ) (pulses : List Stretch) → ComeLater rest (filter (�
 later_after rest pulses k p l = (let e = filter_passes (λ (q : Stretch). nat_lt rest q.from) pulses k p l in grind (arith, nat_tests))
 
 pub runs_are_short : RunsAreShort
-runs_are_short s t [] end sparse later m b = omega arith
-runs_are_short s t (Happens at event ∷ ms) end sparse later m b =
+runs_are_short s t [] end wave later m b = omega arith
+runs_are_short s t (Happens at event ∷ ms) end wave later m b =
     let k = kept at event s in
     let left : length (net_after at event s).pulses ≡ length s.pulses = ap length k.pulses in
     let rest : (net_after at event s).rest ≡ s.rest = k.rest in
-    let more = runs_are_short (net_after at event s) t ms end (sparse_kept at event s sparse) (later_kept at event s later) m.1 b in
+    let more = runs_are_short (net_after at event s) t ms end (wave_kept at event s wave) (later_kept at event s later) m.1 b in
     omega (arith, more, left, rest)
-runs_are_short s t (Goes begin o ∷ ms) end sparse later m b =
-    let p = progress s begin o sparse later m.0.begins m.0.wave m.0.round in
-    let more = runs_are_short (after_round s begin o) t ms end (sparse-filter (λ q. nat_lt o.rest q.from) s.pulses sparse) (later_after o.rest s.pulses) m.1 b.1 in
+runs_are_short s t (Goes begin o ∷ ms) end wave later m b =
+    let p = going s begin o wave later m.0.begins m.0.wave m.0.round in
+    let more = runs_are_short (after_round s begin o) t ms end (wave_filter (λ q. nat_lt o.rest q.from) s.pulses wave) (later_after o.rest s.pulses) m.1 b.1 in
     elim p.apart [
       | inl late ↦ omega (arith, more, late, p.later, p.low, p.kept, b.0)
       | inr fewer ↦ omega (arith, more, fewer, p.later, p.low, p.kept, b.0)

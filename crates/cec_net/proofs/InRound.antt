@@ -1,5 +1,5 @@
 -- A round that is taken edge by edge: the wire on which it goes, and the pulses that it is handed.
-use Rattle.std.proofs.Common.{◌≡◌, ℕ, zero, ◌+◌, ◌-◌, ◌<◌, ◌≤◌, Bool, true, false, nat_lt, if◌then◌else◌, List, [], ◌++◌, take, drop, length, slice_get, Option, Some, None, MatchOption, is_some, refl, arith, ap, ◌∙◌, sym, subst}
+use Rattle.std.proofs.Common.{◌≡◌, ℕ, zero, ◌-◌, ◌<◌, ◌≤◌, Bool, true, false, nat_lt, if◌then◌else◌, List, [], ◌++◌, take, drop, length, slice_get, Option, Some, None, MatchOption, is_some, refl, arith, ap, ◌∙◌, sym, subst}
 use Rattle.std.specs.List.{All}
 use Rattle.std.specs.Option.{option_map}
 use Rattle.std.proofs.lemmas.Bool.Decides.{nat_tests}
@@ -7,7 +7,6 @@ use Rattle.std.proofs.lemmas.List.{length-map, take-append-drop}
 use Rattle.cec_wave.specs.declared.Stretch.{Stretch}
 use Rattle.cec_wave.specs.declared.Edge.{Edge}
 use Rattle.cec_wave.specs.Line.{Line, IsWave}
-use Rattle.cec_wave.specs.Pulses.{AreSparse}
 use Rattle.cec_wave.specs.Bounds.{latest_instant}
 use Rattle.cec_bits.specs.Phase.{Standing, at_rest, standing_of}
 use Rattle.cec_bits.specs.declared.receiver.Receiver.{Receiver}
@@ -23,9 +22,9 @@ use Rattle.cec_wire.specs.Edges.{IsNextEdge}
 use Rattle.cec_wire.specs.Lasting.{is_begun}
 use Rattle.cec_wire.proofs.Lasting.{begun_by, contended, low_at_begin}
 use Rattle.cec_one_wire.specs.declared.edge_wire.EdgeWire.{EdgeWire}
-use Rattle.cec_one_wire.specs.Line.{EndsInTime}
+use Rattle.cec_wave.specs.Pulls.{AreTimely}
 use Rattle.cec_one_wire.specs.Wired.{ArePulls, EachOf, IsBegunWith, IsReceiverIn, IsRoundOf, SameRound, is_silent_in}
-use Rattle.cec_one_wire.proofs.Rounding.{late_place, sparse_wave}
+use Rattle.cec_one_wire.proofs.Rounding.{late_place}
 use Rattle.cec_device.specs.State.{State}
 use Rattle.hdmi_topo.specs.Node.{Node}
 use Rattle.cec_net.specs.State.{NetState, next_start}
@@ -42,9 +41,8 @@ all_of ps w = sym (take-append-drop w.begun ps)
 left_late : (ps : List Stretch) (w : EdgeWire) → Takes ps w → All (λ p. w.time ≤ p.from) (drop w.begun ps)
 left_late ps w h = subst (λ (k : ℕ). All (λ (p : Stretch). w.time ≤ p.from) (drop k ps)) (sym h.stands.count) h.pulls.later
 
-pub takes_on : (ps : List Stretch) (old new : EdgeWire) → AreSparse ps → Takes ps old → IsBegunWith (take new.begun ps) new → ArePulls (take new.begun ps) ps new
-    → (AreSparse ps → old.time ≤ old.begin + 470000 → new.time ≤ new.begin + 470000) → Takes ps new
-takes_on ps old new sparse h b p near = record { stands = b; pulls = p; near = near sparse h.near }
+pub takes_on : (ps : List Stretch) (new : EdgeWire) → IsBegunWith (take new.begun ps) new → ArePulls (take new.begun ps) ps new → Takes ps new
+takes_on ps new b p = record { stands = b; pulls = p }
 
 -- a fact of each line that the round can have is one of its line with these pulses
 pub of_line : (ps : List Stretch) (w : EdgeWire) (P : (ℕ → Bool) → Type 0) → Takes ps w → EachOf (take w.begun ps) w P → (low : ℕ → Bool) → IsRoundLine w.seats.items w.begin ps low → P low
@@ -64,20 +62,16 @@ round_on ps w o h r =
     subst (λ (qs : List Stretch). IsRound w.seats.items w.begin qs o) (sym (all_of ps w)) (r (drop w.begun ps) (subst (λ (qs : List Stretch). IsWave qs) (all_of ps w) h.pulls.wave) (left_late ps w h))
 
 -- as the round begins none has begun
-in_time : (ps : List Stretch) → AreSparse ps → All (λ p. p.from ≤ latest_instant) ps → All EndsInTime ps
-in_time ps sparse early i d m = let x = early i d m in let y = (sparse.narrow i d m).1 in omega (arith, x, y)
-
-pub takes_first : (s : NetState) (begin : ℕ) (w : EdgeWire) → AreSparse s.pulses → All (λ p. p.from ≤ latest_instant) s.pulses → next_start s ≡ Some begin → IsBegunWith [] w → w.begin ≡ begin → w.time ≡ begin → Takes s.pulses w
-takes_first s begin w sparse early next b begins time = record {
+pub takes_first : (s : NetState) (begin : ℕ) (w : EdgeWire) → AreTimely s.pulses → next_start s ≡ Some begin → IsBegunWith [] w → w.begin ≡ begin → w.time ≡ begin → Takes s.pulses w
+takes_first s begin w timely next b begins time = record {
   stands = subst (λ (ps : List Stretch). IsBegunWith ps w) none b;
   pulls = record {
-    wave = sparse_wave s.pulses sparse;
-    ends = in_time s.pulses sparse early;
+    wave = timely.order;
+    ends = timely.ends;
     begun = sym none ∙ ap (λ (k : ℕ). take k s.pulses) (ap (λ (ps : List Stretch). length ps) none);
     later = subst (λ (k : ℕ). All (λ (p : Stretch). w.time ≤ p.from) (drop k s.pulses)) (ap (λ (ps : List Stretch). length ps) none)
-        (subst (λ (u : ℕ). All (λ (p : Stretch). u ≤ p.from) s.pulses) (sym time) (late_place begin 0 s.pulses (slice_get s.pulses 0) refl sparse (late_start s begin next)));
+        (subst (λ (u : ℕ). All (λ (p : Stretch). u ≤ p.from) s.pulses) (sym time) (late_place begin 0 s.pulses (slice_get s.pulses 0) refl timely.order (late_start s begin next)));
   };
-  near = omega (arith, time, begins);
 }
   where
     none : [] ≡ take w.begun s.pulses
@@ -86,11 +80,15 @@ takes_first s begin w sparse early next b begins time = record {
 -- ---- the round of a network
 
 pub sound_so : (s : NetState) → IsSound (idle s) → IsSound s
-sound_so s h = record { few = h.few; matched = h.matched; rested = h.rested; closed = h.closed; ready = h.ready; early = h.early; later = h.later; orderly = h.orderly }
+sound_so s h = record { few = h.few; matched = h.matched; rested = h.rested; closed = h.closed; ready = h.ready; early = h.early; ends = h.ends; later = h.later; orderly = h.orderly }
 
 pub none_underway : (s : NetState) (o : Option EdgeWire) → option_map (λ w. w.time) o ≡ None → IsUnderway s o
 none_underway s None e w f = cc
 none_underway s (Some v) e w f = cc
+
+pub no_underway : (s : NetState) (o : Option EdgeWire) → is_some o ≡ false → IsUnderway s o
+no_underway s None e w f = cc
+no_underway s (Some v) e w f = cc
 
 pub no_wire : (s : NetState) → IsUnderway s None
 no_wire s w f = cc
@@ -98,13 +96,13 @@ no_wire s w f = cc
 pub underway_along : (s t : NetState) (o : Option EdgeWire) → s ≡ t → IsUnderway (idle s) o → IsUnderway (idle t) o
 underway_along s t o e h = subst (λ x. IsUnderway (idle x) o) e h
 
-pub is_next : (s : NetState) (begin : ℕ) (w : EdgeWire) → IsSound s → s.close ≤ latest_instant → AreSparse s.pulses → next_start s ≡ Some begin → IsBegunWith [] w → w.seats.items ≡ seats_of s begin → w.begin ≡ begin → w.time ≡ begin
+pub is_next : (s : NetState) (begin : ℕ) (w : EdgeWire) → IsSound s → s.close ≤ latest_instant → AreTimely s.pulses → next_start s ≡ Some begin → IsBegunWith [] w → w.seats.items ≡ seats_of s begin → w.begin ≡ begin → w.time ≡ begin
     → IsNextOn s w
-is_next s begin w sound early sparse next b seats begins time = record {
+is_next s begin w sound early timely next b seats begins time = record {
   begins = next ∙ ap Some (sym begins);
   early = early;
   seats = seats ∙ ap (seats_of s) (sym begins);
-  takes = takes_first s begin w sparse sound.early next b begins time;
+  takes = takes_first s begin w timely next b begins time;
 }
 
 pub next_on : (s : NetState) (old new : EdgeWire) → IsNextOn s old → SameRound old new → Takes s.pulses new → IsNextOn s new
@@ -140,13 +138,13 @@ edge_reported s t w edge e reported h step =
     subst (λ x. OfRound x (λ begin heard low. IsNextEdge low heard edge)) e
     (λ begin heard low n k line. subst (λ x. IsNextEdge low x edge) (same_number w.time heard (sym reported ∙ k)) (step low (line_on s w begin low h n line)))
 
-stand_at : (s : NetState) (w : EdgeWire) (low : Line) (standing : Standing) → AreSparse s.pulses → IsNextOn (idle s) w → IsRoundLine w.seats.items w.begin s.pulses low → (w.time ≡ w.begin → standing ≡ at_rest false)
+stand_at : (s : NetState) (w : EdgeWire) (low : Line) (standing : Standing) → IsWave s.pulses → IsNextOn (idle s) w → IsRoundLine w.seats.items w.begin s.pulses low → (w.time ≡ w.begin → standing ≡ at_rest false)
     → (w.begin < w.time → EachOf (take w.begun s.pulses) w (λ l. l w.begin ≡ true → standing ≡ standing_of l (w.time - 1))) → standing ≡ standing_reported low w.begin w.time
-stand_at s w low standing sparse h line before after = by_time (nat_lt w.begin w.time) refl
+stand_at s w low standing order h line before after = by_time (nat_lt w.begin w.time) refl
   where
     falls : low w.begin ≡ true
     falls =
-        low_at_begin w.seats.items w.begin s.pulses low sparse (contended w.seats.items w.begin s.pulses low line) (begun_by low w.begin (start_of low w.begin) refl).reports
+        low_at_begin w.seats.items w.begin s.pulses low order (contended w.seats.items w.begin s.pulses low line) (begun_by low w.begin (start_of low w.begin) refl).reports
         (subst (λ x. is_begun_by x) (sym h.seats) (begun s w.begin h.begins))
       where
         is_begun_by : List Seat → Type 0
@@ -163,14 +161,14 @@ shows_before past w r standing h shows e = shows (λ u. false) w.begin (h.before
 pub shows_after : (past : List Stretch) (w : EdgeWire) (r : Receiver) (standing : Standing) → IsReceiverIn past w r → ShowsStanding r standing → w.begin < w.time → EachOf past w (λ low. low w.begin ≡ true → standing ≡ standing_of low (w.time - 1))
 shows_after past w r standing h shows l later low wave late line first = shows low (w.time - 1) (h.stands l later low wave late line first)
 
-pub stand_reported : (s t : NetState) (w : EdgeWire) (standing : Standing) → s ≡ t → s.heard ≡ Some w.time → AreSparse s.pulses → IsNextOn (idle s) w → (w.time ≡ w.begin → standing ≡ at_rest false)
+pub stand_reported : (s t : NetState) (w : EdgeWire) (standing : Standing) → s ≡ t → s.heard ≡ Some w.time → IsWave s.pulses → IsNextOn (idle s) w → (w.time ≡ w.begin → standing ≡ at_rest false)
     → (w.begin < w.time → EachOf (take w.begun s.pulses) w (λ low. low w.begin ≡ true → standing ≡ standing_of low (w.time - 1))) → OfRound t (λ begin heard low. standing ≡ standing_reported low begin heard)
-stand_reported s t w standing e reported sparse h before after =
+stand_reported s t w standing e reported order h before after =
     subst (λ x. OfRound x (λ begin heard low. standing ≡ standing_reported low begin heard)) e
     (λ begin heard low n k line.
     subst (λ x. standing ≡ standing_reported low x heard) (same_number w.begin begin (sym h.begins ∙ n))
     (subst (λ x. standing ≡ standing_reported low w.begin x) (same_number w.time heard (sym reported ∙ k))
-    (stand_at s w low standing sparse h (line_on s w begin low h n line) before after)))
+    (stand_at s w low standing order h (line_on s w begin low h n line) before after)))
 
 pub seat_known : (s : NetState) (w : EdgeWire) (number : ℕ) → IsSound s → IsNextOn s w → number < length s.tree → number < length w.seats.items
 seat_known s w number h n l =

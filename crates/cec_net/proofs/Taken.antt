@@ -4,8 +4,7 @@ use Rattle.std.specs.List.{fold}
 use Rattle.std.proofs.lemmas.Bool.{cases_lt}
 use Rattle.std.proofs.lemmas.Bool.Decides.{nat_tests}
 use Rattle.cec_wave.specs.declared.Stretch.{Stretch}
-use Rattle.cec_wave.specs.Line.{line_of, covers, was_low}
-use Rattle.cec_wave.specs.Pulses.{AreSparse}
+use Rattle.cec_wave.specs.Line.{line_of, covers, was_low, IsWave}
 use Rattle.cec_bits.specs.Reading.{known_at, reading_of}
 use Rattle.cec_wire.specs.declared.Outcome.{Outcome}
 use Rattle.cec_wire.specs.Round.{is_within, pulse_pulls}
@@ -55,14 +54,14 @@ low_inside s ss t i a b = any_in (λ x. covers x t) ss s i (covers_own s t a b)
 
 -- ---- a pulse that begins by the rest is low from its begin on
 
-taken_one : (s : NetState) (begin : ℕ) (o : Outcome) → AreSparse s.pulses → GoesFrom s begin o → (p : Stretch) → In p s.pulses → p.from ≤ o.rest → IsOn (line_of o.wave) p
-taken_one s begin o sparse g p i l = λ t a b. subst (λ u. line_of o.wave u ≡ true) (let e : p.from + (t - p.from) ≡ t = omega arith in e) (step (t - p.from) (omega arith))
+taken_one : (s : NetState) (begin : ℕ) (o : Outcome) → IsWave s.pulses → GoesFrom s begin o → (p : Stretch) → In p s.pulses → p.from ≤ o.rest → IsOn (line_of o.wave) p
+taken_one s begin o wave g p i l = λ t a b. subst (λ u. line_of o.wave u ≡ true) (let e : p.from + (t - p.from) ≡ t = omega arith in e) (step (t - p.from) (omega arith))
   where
     until : ℕ
     until = (reading_of (line_of o.wave) begin).until
 
     later : begin ≤ p.from
-    later = begins_by s begin sparse g.begins p i
+    later = begins_by s begin wave g.begins p i
 
     pulls : (t : ℕ) → p.from ≤ t → t < p.to → (is_within (known_at t (reading_of (line_of o.wave) begin)).ended p.from || was_low (line_of o.wave) t) ≡ true → line_of o.wave t ≡ true
     pulls t a b h =
@@ -104,12 +103,12 @@ taken_one s begin o sparse g p i l = λ t a b. subst (λ u. line_of o.wave u ≡
         let was : was_low (line_of o.wave) (p.from + suc n) ≡ true = was-low (p.from + suc n) (omega arith) (subst (λ u. line_of o.wave u ≡ true) same before) in
         pulls (p.from + suc n) (omega arith) b (or_true (is_within (known_at (p.from + suc n) (reading_of (line_of o.wave) begin)).ended p.from) (was_low (line_of o.wave) (p.from + suc n)) was)
 
-left_one : (s : NetState) (begin : ℕ) (o : Outcome) → AreSparse s.pulses → AreFramed s → GoesFrom s begin o → (p : Stretch) → o.rest < p.from → IsAfter (line_of o.wave) p
-left_one s begin o sparse framed g p l t a =
-    (rounds_are_lone.lone (seats_of s begin) begin s.pulses o (seats_fit s begin framed) sparse g.wave g.round (begun s begin g.begins)).after t (omega (arith, l, a))
+left_one : (s : NetState) (begin : ℕ) (o : Outcome) → IsWave s.pulses → AreFramed s → GoesFrom s begin o → (p : Stretch) → o.rest < p.from → IsAfter (line_of o.wave) p
+left_one s begin o wave framed g p l t a =
+    (rounds_are_lone.lone (seats_of s begin) begin s.pulses o (seats_fit s begin framed) wave g.wave g.round (begun s begin g.begins)).after t (omega (arith, l, a))
 
 pub rounds_take_pulses : RoundsTakePulses
 rounds_take_pulses = record {
-  taken = λ s begin o sparse g. in_all (λ p. p.from ≤ o.rest → IsOn (line_of o.wave) p) s.pulses (λ p i. taken_one s begin o sparse g p i);
-  left = λ s begin o sparse framed g. in_all (λ p. o.rest < p.from → IsAfter (line_of o.wave) p) s.pulses (λ p i. left_one s begin o sparse framed g p);
+  taken = λ s begin o wave g. in_all (λ p. p.from ≤ o.rest → IsOn (line_of o.wave) p) s.pulses (λ p i. taken_one s begin o wave g p i);
+  left = λ s begin o wave framed g. in_all (λ p. o.rest < p.from → IsAfter (line_of o.wave) p) s.pulses (λ p i. left_one s begin o wave framed g p);
 }

@@ -1,18 +1,23 @@
--- A pulse that a network is told of while it runs (this profile's own).
-use Rattle.std.specs.Prelude.{◌++◌, ◌∷◌, [], nat_lt, if◌then◌else◌, Option, Some, None, option_map}
+-- A pulse or a pull that a network is told of while it runs (this profile's own).
+use Rattle.std.specs.Prelude.{◌+◌, ◌++◌, ◌∷◌, [], ◌||◌, Bool, max, nat_lt, if◌then◌else◌, Option, Some, None}
 use Rattle.cec_wave.specs.declared.Stretch.{Stretch}
-use Rattle.cec_wave.specs.Pulses.{pulses_fault}
+use Rattle.cec_wave.specs.Pulls.{are_timely}
 use Rattle.cec_wave.specs.Bounds.{latest_instant}
 use Rattle.cec_net.specs.State.{NetState}
 use Rattle.cec_net.specs.declared.added.PulseError.{PulseError}
-use Rattle.cec_net.specs.declared.added.PulseError.TheVariants.{RoundBegun, Past, Late, NotSparse}
+use Rattle.cec_net.specs.declared.added.PulseError.TheVariants.{RoundBegun, Past, Late, NotInOrder}
+
+-- it begins after the latest instant, or ends after that and is wider than a pulse
+abbrev pub is_late : Stretch → Bool
+is_late pull = nat_lt latest_instant pull.from || nat_lt (max latest_instant (pull.from + 10000)) pull.to
 
 -- why it can't be told of, where no round was begun: the first cause
 abbrev pub between_rounds : NetState → Stretch → Option PulseError
 between_rounds net pulse =
     if nat_lt pulse.from net.rest then Some Past
-    else if nat_lt latest_instant pulse.from then Some Late
-    else option_map NotSparse (pulses_fault (net.pulses ++ pulse ∷ []))
+    else if is_late pulse then Some Late
+    else if are_timely (net.pulses ++ pulse ∷ []) then None
+    else Some NotInOrder
 
 abbrev pub pulse_fault_by : {A : Type 0} → Option A → NetState → Stretch → Option PulseError
 pulse_fault_by None net pulse = between_rounds net pulse

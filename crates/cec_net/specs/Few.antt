@@ -1,6 +1,6 @@
 -- A run has few rounds (own).
 use Rattle.std.specs.Prelude.{ℕ, ◌+◌, ◌*◌, ◌<◌, ◌≤◌, max, List, [], ◌∷◌, length, All}
-use Rattle.cec_wave.specs.Pulses.{AreSparse}
+use Rattle.cec_wave.specs.Line.{IsWave}
 use Rattle.cec_net.specs.State.{NetState}
 use Rattle.cec_net.specs.Line.{Move, Happens, Goes, Moves, rounds_of}
 
@@ -14,5 +14,5 @@ BeginBefore end (Goes begin o ∷ ms) = (begin < end) × BeginBefore end ms
 -- a pulse that no round has taken. So as many rounds fit before an end as there are such times in it, and one more for each
 -- pulse.
 abbrev pub RunsAreShort : Type 0
-RunsAreShort = (s t : NetState) (ms : List Move) (end : ℕ) → AreSparse s.pulses → All (λ p. s.rest ≤ p.from) s.pulses → Moves s ms t → BeginBefore end ms
+RunsAreShort = (s t : NetState) (ms : List Move) (end : ℕ) → IsWave s.pulses → All (λ p. s.rest ≤ p.from) s.pulses → Moves s ms t → BeginBefore end ms
     → s.rest + 7200 * length (rounds_of ms) ≤ max end s.rest + 7200 * length s.pulses

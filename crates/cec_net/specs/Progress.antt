@@ -1,5 +1,6 @@
 -- How a run goes on: each round begins 7,200 after the last low stretch or takes a new pulse, and it ends soon (own).
-use Rattle.std.specs.Prelude.{ℕ, ◌+◌, ◌≤◌, ◌<◌, ◌⊎◌, length}
+use Rattle.std.specs.Prelude.{ℕ, ◌+◌, ◌≤◌, ◌<◌, ◌⊎◌, max, length, All}
+use Rattle.cec_wave.specs.Bounds.{latest_instant}
 use Rattle.cec_net.specs.State.{NetState}
 
 -- A round that begins at `begin` and leads from one state to another
@@ -12,5 +13,7 @@ pub record IsProgress (before : NetState) (begin : ℕ) (after : NetState) : Typ
   pub later : before.rest ≤ begin
   -- pulls the line low once it has begun,
   pub low : begin < after.rest
-  -- and closes at most 458,500 after that.
-  pub closed : after.close ≤ begin + 458500
+  -- and closes at most 458,500 after that, or by the latest instant;
+  pub closed : after.close ≤ max latest_instant (begin + 458500)
+  -- and by any instant by which its reading is over, and a follower's pull, and those pulls have ended that begin by then.
+  pub soon : (bound : ℕ) → begin + 448500 ≤ bound → All (λ p. p.from ≤ begin + 448500 → p.to ≤ bound) before.pulses → after.close ≤ bound

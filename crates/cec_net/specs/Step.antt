@@ -1,5 +1,5 @@
 -- What a round does: who contends in it, so that arbitration picks among them (CEC 9), and what it leaves of each device.
-use Rattle.std.specs.Prelude.{◌≡◌, ℕ, ◌==◌, nat_lt, Bool, true, false, ◌||◌, if◌then◌else◌, List, map, filter, Option, Some, None, is_some}
+use Rattle.std.specs.Prelude.{◌≡◌, ℕ, ◌==◌, nat_lt, Bool, true, false, not, ◌&&◌, ◌||◌, if◌then◌else◌, List, map, filter, Option, Some, None, is_some}
 use Rattle.std.specs.List.{list_any}
 use Rattle.cec_frame.specs.Blocks.{frame_in}
 use Rattle.cec_wire.specs.declared.Seat.{Seat}
@@ -8,6 +8,7 @@ use Rattle.cec_wire.specs.Round.{IsRound, fate_in, close_in}
 use Rattle.cec_wire.specs.OneOutcome.{SameOutcome}
 use Rattle.cec_wave.specs.Line.{IsWave}
 use Rattle.cec_frame.specs.declared.Fate.{Fate}
+use Rattle.cec_feature.specs.Kinds.{is_outside}
 use Rattle.cec_device.specs.State.{State, addresses_held}
 use Rattle.cec_device.specs.Place.{front_of, is_on_wire, after_sending, after_waiting}
 use Rattle.cec_device.specs.Effects.{after_frame}
@@ -20,8 +21,22 @@ use Rattle.cec_net.specs.State.{NetState, each_from}
 abbrev pub sent_in : ℕ → ℕ → State → Option (List ℕ)
 sent_in rest begin d = if contends rest begin d then front_of d else None
 
+-- an address below 15
+abbrev pub is_address : Option ℕ → Bool
+is_address None = false
+is_address (Some address) = nat_lt address 15
+
+-- one of its units holds an address
+abbrev pub holds_one : State → Bool
+holds_one d = list_any is_address (addresses_held d.place)
+
+-- A device on the wire acknowledges (CEC 6.1) and pulls low after a fall too early (CEC 7.4), but for one from outside that
+-- holds no address and does not contend: what its firmware answers, pulls say (own).
+abbrev pub answers : ℕ → ℕ → State → Bool
+answers rest begin d = is_on_wire d && (not (is_outside d.kind) || (holds_one d || contends rest begin d))
+
 abbrev pub seat_of : ℕ → ℕ → State → Seat
-seat_of rest begin d = record { plugged = is_on_wire d; holds = addresses_held d.place; sends = sent_in rest begin d }
+seat_of rest begin d = record { plugged = answers rest begin d; holds = addresses_held d.place; sends = sent_in rest begin d }
 
 abbrev pub seats_of : NetState → ℕ → List Seat
 seats_of s begin = map (seat_of s.rest begin) s.devices

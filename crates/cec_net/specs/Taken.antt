@@ -1,8 +1,7 @@
 -- Which pulses a round takes (own): those that are on its line.
 use Rattle.std.specs.Prelude.{◌≡◌, ℕ, ◌<◌, ◌≤◌, true, false, All}
 use Rattle.cec_wave.specs.declared.Stretch.{Stretch}
-use Rattle.cec_wave.specs.Line.{Line, line_of}
-use Rattle.cec_wave.specs.Pulses.{AreSparse}
+use Rattle.cec_wave.specs.Line.{Line, line_of, IsWave}
 use Rattle.cec_wire.specs.declared.Outcome.{Outcome}
 use Rattle.cec_net.specs.State.{NetState}
 use Rattle.cec_net.specs.Framed.{AreFramed}
@@ -18,7 +17,7 @@ IsAfter low p = (t : ℕ) → p.from ≤ t → low t ≡ false
 
 -- Those that a round drops, which begin by its rest, are on its line, whole; those that it leaves begin after that line.
 pub record RoundsTakePulses : Type 0 where
-  pub taken : (s : NetState) (begin : ℕ) (o : Outcome) → AreSparse s.pulses → GoesFrom s begin o
+  pub taken : (s : NetState) (begin : ℕ) (o : Outcome) → IsWave s.pulses → GoesFrom s begin o
       → All (λ p. p.from ≤ o.rest → IsOn (line_of o.wave) p) s.pulses
-  pub left : (s : NetState) (begin : ℕ) (o : Outcome) → AreSparse s.pulses → AreFramed s → GoesFrom s begin o
+  pub left : (s : NetState) (begin : ℕ) (o : Outcome) → IsWave s.pulses → AreFramed s → GoesFrom s begin o
       → All (λ p. o.rest < p.from → IsAfter (line_of o.wave) p) s.pulses

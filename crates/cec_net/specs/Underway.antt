@@ -1,5 +1,5 @@
 -- A round that was begun, and whose line is reported edge by edge (own).
-use Rattle.std.specs.Prelude.{◌≡◌, ℕ, ◌+◌, ◌-◌, ◌≤◌, Bool, false, nat_lt, if◌then◌else◌, List, take, Option, Some, None}
+use Rattle.std.specs.Prelude.{◌≡◌, ℕ, ◌-◌, ◌≤◌, Bool, false, nat_lt, if◌then◌else◌, List, take, Option, Some, None}
 use Rattle.std.specs.Option.{ForSome}
 use Rattle.cec_wave.specs.declared.Stretch.{Stretch}
 use Rattle.cec_wave.specs.Line.{Line}
@@ -30,7 +30,6 @@ idle s = record s { heard = None }
 pub record Takes (pulses : List Stretch) (w : EdgeWire) : Type 0 where
   pub stands : IsBegunWith (take w.begun pulses) w
   pub pulls : ArePulls (take w.begun pulses) pulses w
-  pub near : w.time ≤ w.begin + 470000
 
 -- It stands in the next round.
 pub record IsNextOn (s : NetState) (w : EdgeWire) : Type 0 where

@@ -1,75 +1,71 @@
-//! Pulses that a network is told of while it runs.
-ghost use Rattle.std.specs.Prelude.{◌≡◌, ◌-◌, ◌++◌, ◌∷◌, [], length, option_map, slice_get, Some, None, MatchResult};
-ghost use Rattle.cec_wave.specs.Pulses.{pulses_fault};
-ghost use Rattle.cec_net.specs.Added.{pulse_fault, with_pulse};
+//! Pulses and pulls that a network is told of while it runs.
+ghost use Rattle.std.specs.Prelude.{◌≡◌, ◌++◌, ◌∷◌, [], length, MatchResult, ◌||◌, max, nat_lt, ◌+◌};
+ghost use Rattle.cec_wave.specs.Bounds.{latest_instant};
+ghost use Rattle.cec_wave.specs.Pulls.{are_timely, are_timely_from};
+ghost use Rattle.cec_net.specs.Added.{is_late, pulse_fault, with_pulse};
 
 use crate::net::Net;
-use arrayvec::ArrayVec;
-use cec_wave::{LATEST_INSTANT, MOST_PULSES, Pulses, PulsesError, Stretch, stretch_fault};
+use cec_wave::{LATEST_HEARD, LATEST_INSTANT, MOST_PULLS, Stretch};
 
-/// Room for the most pulses and one more.
-const ROOM: usize = 4097;
+// The widest pulse, in microseconds: one that begins by 2,000,000,000,000 may end so much later.
+const WIDEST_PULSE: u64 = 10_000;
 
-/// Why a network can't be told of a pulse.
+/// Why a network can't be told of a pulse or a pull.
 #[derive(Clone, Copy, Debug, PartialEq, Eq)]
 pub enum PulseError {
     /// A round was begun to be taken edge by edge.
     RoundBegun,
     /// It begins before the last round's low stretches have ended.
     Past,
-    /// It begins after 2,000,000,000,000.
+    /// It begins after 2,000,000,000,000, or ends after that and is wider than a pulse.
     Late,
-    /// With it the pulses that are left would not be sparse.
-    NotSparse(PulsesError),
+    /// With it those that are left would be more than 16,384, or not in order.
+    NotInOrder,
 }
 
-// The end of the last of these.
-fn last_end(pulses: &[Stretch]) -> Option<u64>
-    ensures { result ≡ option_map (λ p. p.to) (slice_get pulses.now (length pulses.now - 1)) }
+fn is_late(pull: Stretch) -> bool
+    ensures { result ≡ is_late pull }
 {
-    match pulses.last() {
-        None => None,
-        Some(pulse) => Some(pulse.to),
+    pull.from > LATEST_INSTANT || pull.to > LATEST_INSTANT.max(pull.from + WIDEST_PULSE)
+}
+
+// Whether these pulls, and one more after them, are in order.
+fn are_in_order(known: &[Stretch], pull: Stretch) -> bool
+    ensures { result ≡ are_timely_from 0 (known.now ++ pull ∷ []) }
+{
+    let mut free = 0;
+    for stretch in known {
+        if stretch.from < free || stretch.to <= stretch.from || stretch.to >= LATEST_HEARD {
+            return false;
+        }
+        free = stretch.to + 1;
     }
+    free <= pull.from && pull.from < pull.to && pull.to < LATEST_HEARD
 }
 
-// What is wrong with these pulses and one more after them, if anything is.
-#[tactic(auto, using(crate::proofs::Told::too_many, crate::proofs::Told::fault_after))]
-fn fault_with(pulses: &Pulses, pulse: Stretch) -> Option<PulsesError>
-    ensures { result ≡ pulses_fault (pulses.now ++ pulse ∷ []) }
+#[tactic(auto, using(crate::proofs::Told::too_many, crate::proofs::Told::not_many))]
+fn follows(known: &[Stretch], pull: Stretch) -> bool
+    ensures { result ≡ are_timely (known.now ++ pull ∷ []) }
 {
-    let known = pulses.as_slice();
-    if known.len() >= MOST_PULSES {
-        return Some(PulsesError::TooMany);
+    if known.len() >= MOST_PULLS {
+        return false;
     }
-    stretch_fault(last_end(known), pulse)
-}
-
-// One more after these pulses, which are large, and are changed where they stand. Room for a second list is made here alone.
-#[inline(never)]
-fn add(pulses: &mut Pulses, pulse: Stretch)
-    requires { pulses_fault (pulses.old ++ pulse ∷ []) ≡ None }
-    ensures { pulses.new ≡ pulses.old ++ pulse ∷ [] }
-{
-    let mut all = ArrayVec::<Stretch, ROOM>::new();
-    let _ = all.try_extend_from_slice(pulses.as_slice());
-    all.push(pulse);
-    pulses.become_those(&all);
+    are_in_order(known, pull)
 }
 
 impl<W> Net<W> {
-    /// How many of the pulses that it was told of no round has taken yet.
+    /// How many of the pulses and pulls that it knows of no round has taken yet.
     pub fn waiting(&self) -> usize
         ensures { result ≡ length self.now.pulses }
     {
         self.pulses.as_slice().len()
     }
 
-    /// Tells of one more pulse, after those that are known.
+    /// Tells of one more pulse or pull, after those that are known.
     ///
     /// # Errors
     ///
-    /// The first of `RoundBegun`, `Past`, `Late` and `NotSparse` that applies; then nothing changes.
+    /// The first of `RoundBegun`, `Past`, `Late` and `NotInOrder` that applies; then nothing changes.
     pub fn add_pulse(&mut self, pulse: Stretch) -> Result<(), PulseError>
         ensures { MatchResult result
             (λ _. (pulse_fault self.old pulse ≡ None) × (self.new ≡ with_pulse self.old pulse))
@@ -81,15 +77,14 @@ impl<W> Net<W> {
         if pulse.from < self.rest {
             return Err(PulseError::Past);
         }
-        if pulse.from > LATEST_INSTANT {
+        if is_late(pulse) {
             return Err(PulseError::Late);
         }
-        match fault_with(&self.pulses, pulse) {
-            Some(fault) => Err(PulseError::NotSparse(fault)),
-            None => {
-                add(&mut self.pulses, pulse);
-                Ok(())
-            }
+        if follows(self.pulses.as_slice(), pulse) {
+            self.pulses.push(pulse);
+            Ok(())
+        } else {
+            Err(PulseError::NotInOrder)
         }
     }
 }

@@ -1,6 +1,7 @@
 //! A network that is made on the heap: it is large.
-ghost use Rattle.std.specs.Prelude.{◌≡◌, ◌≤◌, ◌<◌, [], length, All, IfOk, None};
-ghost use Rattle.cec_wave.specs.Pulses.{pulses_fault};
+ghost use Rattle.std.specs.Prelude.{◌≡◌, ◌≤◌, ◌<◌, [], length, All, IfOk, None, true};
+ghost use Rattle.cec_wave.specs.Pulls.{are_timely};
+ghost use Rattle.cec_net.specs.Sound.{EndsEarly};
 ghost use Rattle.cec_wave.specs.Bounds.{latest_instant};
 ghost use Rattle.cec_net.specs.State.{each_from, loose, moved_by, first_net};
 
@@ -9,7 +10,7 @@ use crate::wiring::{DEVICES, fill_loose, rewire};
 use arrayvec::ArrayVec;
 use cec_device::Device;
 use cec_one_wire::EdgeWire;
-use cec_wave::{Pulses, Stretch};
+use cec_wave::{Pulls, Stretch};
 use hdmi_topo::Tree;
 use std::alloc::{AllocError, Global};
 
@@ -53,7 +54,7 @@ fn without_pulses(
         tree,
         wire: EdgeWire::new(),
         close: 0,
-        pulses: Pulses::none(),
+        pulses: Pulls::none(),
         rest: 0,
         devices: Box::into_inner(devices),
         begun: None,
@@ -68,7 +69,8 @@ impl<W> Net<W> {
         requires idle { self.old.heard ≡ None }
         requires fresh { self.old.rest ≡ 0 }
         requires early { All (λ p. p.from ≤ latest_instant) pulses.now }
-        requires sparse { pulses_fault pulses.now ≡ None }
+        requires ends { All EndsEarly pulses.now }
+        requires timely { are_timely pulses.now ≡ true }
         ensures { self.new ≡ record self.old { pulses = pulses.now } }
     {
         self.pulses.become_those(pulses);
@@ -88,7 +90,8 @@ impl Net<EdgeWire> {
     ) -> Result<Box<Self>, AllocError>
         requires some { 0 < length tree }
         requires early { All (λ p. p.from ≤ latest_instant) pulses.now }
-        requires sparse { pulses_fault pulses.now ≡ None }
+        requires ends { All EndsEarly pulses.now }
+        requires timely { are_timely pulses.now ≡ true }
         ensures { IfOk result (λ net. net.value ≡ first_net tree pulses.now) }
     {
         let devices = first_devices(alloc, &tree)?;

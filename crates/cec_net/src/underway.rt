@@ -1,6 +1,5 @@
 //! A round that is taken edge by edge.
 ghost use Rattle.std.specs.Prelude.{◌≡◌, ◌+◌, ◌≤◌, ◌<◌, length, IfSome, MatchOption, Option, ℕ, Bool, true};
-ghost use Rattle.cec_wave.specs.Pulses.{AreSparse};
 ghost use Rattle.cec_wave.specs.Bounds.{latest_instant};
 ghost use Rattle.cec_wire.specs.Edges.{IsNextEdge};
 ghost use Rattle.cec_wire.specs.Round.{IsRound, IsRoundLine};
@@ -19,7 +18,6 @@ use cec_wire::Outcome;
 
 // The next edge of the round in which a wire stands, with these pulses.
 fn next_edge_of(wire: &mut EdgeWire, pulses: &[Stretch]) -> Option<Edge>
-    requires sparse { AreSparse pulses.now }
     requires takes { Takes pulses.now wire.old }
     ensures takes { Takes pulses.now wire.new }
     ensures round { SameRound wire.old wire.new }
@@ -32,7 +30,6 @@ fn next_edge_of(wire: &mut EdgeWire, pulses: &[Stretch]) -> Option<Edge>
 
 // What a round gives, with the edges that are left.
 fn outcome_of(wire: EdgeWire, pulses: &[Stretch]) -> Outcome
-    requires sparse { AreSparse pulses.now }
     requires takes { Takes pulses.now wire }
     ensures { IsRound wire.seats.items wire.begin pulses.now result }
 {
@@ -136,18 +133,27 @@ impl Net<EdgeWire> {
         true
     }
 
+    /// The instant before which the line of a round that was begun was told; none where no round was begun.
+    pub fn heard_until(&self) -> Option<u64>
+        ensures { result ≡ self.now.heard }
+    {
+        match &self.begun {
+            None => None,
+            Some(wire) => Some(wire.heard_until()),
+        }
+    }
+
     /// The next edge of the line of a round that was begun, if there is one. The line is then told through that edge.
     pub fn next_edge(&mut self) -> Option<Edge>
         requires { IsSome self.old.heard }
         ensures edge { OfRound self.old (λ begin heard low. IsNextEdge low heard result) }
         ensures state { (heard : ℕ) × (self.new ≡ record self.old { heard = Some heard }) × IfSome result (λ edge. edge.at + 1 ≡ heard) }
     {
-        let Some(mut wire) = self.begun.take() else {
-            unreachable!();
-        };
-        let edge = next_edge_of(&mut wire, self.pulses.as_slice());
-        self.begun = Some(wire);
-        edge
+        // The wire is large, and stays where it stands.
+        match &mut self.begun {
+            None => unreachable!(),
+            Some(wire) => next_edge_of(wire, self.pulses.as_slice()),
+        }
     }
 
     /// Where the receiver of a device stands in a round that was begun, by what was reported of its line so far. The

@@ -8,8 +8,9 @@ use Rattle.hdmi_topo.specs.Tree.{has_root}
 use Rattle.hdmi_core.specs.Lines.{lines_of}
 use Rattle.cec_asm.specs.Topology.{Plan, TopologyFault, at_word, fault_at, topology_of, lines_read, at_line, line_read}
 use Rattle.cec_asm.specs.declared.topology.TopologyCause.TheVariants.{NoRoot}
-use Rattle.cec_asm.specs.Script.{Course, ScriptFault, IsScriptRead}
+use Rattle.cec_asm.specs.Script.{Course, IsNoWider, ScriptFault, IsScriptRead}
 use Rattle.cec_asm.proofs.OneReading.{one_script}
+use Rattle.cec_net.specs.Sound.{EndsEarly}
 use Rattle.cec_net.specs.State.{first_net}
 use Rattle.cec_run.specs.declared.run.Totals.{Totals}
 use Rattle.hdmi_blocks.specs.declared.edid.Edid.{Edid}
@@ -45,6 +46,10 @@ rooted (line ∷ lines) number plan end h =
 
 pub has_device : (text : List ℕ) (plan : Plan) → topology_of text ≡ Ok plan → 0 < length plan.tree
 has_device text plan h = some_device plan.tree (rooted (lines_of text) 1 (record { tree = []; edid = None }) plan h)
+
+-- the pulses and pulls of a script end by the latest instant
+pub ends_early : (pulses : List Stretch) → All (λ p. p.from ≤ latest_event) pulses → All IsNoWider pulses → All EndsEarly pulses
+ends_early pulses all wide = λ i d l. (let h : (get_or pulses i d).from ≤ latest_event = all i d l in let w = wide i d l in omega (arith, h, w))
 
 -- times within the limit of scripts are within that of runs
 pub early : (pulses : List Stretch) → All (λ p. p.from ≤ latest_event) pulses → All (λ p. p.from ≤ latest_instant) pulses

@@ -1,7 +1,10 @@
 -- What a turn leaves as it was, and how far a round brings the run.
-use Rattle.std.proofs.Common.{◌≡◌, ℕ, suc, ◌+◌, ◌-◌, ◌<◌, ◌≤◌, Bool, true, false, nat_lt, max, if◌then◌else◌, List, ◌∷◌, length, Option, Some, None, ap, sym, refl, subst, arith}
+use Rattle.std.proofs.Common.{◌≡◌, ℕ, suc, ◌+◌, ◌-◌, ◌<◌, ◌≤◌, Bool, true, false, nat_lt, max, if◌then◌else◌, List, ◌∷◌, length, filter, Option, Some, None, ap, sym, refl, subst, arith}
 use Rattle.std.proofs.lemmas.Bool.Decides.{nat_tests}
+use Rattle.cec_wave.specs.declared.Stretch.{Stretch}
+use Rattle.cec_wave.specs.Line.{IsWave}
 use Rattle.cec_wave.specs.Bounds.{latest_event, latest_instant}
+use Rattle.cec_wave.proofs.Kept.{wave_filter}
 use Rattle.cec_wire.specs.declared.Outcome.{Outcome}
 use Rattle.cec_wire.specs.Round.{close_in}
 use Rattle.cec_asm.specs.declared.script.TimedEvent.{TimedEvent}
@@ -69,8 +72,8 @@ round_begins end s time x h = by_time time h
 pub record Brought (end : ℕ) (s t : NetState) : Type 0 where
   pub sooner : s.rest < t.rest
   pub before : s.rest < end
-  pub close : t.close ≤ end + 458500
-  pub rest : t.rest ≤ end + 458500
+  pub close : t.close ≤ max latest_instant (end + 458500)
+  pub rest : t.rest ≤ max latest_instant (end + 458500)
   pub tree : t.tree ≡ s.tree
 
 -- what a state keeps after a round
@@ -85,13 +88,17 @@ round_brings reporting end begin s t totals counted line p soon turn =
     record {
       sooner = omega (arith, p.later, p.low);
       before = omega (arith, p.later);
-      close = omega (arith, p.closed);
-      rest = omega (arith, p.closed, rested.rest);
+      close = omega (arith, p.closed, soon);
+      rest = omega (arith, p.closed, rested.rest, soon);
       tree = rested.tree;
     }
   where
     rest_first : (o : Outcome) → o.rest ≤ close_in o
     rest_first o = omega arith
+
+-- the pulls that are left after a round are in order
+pub left_in_order : (rest : ℕ) (ps : List Stretch) → IsWave ps → IsWave (filter (λ q. nat_lt rest q.from) ps)
+left_in_order rest ps h = wave_filter (λ (q : Stretch). nat_lt rest q.from) ps h
 
 pub same_begin : {begin x : ℕ} → Some begin ≡ Some x → begin ≡ x
 same_begin e = cc

@@ -61,8 +61,8 @@ counted reporting end zero c d text l f = record { moves = []; goes = ap (λ (x 
 counted reporting end (suc turns) c d text l f = by_turn reporting end (turn_at end c) c l.0 d l.1 refl l.3 f (λ g. counted reporting end turns l.0 d l.2 l.4 g)
 
 pub runs_short : RunsAreShort
-runs_short reporting tree pulses events end text totals sparse framed trace =
+runs_short reporting tree pulses events end text totals order framed trace =
     let m = counted reporting end trace.run.turns (start (first_net tree pulses) events) trace.run.last trace.run.body trace.run.leads framed in
-    let few = runs_are_short (first_net tree pulses) trace.run.last.net m.moves end sparse (λ k p l. omega arith) m.goes m.before in
+    let few = runs_are_short (first_net tree pulses) trace.run.last.net m.moves end order (λ k p l. omega arith) m.goes m.before in
     let reported : totals.rounds ≡ trace.run.last.totals.rounds = ap (λ (x : Totals). x.rounds) trace.run.counts in
-    omega (arith, few, reported, m.counts, sparse.few)
+    omega (arith, few, reported, m.counts)

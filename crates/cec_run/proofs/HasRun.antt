@@ -3,8 +3,7 @@ use Rattle.std.proofs.Common.{◌≡◌, ℕ, zero, suc, ◌+◌, ◌-◌, ◌<�
 use Rattle.std.proofs.lemmas.Bool.Decides.{nat_tests}
 use Rattle.std.proofs.lemmas.List.Elements.{filter_passes}
 use Rattle.cec_wave.specs.declared.Stretch.{Stretch}
-use Rattle.cec_wave.specs.Pulses.{AreSparse}
-use Rattle.cec_wave.proofs.Kept.{sparse-filter}
+use Rattle.cec_wave.specs.Line.{IsWave}
 use Rattle.cec_wire.specs.declared.Outcome.{Outcome}
 use Rattle.cec_wire.proofs.HasOutcome.{rounds_have_outcomes}
 use Rattle.cec_asm.specs.declared.script.TimedEvent.{TimedEvent}
@@ -12,7 +11,7 @@ use Rattle.cec_asm.proofs.Sound.{scripts_are_sound}
 use Rattle.cec_net.specs.State.{NetState, next_start, first_net}
 use Rattle.cec_net.specs.Apply.{net_after, event_fault}
 use Rattle.cec_net.specs.Step.{after_round, seats_of}
-use Rattle.cec_net.proofs.Progress.{ComeLater, progress}
+use Rattle.cec_net.proofs.Progress.{ComeLater, going}
 use Rattle.cec_text.specs.ReadingText.{is_complete}
 use Rattle.cec_run.specs.declared.run.Reporting.{Reporting}
 use Rattle.cec_run.specs.declared.run.Reporting.TheVariants.{Trace, Line}
@@ -21,13 +20,13 @@ use Rattle.cec_run.specs.declared.run.Turn.{Turn}
 use Rattle.cec_run.specs.declared.run.Turn.TheVariants.{Stop, Apply, Round}
 use Rattle.cec_run.specs.Run.{Config, start, turn_at, turn_of, first_time, round_turn, counted_event, counted_round, IsEventTurn, IsTurnBy, IsTurn, IsRunTextFrom, event_reported, round_reported, start_reported, end_reported}
 use Rattle.cec_run.specs.HasRun.{RunsHaveTexts, TextsHaveTraces}
-use Rattle.cec_run.proofs.Advance.{event_keeps, round_begins}
+use Rattle.cec_run.proofs.Advance.{event_keeps, left_in_order, round_begins}
 
 -- ---- one turn
 
 -- what a run keeps
 record Fit (s : NetState) : Type 0 where
-  sparse : AreSparse s.pulses
+  order : IsWave s.pulses
   later : ComeLater s.rest s.pulses
 
 -- what is left of it
@@ -75,7 +74,7 @@ event_step reporting end at c (x ∷ xs) same e fit go =
     let rested : ComeLater (net_after at x.event c.net).rest c.net.pulses = subst (λ rest. ComeLater rest c.net.pulses) (sym kept.rest) fit.later in
     in_front reporting end c d line (subst (λ t. IsTurnBy reporting t c line d) (sym e) turn)
     (go d (omega (arith, count, kept.rest))
-    (record { sparse = subst (λ (ps : List Stretch). AreSparse ps) (sym kept.pulses) fit.sparse; later = subst (λ (ps : List Stretch). ComeLater (net_after at x.event c.net).rest ps) (sym kept.pulses) rested }))
+    (record { order = subst (λ (ps : List Stretch). IsWave ps) (sym kept.pulses) fit.order; later = subst (λ (ps : List Stretch). ComeLater (net_after at x.event c.net).rest ps) (sym kept.pulses) rested }))
 
 -- the pulses that are left come after the rest
 later_after : (rest : ℕ) (pulses : List Stretch) → ComeLater rest (filter (λ p. nat_lt rest p.from) pulses)
@@ -84,15 +83,15 @@ later_after rest pulses k p l = (let e = filter_passes (λ (q : Stretch). nat_lt
 round_step : (reporting : Reporting) (end begin : ℕ) (c : Config) → turn_at end c ≡ Round begin → Fit c.net → HaveRests reporting end c → HasRest reporting end c
 round_step reporting end begin c e fit go =
     let begins = round_begins end c.net (first_time c.events) begin e in
-    let has = rounds_have_outcomes (seats_of c.net begin) begin c.net.pulses fit.sparse in
+    let has = rounds_have_outcomes (seats_of c.net begin) begin c.net.pulses fit.order in
     let o : Outcome = has.0 in
     let d : Config = record { net = after_round c.net begin o; events = c.events; totals = counted_round (is_complete o.reading.ending) c.totals } in
     let line = round_reported reporting d.net.devices o in
-    let p = progress c.net begin o fit.sparse fit.later begins.0 has.1 has.2 in
+    let p = going c.net begin o fit.order fit.later begins.0 has.1 has.2 in
     let turn : IsTurnBy reporting (Round begin) c line d =
     (record { outcome = o; wave = has.1; next = record { round = has.2; after_is = refl }; reported = refl; totals = refl }, refl) in
     in_front reporting end c d line (subst (λ t. IsTurnBy reporting t c line d) (sym e) turn)
-    (go d (omega (arith, begins.1, p.later, p.low)) (record { sparse = sparse-filter (λ q. nat_lt o.rest q.from) c.net.pulses fit.sparse; later = later_after o.rest c.net.pulses }))
+    (go d (omega (arith, begins.1, p.later, p.low)) (record { order = left_in_order o.rest c.net.pulses fit.order; later = later_after o.rest c.net.pulses }))
 
 some_step : (reporting : Reporting) (end : ℕ) (c : Config) (turn : Turn) → turn_at end c ≡ turn → Fit c.net → HaveRests reporting end c → HasRest reporting end c
 some_step reporting end c Stop e fit go =
@@ -107,17 +106,17 @@ has_rest reporting end zero c few fit = some_step reporting end c (turn_at end c
 has_rest reporting end (suc n) c few fit = some_step reporting end c (turn_at end c) refl fit (λ d l f. has_rest reporting end n d (omega (arith, l, few)) f)
 
 pub runs_have_texts : RunsHaveTexts
-runs_have_texts reporting tree pulses events end sparse =
+runs_have_texts reporting tree pulses events end order =
     let c = start (first_net tree pulses) events in
-    let rest = has_rest reporting end (size end c) c (omega arith) (record { sparse = sparse; later = λ k p l. omega arith }) in
+    let rest = has_rest reporting end (size end c) c (omega arith) (record { order = order; later = λ k p l. omega arith }) in
     (start_reported reporting c.net ++ rest.0, rest.1, record { rest = rest.0; run = rest.2; whole = refl })
 
 pub texts_have_traces : TextsHaveTraces
 texts_have_traces topology script plan course edid accepted root =
-    let sparse = (scripts_are_sound plan.tree script course accepted.course_is).sparse in
-    let trace = runs_have_texts (Trace edid) plan.tree course.pulses course.events course.end sparse in (
+    let order = (scripts_are_sound plan.tree script course accepted.course_is).timely.order in
+    let trace = runs_have_texts (Trace edid) plan.tree course.pulses course.events course.end order in (
       (trace.0, trace.1, record { plan = plan; course = course; edid = edid; accepted = accepted; root = root; trace = trace.2 }),
       λ format.
-          let line = runs_have_texts (Line format) plan.tree course.pulses course.events course.end sparse in
+          let line = runs_have_texts (Line format) plan.tree course.pulses course.events course.end order in
           (line.0, line.1, record { plan = plan; course = course; edid = edid; accepted = accepted; root = root; line = line.2 }),
     )

@@ -57,11 +57,11 @@ moved reporting end (suc turns) c d text l f =
     by_turn reporting end (turn_at end c) c l.0 d l.1 (rounds_in reporting end turns l.0 l.2 d l.4) refl l.3 f (λ g. moved reporting end turns l.0 d l.2 l.4 g)
 
 pub runs_read : RunsAreRead
-runs_read reporting tree pulses events end turns text d sparse framed leads =
+runs_read reporting tree pulses events end turns text d order framed leads =
     let m = moved reporting end turns (start (first_net tree pulses) events) d text leads framed in
     record {
-      wave = subst (λ (os : List Outcome). IsWave (run_wave os)) m.rounds (runs_are_waves (first_net tree pulses) d.net m.moves sparse (framed-started tree pulses) m.goes);
-      over = λ u l. subst (λ (os : List Outcome). line_of (run_wave os) u ≡ false) m.rounds (runs_over (first_net tree pulses) d.net m.moves sparse (framed-started tree pulses) m.goes u (omega (arith, l)));
+      wave = subst (λ (os : List Outcome). IsWave (run_wave os)) m.rounds (runs_are_waves (first_net tree pulses) d.net m.moves order (framed-started tree pulses) m.goes);
+      over = λ u l. subst (λ (os : List Outcome). line_of (run_wave os) u ≡ false) m.rounds (runs_over (first_net tree pulses) d.net m.moves order (framed-started tree pulses) m.goes u (omega (arith, l)));
       readings = subst (λ (os : List Outcome). readings_of (line_of (run_wave os)) (max end d.net.close) ≡ map outcome_listed os) m.rounds
-          (runs_are_read (first_net tree pulses) d.net m.moves (max end d.net.close) sparse (framed-started tree pulses) m.goes (omega arith));
+          (runs_are_read (first_net tree pulses) d.net m.moves (max end d.net.close) order (framed-started tree pulses) m.goes (omega arith));
     }

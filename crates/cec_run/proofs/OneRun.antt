@@ -2,11 +2,11 @@
 use Rattle.std.proofs.Common.{◌≡◌, ℕ, zero, suc, ◌+◌, ◌≤◌, nat_lt, List, [], ◌∷◌, ◌++◌, refl, sym, ap, ap₂, ◌∙◌, subst, arith, append-nil, Option}
 use Rattle.std.specs.List.{flat_map}
 use Rattle.std.proofs.lemmas.Grind.{flat_map-append}
+use Rattle.std.proofs.lemmas.List.Elements.{All-filter}
 use Rattle.hdmi_blocks.specs.declared.edid.Edid.{Edid}
 use Rattle.cec_trace.specs.TraceText.{round_line}
-use Rattle.cec_wave.specs.Line.{line_of}
-use Rattle.cec_wave.specs.Pulses.{AreSparse}
-use Rattle.cec_wave.proofs.Kept.{sparse-filter}
+use Rattle.cec_wave.specs.declared.Stretch.{Stretch}
+use Rattle.cec_wave.specs.Line.{line_of, IsWave}
 use Rattle.cec_wire.specs.declared.Outcome.{Outcome}
 use Rattle.cec_wire.specs.Round.{close_in}
 use Rattle.cec_wire.proofs.Bounds.{rounds_are_short}
@@ -23,9 +23,9 @@ use Rattle.cec_run.specs.declared.run.Turn.{Turn}
 use Rattle.cec_run.specs.declared.run.Turn.TheVariants.{Stop, Apply, Round}
 use Rattle.cec_run.specs.Run.{Config, start, turn_at, first_time, counted_round, IsEventTurn, IsTurnBy, Leads, IsRunText, start_reported, end_reported, event_text}
 use Rattle.cec_run.specs.RunLine.{rounds_by, rounds_in}
-use Rattle.cec_run.specs.OneRun.{rounds_reported, OneRun, rounds_of_trace, TextsHaveOneRun, Part, OfEvent, OfRound, part_text, part_rounds, TracesHaveParts, RunsCloseSoon}
+use Rattle.cec_run.specs.OneRun.{rounds_reported, OneRun, rounds_of_trace, TextsHaveOneRun, Part, OfEvent, OfRound, part_text, part_rounds, TracesHaveParts, AreOverBy, RunsCloseSoon}
 use Rattle.cec_run.proofs.Turns.{same_outcome, no_turn}
-use Rattle.cec_run.proofs.Advance.{event_keeps, round_begins}
+use Rattle.cec_run.proofs.Advance.{event_keeps, left_in_order, round_begins}
 use Rattle.cec_run.proofs.Accepted.{one_plan, one_course}
 
 -- ---- one turn, whatever is told of it
@@ -140,31 +140,33 @@ traces_have_parts edid end c text totals p =
 
 -- ---- the last close
 
-record Soon (end : ℕ) (s : NetState) : Type 0 where
-  sparse : AreSparse s.pulses
-  close : s.close ≤ end + 458461
+record Soon (bound end : ℕ) (s : NetState) : Type 0 where
+  over : AreOverBy bound end s.pulses
+  close : s.close ≤ bound
 
-soon_event : (reporting : Reporting) (end at : ℕ) (events : List TimedEvent) (c d : Config) (text : List ℕ) → IsEventTurn reporting at events c text d → Soon end c.net → Soon end d.net
-soon_event reporting end at [] c d text t h = subst (λ (x : Config). Soon end x.net) (sym t.1) h
-soon_event reporting end at (e ∷ events) c d text t h =
+soon_event : (reporting : Reporting) (bound end at : ℕ) (events : List TimedEvent) (c d : Config) (text : List ℕ) → IsEventTurn reporting at events c text d → Soon bound end c.net → Soon bound end d.net
+soon_event reporting bound end at [] c d text t h = subst (λ (x : Config). Soon bound end x.net) (sym t.1) h
+soon_event reporting bound end at (e ∷ events) c d text t h =
     let kept = event_keeps at e.event c.net d.net (ap (λ (x : Config). x.net) t.1) in
-    record { sparse = subst AreSparse (sym kept.pulses) h.sparse; close = omega (arith, kept.close, h.close) }
+    record { over = subst (λ (ps : List Stretch). AreOverBy bound end ps) (sym kept.pulses) h.over; close = omega (arith, kept.close, h.close) }
 
-soon_turn : (reporting : Reporting) (end : ℕ) (turn : Turn) (c d : Config) (text : List ℕ) → turn_at end c ≡ turn → IsTurnBy reporting turn c text d → Soon end c.net → Soon end d.net
-soon_turn reporting end Stop c d text same t h = absurd t
-soon_turn reporting end (Apply at) c d text same t h = soon_event reporting end at c.events c d text t h
-soon_turn reporting end (Round begin) c d text same t h =
+soon_turn : (reporting : Reporting) (bound end : ℕ) (turn : Turn) (c d : Config) (text : List ℕ) → end + 448461 ≤ bound → turn_at end c ≡ turn → IsTurnBy reporting turn c text d → Soon bound end c.net → Soon bound end d.net
+soon_turn reporting bound end Stop c d text late same t h = absurd t
+soon_turn reporting bound end (Apply at) c d text late same t h = soon_event reporting bound end at c.events c d text t h
+soon_turn reporting bound end (Round begin) c d text late same t h =
     let o = t.0.outcome in
     let begins = round_begins end c.net (first_time c.events) begin same in
     let at : o.reading.at ≤ begin + 444861 = omega (arith, t.0.next.round.ends, rounds_are_short.ends (line_of o.wave) begin) in
-    let rest : o.rest ≤ begin + 458461 = rounds_are_short.rests (seats_of c.net begin) begin c.net.pulses o h.sparse t.0.wave t.0.next.round in
-    let close : close_in o ≤ end + 458461 = omega (arith, at, rest, begins.1) in
-    subst (Soon end) (sym t.0.next.after_is) (record { sparse = sparse-filter (λ p. nat_lt o.rest p.from) c.net.pulses h.sparse; close = close })
+    let rest : o.rest ≤ bound = rounds_are_short.rests (seats_of c.net begin) begin c.net.pulses o bound h.over.order t.0.wave t.0.next.round (omega (arith, late, begins.1))
+    (λ k p l e. h.over.ends k p l (omega (arith, e, begins.1))) in
+    let close : close_in o ≤ bound = omega (arith, at, rest, begins.1, late) in
+    subst (Soon bound end) (sym t.0.next.after_is)
+    (record { over = record { order = left_in_order o.rest c.net.pulses h.over.order; ends = All-filter (λ (q : Stretch). nat_lt o.rest q.from) (λ (p : Stretch). p.from ≤ end + 448461 → p.to ≤ bound) c.net.pulses h.over.ends }; close = close })
 
-soon_after : (reporting : Reporting) (end turns : ℕ) (c d : Config) (text : List ℕ) → Leads reporting end turns c text d → Soon end c.net → Soon end d.net
-soon_after reporting end zero c d text l h = subst (λ (x : Config). Soon end x.net) (sym l.1) h
-soon_after reporting end (suc turns) c d text l h = soon_after reporting end turns l.0 d l.2 l.4 (soon_turn reporting end (turn_at end c) c l.0 l.1 refl l.3 h)
+soon_after : (reporting : Reporting) (bound end turns : ℕ) (c d : Config) (text : List ℕ) → end + 448461 ≤ bound → Leads reporting end turns c text d → Soon bound end c.net → Soon bound end d.net
+soon_after reporting bound end zero c d text late l h = subst (λ (x : Config). Soon bound end x.net) (sym l.1) h
+soon_after reporting bound end (suc turns) c d text late l h = soon_after reporting bound end turns l.0 d l.2 late l.4 (soon_turn reporting bound end (turn_at end c) c l.0 l.1 late refl l.3 h)
 
 pub runs_close_soon : RunsCloseSoon
-runs_close_soon reporting tree pulses events end turns text d sparse leads =
-    (soon_after reporting end turns (start (first_net tree pulses) events) d text leads (record { sparse = sparse; close = omega arith })).close
+runs_close_soon reporting tree pulses events bound end turns text d late over leads =
+    (soon_after reporting bound end turns (start (first_net tree pulses) events) d text late leads (record { over = over; close = omega arith })).close

@@ -47,8 +47,8 @@ line_in format end (suc turns) c d text l =
     ∙ sym (two_parts (line_round format) (rounds_by (Line format) (turn_at end c) c l.1 l.0 l.3) (rounds_in (Line format) end turns l.0 l.2 d l.4))
 
 pub lines_are_of_the_rounds : LinesAreOfTheRounds
-lines_are_of_the_rounds format tree pulses events end text totals sparse framed reported = record {
-  read = runs_read (Line format) tree pulses events end reported.run.turns reported.run.body reported.run.last sparse framed reported.run.leads;
+lines_are_of_the_rounds format tree pulses events end text totals order framed reported = record {
+  read = runs_read (Line format) tree pulses events end reported.run.turns reported.run.body reported.run.last order framed reported.run.leads;
   whole = reported.whole ∙ ap (λ b. line_start format ++ b) (reported.run.whole ∙ ap (λ b. b ++ line_end format (max end reported.run.last.net.close))
       (line_in format end reported.run.turns (start (first_net tree pulses) events) reported.run.last reported.run.body reported.run.leads));
 }
@@ -59,8 +59,8 @@ edges_of_waves [] = refl
 edges_of_waves (o ∷ os) = ap (λ l. edge_lines o.wave ++ l) (edges_of_waves os) ∙ sym (flat_map-append stretch_lines o.wave (run_wave os))
 
 pub edges_are_the_line : EdgesAreTheLine
-edges_are_the_line tree pulses events end text totals sparse framed reported =
-    let all = lines_are_of_the_rounds Edges tree pulses events end text totals sparse framed reported in
+edges_are_the_line tree pulses events end text totals order framed reported =
+    let all = lines_are_of_the_rounds Edges tree pulses events end text totals order framed reported in
     record {
       read = all.read;
       whole = all.whole ∙ ap (λ b. b ++ end_line (max end reported.run.last.net.close)) (edges_of_waves

@@ -1,7 +1,7 @@
 -- A run has a text (own).
 use Rattle.std.specs.Prelude.{ℕ, List, Option}
 use Rattle.cec_wave.specs.declared.Stretch.{Stretch}
-use Rattle.cec_wave.specs.Pulses.{AreSparse}
+use Rattle.cec_wave.specs.Line.{IsWave}
 use Rattle.hdmi_topo.specs.Node.{Node}
 use Rattle.hdmi_blocks.specs.declared.edid.Edid.{Edid}
 use Rattle.cec_asm.specs.Topology.{Plan}
@@ -15,9 +15,9 @@ use Rattle.cec_run.specs.Run.{start, IsRunText}
 use Rattle.cec_line.specs.declared.format.Format.{Format}
 use Rattle.cec_run.specs.Emulate.{IsAccepted, IsTraceOf, IsLineOf}
 
--- whatever is told of it: it stops, and each of its rounds has an outcome
+-- whatever is told of it, and whatever pulls in order there are: it stops, and each of its rounds has an outcome
 abbrev pub RunsHaveTexts : Type 0
-RunsHaveTexts = (reporting : Reporting) (tree : List Node) (pulses : List Stretch) (events : List TimedEvent) (end : ℕ) → AreSparse pulses
+RunsHaveTexts = (reporting : Reporting) (tree : List Node) (pulses : List Stretch) (events : List TimedEvent) (end : ℕ) → IsWave pulses
     → (text : List ℕ) × (totals : Totals) × IsRunText reporting end (start (first_net tree pulses) events) text totals
 
 -- A topology and a script that are accepted, with an EDID that is none or is read, have a trace, and a text of

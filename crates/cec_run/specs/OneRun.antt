@@ -1,8 +1,8 @@
 -- The trace of a run and the texts of its line tell one run (own).
-use Rattle.std.specs.Prelude.{◌≡◌, ℕ, ◌+◌, ◌≤◌, List, [], ◌∷◌, ◌++◌, map, Option, codes}
+use Rattle.std.specs.Prelude.{◌≡◌, ℕ, ◌+◌, ◌≤◌, All, List, [], ◌∷◌, ◌++◌, map, Option, codes}
 use Rattle.std.specs.List.{concat, flat_map}
 use Rattle.cec_wave.specs.declared.Stretch.{Stretch}
-use Rattle.cec_wave.specs.Pulses.{AreSparse}
+use Rattle.cec_wave.specs.Line.{IsWave}
 use Rattle.cec_wire.specs.declared.Outcome.{Outcome}
 use Rattle.hdmi_topo.specs.Node.{Node}
 use Rattle.cec_asm.specs.declared.script.TimedEvent.{TimedEvent}
@@ -82,7 +82,13 @@ TracesHaveParts = (edid : Option Edid) (end : ℕ) (c : Config) (text : List ℕ
 
 -- ---- when it is over
 
--- The last round closes at most 458,461 microseconds after the script's end.
+-- these are in order, and those that begin while the last reading can go on are over by an instant
+pub record AreOverBy (bound end : ℕ) (pulls : List Stretch) : Type 0 where
+  pub order : IsWave pulls
+  pub ends : All (λ p. p.from ≤ end + 448461 → p.to ≤ bound) pulls
+
+-- The last round closes by any instant that is 448,461 microseconds after the script's end at least, as long as a reading and a
+-- follower's pull can last, and by which the pulls that begin until then are over.
 abbrev pub RunsCloseSoon : Type 0
-RunsCloseSoon = (reporting : Reporting) (tree : List Node) (pulses : List Stretch) (events : List TimedEvent) (end turns : ℕ) (text : List ℕ) (d : Config)
-    → AreSparse pulses → Leads reporting end turns (start (first_net tree pulses) events) text d → d.net.close ≤ end + 458461
+RunsCloseSoon = (reporting : Reporting) (tree : List Node) (pulses : List Stretch) (events : List TimedEvent) (bound end turns : ℕ) (text : List ℕ) (d : Config)
+    → end + 448461 ≤ bound → AreOverBy bound end pulses → Leads reporting end turns (start (first_net tree pulses) events) text d → d.net.close ≤ bound

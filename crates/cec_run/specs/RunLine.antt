@@ -1,8 +1,7 @@
 -- The line of a whole run, and what is read on it (own).
-use Rattle.std.specs.Prelude.{◌≡◌, ℕ, zero, suc, ◌+◌, ◌/◌, ◌≤◌, max, false, List, [], ◌∷◌, ◌++◌, map}
+use Rattle.std.specs.Prelude.{◌≡◌, ℕ, zero, suc, ◌+◌, ◌/◌, ◌≤◌, max, false, List, [], ◌∷◌, ◌++◌, length, map}
 use Rattle.cec_wave.specs.declared.Stretch.{Stretch}
 use Rattle.cec_wave.specs.Line.{line_of, IsWave}
-use Rattle.cec_wave.specs.Pulses.{AreSparse}
 use Rattle.cec_bits.specs.Readings.{readings_of}
 use Rattle.cec_wire.specs.declared.Outcome.{Outcome}
 use Rattle.cec_wire.specs.Alone.{outcome_listed}
@@ -22,7 +21,6 @@ use Rattle.cec_trace.specs.EdgeText.{edge_lines}
 use Rattle.cec_trace.specs.TraceText.{end_line}
 use Rattle.cec_run.specs.declared.run.Totals.{Totals}
 use Rattle.cec_run.specs.Run.{Config, start, turn_at, IsTurnBy, Leads, IsRunText}
-use Rattle.cec_wave.specs.Bounds.{most_pulses}
 
 -- the rounds of a turn: one, or none
 abbrev pub rounds_by : (reporting : Reporting) (turn : Turn) (c : Config) (text : List ℕ) (d : Config) → IsTurnBy reporting turn c text d → List Outcome
@@ -44,7 +42,7 @@ pub record IsRead (os : List Outcome) (end : ℕ) : Type 0 where
 
 abbrev pub RunsAreRead : Type 0
 RunsAreRead = (reporting : Reporting) (tree : List Node) (pulses : List Stretch) (events : List TimedEvent) (end turns : ℕ) (text : List ℕ) (d : Config)
-    → AreSparse pulses → AreFramedEvents events → (leads : Leads reporting end turns (start (first_net tree pulses) events) text d)
+    → IsWave pulses → AreFramedEvents events → (leads : Leads reporting end turns (start (first_net tree pulses) events) text d)
     → IsRead (rounds_in reporting end turns (start (first_net tree pulses) events) text d leads) (max end d.net.close)
 
 -- The text of a run's line in a format is that of its rounds, one after another, and of an end that is the later of the
@@ -55,7 +53,7 @@ pub record IsLineText (format : Format) (os : List Outcome) (end : ℕ) (text : 
 
 abbrev pub LinesAreOfTheRounds : Type 0
 LinesAreOfTheRounds = (format : Format) (tree : List Node) (pulses : List Stretch) (events : List TimedEvent) (end : ℕ) (text : List ℕ) (totals : Totals)
-    → AreSparse pulses → AreFramedEvents events → (reported : IsRunText (Line format) end (start (first_net tree pulses) events) text totals)
+    → IsWave pulses → AreFramedEvents events → (reported : IsRunText (Line format) end (start (first_net tree pulses) events) text totals)
     → IsLineText format (rounds_in (Line format) end reported.run.turns (start (first_net tree pulses) events) reported.run.body reported.run.last reported.run.leads) (max end reported.run.last.net.close) text
 
 -- In an edge file that is the text of the whole line.
@@ -65,11 +63,11 @@ pub record IsEdgeText (os : List Outcome) (end : ℕ) (text : List ℕ) : Type 0
 
 abbrev pub EdgesAreTheLine : Type 0
 EdgesAreTheLine = (tree : List Node) (pulses : List Stretch) (events : List TimedEvent) (end : ℕ) (text : List ℕ) (totals : Totals)
-    → AreSparse pulses → AreFramedEvents events → (reported : IsRunText (Line Edges) end (start (first_net tree pulses) events) text totals)
+    → IsWave pulses → AreFramedEvents events → (reported : IsRunText (Line Edges) end (start (first_net tree pulses) events) text totals)
     → IsEdgeText (rounds_in (Line Edges) end reported.run.turns (start (first_net tree pulses) events) reported.run.body reported.run.last reported.run.leads) (max end reported.run.last.net.close) text
 
 -- A run ends: it has at most one round for each 7,200 microseconds (CEC 9.1, the shortest signal free time) before its end,
--- and one more for each of 4,096 pulses.
+-- and one more for each pulse and pull.
 abbrev pub RunsAreShort : Type 0
 RunsAreShort = (reporting : Reporting) (tree : List Node) (pulses : List Stretch) (events : List TimedEvent) (end : ℕ) (text : List ℕ) (totals : Totals)
-    → AreSparse pulses → AreFramedEvents events → IsRunText reporting end (start (first_net tree pulses) events) text totals → totals.rounds ≤ end / 7200 + most_pulses
+    → IsWave pulses → AreFramedEvents events → IsRunText reporting end (start (first_net tree pulses) events) text totals → totals.rounds ≤ end / 7200 + length pulses

@@ -3,6 +3,7 @@ ghost use Rattle.std.specs.Prelude.{◌≡◌, ℕ, ◌<◌, ◌≤◌, List, le
 ghost use Rattle.std.specs.Io.KnownBytes.{Appends};
 ghost use Rattle.cec_wave.specs.Bounds.{latest_event, latest_instant};
 ghost use Rattle.cec_asm.specs.Script.{IsSchedule};
+ghost use Rattle.cec_net.specs.Sound.{EndsEarly};
 ghost use Rattle.cec_net.specs.State.{first_net};
 ghost use Rattle.cec_run.specs.declared.run.Totals.{Totals as TotalsRecord};
 ghost use Rattle.hdmi_core.specs.Cut.{CutOff};
@@ -115,6 +116,7 @@ pub fn started_net(
 ) -> Result<Box<Net<EdgeWire>>, AllocError>
     requires some { 0 < length tree }
     requires early { All (λ p. p.from ≤ latest_instant) script.now.pulses.items }
+    requires ends { All EndsEarly script.now.pulses.items }
     ensures { IfOk result (λ net. net.value ≡ first_net tree script.now.pulses.items) }
 {
     Net::on_heap(alloc, tree, &script.pulses)

@@ -4,24 +4,21 @@ use Rattle.std.proofs.lemmas.Bool.{cases_lt}
 use Rattle.std.proofs.lemmas.Bool.Decides.{nat_tests}
 use Rattle.std.proofs.lemmas.List.Elements.{All-append, All-cons, All-nil, filter_passes}
 use Rattle.cec_wave.specs.declared.Stretch.{Stretch}
-use Rattle.cec_wave.specs.declared.PulsesError.{PulsesError}
 use Rattle.cec_wave.specs.Line.{IsWave}
-use Rattle.cec_wave.specs.Pulses.{AreSparse, pulses_fault}
-use Rattle.cec_wave.specs.Bounds.{latest_instant}
-use Rattle.cec_wave.proofs.Kept.{sparse-filter}
-use Rattle.cec_wave.proofs.Sparse.{faultless_are_sparse}
+use Rattle.cec_wave.specs.Pulls.{are_timely}
+use Rattle.cec_wave.proofs.Kept.{timely_tested, wave_filter}
 use Rattle.cec_wire.specs.declared.Outcome.{Outcome}
 use Rattle.cec_wire.proofs.HasOutcome.{rounds_have_outcomes}
 use Rattle.cec_event.specs.declared.event.Event.{Event}
 use Rattle.hdmi_blocks.specs.declared.edid.Edid.{Edid}
 use Rattle.cec_asm.specs.declared.script.TimedEvent.{TimedEvent}
 use Rattle.cec_net.specs.State.{NetState, next_start}
-use Rattle.cec_net.specs.Added.{between_rounds, pulse_fault, pulse_fault_by, with_pulse}
+use Rattle.cec_net.specs.Added.{between_rounds, is_late, pulse_fault, pulse_fault_by, with_pulse}
 use Rattle.cec_net.specs.Apply.{net_after, event_fault}
 use Rattle.cec_net.specs.Step.{IsNextRound, after_round, seats_of}
 use Rattle.cec_net.specs.declared.added.PulseError.{PulseError}
-use Rattle.cec_net.specs.declared.added.PulseError.TheVariants.{Past, Late, NotSparse}
-use Rattle.cec_net.proofs.Progress.{progress}
+use Rattle.cec_net.specs.declared.added.PulseError.TheVariants.{Past, Late, NotInOrder}
+use Rattle.cec_net.proofs.Progress.{going}
 use Rattle.cec_text.specs.ReadingText.{is_complete}
 use Rattle.cec_run.specs.declared.run.Reporting.TheVariants.{Trace}
 use Rattle.cec_run.specs.declared.run.Turn.{Turn}
@@ -37,13 +34,13 @@ use Rattle.cec_session.proofs.Going.{last_stop, reported_event}
 -- ---- what a network keeps of its pulses
 
 pub ahead_first : (net : NetState) → net.pulses ≡ [] → AreAhead net
-ahead_first net none = record { sparse = subst (λ (ps : List Stretch). AreSparse ps) (sym none) (record { few = omega arith; narrow = All-nil _; far = tt }); later = subst (λ (ps : List Stretch). All (λ p. net.rest ≤ p.from) ps) (sym none) (All-nil _) }
+ahead_first net none = record { order = subst (λ (ps : List Stretch). IsWave ps) (sym none) tt; later = subst (λ (ps : List Stretch). All (λ p. net.rest ≤ p.from) ps) (sym none) (All-nil _) }
 
 pub ahead_event : (at : ℕ) (event : Event) (s t : NetState) → t ≡ net_after at event s → AreAhead s → AreAhead t
 ahead_event at event s t e a =
     let kept = event_keeps at event s t e in
     record {
-      sparse = subst (λ (ps : List Stretch). AreSparse ps) (sym kept.pulses) a.sparse;
+      order = subst (λ (ps : List Stretch). IsWave ps) (sym kept.pulses) a.order;
       later = subst (λ (ps : List Stretch). All (λ p. t.rest ≤ p.from) ps) (sym kept.pulses) (subst (λ (rest : ℕ). All (λ p. rest ≤ p.from) s.pulses) (sym kept.rest) a.later);
     }
 
@@ -52,23 +49,20 @@ later_after : (rest : ℕ) (pulses : List Stretch) → All (λ p. rest ≤ p.fro
 later_after rest pulses k p l = (let e = filter_passes (λ (q : Stretch). nat_lt rest q.from) pulses k p l in grind (arith, nat_tests))
 
 pub ahead_round : (begin : ℕ) (s t : NetState) (o : Outcome) → t ≡ after_round s begin o → AreAhead s → AreAhead t
-ahead_round begin s t o e a = subst AreAhead (sym e) (record { sparse = sparse-filter (λ q. nat_lt o.rest q.from) s.pulses a.sparse; later = later_after o.rest s.pulses })
+ahead_round begin s t o e a = subst AreAhead (sym e) (record { order = wave_filter (λ (q : Stretch). nat_lt o.rest q.from) s.pulses a.order; later = later_after o.rest s.pulses })
 
-no_fault : (fault : Option PulseError) (a b : Bool) → (if a then Some Past else if b then Some Late else fault) ≡ None → (a ≡ false) × (fault ≡ None)
-no_fault fault true b e = cc
-no_fault fault false true e = cc
-no_fault fault false false e = (refl, e)
-
-no_pulses_fault : (fault : Option PulsesError) → option_map NotSparse fault ≡ None → fault ≡ None
-no_pulses_fault None e = refl
-no_pulses_fault (Some fault) e = cc
+no_fault : (a b c : Bool) → (if a then Some Past else if b then Some Late else if c then None else Some NotInOrder) ≡ None → (a ≡ false) × (c ≡ true)
+no_fault true b c e = cc
+no_fault false true c e = cc
+no_fault false false true e = (refl, refl)
+no_fault false false false e = cc
 
 ahead_between : (s : NetState) (pulse : Stretch) → between_rounds s pulse ≡ None → AreAhead s → AreAhead (with_pulse s pulse)
 ahead_between s pulse e a =
-    let none = no_fault (option_map NotSparse (pulses_fault (s.pulses ++ pulse ∷ []))) (nat_lt pulse.from s.rest) (nat_lt latest_instant pulse.from) e in
+    let none = no_fault (nat_lt pulse.from s.rest) (is_late pulse) (are_timely (s.pulses ++ pulse ∷ [])) e in
     let late : s.rest ≤ pulse.from = (let no = none.0 in grind (arith, nat_tests)) in
     record {
-      sparse = (faultless_are_sparse (s.pulses ++ pulse ∷ [])).0 (no_pulses_fault (pulses_fault (s.pulses ++ pulse ∷ [])) none.1);
+      order = ((timely_tested (s.pulses ++ pulse ∷ [])).0 none.1).order;
       later = All-append (λ p. s.rest ≤ p.from) s.pulses (pulse ∷ []) a.later (All-cons (λ p. s.rest ≤ p.from) pulse [] late (All-nil (λ p. s.rest ≤ p.from)));
     }
 
@@ -150,14 +144,14 @@ event_step edid ended span until at c (x ∷ xs) same e ahead go =
 round_step : (edid : Option Edid) (ended : Bool) (span : Span) (until begin : ℕ) (c : Config) → turn_at until c ≡ Round begin → AreAhead c.net → HaveTexts edid ended span until c → HasText edid ended span until c
 round_step edid ended span until begin c e ahead go =
     let begins = round_begins until c.net (first_time c.events) begin e in
-    let has = rounds_have_outcomes (seats_of c.net begin) begin c.net.pulses ahead.sparse in
+    let has = rounds_have_outcomes (seats_of c.net begin) begin c.net.pulses ahead.order in
     let o : Outcome = has.0 in
     let net = after_round c.net begin o in
     let next : IsNextRound c.net begin o net = record { round = has.2; after_is = refl } in
     let d : Config = record { net = net; events = c.events; totals = counted_round (is_complete o.reading.ending) c.totals } in
     let line = round_reported (Trace edid) net.devices o in
     let turn : IsTurnBy (Trace edid) (Round begin) c line d = (record { outcome = o; wave = has.1; next = next; reported = refl; totals = refl }, refl) in
-    let p = progress c.net begin o ahead.sparse ahead.later begins.0 has.1 has.2 in
+    let p = going c.net begin o ahead.order ahead.later begins.0 has.1 has.2 in
     let rest = go d (omega (arith, begins.1, p.later, p.low)) (ahead_round begin c.net net o refl ahead) in
     by_end ended o has.1 net next d turn rest (o, net, has.1, next, refl)
   where

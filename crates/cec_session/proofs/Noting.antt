@@ -86,10 +86,10 @@ only_one p (q ∷ others) few = absurd (omega (arith, few))
 -- ---- a session stays ready
 
 sound_of : (count : ℕ) (notes : Notes) → AreFit count notes → AreSound count notes
-sound_of count notes f = record { schedule = f.schedule; framed = f.framed; apart = f.apart; early = f.early; ended = f.ended }
+sound_of count notes f = record { schedule = f.schedule; framed = f.framed; order = f.order; wide = f.wide; early = f.early; ended = f.ended }
 
 fit_of : (count : ℕ) (notes : Notes) → AreSound count notes → AreFit count notes
-fit_of count notes f = record { schedule = f.schedule; framed = f.framed; apart = f.apart; early = f.early; ended = f.ended }
+fit_of count notes f = record { schedule = f.schedule; framed = f.framed; order = f.order; wide = f.wide; early = f.early; ended = f.ended }
 
 noted_cases : (s : Standing) (new : Notes) (late : Bool) → is_late s new ≡ late → (standing_with s (Ok new) ≡ s) ⊎ (standing_with s (Ok new) ≡ taken s new)
 noted_cases s new true e = inl (ap (λ b. if b then s else taken s new) e)

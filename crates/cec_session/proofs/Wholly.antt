@@ -17,7 +17,6 @@ use Rattle.cec_run.specs.declared.run.Reporting.TheVariants.{Trace}
 use Rattle.cec_run.specs.declared.run.Turn.{Turn}
 use Rattle.cec_run.specs.Run.{Config, start, start_reported, end_reported, Leads, IsRunText, IsRunTextFrom}
 use Rattle.cec_certain.specs.Certain.{ComesFrom, LeadsIf, LeadsBy, with_more}
-use Rattle.cec_certain.proofs.Apart.{faultless_are_apart}
 use Rattle.cec_certain.proofs.Certainty.{turns_stay_certain, reported_is_front}
 use Rattle.cec_certain.proofs.Before.{all_on}
 use Rattle.cec_asm.specs.declared.script.ScriptCause.TheVariants.{Number}
@@ -51,7 +50,7 @@ stay_on : (edid : Option Edid) (tree : List Node) (until on turns count : ℕ) (
     → LeadsBy (Trace edid) on turns (start (first_net tree (notes.pulses ++ later)) (notes.events ++ events)) reported (with_more events later place)
 stay_on edid tree until on turns count notes place reported events later sound l comes =
     turns_stay_certain (Trace edid) until on turns (start (first_net tree notes.pulses) notes.events) place reported events later
-    (faultless_are_apart notes.pulses sound.apart) (framed-started tree notes.pulses) sound.framed comes l
+    sound.order (framed-started tree notes.pulses) sound.framed comes l
 
 same_place : (place : Config) → with_more [] [] place ≡ place
 same_place place =
@@ -303,7 +302,7 @@ sessions_report_fronts edid tree lines kept reported text t l going events later
     by_case : Reached edid tree t reported → (more : List ℕ) × (whole ≡ (start_reported (Trace edid) (first_net tree t.notes.pulses) ++ reported) ++ more)
     by_case (inl (r, none)) =
         reported_is_front (Trace edid) tree t.notes.pulses later t.notes.events events t.horizon end r.turns t.place reported whole totals
-        (faultless_are_apart t.notes.pulses r.sound.apart) r.sound.framed comes r.leads run
+        r.sound.order r.sound.framed comes r.leads run
     by_case (inr over) = absurd (not_both t.notes.end t.horizon going over.ended)
 
 pub sessions_report_traces : SessionsReportTraces

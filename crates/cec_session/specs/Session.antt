@@ -3,7 +3,6 @@ use Rattle.std.specs.Prelude.{◌≡◌, ℕ, ◌+◌, ◌<◌, ◌≤◌, min, 
 use Rattle.std.specs.List.{list_any}
 use Rattle.std.specs.Fmt.{decimal}
 use Rattle.cec_wave.specs.declared.Stretch.{Stretch}
-use Rattle.cec_wave.specs.Pulses.{first_fault}
 use Rattle.cec_wave.specs.Line.{IsWave}
 use Rattle.cec_wave.specs.Bounds.{latest_event}
 use Rattle.cec_wire.specs.declared.Outcome.{Outcome}
@@ -13,7 +12,7 @@ use Rattle.cec_device.specs.State.{State}
 use Rattle.cec_net.specs.State.{NetState, first_net}
 use Rattle.cec_net.specs.Step.{IsNextRound}
 use Rattle.cec_net.specs.Added.{pulse_fault}
-use Rattle.cec_asm.specs.Script.{Notes, no_notes, last_time, within_limit, script_cause, IsLineRead, IsSchedule, AreFramedEvents}
+use Rattle.cec_asm.specs.Script.{IsNoWider, Notes, no_notes, last_time, within_limit, script_cause, IsLineRead, IsSchedule, AreFramedEvents}
 use Rattle.cec_asm.specs.declared.script.TimedEvent.{TimedEvent}
 use Rattle.cec_asm.specs.declared.fault.LineFault.{LineFault}
 use Rattle.cec_asm.specs.declared.script.ScriptCause.TheVariants.{Number, Name}
@@ -255,7 +254,8 @@ StepsHaveOneText = (step : Step) (s t u : Session) (text other : List ℕ) → I
 pub record AreFit (count : ℕ) (notes : Notes) : Type 0 where
   pub schedule : IsSchedule count (last_time notes.events + 1) 0 notes.events
   pub framed : AreFramedEvents notes.events
-  pub apart : first_fault None notes.pulses ≡ None
+  pub order : IsWave notes.pulses
+  pub wide : All IsNoWider notes.pulses
   pub early : All (λ pulse. pulse.from ≤ latest_event) notes.pulses
   pub ended : (time : ℕ) → notes.end ≡ Some time → IsSchedule count time 0 notes.events × (time ≤ latest_event)
 

@@ -1,7 +1,6 @@
 -- The turns that a session reports (this profile's own).
 use Rattle.std.specs.Prelude.{◌≡◌, ℕ, zero, suc, ◌+◌, ◌<◌, ◌≤◌, Bool, true, false, List, [], ◌∷◌, ◌++◌, length, Option, Some, None, IsSome, All}
 use Rattle.cec_wave.specs.Line.{IsWave}
-use Rattle.cec_wave.specs.Pulses.{AreSparse}
 use Rattle.cec_wave.specs.Bounds.{latest_instant}
 use Rattle.cec_wire.specs.declared.Outcome.{Outcome}
 use Rattle.cec_net.specs.Progress.{IsProgress}
@@ -121,9 +120,9 @@ IsKept false net next = Unit {0}
 
 -- ---- what stays within its limits
 
--- the pulses of a network: they are sparse, and none begins before its line has come to rest
+-- the pulses and pulls of a network: they are in order, and none begins before its line has come to rest
 pub record AreAhead (net : NetState) : Type 0 where
-  pub sparse : AreSparse net.pulses
+  pub order : IsWave net.pulses
   pub later : All (λ p. net.rest ≤ p.from) net.pulses
 
 -- times and counts at a place

@@ -112,7 +112,7 @@ impl Foreseen {
         })
     }
 
-    /// Its pulses are sparse, and none begins before its line has come to rest.
+    /// Its pulses and pulls are in order, and none begins before its line has come to rest.
     pub fn pulses_are_ahead(&self)
         ensures { AreAhead self.now }
     {

@@ -1,8 +1,9 @@
 -- The edges of a round: its line has one, and the text of an edge is the same whichever line is taken.
-use Rattle.std.proofs.Common.{◌≡◌, ℕ, ◌-◌, ◌<◌, ◌&&◌, nat_lt, Bool, true, false, Some, None, refl, arith}
+use Rattle.std.proofs.Common.{◌≡◌, ℕ, ◌-◌, ◌<◌, ◌&&◌, nat_lt, Bool, true, false, List, filter, Some, None, refl, arith}
 use Rattle.std.proofs.lemmas.Bool.Decides.{nat_tests}
-use Rattle.cec_wave.specs.Line.{Line, was_low}
-use Rattle.cec_wave.specs.Pulses.{AreSparse}
+use Rattle.cec_wave.specs.Line.{Line, IsWave, was_low}
+use Rattle.cec_wave.specs.declared.Stretch.{Stretch}
+use Rattle.cec_wave.proofs.Kept.{wave_filter}
 use Rattle.cec_bits.specs.Reading.{start_of}
 use Rattle.cec_wire.specs.Edges.{IsNextEdge}
 use Rattle.cec_wire.specs.Round.{IsRoundLine}
@@ -12,6 +13,10 @@ use Rattle.cec_net.specs.State.{NetState, next_start}
 use Rattle.cec_net.specs.Step.{seats_of}
 use Rattle.cec_net.proofs.Lines.{begun}
 
+-- the pulses that a round leaves are in order
+pub left_in_order : (rest : ℕ) (ps : List Stretch) → IsWave ps → IsWave (filter (λ q. nat_lt rest q.from) ps)
+left_in_order rest ps h = wave_filter (λ (q : Stretch). nat_lt rest q.from) ps h
+
 fresh : (low : Line) (begin : ℕ) → ((u : ℕ) → u < begin → low u ≡ false) → was_low low begin ≡ false
 fresh low begin high = by (nat_lt 0 begin) refl
   where
@@ -20,10 +25,10 @@ fresh low begin high = by (nat_lt 0 begin) refl
     by false e = refl
 
 -- the line of a round falls as it begins
-pub has_edge : (s : NetState) (begin : ℕ) (low : Line) → next_start s ≡ Some begin → AreSparse s.pulses → IsRoundLine (seats_of s begin) begin s.pulses low → IsNextEdge low begin None → ⊥
-has_edge s begin low next sparse line none =
+pub has_edge : (s : NetState) (begin : ℕ) (low : Line) → next_start s ≡ Some begin → IsWave s.pulses → IsRoundLine (seats_of s begin) begin s.pulses low → IsNextEdge low begin None → ⊥
+has_edge s begin low next order line none =
     let up : low begin ≡ true =
-    low_at_begin (seats_of s begin) begin s.pulses low sparse (contended (seats_of s begin) begin s.pulses low line) (begun_by low begin (start_of low begin) refl).reports (begun s begin next) in
+    low_at_begin (seats_of s begin) begin s.pulses low order (contended (seats_of s begin) begin s.pulses low line) (begun_by low begin (start_of low begin) refl).reports (begun s begin next) in
     let down : was_low low begin ≡ false = fresh low begin (high_before (seats_of s begin) begin s.pulses low line) in
     clash (low begin) (was_low low begin) up down (none begin (omega arith))
   where

@@ -1,5 +1,5 @@
 -- A round that is reported edge by edge: its first edge, one after another, and its end.
-use Rattle.std.proofs.Common.{◌≡◌, ℕ, ◌+◌, ◌<◌, Bool, true, false, List, [], ◌∷◌, length, inl, inr, IsSome, Option, Some, None, Result, Ok, Err, ap, ◌∙◌, sym, refl, subst, arith}
+use Rattle.std.proofs.Common.{◌≡◌, ℕ, ◌+◌, ◌<◌, Bool, true, false, List, [], ◌∷◌, length, drop, inl, inr, IsSome, IfSome, Option, Some, None, Result, Ok, Err, ap, ◌∙◌, sym, refl, subst, arith}
 use Rattle.cec_wave.specs.declared.Edge.{Edge}
 use Rattle.cec_wave.specs.Line.{IsWave}
 use Rattle.cec_wire.specs.declared.Outcome.{Outcome}
@@ -16,13 +16,14 @@ use Rattle.cec_run.specs.declared.run.Turn.{Turn}
 use Rattle.cec_run.specs.declared.run.Turn.TheVariants.{Stop, Apply, Round}
 use Rattle.cec_run.specs.Run.{turn_of, first_time}
 use Rattle.cec_run.proofs.Advance.{round_begins, same_begin}
+use Rattle.cec_step.specs.declared.position.Ahead.{Ahead}
 use Rattle.cec_step.specs.declared.position.Position.{Position}
 use Rattle.cec_step.specs.declared.position.RunInput.{RunInput}
 use Rattle.cec_step.specs.declared.stepper.StepError.{StepError}
 use Rattle.cec_step.specs.declared.stepper.StepError.TheVariants.{Write}
 use Rattle.cec_step_text.specs.EdgeText.{edge_line}
 use Rattle.cec_step.specs.Steps.{Point, Run, Steps, IsEdgeStep, IsEdgeStepBy, IsFirstEdge, IsFirstStep, IsNoEdge, IsNoEdgeBy, IsOver, IsRoundStep, IsTaken, in_round, after_events, passed_by, passed_from}
-use Rattle.cec_step.specs.Ready.{AreAlike, Begins, InsideIf, IsInside, IsReady, begun_in, point_of, run_of}
+use Rattle.cec_step.specs.Ready.{AreAlike, Begins, InsideIf, IsAhead, IsInside, IsReady, begun_in, point_of, run_of, written_in, written_of}
 use Rattle.cec_step.proofs.Passing.{ready_event}
 use Rattle.cec_step.proofs.Rounds.{alike_point, ready_round}
 use Rattle.cec_step.proofs.Taken.{taken_as}
@@ -88,30 +89,90 @@ edge_cut Gives Over s t net e old new was is fault error same gives (text, line,
 abbrev pub steps : Run → Point → Option NetState → Steps
 steps run last begun = record { run = run; last = last; begun = begun }
 
--- a stepper stands in a round
-pub record IsIn (s : Steps) (inside : Position) : Type 0 where
-  pub net : s.begun ≡ Some inside.net.value
+-- a stepper stands in a round, as far as it was written
+pub record IsIn (s : Steps) (ahead : Option Ahead) (inside : Position) : Type 0 where
+  pub net : s.begun ≡ Some (written_of ahead inside.net.value)
   pub ready : IsReady s.run.end s.last
   pub round : IsInside s.run.end s.last (point_of s.run.events inside)
 
-pub alike_in : (s : Steps) (p q : Position) → AreAlike p q → IsIn s q → IsIn s p
-alike_in s p q alike stands = record {
-  net = stands.net ∙ ap (λ (n : NetState). Some n) (sym alike.net);
+pub is_in : (course : RunInput) (last inside : Position) (ahead : Option Ahead) (b : Bool) → IsSome (begun_in b (written_in ahead (point_of course.events.items inside))) → IsReady course.end (point_of course.events.items last)
+    → InsideIf b course.end (point_of course.events.items last) (point_of course.events.items inside)
+    → IsIn (steps (run_of course) (point_of course.events.items last) (begun_in b (written_in ahead (point_of course.events.items inside)))) ahead inside
+is_in course last inside ahead true some r i = record { net = refl; ready = r; round = i }
+is_in course last inside ahead false some r i = cc
+
+pub alike_in : (s : Steps) (ahead : Option Ahead) (p q : Position) → AreAlike p q → IsIn s ahead q → IsIn s ahead p
+alike_in s ahead p q alike stands = record {
+  net = stands.net ∙ ap (λ (n : NetState). Some (written_of ahead n)) (sym alike.net);
   ready = stands.ready;
   round = subst (λ (x : Point). IsInside s.run.end s.last x) (sym (alike_point s.run.events p q alike)) stands.round;
 }
 
-pub is_in : (course : RunInput) (last inside : Position) (b : Bool) → IsSome (begun_in b (point_of course.events.items inside)) → IsReady course.end (point_of course.events.items last)
-    → InsideIf b course.end (point_of course.events.items last) (point_of course.events.items inside)
-    → IsIn (steps (run_of course) (point_of course.events.items last) (begun_in b (point_of course.events.items inside))) inside
-is_in course last inside true some r i = record { net = refl; ready = r; round = i }
-is_in course last inside false some r i = cc
+-- what was written of it is the same
+pub same_written : (run : Run) (last q r : Point) (b : Bool) → r.net ≡ q.net → steps run last (begun_in b r) ≡ steps run last (begun_in b q)
+same_written run last q r true e = ap (λ (n : NetState). steps run last (Some n)) e
+same_written run last q r false e = refl
 
--- it goes on to another instant of the round
+-- where it stands it is written up to another instant of the round
 pub still_in : (run : Run) (last q next : Point) (b : Bool) → IsSome (begun_in b q)
     → steps run last (begun_in b next) ≡ in_round (steps run last (begun_in b q)) last next.net
 still_in run last q next true some = refl
 still_in run last q next false some = cc
+
+-- ---- what is heard ahead
+
+some_of : (o : Option ℕ) → IsSome o → (h : ℕ) × (o ≡ Some h)
+some_of (Some h) some = (h, refl)
+some_of None some = cc
+
+pub is_at : (s : NetState) (h : ℕ) → s.heard ≡ Some h → record s { heard = Some h } ≡ s
+is_at s h e = ap (λ (o : Option ℕ). record s { heard = o }) (sym e)
+
+at_instant : (ahead : Option Ahead) (s : NetState) (h : ℕ) → record (written_of ahead s) { heard = Some h } ≡ record s { heard = Some h }
+at_instant None s h = refl
+at_instant (Some a) s h = refl
+
+heard_as : (was now : Option Ahead) (s t : NetState) (h : ℕ) → written_of now t ≡ written_of was s → t.heard ≡ Some h → t ≡ record s { heard = Some h }
+heard_as was now s t h e at = sym (is_at t h at) ∙ sym (at_instant now t h) ∙ ap (λ (n : NetState). record n { heard = Some h }) e ∙ at_instant was s h
+
+-- a position that was heard further stands in the same round
+pub heard_on : (s : Steps) (was now : Option Ahead) (p q : Position) → IsIn s was p → written_of now q.net.value ≡ written_of was p.net.value → q.applied ≡ p.applied → q.is_first ≡ p.is_first → IsSome q.net.value.heard
+    → IsIn s now q
+heard_on s was now p q stands e applied first some =
+    let there : Point = after_events s.run.end s.last in
+    let inside = stands.round in
+    let h = some_of q.net.value.heard some in
+    let net : q.net.value ≡ record there.net { heard = Some h.0 } =
+    heard_as was now p.net.value q.net.value h.0 e h.1 ∙ ap (λ (x : Point). record x.net { heard = Some h.0 }) inside.reported in
+    let events : drop q.applied s.run.events ≡ there.events = ap (λ (n : ℕ). drop n s.run.events) applied ∙ ap (λ (x : Point). x.events) inside.reported in
+    let is_first : q.is_first ≡ there.is_first = first ∙ ap (λ (x : Point). x.is_first) inside.reported in
+    record {
+      net = stands.net ∙ ap (λ (n : NetState). Some n) (sym e);
+      ready = stands.ready;
+      round = record { begin = inside.begin; heard = h.0; turn = inside.turn; reported = (λ i. record { net = net i; events = events i; is_first = is_first i }) };
+    }
+
+-- what is heard of a round from an instant on is ahead of it there
+pub ahead_of : (s t : NetState) (written h : ℕ) (edge : Option Edge) → Some written ≡ s.heard → t ≡ record s { heard = Some h } → OfRound s (λ begin heard low. IsNextEdge low heard edge) → IfSome edge (λ e. e.at + 1 ≡ h)
+    → (record t { heard = Some written } ≡ s) × IsAhead t (record { written = written; edge = edge })
+ahead_of s t written h edge was is next at =
+    let back : record t { heard = Some written } ≡ s = ap (λ (n : NetState). record n { heard = Some written }) is ∙ is_at s written (sym was) in
+    let heard : t.heard ≡ Some h = ap (λ (n : NetState). n.heard) is in (
+      back,
+      record {
+        underway = subst (λ (o : Option ℕ). IsSome o) (sym heard) refl;
+        next = subst (λ (n : NetState). OfRound n (λ begin heard low. IsNextEdge low heard edge)) (sym back) next;
+        reported = by edge at heard;
+      },
+    )
+  where
+    by : (edge : Option Edge) → IfSome edge (λ e. e.at + 1 ≡ h) → t.heard ≡ Some h → IfSome edge (λ e. t.heard ≡ Some (e.at + 1))
+    by None at heard = tt
+    by (Some e) at heard = heard ∙ ap (λ (k : ℕ). Some k) (sym at)
+
+-- a round that was begun is underway
+pub inside_underway : (end : ℕ) (p q : Point) → IsInside end p q → IsSome q.net.heard
+inside_underway end p q i = subst (λ (o : Option ℕ). IsSome o) (sym (ap (λ (x : Point). x.net.heard) i.reported)) refl
 
 pub edge_gives : (s t : Steps) (net after : NetState) (e : Edge) (h : ℕ) (text : List ℕ) → s.begun ≡ Some net → OfRound net (λ begin heard low. IsNextEdge low heard (Some e))
     → after ≡ record net { heard = Some h } → e.at + 1 ≡ h → Reports after e text → t ≡ in_round s s.last after → IsEdgeStep s text t
@@ -119,13 +180,29 @@ edge_gives s t net after e h text is next reported at line stands =
     subst (λ x. IsEdgeStepBy s x text t) (sym is)
     (inl (after, record { edge = e; next = next; reported = reported ∙ ap (λ (k : ℕ). record net { heard = Some k }) (sym at); line = line }, stands))
 
+-- the next edge, where it is left
+pub ahead_gives : (s t : Steps) (now : Option Ahead) (q : NetState) (a : Ahead) (e : Edge) (text : List ℕ) → s.begun ≡ Some (written_of now q) → now ≡ Some a → a.edge ≡ Some e → IsAhead q a → Reports q e text
+    → t ≡ in_round s s.last q → IsEdgeStep s text t
+ahead_gives s t now q a e text is now_is edge h line stands =
+    let next = subst (λ (x : Option Edge). OfRound (record q { heard = Some a.written }) (λ begin heard low. IsNextEdge low heard x)) edge h.next in
+    let reported : q.heard ≡ Some (e.at + 1) = subst (λ (x : Option Edge). IfSome x (λ e. q.heard ≡ Some (e.at + 1))) edge h.reported in
+    edge_gives s t (record q { heard = Some a.written }) q e (e.at + 1) text (is ∙ ap (λ (o : Option Ahead). Some (written_of o q)) now_is) next (sym (is_at q (e.at + 1) reported)) refl line stands
+
+-- there is none where none is left
+pub ahead_ends : (s : Steps) (now : Option Ahead) (q : NetState) (a : Ahead) → s.begun ≡ Some (written_of now q) → now ≡ Some a → a.edge ≡ None → IsAhead q a
+    → (s.begun ≡ Some (record q { heard = Some a.written })) × OfRound (record q { heard = Some a.written }) (λ begin heard low. IsNextEdge low heard None)
+ahead_ends s now q a is now_is edge h = (
+  is ∙ ap (λ (o : Option Ahead). Some (written_of o q)) now_is,
+  subst (λ (x : Option Edge). OfRound (record q { heard = Some a.written }) (λ begin heard low. IsNextEdge low heard x)) edge h.next,
+)
+
 -- ---- its end
 
 plain_round : (s t : NetState) (h b : ℕ) (o : Outcome) → IsNextRound (record s { heard = Some h }) b o t → IsNextRound s b o t
 plain_round s t h b o next = record { round = next.round; after_is = next.after_is }
 
 plain_progress : (s t : NetState) (h b : ℕ) → IsProgress (record s { heard = Some h }) b t → IsProgress s b t
-plain_progress s t h b x = record { apart = x.apart; kept = x.kept; later = x.later; low = x.low; closed = x.closed }
+plain_progress s t h b x = record { apart = x.apart; kept = x.kept; later = x.later; low = x.low; closed = x.closed; soon = x.soon }
 
 pub ends : (end : ℕ) (p i : Point) (n t : NetState) (h b : ℕ) (o : Outcome) → IsReady end p → IsInside end p i → n ≡ record i.net { heard = Some h } → IsWave o.wave
     → next_start n ≡ Some b → IsNextRound n b o t → IsProgress n b t

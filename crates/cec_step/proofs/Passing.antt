@@ -95,7 +95,7 @@ ready_event end at p t first e others split step r =
     record {
       some = rw kept.count r.some;
       early = r.early;
-      sparse = rw kept.pulses r.sparse;
+      order = rw kept.pulses r.order;
       closed = rw kept.close r.closed;
       schedule = (e.at, rw kept.count (next_schedule _ _ _ _ _ _ split r.schedule.1));
     }

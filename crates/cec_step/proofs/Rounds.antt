@@ -3,8 +3,7 @@ use Rattle.std.proofs.Common.{◌≡◌, ℕ, ◌+◌, ◌<◌, Bool, false, nat
 use Rattle.std.specs.List.{filter}
 use Rattle.cec_wave.specs.declared.Edge.{Edge}
 use Rattle.cec_wave.specs.declared.Stretch.{Stretch}
-use Rattle.cec_wave.specs.Pulses.{AreSparse}
-use Rattle.cec_wave.proofs.Kept.{sparse-filter}
+use Rattle.cec_wave.specs.Line.{IsWave}
 use Rattle.cec_wire.specs.declared.Outcome.{Outcome}
 use Rattle.cec_wire.specs.Edges.{IsNextEdge}
 use Rattle.cec_wire.proofs.Exists.{has_line}
@@ -22,7 +21,7 @@ use Rattle.cec_step.specs.declared.position.Position.{Position}
 use Rattle.cec_step.specs.Steps.{Point, IsOver, turn_at, after_events, passed_from}
 use Rattle.cec_step.specs.Ready.{AreAlike, Begins, HearsFirst, IsReady, Passes, happened, point_of}
 use Rattle.cec_step.proofs.Passing.{HearsOn, happened_event, happened_none, passed_event, passed_round, passed_stop}
-use Rattle.cec_step.proofs.Edges.{has_edge}
+use Rattle.cec_step.proofs.Edges.{has_edge, left_in_order}
 
 -- positions that stand alike
 pub alike_point : (es : List TimedEvent) (p q : Position) → AreAlike p q → point_of es p ≡ point_of es q
@@ -69,7 +68,7 @@ ready_round end begin p o t r soon next progress =
     record {
       some = rw tree r.some;
       early = r.early;
-      sparse = subst AreSparse (sym pulses) (sparse-filter (λ (q : Stretch). nat_lt o.rest q.from) p.net.pulses r.sparse);
+      order = subst (λ (ps : List Stretch). IsWave ps) (sym pulses) (left_in_order o.rest p.net.pulses r.order);
       closed = omega (arith, progress.closed, r.early, soon);
       schedule = (r.schedule.0, rw tree r.schedule.1);
     }
@@ -78,15 +77,15 @@ same_number : (x y : ℕ) → Some x ≡ Some y → x ≡ y
 same_number x y e = cc
 
 -- the first edge of the round that was begun
-pub begins_at : (end begin : ℕ) (p q : Point) (s t u : NetState) (edge : Option Edge) → turn_at end (after_events end p) ≡ Round begin → (after_events end p).net ≡ s → AreSparse s.pulses
+pub begins_at : (end begin : ℕ) (p q : Point) (s t u : NetState) (edge : Option Edge) → turn_at end (after_events end p) ≡ Round begin → (after_events end p).net ≡ s → IsWave s.pulses
     → (x : ℕ) → next_start s ≡ Some x → t ≡ record s { heard = Some x } → OfRound t (λ b heard low. IsNextEdge low heard edge)
     → (heard : ℕ) → u ≡ record t { heard = Some heard } → IfSome edge (λ e. e.at + 1 ≡ heard)
     → q ≡ record (after_events end p) { net = u } → MatchOption edge (IsOver end p) (λ e. Begins end p e q)
-begins_at end begin p q s t u None turn same sparse x next begun edge heard reported at is =
+begins_at end begin p q s t u None turn same order x next begun edge heard reported at is =
     let line = has_line (seats_of s x) x s.pulses in
     let here : OfRound (record s { heard = Some x }) (λ b heard low. IsNextEdge low heard None) = subst (λ y. OfRound y (λ b heard low. IsNextEdge low heard None)) begun edge in
-    absurd (has_edge s x line.0 next sparse line.1 (here x x line.0 next refl line.1))
-begins_at end begin p q s t u (Some e) turn same sparse x next begun edge heard reported at is =
+    absurd (has_edge s x line.0 next order line.1 (here x x line.0 next refl line.1))
+begins_at end begin p q s t u (Some e) turn same order x next begun edge heard reported at is =
     let first : (next_start (after_events end p).net ≡ Some begin) × (begin < end) = round_begins end (after_events end p).net (first_time (after_events end p).events) begin turn in
     let one : x ≡ begin = same_number x begin (sym next ∙ ap next_start (sym same) ∙ first.0) in
     let in_round : t ≡ record (after_events end p).net { heard = Some begin } =

@@ -36,4 +36,4 @@ pub ready_start : (tree : List Node) (course : Course) → 0 < length tree → I
     → IsReady course.end (record { net = first_net tree course.pulses; events = course.events; is_first = true })
 ready_start tree course some script =
     let none : 0 ≤ latest_instant = omega arith in
-    record { some = some; early = script.limit; sparse = script.sparse; closed = none; schedule = (0, script.schedule) }
+    record { some = some; early = script.limit; order = script.timely.order; closed = none; schedule = (0, script.schedule) }

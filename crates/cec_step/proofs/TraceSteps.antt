@@ -1,9 +1,9 @@
 -- What the steps of a text write of rounds stands in the run's trace.
-use Rattle.std.proofs.Common.{◌≡◌, ℕ, zero, suc, ◌+◌, ◌-◌, ◌≤◌, ◌⊎◌, inl, inr, List, [], ◌∷◌, ◌++◌, codes, Option, Some, None, ap, ap₂, ◌∙◌, sym, refl, subst, arith, append_assoc, append-nil}
+use Rattle.std.proofs.Common.{◌≡◌, ℕ, zero, suc, ◌+◌, ◌-◌, ◌⊎◌, inl, inr, List, [], ◌∷◌, ◌++◌, codes, Option, Some, None, ap, ap₂, ◌∙◌, sym, refl, subst, arith, append_assoc, append-nil}
 use Rattle.std.specs.List.{flat_map, repeat}
 use Rattle.std.proofs.lemmas.List.{append_cancel_left}
 use Rattle.cec_wire.specs.declared.Outcome.{Outcome}
-use Rattle.cec_net.specs.State.{NetState, first_net}
+use Rattle.cec_net.specs.State.{NetState}
 use Rattle.cec_run.specs.declared.run.Totals.{Totals}
 use Rattle.cec_run.specs.declared.run.Turn.TheVariants.{Stop, Round as RoundTurn}
 use Rattle.cec_run.specs.Emulate.{IsTraceOf}
@@ -13,7 +13,7 @@ use Rattle.cec_run.proofs.Turns.{one_trace}
 use Rattle.cec_step_text.specs.declared.break_at.Break.{Break}
 use Rattle.cec_step_text.specs.declared.commands.Command.{Command}
 use Rattle.cec_step_text.specs.declared.commands.Command.TheVariants.{Edge, Round, Until, Show}
-use Rattle.cec_step.specs.Steps.{IsEdgeStepBy, IsOver, IsRoundStep, Point, Run, Skips, Steps, after_events, after_round, begun_at, step_text, turn_at}
+use Rattle.cec_step.specs.Steps.{IsEdgeStepBy, IsOver, IsRoundStep, Point, Run, Skips, Steps, step_text}
 use Rattle.cec_step.specs.StepRun.{AreDue, AreStepsOf, IsDue}
 use Rattle.cec_step.specs.Trace.{Rounds, first_point}
 use Rattle.cec_step.specs.TraceSteps.{AreFirstRounds, StandInOrder, StepsAreTheTrace, all_round_texts, round_texts}

@@ -1,9 +1,9 @@
 -- What a position of the code says, and what holds wherever a run stands (own).
-use Rattle.std.specs.Prelude.{◌≡◌, ℕ, ◌+◌, ◌≤◌, ◌<◌, List, drop, [], ◌∷◌, length, Option, Some, None, Bool, true, false}
+use Rattle.std.specs.Prelude.{◌≡◌, ℕ, ◌+◌, ◌≤◌, ◌<◌, List, drop, [], ◌∷◌, length, Option, Some, None, IsSome, IfSome, Bool, true, false}
 use Rattle.cec_asm.specs.declared.script.TimedEvent.{TimedEvent}
 use Rattle.cec_asm.specs.Script.{IsSchedule}
 use Rattle.cec_net.specs.State.{NetState}
-use Rattle.cec_wave.specs.Pulses.{AreSparse}
+use Rattle.cec_wave.specs.Line.{IsWave}
 use Rattle.cec_wave.specs.declared.Edge.{Edge}
 use Rattle.cec_wave.specs.Bounds.{latest_event, latest_instant}
 use Rattle.cec_wire.specs.Edges.{IsNextEdge}
@@ -13,6 +13,7 @@ use Rattle.cec_run.specs.Run.{turn_of}
 use Rattle.cec_run.specs.Happening.{Happening, OfEvent}
 use Rattle.cec_run.specs.declared.run.Turn.{Turn}
 use Rattle.cec_run.specs.declared.run.Turn.TheVariants.{Stop, Apply, Round}
+use Rattle.cec_step.specs.declared.position.Ahead.{Ahead}
 use Rattle.cec_step.specs.declared.position.Position.{Position}
 use Rattle.cec_step.specs.declared.position.RunInput.{RunInput}
 use Rattle.cec_wire.specs.declared.Outcome.{Outcome}
@@ -38,7 +39,7 @@ run_of course = record { edid = course.edid.value; events = course.events.items;
 pub record IsReady (end : ℕ) (p : Point) : Type 0 where
   pub some : 0 < length p.net.tree
   pub early : end ≤ latest_event
-  pub sparse : AreSparse p.net.pulses
+  pub order : IsWave p.net.pulses
   pub closed : p.net.close ≤ latest_instant
   pub schedule : (from : ℕ) × IsSchedule (length p.net.tree) end from p.events
 
@@ -52,6 +53,24 @@ pub record IsInside (end : ℕ) (p q : Point) : Type 0 where
 abbrev pub InsideIf : Bool → ℕ → Point → Point → Type 0
 InsideIf false end p q = Unit {0}
 InsideIf true end p q = IsInside end p q
+
+-- a network as far as it was written, of which more was heard
+abbrev pub written_of : Option Ahead → NetState → NetState
+written_of None s = s
+written_of (Some a) s = record s { heard = Some a.written }
+
+abbrev pub written_in : Option Ahead → Point → Point
+written_in ahead q = record q { net = written_of ahead q.net }
+
+-- a network that was heard to the next edge after what was written of it, or to the end of its round
+pub record IsAhead (s : NetState) (a : Ahead) : Type 0 where
+  pub underway : IsSome s.heard
+  pub next : OfRound (record s { heard = Some a.written }) (λ begin heard low. IsNextEdge low heard a.edge)
+  pub reported : IfSome a.edge (λ e. s.heard ≡ Some (e.at + 1))
+
+abbrev pub AheadIf : Option Ahead → NetState → Type 0
+AheadIf None s = Unit {0}
+AheadIf (Some a) s = IsAhead s a
 
 abbrev pub begun_in : Bool → Point → Option NetState
 begun_in false q = None

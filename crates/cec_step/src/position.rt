@@ -1,7 +1,8 @@
 //! Where a run stands, and its next round.
-ghost use Rattle.std.specs.Prelude.{◌≡◌, ℕ, ◌+◌, ◌++◌, ◌<◌, ◌≤◌, List, All, None, true, drop, length, IfOk, MatchOption, IfSome, IsSome};
+ghost use Rattle.std.specs.Prelude.{◌≡◌, ℕ, ◌+◌, ◌++◌, ◌<◌, ◌≤◌, List, All, None, Some, true, drop, length, IfOk, MatchOption, IfSome, IsSome};
 ghost use Rattle.cec_wave.specs.Bounds.{latest_instant};
-ghost use Rattle.cec_wave.specs.Pulses.{pulses_fault};
+ghost use Rattle.cec_wave.specs.Pulls.{are_timely};
+ghost use Rattle.cec_net.specs.Sound.{EndsEarly};
 ghost use Rattle.cec_net.specs.State.{first_net};
 ghost use Rattle.cec_net.specs.Underway.{OfRound, standing_reported};
 ghost use Rattle.cec_step_text.specs.EdgeText.{edge_line};
@@ -10,7 +11,8 @@ ghost use Rattle.hdmi_core.specs.Adds.{Adds};
 ghost use Rattle.cec_run.specs.Heard.{Hears};
 ghost use Rattle.cec_run.specs.declared.run.Turn.TheVariants.{Apply, Round, Stop};
 ghost use Rattle.hdmi_blocks.specs.Root.{HasAddress};
-ghost use Rattle.cec_step.specs.Ready.{AreAlike, Begins, Brings, HearsFirst, IsReady, Passes, happened, point_of};
+ghost use Rattle.cec_step.specs.Ready.{AheadIf, AreAlike, Begins, Brings, HearsFirst, IsAhead, IsReady, Passes, happened, point_of, written_of};
+ghost use Rattle.cec_step.specs.declared.position.Ahead.{Ahead as AheadOf};
 ghost use Rattle.cec_step.specs.Steps.{IsOver, IsRoundStep, after_events, start_text, turn_at};
 
 use cec_asm::TimedEvent;
@@ -44,6 +46,13 @@ pub(crate) struct Position {
     pub applied: usize,
     /// Whether no round was run yet. The lines of the ports are then due.
     pub is_first: bool,
+}
+
+/// What was heard of a round ahead of what was written of it: its next edge after an instant, or that none is left.
+#[derive(Clone, Copy)]
+pub(crate) struct Ahead {
+    pub written: u64,
+    pub edge: Option<Edge>,
 }
 
 // Hears of a run and keeps nothing of it.
@@ -93,7 +102,8 @@ impl Position {
     pub fn start(alloc: Global, tree: Tree<15>, pulses: &[Stretch]) -> Result<Self, AllocError>
         requires some { 0 < length tree }
         requires early { All (λ p. p.from ≤ latest_instant) pulses.now }
-        requires sparse { pulses_fault pulses.now ≡ None }
+        requires ends { All EndsEarly pulses.now }
+        requires timely { are_timely pulses.now ≡ true }
         ensures { IfOk result (λ start. (start.net.value ≡ first_net tree pulses.now) × (start.applied ≡ 0) × (start.is_first ≡ true)) }
     {
         Ok(Position {
@@ -203,6 +213,26 @@ impl Position {
             unreachable!();
         }
         self.net.next_edge()
+    }
+
+    /// Hears the round that was begun to its next edge, where that was not done already. Returns that edge; None where none is
+    /// left.
+    pub fn hear_ahead(&mut self, ahead: &mut Option<Ahead>) -> Option<Edge>
+        requires underway { IsSome self.old.net.value.heard }
+        requires ahead { AheadIf ahead.old self.old.net.value }
+        ensures kept { (self.new.applied ≡ self.old.applied) × (self.new.is_first ≡ self.old.is_first) }
+        ensures written { written_of ahead.new self.new.net.value ≡ written_of ahead.old self.old.net.value }
+        ensures ahead { (heard : AheadOf) × (ahead.new ≡ Some heard) × (heard.edge ≡ result) × IsAhead self.new.net.value heard }
+    {
+        if let Some(heard) = ahead {
+            return heard.edge;
+        }
+        let Some(written) = self.net.heard_until() else {
+            unreachable!();
+        };
+        let edge = self.net.next_edge();
+        *ahead = Some(Ahead { written, edge });
+        edge
     }
 
     /// Adds the lines that are due before any event: those of the ports, before the first round.

@@ -6,7 +6,7 @@ ghost use Rattle.cec_step.specs.Ready.{IsReady, point_of, run_of};
 ghost use Rattle.cec_step.specs.Steps.{step_text};
 ghost use Rattle.cec_step.specs.declared.stepper.StepError.TheVariants.{Write};
 
-use crate::position::{Position, RunInput};
+use crate::position::{Ahead, Position, RunInput};
 use crate::stepper::StepError;
 use cec_asm::{Script, Topology};
 use cec_net::Net;
@@ -32,22 +32,25 @@ pub(crate) struct Walk {
     course: RunInput,
     /// After the last round that was finished, or at the start.
     last: Position,
-    /// In the round that was begun, where one is.
+    /// In the round that was begun, where one is. Its line is heard ahead of what is written of it, so that an edge that is
+    /// not written is still the next one.
     inside: Position,
+    ahead: Option<Ahead>,
     is_begun: bool,
 }
 
 impl Model for Walk {
     ghost use Rattle.hdmi_blocks.specs.Root.{HasAddress};
-    ghost use Rattle.cec_step.specs.Ready.{InsideIf, IsReady, begun_in, point_of, run_of};
+    ghost use Rattle.cec_step.specs.Ready.{AheadIf, InsideIf, IsReady, begun_in, point_of, run_of, written_in};
     ghost use Rattle.cec_step.specs.Steps.{Steps};
 
     ghost Value = { Steps };
 
-    ghost view = { λ s. record { run = run_of s.course; last = point_of s.course.events.items s.last; begun = begun_in s.is_begun (point_of s.course.events.items s.inside) } };
+    ghost view = { λ s. record { run = run_of s.course; last = point_of s.course.events.items s.last; begun = begun_in s.is_begun (written_in s.ahead (point_of s.course.events.items s.inside)) } };
 
     ghost invariant = { λ s. HasAddress s.course.edid.value × IsReady s.course.end (point_of s.course.events.items s.last)
-        × InsideIf s.is_begun s.course.end (point_of s.course.events.items s.last) (point_of s.course.events.items s.inside) };
+        × InsideIf s.is_begun s.course.end (point_of s.course.events.items s.last) (point_of s.course.events.items s.inside)
+        × AheadIf s.ahead s.inside.net.value };
 }
 
 // The EDID of a run in its place on the heap: it is large.
@@ -124,6 +127,7 @@ impl Walk {
     {
         mem::swap(&mut self.last, last);
         mem::swap(&mut self.inside, inside);
+        self.ahead = None;
         self.is_begun = true;
     }
 
@@ -287,7 +291,7 @@ impl Walk {
     // Writes the next edge of the round that was begun; where it has given all its edges, the first one of the next.
     fn edge_inside<S: Sink>(
         &mut self,
-        inside: &mut Position,
+        last: &mut Position,
         next: &mut Position,
         out: &mut S,
     ) -> Result<u128, StepError>
@@ -295,17 +299,17 @@ impl Walk {
         ensures step { IsTaken (IsEdgeStep self.old) (IsNoEdge self.old) self.old self.new (S.contents out.old) (S.contents out.new) result }
         ensures flag { S.is_stuck out.new ≡ (is_write result || S.is_stuck out.old) }
     {
-        inside.copy_from(&self.inside);
-        let Some(edge) = inside.net.next_edge() else {
-            let report = inside.net.finish_round();
+        let Some(edge) = self.inside.hear_ahead(&mut self.ahead) else {
+            last.copy_from(&self.inside);
+            let report = last.net.finish_round();
             let _stretches = report.outcome.wave.as_slice();
-            inside.is_first = false;
-            return self.first_edge(inside, next, out);
+            last.is_first = false;
+            return self.first_edge(last, next, out);
         };
-        match inside.write_edge(out, edge) {
+        match self.inside.write_edge(out, edge) {
             Err(fault) => Err(step_error(fault)),
             Ok(count) => {
-                mem::swap(&mut self.inside, inside);
+                self.ahead = None;
                 Ok(count)
             }
         }
@@ -330,7 +334,7 @@ impl Walk {
 
     // The network that is shown: in the round that was begun, and else after the last one.
     fn shown(&self) -> &Net<EdgeWire>
-        ensures net { result.now ≡ shown_net self.now }
+        ensures devices { result.now.devices ≡ (shown_net self.now).devices }
         ensures count { length result.now.tree ≡ device_count self.now }
     {
         if self.is_begun {
@@ -374,6 +378,7 @@ impl Walk {
             },
             last,
             inside,
+            ahead: None,
             is_begun: false,
         })
     }

@@ -9,7 +9,7 @@ next_edge_among-requires-clause-pulls c = c.requires.takes.pulls
 
 pub returns-clause-takes : goal.returns-clause-takes
 returns-clause-takes c =
-    let e = c.next_edge_among.ensures in takes_on c.args.pulses.now c.args.wire.now c.next_edge_among.new.self c.requires.sparse c.requires.takes e.begun e.pulls e.near
+    let e = c.next_edge_among.ensures in takes_on c.args.pulses.now c.next_edge_among.new.self e.begun e.pulls
 
 pub returns-clause-edge : goal.returns-clause-edge
 returns-clause-edge c = c.next_edge_among.ensures.edge

@@ -11,7 +11,7 @@ pub edges-smaller : goal.edges-smaller
 edges-smaller c =
     let e = c.next_edge_of.ensures in
     let later = goes_on_when c.next_edge_of.result c.edges.wire c.next_edge_of.new.wire (sym c.is_some.ensures ∙ c.edges-test.true) e.goes in
-    omega (arith, later, e.takes.near, e.round.begin)
+    omega (arith, later, e.takes.stands.near)
 
 pub edges-preserved : goal.edges-preserved
 edges-preserved c =

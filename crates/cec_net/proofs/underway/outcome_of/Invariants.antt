@@ -1,4 +1,5 @@
-use Rattle.std.proofs.Common.{◌+◌, ◌-◌}
+use Rattle.std.proofs.Common.{◌-◌}
+use Rattle.cec_wave.specs.Bounds.{latest_heard}
 use Rattle.cec_one_wire.specs.Wired.{SameRound}
 use Rattle.cec_net.specs.Underway.{Takes}
 use Rattle.cec_net.proofs.underway.outcome_of.Given as goal
@@ -11,4 +12,4 @@ invariant-edges l = record {
 }
 
 abbrev pub decreases-edges : goal.decreases-edges
-decreases-edges l = l.wire.begin + 480000 - l.wire.time
+decreases-edges l = latest_heard - l.wire.time

@@ -1,7 +1,7 @@
 use Rattle.std.proofs.Common.{rules, ◌≡◌, Ok, option_map}
 use Rattle.cec_asm.specs.Topology.{topology_of, plan_of}
 use Rattle.cec_asm.specs.Script.{IsScriptRead, course_of}
-use Rattle.cec_run.proofs.Accepted.{early, has_device, one_line_of}
+use Rattle.cec_run.proofs.Accepted.{early, ends_early, has_device, one_line_of}
 use Rattle.cec_run.proofs.HasRun.{texts_have_traces}
 use Rattle.cec_run.proofs.line.emulate_line.Goals as goal
 
@@ -12,6 +12,9 @@ started_net-requires-clause-some g c =
 
 pub started_net-requires-clause-early : goal.started_net-requires-clause-early
 started_net-requires-clause-early g c = early c.in_ok-script.script.pulses.items c.in_ok-script.ensures.script.early
+
+pub started_net-requires-clause-ends : goal.started_net-requires-clause-ends
+started_net-requires-clause-ends g c = ends_early c.in_ok-script.script.pulses.items c.in_ok-script.ensures.script.early c.in_ok-script.ensures.script.wide
 
 pub returns-clause-cut : goal.returns-clause-cut
 returns-clause-cut g c =

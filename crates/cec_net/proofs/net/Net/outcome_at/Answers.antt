@@ -8,7 +8,6 @@ use Rattle.cec_net.specs.Step.{after_round, seat_of, seats_of}
 use Rattle.cec_net.specs.Progress.{IsProgress}
 use Rattle.cec_wave.specs.declared.Stretch.{Stretch}
 use Rattle.cec_wave.specs.Line.{IsWave}
-use Rattle.cec_wave.specs.Pulses.{AreSparse}
 use Rattle.cec_wave.specs.Bounds.{latest_instant}
 use Rattle.cec_wire.specs.Round.{IsRound}
 use Rattle.cec_net.proofs.Soundness.{next-soon}
@@ -38,7 +37,6 @@ pub returns-clause-progress : goal.returns-clause-progress
 returns-clause-progress g c =
     let s : NetState = (record { tree = c.self.inside.tree; devices = c.self.inside.devices.items; pulses = c.self.inside.pulses; close = c.self.inside.close; rest = c.self.inside.rest; heard = option_map (λ (w : EdgeWire). w.time) c.self.inside.begun }) in
     let o = c.round-outcome.result in
-    let Sparse : List Stretch → Type 0 = AreSparse in
     let Wave : List Stretch → Type 0 = IsWave in
     let Begins : NetState → Type 0 = λ t. next_start t ≡ Some c.args.begin in
     let Rounds : List Seat → Type 0 = λ ss. IsRound ss c.args.begin s.pulses o in
@@ -46,5 +44,5 @@ returns-clause-progress g c =
     let seats : c.deref-2.result.now ≡ seats_of s c.args.begin =
     c.deref-2.ensures.0 ∙ c.seats_of-seats.ensures ∙ ap (map (seat_of c.self.inside.rest c.args.begin)) c.deref.ensures.0 in
     subst Goes c.self.view_is (
-    progress s c.args.begin o (subst Sparse c.as_slice-pulses.ensures.pulses c.as_slice-pulses.ensures.sparse) (sound_so s c.self.invariant.0).later (subst Begins (sym c.self.view_is) c.requires.begins)
+    progress s c.args.begin o (subst Wave c.as_slice-pulses.ensures.pulls c.as_slice-pulses.ensures.timely.order) (sound_so s c.self.invariant.0).ends (sound_so s c.self.invariant.0).later (subst Begins (sym c.self.view_is) c.requires.begins)
     (subst Wave c.as_slice-stretches.ensures.stretches c.as_slice-stretches.ensures.wave) (subst Rounds seats c.round-outcome.ensures))

@@ -1,6 +1,6 @@
 use Rattle.std.proofs.Common.{◌≡◌, ◌≤◌, ◌∙◌, ap, sym, subst, arith, Some, None, List, map}
 use Rattle.cec_wave.specs.declared.Stretch.{Stretch}
-use Rattle.cec_wave.specs.Pulses.{AreSparse}
+use Rattle.cec_wave.specs.Pulls.{AreTimely}
 use Rattle.cec_wave.specs.Bounds.{latest_instant}
 use Rattle.cec_net.specs.State.{NetState, next_start}
 use Rattle.cec_net.specs.Step.{seat_of}
@@ -20,11 +20,11 @@ pub invariant_of-self : goal.invariant_of-self
 invariant_of-self c =
     let s : NetState = (record { tree = c.self.inside.tree; devices = c.self.inside.devices.items; pulses = c.self.inside.pulses; close = c.self.inside.close; rest = c.self.inside.rest; heard = None }) in
     let Early : NetState → Type 0 = λ t. t.close ≤ latest_instant in
-    let Sparse : List Stretch → Type 0 = AreSparse in
+    let Timely : List Stretch → Type 0 = AreTimely in
     let next : next_start s ≡ Some c.in-Some.begin = ap next_start c.self.view_is ∙ sym c.in-Some.ensures in
     let e = c.begin.ensures in (
       c.self.invariant.0,
       some_wire s c.begin.new.self
-          (is_next s c.in-Some.begin c.begin.new.self c.self.invariant.0 (subst Early (sym c.self.view_is) c.requires) (subst Sparse c.as_slice-pulses.ensures.pulses c.as_slice-pulses.ensures.sparse) next e.begun
+          (is_next s c.in-Some.begin c.begin.new.self c.self.invariant.0 (subst Early (sym c.self.view_is) c.requires) (subst Timely c.as_slice-pulses.ensures.pulls c.as_slice-pulses.ensures.timely) next e.begun
           (e.seats ∙ c.deref-2.ensures.0 ∙ c.seats_of-seats.ensures ∙ ap (map (seat_of c.self.inside.rest c.in-Some.begin)) c.deref.ensures.0) e.begin e.time),
     )

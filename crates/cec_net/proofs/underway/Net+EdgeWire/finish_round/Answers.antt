@@ -5,9 +5,9 @@ use Rattle.cec_net.specs.Underway.{Takes}
 use Rattle.cec_net.proofs.InRound.{round_is}
 use Rattle.cec_net.proofs.underway.Net+EdgeWire.finish_round.Goals as goal
 
-pub outcome_of-outcome-requires-clause-takes : goal.outcome_of-outcome-requires-clause-takes
-outcome_of-outcome-requires-clause-takes c =
-    let h = c.self.invariant.1 c.in-Some.wire (sym c.in-Some.ensures.value) in subst (λ (ps : List Stretch). Takes ps c.in-Some.wire) (sym c.as_slice.ensures.pulses) h.takes
+pub outcome_of-outcome-requires : goal.outcome_of-outcome-requires
+outcome_of-outcome-requires c =
+    let h = c.self.invariant.1 c.in-Some.wire (sym c.in-Some.ensures.value) in record { takes = subst (λ (ps : List Stretch). Takes ps c.in-Some.wire) (sym c.as_slice.ensures.pulls) h.takes }
 
 pub end-requires-clause-early : goal.end-requires-clause-early
 end-requires-clause-early c = (c.self.invariant.1 c.in-Some.wire (sym c.in-Some.ensures.value)).early
@@ -18,7 +18,7 @@ end-requires-clause-begins c = (c.self.invariant.1 c.in-Some.wire (sym c.in-Some
 pub end-requires-clause-round : goal.end-requires-clause-round
 end-requires-clause-round c =
     let s : NetState = (record { tree = c.self.inside.tree; devices = c.self.inside.devices.items; pulses = c.self.inside.pulses; close = c.self.inside.close; rest = c.self.inside.rest; heard = None }) in
-    round_is s c.in-Some.wire c.begun_at-begin.result c.as_slice.result.now c.outcome_of-outcome.result (c.self.invariant.1 c.in-Some.wire (sym c.in-Some.ensures.value)) c.begun_at-begin.ensures c.as_slice.ensures.pulses
+    round_is s c.in-Some.wire c.begun_at-begin.result c.as_slice.result.now c.outcome_of-outcome.result (c.self.invariant.1 c.in-Some.wire (sym c.in-Some.ensures.value)) c.begun_at-begin.ensures c.as_slice.ensures.pulls
     c.outcome_of-outcome.ensures
 
 pub returns-clause-begins : goal.returns-clause-begins

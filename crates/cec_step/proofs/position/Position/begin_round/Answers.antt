@@ -1,5 +1,5 @@
 use Rattle.std.proofs.Common.{◌∙◌, ap, drop, subst, sym}
-use Rattle.cec_wave.specs.Pulses.{AreSparse}
+use Rattle.cec_wave.specs.Line.{IsWave}
 use Rattle.cec_net.specs.State.{NetState}
 use Rattle.cec_step.specs.Ready.{point_of}
 use Rattle.cec_step.specs.Steps.{Point}
@@ -17,7 +17,7 @@ returns c =
     let begun = c.if-not-begin.ensures in
     let state = c.next_edge.ensures.state in
     let before = c.deref_mut.result.now in
-    let sparse = subst (λ (n : NetState). AreSparse n.pulses) (sym c.deref_mut.ensures.value) passes.ready.sparse in
+    let order = subst (λ (n : NetState). IsWave n.pulses) (sym c.deref_mut.ensures.value) passes.ready.order in
     begins_at end _ p (record { net = c.next_edge.new.self; events = drop mid.applied es; is_first = mid.is_first })
-    before c.deref_mut-2.result.now c.next_edge.new.self c.next_edge.result comes (ap (λ (at : Point). at.net) (sym passes.point) ∙ sym c.deref_mut.ensures.value) sparse
+    before c.deref_mut-2.result.now c.next_edge.new.self c.next_edge.result comes (ap (λ (at : Point). at.net) (sym passes.point) ∙ sym c.deref_mut.ensures.value) order
     begun.0 begun.1 (c.deref_mut-2.ensures.value ∙ begun.2) c.next_edge.ensures.edge state.0 state.1 state.2 (ap (λ (at : Point). record at { net = c.next_edge.new.self }) passes.point)

@@ -1,4 +1,4 @@
-use Rattle.std.proofs.Common.{◌∙◌, ap, refl, sym, subst}
+use Rattle.std.proofs.Common.{◌∙◌, ap, sym}
 use Rattle.cec_step.specs.Steps.{turn_at}
 use Rattle.cec_step.proofs.Passing.{heard_none}
 use Rattle.cec_step.proofs.Rounds.{heard_more, none_at_round, none_at_stop, over_round, over_stop, pass_more, rest_more}

@@ -1,5 +1,5 @@
 use Rattle.std.proofs.Common.{◌∙◌, is_some, ap}
-use Rattle.cec_step.specs.Ready.{point_of}
+use Rattle.cec_step.specs.Ready.{point_of, written_in}
 use Rattle.cec_step.specs.Steps.{Steps}
 use Rattle.cec_step.proofs.Over.{begun_is}
 use Rattle.cec_step.proofs.walk.Walk.is_begun.Goals as goal
@@ -7,4 +7,4 @@ use Rattle.cec_step.proofs.walk.Walk.is_begun.Goals as goal
 pub returns : goal.returns
 returns c =
     let here = c.self.inside in
-    begun_is here.is_begun (point_of here.course.events.items here.inside) ∙ ap (λ (x : Steps). is_some x.begun) c.self.view_is
+    begun_is here.is_begun (written_in here.ahead (point_of here.course.events.items here.inside)) ∙ ap (λ (x : Steps). is_some x.begun) c.self.view_is

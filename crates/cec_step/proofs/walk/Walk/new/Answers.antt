@@ -1,11 +1,11 @@
-use Rattle.std.proofs.Common.{◌≡◌, ◌∙◌, ℕ, List, Option, ap, sym, subst, Vec, Global}
+use Rattle.std.proofs.Common.{◌∙◌, ℕ, List, Option, ap, sym, subst, Vec, Global}
 use Rattle.std.specs.Option.{option_map}
 use Rattle.hdmi_blocks.specs.declared.edid.Edid.{Edid}
 use Rattle.cec_asm.specs.Script.{course_of}
 use Rattle.cec_net.specs.State.{first_net}
 use Rattle.hdmi_blocks.specs.Root.{IsRoot}
-use Rattle.cec_step.specs.Ready.{IsReady, point_of}
-use Rattle.cec_step.proofs.Started.{begins_with, has_address, ready_start, starts_at, stepper_at}
+use Rattle.cec_step.specs.Ready.{IsReady}
+use Rattle.cec_step.proofs.Started.{has_address, ready_start, starts_at, stepper_at}
 use Rattle.cec_step.proofs.walk.Walk.new.Goals as goal
 
 pub invariant_of-result : goal.invariant_of-result
@@ -18,6 +18,7 @@ invariant_of-result c =
     let point = starts_at script.events c.in_ok-last.last (first_net c.args.topology.tree script.pulses) (last.0 ∙ ap (first_net c.args.topology.tree) c.deref.ensures.value) last.1 last.2 in (
       has_address bytes edid root,
       subst (IsReady script.end) (sym point) (ready_start c.args.topology.tree script c.requires.some c.requires.script),
+      tt,
       tt,
     )
 

@@ -1,21 +1,21 @@
-use Rattle.std.proofs.Common.{◌∙◌, ◌||◌, Err, ap, sym, slice_get}
+use Rattle.std.proofs.Common.{◌∙◌, ◌||◌, List, Err, ap, sym, slice_get}
 use Rattle.cec_step.specs.Steps.{is_write}
 use Rattle.cec_step.specs.declared.stepper.StepError.{StepError}
-use Rattle.cec_net.specs.State.{NetState}
+use Rattle.cec_device.specs.State.{State}
 use Rattle.cec_step.proofs.Taken.{shown_cut, shown_reported}
 use Rattle.cec_step.proofs.walk.Walk.show.Goals as goal
 
 pub returns-in-Err-clause-step : goal.returns-in-Err-clause-step
 returns-in-Err-clause-step g c =
     let d = c.device.result.now in
-    let found = sym (ap (λ (n : NetState). slice_get n.devices c.args.device) c.shown.ensures.net) ∙ c.device.ensures in
+    let found = sym (ap (λ (ds : List State). slice_get ds c.args.device) c.shown.ensures.devices) ∙ c.device.ensures in
     shown_cut c.args.self.now c.args.device d (g.S.Sink.contents c.args.out.now) (g.S.Sink.contents c.write_state.new.out) (g.S.Sink.is_stuck c.args.out.now) (g.S.Sink.is_stuck c.write_state.new.out)
     c.in-Err.fault c.step_error.result found c.step_error.ensures c.in-Err.ensures
 
 pub returns-in-Ok-clause-step : goal.returns-in-Ok-clause-step
 returns-in-Ok-clause-step g c =
     let d = c.device.result.now in
-    let found = sym (ap (λ (n : NetState). slice_get n.devices c.args.device) c.shown.ensures.net) ∙ c.device.ensures in
+    let found = sym (ap (λ (ds : List State). slice_get ds c.args.device) c.shown.ensures.devices) ∙ c.device.ensures in
     shown_reported c.args.self.now c.args.device d (g.S.Sink.contents c.args.out.now) (g.S.Sink.contents c.write_state.new.out) (g.S.Sink.is_stuck c.args.out.now) (g.S.Sink.is_stuck c.write_state.new.out)
     c.in-Ok.count found c.in-Ok.ensures
 
