@@ -1,5 +1,5 @@
--- A line of a script adds at most one event and one pulse to what was said before, and a pulse where there is room.
-use Rattle.std.proofs.Common.{◌≡◌, ℕ, ◌+◌, ◌<◌, ◌≤◌, ◌&&◌, Bool, true, false, cond, if◌then◌else◌, codes, List, [], ◌∷◌, ◌++◌, length, length-append, max, min, nat_lt, nat_le, Option, Some, None, is_some, Result, Ok, Err, refl, sym, ap, subst, ◌∙◌, arith, append-nil}
+-- A line of a script adds at most one event and one pulse or pull to what was said before, and a pulse where there is room.
+use Rattle.std.proofs.Common.{◌≡◌, ℕ, ◌+◌, ◌<◌, ◌≤◌, ◌==◌, ◌&&◌, ◌||◌, Bool, true, false, cond, if◌then◌else◌, codes, List, [], ◌∷◌, ◌++◌, length, length-append, max, min, nat_lt, nat_le, Option, Some, None, is_some, Result, Ok, Err, refl, sym, ap, subst, ◌∙◌, arith, append-nil}
 use Rattle.std.specs.Str.{bytes_eq}
 use Rattle.std.proofs.lemmas.Bool.Decides.{nat_tests}
 use Rattle.cec_wave.specs.declared.Stretch.{Stretch}
@@ -21,9 +21,9 @@ use Rattle.cec_event.specs.declared.event.Event.TheVariants.{Plug, Unplug, Key, 
 use Rattle.cec_asm.specs.declared.script.TimedEvent.{TimedEvent}
 use Rattle.cec_asm.specs.Fault.{at_word}
 use Rattle.cec_asm.specs.declared.fault.LineFault.{LineFault}
-use Rattle.cec_asm.specs.declared.script.ScriptCause.TheVariants.{Word, TooMany, End}
-use Rattle.cec_asm.specs.Script.{Notes, time_of, last_time, last_end, notes_with_event, plug_read, plug_words, unplug_read, unplug_words, key_read, key_words, act_read, hold_words, drop_words, send_read, event_words, unless_fault, pulse_read, pulse_words, end_read, end_words, other_words, IsSendRead, IsEventRead, IsWordsRead, IsLineRead}
-use Rattle.cec_wave.specs.Bounds.{most_pulses}
+use Rattle.cec_asm.specs.declared.script.ScriptCause.TheVariants.{Word, Width, Order, TooMany, End}
+use Rattle.cec_asm.specs.Script.{Notes, time_of, last_time, last_end, notes_with_event, plug_read, plug_words, unplug_read, unplug_words, key_read, key_words, act_read, hold_words, drop_words, send_read, event_words, unless_fault, pulse_read, pulse_words, touches, notes_with_pull, pull_read, pull_words, end_read, end_words, other_words, IsSendRead, IsEventRead, IsWordsRead, IsLineRead}
+use Rattle.cec_wave.specs.Bounds.{most_pulses, most_pulls, widest_pull}
 
 -- ---- what a line adds
 
@@ -34,7 +34,7 @@ pub record IsMore (waiting : ℕ) (old new : Notes) : Type 0 where
   pub pulses_are : new.pulses ≡ old.pulses ++ pulses
   pub few_events : length events ≤ 1
   pub few_pulses : length pulses ≤ 1
-  pub room : waiting + length pulses ≤ max waiting most_pulses
+  pub room : waiting + length pulses ≤ max waiting most_pulls
 
 with_none : (waiting : ℕ) (notes : Notes) → IsMore waiting notes notes
 with_none waiting notes = record {
@@ -58,7 +58,7 @@ with_event waiting notes event = record {
   room = omega arith;
 }
 
-with_pulse : (waiting : ℕ) (notes : Notes) (pulse : Stretch) → waiting < 4096 → IsMore waiting notes (record notes { pulses = notes.pulses ++ pulse ∷ [] })
+with_pulse : (waiting : ℕ) (notes : Notes) (pulse : Stretch) → waiting < most_pulls → IsMore waiting notes (record notes { pulses = notes.pulses ++ pulse ∷ [] })
 with_pulse waiting notes pulse few = record {
   events = [];
   pulses = pulse ∷ [];
@@ -197,8 +197,8 @@ event-adds waiting tree notes line (time ∷ verb ∷ words) next h =
 unless_fault-adds : (waiting : ℕ) (fault : Option PulsesError) (notes : Notes) (pulse : Stretch) → Adds waiting notes (unless_fault fault notes waiting pulse)
 unless_fault-adds waiting (Some fault) notes pulse = adds_err waiting notes _ refl
 unless_fault-adds waiting None notes pulse =
-    adds_unless waiting notes (nat_le 4096 waiting) _ _ (adds_err waiting notes _ refl)
-    (λ room. adds_if waiting notes (is_some notes.end) _ _ (adds_err waiting notes _ refl) (adds_ok waiting notes _ (with_pulse waiting notes pulse (grind (arith, nat_tests, room)))))
+    adds_unless waiting notes (nat_le most_pulses waiting) _ _ (adds_err waiting notes _ refl)
+    (λ room. adds_if waiting notes (is_some notes.end) _ _ (adds_err waiting notes _ refl) (adds_ok waiting notes _ (with_pulse waiting notes pulse (let l : waiting < most_pulses = grind (arith, nat_tests, room) in omega (arith, l)))))
 
 pulse_read-adds : (waiting : ℕ) (notes : Notes) (time width : Option ℕ) → Adds waiting notes (pulse_read notes waiting time width)
 pulse_read-adds waiting notes None width = adds_err waiting notes _ refl
@@ -209,6 +209,23 @@ pulse_read-adds waiting notes (Some time) (Some width) =
 pulse_words-adds : (waiting : ℕ) (notes : Notes) (many : ℕ) (words : Option (List ℕ × List ℕ)) → Adds waiting notes (pulse_words notes waiting many words)
 pulse_words-adds waiting notes many None = adds_err waiting notes _ refl
 pulse_words-adds waiting notes many (Some words) = pulse_read-adds waiting notes (time_of words.0) (number_of words.1)
+
+pulled-adds : (waiting : ℕ) (notes : Notes) (time width : ℕ) → Adds waiting notes (notes_with_pull notes waiting time width)
+pulled-adds waiting notes time width =
+    adds_if waiting notes (width == 0 || nat_lt widest_pull width) _ _ (adds_err waiting notes _ refl)
+    (adds_if waiting notes (touches (last_end notes.pulses) time) _ _ (adds_err waiting notes _ refl)
+    (adds_unless waiting notes (nat_le most_pulls waiting) _ _ (adds_err waiting notes _ refl)
+    (λ room. adds_if waiting notes (is_some notes.end) _ _ (adds_err waiting notes _ refl)
+    (adds_ok waiting notes _ (with_pulse waiting notes (record { from = time; to = time + width }) (grind (arith, nat_tests, room)))))))
+
+pull_read-adds : (waiting : ℕ) (notes : Notes) (time width : Option ℕ) → Adds waiting notes (pull_read notes waiting time width)
+pull_read-adds waiting notes None width = adds_err waiting notes _ refl
+pull_read-adds waiting notes (Some time) None = adds_err waiting notes _ refl
+pull_read-adds waiting notes (Some time) (Some width) = pulled-adds waiting notes time width
+
+pull_words-adds : (waiting : ℕ) (notes : Notes) (many : ℕ) (words : Option (List ℕ × List ℕ)) → Adds waiting notes (pull_words notes waiting many words)
+pull_words-adds waiting notes many None = adds_err waiting notes _ refl
+pull_words-adds waiting notes many (Some words) = pull_read-adds waiting notes (time_of words.0) (number_of words.1)
 
 end_read-adds : (waiting : ℕ) (notes : Notes) (time : Option ℕ) → Adds waiting notes (end_read notes time)
 end_read-adds waiting notes None = adds_err waiting notes _ refl
@@ -223,7 +240,8 @@ end_words-adds waiting notes many (Some word) = end_read-adds waiting notes (tim
 other_words-adds : (waiting : ℕ) (notes : Notes) (verb : List ℕ) (words : List (List ℕ)) → Adds waiting notes (other_words notes waiting verb words)
 other_words-adds waiting notes verb words =
     adds_if waiting notes (bytes_eq verb (codes "pulse")) _ _ (pulse_words-adds waiting notes (length words) (two_of words))
-    (adds_if waiting notes (bytes_eq verb (codes "end")) _ _ (end_words-adds waiting notes (length words) (one_of words)) (adds_err waiting notes _ refl))
+    (adds_if waiting notes (bytes_eq verb (codes "pull")) _ _ (pull_words-adds waiting notes (length words) (two_of words))
+    (adds_if waiting notes (bytes_eq verb (codes "end")) _ _ (end_words-adds waiting notes (length words) (one_of words)) (adds_err waiting notes _ refl)))
 
 words-add : (waiting : ℕ) (tree : List Node) (notes : Notes) (line : ℕ) (words : List (List ℕ)) (next : Notes) → IsWordsRead tree notes waiting line words (Ok next) → IsMore waiting notes next
 words-add waiting tree notes line [] next h = cc
@@ -239,58 +257,106 @@ line_adds waiting tree notes line text next h =
     (λ p. adds_next waiting notes (Ok notes) next (adds_ok waiting notes notes (with_none waiting notes)) (sym p))
     (λ q. words-add waiting tree notes line (words_of text) next q) h
 
--- a script's pulses stay few
-pub few_pulses : (tree : List Node) (notes : Notes) (line : ℕ) (text : List ℕ) (next : Notes) → IsLineRead tree notes (length notes.pulses) line text (Ok next) → length notes.pulses ≤ 4096 → length next.pulses ≤ 4096
+-- what a script pulls low stays few
+pub few_pulses : (tree : List Node) (notes : Notes) (line : ℕ) (text : List ℕ) (next : Notes) → IsLineRead tree notes (length notes.pulses) line text (Ok next) → length notes.pulses ≤ most_pulls → length next.pulses ≤ most_pulls
 few_pulses tree notes line text next read few =
     let more = line_adds (length notes.pulses) tree notes line text next read in
     let long : length next.pulses ≡ length notes.pulses + length more.pulses = ap length more.pulses_are ∙ length-append notes.pulses more.pulses in
     let room = more.room in omega (arith, long, room, few)
 
--- ---- with fewer pulses that wait
+-- ---- with fewer pulses and pulls that wait
 
-unless_again : (fault : Option PulsesError) (notes next : Notes) (waiting : ℕ) (pulse : Stretch) → length next.pulses ≤ 4096 → Ok next ≡ unless_fault fault notes waiting pulse
+unless_again : (fault : Option PulsesError) (notes next : Notes) (waiting : ℕ) (pulse : Stretch) → length next.pulses ≤ most_pulses → Ok next ≡ unless_fault fault notes waiting pulse
     → Ok next ≡ unless_fault fault notes (length notes.pulses) pulse
 unless_again (Some fault) notes next waiting pulse few h = h
-unless_again None notes next waiting pulse few h = by_room (nat_le 4096 waiting) h
+unless_again None notes next waiting pulse few h = by_room (nat_le most_pulses waiting) h
   where
     added : Notes
     added = record notes { pulses = notes.pulses ++ pulse ∷ [] }
 
-    by_end : (b : Bool) → Ok next ≡ (if b then Err (at_word 0 End) else Ok added) → Ok next ≡ (if nat_le 4096 (length notes.pulses) then Err (at_word 0 TooMany) else if b then Err (at_word 0 End) else Ok added)
+    by_end : (b : Bool) → Ok next ≡ (if b then Err (at_word 0 End) else Ok added) → Ok next ≡ (if nat_le most_pulses (length notes.pulses) then Err (at_word 0 TooMany) else if b then Err (at_word 0 End) else Ok added)
     by_end true k = cc
     by_end false k =
         let same : next ≡ added = cc in
         let long : length next.pulses ≡ length notes.pulses + 1 = ap (λ (n : Notes). length n.pulses) same ∙ length-append notes.pulses (pulse ∷ []) in
-        let room : nat_le 4096 (length notes.pulses) ≡ false = (let l : length notes.pulses < 4096 = omega (arith, long, few) in grind (arith, nat_tests, l)) in
+        let room : nat_le most_pulses (length notes.pulses) ≡ false = (let l : length notes.pulses < most_pulses = omega (arith, long, few) in grind (arith, nat_tests, l)) in
         rw room k
 
     by_room : (b : Bool) → Ok next ≡ (if b then Err (at_word 0 TooMany) else if is_some notes.end then Err (at_word 0 End) else Ok added)
-        → Ok next ≡ (if nat_le 4096 (length notes.pulses) then Err (at_word 0 TooMany) else if is_some notes.end then Err (at_word 0 End) else Ok added)
+        → Ok next ≡ (if nat_le most_pulses (length notes.pulses) then Err (at_word 0 TooMany) else if is_some notes.end then Err (at_word 0 End) else Ok added)
     by_room true k = cc
     by_room false k = by_end (is_some notes.end) k
 
-pulse_again : (notes next : Notes) (waiting : ℕ) (time width : Option ℕ) → length next.pulses ≤ 4096 → Ok next ≡ pulse_read notes waiting time width → Ok next ≡ pulse_read notes (length notes.pulses) time width
+pulse_again : (notes next : Notes) (waiting : ℕ) (time width : Option ℕ) → length next.pulses ≤ most_pulses → Ok next ≡ pulse_read notes waiting time width → Ok next ≡ pulse_read notes (length notes.pulses) time width
 pulse_again notes next waiting None width few h = h
 pulse_again notes next waiting (Some time) None few h = h
 pulse_again notes next waiting (Some time) (Some width) few h =
     unless_again (stretch_fault (last_end notes.pulses) (record { from = time; to = time + min width 65535 })) notes next waiting (record { from = time; to = time + min width 65535 }) few h
 
-pulse_words_again : (notes next : Notes) (waiting many : ℕ) (words : Option (List ℕ × List ℕ)) → length next.pulses ≤ 4096 → Ok next ≡ pulse_words notes waiting many words
+pulse_words_again : (notes next : Notes) (waiting many : ℕ) (words : Option (List ℕ × List ℕ)) → length next.pulses ≤ most_pulses → Ok next ≡ pulse_words notes waiting many words
     → Ok next ≡ pulse_words notes (length notes.pulses) many words
 pulse_words_again notes next waiting many None few h = h
 pulse_words_again notes next waiting many (Some words) few h = pulse_again notes next waiting (time_of words.0) (number_of words.1) few h
 
-other_again : (notes next : Notes) (waiting : ℕ) (verb : List ℕ) (words : List (List ℕ)) → length next.pulses ≤ 4096 → Ok next ≡ other_words notes waiting verb words → Ok next ≡ other_words notes (length notes.pulses) verb words
-other_again notes next waiting verb words few h = by_verb (bytes_eq verb (codes "pulse")) h
+pull_again : (notes next : Notes) (waiting time width : ℕ) → length next.pulses ≤ most_pulses → Ok next ≡ notes_with_pull notes waiting time width → Ok next ≡ notes_with_pull notes (length notes.pulses) time width
+pull_again notes next waiting time width few h = by_width (width == 0 || nat_lt widest_pull width) h
+  where
+    added : Notes
+    added = record notes { pulses = notes.pulses ++ record { from = time; to = time + width } ∷ [] }
+
+    at_end : Bool → Result Notes LineFault
+    at_end b = if b then Err (at_word 0 End) else Ok added
+
+    with_room : ℕ → Result Notes LineFault
+    with_room many = if nat_le most_pulls many then Err (at_word 0 TooMany) else at_end (is_some notes.end)
+
+    by_end : (b : Bool) → Ok next ≡ at_end b → Ok next ≡ (if nat_le most_pulls (length notes.pulses) then Err (at_word 0 TooMany) else at_end b)
+    by_end true k = cc
+    by_end false k =
+        let same : next ≡ added = cc in
+        let long : length next.pulses ≡ length notes.pulses + 1 = ap (λ (n : Notes). length n.pulses) same ∙ length-append notes.pulses (record { from = time; to = time + width } ∷ []) in
+        let room : nat_le most_pulls (length notes.pulses) ≡ false = (let l : length notes.pulses < most_pulls = omega (arith, long, few) in grind (arith, nat_tests, l)) in
+        rw room k
+
+    by_room : (b : Bool) → Ok next ≡ (if b then Err (at_word 0 TooMany) else at_end (is_some notes.end)) → Ok next ≡ with_room (length notes.pulses)
+    by_room true k = cc
+    by_room false k = by_end (is_some notes.end) k
+
+    by_time : (b : Bool) → Ok next ≡ (if b then Err (at_word 1 Order) else with_room waiting) → Ok next ≡ (if b then Err (at_word 1 Order) else with_room (length notes.pulses))
+    by_time true k = cc
+    by_time false k = by_room (nat_le most_pulls waiting) k
+
+    by_width : (b : Bool) → Ok next ≡ (if b then Err (at_word 2 Width) else if touches (last_end notes.pulses) time then Err (at_word 1 Order) else with_room waiting)
+        → Ok next ≡ (if b then Err (at_word 2 Width) else if touches (last_end notes.pulses) time then Err (at_word 1 Order) else with_room (length notes.pulses))
+    by_width true k = cc
+    by_width false k = by_time (touches (last_end notes.pulses) time) k
+
+pull_read_again : (notes next : Notes) (waiting : ℕ) (time width : Option ℕ) → length next.pulses ≤ most_pulses → Ok next ≡ pull_read notes waiting time width → Ok next ≡ pull_read notes (length notes.pulses) time width
+pull_read_again notes next waiting None width few h = h
+pull_read_again notes next waiting (Some time) None few h = h
+pull_read_again notes next waiting (Some time) (Some width) few h = pull_again notes next waiting time width few h
+
+pull_words_again : (notes next : Notes) (waiting many : ℕ) (words : Option (List ℕ × List ℕ)) → length next.pulses ≤ most_pulses → Ok next ≡ pull_words notes waiting many words
+    → Ok next ≡ pull_words notes (length notes.pulses) many words
+pull_words_again notes next waiting many None few h = h
+pull_words_again notes next waiting many (Some words) few h = pull_read_again notes next waiting (time_of words.0) (number_of words.1) few h
+
+other_again : (notes next : Notes) (waiting : ℕ) (verb : List ℕ) (words : List (List ℕ)) → length next.pulses ≤ most_pulses → Ok next ≡ other_words notes waiting verb words → Ok next ≡ other_words notes (length notes.pulses) verb words
+other_again notes next waiting verb words few h = by_pulse (bytes_eq verb (codes "pulse")) h
   where
     rest : Result Notes LineFault
     rest = if bytes_eq verb (codes "end") then end_words notes (length words) (one_of words) else Err (at_word 0 Word)
 
-    by_verb : (b : Bool) → Ok next ≡ (if b then pulse_words notes waiting (length words) (two_of words) else rest) → Ok next ≡ (if b then pulse_words notes (length notes.pulses) (length words) (two_of words) else rest)
-    by_verb true k = pulse_words_again notes next waiting (length words) (two_of words) few k
-    by_verb false k = k
+    by_pull : (b : Bool) → Ok next ≡ (if b then pull_words notes waiting (length words) (two_of words) else rest) → Ok next ≡ (if b then pull_words notes (length notes.pulses) (length words) (two_of words) else rest)
+    by_pull true k = pull_words_again notes next waiting (length words) (two_of words) few k
+    by_pull false k = k
 
-words_again : (tree : List Node) (notes next : Notes) (waiting line : ℕ) (words : List (List ℕ)) → length next.pulses ≤ 4096 → IsWordsRead tree notes waiting line words (Ok next)
+    by_pulse : (b : Bool) → Ok next ≡ (if b then pulse_words notes waiting (length words) (two_of words) else if bytes_eq verb (codes "pull") then pull_words notes waiting (length words) (two_of words) else rest)
+        → Ok next ≡ (if b then pulse_words notes (length notes.pulses) (length words) (two_of words) else if bytes_eq verb (codes "pull") then pull_words notes (length notes.pulses) (length words) (two_of words) else rest)
+    by_pulse true k = pulse_words_again notes next waiting (length words) (two_of words) few k
+    by_pulse false k = by_pull (bytes_eq verb (codes "pull")) k
+
+words_again : (tree : List Node) (notes next : Notes) (waiting line : ℕ) (words : List (List ℕ)) → length next.pulses ≤ most_pulses → IsWordsRead tree notes waiting line words (Ok next)
     → IsWordsRead tree notes (length notes.pulses) line words (Ok next)
 words_again tree notes next waiting line [] few h = h
 words_again tree notes next waiting line (verb ∷ words) few h = by_verb (bytes_eq verb (codes "at")) h
@@ -300,8 +366,8 @@ words_again tree notes next waiting line (verb ∷ words) few h = by_verb (bytes
     by_verb true k = k
     by_verb false k = other_again notes next waiting verb words few k
 
--- a line that is taken is one of a script too, where its pulses are few in all
-pub read_again : (tree : List Node) (notes next : Notes) (waiting line : ℕ) (text : List ℕ) → length next.pulses ≤ 4096 → IsLineRead tree notes waiting line text (Ok next)
+-- a line that is taken is one of a script too, where its pulses and pulls are few in all
+pub read_again : (tree : List Node) (notes next : Notes) (waiting line : ℕ) (text : List ℕ) → length next.pulses ≤ most_pulses → IsLineRead tree notes waiting line text (Ok next)
     → IsLineRead tree notes (length notes.pulses) line text (Ok next)
 read_again tree notes next waiting line text few h = by_text (is_skipped text) h
   where

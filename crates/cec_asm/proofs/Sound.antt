@@ -1,5 +1,5 @@
 -- What holds of every script: the order of times, the limit, devices of the tree, frames and pulses.
-use Rattle.std.proofs.Common.{◌≡◌, ℕ, suc, ◌+◌, ◌-◌, ◌<◌, ◌≤◌, ◌&&◌, Bool, true, false, cond, codes, List, [], ◌∷◌, ◌++◌, length, min, nat_lt, nat_le, slice_get, Option, Some, None, is_some, option_map, Result, Ok, Err, refl, sym, ap, subst, ◌∙◌, arith}
+use Rattle.std.proofs.Common.{◌≡◌, ℕ, suc, ◌+◌, ◌-◌, ◌<◌, ◌≤◌, ◌==◌, ◌&&◌, ◌||◌, Bool, true, false, cond, codes, List, [], ◌∷◌, ◌++◌, length, min, nat_lt, nat_le, if◌then◌else◌, slice_get, Option, Some, None, is_some, option_map, Result, Ok, Err, refl, sym, ap, subst, ◌∙◌, arith}
 use Rattle.std.specs.Str.{bytes_eq}
 use Rattle.std.specs.Option.{option_map_or}
 use Rattle.std.specs.List.{All}
@@ -7,14 +7,15 @@ use Rattle.std.proofs.lemmas.Grind.{common_steps}
 use Rattle.std.proofs.lemmas.List.Elements.{All-append, All-nil, All-from_recursion}
 use Rattle.std.proofs.lemmas.Bool.Decides.{nat_tests}
 use Rattle.cec_wave.specs.declared.Stretch.{Stretch}
-use Rattle.cec_wave.specs.declared.PulsesError.{PulsesError}
 use Rattle.cec_wave.specs.declared.PulsesError.TheVariants as faults
-use Rattle.cec_wave.specs.Pulses.{stretch_fault, first_of, first_fault, pulses_fault}
+use Rattle.cec_wave.specs.Pulses.{stretch_fault, gap_fault}
+use Rattle.cec_wave.specs.Line.{IsWave, IsWaveFrom}
+use Rattle.cec_wave.specs.Pulls.{AreTimely, are_timely}
+use Rattle.cec_wave.proofs.Kept.{timely_tested}
 use Rattle.hdmi_topo.specs.Node.{Node}
 use Rattle.hdmi_topo.specs.Tree.{device_named}
 use Rattle.cec_feature.specs.declared.keys.Key.{Key as KeyValue}
-use Rattle.cec_wave.proofs.Sparse.{faultless_are_sparse}
-use Rattle.cec_wave.specs.Bounds.{latest_event, most_pulses}
+use Rattle.cec_wave.specs.Bounds.{latest_event, most_pulses, most_pulls, widest_pull}
 use Rattle.hdmi_core.specs.Lines.{lines_of, is_skipped}
 use Rattle.cec_text.specs.FrameReading.{is_frame}
 use Rattle.cec_text.specs.declared.assembler.AssembleError.{AssembleError}
@@ -30,7 +31,7 @@ use Rattle.cec_event.specs.declared.event.Event.TheVariants.{Plug, Unplug, Key, 
 use Rattle.cec_asm.specs.declared.script.TimedEvent.{TimedEvent}
 use Rattle.cec_asm.specs.declared.fault.LineFault.{LineFault}
 use Rattle.cec_asm.proofs.Adding.{few_pulses}
-use Rattle.cec_asm.specs.Script.{Course, Notes, within_limit, time_of, last_time, last_end, notes_with_event, plug_read, plug_words, unplug_read, unplug_words, key_read, key_words, act_read, hold_words, drop_words, send_read, event_words, unless_fault, notes_with_pulse, pulse_read, pulse_words, end_read, end_words, other_words, course_at_end, no_notes, IsFrameOf, IsSendRead, IsEventRead, IsWordsRead, IsLineRead, IsSchedule, AreFramedEvents, IsScript, Onward, AreLinesRead, ScriptsAreSound}
+use Rattle.cec_asm.specs.Script.{Course, Notes, within_limit, time_of, last_time, last_end, notes_with_event, plug_read, plug_words, unplug_read, unplug_words, key_read, key_words, act_read, hold_words, drop_words, send_read, event_words, unless_fault, notes_with_pulse, pulse_read, pulse_words, touches, notes_with_pull, pull_read, pull_words, end_read, end_words, other_words, course_at_end, no_notes, IsFrameOf, IsSendRead, IsEventRead, IsWordsRead, IsLineRead, IsSchedule, AreFramedEvents, IsNoWider, IsScript, Onward, AreLinesRead, ScriptsAreSound}
 
 -- ---- times
 
@@ -103,42 +104,78 @@ last_end-end_from (pulse ∷ pulses) = onward pulse pulses
     onward pulse [] = refl
     onward pulse (next ∷ pulses) = last_end-cons pulse next pulses ∙ onward next pulses
 
-no_first : (a b : Option PulsesError) → first_of a b ≡ None → (a ≡ None) × (b ≡ None)
-no_first None b h = (refl, h)
-no_first (Some e) b h = cc
+-- the first instant after the last pulse or pull, from where there is none
+free_from : ℕ → List Stretch → ℕ
+free_from from [] = from
+free_from from (pulse ∷ pulses) = free_from (pulse.to + 1) pulses
 
-both_none : (a b : Option PulsesError) → a ≡ None → b ≡ None → first_of a b ≡ None
-both_none None b h g = g
-both_none (Some e) b h g = cc
+-- the first instant after an end
+free_after : Option ℕ → ℕ
+free_after None = 0
+free_after (Some end) = end + 1
 
-first_fault-append : (before : Option ℕ) (pulses : List Stretch) (pulse : Stretch) → first_fault before pulses ≡ None → stretch_fault (end_from before pulses) pulse ≡ None → first_fault before (pulses ++ pulse ∷ []) ≡ None
-unfolding end_from
-first_fault-append before [] pulse h g = both_none (stretch_fault before pulse) None g refl
-first_fault-append before (first ∷ pulses) pulse h g =
-    let parts = no_first (stretch_fault before first) (first_fault (Some first.to) pulses) h in
-    both_none (stretch_fault before first) (first_fault (Some first.to) (pulses ++ pulse ∷ [])) parts.0 (first_fault-append (Some first.to) pulses pulse parts.1 g)
+free_from-end : (before : Option ℕ) (pulses : List Stretch) → free_from (free_after before) pulses ≡ free_after (end_from before pulses)
+unfolding free_from free_after end_from
+free_from-end before [] = refl
+free_from-end before (pulse ∷ pulses) = free_from-end (Some pulse.to) pulses
 
-pub faultless : (pulses : List Stretch) → length pulses ≤ most_pulses → first_fault None pulses ≡ None → pulses_fault pulses ≡ None
-faultless pulses h g = let not_many : nat_lt most_pulses (length pulses) ≡ false = grind (arith, nat_tests) in rw not_many g
+free_from-last : (pulses : List Stretch) → free_from 0 pulses ≡ free_after (last_end pulses)
+unfolding free_after
+free_from-last pulses = free_from-end None pulses ∙ ap free_after (sym (last_end-end_from pulses))
 
-one_more : (pulses : List Stretch) (pulse : Stretch) → first_fault None pulses ≡ None → stretch_fault (last_end pulses) pulse ≡ None → first_fault None (pulses ++ pulse ∷ []) ≡ None
-one_more pulses pulse h g = first_fault-append None pulses pulse h (ap (λ e. stretch_fault e pulse) (sym (last_end-end_from pulses)) ∙ g)
+wave-append : (from : ℕ) (pulses : List Stretch) (pulse : Stretch) → IsWaveFrom from pulses → free_from from pulses ≤ pulse.from → pulse.from < pulse.to → IsWaveFrom from (pulses ++ pulse ∷ [])
+unfolding free_from
+wave-append from [] pulse wave later wide = (later, wide, tt)
+wave-append from (first ∷ pulses) pulse wave later wide = (wave.0, wave.1, wave-append (first.to + 1) pulses pulse wave.2 later wide)
+
+-- one that begins after the last
+wave_more : (pulses : List Stretch) (pulse : Stretch) → IsWave pulses → free_after (last_end pulses) ≤ pulse.from → pulse.from < pulse.to → IsWave (pulses ++ pulse ∷ [])
+wave_more pulses pulse wave later wide = let last = free_from-last pulses in wave-append 0 pulses pulse wave (omega (arith, last, later)) wide
+
+-- a pulse that is not refused begins after the last, and is narrow
+abbrev IsApart : Option ℕ → Stretch → Type 0
+IsApart before pulse = (free_after before ≤ pulse.from) × (pulse.from < pulse.to) × (pulse.to ≤ pulse.from + 10000)
+
+gap-apart : (before : Option ℕ) (pulse : Stretch) → gap_fault before pulse ≡ None → free_after before ≤ pulse.from
+unfolding free_after
+gap-apart None pulse h = omega arith
+gap-apart (Some end) pulse h = by (nat_lt pulse.from end) (nat_lt pulse.from (end + 25000)) refl h
+  where
+    by : (early near : Bool) → nat_lt pulse.from (end + 25000) ≡ near → (if early then Some faults.Order else if near then Some faults.Close else None) ≡ None → end + 1 ≤ pulse.from
+    by true near e g = cc
+    by false true e g = cc
+    by false false e g = grind (arith, nat_tests, e)
+
+pulse-apart : (before : Option ℕ) (pulse : Stretch) → stretch_fault before pulse ≡ None → IsApart before pulse
+pulse-apart before pulse h = by (nat_lt pulse.from pulse.to) (nat_le pulse.to (pulse.from + 10000)) refl refl h
+  where
+    by : (some narrow : Bool) → nat_lt pulse.from pulse.to ≡ some → nat_le pulse.to (pulse.from + 10000) ≡ narrow → (if some && narrow then gap_fault before pulse else Some faults.Width) ≡ None
+        → (free_after before ≤ pulse.from) × (pulse.from < pulse.to) × (pulse.to ≤ pulse.from + 10000)
+    by true true e g k = (gap-apart before pulse k, grind (arith, nat_tests, e), grind (arith, nat_tests, g))
+    by true false e g k = cc
+    by false narrow e g k = cc
+
+touches-apart : (before : Option ℕ) (time : ℕ) → touches before time ≡ false → free_after before ≤ time
+unfolding free_after
+touches-apart None time h = omega arith
+touches-apart (Some end) time h = grind (arith, nat_tests, h)
 
 -- ---- what the lines so far keep
 
 -- within the limit of times
-abbrev IsEarly : Stretch → Type 0
+abbrev pub IsEarly : Stretch → Type 0
 IsEarly pulse = pulse.from ≤ latest_event
 
 pub record AreSound (count : ℕ) (notes : Notes) : Type 0 where
   pub schedule : IsSchedule count (last_time notes.events + 1) 0 notes.events
   pub framed : AreFramedEvents notes.events
-  pub apart : first_fault None notes.pulses ≡ None
+  pub order : IsWave notes.pulses
+  pub wide : All IsNoWider notes.pulses
   pub early : All IsEarly notes.pulses
   pub ended : (time : ℕ) → notes.end ≡ Some time → IsSchedule count time 0 notes.events × (time ≤ latest_event)
 
 pub sound_start : (count : ℕ) → AreSound count no_notes
-sound_start count = record { schedule = tt; framed = tt; apart = refl; early = All-nil IsEarly; ended = λ t e. (cc) }
+sound_start count = record { schedule = tt; framed = tt; order = tt; wide = All-nil IsNoWider; early = All-nil IsEarly; ended = λ t e. (cc) }
 
 Keeps : ℕ → Result Notes LineFault → Type 0
 Keeps count read = (next : Notes) → read ≡ Ok next → AreSound count next
@@ -181,7 +218,8 @@ scheduled-keeps count notes line time event s known framed =
         record {
           schedule = subst Until (sym last) (IsSchedule-append count (time + 1) 0 notes.events timed (IsSchedule-later count (last_time notes.events + 1) (time + 1) 0 notes.events (omega arith) s.schedule) from_zero (omega arith) known);
           framed = AreFramedEvents-append notes.events timed s.framed framed;
-          apart = s.apart;
+          order = s.order;
+          wide = s.wide;
           early = s.early;
           ended = λ t h. (let clash = rw h at unended in cc);
         }
@@ -289,20 +327,29 @@ within_limit-limit : (o : Option ℕ) (time : ℕ) → within_limit o ≡ Some t
 within_limit-limit None time h = cc
 within_limit-limit (Some n) time h = grind (arith, nat_tests)
 
+-- one more that is pulled low from outside
+sound_with : (count : ℕ) (notes : Notes) (pulse : Stretch) → AreSound count notes → pulse.from ≤ latest_event → free_after (last_end notes.pulses) ≤ pulse.from → pulse.from < pulse.to → pulse.to ≤ pulse.from + widest_pull
+    → AreSound count (record notes { pulses = notes.pulses ++ pulse ∷ [] })
+sound_with count notes pulse s within later some wide = record {
+  schedule = s.schedule;
+  framed = s.framed;
+  order = wave_more notes.pulses pulse s.order later some;
+  wide = All-append IsNoWider notes.pulses (pulse ∷ []) s.wide (All-from_recursion IsNoWider (pulse ∷ []) (wide, tt));
+  early = All-append IsEarly notes.pulses (pulse ∷ []) s.early (All-from_recursion IsEarly (pulse ∷ []) (within, tt));
+  ended = s.ended;
+}
+
 pulsed-keeps : (count : ℕ) (notes : Notes) (waiting : ℕ) (pulse : Stretch) → AreSound count notes → pulse.from ≤ latest_event → Keeps count (notes_with_pulse notes waiting pulse)
 pulsed-keeps count notes waiting pulse s within =
     elim (stretch_fault (last_end notes.pulses) pulse) as (λ o. stretch_fault (last_end notes.pulses) pulse ≡ o → Keeps count (unless_fault o notes waiting pulse)) [
       | Some fault ↦ λ e. keeps_err count _ refl
       | None ↦ λ e. keeps_if count (nat_le most_pulses waiting) _ _ (λ full. keeps_err count _ refl)
           (λ room. keeps_if count (is_some notes.end) _ _ (λ ended. keeps_err count _ refl)
-          (λ unended. keeps_ok count _ (record {
-            schedule = s.schedule;
-            framed = s.framed;
-            apart = one_more notes.pulses pulse s.apart e;
-            early = All-append IsEarly notes.pulses (pulse ∷ []) s.early (All-from_recursion IsEarly (pulse ∷ []) (within, tt));
-            ended = s.ended;
-          })))
+          (λ unended. keeps_ok count _ (sound_with count notes pulse s within (apart e).0 (apart e).1 (let narrow = (apart e).2 in omega (arith, narrow)))))
     ] refl
+  where
+    apart : stretch_fault (last_end notes.pulses) pulse ≡ None → IsApart (last_end notes.pulses) pulse
+    apart e = pulse-apart (last_end notes.pulses) pulse e
 
 pulse_read-keeps : (count : ℕ) (notes : Notes) (waiting : ℕ) (time width : Option ℕ) → AreSound count notes → ((t : ℕ) → time ≡ Some t → t ≤ latest_event) → Keeps count (pulse_read notes waiting time width)
 pulse_read-keeps count notes waiting None width s limit = keeps_err count _ refl
@@ -312,6 +359,33 @@ pulse_read-keeps count notes waiting (Some time) (Some width) s limit = pulsed-k
 pulse_words-keeps : (count : ℕ) (notes : Notes) (waiting many : ℕ) (words : Option (List ℕ × List ℕ)) → AreSound count notes → Keeps count (pulse_words notes waiting many words)
 pulse_words-keeps count notes waiting many None s = keeps_err count _ refl
 pulse_words-keeps count notes waiting many (Some words) s = pulse_read-keeps count notes waiting (time_of words.0) (number_of words.1) s (within_limit-limit (number_of words.0))
+
+-- a pull that is not refused for its width
+fits_width : (time width : ℕ) → (width == 0 || nat_lt widest_pull width) ≡ false → (time < time + width) × (time + width ≤ time + widest_pull)
+fits_width time width h = by (width == 0) (nat_lt widest_pull width) refl refl h
+  where
+    by : (none wide : Bool) → (width == 0) ≡ none → nat_lt widest_pull width ≡ wide → (none || wide) ≡ false → (time < time + width) × (time + width ≤ time + widest_pull)
+    by true wide e g k = cc
+    by false true e g k = cc
+    by false false e g k = (grind (arith, nat_tests, e), grind (arith, nat_tests, g))
+
+pulled-keeps : (count : ℕ) (notes : Notes) (waiting time width : ℕ) → AreSound count notes → time ≤ latest_event → Keeps count (notes_with_pull notes waiting time width)
+pulled-keeps count notes waiting time width s within =
+    keeps_if count (width == 0 || nat_lt widest_pull width) _ _ (λ misfits. keeps_err count _ refl)
+    (λ fits. keeps_if count (touches (last_end notes.pulses) time) _ _ (λ near. keeps_err count _ refl)
+    (λ apart. keeps_if count (nat_le most_pulls waiting) _ _ (λ full. keeps_err count _ refl)
+    (λ room. keeps_if count (is_some notes.end) _ _ (λ ended. keeps_err count _ refl)
+    (λ unended. keeps_ok count _ (sound_with count notes (record { from = time; to = time + width }) s within (touches-apart (last_end notes.pulses) time apart)
+    (fits_width time width fits).0 (fits_width time width fits).1)))))
+
+pull_read-keeps : (count : ℕ) (notes : Notes) (waiting : ℕ) (time width : Option ℕ) → AreSound count notes → ((t : ℕ) → time ≡ Some t → t ≤ latest_event) → Keeps count (pull_read notes waiting time width)
+pull_read-keeps count notes waiting None width s limit = keeps_err count _ refl
+pull_read-keeps count notes waiting (Some time) None s limit = keeps_err count _ refl
+pull_read-keeps count notes waiting (Some time) (Some width) s limit = pulled-keeps count notes waiting time width s (limit time refl)
+
+pull_words-keeps : (count : ℕ) (notes : Notes) (waiting many : ℕ) (words : Option (List ℕ × List ℕ)) → AreSound count notes → Keeps count (pull_words notes waiting many words)
+pull_words-keeps count notes waiting many None s = keeps_err count _ refl
+pull_words-keeps count notes waiting many (Some words) s = pull_read-keeps count notes waiting (time_of words.0) (number_of words.1) s (within_limit-limit (number_of words.0))
 
 -- after every event there is
 ends_after : (count time : ℕ) (events : List TimedEvent) → IsSchedule count (last_time events + 1) 0 events → (nat_lt 0 (length events) && nat_le time (last_time events)) ≡ false → IsSchedule count time 0 events
@@ -328,7 +402,8 @@ end_read-keeps count notes (Some time) s limit =
     (λ after. keeps_ok count _ (record {
       schedule = s.schedule;
       framed = s.framed;
-      apart = s.apart;
+      order = s.order;
+      wide = s.wide;
       early = s.early;
       ended = λ t h. (let same : time ≡ t = cc in let Ends : ℕ → Type 0 = λ n. IsSchedule count n 0 notes.events × (n ≤ latest_event) in
           subst Ends same (ends_after count time notes.events s.schedule after, limit time refl));
@@ -341,7 +416,8 @@ end_words-keeps count notes many (Some word) s = end_read-keeps count notes (tim
 other_words-keeps : (count : ℕ) (notes : Notes) (waiting : ℕ) (verb : List ℕ) (words : List (List ℕ)) → AreSound count notes → Keeps count (other_words notes waiting verb words)
 other_words-keeps count notes waiting verb words s =
     keeps_if count (bytes_eq verb (codes "pulse")) _ _ (λ e. pulse_words-keeps count notes waiting (length words) (two_of words) s)
-    (λ e. keeps_if count (bytes_eq verb (codes "end")) _ _ (λ e. end_words-keeps count notes (length words) (one_of words) s) (λ e. keeps_err count _ refl))
+    (λ e. keeps_if count (bytes_eq verb (codes "pull")) _ _ (λ e. pull_words-keeps count notes waiting (length words) (two_of words) s)
+    (λ e. keeps_if count (bytes_eq verb (codes "end")) _ _ (λ e. end_words-keeps count notes (length words) (one_of words) s) (λ e. keeps_err count _ refl)))
 
 words-keep : (tree : List Node) (notes : Notes) (waiting line : ℕ) (words : List (List ℕ)) (next : Notes) → AreSound (length tree) notes → IsWordsRead tree notes waiting line words (Ok next) → AreSound (length tree) next
 words-keep tree notes waiting line [] next s h = cc
@@ -357,8 +433,20 @@ line-keeps tree notes waiting line text next s h =
     (λ p. keeps_next (length tree) (Ok notes) next (keeps_ok (length tree) notes s) (sym p))
     (λ q. words-keep tree notes waiting line (words_of text) next s q) h
 
+-- pulls in order that begin early enough and are no wider than they may be
+timely : (pulses : List Stretch) → length pulses ≤ most_pulls → IsWave pulses → All IsNoWider pulses → All IsEarly pulses → AreTimely pulses
+timely pulses few order wide early = record {
+  few = few;
+  order = order;
+  ends = λ k p l. (let x = wide k p l in let y = early k p l in omega (arith, x, y));
+}
+
+-- the same as a test
+pub tested : (pulses : List Stretch) → length pulses ≤ most_pulls → IsWave pulses → All IsNoWider pulses → All IsEarly pulses → are_timely pulses ≡ true
+tested pulses few order wide early = (timely_tested pulses).1 (timely pulses few order wide early)
+
 -- what the lines keep at the end is a script
-sound_script : (count : ℕ) (notes : Notes) (line : ℕ) (course : Course) → AreSound count notes → length notes.pulses ≤ most_pulses → Ok course ≡ course_at_end notes line notes.end → IsScript count course
+sound_script : (count : ℕ) (notes : Notes) (line : ℕ) (course : Course) → AreSound count notes → length notes.pulses ≤ most_pulls → Ok course ≡ course_at_end notes line notes.end → IsScript count course
 sound_script count notes line course s few h =
     let Is : Course → Type 0 = λ found. IsScript count found in
     elim notes.end as (λ o. notes.end ≡ o → Ok course ≡ course_at_end notes line o → IsScript count course) [
@@ -366,16 +454,16 @@ sound_script count notes line course s few h =
       | Some time ↦ λ e g. (
           let r = s.ended time e in
           let same : record { events = notes.events; pulses = notes.pulses; end = time } ≡ course = cc in
-          subst Is same (record { schedule = r.0; framed = s.framed; sparse = (faultless_are_sparse notes.pulses).0 (faultless notes.pulses few s.apart); early = s.early; limit = r.1 }))
+          subst Is same (record { schedule = r.0; framed = s.framed; timely = timely notes.pulses few s.order s.wide s.early; wide = s.wide; early = s.early; limit = r.1 }))
     ] refl h
 
-lines-sound : (tree : List Node) (texts : List (List ℕ)) (line : ℕ) (notes : Notes) (course : Course) → AreSound (length tree) notes → length notes.pulses ≤ most_pulses → AreLinesRead tree texts line notes (Ok course)
+lines-sound : (tree : List Node) (texts : List (List ℕ)) (line : ℕ) (notes : Notes) (course : Course) → AreSound (length tree) notes → length notes.pulses ≤ most_pulls → AreLinesRead tree texts line notes (Ok course)
     → IsScript (length tree) course
 lines-sound tree [] line notes course s few h = sound_script (length tree) notes line course s few h
 lines-sound tree (text ∷ texts) line notes course s few h = step h.0 h.1 h.2 (λ next n room. lines-sound tree texts (line + 1) next course n room)
   where
     step : (r : Result Notes LineFault) → IsLineRead tree notes (length notes.pulses) line text r → Onward line r (λ next. AreLinesRead tree texts (line + 1) next (Ok course)) (Ok course)
-        → ((next : Notes) → AreSound (length tree) next → length next.pulses ≤ most_pulses → AreLinesRead tree texts (line + 1) next (Ok course) → IsScript (length tree) course) → IsScript (length tree) course
+        → ((next : Notes) → AreSound (length tree) next → length next.pulses ≤ most_pulls → AreLinesRead tree texts (line + 1) next (Ok course) → IsScript (length tree) course) → IsScript (length tree) course
     step (Ok next) l k on = on next (line-keeps tree notes (length notes.pulses) line text next s l) (few_pulses tree notes line text next l few) k
     step (Err fault) l k on = cc
 

@@ -1,13 +1,14 @@
--- Texts of scripts (own): lines `at T EVENT`, `pulse T WIDTH`, and last `end T`. Of the causes that apply to a line
+-- Texts of scripts (own): lines `at T EVENT`, `pulse T WIDTH`, `pull T WIDTH`, and last `end T`. Of the causes that apply to a line
 -- it has the first in the order of `ScriptCause`.
-use Rattle.std.specs.Prelude.{◌≡◌, ℕ, ◌+◌, ◌-◌, ◌<◌, ◌≤◌, ◌&&◌, Bool, true, false, cond, codes, length, min, List, [], ◌∷◌, ◌++◌, nat_lt, nat_le, slice_get, if◌then◌else◌, Option, Some, None, is_some, option_map, Result, Ok, Err, All}
+use Rattle.std.specs.Prelude.{◌≡◌, ℕ, ◌+◌, ◌-◌, ◌<◌, ◌≤◌, ◌==◌, ◌&&◌, ◌||◌, Bool, true, false, cond, codes, length, min, List, [], ◌∷◌, ◌++◌, nat_lt, nat_le, slice_get, if◌then◌else◌, Option, Some, None, is_some, option_map, Result, Ok, Err, All}
 use Rattle.std.specs.Str.{bytes_eq}
 use Rattle.std.specs.Option.{option_map_or}
 use Rattle.cec_wave.specs.declared.Stretch.{Stretch}
 use Rattle.cec_wave.specs.declared.PulsesError.{PulsesError}
 use Rattle.cec_wave.specs.declared.PulsesError.TheVariants as faults
-use Rattle.cec_wave.specs.Pulses.{stretch_fault, AreSparse}
-use Rattle.cec_wave.specs.Bounds.{latest_event, most_pulses}
+use Rattle.cec_wave.specs.Pulses.{stretch_fault}
+use Rattle.cec_wave.specs.Pulls.{AreTimely}
+use Rattle.cec_wave.specs.Bounds.{latest_event, most_pulses, most_pulls, widest_pull}
 use Rattle.cec_feature.specs.declared.keys.Key.{Key as KeyValue}
 use Rattle.hdmi_topo.specs.Node.{Node}
 use Rattle.hdmi_topo.specs.Tree.{device_named}
@@ -49,7 +50,7 @@ script_cause Close = codes "close"
 script_cause TooMany = codes "too-many"
 script_cause End = codes "end"
 
--- what a script says, without where it lies in memory
+-- what a script says, without where it lies in memory; pulses and pulls are one list
 pub record Course : Type 0 where
   pub events : List TimedEvent
   pub pulses : List Stretch
@@ -179,7 +180,7 @@ IsEventRead tree notes line (time ∷ []) read = read ≡ Err (at_word 2 Word)
 IsEventRead tree notes line (time ∷ verb ∷ words) read =
     cond {A = Type 0} (bytes_eq verb (codes "send")) (IsSendRead tree notes line time words read) (read ≡ event_words tree notes line time verb words)
 
--- ---- pulses and the end
+-- ---- pulses, pulls and the end
 
 abbrev pub pulse_fault : PulsesError → LineFault
 pulse_fault faults.Width = at_word 2 Width
@@ -187,12 +188,12 @@ pulse_fault faults.Close = at_word 1 Close
 pulse_fault faults.Order = at_word 1 Order
 pulse_fault faults.TooMany = at_word 0 TooMany
 
--- the end of the last pulse
+-- the end of the last pulse or pull
 abbrev pub last_end : List Stretch → Option ℕ
 last_end pulses = option_map (λ pulse. pulse.to) (slice_get pulses (length pulses - 1))
 
--- a pulse after the others: narrow and far enough from the last, one of at most 4,096 with those that wait, and no `end`
--- stands above it
+-- a pulse after the others: narrow and far enough from the last, one of at most 4,096 with the pulses and pulls that wait,
+-- and no `end` stands above it
 abbrev pub unless_fault : Option PulsesError → Notes → ℕ → Stretch → Result Notes LineFault
 unless_fault (Some fault) notes waiting pulse = Err (pulse_fault fault)
 unless_fault None notes waiting pulse =
@@ -213,6 +214,31 @@ abbrev pub pulse_words : Notes → ℕ → ℕ → Option (List ℕ × List ℕ)
 pulse_words notes waiting count None = Err (misfit 1 count 2)
 pulse_words notes waiting count (Some words) = pulse_read notes waiting (time_of words.0) (number_of words.1)
 
+-- whether a pull from an instant on would overlap or touch one that ends so
+abbrev pub touches : Option ℕ → ℕ → Bool
+touches None time = false
+touches (Some end) time = nat_le time end
+
+-- a pull after the others: 1 to 10,000,000 wide, neither over nor touching the last, one of at most 16,384 with the pulses and
+-- pulls that wait, and no `end` stands above it
+abbrev pub notes_with_pull : Notes → ℕ → ℕ → ℕ → Result Notes LineFault
+notes_with_pull notes waiting time width =
+    if width == 0 || nat_lt widest_pull width then Err (at_word 2 Width)
+    else if touches (last_end notes.pulses) time then Err (at_word 1 Order)
+    else if nat_le most_pulls waiting then Err (at_word 0 TooMany)
+    else if is_some notes.end then Err (at_word 0 End)
+    else Ok (record notes { pulses = notes.pulses ++ record { from = time; to = time + width } ∷ [] })
+
+-- `pull T WIDTH`
+abbrev pub pull_read : Notes → ℕ → Option ℕ → Option ℕ → Result Notes LineFault
+pull_read notes waiting None width = Err (at_word 1 Number)
+pull_read notes waiting (Some time) None = Err (at_word 2 Number)
+pull_read notes waiting (Some time) (Some width) = notes_with_pull notes waiting time width
+
+abbrev pub pull_words : Notes → ℕ → ℕ → Option (List ℕ × List ℕ) → Result Notes LineFault
+pull_words notes waiting count None = Err (misfit 1 count 2)
+pull_words notes waiting count (Some words) = pull_read notes waiting (time_of words.0) (number_of words.1)
+
 -- `end T`: one alone, after every event
 abbrev pub end_read : Notes → Option ℕ → Result Notes LineFault
 end_read notes None = Err (at_word 1 Number)
@@ -231,6 +257,7 @@ end_words notes count (Some word) = end_read notes (time_of word)
 abbrev pub other_words : Notes → ℕ → List ℕ → List (List ℕ) → Result Notes LineFault
 other_words notes waiting verb words =
     if bytes_eq verb (codes "pulse") then pulse_words notes waiting (length words) (two_of words)
+    else if bytes_eq verb (codes "pull") then pull_words notes waiting (length words) (two_of words)
     else if bytes_eq verb (codes "end") then end_words notes (length words) (one_of words)
     else Err (at_word 0 Word)
 
@@ -240,7 +267,7 @@ IsWordsRead tree notes waiting line [] read = read ≡ Err (at_word 0 Word)
 IsWordsRead tree notes waiting line (verb ∷ words) read =
     cond {A = Type 0} (bytes_eq verb (codes "at")) (IsEventRead tree notes line words read) (read ≡ other_words notes waiting verb words)
 
--- what a line makes of the notes, where so many of their pulses wait to be taken into a round
+-- what a line makes of the notes, where so many of their pulses and pulls wait to be taken into a round
 abbrev pub IsLineRead : List Node → Notes → ℕ → ℕ → List ℕ → Result Notes LineFault → Type 0
 IsLineRead tree notes waiting line text read =
     cond {A = Type 0} (is_skipped text) (read ≡ Ok notes) (IsWordsRead tree notes waiting line (words_of text) read)
@@ -263,7 +290,7 @@ abbrev pub Onward : ℕ → Result Notes LineFault → (Notes → Type 0) → Re
 Onward line (Ok notes) rest read = rest notes
 Onward line (Err fault) rest read = read ≡ Err (fault_at line fault)
 
--- what the lines from this number on make of the notes: a script, or the first fault. All pulses of a script wait for its run.
+-- what the lines from this number on make of the notes: a script, or the first fault. All pulses and pulls of a script wait for its run.
 abbrev pub AreLinesRead : List Node → List (List ℕ) → ℕ → Notes → Result Course ScriptFault → Type 0
 AreLinesRead tree [] line notes read = read ≡ course_at_end notes line notes.end
 AreLinesRead tree (text ∷ texts) line notes read =
@@ -311,11 +338,16 @@ abbrev pub AreFramedEvents : List TimedEvent → Type 0
 AreFramedEvents [] = Unit {0}
 AreFramedEvents (event ∷ events) = IsFramedEvent event.event × AreFramedEvents events
 
--- a script for so many devices
+-- a pull has a greatest width
+abbrev pub IsNoWider : Stretch → Type 0
+IsNoWider pull = pull.to ≤ pull.from + widest_pull
+
+-- a script for so many devices: its pulses and pulls are in order, and no two of them overlap or touch
 pub record IsScript (count : ℕ) (course : Course) : Type 0 where
   pub schedule : IsSchedule count course.end 0 course.events
   pub framed : AreFramedEvents course.events
-  pub sparse : AreSparse course.pulses
+  pub timely : AreTimely course.pulses
+  pub wide : All IsNoWider course.pulses
   pub early : All (λ pulse. pulse.from ≤ latest_event) course.pulses
   pub limit : course.end ≤ latest_event
 

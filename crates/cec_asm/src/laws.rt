@@ -6,7 +6,7 @@ ghost use Rattle.cec_asm.specs.Keys.{key_of};
 ghost use Rattle.cec_asm.specs.Script.{OneScript, ScriptsAreSound};
 
 /// Every text of a script gives events in the order of their times, of devices that are there and of frames that are
-/// not empty, and sparse pulses.
+/// not empty, and pulses and pulls in order.
 pub fn scripts_are_sound()
     ensures { ScriptsAreSound }
 {}

@@ -1,8 +1,9 @@
 //! The texts of scripts.
-ghost use Rattle.std.specs.Prelude.{◌≡◌, ◌+◌, ◌<◌, length, Result, Ok, Err, Some, None, IfOk, OnErr};
+ghost use Rattle.std.specs.Prelude.{◌≡◌, ◌+◌, ◌<◌, ◌≤◌, length, Result, Ok, Err, Some, None, IfOk, OnErr};
 ghost use Rattle.std.specs.Option.{option_copied};
+ghost use Rattle.cec_wave.specs.Bounds.{latest_event};
 ghost use Rattle.hdmi_core.specs.Words.{words_after, one_of, two_of, three_of};
-ghost use Rattle.cec_asm.specs.Script.{no_notes, notes_of, course_of, time_of, last_time, last_end, notes_with_event, plug_words, unplug_words, key_words, act_read, hold_words, drop_words, event_words, send_read, pulse_fault, notes_with_pulse, pulse_words, end_words, other_words, error_at, IsFrameOf, IsSendRead, IsEventRead, IsLineRead, GivesNotes, Gives, GivesScript, IsScript};
+ghost use Rattle.cec_asm.specs.Script.{no_notes, notes_of, course_of, time_of, last_time, last_end, notes_with_event, plug_words, unplug_words, key_words, act_read, hold_words, drop_words, event_words, send_read, pulse_fault, notes_with_pulse, pulse_words, touches, notes_with_pull, pull_words, end_words, other_words, error_at, IsFrameOf, IsSendRead, IsEventRead, IsLineRead, GivesNotes, Gives, GivesScript, IsScript};
 
 use crate::course::Script;
 use crate::fault::{LineFault, at_word, frame_word, misfit};
@@ -13,7 +14,9 @@ use cec_device::Act;
 use cec_event::Event;
 use cec_frame::Frame;
 use cec_text::{AssembleError, assemble, frames_are_whole};
-use cec_wave::{LATEST_EVENT, MOST_PULSES, PulsesError, Stretch, stretch_fault};
+use cec_wave::{
+    LATEST_EVENT, MOST_PULLS, MOST_PULSES, PulsesError, Stretch, WIDEST_PULL, stretch_fault,
+};
 use hdmi_core::{first_line, first_word, is_skipped, number_in, one_word, three_words, two_words};
 use hdmi_topo::Tree;
 use std::alloc::{AllocFailed, Global};
@@ -34,13 +37,14 @@ pub enum ScriptCause {
     Name,
     /// No text of a frame, and why.
     Frame(AssembleError),
-    /// A pulse that is not 1 to 10,000 microseconds wide.
+    /// A pulse that is not 1 to 10,000 microseconds wide, or a pull that is not 1 to 10,000,000.
     Width,
-    /// A time before that of the event above, or a pulse that begins before the end of the one above.
+    /// A time before that of the event above, a pulse that begins before the end of the pulse or pull above, or a pull that
+    /// does not begin after it.
     Order,
-    /// A pulse less than 25,000 microseconds after the end of the one above.
+    /// A pulse less than 25,000 microseconds after the end of the pulse or pull above.
     Close,
-    /// A pulse after 4,096 others that wait.
+    /// A pulse after 4,096 pulses and pulls that wait, or a pull after 16,384.
     TooMany,
     /// No `end`, a line after it, or one that is not after every event.
     End,
@@ -108,7 +112,7 @@ pub struct TimedEvent {
     pub event: Event,
 }
 
-/// What the lines so far say.
+/// What the lines so far say. Pulses and pulls are one list.
 #[derive(Drop)]
 pub struct ScriptDraft {
     pub events: Vec<TimedEvent>,
@@ -149,7 +153,7 @@ fn last_time(events: &[TimedEvent]) -> u64
     }
 }
 
-/// Where the last pulse ends.
+/// Where the last pulse or pull ends.
 fn last_end(pulses: &[Stretch]) -> Option<u64>
     ensures { result ≡ last_end pulses.now }
 {
@@ -446,6 +450,64 @@ fn take_pulse(
     add_pulse(draft, waiting, Stretch { from, to })
 }
 
+/// Whether a pull from an instant on would overlap or touch one that ends so.
+fn touches(end: Option<u64>, time: u64) -> bool
+    ensures { result ≡ touches end time }
+{
+    match end {
+        None => false,
+        Some(end) => time <= end,
+    }
+}
+
+fn add_pull(
+    draft: &mut ScriptDraft,
+    waiting: usize,
+    from: u64,
+    width: u64,
+) -> Result<(), ScriptLineError>
+    requires early { from ≤ latest_event }
+    ensures gives { GivesNotes (notes_of draft.new) result (notes_with_pull (notes_of draft.old) waiting from width) }
+    ensures kept { OnErr result (notes_of draft.new ≡ notes_of draft.old) }
+{
+    if width == 0 || width > WIDEST_PULL {
+        return Err(ScriptLineError::Fault(at_word(2, ScriptCause::Width)));
+    }
+    if touches(last_end(&draft.pulses), from) {
+        return Err(ScriptLineError::Fault(at_word(1, ScriptCause::Order)));
+    }
+    if waiting >= MOST_PULLS {
+        return Err(ScriptLineError::Fault(at_word(0, ScriptCause::TooMany)));
+    }
+    if draft.end.is_some() {
+        return Err(ScriptLineError::Fault(at_word(0, ScriptCause::End)));
+    }
+    let to = from + width;
+    draft.pulses.push(Stretch { from, to })?;
+    Ok(())
+}
+
+/// Takes the words after `pull`.
+fn take_pull(
+    draft: &mut ScriptDraft,
+    waiting: usize,
+    rest: Option<&[u8]>,
+) -> Result<(), ScriptLineError>
+    ensures gives { GivesNotes (notes_of draft.new) result (pull_words (notes_of draft.old) waiting (length (words_after (option_copied rest.entry))) (two_of (words_after (option_copied rest.entry)))) }
+    ensures kept { OnErr result (notes_of draft.new ≡ notes_of draft.old) }
+{
+    let Some((from, width)) = two_words(rest) else {
+        return Err(ScriptLineError::Fault(misfit(1, rest, 2)));
+    };
+    let Some(from) = time_in(from) else {
+        return Err(ScriptLineError::Fault(at_word(1, ScriptCause::Number)));
+    };
+    let Some(width) = number_in(width) else {
+        return Err(ScriptLineError::Fault(at_word(2, ScriptCause::Number)));
+    };
+    add_pull(draft, waiting, from, width)
+}
+
 /// Takes the word after `end`.
 fn take_end(draft: &mut ScriptDraft, rest: Option<&[u8]>) -> Result<(), ScriptLineError>
     ensures gives { GivesNotes (notes_of draft.new) result (end_words (notes_of draft.old) (length (words_after (option_copied rest.entry))) (one_of (words_after (option_copied rest.entry)))) }
@@ -533,6 +595,8 @@ fn take_other(
 {
     if verb == b"pulse".as_slice() {
         take_pulse(draft, waiting, rest)
+    } else if verb == b"pull".as_slice() {
+        take_pull(draft, waiting, rest)
     } else if verb == b"end".as_slice() {
         take_end(draft, rest)
     } else {
@@ -540,8 +604,8 @@ fn take_other(
     }
 }
 
-/// Takes a line, the one of this number. So many pulses of the lines before it wait to be taken into a round: all of them,
-/// where the run has not begun.
+/// Takes a line, the one of this number. So many pulses and pulls of the lines before it wait to be taken into a round: all
+/// of them, where the run has not begun.
 pub fn take_line(
     tree: &Tree<15>,
     draft: &mut ScriptDraft,
@@ -577,16 +641,16 @@ pub fn error_at(line: u64, error: ScriptLineError) -> ScriptError
     }
 }
 
-/// Reads a script for the devices of a topology: lines `at T EVENT`, `pulse T WIDTH` and last `end T`, where EVENT is
+/// Reads a script for the devices of a topology: lines `at T EVENT`, `pulse T WIDTH`, `pull T WIDTH` and last `end T`, where EVENT is
 /// `plug CHILD PARENT PORT`, `unplug CHILD`, `press NAME KEY`, `release NAME KEY`, `send NAME FRAME`, `hold NAME ADDRS`
 /// or `drop NAME`; empty lines and lines that begin with `#` are skipped. Times are microseconds. Those of events do not go back and are before
-/// the end; pulses are in order and far enough apart. A device's number is below the count of devices, and no frame
+/// the end; pulses and pulls are in order, and none touches another. A device's number is below the count of devices, and no frame
 /// is empty.
 ///
 /// # Errors
 ///
 /// `At` with the first line at fault, counted from 1, the first cause that applies to it, and the word at fault; `Memory`
-/// where there is none for the events and the pulses.
+/// where there is none for the events, the pulses and the pulls.
 pub fn parse_script(alloc: Global, topology: &Topology, text: &[u8]) -> Result<Script, ScriptError>
     ensures gives { GivesScript topology.now.tree text.now result }
     ensures script { IfOk result (λ script. IsScript (length topology.now.tree) (course_of script)) }

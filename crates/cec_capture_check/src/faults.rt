@@ -169,7 +169,9 @@ fn is_passed(label: Option<&[u8]>, verb: &[u8]) -> bool
     ensures { result ≡ is_passed (option_copied label.entry) verb.now }
 {
     match label {
-        None => verb == b"pulse".as_slice() || verb == b"end".as_slice(),
+        None => {
+            verb == b"pulse".as_slice() || verb == b"pull".as_slice() || verb == b"end".as_slice()
+        }
         Some(_) => false,
     }
 }

@@ -1,5 +1,5 @@
 -- A plain script that ends earlier says the same events before then, the same pulses, and that end.
-use Rattle.std.proofs.Common.{◌≡◌, ℕ, suc, ◌+◌, ◌-◌, ◌^◌, ◌<◌, ◌≤◌, ◌==◌, ◌&&◌, Bool, true, false, cond, codes, if◌then◌else◌, List, [], ◌∷◌, ◌++◌, length, min, map, filter, nat_lt, nat_le, slice_get, Option, Some, None, is_some, option_map, Result, Ok, Err, All, refl, sym, ap, subst, ◌∙◌, arith, append-nil}
+use Rattle.std.proofs.Common.{◌≡◌, ℕ, suc, ◌+◌, ◌-◌, ◌^◌, ◌<◌, ◌≤◌, ◌==◌, ◌&&◌, ◌||◌, Bool, true, false, cond, codes, if◌then◌else◌, List, [], ◌∷◌, ◌++◌, length, min, map, filter, nat_lt, nat_le, slice_get, Option, Some, None, is_some, option_map, Result, Ok, Err, All, refl, sym, ap, subst, ◌∙◌, arith, append-nil}
 use Rattle.std.specs.Str.{bytes_eq}
 use Rattle.std.specs.Fmt.{decimal}
 use Rattle.std.specs.Option.{option_map_or}
@@ -13,7 +13,7 @@ use Rattle.hdmi_topo.specs.Tree.{device_named}
 use Rattle.cec_wave.specs.declared.Stretch.{Stretch}
 use Rattle.cec_wave.specs.declared.PulsesError.{PulsesError}
 use Rattle.cec_wave.specs.Pulses.{stretch_fault}
-use Rattle.cec_wave.specs.Bounds.{latest_event}
+use Rattle.cec_wave.specs.Bounds.{latest_event, most_pulses, most_pulls, widest_pull}
 use Rattle.cec_feature.specs.declared.keys.Key.{Key as KeyValue}
 use Rattle.cec_text.specs.declared.assembler.AssembleError.{AssembleError}
 use Rattle.hdmi_core.specs.Lines.{lines_of, is_skipped}
@@ -30,8 +30,8 @@ use Rattle.cec_device.specs.declared.outside.Act.TheVariants.{Empty}
 use Rattle.cec_asm.specs.declared.script.TimedEvent.{TimedEvent}
 use Rattle.cec_asm.specs.Fault.{at_word}
 use Rattle.cec_asm.specs.declared.fault.LineFault.{LineFault}
-use Rattle.cec_asm.specs.declared.script.ScriptCause.TheVariants.{Word, Order, TooMany, End}
-use Rattle.cec_asm.specs.Script.{Course, Notes, ScriptFault, within_limit, time_of, last_time, last_end, notes_with_event, plug_read, plug_words, unplug_read, unplug_words, key_read, key_words, act_read, hold_words, drop_words, send_read, event_words, unless_fault, pulse_read, pulse_words, end_read, end_words, other_words, course_at_end, no_notes, IsSendRead, IsEventRead, IsWordsRead, IsLineRead, Onward, AreLinesRead}
+use Rattle.cec_asm.specs.declared.script.ScriptCause.TheVariants.{Word, Width, Order, TooMany, End}
+use Rattle.cec_asm.specs.Script.{Course, Notes, ScriptFault, within_limit, time_of, last_time, last_end, notes_with_event, plug_read, plug_words, unplug_read, unplug_words, key_read, key_words, act_read, hold_words, drop_words, send_read, event_words, unless_fault, pulse_read, pulse_words, touches, pull_read, pull_words, end_read, end_words, other_words, course_at_end, no_notes, IsSendRead, IsEventRead, IsWordsRead, IsLineRead, Onward, AreLinesRead}
 use Rattle.cec_expect.specs.Line.{cut_line, cut_script, has_verb, is_before, is_event, is_sooner}
 use Rattle.cec_check.specs.Cuts.{CutsAreRead, cut_course, is_early}
 use Rattle.cec_check.proofs.EachLine.{lines_each}
@@ -343,7 +343,7 @@ pulse_goes time notes next many (Some w) e = read (time_of w.0) (number_of w.1) 
         (ap (λ (n : Notes). n.events) same, ap (λ b. if b then Err (at_word 0 End) else Ok (more pulse (cut_notes time notes))) unended ∙ ap (λ (n : Notes). Ok (cut_notes time n)) (sym same))
 
     faulted : (o : Option PulsesError) (pulse : Stretch) → Ok next ≡ unless_fault o notes (length notes.pulses) pulse → (next.events ≡ notes.events) × (unless_fault o (cut_notes time notes) (length notes.pulses) pulse ≡ Ok (cut_notes time next))
-    faulted None pulse e = by (nat_le 4096 (length notes.pulses)) (is_some notes.end) pulse refl e
+    faulted None pulse e = by (nat_le most_pulses (length notes.pulses)) (is_some notes.end) pulse refl e
     faulted (Some fault) pulse e = cc
 
     read : (from width : Option ℕ) → Ok next ≡ pulse_read notes (length notes.pulses) from width → (next.events ≡ notes.events) × (pulse_read (cut_notes time notes) (length notes.pulses) from width ≡ Ok (cut_notes time next))
@@ -352,6 +352,35 @@ pulse_goes time notes next many (Some w) e = read (time_of w.0) (number_of w.1) 
     read (Some from) (Some width) e =
         let pulse : Stretch = record { from = from; to = from + min width 65535 } in
         faulted (stretch_fault (last_end notes.pulses) pulse) pulse e
+
+-- ---- pulls
+
+pull_goes : (time : ℕ) (notes next : Notes) (many : ℕ) (words : Option (List ℕ × List ℕ)) → Ok next ≡ pull_words notes (length notes.pulses) many words
+    → (next.events ≡ notes.events) × (pull_words (cut_notes time notes) (length notes.pulses) many words ≡ Ok (cut_notes time next))
+pull_goes time notes next many None e = cc
+pull_goes time notes next many (Some w) e = read (time_of w.0) (number_of w.1) e
+  where
+    more : ℕ → ℕ → Notes → Notes
+    more from width n = record n { pulses = n.pulses ++ record { from = from; to = from + width } ∷ [] }
+
+    by : (misfits near full ended : Bool) (from width : ℕ) → is_some notes.end ≡ ended
+        → Ok next ≡ (if misfits then Err (at_word 2 Width) else if near then Err (at_word 1 Order) else if full then Err (at_word 0 TooMany) else if ended then Err (at_word 0 End) else Ok (more from width notes))
+        → (next.events ≡ notes.events) × ((if misfits then Err (at_word 2 Width) else if near then Err (at_word 1 Order) else if full then Err (at_word 0 TooMany)
+        else if is_some (option_map (λ (t : ℕ). time) notes.end) then Err (at_word 0 End) else Ok (more from width (cut_notes time notes))) ≡ Ok (cut_notes time next))
+    by true near full ended from width p e = cc
+    by false true full ended from width p e = cc
+    by false false true ended from width p e = cc
+    by false false false true from width p e = cc
+    by false false false false from width p e =
+        let same = ok_same next (more from width notes) e in
+        let unended : is_some (option_map (λ (t : ℕ). time) notes.end) ≡ false = some_end time notes.end ∙ p in
+        (ap (λ (n : Notes). n.events) same, ap (λ b. if b then Err (at_word 0 End) else Ok (more from width (cut_notes time notes))) unended ∙ ap (λ (n : Notes). Ok (cut_notes time n)) (sym same))
+
+    read : (from width : Option ℕ) → Ok next ≡ pull_read notes (length notes.pulses) from width → (next.events ≡ notes.events) × (pull_read (cut_notes time notes) (length notes.pulses) from width ≡ Ok (cut_notes time next))
+    read None width e = cc
+    read (Some from) None e = cc
+    read (Some from) (Some width) e =
+        by (width == 0 || nat_lt widest_pull width) (touches (last_end notes.pulses) from) (nat_le most_pulls (length notes.pulses)) (is_some notes.end) from width refl e
 
 -- ---- the end
 
@@ -440,24 +469,43 @@ other_goes tree time line text verb words notes next low order reported split no
         subst (λ b. cond {A = Type 0} b (IsEventRead tree (cut_notes time notes) line words (Ok (cut_notes time next))) (Ok (cut_notes time next) ≡ other_words (cut_notes time notes) (length notes.pulses) verb words)) (sym no_at) r in
         reported_line tree (cut_notes time notes) line text (Ok (cut_notes time next)) reported (subst (λ ws. IsWordsRead tree (cut_notes time notes) (length notes.pulses) line ws (Ok (cut_notes time next))) (sym split) worded)
 
-    no_end : bytes_eq verb (codes "pulse") ≡ true → bytes_eq verb (codes "end") ≡ false
-    no_end p = ap (λ v. bytes_eq v (codes "end")) ((bytes_eq-Decides verb (codes "pulse")).0 p)
+    -- the verb of a pulse or a pull is not that of the end
+    no_end : (word : List ℕ) → bytes_eq word (codes "end") ≡ false → bytes_eq verb word ≡ true → bytes_eq verb (codes "end") ≡ false
+    no_end word differs p = ap (λ v. bytes_eq v (codes "end")) ((bytes_eq-Decides verb word).0 p) ∙ differs
 
-    end : (b : Bool) → bytes_eq verb (codes "pulse") ≡ false → bytes_eq verb (codes "end") ≡ b → Ok next ≡ (if b then end_words notes (length words) (one_of words) else Err (at_word 0 Word))
+    more : Bool → Bool → Notes → Result Notes LineFault
+    more is_pulse is_pull n =
+        if is_pulse then pulse_words n (length notes.pulses) (length words) (two_of words)
+        else if is_pull then pull_words n (length notes.pulses) (length words) (two_of words)
+        else if bytes_eq verb (codes "end") then end_words n (length words) (one_of words)
+        else Err (at_word 0 Word)
+
+    -- a line that says nothing of events
+    stays : (next.events ≡ notes.events) × (other_words (cut_notes time notes) (length notes.pulses) verb words ≡ Ok (cut_notes time next)) → bytes_eq verb (codes "end") ≡ false
+        → Goes tree time line text (if bytes_eq verb (codes "end") then end_line time else text) notes next
+    stays g other = subst (λ b. Goes tree time line text (if b then end_line time else text) notes next) (sym other) (record { order = in_order notes next g.0 order; cut_is = kept (sym g.1) })
+
+    end : (b : Bool) → bytes_eq verb (codes "end") ≡ b → Ok next ≡ (if b then end_words notes (length words) (one_of words) else Err (at_word 0 Word))
         → Goes tree time line text (if b then end_line time else text) notes next
-    end false p q e = cc
-    end true p q e =
+    end false q e = cc
+    end true q e =
         let g = end_goes tree time line notes next (length words) (one_of words) low e in
         record { order = in_order notes next g.0 order; cut_is = g.1 }
 
-    pulse : (b : Bool) → bytes_eq verb (codes "pulse") ≡ b → Ok next ≡ (if b then pulse_words notes (length notes.pulses) (length words) (two_of words) else if bytes_eq verb (codes "end") then end_words notes (length words) (one_of words) else Err (at_word 0 Word))
-        → Goes tree time line text (if bytes_eq verb (codes "end") then end_line time else text) notes next
+    pull : (b : Bool) → bytes_eq verb (codes "pulse") ≡ false → bytes_eq verb (codes "pull") ≡ b → Ok next ≡ more false b notes → Goes tree time line text (if bytes_eq verb (codes "end") then end_line time else text) notes next
+    pull true p q e =
+        let g = pull_goes time notes next (length words) (two_of words) e in
+        let read : other_words (cut_notes time notes) (length notes.pulses) verb words ≡ Ok (cut_notes time next) =
+        ap (λ b. more b (bytes_eq verb (codes "pull")) (cut_notes time notes)) p ∙ ap (λ b. more false b (cut_notes time notes)) q ∙ g.1 in
+        stays (g.0, read) (no_end (codes "pull") refl q)
+    pull false p q e = end (bytes_eq verb (codes "end")) refl e
+
+    pulse : (b : Bool) → bytes_eq verb (codes "pulse") ≡ b → Ok next ≡ more b (bytes_eq verb (codes "pull")) notes → Goes tree time line text (if bytes_eq verb (codes "end") then end_line time else text) notes next
     pulse true p e =
         let g = pulse_goes time notes next (length words) (two_of words) e in
-        let read : Ok (cut_notes time next) ≡ other_words (cut_notes time notes) (length notes.pulses) verb words =
-        sym (ap (λ b. if b then pulse_words (cut_notes time notes) (length notes.pulses) (length words) (two_of words) else if bytes_eq verb (codes "end") then end_words (cut_notes time notes) (length words) (one_of words) else Err (at_word 0 Word)) p ∙ g.1) in
-        subst (λ b. Goes tree time line text (if b then end_line time else text) notes next) (sym (no_end p)) (record { order = in_order notes next g.0 order; cut_is = kept read })
-    pulse false p e = end (bytes_eq verb (codes "end")) p refl e
+        let read : other_words (cut_notes time notes) (length notes.pulses) verb words ≡ Ok (cut_notes time next) = ap (λ b. more b (bytes_eq verb (codes "pull")) (cut_notes time notes)) p ∙ g.1 in
+        stays (g.0, read) (no_end (codes "pulse") refl p)
+    pulse false p e = pull (bytes_eq verb (codes "pull")) p refl e
 
 -- the cut of a line that is not skipped, by its words
 abbrev cut_words : ℕ → List ℕ → List (List ℕ) → List ℕ

@@ -196,15 +196,16 @@ no_labelled_time line quantity window pattern h = by (is_labelled line)
     by true = no_time (unlabelled_words (words_of line)) quantity window pattern h
     by false = refl
 
--- nor has a pulse
+-- nor has a pulse or a pull
 no_onset_time : (words : List (List ℕ)) (onset : ℕ) → onset_in words ≡ Some onset → time_in words ≡ None
 no_onset_time [] onset h = refl
 no_onset_time (verb ∷ []) onset h = refl
-no_onset_time (verb ∷ time ∷ words) onset h = by (bytes_eq verb (codes "pulse")) refl h
+no_onset_time (verb ∷ time ∷ words) onset h = by (bytes_eq verb (codes "pulse")) (bytes_eq verb (codes "pull")) refl refl h
   where
-    by : (b : Bool) → bytes_eq verb (codes "pulse") ≡ b → (if b then number_of time else None) ≡ Some onset → time_in (verb ∷ time ∷ words) ≡ None
-    by true e k = ap (λ (word : List ℕ). time_in (word ∷ time ∷ words)) ((bytes_eq-Decides verb (codes "pulse")).0 e)
-    by false e k = cc
+    by : (pulse pull : Bool) → bytes_eq verb (codes "pulse") ≡ pulse → bytes_eq verb (codes "pull") ≡ pull → (if pulse || pull then number_of time else None) ≡ Some onset → time_in (verb ∷ time ∷ words) ≡ None
+    by true pull e g k = ap (λ (word : List ℕ). time_in (word ∷ time ∷ words)) ((bytes_eq-Decides verb (codes "pulse")).0 e)
+    by false true e g k = ap (λ (word : List ℕ). time_in (word ∷ time ∷ words)) ((bytes_eq-Decides verb (codes "pull")).0 g)
+    by false false e g k = cc
 
 no_time_of_pulse : (line : List ℕ) (onset : ℕ) → onset_in (unlabelled_words (words_of line)) ≡ Some onset → labelled_time line ≡ None
 no_time_of_pulse line onset h = by (is_labelled line)

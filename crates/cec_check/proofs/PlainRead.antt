@@ -4,6 +4,7 @@ use Rattle.std.specs.Str.{bytes_eq}
 use Rattle.std.specs.List.{onto_first}
 use Rattle.std.proofs.lemmas.List.Elements.{All-append, All-head, All-tail}
 use Rattle.hdmi_topo.specs.Node.{Node}
+use Rattle.cec_wave.specs.Bounds.{most_pulls}
 use Rattle.hdmi_core.specs.Lines.{lines_of}
 use Rattle.hdmi_core.specs.Words.{words_of, text_of}
 use Rattle.cec_signal.proofs.Texts.{Lacks, more_lack, none_lack}
@@ -68,9 +69,9 @@ first_lead : (tree : List Node) (script : List ℕ) → Leads tree script (lines
 first_lead tree script read h = subst (λ ls. AreLinesRead tree ls 1 no_notes read) (sym (plain_lines script)) h
 
 -- before the first line
-pub begun : (tree : List Node) (script : List ℕ) (notes : Notes) → notes ≡ no_notes → Leads tree script (lines_of script) 1 notes × AreSound (length tree) notes × (length notes.pulses ≤ 4096)
+pub begun : (tree : List Node) (script : List ℕ) (notes : Notes) → notes ≡ no_notes → Leads tree script (lines_of script) 1 notes × AreSound (length tree) notes × (length notes.pulses ≤ most_pulls)
 begun tree script notes is =
-    subst (λ (n : Notes). Leads tree script (lines_of script) 1 n × AreSound (length tree) n × (length n.pulses ≤ 4096)) (sym is)
+    subst (λ (n : Notes). Leads tree script (lines_of script) 1 n × AreSound (length tree) n × (length n.pulses ≤ most_pulls)) (sym is)
     (first_lead tree script, sound_start (length tree), omega arith)
 
 read_again : (tree : List Node) (line text : List ℕ) (number waiting : ℕ) (notes : Notes) (read : Result Notes LineFault) → text ≡ plain_part line → waiting ≡ length notes.pulses

@@ -1,5 +1,5 @@
 -- Labels of a script, and its first line at fault (own). Lines count from 1. A label is a word that is not empty, stands on one
--- line alone, before an event, a pulse or an expectation, and above those that name it; of a refusal it is an event's. A window does not end before it begins. The device of
+-- line alone, before an event, a pulse, a pull or an expectation, and above those that name it; of a refusal it is an event's. A window does not end before it begins. The device of
 -- a state is one of the topology, and its time is not past the end. Some line of a round meets a pattern, and some state line has each word of a state.
 use Rattle.std.specs.Prelude.{ℕ, ◌+◌, ◌==◌, nat_lt, ◌&&◌, not, codes, Bool, true, false, if◌then◌else◌, length, List, [], ◌∷◌, Option, Some, None, Result, Ok, Err}
 use Rattle.std.specs.Str.{bytes_eq}

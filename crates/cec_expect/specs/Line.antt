@@ -41,15 +41,19 @@ is_event words = has_verb (codes "at") words
 abbrev pub is_pulse : List (List ℕ) → Bool
 is_pulse words = has_verb (codes "pulse") words
 
--- what a label may stand before: an expectation, an event or a pulse
-abbrev pub is_labelable : List (List ℕ) → Bool
-is_labelable words = is_expectation words || is_event words || is_pulse words
+-- `pull ..`
+abbrev pub is_pull : List (List ℕ) → Bool
+is_pull words = has_verb (codes "pull") words
 
--- `pulse T D`: its onset
+-- what a label may stand before: an expectation, an event, a pulse or a pull
+abbrev pub is_labelable : List (List ℕ) → Bool
+is_labelable words = is_expectation words || is_event words || is_pulse words || is_pull words
+
+-- `pulse T D`, `pull T D`: its onset
 abbrev pub onset_in : List (List ℕ) → Option ℕ
 onset_in [] = None
 onset_in (verb ∷ []) = None
-onset_in (verb ∷ time ∷ words) = if bytes_eq verb (codes "pulse") then number_of time else None
+onset_in (verb ∷ time ∷ words) = if bytes_eq verb (codes "pulse") || bytes_eq verb (codes "pull") then number_of time else None
 
 -- what is left of these words in a script without expectations
 abbrev pub plain_words : List (List ℕ) → List ℕ
@@ -78,7 +82,7 @@ is_before time [] = false
 is_before time (verb ∷ []) = false
 is_before time (verb ∷ at ∷ words) = is_sooner time (number_of at)
 
--- an event at this time or later is left out, and the end is at this time; pulses and comments are kept
+-- an event at this time or later is left out, and the end is at this time; pulses, pulls and comments are kept
 abbrev pub cut_line : ℕ → List ℕ → List ℕ
 cut_line time line =
     if is_skipped line then line

@@ -54,20 +54,23 @@ pub(crate) fn has_verb(verb: &[u8], rest: Option<&[u8]>) -> bool
     }
 }
 
-/// Whether a label may stand before these words: those of an expectation, an event or a pulse.
+/// Whether a label may stand before these words: those of an expectation, an event, a pulse or a pull.
 pub(crate) fn is_labelable(rest: Option<&[u8]>) -> bool
     ensures { result ≡ is_labelable (words_after (option_copied rest.entry)) }
 {
-    has_verb(b"expect", rest) || has_verb(b"at", rest) || has_verb(b"pulse", rest)
+    has_verb(b"expect", rest)
+        || has_verb(b"at", rest)
+        || has_verb(b"pulse", rest)
+        || has_verb(b"pull", rest)
 }
 
-/// The onset of a pulse, by its line without a label.
+/// The onset of a pulse or a pull, by its line without a label.
 pub fn onset_in(rest: Option<&[u8]>) -> Option<u64>
     ensures { result ≡ onset_in (words_after (option_copied rest.entry)) }
 {
     let (verb, rest) = first_word(rest?);
     let (time, _others) = first_word(rest?);
-    if verb == b"pulse".as_slice() {
+    if verb == b"pulse".as_slice() || verb == b"pull".as_slice() {
         number_in(time)
     } else {
         None

@@ -1,9 +1,9 @@
-//! The objects of a topology's lines and of pulses.
+//! The objects of a topology's lines, of pulses and of pulls.
 ghost use Rattle.std.specs.Prelude.{◌≡◌, map};
 ghost use Rattle.std.specs.List.{flat_map};
 ghost use Rattle.cec_json.specs.Columns.{column_parts};
 ghost use Rattle.hdmi_core.specs.Adds.{Adds};
-ghost use Rattle.cec_room_json.specs.Head.{device_body, edid_body, head_of, head_text, plug_body, pulse_body, said_by};
+ghost use Rattle.cec_room_json.specs.Head.{device_body, edid_body, head_of, head_text, plug_body, pulse_body, pull_body, said_by};
 ghost use Rattle.hdmi_core.specs.Lines.{lines_of};
 
 use cec_json::{Column, Shape, add_fields, add_quoted, add_type, after_word, word};
@@ -16,6 +16,7 @@ pub enum Head {
     Plug,
     Edid,
     Pulse,
+    Pull,
     /// None of these.
     Other,
 }
@@ -58,8 +59,8 @@ const EDID: &[Column] = &[Column {
     shape: Shape::Text,
 }];
 
-/// After `pulse`: microseconds.
-const PULSE: &[Column] = &[
+/// After `pulse` and `pull`: microseconds.
+const LOW: &[Column] = &[
     Column {
         name: "at",
         shape: Shape::Number,
@@ -81,6 +82,8 @@ fn head_of(word: &[u8]) -> Head
         Head::Edid
     } else if word == b"pulse".as_slice() {
         Head::Pulse
+    } else if word == b"pull".as_slice() {
+        Head::Pull
     } else {
         Head::Other
     }
@@ -118,7 +121,13 @@ fn add_edid<S: Sink>(out: &mut Counted<'_, S>, line: &[u8])
 fn add_pulse<S: Sink>(out: &mut Counted<'_, S>, line: &[u8])
     ensures { Adds out.old out.new (pulse_body line.now) }
 {
-    add_said(out, "pulse", PULSE, line);
+    add_said(out, "pulse", LOW, line);
+}
+
+fn add_pull<S: Sink>(out: &mut Counted<'_, S>, line: &[u8])
+    ensures { Adds out.old out.new (pull_body line.now) }
+{
+    add_said(out, "pull", LOW, line);
 }
 
 // Adds the object of a line, if it has one.
@@ -130,11 +139,12 @@ fn add_head<S: Sink>(out: &mut Counted<'_, S>, line: &[u8])
         Head::Plug => add_plug(out, line),
         Head::Edid => add_edid(out, line),
         Head::Pulse => add_pulse(out, line),
+        Head::Pull => add_pull(out, line),
         Head::Other => out.add(b""),
     }
 }
 
-/// Adds the objects of the devices, plugs, EDIDs and pulses among these lines.
+/// Adds the objects of the devices, plugs, EDIDs, pulses and pulls among these lines.
 pub(crate) fn add_heads<S: Sink>(out: &mut Counted<'_, S>, text: &[u8])
     ensures { Adds out.old out.new (flat_map head_text (lines_of text.now)) }
 {

@@ -1,5 +1,5 @@
 -- The order of a script's lines in time (own). Events come in order of time, and at one time as they stand; a pulse begins at least
--- 25,000 microseconds after the end of the one before; the end comes after each event above it; and no state is asked for after the end.
+-- 25,000 microseconds after the end of the pulse or pull before, and a pull after it; the end comes after each event above it; and no state is asked for after the end.
 use Rattle.std.specs.Prelude.{ℕ, ◌+◌, ◌-◌, ◌%◌, ◌==◌, nat_lt, nat_le, ◌&&◌, not, Bool, true, false, if◌then◌else◌, codes, List, [], ◌∷◌, min, Option, Some, None, Result, Ok, Err}
 use Rattle.std.specs.List.{list_any}
 use Rattle.std.specs.Option.{option_map}
@@ -7,6 +7,7 @@ use Rattle.std.specs.Str.{bytes_eq}
 use Rattle.hdmi_core.specs.Lines.{lines_of}
 use Rattle.hdmi_core.specs.Number.{number_of}
 use Rattle.hdmi_core.specs.Words.{words_of}
+use Rattle.cec_wave.specs.Bounds.{widest_pull}
 use Rattle.cec_expect.specs.Line.{unlabelled_words}
 use Rattle.cec_sweep.specs.Places.{next_place}
 use Rattle.cec_sweep.specs.Script.{is_range_at, range_of}
@@ -14,7 +15,7 @@ use Rattle.cec_sweep.specs.Series.{Series, instants_of, is_range}
 use Rattle.cec_sweep.specs.declared.order.Clock.{Clock as ClockRead}
 use Rattle.cec_sweep.specs.declared.order.RangeLine.{RangeLine as RangeLineRead}
 use Rattle.cec_sweep.specs.declared.order.Kind.{Kind}
-use Rattle.cec_sweep.specs.declared.order.Kind.TheVariants.{Event, Pulse, End, State}
+use Rattle.cec_sweep.specs.declared.order.Kind.TheVariants.{Event, Pulse, Pull, End, State}
 use Rattle.cec_sweep.specs.declared.order.Apart.{Apart}
 use Rattle.cec_sweep.specs.declared.order.Apart.TheVariants.{AnyOrder, After, Before}
 use Rattle.cec_sweep.specs.declared.places.WordRole.{WordRole}
@@ -44,13 +45,14 @@ abbrev pub state_clock : List (List ℕ) → Option Clock
 state_clock [] = None
 state_clock (time ∷ words) = Some (record { kind = State; word = time })
 
--- `at T ..`, `pulse T WIDTH`, `end T` or `expect state T ..`
+-- `at T ..`, `pulse T WIDTH`, `pull T WIDTH`, `end T` or `expect state T ..`
 abbrev pub clock_in : List (List ℕ) → Option Clock
 clock_in [] = None
 clock_in (verb ∷ []) = None
 clock_in (verb ∷ time ∷ words) =
     if bytes_eq verb (codes "at") then Some (record { kind = Event; word = time })
     else if bytes_eq verb (codes "pulse") then Some (record { kind = Pulse (width_in words); word = time })
+    else if bytes_eq verb (codes "pull") then Some (record { kind = Pull (width_in words); word = time })
     else if bytes_eq verb (codes "end") then Some (record { kind = End; word = time })
     else if bytes_eq verb (codes "expect") && bytes_eq time (codes "state") then state_clock words
     else None
@@ -65,11 +67,14 @@ time_at t word = if is_range word then Some t else number_of word
 -- ---- order
 
 -- how a line and one below it stand in time: the second one comes so long after the first, or not after it; a wider pulse than 65,535
--- counts as one of that width
+-- counts as one of that width, and a wider pull than the widest as one a microsecond wider
 abbrev pub between : Kind → Kind → Apart
 between Event Event = After 0
 between Event End = After 1
 between (Pulse width) (Pulse other) = After (min width 65535 + 25000)
+between (Pulse width) (Pull other) = After (min width 65535 + 1)
+between (Pull width) (Pulse other) = After (min width (widest_pull + 1) + 25000)
+between (Pull width) (Pull other) = After (min width (widest_pull + 1) + 1)
 between End State = Before
 between State End = After 0
 between _ _ = AnyOrder

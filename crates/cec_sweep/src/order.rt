@@ -9,6 +9,7 @@ use crate::places::WordRole;
 use crate::script::{RangeFault, is_range_at, range_of};
 use crate::series::{RangeCause, Series, is_range};
 use cec_expect::unlabelled;
+use cec_wave::WIDEST_PULL;
 use hdmi_core::{first_line, first_word, number_in};
 
 /// What a line of a script says that has a place in time.
@@ -18,6 +19,8 @@ pub(crate) enum Kind {
     Event,
     /// `pulse T WIDTH`, of this width.
     Pulse(u64),
+    /// `pull T WIDTH`, of this width.
+    Pull(u64),
     /// `end T`.
     End,
     /// `expect state T ..`.
@@ -52,10 +55,16 @@ pub(crate) struct RangeLine<'a> {
 /// The widest pulse that is told from wider ones, in microseconds.
 const WIDTH_MOST: u64 = 65_535;
 
-/// The least time from the end of a pulse to the begin of the next one, in microseconds.
+/// The widest pull that is told from wider ones, in microseconds.
+const PULL_WIDTH_MOST: u64 = WIDEST_PULL + 1;
+
+/// The least time from the end of a pulse or a pull to the begin of the next pulse, in microseconds.
 const LEAST_GAP: u64 = 25_000;
 
-// The width of a pulse, by the words after its time.
+/// The same to the begin of the next pull: it touches nothing.
+const LEAST_HIGH: u64 = 1;
+
+// The width of a pulse or a pull, by the words after its time.
 fn width_in(rest: Option<&[u8]>) -> u64
     ensures { result ≡ width_in (words_after (option_copied rest.entry)) }
 {
@@ -95,6 +104,11 @@ fn clock_in(rest: Option<&[u8]>) -> Option<Clock<'_>>
             kind: Kind::Pulse(width_in(others)),
             word,
         })
+    } else if verb == b"pull".as_slice() {
+        Some(Clock {
+            kind: Kind::Pull(width_in(others)),
+            word,
+        })
     } else if verb == b"end".as_slice() {
         Some(Clock {
             kind: Kind::End,
@@ -131,6 +145,9 @@ fn between(above: Kind, below: Kind) -> Apart
         (Kind::Event, Kind::Event) => Apart::After(0),
         (Kind::Event, Kind::End) => Apart::After(1),
         (Kind::Pulse(width), Kind::Pulse(_)) => Apart::After(width.min(WIDTH_MOST) + LEAST_GAP),
+        (Kind::Pulse(width), Kind::Pull(_)) => Apart::After(width.min(WIDTH_MOST) + LEAST_HIGH),
+        (Kind::Pull(width), Kind::Pulse(_)) => Apart::After(width.min(PULL_WIDTH_MOST) + LEAST_GAP),
+        (Kind::Pull(width), Kind::Pull(_)) => Apart::After(width.min(PULL_WIDTH_MOST) + LEAST_HIGH),
         (Kind::End, Kind::State) => Apart::Before,
         (Kind::State, Kind::End) => Apart::After(0),
         _ => Apart::AnyOrder,

@@ -28,7 +28,10 @@ pub(crate) enum WordRole {
 fn is_time_verb(word: &[u8]) -> bool
     ensures { result ≡ is_time_verb word.now }
 {
-    word == b"at".as_slice() || word == b"pulse".as_slice() || word == b"end".as_slice()
+    word == b"at".as_slice()
+        || word == b"pulse".as_slice()
+        || word == b"pull".as_slice()
+        || word == b"end".as_slice()
 }
 
 // What stands after the first word of a line without its label.

@@ -45,14 +45,18 @@ fn of_script(cause: ScriptCause) -> &'static str {
             "a NAME, CHILD or PARENT of the script has a `device` line in the topology"
         }
         ScriptCause::Frame(cause) => of_frame(cause),
-        ScriptCause::Width => "WIDTH is a number of microseconds, 1 to 10000",
+        ScriptCause::Width => {
+            "WIDTH is a number of microseconds, 1 to 10000, of a pull 1 to 10000000"
+        }
         ScriptCause::Order => {
-            "times do not go back: each T is that of the line before it or later, and a pulse begins after the end of the last one"
+            "times do not go back: each T is that of the line before it or later, and a pulse or a pull begins after the end of the last one"
         }
         ScriptCause::Close => {
-            "a pulse begins at least 25000 microseconds after the end of the last one"
+            "a pulse begins at least 25000 microseconds after the end of the last pulse or pull"
         }
-        ScriptCause::TooMany => "a script has at most 4096 pulses",
+        ScriptCause::TooMany => {
+            "a script has at most 16384 pulses and pulls, and a pulse stands after fewer than 4096"
+        }
         ScriptCause::End => {
             "the last line is `end T`, with T after that of each line `at`; after it only empty lines and comments come"
         }
@@ -62,7 +66,7 @@ fn of_script(cause: ScriptCause) -> &'static str {
 fn of_expectation(cause: ExpectCause) -> &'static str {
     match cause {
         ExpectCause::Word | ExpectCause::Pattern => {
-            "words stand one space apart; PATTERN has 1 to 160 bytes, at most four `*` and no space at an end; a label stands before an event, a pulse or an expectation"
+            "words stand one space apart; PATTERN has 1 to 160 bytes, at most four `*` and no space at an end; a label stands before an event, a pulse, a pull or an expectation"
         }
         ExpectCause::Number => {
             "D, T and U are decimal numbers of microseconds; none has a zero before it"
@@ -87,7 +91,7 @@ fn of_range(cause: RangeSlip) -> &'static str {
         }
         RangeSlip::Order => "a range `T..U` does not end before it begins: U is T or later",
         RangeSlip::Crosses => {
-            "each instant of a range keeps the order of the script: events and pulses in order of time, `end` after each event, no state after `end`"
+            "each instant of a range keeps the order of the script: events in order of time, pulses and pulls too, `end` after each event, no state after `end`"
         }
         RangeSlip::Second => {
             "one time of a script may be a range, `T..U` or `T..U/S`, of at most 1000000 instants; another line may have one already"

@@ -19,6 +19,7 @@ const OF_SCRIPT: &[&str] = &[
     "at T hold NAME ADDRS",
     "at T drop NAME",
     "pulse T WIDTH",
+    "pull T WIDTH",
     "end T",
 ];
 

@@ -156,7 +156,7 @@ pub fn place_of(input: &[u8], what: Input, fault: Fault) -> Option<Place<'_>> {
         Fault::NoScriptLine => find_parting(
             input,
             "script",
-            &["at ", "pulse ", "end ", "label ", "expect "],
+            &["at ", "pulse ", "pull ", "end ", "label ", "expect "],
         ),
         Fault::NoStepsLine => find_parting(input, "steps", &["edge", "round", "until ", "show "]),
         Fault::NoCaptureLine => find_parting(input, "capture", &[]),

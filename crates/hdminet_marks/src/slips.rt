@@ -138,7 +138,7 @@ fn in_expected(line: &str) -> Option<Slipped> {
 // Of a label without its name.
 fn in_label(line: &str) -> Option<Slipped> {
     match (word_at(line, 0), word_at(line, 1)) {
-        (Some("label"), Some("at" | "pulse" | "expect")) => at_words(Slip::NoName, 1, 1),
+        (Some("label"), Some("at" | "pulse" | "pull" | "expect")) => at_words(Slip::NoName, 1, 1),
         _ => None,
     }
 }
@@ -147,7 +147,7 @@ fn in_label(line: &str) -> Option<Slipped> {
 fn in_line(line: &str) -> Option<Slipped> {
     match word_at(line, 0) {
         Some("at") => in_event(line),
-        Some("pulse" | "end") if is_word(line, 1, "at") => at_words(Slip::StrayAt, 1, 1),
+        Some("pulse" | "pull" | "end") if is_word(line, 1, "at") => at_words(Slip::StrayAt, 1, 1),
         Some("expect") => in_expected(line),
         _ => None,
     }

@@ -57,6 +57,8 @@ const OTHER_VERBS: &[(&str, &str)] = &[
     ("exit", "end"),
     ("assert", "expect"),
     ("glitch", "pulse"),
+    ("low", "pull"),
+    ("drive", "pull"),
 ];
 
 /// The words that mute, audio and arc take.

@@ -8,6 +8,9 @@ const EVENT: &str = "at ";
 /// What a pulse's line begins with.
 const PULSE: &str = "pulse ";
 
+/// What a pull's line begins with: pulses and pulls are in one order.
+const PULL: &str = "pull ";
+
 /// A line of a script with its number, and the instant that the next line of its kind may not be before.
 #[derive(Clone, Copy)]
 struct Earlier {
@@ -23,26 +26,32 @@ fn number_after(line: &[u8], word: &str, index: usize) -> Option<u64> {
     word_at(words, index)?.parse().ok()
 }
 
-// The instant that the next line of its kind may not be before: of a pulse its end.
-fn end_of(line: &[u8], word: &str) -> Option<u64> {
-    let instant = number_after(line, word, 0)?;
-    let width = if word == PULSE {
-        number_after(line, word, 1).unwrap_or(0)
-    } else {
-        0
-    };
-    Some(instant.saturating_add(width))
+// The same after the first word of a pulse or a pull.
+fn number_of_low(line: &[u8], index: usize) -> Option<u64> {
+    match number_after(line, PULSE, index) {
+        Some(number) => Some(number),
+        None => number_after(line, PULL, index),
+    }
 }
 
-// The last line of the script before one, that begins with a word.
-fn last_before(place: Place<'_>, word: &str) -> Option<Earlier> {
+// The instant that the next line of its kind may not be before: of a pulse or a pull its end, of an event its time.
+fn end_of(line: &[u8], of_events: bool) -> Option<u64> {
+    if of_events {
+        return number_after(line, EVENT, 0);
+    }
+    let instant = number_of_low(line, 0)?;
+    Some(instant.saturating_add(number_of_low(line, 1).unwrap_or(0)))
+}
+
+// The last line of the script before one, that is an event, or a pulse or a pull.
+fn last_before(place: Place<'_>, of_events: bool) -> Option<Earlier> {
     let mut last = None;
     let mut number = 0usize;
     let above = place.number.saturating_sub(1);
     for line in place.input.split(is_line_end).take(above) {
         number = number.saturating_add(1);
         if number > place.before {
-            if let Some(instant) = end_of(line, word) {
+            if let Some(instant) = end_of(line, of_events) {
                 last = Some(Earlier { number, instant });
             }
         }
@@ -55,7 +64,7 @@ fn add_earlier_event(draft: &mut Draft, place: Place<'_>) {
     let number = place.number;
     if let (Some(instant), Some(last)) = (
         number_after(place.line, EVENT, 0),
-        last_before(place, EVENT),
+        last_before(place, true),
     ) {
         writeln!(
             draft,
@@ -65,16 +74,23 @@ fn add_earlier_event(draft: &mut Draft, place: Place<'_>) {
     }
 }
 
-// Of a pulse that begins before the last one above ends.
-fn add_earlier_pulse(draft: &mut Draft, place: Place<'_>) {
+// Of a pulse that begins before the last one above ends, or a pull that does not begin after that end.
+fn add_earlier_low(draft: &mut Draft, place: Place<'_>) {
     let number = place.number;
-    if let (Some(instant), Some(last)) = (
-        number_after(place.line, PULSE, 0),
-        last_before(place, PULSE),
-    ) {
+    let Some(last) = last_before(place, false) else {
+        return;
+    };
+    if let Some(instant) = number_after(place.line, PULSE, 0) {
         writeln!(
             draft,
             "  the pulse of line {number} of the input begins at {instant}, before that of line {} ends, at {}",
+            last.number, last.instant
+        );
+    }
+    if let Some(instant) = number_after(place.line, PULL, 0) {
+        writeln!(
+            draft,
+            "  the pull of line {number} of the input begins at {instant}, and what line {} pulls low ends at {}",
             last.number, last.instant
         );
     }
@@ -82,8 +98,8 @@ fn add_earlier_pulse(draft: &mut Draft, place: Place<'_>) {
 
 /// Says which line's time is earlier than which, of a line of a script that is out of order.
 pub fn add_order(draft: &mut Draft, place: Place<'_>) {
-    if number_after(place.line, PULSE, 0).is_some() {
-        add_earlier_pulse(draft, place);
+    if number_of_low(place.line, 0).is_some() {
+        add_earlier_low(draft, place);
     } else {
         add_earlier_event(draft, place);
     }

@@ -13,3 +13,5 @@ mod rooms;
 mod rows;
 #[cfg(test)]
 mod runs;
+#[cfg(test)]
+mod sessions;

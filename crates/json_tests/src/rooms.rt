@@ -15,8 +15,9 @@ edid 00ff
 
 const SCRIPT: &str = "\
 at 1000 press p1 play
-# a pulse between the events
+# a pulse and a pull between the events
 pulse 2000 100
+pull 2101 20000
 at 3000 send p1 4>0 set-osd-name \"a\"
 at 4000 plug p1 tv 2
 end 5000
@@ -25,8 +26,8 @@ end 5000
 /// Lines of its trace: an event names its line of the script, also one above that of the event before, or one that is not there.
 const TRACE: &str = "\
 1000 event 1 ok
-3000 event 4 refused no-address
-4000 event 5 ok
+3000 event 5 refused no-address
+4000 event 6 ok
 4500 event 1 ok
 4600 event 9 ok
 5000 end
@@ -38,9 +39,10 @@ const OBJECTS: &str = "\
 {'line':'plug p1 tv 1','type':'plug','device':'p1','parent':'tv','port':1}
 {'line':'edid 00ff','type':'edid','edid':'00ff'}
 {'line':'pulse 2000 100','type':'pulse','at':2000,'width':100}
+{'line':'pull 2101 20000','type':'pull','at':2101,'width':20000}
 {'line':'1000 event 1 ok','type':'event','at':1000,'script_line':1,'verdict':'ok','cause':null,'verb':'press','device':'p1','text':'press p1 play'}
-{'line':'3000 event 4 refused no-address','type':'event','at':3000,'script_line':4,'verdict':'refused','cause':'no-address','verb':'send','device':'p1','text':'send p1 4>0 set-osd-name \\'a\\''}
-{'line':'4000 event 5 ok','type':'event','at':4000,'script_line':5,'verdict':'ok','cause':null,'verb':'plug','device':'p1','text':'plug p1 tv 2'}
+{'line':'3000 event 5 refused no-address','type':'event','at':3000,'script_line':5,'verdict':'refused','cause':'no-address','verb':'send','device':'p1','text':'send p1 4>0 set-osd-name \\'a\\''}
+{'line':'4000 event 6 ok','type':'event','at':4000,'script_line':6,'verdict':'ok','cause':null,'verb':'plug','device':'p1','text':'plug p1 tv 2'}
 {'line':'4500 event 1 ok','type':'event','at':4500,'script_line':1,'verdict':'ok','cause':null,'verb':'press','device':'p1','text':'press p1 play'}
 {'line':'4600 event 9 ok','type':'event','at':4600,'script_line':9,'verdict':'ok','cause':null,'verb':null,'device':null,'text':null}
 {'line':'5000 end','type':'end','at':5000}

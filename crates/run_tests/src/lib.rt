@@ -8,6 +8,8 @@ mod network_edges;
 #[cfg(test)]
 mod networks;
 #[cfg(test)]
+mod pulls;
+#[cfg(test)]
 mod rooms;
 #[cfg(test)]
 mod runs;

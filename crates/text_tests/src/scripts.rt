@@ -66,6 +66,10 @@ pulse => line 1: word
 pulse 5 => line 1: word
 pulse 5 6 7 => line 1: word
 pulse x y z => line 1: word
+pull => line 1: word
+pull 5 => line 1: word
+pull 5 6 7 => line 1: word
+pull x y z => line 1: word
 end => line 1: word
 end 5 6 => line 1: word
 at x press p2 port x => line 1: number
@@ -76,6 +80,9 @@ at 1000000000001 send p1 4>4 => line 1: number
 pulse 05 100 => line 1: number
 pulse 5 0x64 => line 1: number
 pulse 1000000000001 0 => line 1: number
+pull 05 0 => line 1: number
+pull 5 0x64 => line 1: number
+pull 1000000000001 0 => line 1: number
 end 1000000000001 => line 1: number
 at 5 press p2 port 1 => line 1: name
 at 5 release P1 play => line 1: name
@@ -91,6 +98,9 @@ at 5 send p1 4>0 op-e5 :000102030405060708090a0b0c0d0e => line 1: frame too-long
 pulse 5 0 => line 1: width
 pulse 5 10001 => line 1: width
 pulse 5 18446744073709551617 => line 1: width
+pull 5 0 => line 1: width
+pull 5 10000001 => line 1: width
+pull 5 18446744073709551617 => line 1: width
  => line 1: end";
 
 // The same for scripts of several lines, parted by `--`.
@@ -126,6 +136,22 @@ pulse 100000 400
 end 20
 pulse 100399 1 => line 3: order
 --
+pull 100000 400
+pull 100400 1 => line 2: order
+--
+pull 100000 400
+pull 5 10000001 => line 2: width
+--
+pulse 100000 400
+end 20
+pull 100400 1 => line 3: order
+--
+pull 100000 400
+pulse 100399 1 => line 2: order
+--
+pull 100000 400
+pulse 125399 1 => line 2: close
+--
 pulse 100000 400
 pulse 125399 1 => line 2: close
 --
@@ -145,6 +171,9 @@ at 20 press p1 play => line 2: end
 --
 end 10
 pulse 100000 400 => line 2: end
+--
+end 10
+pull 100000 400 => line 2: end
 --
 at 10 press p1 play
 end 10 => line 2: end
@@ -462,15 +491,19 @@ fn reads_all_pulses(alloc: Global) -> bool {
     }
 }
 
-// A run has the pulses of its script.
-fn hands_on_two_pulses(alloc: Global) -> bool {
-    match read(alloc, "pulse 100000 400\npulse 200000 10000\nend 20\n") {
+// A pull that begins a microsecond after the end of a pulse, the widest there is, and the least one, which touches nothing.
+const PULLS: &str = "pulse 100000 400\npull 100401 10000000\npull 10100402 1\nend 20\n";
+
+// A run has the pulses and pulls of its script, in one order.
+fn hands_on_pulls(alloc: Global) -> bool {
+    match read(alloc, PULLS) {
         Ok(script) => {
-            let pulses = script.to_pulses();
-            match pulses.as_slice() {
-                [first, last] => {
+            let pulls = script.to_pulls();
+            match pulls.as_slice() {
+                [first, second, last] => {
                     (first.from, first.to) == (100_000, 100_400)
-                        && (last.from, last.to) == (200_000, 210_000)
+                        && (second.from, second.to) == (100_401, 10_100_401)
+                        && (last.from, last.to) == (10_100_402, 10_100_403)
                 }
                 _ => false,
             }
@@ -480,8 +513,43 @@ fn hands_on_two_pulses(alloc: Global) -> bool {
 }
 
 #[test]
-fn makes_the_pulses_of_a_run(rt: HostRuntime) {
-    assert!(rt; hands_on_two_pulses(rt.alloc()));
+fn makes_the_pulls_of_a_run(rt: HostRuntime) {
+    assert!(rt; hands_on_pulls(rt.alloc()));
+}
+
+// So many pulls of a microsecond with a microsecond between, and what follows them.
+fn dense_script(alloc: Global, count: u64, after: &str) -> Option<String> {
+    let mut text = String::new(alloc);
+    for number in 0..count {
+        let from = number.saturating_mul(2);
+        let line = format!(in alloc; "pull {from} 1\n").ok()?;
+        text.push_str(line.as_str()).ok()?;
+    }
+    text.push_str(after).ok()?;
+    Some(text)
+}
+
+// At most 16,384 pulses and pulls wait, and a pulse comes after at most 4,096 of them.
+#[test]
+fn reads_the_most_pulls(rt: HostRuntime) {
+    let alloc = rt.alloc();
+    let all = script_of(alloc, dense_script(alloc, 16_384, "end 20\n"));
+    let count = all.map(|script| script.pulses.len());
+    case_holds(&rt, count == Some(16_384), "16,384 pulls");
+    let more = dense_script(alloc, 16_384, "pull 32768 1\nend 20\n");
+    case_holds(
+        &rt,
+        refuses(alloc, more, "line 16385: too-many"),
+        "one pull more",
+    );
+    let pulse = dense_script(alloc, 4_096, "pulse 33191 1\nend 20\n");
+    case_holds(
+        &rt,
+        refuses(alloc, pulse, "line 4097: too-many"),
+        "a pulse after 4,096 pulls",
+    );
+    let last = script_of(alloc, dense_script(alloc, 4_095, "pulse 33189 1\nend 20\n"));
+    case_holds(&rt, last.is_some(), "a pulse after 4,095 pulls");
 }
 
 fn is_last_of_all(last: Option<&TimedEvent>) -> bool {

@@ -137,7 +137,7 @@ end 10
   line 5 of the input: at 5 press tv power
                           ^
   the time of line 5 of the input, 5, is before that of line 3, 9
-  times do not go back: each T is that of the line before it or later, and a pulse begins after the end of the last one
+  times do not go back: each T is that of the line before it or later, and a pulse or a pull begins after the end of the last one
 --
 run --explain
 device tv tv 4
@@ -149,7 +149,19 @@ end 9000
   line 4 of the input: pulse 1400 9
                              ^^^^
   the pulse of line 4 of the input begins at 1400, before that of line 3 ends, at 1500
-  times do not go back: each T is that of the line before it or later, and a pulse begins after the end of the last one
+  times do not go back: each T is that of the line before it or later, and a pulse or a pull begins after the end of the last one
+--
+run --explain
+device tv tv 4
+script
+pulse 1000 500
+pull 1500 9
+end 9000
+=> script line 2: order
+  line 4 of the input: pull 1500 9
+                            ^^^^
+  the pull of line 4 of the input begins at 1500, and what line 3 pulls low ends at 1500
+  times do not go back: each T is that of the line before it or later, and a pulse or a pull begins after the end of the last one
 --
 run --explain
 device tv tv 4
@@ -159,7 +171,7 @@ end 9
 => script line 1: word
   line 3 of the input: expect from 0 to 5 short
                        ^^^^^^
-  a line here reads `at T press NAME KEY`, `at T release NAME KEY`, `at T plug CHILD PARENT PORT`, `at T unplug CHILD`, `at T send NAME FRAME`, `at T hold NAME ADDRS`, `at T drop NAME`, `pulse T WIDTH`, `end T`
+  a line here reads `at T press NAME KEY`, `at T release NAME KEY`, `at T plug CHILD PARENT PORT`, `at T unplug CHILD`, `at T send NAME FRAME`, `at T hold NAME ADDRS`, `at T drop NAME`, `pulse T WIDTH`, `pull T WIDTH`, `end T`
   labels and expectations are read by `hdminet check`
   words stand one space apart, and nothing follows the last one
 --
@@ -312,7 +324,7 @@ end 9
 => script line 1: word
   line 3 of the input: expct none from 0 to 5 short
                        ^^^^^
-  a line here reads `at T press NAME KEY`, `at T release NAME KEY`, `at T plug CHILD PARENT PORT`, `at T unplug CHILD`, `at T send NAME FRAME`, `at T hold NAME ADDRS`, `at T drop NAME`, `pulse T WIDTH`, `end T`, `label NAME LINE`, `expect within D of NAME PATTERN`, `expect from T to U PATTERN`, `expect state T NAME WORD`, `expect refused NAME WORD`
+  a line here reads `at T press NAME KEY`, `at T release NAME KEY`, `at T plug CHILD PARENT PORT`, `at T unplug CHILD`, `at T send NAME FRAME`, `at T hold NAME ADDRS`, `at T drop NAME`, `pulse T WIDTH`, `pull T WIDTH`, `end T`, `label NAME LINE`, `expect within D of NAME PATTERN`, `expect from T to U PATTERN`, `expect state T NAME WORD`, `expect refused NAME WORD`
   `expct`: did you mean `expect`?
   words stand one space apart, and nothing follows the last one
 --
@@ -327,7 +339,7 @@ end 9
                                             ^^^^^^
   a line here reads `expect none within D of NAME PATTERN`, `expect none from T to U PATTERN`
   `wihtin`: did you mean `within`?
-  words stand one space apart; PATTERN has 1 to 160 bytes, at most four `*` and no space at an end; a label stands before an event, a pulse or an expectation
+  words stand one space apart; PATTERN has 1 to 160 bytes, at most four `*` and no space at an end; a label stands before an event, a pulse, a pull or an expectation
 --
 check --explain
 device tv tv 4
@@ -338,7 +350,7 @@ end 9
   line 3 of the input: expect from 0 to 5 4>0 * * * * *
                                           ^^^^^^^^^^^^^
   a line here reads `expect from T to U PATTERN`
-  words stand one space apart; PATTERN has 1 to 160 bytes, at most four `*` and no space at an end; a label stands before an event, a pulse or an expectation
+  words stand one space apart; PATTERN has 1 to 160 bytes, at most four `*` and no space at an end; a label stands before an event, a pulse, a pull or an expectation
 --
 check --explain
 device tv tv 4
@@ -350,7 +362,7 @@ end 9
   line 4 of the input: expect refused film not-for-kind here
                                                         ^^^^
   a line here reads `expect refused NAME WORD`
-  words stand one space apart; PATTERN has 1 to 160 bytes, at most four `*` and no space at an end; a label stands before an event, a pulse or an expectation
+  words stand one space apart; PATTERN has 1 to 160 bytes, at most four `*` and no space at an end; a label stands before an event, a pulse, a pull or an expectation
 --
 check --explain
 device tv tv 4
@@ -361,7 +373,7 @@ end 9
   line 3 of the input: label film
   a line here reads `label NAME LINE`
   LINE is missing at the end of the line
-  words stand one space apart; PATTERN has 1 to 160 bytes, at most four `*` and no space at an end; a label stands before an event, a pulse or an expectation
+  words stand one space apart; PATTERN has 1 to 160 bytes, at most four `*` and no space at an end; a label stands before an event, a pulse, a pull or an expectation
 --
 check --explain
 device tv tv 4
@@ -440,7 +452,7 @@ end 10
   line 4 of the input: label b at 5 press tv power
                                   ^
   the time of line 4 of the input, 5, is before that of line 3, 9
-  times do not go back: each T is that of the line before it or later, and a pulse begins after the end of the last one
+  times do not go back: each T is that of the line before it or later, and a pulse or a pull begins after the end of the last one
 --
 check --explain
 device tv tv 4

@@ -173,6 +173,18 @@ end 9000
 --
 run --explain
 device tv tv 4
+script
+pull at 1000 100
+end 9000
+=> script line 1: word
+  line 3 of the input: pull at 1000 100
+                            ^^
+  the time stands here by itself, without `at`
+  a line here reads `pull T WIDTH`
+  words stand one space apart, and nothing follows the last one
+--
+run --explain
+device tv tv 4
 device p1 player 0
 device dut outside 0
 script
@@ -197,7 +209,7 @@ end 9000
                                     ^^
   T is missing before this word
   a line here reads `expect state T NAME WORD`
-  words stand one space apart; PATTERN has 1 to 160 bytes, at most four `*` and no space at an end; a label stands before an event, a pulse or an expectation
+  words stand one space apart; PATTERN has 1 to 160 bytes, at most four `*` and no space at an end; a label stands before an event, a pulse, a pull or an expectation
 --
 check --explain
 device tv tv 4
@@ -224,7 +236,7 @@ end 9000
                                             ^^
   T is missing before this word
   a line here reads `expect state T NAME WORD`
-  words stand one space apart; PATTERN has 1 to 160 bytes, at most four `*` and no space at an end; a label stands before an event, a pulse or an expectation
+  words stand one space apart; PATTERN has 1 to 160 bytes, at most four `*` and no space at an end; a label stands before an event, a pulse, a pull or an expectation
 --
 check --explain
 device tv tv 4
@@ -237,7 +249,7 @@ end 9000
   line 5 of the input: expect state 5 tv not
   a line here reads `expect state T NAME WORD`
   WORD is missing at the end of the line
-  words stand one space apart; PATTERN has 1 to 160 bytes, at most four `*` and no space at an end; a label stands before an event, a pulse or an expectation
+  words stand one space apart; PATTERN has 1 to 160 bytes, at most four `*` and no space at an end; a label stands before an event, a pulse, a pull or an expectation
 --
 run --explain
 device tv tv 4
@@ -277,7 +289,7 @@ end 9000
 => script line 1: order with line 2
   line 5 of the input: at 5..9001 press tv mute
                           ^^^^^^^
-  each instant of a range keeps the order of the script: events and pulses in order of time, `end` after each event, no state after `end`
+  each instant of a range keeps the order of the script: events in order of time, pulses and pulls too, `end` after each event, no state after `end`
 ";
 
 /// Names that no device has, or another one.

@@ -8,6 +8,7 @@ run => device tv tv 16;script;end 5; => PORTS is a decimal number from 0 to 15, 
 run => device tv tv 4;device abcdefghijklmno player 0;script;end 5; => NAME is new, of 1 to 14 of a to z
 run => device tv tv 4;script;at 1000000000001 press tv mute;end 5; => T is decimal microseconds, 0 to 1000000000000;
 run => device tv tv 4;script;pulse 5 10001;end 90000; => WIDTH is a number of microseconds, 1 to 10000
+run => device tv tv 4;script;pull 5 10000001;end 90000; => WIDTH is a number of microseconds, 1 to 10000, of a pull 1 to 10000000
 run => device tv tv 4;script;pulse 100000 10;pulse 125009 10;end 900000; => a pulse begins at least 25000 microseconds after
 run => device tv tv 1;script;pulse 1000000 600;end 1200000; =>   rounds 3, complete rounds 2, refused events 0
 check => device tv tv 1;script;at 5..1000000000001 press tv mute;end 9; => T and U of at most 1000000000000 microseconds, S at least 1;
@@ -151,7 +152,7 @@ fn explanations_name_the_limits_of_long_inputs(rt: HostRuntime) {
         &rt,
         "run",
         pulses.as_bytes(),
-        "  a script has at most 4096 pulses\n",
+        "  a script has at most 16384 pulses and pulls, and a pulse stands after fewer than 4096\n",
     );
     let long = "#".repeat(rt.alloc(), 1_048_577).expect(&rt, "an input");
     let limits = "  standard input has at most 1048576 bytes, a capture with `--from` 67108864\n";

@@ -572,7 +572,7 @@ capture
   line 2: expect refused a word x
                  ^^^^^^^
   a line here reads `expect within D of NAME PATTERN`, `expect from T to U PATTERN`, `expect none within D of NAME PATTERN`, `expect none from T to U PATTERN`, `expect once within D of NAME PATTERN`, `expect once from T to U PATTERN`, `expect no-remark`, `expect remark PATTERN`
-  words stand one space apart; PATTERN has 1 to 160 bytes, at most four `*` and no space at an end; a label stands before an event, a pulse or an expectation
+  words stand one space apart; PATTERN has 1 to 160 bytes, at most four `*` and no space at an end; a label stands before an event, a pulse, a pull or an expectation
 --
 check --capture --explain
 expect state 5 tv tv
@@ -582,7 +582,7 @@ capture
   line 1: expect state 5 tv tv
                  ^^^^^
   a line here reads `expect within D of NAME PATTERN`, `expect from T to U PATTERN`, `expect none within D of NAME PATTERN`, `expect none from T to U PATTERN`, `expect once within D of NAME PATTERN`, `expect once from T to U PATTERN`, `expect no-remark`, `expect remark PATTERN`
-  words stand one space apart; PATTERN has 1 to 160 bytes, at most four `*` and no space at an end; a label stands before an event, a pulse or an expectation
+  words stand one space apart; PATTERN has 1 to 160 bytes, at most four `*` and no space at an end; a label stands before an event, a pulse, a pull or an expectation
 --
 check --capture --explain
 expct within
@@ -593,7 +593,7 @@ capture
           ^^^^^
   a line here reads `expect within D of NAME PATTERN`, `expect from T to U PATTERN`, `expect none within D of NAME PATTERN`, `expect none from T to U PATTERN`, `expect once within D of NAME PATTERN`, `expect once from T to U PATTERN`, `expect no-remark`, `expect remark PATTERN`, `label NAME at T`, `label NAME LINE`
   `expct`: did you mean `expect`?
-  words stand one space apart; PATTERN has 1 to 160 bytes, at most four `*` and no space at an end; a label stands before an event, a pulse or an expectation
+  words stand one space apart; PATTERN has 1 to 160 bytes, at most four `*` and no space at an end; a label stands before an event, a pulse, a pull or an expectation
 --
 check --capture --explain
 label a at x
@@ -612,7 +612,7 @@ capture
   line 1: label a at 5 x
                        ^
   a line here reads `label NAME at T`
-  words stand one space apart; PATTERN has 1 to 160 bytes, at most four `*` and no space at an end; a label stands before an event, a pulse or an expectation
+  words stand one space apart; PATTERN has 1 to 160 bytes, at most four `*` and no space at an end; a label stands before an event, a pulse, a pull or an expectation
 --
 check --capture --explain
 expect remark fre
@@ -632,7 +632,7 @@ capture
   line 1: expect no-remark 5
                            ^
   a line here reads `expect no-remark`
-  words stand one space apart; PATTERN has 1 to 160 bytes, at most four `*` and no space at an end; a label stands before an event, a pulse or an expectation
+  words stand one space apart; PATTERN has 1 to 160 bytes, at most four `*` and no space at an end; a label stands before an event, a pulse, a pull or an expectation
 ";
 
 /// Bytes that are no EDID.

@@ -3,7 +3,7 @@ use Rattle.hdmi_core.specs.Lines.{lines_of}
 use Rattle.cec_asm.specs.Script.{IsLineRead, notes_of}
 use Rattle.cec_asm.proofs.Adding.{few_pulses}
 use Rattle.cec_asm.proofs.Reading.{line_read, last_line}
-use Rattle.cec_asm.proofs.Sound.{faultless, line-keeps, scripts_are_sound}
+use Rattle.cec_asm.proofs.Sound.{tested, line-keeps, scripts_are_sound}
 use Rattle.cec_asm.proofs.script.parse_script.Goals as goal
 
 pub loop-line-preserved : goal.loop-line-preserved
@@ -25,7 +25,9 @@ loop-line-preserved c =
     }
 
 pub invariant_of-result : goal.invariant_of-result
-invariant_of-result c = record { sparse = faultless (notes_of c.loop-line.draft).pulses c.loop-line.invariant.few c.loop-line.invariant.sound.apart }
+invariant_of-result c =
+    let sound = c.loop-line.invariant.sound in
+    record { timely = tested (notes_of c.loop-line.draft).pulses c.loop-line.invariant.few sound.order sound.wide sound.early }
 
 pub returns-clause-script : goal.returns-clause-script
 returns-clause-script c =

@@ -3,7 +3,7 @@ use Rattle.hdmi_core.specs.Lines.{lines_of}
 use Rattle.cec_asm.specs.Script.{IsLineRead, notes_of}
 use Rattle.cec_asm.proofs.Adding.{few_pulses}
 use Rattle.cec_asm.proofs.Reading.{line_read}
-use Rattle.cec_asm.proofs.Sound.{faultless, line-keeps, scripts_are_sound}
+use Rattle.cec_asm.proofs.Sound.{tested, line-keeps, scripts_are_sound}
 use Rattle.cec_expect.specs.Line.{plain_part, plain_script}
 use Rattle.cec_check.proofs.PlainRead.{begun, course_read}
 use Rattle.cec_check.proofs.plain.parse_plain.Goals as goal
@@ -36,7 +36,9 @@ lines-preserved c =
     }
 
 pub invariant_of-result : goal.invariant_of-result
-invariant_of-result c = record { sparse = faultless (notes_of c.lines.draft).pulses c.lines.invariant.few c.lines.invariant.sound.apart }
+invariant_of-result c =
+    let sound = c.lines.invariant.sound in
+    record { timely = tested (notes_of c.lines.draft).pulses c.lines.invariant.few sound.order sound.wide sound.early }
 
 pub returns-clause-script : goal.returns-clause-script
 returns-clause-script c =
