@@ -1,5 +1,5 @@
 -- The line of a run is read back in each format.
-use Rattle.std.proofs.Common.{◌≡◌, ℕ, ◌+◌, ◌≤◌, max, false, List, [], ◌∷◌, ◌++◌, map, refl, sym, ap, ◌∙◌, subst, arith}
+use Rattle.std.proofs.Common.{◌≡◌, ℕ, ◌+◌, ◌≤◌, max, false, List, [], ◌∷◌, ◌++◌, length, map, refl, sym, ap, ◌∙◌, subst, arith}
 use Rattle.std.proofs.Math.Path.{fun_ext}
 use Rattle.std.proofs.lemmas.Grind.{flat_map-append}
 use Rattle.std.specs.List.{flat_map}
@@ -31,7 +31,7 @@ use Rattle.cec_run.specs.OneRun.{rounds_of_line, rounds_reported}
 use Rattle.cec_run.proofs.WholeLine as runs
 use Rattle.cec_run.proofs.OneRun.{runs_close_soon, texts_have_one_run, traces_have_parts}
 use Rattle.capture_laws.specs.Formats.{IsReadAs, LinesAreReadBack, LinesOfRunsHaveTheirReadings, MonitorsReportTracesInAll}
-use Rattle.capture_laws.proofs.ReadBack.{EndsBy, edge_files_are_read_back, ends_by, lines_of_parts, lines_of_rounds, same_line}
+use Rattle.capture_laws.proofs.ReadBack.{EndsBy, edge_files_are_read_back, ends_by, lines_of_parts, lines_of_rounds, over_by_script, same_line}
 
 -- ---- a line that rounds make
 
@@ -73,10 +73,10 @@ waves_flat [] = refl
 waves_flat (o ∷ os) = ap (λ l. o.wave ++ l) (waves_flat os)
 
 pub lines_of_runs_have_their_readings : LinesOfRunsHaveTheirReadings
-lines_of_runs_have_their_readings format tree pulses events end text totals sparse framed reported limit =
-    let k = runs.lines_are_of_the_rounds format tree pulses events end text totals sparse framed reported in
+lines_of_runs_have_their_readings format tree pulses events end text totals over_by framed reported limit =
+    let k = runs.lines_are_of_the_rounds format tree pulses events end text totals over_by.order framed reported in
     let last = max end reported.run.last.net.close in
-    let soon : reported.run.last.net.close ≤ end + 458461 = runs_close_soon (Line format) tree pulses events end reported.run.turns reported.run.body reported.run.last sparse reported.run.leads in
+    let soon : reported.run.last.net.close ≤ latest_instant = runs_close_soon (Line format) tree pulses events latest_instant end reported.run.turns reported.run.body reported.run.last (omega (arith, limit)) over_by reported.run.leads in
     let os = rounds_reported (Line format) end (start (first_net tree pulses) events) text totals reported in
     let waves = map (λ (o : Outcome). o.wave) os in
     let low : last ≤ latest_instant = omega (arith, soon, limit) in
@@ -94,7 +94,7 @@ lines_of_runs_have_their_readings format tree pulses events end text totals spar
 pub monitors_report_traces_in_all : MonitorsReportTracesInAll
 monitors_report_traces_in_all format topology script x y s t p q =
     let sound = scripts_are_sound q.plan.tree script q.course q.accepted.course_is in
-    let file = lines_of_runs_have_their_readings format q.plan.tree q.course.pulses q.course.events q.course.end y t sound.sparse sound.framed q.line sound.limit in
+    let file = lines_of_runs_have_their_readings format q.plan.tree q.course.pulses q.course.events q.course.end y t (over_by_script (length q.plan.tree) q.course sound) sound.framed q.line sound.limit in
     let one = texts_have_one_run format topology script x y s t p q in
     let made = traces_have_parts p.edid p.course.end (start (first_net p.plan.tree p.course.pulses) p.course.events) x s p.trace in (
       file.0,

@@ -1,5 +1,5 @@
 -- A run's edge file is read back.
-use Rattle.std.proofs.Common.{◌≡◌, ℕ, ◌+◌, ◌-◌, ◌<◌, ◌≤◌, ◌==◌, ◌&&◌, ◌||◌, not, max, Bool, true, false, cond, nat_lt, nat_le, List, [], ◌∷◌, ◌++◌, map, Result, Ok, codes, refl, sym, ap, ◌∙◌, arith, append_assoc}
+use Rattle.std.proofs.Common.{◌≡◌, ℕ, ◌+◌, ◌-◌, ◌<◌, ◌≤◌, ◌==◌, ◌&&◌, ◌||◌, not, max, Bool, true, false, cond, nat_lt, nat_le, List, [], ◌∷◌, ◌++◌, length, map, Result, Ok, codes, refl, sym, ap, ◌∙◌, arith, append_assoc}
 use Rattle.std.proofs.Math.Path.{fun_ext}
 use Rattle.std.proofs.lemmas.Bool.{false≢true}
 use Rattle.std.proofs.lemmas.Bool.Decides.{nat_tests}
@@ -13,13 +13,14 @@ use Rattle.cec_trace.specs.EdgeText.{edge_lines}
 use Rattle.cec_trace.specs.TraceText.{end_line}
 use Rattle.cec_run.proofs.WholeLine as runs
 use Rattle.cec_run.proofs.OneRun.{runs_close_soon, texts_have_one_run, traces_have_parts}
-use Rattle.cec_run.specs.OneRun.{rounds_of_line, Part, OfEvent, OfRound, part_rounds}
+use Rattle.cec_run.specs.OneRun.{AreOverBy, rounds_of_line, Part, OfEvent, OfRound, part_rounds}
 use Rattle.cec_run.specs.Run.{start}
 use Rattle.cec_net.specs.State.{first_net}
 use Rattle.std.specs.List.{flat_map}
 use Rattle.cec_signal.specs.Edges.{edges_of}
 use Rattle.cec_line.specs.declared.format.Format.TheVariants.{Edges}
 use Rattle.cec_run.specs.declared.run.Reporting.TheVariants.{Line}
+use Rattle.cec_asm.specs.Script.{Course, IsScript}
 use Rattle.cec_asm.proofs.Sound.{scripts_are_sound}
 use Rattle.cec_wire.specs.declared.Outcome.{Outcome}
 use Rattle.cec_wire.specs.Alone.{outcome_listed}
@@ -163,11 +164,18 @@ edge_files_are_read_back ss end wave over low = record {
   line = λ u. same_line ss 0 u wave;
 }
 
+-- the pulses and pulls of a script are over by the latest instant
+pub over_by_script : (count : ℕ) (course : Course) → IsScript count course → AreOverBy latest_instant course.end course.pulses
+over_by_script count course script = record {
+  order = script.timely.order;
+  ends = λ k p l early. (let from = script.early k p l in let width = script.wide k p l in omega (arith, from, width));
+}
+
 pub files_of_runs_have_their_readings : FilesOfRunsHaveTheirReadings
-files_of_runs_have_their_readings tree pulses events end text totals sparse framed reported limit =
-    let k = runs.edges_are_the_line tree pulses events end text totals sparse framed reported in
+files_of_runs_have_their_readings tree pulses events end text totals over framed reported limit =
+    let k = runs.edges_are_the_line tree pulses events end text totals over.order framed reported in
     let last = max end reported.run.last.net.close in
-    let soon : reported.run.last.net.close ≤ end + 458461 = runs_close_soon (Line Edges) tree pulses events end reported.run.turns reported.run.body reported.run.last sparse reported.run.leads in
+    let soon : reported.run.last.net.close ≤ latest_instant = runs_close_soon (Line Edges) tree pulses events latest_instant end reported.run.turns reported.run.body reported.run.last (omega (arith, limit)) over reported.run.leads in
     let back = edge_files_are_read_back _ last k.read.wave k.read.over (omega (arith, soon, limit)) in (
       record { edges = edges_of _; end = last },
       ap file_of k.whole ∙ back.file,
@@ -188,7 +196,7 @@ lines_of_parts (OfRound devices o ∷ parts) = ap (λ text. reading_line o.readi
 pub monitors_report_traces : MonitorsReportTraces
 monitors_report_traces topology script x y s t p q =
     let sound = scripts_are_sound q.plan.tree script q.course q.accepted.course_is in
-    let file = files_of_runs_have_their_readings q.plan.tree q.course.pulses q.course.events q.course.end y t sound.sparse sound.framed q.line sound.limit in
+    let file = files_of_runs_have_their_readings q.plan.tree q.course.pulses q.course.events q.course.end y t (over_by_script (length q.plan.tree) q.course sound) sound.framed q.line sound.limit in
     let one = texts_have_one_run Edges topology script x y s t p q in
     let made = traces_have_parts p.edid p.course.end (start (first_net p.plan.tree p.course.pulses) p.course.events) x s p.trace in (
       file.0,

@@ -3,7 +3,6 @@ use Rattle.std.specs.Prelude.{◌≡◌, ℕ, ◌≤◌, false, List, [], ◌++�
 use Rattle.std.specs.List.{flat_map}
 use Rattle.cec_wave.specs.declared.Stretch.{Stretch}
 use Rattle.cec_wave.specs.Line.{line_of, IsWave}
-use Rattle.cec_wave.specs.Pulses.{AreSparse}
 use Rattle.cec_wave.specs.Bounds.{latest_event, latest_instant}
 use Rattle.cec_wire.specs.Alone.{outcome_listed}
 use Rattle.hdmi_blocks.specs.declared.edid.Edid.{Edid}
@@ -19,7 +18,7 @@ use Rattle.cec_trace.specs.EdgeText.{edge_lines}
 use Rattle.cec_trace.specs.TraceText.{end_line}
 use Rattle.cec_run.specs.Run.{start, start_reported, end_reported, IsRunText}
 use Rattle.cec_run.specs.Emulate.{IsTraceOf, IsEdgeTraceOf}
-use Rattle.cec_run.specs.OneRun.{rounds_reported, Part, OfEvent, OfRound, part_text}
+use Rattle.cec_run.specs.OneRun.{AreOverBy, rounds_reported, Part, OfEvent, OfRound, part_text}
 use Rattle.cec_signal.specs.Edges.{line_of_edges}
 use Rattle.cec_mon.specs.EdgeFile.{EdgeFile, file_of}
 use Rattle.cec_text.specs.ReadingText.{reading_text}
@@ -39,7 +38,7 @@ EdgeFilesAreReadBack = (ss : List Stretch) (end : ℕ) → IsWave ss → ((u : �
 -- each once.
 abbrev pub FilesOfRunsHaveTheirReadings : Type 0
 FilesOfRunsHaveTheirReadings = (tree : List Node) (pulses : List Stretch) (events : List TimedEvent) (end : ℕ) (text : List ℕ) (totals : Totals)
-    → AreSparse pulses → AreFramedEvents events → (reported : IsRunText (Line Edges) end (start (first_net tree pulses) events) text totals) → end ≤ latest_event
+    → AreOverBy latest_instant end pulses → AreFramedEvents events → (reported : IsRunText (Line Edges) end (start (first_net tree pulses) events) text totals) → end ≤ latest_event
     → (f : EdgeFile) × (file_of text ≡ Ok f) × (file_readings f ≡ map outcome_listed (rounds_reported (Line Edges) end (start (first_net tree pulses) events) text totals reported))
 
 -- of a part of a trace what a monitor writes: of a round's line the reading, without `by` and `out`, and nothing of an event

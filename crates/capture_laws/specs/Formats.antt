@@ -3,7 +3,6 @@ use Rattle.std.specs.Prelude.{◌≡◌, ℕ, ◌≤◌, false, List, [], map, O
 use Rattle.std.specs.List.{flat_map}
 use Rattle.cec_wave.specs.declared.Stretch.{Stretch}
 use Rattle.cec_wave.specs.Line.{line_of, IsWave}
-use Rattle.cec_wave.specs.Pulses.{AreSparse}
 use Rattle.cec_wave.specs.Bounds.{latest_event, latest_instant}
 use Rattle.cec_wire.specs.Alone.{outcome_listed}
 use Rattle.hdmi_topo.specs.Node.{Node}
@@ -23,7 +22,7 @@ use Rattle.cec_run.specs.declared.run.Reporting.TheVariants.{Line}
 use Rattle.cec_run.specs.declared.run.Totals.{Totals}
 use Rattle.cec_run.specs.Run.{start, IsRunText}
 use Rattle.cec_run.specs.Emulate.{IsTraceOf, IsLineOf}
-use Rattle.cec_run.specs.OneRun.{rounds_reported}
+use Rattle.cec_run.specs.OneRun.{AreOverBy, rounds_reported}
 use Rattle.capture_laws.specs.Capture.{AreBeside}
 
 -- a text in a format is read as this capture
@@ -49,7 +48,7 @@ pub record IsReadText (format : Format) (text : List ℕ) (c : Captured) : Type 
 -- rounds, in order, each once.
 abbrev pub LinesOfRunsHaveTheirReadings : Type 0
 LinesOfRunsHaveTheirReadings = (format : Format) (tree : List Node) (pulses : List Stretch) (events : List TimedEvent) (end : ℕ) (text : List ℕ) (totals : Totals)
-    → AreSparse pulses → AreFramedEvents events → (reported : IsRunText (Line format) end (start (first_net tree pulses) events) text totals) → end ≤ latest_event
+    → AreOverBy latest_instant end pulses → AreFramedEvents events → (reported : IsRunText (Line format) end (start (first_net tree pulses) events) text totals) → end ≤ latest_event
     → (c : Captured) × IsReadText format text c
     × (file_readings (as_file c) ≡ map outcome_listed (rounds_reported (Line format) end (start (first_net tree pulses) events) text totals reported))
 

@@ -1,7 +1,7 @@
 -- Each run has a text of its drives, as it has one of its line.
 use Rattle.std.proofs.Common.{ℕ, zero, suc, max, List, [], ◌++◌, refl}
 use Rattle.cec_wave.specs.declared.Stretch.{Stretch}
-use Rattle.cec_wave.specs.Pulses.{AreSparse}
+use Rattle.cec_wave.specs.Line.{IsWave}
 use Rattle.hdmi_topo.specs.Node.{Node}
 use Rattle.cec_net.specs.State.{first_net}
 use Rattle.cec_net.specs.Step.{seats_of}
@@ -45,10 +45,10 @@ driven_from end c line totals w =
       },
     )
 
-pub runs_have_drives : (tree : List Node) (pulses : List Stretch) (events : List TimedEvent) (end : ℕ) → AreSparse pulses
+pub runs_have_drives : (tree : List Node) (pulses : List Stretch) (events : List TimedEvent) (end : ℕ) → IsWave pulses
     → (text : List ℕ) × (totals : Totals) × IsDriven end (start (first_net tree pulses) events) text totals
-runs_have_drives tree pulses events end sparse =
-    let line = runs_have_texts (Line Vcd) tree pulses events end sparse in
+runs_have_drives tree pulses events end order =
+    let line = runs_have_texts (Line Vcd) tree pulses events end order in
     let c = start (first_net tree pulses) events in
     let rest = driven_from end c line.2.rest line.1 line.2.run in
     (head (names_of c.net.devices) ++ rest.0, line.1, record { rest = rest.0; run = rest.1; whole = refl })

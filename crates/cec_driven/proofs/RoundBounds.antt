@@ -1,33 +1,33 @@
--- A round is early and short, and few pulses begin in it.
-use Rattle.std.proofs.Common.{◌≡◌, ℕ, ◌≤◌, List, length, arith, sym, ap, subst}
+-- A round is early and short, and which pulses are left after it.
+use Rattle.std.proofs.Common.{◌≡◌, ℕ, ◌+◌, ◌≤◌, Bool, max, nat_lt, nat_le, if◌then◌else◌, List, [], ◌∷◌, filter, refl, arith, ap, ap₂}
+use Rattle.std.proofs.lemmas.Bool.Decides.{nat_tests}
 use Rattle.cec_wave.specs.declared.Stretch.{Stretch}
-use Rattle.cec_wave.specs.Line.{IsWave}
-use Rattle.cec_wave.specs.Pulses.{AreSparse}
-use Rattle.cec_wave.specs.Bounds.{latest_instant, latest_heard, most_stretches}
+use Rattle.cec_wave.specs.Bounds.{latest_instant, latest_heard}
+use Rattle.cec_wave.specs.Line.{line_of}
 use Rattle.cec_wire.specs.declared.Outcome.{Outcome}
-use Rattle.cec_wire.specs.Bounds.{begun_within}
 use Rattle.cec_wire.proofs.Bounds.{rounds_are_short}
 use Rattle.cec_net.specs.State.{NetState}
-use Rattle.cec_net.specs.Step.{seats_of, IsNextRound}
+use Rattle.cec_net.specs.Step.{IsNextRound}
 use Rattle.cec_net.specs.Progress.{IsProgress}
-use Rattle.cec_net.proofs.Rounds.{short_round}
 
-pub record Bounds (begin : ℕ) (pulses : List Stretch) (o : Outcome) : Type 0 where
-  pub few : length (begun_within begin o.rest pulses) ≤ most_stretches
+pub record Bounds (begin : ℕ) (o : Outcome) : Type 0 where
   pub at : o.reading.at ≤ latest_heard
   pub later : begin ≤ o.rest
   pub rest : o.rest ≤ latest_heard
 
-pub bounds : (net new : NetState) (begin : ℕ) (pulses : List Stretch) (o : Outcome) → pulses ≡ net.pulses → AreSparse pulses → IsWave o.wave → begin ≤ latest_instant
-    → IsNextRound net begin o new → IsProgress net begin new → Bounds begin pulses o
-bounds net new begin pulses o same sparse wave soon next progress =
-    let own : AreSparse net.pulses = subst AreSparse same sparse in
-    let short = short_round (seats_of net begin) begin net.pulses o own next.round in
-    let few = rounds_are_short.few (seats_of net begin) begin net.pulses o own wave next.round in
+pub bounds : (net new : NetState) (begin : ℕ) (o : Outcome) → begin ≤ latest_instant → IsNextRound net begin o new → IsProgress net begin new → Bounds begin o
+bounds net new begin o soon next progress =
     let rest : new.rest ≡ o.rest = ap (λ (n : NetState). n.rest) next.after_is in
+    let close : new.close ≡ max o.reading.at o.rest = ap (λ (n : NetState). n.close) next.after_is in
     record {
-      few = subst (λ ps. length (begun_within begin o.rest ps) ≤ most_stretches) (sym same) (omega (arith, few));
-      at = omega (arith, short.at);
+      at = omega (arith, rounds_are_short.ends (line_of o.wave) begin, next.round.ends, soon);
       later = omega (arith, progress.low, rest);
-      rest = omega (arith, short.rest);
+      rest = omega (arith, progress.closed, close, soon);
     }
+
+-- those that begin after the rest, a microsecond later or more
+pub since_after : (rest : ℕ) (pulses : List Stretch) → filter (λ (p : Stretch). nat_le (rest + 1) p.from) pulses ≡ filter (λ (p : Stretch). nat_lt rest p.from) pulses
+since_after rest [] = refl
+since_after rest (p ∷ pulses) =
+    let same : nat_le (rest + 1) p.from ≡ nat_lt rest p.from = grind (arith, nat_tests) in
+    ap₂ (λ (b : Bool) (ps : List Stretch). if b then p ∷ ps else ps) same (since_after rest pulses)

@@ -1,5 +1,5 @@
 -- A run has one text of its drives: each turn leads to one place, and reports one text.
-use Rattle.std.proofs.Common.{◌≡◌, ℕ, zero, suc, max, List, [], ◌∷◌, ◌++◌, ap, ap₂, ◌∙◌, sym, refl, subst, append_assoc, append-nil}
+use Rattle.std.proofs.Common.{◌≡◌, ℕ, zero, suc, max, List, [], ◌∷◌, ◌++◌, ap, ap₂, ◌∙◌, sym, subst, append_assoc, append-nil}
 use Rattle.cec_wire.specs.declared.Outcome.{Outcome}
 use Rattle.cec_wire.proofs.OneOutcome.{one_outcome}
 use Rattle.cec_net.specs.Step.{after_round, seats_of}

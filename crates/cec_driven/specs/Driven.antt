@@ -2,6 +2,7 @@
 -- (IEEE 1364-2005, 18).
 use Rattle.std.specs.Prelude.{◌≡◌, ℕ, zero, suc, ◌+◌, ◌-◌, ◌≤◌, max, List, [], ◌∷◌, ◌++◌, length, map}
 use Rattle.cec_wave.specs.declared.Stretch.{Stretch}
+use Rattle.cec_wave.specs.Line.{IsWave}
 use Rattle.cec_wire.specs.declared.Seat.{Seat}
 use Rattle.cec_wire.specs.declared.Outcome.{Outcome}
 use Rattle.cec_wires.specs.Wires.{head, wires_text}
@@ -70,8 +71,9 @@ abbrev pub drives_of_turn : Happening → List ℕ
 drives_of_turn (OfEvent at e before) = []
 drives_of_turn (OfRound begin before o) = round_drives (seats_of before begin) begin before.pulses o
 
--- what is kept beside the network: its pulses, and since when its line is high
+-- what is kept beside the network: its pulses, which are in order, and since when its line is high
 pub record IsBeside (kept : Kept) (net : NetState) : Type 0 where
-  pub pulses : kept.pulses ≡ net.pulses
+  pub pulses : kept.pulses.now ≡ net.pulses
+  pub order : IsWave kept.pulses.now
   pub rest : kept.rest ≡ net.rest
   pub few : length net.devices ≤ 15

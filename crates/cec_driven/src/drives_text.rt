@@ -11,12 +11,12 @@ use hdmi_core::{Counted, Sink};
 
 /// The drives, as far as they are written, and what is kept beside the network.
 #[derive(Drop)]
-pub struct DrivesText<'a, S: Sink> {
+pub struct DrivesText<'a, 'b, S: Sink> {
     pub text: Counted<'a, S>,
-    pub kept: Box<Kept>,
+    pub kept: Kept<'b>,
 }
 
-impl<'a, S: Sink> Reporter for DrivesText<'a, S> {
+impl<'a, 'b, S: Sink> Reporter for DrivesText<'a, 'b, S> {
     ghost use Rattle.std.specs.Prelude.{not};
     ghost use Rattle.hdmi_core.specs.Adds.{Adds};
     ghost use Rattle.cec_driven.specs.Driven.{IsBeside, drives_of_turn};
@@ -25,7 +25,7 @@ impl<'a, S: Sink> Reporter for DrivesText<'a, S> {
 
     ghost goes_on = { λ r. not r.text.failed };
 
-    ghost keeps = { λ r net. IsBeside r.kept.value net };
+    ghost keeps = { λ r net. IsBeside r.kept net };
 
     fn event<W>(
         &mut self,

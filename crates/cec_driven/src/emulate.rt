@@ -4,7 +4,7 @@ ghost use Rattle.std.specs.Io.KnownBytes.{Appends};
 ghost use Rattle.cec_run.specs.Emulate.{IsReported, is_write};
 ghost use Rattle.cec_driven.specs.Emulate.{IsDrivesCut, IsDrivesOf};
 
-use crate::round::first_kept;
+use crate::round::Kept;
 use crate::run::run;
 use cec_asm::{parse_script, parse_topology};
 use cec_net::Net;
@@ -40,11 +40,12 @@ pub fn emulate_drives<S: Sink>(
     let script = parse_script(alloc, &topology, script)?;
     let _edid = root_on_heap(alloc, &topology.edid)?;
     let _count = topology.tree.count();
-    let Ok(kept) = first_kept(alloc, &script.pulses) else {
-        return Err(EmulateError::Memory);
-    };
     let Ok(mut net) = Net::on_heap(alloc, topology.tree, &script.pulses) else {
         return Err(EmulateError::Memory);
+    };
+    let kept = Kept {
+        pulses: &script.pulses,
+        rest: 0,
     };
     match run(out, &mut net, kept, &script.events, script.end) {
         Ok(totals) => Ok(totals),

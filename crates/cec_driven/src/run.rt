@@ -2,6 +2,7 @@
 ghost use Rattle.std.specs.Prelude.{◌≡◌, ℕ, ◌≤◌, List, length, true, IfOk, IfErr, OnOk, OnErr};
 ghost use Rattle.std.specs.Io.KnownBytes.{Appends};
 ghost use Rattle.cec_wave.specs.Bounds.{latest_event};
+ghost use Rattle.cec_wave.specs.Line.{IsWave};
 ghost use Rattle.cec_asm.specs.Script.{IsSchedule};
 ghost use Rattle.hdmi_core.specs.Cut.{CutOff};
 ghost use Rattle.cec_run.specs.declared.run.Totals.{Totals as TotalsRecord};
@@ -23,13 +24,13 @@ use hdmi_core::{Counted, Sink, WriteFault};
 fn write_drives<S: Sink, W: Wire>(
     out: &mut S,
     net: &mut Net<W>,
-    kept: Box<Kept>,
+    kept: Kept<'_>,
     events: &[TimedEvent],
     end: u64,
 ) -> Result<Totals, WriteFault>
     requires early { end ≤ latest_event }
     requires fresh { (net.old.close ≤ latest_event) × (net.old.rest ≤ latest_event) }
-    requires kept { IsBeside kept.value net.old }
+    requires kept { IsBeside kept net.old }
     requires schedule { IsSchedule (length net.old.tree) end 0 events.now }
     ensures { IsRunWritten (IsDriven end (start net.old events.now)) (S.contents out.old) (S.contents out.new) (S.is_stuck out.old) (S.is_stuck out.new) result }
 {
@@ -49,7 +50,7 @@ fn write_drives<S: Sink, W: Wire>(
 }
 
 /// Runs a network from its start to `end`, at most 1,000,000,000,000 microseconds, and writes the dump of its line and of who
-/// drives it. What is kept beside the network is what it begins with: its pulses, and that the line is high. The events stand in
+/// drives it. What is kept beside the network is what it begins with: its pulses, which are in order, and that the line is high. The events stand in
 /// the order of their times, all before `end`, and name devices of the tree.
 ///
 /// # Errors
@@ -59,15 +60,16 @@ fn write_drives<S: Sink, W: Wire>(
 pub fn run<S: Sink, W: Wire>(
     out: &mut S,
     net: &mut Net<W>,
-    kept: Box<Kept>,
+    kept: Kept<'_>,
     events: &[TimedEvent],
     end: u64,
 ) -> Result<Totals, WriteFault>
     requires early { end ≤ latest_event }
     requires fresh { (net.old.close ≡ 0) × (net.old.rest ≡ 0) }
     requires few { length net.old.devices ≤ 15 }
-    requires pulses { kept.value.pulses ≡ net.old.pulses }
-    requires rest { kept.value.rest ≡ 0 }
+    requires pulses { kept.pulses.now ≡ net.old.pulses }
+    requires order { IsWave kept.pulses.now }
+    requires rest { kept.rest ≡ 0 }
     requires schedule { IsSchedule (length net.old.tree) end 0 events.now }
     ensures ok { IfOk result (λ totals. (text : List ℕ) × IsDriven end (start net.old events.now) text totals × Appends (S.contents out.old) (S.contents out.new) text) }
     ensures same { OnOk result (S.is_stuck out.new ≡ S.is_stuck out.old) }

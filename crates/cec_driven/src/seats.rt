@@ -1,11 +1,14 @@
 //! The seats of a round, as they stand before it.
-ghost use Rattle.std.specs.Prelude.{◌≡◌, ◌+◌, ◌==◌, ◌<◌, ◌≤◌, length, map};
+ghost use Rattle.std.specs.Prelude.{◌≡◌, ◌+◌, ◌==◌, ◌<◌, ◌≤◌, not, ◌&&◌, ◌||◌, length, map};
 ghost use Rattle.cec_wave.specs.Bounds.{latest_heard, latest_rest};
 ghost use Rattle.cec_net.specs.Start.{contends, next_turn, start_from};
-ghost use Rattle.cec_net.specs.Step.{seat_of};
+ghost use Rattle.cec_device.specs.Place.{is_on_wire};
+ghost use Rattle.cec_feature.specs.Kinds.{is_outside};
+ghost use Rattle.cec_net.specs.Step.{holds_one, is_address, seat_of};
 
 use arrayvec::ArrayVec;
 use cec_device::Device;
+use cec_frame::Addr;
 use cec_wire::Seat;
 
 // The most devices.
@@ -59,18 +62,40 @@ fn contends(device: &Device<16>, rest: u64, begin: u64) -> bool
     }
 }
 
+// ---- who answers
+
+fn is_address(held: &Option<Addr>) -> bool
+    ensures { result ≡ is_address held.now }
+{
+    match held {
+        None => false,
+        Some(address) => address.value() < Addr::BROADCAST,
+    }
+}
+
+fn holds_one(device: &Device<16>) -> bool
+    ensures { result ≡ holds_one device.now }
+{
+    device.held().iter().any(|held| is_address(held))
+}
+
+// Whether a device answers what it hears, where it contends or not: one from outside that holds no address and does not contend
+// answers by pulls alone.
+fn answers(device: &Device<16>, contends: bool) -> bool
+    ensures { result ≡ (is_on_wire device.now && (not (is_outside device.now.kind) || (holds_one device.now || contends))) }
+{
+    device.is_on_wire() && (!device.kind().is_outside() || holds_one(device) || contends)
+}
+
 fn seat_of(device: &Device<16>, rest: u64, begin: u64) -> Seat
     requires rest { rest ≤ latest_rest }
     requires begin { begin ≤ latest_rest }
     ensures { result ≡ seat_of rest begin device.now }
 {
-    let sends = if contends(device, rest, begin) {
-        device.queue_front()
-    } else {
-        None
-    };
+    let contends = contends(device, rest, begin);
+    let sends = if contends { device.queue_front() } else { None };
     Seat {
-        plugged: device.is_on_wire(),
+        plugged: answers(device, contends),
         holds: device.held(),
         sends,
     }

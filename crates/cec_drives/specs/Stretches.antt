@@ -1,9 +1,10 @@
 -- Who drives the line of a round, as low stretches: what a sender pulls until it is out, 1,500 of each block that a follower
 -- acknowledges (the acknowledge bit, CEC 6.1), and 3,600 of a follower after a fall too early (the low drive, CEC 7.4; its
 -- length own). Each goes by what an outcome says.
-use Rattle.std.specs.Prelude.{ℕ, ◌+◌, ◌*◌, Bool, true, false, not, nat_lt, nat_le, ◌&&◌, if◌then◌else◌, min, List, [], ◌∷◌, ◌++◌, length, slice_get, Option, Some, None}
+use Rattle.std.specs.Prelude.{ℕ, ◌+◌, ◌-◌, ◌*◌, Bool, true, false, not, nat_lt, nat_le, ◌&&◌, if◌then◌else◌, min, List, [], ◌∷◌, ◌++◌, length, slice_get, Option, Some, None}
 use Rattle.std.specs.List.{flat_map, range_with_len}
 use Rattle.cec_wave.specs.declared.Stretch.{Stretch}
+use Rattle.cec_wave.specs.Line.{line_of}
 use Rattle.cec_wave.specs.Sender.{sender_stretches}
 use Rattle.cec_frame.specs.Bits.{frame_bits}
 use Rattle.cec_frame.specs.declared.Ending.{Ending}
@@ -12,7 +13,7 @@ use Rattle.cec_bits.specs.Windows.{sample_at}
 use Rattle.cec_bits.specs.Sending.{destination}
 use Rattle.cec_wire.specs.declared.Seat.{Seat}
 use Rattle.cec_wire.specs.declared.Outcome.{Outcome}
-use Rattle.cec_wire.specs.Round.{is_held, is_not_before, out_in}
+use Rattle.cec_wire.specs.Round.{ack_pull, short_pull, is_held, is_not_before, out_in}
 use Rattle.cec_wire.specs.Bounds.{begun_within}
 
 -- low from one instant up to another
@@ -36,9 +37,14 @@ abbrev pub sample_by : Option ℕ → ℕ
 sample_by None = 0
 sample_by (Some fall) = fall + sample_at
 
--- the last microsecond in which a sender pulls that is out at this slot: that slot's sample, or the reading's end
+-- the last microsecond in which a sender pulls that is never out: that of the reading's end where the line is low in it, or the
+-- one before, since a sender makes no fall at an ending for want of a fall
+abbrev pub last_at_end : Outcome → ℕ
+last_at_end o = if line_of o.wave o.reading.at then o.reading.at else o.reading.at - 1
+
+-- the last microsecond in which a sender pulls that is out at this slot: that slot's sample
 abbrev pub last_pull : Outcome → Option ℕ → ℕ
-last_pull o None = o.reading.at
+last_pull o None = last_at_end o
 last_pull o (Some slot) = sample_by (slot_fall o slot)
 
 -- up to the end of a microsecond
@@ -65,7 +71,7 @@ acknowledges_in o seat out n =
 abbrev pub ack_by : Bool → Option ℕ → List Stretch
 ack_by false fall = []
 ack_by true None = []
-ack_by true (Some fall) = stretch (fall + 1) (fall + 1500) ∷ []
+ack_by true (Some fall) = stretch (fall + 1) (fall + ack_pull) ∷ []
 
 -- the tenth slot of a block
 abbrev pub ack_in : Outcome → Seat → Option ℕ → ℕ → List Stretch
@@ -84,7 +90,7 @@ abbrev pub breaks_off : Outcome → Seat → Option ℕ → Bool
 breaks_off o seat out = is_short o.reading.ending && (seat.plugged && not (goes_to seat.sends out (length o.reading.bits.items + 1)))
 
 abbrev pub break_stretches : Outcome → Seat → Option ℕ → List Stretch
-break_stretches o seat out = if breaks_off o seat out then stretch (o.reading.at + 1) (o.reading.at + 3600) ∷ [] else []
+break_stretches o seat out = if breaks_off o seat out then stretch (o.reading.at + 1) (o.reading.at + short_pull) ∷ [] else []
 
 -- ---- all of them
 

@@ -1,8 +1,9 @@
 //! The drives of a round: of each seat, and of the pulses.
-ghost use Rattle.std.specs.Prelude.{◌≡◌, ◌+◌, ◌<◌, ◌≤◌, ◌++◌, [], length};
-ghost use Rattle.cec_wave.specs.Bounds.{latest_instant, latest_heard, most_stretches};
+ghost use Rattle.std.specs.Prelude.{◌≡◌, ◌+◌, ◌≤◌, ◌++◌, [], filter, length, nat_le};
+ghost use Rattle.cec_wave.specs.Bounds.{latest_instant, latest_heard};
+ghost use Rattle.cec_wave.specs.Line.{IsWave};
 ghost use Rattle.cec_wire.specs.Bounds.{begun_within};
-ghost use Rattle.cec_drives.specs.Stretches.{drives_from, drives_of};
+ghost use Rattle.cec_drives.specs.Stretches.{drives_from};
 
 use crate::seat::seat_drive;
 use arrayvec::ArrayVec;
@@ -10,33 +11,40 @@ use cec_wave::Stretch;
 use cec_wire::{Outcome, Seat};
 use cec_wires::Drive;
 
-/// The most drives of a round: of 15 seats, and of the pulses.
-pub const MOST_DRIVES: usize = 16;
+/// The most seats of a round.
+pub const MOST_DRIVES: usize = 15;
 
-// Adds the pulses that begin from one instant to another.
-fn push_begun(drive: &mut Drive, pulses: &[Stretch], begin: u64, end: u64)
-    requires { length drive.old + length (begun_within begin end pulses.now) ≤ most_stretches }
-    ensures { drive.new ≡ drive.old ++ begun_within begin end pulses.now }
+// ---- the pulses
+
+/// Those of pulses in order that begin at an instant or later.
+pub fn begun_since(pulses: &[Stretch], instant: u64) -> &[Stretch]
+    requires { IsWave pulses.now }
+    ensures order { IsWave result.now }
+    ensures later { result.now ≡ filter (λ p. nat_le instant p.from) pulses.now }
 {
-    let Some((pulse, others)) = pulses.split_first() else {
-        return;
-    };
-    if begin <= pulse.from && pulse.from <= end {
-        drive.push(pulse.from, pulse.to);
-        push_begun(drive, others, begin, end);
-    } else {
-        push_begun(drive, others, begin, end);
+    let mut left = pulses;
+    'earlier: while let [pulse, others @ ..] = left {
+        if instant <= pulse.from {
+            return left;
+        }
+        left = others;
     }
+    left
 }
 
-fn begun_drive(pulses: &[Stretch], begin: u64, end: u64) -> Drive
-    requires { length (begun_within begin end pulses.now) ≤ most_stretches }
-    ensures { result ≡ begun_within begin end pulses.now }
+/// Those of pulses in order that begin in a round, as many as there are: from its begin to its rest.
+pub fn begun_within(pulses: &[Stretch], begin: u64, rest: u64) -> &[Stretch]
+    requires order { IsWave pulses.now }
+    requires rest { rest ≤ latest_heard }
+    ensures order { IsWave result.now }
+    ensures begun { result.now ≡ begun_within begin rest pulses.now }
 {
-    let mut drive = Drive::new();
-    push_begun(&mut drive, pulses, begin, end);
-    drive
+    let begun = begun_since(pulses, begin);
+    let later = begun_since(begun, rest + 1);
+    &begun[..begun.len() - later.len()]
 }
+
+// ---- the seats
 
 // Adds the drives of seats, from this number on.
 fn push_drives(
@@ -51,7 +59,6 @@ fn push_drives(
     requires begin { begin ≤ latest_instant }
     requires early { outcome.now.reading.at ≤ latest_heard }
     ensures drives { drives.new.items ≡ drives.old.items ++ drives_from begin outcome.now number seats.now }
-    ensures len { length drives.new.items ≡ length drives.old.items + length seats.now }
 {
     let Some((seat, others)) = seats.split_first() else {
         return;
@@ -60,25 +67,20 @@ fn push_drives(
     push_drives(drives, outcome, number + 1, others, begin);
 }
 
-/// Who drives the line of a round that begins at `begin` and gave this outcome: the stretches of each seat, and after them
-/// those of the pulses that begin in the round, of which there are few. They are put into an empty list of the caller's, since
-/// they are large.
+/// Where each seat pulls the line of a round that begins at `begin` and gave this outcome. They are put into an empty list of
+/// the caller's, since they are large.
 #[inline(never)]
 pub fn put_drives(
     drives: &mut ArrayVec<Drive, MOST_DRIVES>,
     seats: &[Seat],
     begin: u64,
-    pulses: &[Stretch],
     outcome: &Outcome,
 )
     requires fresh { drives.old.items ≡ [] }
     requires seats { length seats.now ≤ 15 }
-    requires pulses { length (begun_within begin outcome.now.rest pulses.now) ≤ most_stretches }
     requires begin { begin ≤ latest_instant }
     requires early { outcome.now.reading.at ≤ latest_heard }
-    ensures drives { drives.new.items ≡ drives_of seats.now begin pulses.now outcome.now }
-    ensures few { length drives.new.items ≤ 16 }
+    ensures { drives.new.items ≡ drives_from begin outcome.now 0 seats.now }
 {
     push_drives(drives, outcome, 0, seats, begin);
-    drives.push(begun_drive(pulses, begin, outcome.rest));
 }

@@ -1,12 +1,13 @@
 //! Where a seat pulls the line of a round low.
 ghost use Rattle.std.specs.Prelude.{◌≡◌, [], ◌&&◌, ◌+◌, ◌*◌, ◌<◌, ◌≤◌, ◌++◌, nat_le, length, IfSome};
 ghost use Rattle.std.specs.List.{flat_map, range_with_len};
+ghost use Rattle.cec_wave.specs.Line.{line_of};
 ghost use Rattle.cec_wave.specs.Sender.{sender_stretches};
 ghost use Rattle.cec_wave.specs.Bounds.{latest_instant, latest_heard, most_sent, most_stretches};
 ghost use Rattle.cec_frame.specs.Bits.{frame_bits};
 ghost use Rattle.cec_bits.specs.Sending.{destination};
 ghost use Rattle.cec_wire.specs.Round.{is_held};
-ghost use Rattle.cec_drives.specs.Stretches.{ack_in, acknowledges_in, break_stretches, breaks_off, cut_after, goes_to, is_short, last_pull, seat_stretches, seat_stretches_by, sent_stretches, slot_fall};
+ghost use Rattle.cec_drives.specs.Stretches.{ack_in, acknowledges_in, break_stretches, breaks_off, cut_after, goes_to, is_short, last_at_end, last_pull, seat_stretches, seat_stretches_by, sent_stretches, slot_fall};
 
 use arrayvec::ArrayVec;
 use cec_bits::{BLOCK_SLOTS, SAMPLE, destination};
@@ -35,6 +36,27 @@ fn slot_fall(outcome: &Outcome, slot: usize) -> Option<u64>
 
 // ---- what is sent
 
+// Whether a line is low in a microsecond.
+fn is_low(wave: &[Stretch], t: u64) -> bool
+    ensures { result ≡ line_of wave.now t }
+{
+    wave.iter()
+        .any(|stretch| stretch.from <= t && t < stretch.to)
+}
+
+// The last microsecond in which a sender pulls that is never out.
+fn last_at_end(outcome: &Outcome) -> u64
+    ensures last { result ≡ last_at_end outcome.now }
+    ensures early { result ≤ outcome.now.reading.at }
+{
+    let at = outcome.reading.at;
+    if is_low(outcome.wave.as_slice(), at) {
+        at
+    } else {
+        at.saturating_sub(1)
+    }
+}
+
 // The last microsecond in which a sender pulls that is out at this slot, if it is out.
 fn last_pull(outcome: &Outcome, out: Option<usize>) -> u64
     requires { outcome.now.reading.at ≤ latest_heard }
@@ -42,7 +64,7 @@ fn last_pull(outcome: &Outcome, out: Option<usize>) -> u64
     ensures early { result < 3000000001051 }
 {
     match out {
-        None => outcome.reading.at,
+        None => last_at_end(outcome),
         Some(slot) => match slot_fall(outcome, slot) {
             None => 0,
             Some(fall) => fall + SAMPLE,

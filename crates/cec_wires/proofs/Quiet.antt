@@ -1,11 +1,10 @@
 -- Between two ends of stretches no wire changes, and nothing is written.
-use Rattle.std.proofs.Common.{◌≡◌, ℕ, zero, suc, ◌+◌, ◌-◌, ◌==◌, ◌<◌, ◌≤◌, Bool, true, false, not, ◌&&◌, ◌||◌, nat_lt, nat_le, if◌then◌else◌, List, [], ◌∷◌, ◌++◌, refl, arith, ap, ap₂, ◌∙◌, sym, append_assoc}
-use Rattle.std.specs.Fmt.{decimal}
+use Rattle.std.proofs.Common.{◌≡◌, ℕ, zero, suc, ◌+◌, ◌-◌, ◌==◌, ◌<◌, ◌≤◌, Bool, true, false, not, ◌&&◌, ◌||◌, nat_lt, nat_le, List, [], ◌∷◌, ◌++◌, refl, arith, ap, ap₂, ◌∙◌, sym, append_assoc}
 use Rattle.std.specs.List.{flat_map, list_any, range_with_len}
 use Rattle.std.proofs.lemmas.Bool.Decides.{nat_tests}
 use Rattle.cec_wave.specs.declared.Stretch.{Stretch}
 use Rattle.cec_wave.specs.Line.{covers, line_of}
-use Rattle.cec_wires.specs.Wires.{changes_from, high_at_first, instant_text, turns, wires_text}
+use Rattle.cec_wires.specs.Wires.{high_at_first, instant_text, turns, wires_text}
 
 -- a stretch begins or ends at u
 abbrev pub is_end : ℕ → Stretch → Bool
@@ -42,7 +41,7 @@ same_level (s ∷ ss) u some quiet =
     ap₂ (λ a b. a || b) (same_cover s u some (or_left (s.from == u) (s.to == u) here) (or_right (s.from == u) (s.to == u) here))
     (same_level ss u some (or_right (is_end u s) (list_any (is_end u) ss) quiet))
 
-no_turn : (ss : List Stretch) (u : ℕ) → 0 < u → list_any (is_end u) ss ≡ false → turns (line_of ss) u ≡ false
+pub no_turn : (ss : List Stretch) (u : ℕ) → 0 < u → list_any (is_end u) ss ≡ false → turns (line_of ss) u ≡ false
 no_turn ss u some quiet =
     let past : nat_lt 0 u ≡ true = grind (arith, nat_tests) in
     ap (λ b. (line_of ss u && not (b && line_of ss (u - 1))) || (not (line_of ss u) && (b && line_of ss (u - 1)))) past
@@ -53,22 +52,13 @@ no_turn ss u some quiet =
     never true = refl
     never false = refl
 
-no_turns : (wires : List (List Stretch)) (u : ℕ) → 0 < u → list_any (λ wire. list_any (is_end u) wire) wires ≡ false → list_any (λ wire. turns (line_of wire) u) wires ≡ false
+pub no_turns : (wires : List (List Stretch)) (u : ℕ) → 0 < u → list_any (λ wire. list_any (is_end u) wire) wires ≡ false → list_any (λ wire. turns (line_of wire) u) wires ≡ false
 no_turns [] u some quiet = refl
 no_turns (wire ∷ wires) u some quiet =
     ap₂ (λ a b. a || b) (no_turn wire u some (or_left (list_any (is_end u) wire) (list_any (λ w. list_any (is_end u) w) wires) quiet))
     (no_turns wires u some (or_right (list_any (is_end u) wire) (list_any (λ w. list_any (is_end u) w) wires) quiet))
 
 -- ---- and nothing is written
-
-no_text : (wires : List (List Stretch)) (u : ℕ) → 0 < u → list_any (λ wire. list_any (is_end u) wire) wires ≡ false → instant_text wires u ≡ []
-no_text wires u some quiet = ap (λ b. if b then (35 ∷ (decimal u ++ 10 ∷ [])) ++ changes_from u 0 wires else []) (no_turns wires u some quiet)
-
-silence : (wires : List (List Stretch)) (from count : ℕ) → 0 < from → ((u : ℕ) → from ≤ u → u < from + count → list_any (λ wire. list_any (is_end u) wire) wires ≡ false)
-    → wires_text wires from count ≡ []
-silence wires from zero some quiet = refl
-silence wires from (suc count) some quiet =
-    ap₂ (λ a b. a ++ b) (no_text wires from some (quiet from (omega arith) (omega arith))) (silence wires (from + 1) count (omega arith) (λ u l h. quiet u (omega arith) (omega arith)))
 
 -- microseconds in two parts
 parted : (f : ℕ → List ℕ) (a m n total b : ℕ) → total ≡ m + n → b ≡ a + m → flat_map f (range_with_len a total) ≡ flat_map f (range_with_len a m) ++ flat_map f (range_with_len b n)
@@ -88,19 +78,3 @@ three_parts wires from t to after before =
     first : (n : ℕ) → to - t ≡ n → wires_text wires t n ≡ instant_text wires t ++ wires_text wires (t + 1) (to - (t + 1))
     first zero e = absurd (omega arith)
     first (suc n) e = let rest : n ≡ to - (t + 1) = omega arith in rw rest refl
-
--- up to the next end, where `inner` is the next one of the other wires
-pub more_instants : (line : List Stretch) (drives : List (List Stretch)) (from t next inner : ℕ) → from ≤ t → t < next → next ≤ inner
-    → ((u : ℕ) → t < u → u < next → list_any (is_end u) line ≡ false)
-    → ((u : ℕ) → t < u → u < inner → list_any (λ wire. list_any (is_end u) wire) drives ≡ false)
-    → wires_text (line ∷ drives) from (next - from) ≡ wires_text (line ∷ drives) from (t - from) ++ instant_text (line ∷ drives) t
-more_instants line drives from t next inner after before near quiet others =
-    three_parts (line ∷ drives) from t next after before
-    ∙ ap (λ l. (wires_text (line ∷ drives) from (t - from) ++ instant_text (line ∷ drives) t) ++ l)
-    (silence (line ∷ drives) (t + 1) (next - (t + 1)) (omega arith)
-    (λ u l h. ap₂ (λ a b. a || b) (quiet u (omega arith) (omega arith)) (others u (omega arith) (omega arith))))
-    ∙ nothing (wires_text (line ∷ drives) from (t - from) ++ instant_text (line ∷ drives) t)
-  where
-    nothing : (xs : List ℕ) → xs ++ [] ≡ xs
-    nothing [] = refl
-    nothing (x ∷ xs) = ap (λ l. x ∷ l) (nothing xs)

@@ -6,7 +6,7 @@ use arrayvec::ArrayVec;
 use cec_wave::{MOST_STRETCHES, Stretch};
 use std::marker::Model;
 
-/// Where a device, or the pulses, pull the line low. As a value it is the list of its stretches.
+/// Where a device pulls the line low. As a value it is the list of its stretches.
 #[derive(Debug, Drop)]
 pub struct Drive {
     stretches: ArrayVec<Stretch, MOST_STRETCHES>,

@@ -1,9 +1,10 @@
 //! The changes of several wires, in order of time.
-ghost use Rattle.std.specs.Prelude.{◌≡◌, [], ◌+◌, ◌-◌, ◌==◌, ◌||◌, ◌∷◌, ◌++◌, ◌<◌, ◌≤◌, ℕ, if◌then◌else◌, false, codes, length};
+ghost use Rattle.std.specs.Prelude.{◌≡◌, [], ◌+◌, ◌-◌, ◌==◌, ◌||◌, ◌∷◌, ◌++◌, ◌<◌, ◌≤◌, ℕ, if◌then◌else◌, false, codes, length, take};
 ghost use Rattle.std.specs.Fmt.{decimal};
 ghost use Rattle.std.specs.List.{concat, list_any};
-ghost use Rattle.cec_wave.specs.Line.{line_of, was_low};
+ghost use Rattle.cec_wave.specs.Line.{line_of, was_low, IsWave};
 ghost use Rattle.hdmi_core.specs.Adds.{Adds};
+ghost use Rattle.cec_wires.specs.Left.{FirstNotOver};
 ghost use Rattle.cec_wires.specs.Wires.{change_text, changes_from, id_of, instant_text, turns, wires_text};
 
 use crate::definitions::id_of;
@@ -80,6 +81,36 @@ fn next_end_of(drives: &[Drive], t: u64, next: u64) -> u64
     }
 }
 
+// ---- the pulses, in order
+
+// Those that are not over before `t`.
+fn not_over(pulses: &[Stretch], t: u64) -> &[Stretch]
+    requires { IsWave pulses.now }
+    ensures order { IsWave result.now }
+    ensures first { FirstNotOver t result.now }
+    ensures same { (u : ℕ) → t ≤ u + 1 → line_of result.now u ≡ line_of pulses.now u }
+{
+    let mut left = pulses;
+    'over: while let [first, others @ ..] = left {
+        if t <= first.to {
+            return left;
+        }
+        left = others;
+    }
+    left
+}
+
+// The first two of them, between which and the others nothing happens before the second one is over.
+fn next_two(pulses: &[Stretch]) -> &[Stretch]
+    ensures { result.now ≡ take 2 pulses.now }
+{
+    if pulses.len() < 2 {
+        pulses
+    } else {
+        &pulses[..2]
+    }
+}
+
 // ---- one instant
 
 fn add_value<S: Sink>(out: &mut Counted<'_, S>, number: u8, is_low: bool)
@@ -136,44 +167,63 @@ fn any_turns(drives: &[Drive], t: u64) -> bool
     }
 }
 
-// Adds an instant, and the changes of the line and of the wires below it then.
-fn add_timed<S: Sink>(out: &mut Counted<'_, S>, t: u64, line: &[Stretch], drives: &[Drive])
+// Adds an instant, and the changes of the line and of the wires below it then, the pulses' last.
+fn add_timed<S: Sink>(
+    out: &mut Counted<'_, S>,
+    t: u64,
+    line: &[Stretch],
+    drives: &[Drive],
+    pulses: &[Stretch],
+)
     requires { length drives.now ≤ 90 }
-    ensures { Adds out.old out.new (concat (codes "#" ∷ decimal t ∷ codes "\n" ∷ []) ++ changes_from t 0 (line.now ∷ drives.now)) }
+    ensures { Adds out.old out.new (concat (codes "#" ∷ decimal t ∷ codes "\n" ∷ []) ++ changes_from t 0 (line.now ∷ (drives.now ++ pulses.now ∷ []))) }
 {
     add_time(out, t);
     add_change(out, t, 0, line);
     add_changes(out, t, 1, drives);
+    add_change(out, t, drives.len() as u8 + 1, pulses);
 }
 
 // Adds an instant, where some wire changes then.
 #[tactic(auto, using(hdmi_core::proofs::Adding::nothing))]
-fn add_instant<S: Sink>(out: &mut Counted<'_, S>, t: u64, line: &[Stretch], drives: &[Drive])
+fn add_instant<S: Sink>(
+    out: &mut Counted<'_, S>,
+    t: u64,
+    line: &[Stretch],
+    drives: &[Drive],
+    pulses: &[Stretch],
+)
     requires { length drives.now ≤ 90 }
-    ensures { Adds out.old out.new (instant_text (line.now ∷ drives.now) t) }
+    ensures { Adds out.old out.new (instant_text (line.now ∷ (drives.now ++ pulses.now ∷ [])) t) }
 {
-    if turns(line, t) || any_turns(drives, t) {
-        add_timed(out, t, line, drives);
+    if turns(line, t) || (any_turns(drives, t) || turns(pulses, t)) {
+        add_timed(out, t, line, drives, pulses);
     }
 }
 
 // ---- all of them
 
-/// Adds the changes of the line and of the wires below it, from one instant up to another.
+/// Adds the changes of the line and of the wires below it, from one instant up to another: those of its drives, and after them
+/// that of the pulses, which come in order, as many as there are.
 pub fn add_wires<S: Sink>(
     out: &mut Counted<'_, S>,
     line: &[Stretch],
     drives: &[Drive],
+    pulses: &[Stretch],
     from: u64,
     to: u64,
 )
     requires few { length drives.now ≤ 90 }
+    requires pulses { IsWave pulses.now }
     requires order { from ≤ to }
-    ensures { Adds out.old out.new (wires_text (line.now ∷ drives.now) from (to - from)) }
+    ensures { Adds out.old out.new (wires_text (line.now ∷ (drives.now ++ pulses.now ∷ [])) from (to - from)) }
 {
     let mut t = from;
+    let mut left = pulses;
     'instants: while t < to {
-        add_instant(out, t, line, drives);
-        t = next_end(line, t, next_end_of(drives, t, to));
+        left = not_over(left, t);
+        let next = next_two(left);
+        add_instant(out, t, line, drives, next);
+        t = next_end(line, t, next_end_of(drives, t, next_end(next, t, to)));
     }
 }

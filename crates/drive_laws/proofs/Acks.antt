@@ -7,6 +7,7 @@ use Rattle.std.proofs.lemmas.Bool.{cases_lt}
 use Rattle.std.proofs.lemmas.Bool.Decides.{nat_tests}
 use Rattle.cec_wave.specs.Line.{Line, covers, line_of}
 use Rattle.cec_frame.specs.Bits.{frame_bits}
+use Rattle.cec_bits.specs.Windows.{sample_at}
 use Rattle.cec_bits.specs.Reading.After.{Next, Ends}
 use Rattle.cec_bits.specs.Reading.{Known, Slot, known_at, known_slot, known_slots, reading_of, read_start, read_slots, read_on, after_slot, last_ending, bit_sampled_at, start_of, After}
 use Rattle.cec_bits.specs.Sending.{bit_read, destination, known_bits, is_whole, is_out_by}
@@ -62,9 +63,9 @@ get_known t (x ∷ ss) from zero s spaced h l =
     let f : nat_lt s.fall t ≡ true = grind (arith, nat_tests) in
     subst (λ (y : Slot). slice_get (known_slots t (y ∷ ss)) 0 ≡ Some (known_slot t s)) (sym same) (rw f refl)
 get_known t (x ∷ ss) from (suc k) s spaced h l =
-    let later = spaced_get ss (x.fall + 1051) k s spaced.1 h in
+    let later = spaced_get ss (x.fall + (sample_at + 1)) k s spaced.1 h in
     let f : nat_lt x.fall t ≡ true = grind (arith, nat_tests, later) in
-    rw f (get_known t ss (x.fall + 1051) k s spaced.1 h l)
+    rw f (get_known t ss (x.fall + (sample_at + 1)) k s spaced.1 h l)
 
 -- the bits of the slots before it are known
 count_low : (t : ℕ) (ss : List Slot) (from k : ℕ) (s : Slot) → AreSpaced from ss → FrontReported ss → slice_get ss k ≡ Some s → s.fall < t → k ≤ length (bits_at t ss)
@@ -72,9 +73,9 @@ count_low t [] from k s spaced front h l = cc
 count_low t (x ∷ ss) from zero s spaced front h l = omega arith
 count_low t (x ∷ []) from (suc k) s spaced front h l = cc
 count_low t (x ∷ y ∷ ss) from (suc k) s spaced front h l =
-    let later = spaced_get (y ∷ ss) (x.fall + 1051) k s spaced.1 h in
+    let later = spaced_get (y ∷ ss) (x.fall + (sample_at + 1)) k s spaced.1 h in
     let one = one_known t x (y ∷ ss) front.0.0 (omega (arith, later, l)) front.0.1 in
-    omega (arith, one, count_low t (y ∷ ss) (x.fall + 1051) k s spaced.1 front.1 h l)
+    omega (arith, one, count_low t (y ∷ ss) (x.fall + (sample_at + 1)) k s spaced.1 front.1 h l)
 
 -- ---- who acknowledges
 

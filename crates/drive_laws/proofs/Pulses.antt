@@ -5,21 +5,19 @@ use Rattle.std.proofs.lemmas.Bool.{cases_lt}
 use Rattle.std.proofs.lemmas.Bool.Decides.{nat_tests}
 use Rattle.cec_wave.specs.declared.Stretch.{Stretch}
 use Rattle.cec_wave.specs.Line.{Line, covers, line_of, was_low, IsWave, IsWaveFrom}
-use Rattle.cec_wave.specs.Pulses.{AreSparse, IsNarrow}
 use Rattle.cec_bits.specs.Reading.{End, known_at, reading_of}
 use Rattle.cec_wire.specs.declared.Seat.{Seat}
 use Rattle.cec_wire.specs.declared.Outcome.{Outcome}
 use Rattle.cec_wire.specs.Bounds.{begun_within}
-use Rattle.cec_wire.specs.Contend.{AreFrames}
 use Rattle.cec_wire.specs.Round.{is_within, pulse_pulls, frames_of, is_acknowledged, is_broken, IsRound}
 use Rattle.cec_bits.specs.Sending.{sender_pulls}
 use Rattle.cec_wire.proofs.Bounds.{rounds_are_short}
-use Rattle.cec_wire.proofs.Differ.{In, any_in}
+use Rattle.cec_wire.proofs.Differ.{In, any_agree_in, any_in}
 use Rattle.cec_wire.proofs.Early.{or_cases, and_left, and_right}
 use Rattle.cec_wire.proofs.Lasting.{rest_past, rest_rises}
 use Rattle.cec_wire.proofs.Law.{all_in}
+use Rattle.cec_wire.proofs.Lows.{wave_wide}
 use Rattle.cec_wire.proofs.OneOutcome.{covers_own}
-use Rattle.cec_wire.proofs.Differ.{any_agree_in}
 use Rattle.cec_drives.specs.Drives.{pulse_line}
 use Rattle.drive_laws.proofs.Acks.{both_ways}
 
@@ -91,9 +89,9 @@ or_second : (a b : Bool) → b ≡ true → (a || b) ≡ true
 or_second true b e = refl
 or_second false b e = e
 
-pub pulses_line : (seats : List Seat) (begin : ℕ) (pulses : List Stretch) (o : Outcome) → AreFrames seats → AreSparse pulses → IsWave o.wave → IsRound seats begin pulses o
+pub pulses_line : (seats : List Seat) (begin : ℕ) (pulses : List Stretch) (o : Outcome) → IsWave pulses → IsWave o.wave → IsRound seats begin pulses o
     → (t : ℕ) → pulse_line begin pulses (line_of o.wave) t ≡ line_of (begun_within begin o.rest pulses) t
-pulses_line seats begin pulses o frames sparse wave round t =
+pulses_line seats begin pulses o order wave round t =
     any_agree_in (pulse_pulls begin (known_at t (reading_of low begin)).ended (was_low low t) t) (λ p. (nat_le begin p.from && nat_le p.from o.rest) && covers p t) pulses one
     ∙ sym (any_filter (λ p. covers p t) (λ (p : Stretch). nat_le begin p.from && nat_le p.from o.rest) pulses)
   where
@@ -126,7 +124,7 @@ pulses_line seats begin pulses o frames sparse wave round t =
         by false e k = (let l : t ≤ until = grind (arith, nat_tests) in omega arith)
 
     wide : (p : Stretch) → In p pulses → p.from < p.to
-    wide p i = (all_in IsNarrow pulses sparse.narrow p i).0
+    wide p i = (wave_wide 0 pulses p order i).1
 
     -- one that begins by the reading's end begins before the rest
     early_rest : (p : Stretch) → In p pulses → begin ≤ p.from → p.from ≤ until → p.from ≤ o.rest
@@ -167,7 +165,7 @@ pulses_line seats begin pulses o frames sparse wave round t =
               | inl after ↦ elim (or_cases (is_within (known_at t (reading_of low begin)).ended p.from) (was_low low t) (and_right (nat_le begin p.from) _ more)) [
                 | inl w ↦ early_rest p i later (by_within p.from past w)
                 | inr was ↦ (let l : low (t - 1) ≡ true = and_right (nat_lt 0 t) (low (t - 1)) was in
-                    let all = rounds_are_short.begins seats begin pulses o frames sparse wave round in
+                    let all = rounds_are_short.begins seats begin pulses o wave round in
                     let less = low_before until (t - 1) 0 0 o.wave wave (λ s j. all_in (λ (s : Stretch). s.from ≤ until) o.wave all s j) l in
                     omega (arith, less, round.rest, past))
               ]

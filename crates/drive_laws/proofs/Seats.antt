@@ -1,21 +1,23 @@
 -- The stretches of a seat are what it pulls by the rule of a round.
-use Rattle.std.proofs.Common.{◌≡◌, ℕ, ◌+◌, ◌-◌, ◌<◌, ◌≤◌, Bool, true, false, not, ◌&&◌, ◌||◌, nat_lt, nat_le, if◌then◌else◌, min, List, [], ◌∷◌, length, Option, Some, None, refl, arith, ap, ap₂, ◌∙◌, sym}
+use Rattle.std.proofs.Common.{◌≡◌, ℕ, ◌+◌, ◌-◌, ◌<◌, ◌≤◌, Bool, true, false, not, ◌&&◌, ◌||◌, nat_lt, nat_le, if◌then◌else◌, min, List, [], ◌∷◌, length, inl, inr, Option, Some, None, refl, arith, ap, ap₂, ◌∙◌, sym}
 use Rattle.std.specs.List.{list_any, cons_option}
+use Rattle.std.proofs.lemmas.Bool.{cases_lt}
 use Rattle.std.proofs.lemmas.Bool.Decides.{nat_tests}
 use Rattle.cec_wave.specs.declared.Stretch.{Stretch}
-use Rattle.cec_wave.specs.Line.{Line, covers, line_of}
+use Rattle.cec_wave.specs.Line.{Line, covers, line_of, was_low}
 use Rattle.cec_wave.specs.Sender.{sender_stretches}
 use Rattle.cec_frame.specs.Bits.{frame_bits}
 use Rattle.cec_frame.specs.declared.Ending.{Ending}
 use Rattle.cec_frame.specs.declared.Ending.TheVariants.{Complete, Short, Silent, BadStart, Long, Open}
 use Rattle.cec_bits.specs.Reading.{End, Known, known_at, reading_of, bits_of}
+use Rattle.cec_bits.proofs.Ends.{at_by}
 use Rattle.cec_bits.specs.Sending.{known_bits, out_slot, sender_pulls}
 use Rattle.cec_wire.specs.declared.Seat.{Seat}
 use Rattle.cec_wire.specs.declared.Outcome.{Outcome}
-use Rattle.cec_wire.specs.Round.{all_known, is_broken, out_of, sends_in}
+use Rattle.cec_wire.specs.Round.{all_known, is_broken, is_within, out_of, sends_in}
 use Rattle.cec_wire.proofs.Spans.{reading_spans}
 use Rattle.cec_drives.specs.Stretches.{break_stretches, breaks_off, cut_after, goes_to, is_short, last_pull, sample_by, sent_stretches, slot_fall, stretch}
-use Rattle.drive_laws.proofs.Sent.{all_bits, known_after, last_by, out_slot_of, stops}
+use Rattle.drive_laws.proofs.Sent.{all_bits, known_after, last_by, out_by_then, out_slot_of, stops}
 use Rattle.drive_laws.proofs.Slots.{falls_at}
 
 -- what an outcome reports of its reading
@@ -24,6 +26,8 @@ pub record Reports (low : Line) (begin : ℕ) (o : Outcome) : Type 0 where
   pub ending : o.reading.ending ≡ (reading_of low begin).ending
   pub bits : o.reading.bits.items ≡ bits_of (reading_of low begin)
   pub slots : (n : ℕ) → 1 ≤ n → slot_fall o n ≡ falls_at (reading_of low begin).slots (n - 1)
+  pub level : line_of o.wave o.reading.at ≡ low (reading_of low begin).at
+  pub past : 0 < (reading_of low begin).at
 
 -- ---- who sends
 
@@ -52,21 +56,90 @@ cut_line last t (s ∷ ss) = by (nat_le s.from last) refl (cut_line last t ss)
     by true h rest = ap₂ (λ a b. a || b) (cut_cover last t s h) rest ∙ spread (covers s t) (line_of ss t) (nat_le t last)
     by false h rest = rest ∙ ap (λ a. a || (line_of ss t && nat_le t last)) (sym (late_cover last t s h)) ∙ spread (covers s t) (line_of ss t) (nat_le t last)
 
-last_same : (low : Line) (begin : ℕ) (o : Outcome) (sent : List Bool) → Reports low begin o → (out : Option ℕ) → out_slot (all_known (reading_of low begin)) sent ≡ out
-    → last_pull o out ≡ last_by (reading_of low begin) out
-last_same low begin o sent reports None e = reports.at
-last_same low begin o sent reports (Some n) e = ap sample_by (reports.slots n (out_slot_of low begin sent n e).0)
+-- the reading is not known to have ended before t, or the line was low just before
+abbrev pub may_fall : Line → ℕ → ℕ → Bool
+may_fall low begin t = is_within (known_at t (reading_of low begin)).ended t || was_low low t
 
-pub sent_line : (low : Line) (begin t : ℕ) (o : Outcome) → Reports low begin o → (sends : Option (List ℕ))
-    → line_of (sent_stretches begin o (out_of (reading_of low begin) sends) sends) t ≡ list_any (sender_pulls begin (known_at t (reading_of low begin)) t) (cons_option sends [])
-sent_line low begin t o reports None = refl
-sent_line low begin t o reports (Some f) =
-    let sent = frame_bits f in
+-- where one that sends would pull by its frame, the line is low exactly where it may
+abbrev pub IsTimely : Line → ℕ → ℕ → Option (List ℕ) → Type 0
+IsTimely low begin t sends = list_any (sender_pulls begin (known_at t (reading_of low begin)) t) (cons_option sends []) ≡ true → low t ≡ may_fall low begin t
+
+within_by : (low : Line) (begin t : ℕ) → t ≤ (reading_of low begin).until → may_fall low begin t ≡ true
+within_by low begin t by_then = by_time (nat_lt (reading_of low begin).until t) refl
+  where
+    by_time : (b : Bool) → nat_lt (reading_of low begin).until t ≡ b
+        → (is_within (if b then Some (record { ending = (reading_of low begin).ending; at = (reading_of low begin).at; until = (reading_of low begin).until }) else None) t || was_low low t) ≡ true
+    by_time false e = refl
+    by_time true e = absurd (let past : (reading_of low begin).until < t = grind (arith, nat_tests) in omega (arith, past, by_then))
+
+-- one that is never out, by the numbers alone: `ends` tells the line at the reading's end, and `may` whether it may fall at t
+at_the_end : (at t : ℕ) (sends ends may : Bool) → 0 < at → (t < at → may ≡ true) → (t ≡ at → sends ≡ true → ends ≡ may)
+    → (sends && nat_le t (if ends then at else at - 1)) ≡ ((sends && nat_le t at) && may)
+at_the_end at t false ends may some within there = refl
+at_the_end at t true ends may some within there = elim (cases_lt t at) [
+  | inl early ↦ (let e = within early in let now : nat_le t at ≡ true = grind (arith, nat_tests) in rw (e, now) (by_ends ends early))
+  | inr ge ↦ elim (cases_lt at t) [
+    | inl late ↦ (let never : nat_le t at ≡ false = grind (arith, nat_tests) in rw never (past ends late))
+    | inr le ↦ (let same : t ≡ at = omega arith in
+        let e = there same refl in
+        let now : nat_le t at ≡ true = grind (arith, nat_tests) in
+        rw (← e, now) (level ends same))
+  ]
+]
+  where
+    by_ends : (b : Bool) → t < at → nat_le t (if b then at else at - 1) ≡ true
+    by_ends true l = grind (arith, nat_tests)
+    by_ends false l = grind (arith, nat_tests)
+
+    past : (b : Bool) → at < t → nat_le t (if b then at else at - 1) ≡ false
+    past true l = grind (arith, nat_tests)
+    past false l = grind (arith, nat_tests)
+
+    level : (b : Bool) → t ≡ at → nat_le t (if b then at else at - 1) ≡ b
+    level true e = grind (arith, nat_tests)
+    level false e = grind (arith, nat_tests, some)
+
+and_same : (b c : Bool) → (b ≡ true → c ≡ true) → b ≡ (b && c)
+and_same true c h = sym (h refl)
+and_same false c h = refl
+
+and_right : (a b : Bool) → (a && b) ≡ true → b ≡ true
+and_right true b h = h
+and_right false b h = cc
+
+pub sent_line : (low : Line) (begin t : ℕ) (o : Outcome) → Reports low begin o → (sends : Option (List ℕ)) → IsTimely low begin t sends
+    → line_of (sent_stretches begin o (out_of (reading_of low begin) sends) sends) t
+    ≡ (list_any (sender_pulls begin (known_at t (reading_of low begin)) t) (cons_option sends []) && may_fall low begin t)
+sent_line low begin t o reports None timely = refl
+sent_line low begin t o reports (Some f) timely =
     let out = out_slot (all_known (reading_of low begin)) (frame_bits f) in
-    cut_line (last_pull o out) t (sender_stretches begin sent)
-    ∙ ap (λ n. line_of (sender_stretches begin sent) t && nat_le t n) (last_same low begin o sent reports out refl)
-    ∙ ap (λ b. line_of (sender_stretches begin sent) t && b) (sym (stops low begin t sent))
-    ∙ sym (or_false (sender_pulls begin (known_at t (reading_of low begin)) t f))
+    cut_line (last_pull o out) t (sender_stretches begin (frame_bits f))
+    ∙ by_out out refl
+    ∙ ap (λ b. b && may_fall low begin t) (sym (or_false (sender_pulls begin (known_at t (reading_of low begin)) t f)))
+  where
+    sends : Bool
+    sends = line_of (sender_stretches begin (frame_bits f)) t
+
+    pulls_by : (out : Option ℕ) → out_slot (all_known (reading_of low begin)) (frame_bits f) ≡ out
+        → sender_pulls begin (known_at t (reading_of low begin)) t f ≡ (sends && nat_le t (last_by (reading_of low begin) out))
+    pulls_by out e = ap (λ b. sends && b) (stops low begin t (frame_bits f)) ∙ ap (λ (x : Option ℕ). sends && nat_le t (last_by (reading_of low begin) x)) e
+
+    by_out : (out : Option ℕ) → out_slot (all_known (reading_of low begin)) (frame_bits f) ≡ out
+        → (sends && nat_le t (last_pull o out)) ≡ (sender_pulls begin (known_at t (reading_of low begin)) t f && may_fall low begin t)
+    by_out None e =
+        ap₂ (λ (at : ℕ) (ends : Bool). sends && nat_le t (if ends then at else at - 1)) reports.at reports.level
+        ∙ at_the_end (reading_of low begin).at t sends (low (reading_of low begin).at) (may_fall low begin t) reports.past
+        (λ early. within_by low begin t (omega (arith, early, at_by low begin)))
+        (λ same pulls. ap low (sym same) ∙ timely (or_false (sender_pulls begin (known_at t (reading_of low begin)) t f) ∙ pulls_by None e ∙ both pulls same))
+        ∙ ap (λ b. b && may_fall low begin t) (sym (pulls_by None e))
+      where
+        both : sends ≡ true → t ≡ (reading_of low begin).at → (sends && nat_le t (reading_of low begin).at) ≡ true
+        both pulls same = let now : nat_le t (reading_of low begin).at ≡ true = grind (arith, nat_tests) in rw (pulls, now) refl
+    by_out (Some n) e =
+        ap (λ last. sends && nat_le t last) (ap sample_by (reports.slots n (out_slot_of low begin (frame_bits f) n e).0))
+        ∙ sym (pulls_by (Some n) e)
+        ∙ and_same (sender_pulls begin (known_at t (reading_of low begin)) t f) (may_fall low begin t)
+        (λ pulls. within_by low begin t (out_by_then low begin t (frame_bits f) n e (and_right sends (nat_le t (last_by (reading_of low begin) (Some n))) (sym (pulls_by (Some n) e) ∙ pulls))))
 
 -- ---- who pulls after a fall too early
 

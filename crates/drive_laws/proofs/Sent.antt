@@ -6,6 +6,7 @@ use mathlib.Core.Bool.{beq}
 use Rattle.std.proofs.lemmas.Bool.{cases_lt}
 use Rattle.std.proofs.lemmas.Bool.Decides.{nat_tests}
 use Rattle.cec_wave.specs.Line.{Line}
+use Rattle.cec_bits.specs.Windows.{standard, sample_at}
 use Rattle.cec_bits.specs.Reading.After.{Next, Ends}
 use Rattle.cec_frame.specs.declared.Ending.{Ending}
 use Rattle.cec_frame.specs.declared.Ending.TheVariants.{Complete, Short, Silent, BadStart, Long, Open}
@@ -32,12 +33,12 @@ front_on : (low : Line) (e left : ℕ) (bits more : List Bool) (a : After) → a
 front_on low e left bits more (Ends ending at) h ih = tt
 front_on low e left bits more (Next f) h ih = step (read_slots low left more f).slots (ih f)
   where
-    here : bit_sampled_at low e ≡ Some (not (low (e + 1050)))
+    here : bit_sampled_at low e ≡ Some (not (low (e + sample_at)))
     here = let n = next_falls low e bits f h in quiet_sample low e (λ u a b. n.quiet u a (omega (arith, n.far)))
 
     step : (ss : List Slot) → FrontReported ss → FrontReported (record { fall = e; bit = bit_sampled_at low e } ∷ ss)
     step [] t = tt
-    step (x ∷ ss) t = ((not (low (e + 1050)), here), t)
+    step (x ∷ ss) t = ((not (low (e + sample_at)), here), t)
 
 front_slots : (low : Line) (left : ℕ) (bits : List Bool) (e : ℕ) → FrontReported (read_slots low left bits e).slots
 unfolding read_slots
@@ -62,53 +63,53 @@ none_known : (t : ℕ) (ss : List Slot) (from : ℕ) → AreSpaced from ss → t
 none_known t [] from s h = refl
 none_known t (x ∷ ss) from s h = let e : nat_lt x.fall t ≡ false = grind (arith, nat_tests, s.0) in rw e refl
 
-few_known : (t : ℕ) (x : Slot) (ss : List Slot) (from : ℕ) → AreSpaced from (x ∷ ss) → t ≤ x.fall + 1050 → length (bits_at t (x ∷ ss)) ≡ 0
+few_known : (t : ℕ) (x : Slot) (ss : List Slot) (from : ℕ) → AreSpaced from (x ∷ ss) → t ≤ x.fall + sample_at → length (bits_at t (x ∷ ss)) ≡ 0
 few_known t x ss from spaced early = by (nat_lt x.fall t) refl
   where
-    unsampled : nat_lt (x.fall + 1050) t ≡ false
+    unsampled : nat_lt (x.fall + sample_at) t ≡ false
     unsampled = grind (arith, nat_tests)
 
     by : (b : Bool) → nat_lt x.fall t ≡ b → length (bits_at t (x ∷ ss)) ≡ 0
-    by true f = rw (f, unsampled, none_known t ss (x.fall + 1051) spaced.1 (omega arith)) refl
+    by true f = rw (f, unsampled, none_known t ss (x.fall + (sample_at + 1)) spaced.1 (omega arith)) refl
     by false f = rw f refl
 
-pub one_known : (t : ℕ) (x : Slot) (ss : List Slot) (b : Bool) → x.fall + 1050 < t → x.bit ≡ Some b → length (bits_at t (x ∷ ss)) ≡ suc (length (bits_at t ss))
+pub one_known : (t : ℕ) (x : Slot) (ss : List Slot) (b : Bool) → x.fall + sample_at < t → x.bit ≡ Some b → length (bits_at t (x ∷ ss)) ≡ suc (length (bits_at t ss))
 one_known t x ss b late e =
     let f : nat_lt x.fall t ≡ true = grind (arith, nat_tests) in
-    let g : nat_lt (x.fall + 1050) t ≡ true = grind (arith, nat_tests) in
+    let g : nat_lt (x.fall + sample_at) t ≡ true = grind (arith, nat_tests) in
     rw (f, g, e) refl
 
 pub spaced_get : (ss : List Slot) (from k : ℕ) (s : Slot) → AreSpaced from ss → slice_get ss k ≡ Some s → from ≤ s.fall
 spaced_get [] from k s spaced h = cc
 spaced_get (x ∷ ss) from zero s spaced h = let same : x ≡ s = cc in subst (λ (y : Slot). from ≤ y.fall) same spaced.0
-spaced_get (x ∷ ss) from (suc k) s spaced h = omega (arith, spaced.0, spaced_get ss (x.fall + 1051) k s spaced.1 h)
+spaced_get (x ∷ ss) from (suc k) s spaced h = omega (arith, spaced.0, spaced_get ss (x.fall + (sample_at + 1)) k s spaced.1 h)
 
 -- a bit is known once its slot was sampled
 pub count_at : (t : ℕ) (ss : List Slot) (from k : ℕ) (s : Slot) (b : Bool) → AreSpaced from ss → FrontReported ss → slice_get ss k ≡ Some s → s.bit ≡ Some b
-    → nat_le (length (bits_at t ss)) k ≡ nat_le t (s.fall + 1050)
+    → nat_le (length (bits_at t ss)) k ≡ nat_le t (s.fall + sample_at)
 count_at t [] from k s b spaced front h e = cc
 count_at t (x ∷ ss) from zero s b spaced front h e =
     let same : x ≡ s = cc in
     let bit : x.bit ≡ Some b = ap (λ (y : Slot). y.bit) same ∙ e in
     let fall : x.fall ≡ s.fall = ap (λ (y : Slot). y.fall) same in
-    elim (cases_lt (x.fall + 1050) t) [
+    elim (cases_lt (x.fall + sample_at) t) [
       | inl late ↦ (let n = one_known t x ss b late bit in
           let left : nat_le (length (bits_at t (x ∷ ss))) 0 ≡ false = grind (arith, nat_tests) in
-          let right : nat_le t (s.fall + 1050) ≡ false = grind (arith, nat_tests) in left ∙ sym right)
+          let right : nat_le t (s.fall + sample_at) ≡ false = grind (arith, nat_tests) in left ∙ sym right)
       | inr early ↦ (let n = few_known t x ss from spaced early in
           let left : nat_le (length (bits_at t (x ∷ ss))) 0 ≡ true = grind (arith, nat_tests) in
-          let right : nat_le t (s.fall + 1050) ≡ true = grind (arith, nat_tests) in left ∙ sym right)
+          let right : nat_le t (s.fall + sample_at) ≡ true = grind (arith, nat_tests) in left ∙ sym right)
     ]
 count_at t (x ∷ []) from (suc k) s b spaced front h e = cc
 count_at t (x ∷ y ∷ ss) from (suc k) s b spaced front h e =
-    let rest = count_at t (y ∷ ss) (x.fall + 1051) k s b spaced.1 front.1 h e in
-    let later = spaced_get (y ∷ ss) (x.fall + 1051) k s spaced.1 h in
-    elim (cases_lt (x.fall + 1050) t) [
+    let rest = count_at t (y ∷ ss) (x.fall + (sample_at + 1)) k s b spaced.1 front.1 h e in
+    let later = spaced_get (y ∷ ss) (x.fall + (sample_at + 1)) k s spaced.1 h in
+    elim (cases_lt (x.fall + sample_at) t) [
       | inl late ↦ (let n = one_known t x (y ∷ ss) front.0.0 late front.0.1 in
           let left : nat_le (length (bits_at t (x ∷ y ∷ ss))) (suc k) ≡ nat_le (length (bits_at t (y ∷ ss))) k = grind (arith, nat_tests) in left ∙ rest)
       | inr early ↦ (let n = few_known t x (y ∷ ss) from spaced early in
           let left : nat_le (length (bits_at t (x ∷ y ∷ ss))) (suc k) ≡ true = grind (arith, nat_tests) in
-          let right : nat_le t (s.fall + 1050) ≡ true = grind (arith, nat_tests) in left ∙ sym right)
+          let right : nat_le t (s.fall + sample_at) ≡ true = grind (arith, nat_tests) in left ∙ sym right)
     ]
 
 -- the slot of a bit
@@ -170,7 +171,7 @@ HasBit o = (b : Bool) × (o ≡ Some b)
 
 abbrev pub EndsSampled : List Slot → ℕ → Type 0
 EndsSampled [] until = ⊥
-EndsSampled (s ∷ []) until = HasBit s.bit × (s.fall + 1050 ≡ until)
+EndsSampled (s ∷ []) until = HasBit s.bit × (s.fall + sample_at ≡ until)
 EndsSampled (s ∷ x ∷ ss) until = EndsSampled (x ∷ ss) until
 
 later_end : (s : Slot) (ss : List Slot) (until : ℕ) → EndsSampled ss until → EndsSampled (s ∷ ss) until
@@ -178,17 +179,17 @@ later_end s [] until e = absurd e
 later_end s (x ∷ ss) until e = e
 
 whole_at : (low : Line) (e : ℕ) (last : Option Ending) (ending : Ending) (at : ℕ) → after_slot low e last ≡ Ends ending at → has_all ending ≡ true
-    → HasBit (bit_sampled_at low e) × (e + 1050 ≡ last_heard ending at)
-whole_at low e None ending at h w = by_fall (next_fall low e 2750) h
+    → HasBit (bit_sampled_at low e) × (e + sample_at ≡ last_heard ending at)
+whole_at low e None ending at h w = by_fall (next_fall low e standard.bit_total.most) h
   where
-    by_time : (g : ℕ) (b : Bool) → (if b then Ends Short g else Next g) ≡ Ends ending at → HasBit (bit_sampled_at low e) × (e + 1050 ≡ last_heard ending at)
+    by_time : (g : ℕ) (b : Bool) → (if b then Ends Short g else Next g) ≡ Ends ending at → HasBit (bit_sampled_at low e) × (e + sample_at ≡ last_heard ending at)
     by_time g true k = let x : Short ≡ ending = cc in let y : has_all Short ≡ true = ap has_all x ∙ w in cc
     by_time g false k = cc
 
-    by_fall : (o : Option ℕ) → after_fall e o ≡ Ends ending at → HasBit (bit_sampled_at low e) × (e + 1050 ≡ last_heard ending at)
+    by_fall : (o : Option ℕ) → after_fall e o ≡ Ends ending at → HasBit (bit_sampled_at low e) × (e + sample_at ≡ last_heard ending at)
     by_fall None k = let x : Silent ≡ ending = cc in let y : has_all Silent ≡ true = ap has_all x ∙ w in cc
-    by_fall (Some g) k = by_time g (nat_lt g (e + 2050)) k
-whole_at low e (Some last) ending at h w = by_fall (next_fall low e 1050) refl h
+    by_fall (Some g) k = by_time g (nat_lt g (e + standard.bit_total.least)) k
+whole_at low e (Some last) ending at h w = by_fall (next_fall low e sample_at) refl h
   where
     heard : (x : Ending) (n : ℕ) → has_all x ≡ true → n ≡ last_heard x n
     heard Complete n k = refl
@@ -198,8 +199,8 @@ whole_at low e (Some last) ending at h w = by_fall (next_fall low e 1050) refl h
     heard BadStart n k = refl
     heard Silent n k = cc
 
-    by_fall : (o : Option ℕ) → next_fall low e 1050 ≡ o → after_last e last o ≡ Ends ending at → HasBit (bit_sampled_at low e) × (e + 1050 ≡ last_heard ending at)
-    by_fall None q k = let y : e + 1050 ≡ at = cc in ((not (low (e + 1050)), ap (sample low e) q), y ∙ heard ending at w)
+    by_fall : (o : Option ℕ) → next_fall low e sample_at ≡ o → after_last e last o ≡ Ends ending at → HasBit (bit_sampled_at low e) × (e + sample_at ≡ last_heard ending at)
+    by_fall None q k = let y : e + sample_at ≡ at = cc in ((not (low (e + sample_at)), ap (sample low e) q), y ∙ heard ending at w)
     by_fall (Some g) q k = let x : Short ≡ ending = cc in let y : has_all Short ≡ true = ap has_all x ∙ w in cc
 
 whole_on : (low : Line) (e left : ℕ) (bits more : List Bool) (a : After) → after_slot low e (last_ending bits) ≡ a
@@ -232,8 +233,8 @@ less_known t until (s ∷ []) from spaced front e h =
     omega (arith, n, one)
 less_known t until (s ∷ x ∷ ss) from spaced front e h =
     let more : length (filter_map (λ (y : Slot). y.bit) (s ∷ x ∷ ss)) ≡ suc (length (filter_map (λ (y : Slot). y.bit) (x ∷ ss))) = rw front.0.1 refl in
-    let rest = less_known t until (x ∷ ss) (s.fall + 1051) spaced.1 front.1 e h in
-    elim (cases_lt (s.fall + 1050) t) [
+    let rest = less_known t until (x ∷ ss) (s.fall + (sample_at + 1)) spaced.1 front.1 e h in
+    elim (cases_lt (s.fall + sample_at) t) [
       | inl late ↦ (let n = one_known t s (x ∷ ss) front.0.0 late front.0.1 in omega (arith, n, more, rest))
       | inr early ↦ (let n = few_known t s (x ∷ ss) from spaced early in omega (arith, n, more))
     ]
@@ -244,7 +245,7 @@ abbrev pub last_by : Read → Option ℕ → ℕ
 last_by r None = r.at
 last_by r (Some n) = sample_by (option_map (λ (s : Slot). s.fall) (slice_get r.slots (n - 1)))
 
-reported_get : (until : ℕ) (ss : List Slot) (k : ℕ) (s : Slot) (b : Bool) → AreReported until ss → slice_get ss k ≡ Some s → s.bit ≡ Some b → s.fall + 1050 ≤ until
+reported_get : (until : ℕ) (ss : List Slot) (k : ℕ) (s : Slot) (b : Bool) → AreReported until ss → slice_get ss k ≡ Some s → s.bit ≡ Some b → s.fall + sample_at ≤ until
 reported_get until [] k s b reported h e = cc
 reported_get until (x ∷ ss) zero s b reported h e =
     let same : x ≡ s = cc in
@@ -278,8 +279,18 @@ out_slot_of low begin sent n h =
     let count : length (known_bits (all_known (reading_of low begin))) ≡ length (bits_of (reading_of low begin)) = ap length (all_bits low begin) in
     (w.0, slot_of ss (n - 1) (front_reported low begin) (omega (arith, w.0, w.1, count)))
 
-sample_of : (ss : List Slot) (k : ℕ) (s : Slot) → slice_get ss k ≡ Some s → sample_by (option_map (λ (x : Slot). x.fall) (slice_get ss k)) ≡ s.fall + 1050
+sample_of : (ss : List Slot) (k : ℕ) (s : Slot) → slice_get ss k ≡ Some s → sample_by (option_map (λ (x : Slot). x.fall) (slice_get ss k)) ≡ s.fall + sample_at
 sample_of ss k s h = ap (λ (o : Option Slot). sample_by (option_map (λ (x : Slot). x.fall) o)) h
+
+-- a sender is out at a sample, which the reading has
+pub out_by_then : (low : Line) (begin t : ℕ) (sent : List Bool) (n : ℕ) → out_slot (all_known (reading_of low begin)) sent ≡ Some n
+    → nat_le t (last_by (reading_of low begin) (Some n)) ≡ true → t ≤ (reading_of low begin).until
+out_by_then low begin t sent n e h =
+    let s = (out_slot_of low begin sent n e).1 in
+    let reported = reported_get (reading_of low begin).until (reading_of low begin).slots (n - 1) s.slot s.bit (reading_spans low begin).reported s.there s.sampled_so in
+    let by_sample : nat_le t (s.slot.fall + sample_at) ≡ true = sym (ap (λ m. nat_le t m) (sample_of (reading_of low begin).slots (n - 1) s.slot s.there)) ∙ h in
+    let before : t ≤ s.slot.fall + sample_at = grind (arith, nat_tests) in
+    omega (arith, before, reported)
 
 pub stops : (low : Line) (begin t : ℕ) (sent : List Bool)
     → (is_none (out_slot (known_at t (reading_of low begin)) sent) && goes_on (known_at t (reading_of low begin)).ended t)
@@ -304,7 +315,7 @@ stops low begin t sent = elim (cases_lt (reading_of low begin).until t) [ inl pa
         by_out (Some n) e =
             let s = (out_slot_of low begin sent n e).1 in
             let reported = reported_get (reading_of low begin).until (reading_of low begin).slots (n - 1) s.slot s.bit (reading_spans low begin).reported s.there s.sampled_so in
-            let stop : nat_le t (s.slot.fall + 1050) ≡ false = grind (arith, nat_tests) in
+            let stop : nat_le t (s.slot.fall + sample_at) ≡ false = grind (arith, nat_tests) in
             sym (ap (λ m. nat_le t m) (sample_of (reading_of low begin).slots (n - 1) s.slot s.there) ∙ stop)
 
     before : t ≤ (reading_of low begin).until → (is_none (out_slot (known_at t (reading_of low begin)) sent) && goes_on (known_at t (reading_of low begin)).ended t)

@@ -8,6 +8,7 @@ use Rattle.cec_wave.specs.declared.Stretch.{Stretch}
 use Rattle.cec_wave.specs.Line.{Line, is_fall, is_rise, line_of, IsWaveFrom}
 use Rattle.cec_frame.specs.declared.Ending.{Ending}
 use Rattle.cec_frame.specs.declared.Ending.TheVariants.{Short}
+use Rattle.cec_bits.specs.Windows.{standard, sample_at}
 use Rattle.cec_bits.specs.Reading.After.{Next, Ends}
 use Rattle.cec_bits.specs.Reading.{Slot, reading_of, read_start, read_slots, read_on, start_of, start_rise, start_fall, next_rise, next_fall, after_slot, after_fall, after_last, last_ending, bit_sampled_at, After}
 use Rattle.cec_bits.proofs.Causes.{not_over}
@@ -78,25 +79,25 @@ none_before low e at (x ∷ rest) g quiet (suc k) = none_before low x.from at re
 
 -- a slot that ends the reading: no fall comes before the end
 ends_quiet : (low : Line) (e : ℕ) (last : Option Ending) (ending : Ending) (at : ℕ) → after_slot low e last ≡ Ends ending at → (e < at) × ((u : ℕ) → e < u → u < at → is_fall low u ≡ false)
-ends_quiet low e None ending at h = by_fall (next_fall low e 2750) refl h
+ends_quiet low e None ending at h = by_fall (next_fall low e standard.bit_total.most) refl h
   where
-    by_time : (g : ℕ) (b : Bool) → next_fall low e 2750 ≡ Some g → (if b then Ends Short g else Next g) ≡ Ends ending at → (e < at) × ((u : ℕ) → e < u → u < at → is_fall low u ≡ false)
+    by_time : (g : ℕ) (b : Bool) → next_fall low e standard.bit_total.most ≡ Some g → (if b then Ends Short g else Next g) ≡ Ends ending at → (e < at) × ((u : ℕ) → e < u → u < at → is_fall low u ≡ false)
     by_time g false q k = cc
     by_time g true q k =
         let same : g ≡ at = cc in
-        let d = found_first (is_fall low) (e + 1) 2750 g q in
+        let d = found_first (is_fall low) (e + 1) standard.bit_total.most g q in
         (omega (arith, d.after, same), λ u l m. d.first u (omega arith) (omega arith))
 
-    by_fall : (o : Option ℕ) → next_fall low e 2750 ≡ o → after_fall e o ≡ Ends ending at → (e < at) × ((u : ℕ) → e < u → u < at → is_fall low u ≡ false)
-    by_fall None q k = let same : e + 2751 ≡ at = cc in (omega (arith, same), λ u l m. found_none (is_fall low) (e + 1) 2750 q u (omega arith) (omega arith))
-    by_fall (Some g) q k = by_time g (nat_lt g (e + 2050)) q k
-ends_quiet low e (Some last) ending at h = by_fall (next_fall low e 1050) refl h
+    by_fall : (o : Option ℕ) → next_fall low e standard.bit_total.most ≡ o → after_fall e o ≡ Ends ending at → (e < at) × ((u : ℕ) → e < u → u < at → is_fall low u ≡ false)
+    by_fall None q k = let same : e + (standard.bit_total.most + 1) ≡ at = cc in (omega (arith, same), λ u l m. found_none (is_fall low) (e + 1) standard.bit_total.most q u (omega arith) (omega arith))
+    by_fall (Some g) q k = by_time g (nat_lt g (e + standard.bit_total.least)) q k
+ends_quiet low e (Some last) ending at h = by_fall (next_fall low e sample_at) refl h
   where
-    by_fall : (o : Option ℕ) → next_fall low e 1050 ≡ o → after_last e last o ≡ Ends ending at → (e < at) × ((u : ℕ) → e < u → u < at → is_fall low u ≡ false)
-    by_fall None q k = let same : e + 1050 ≡ at = cc in (omega (arith, same), λ u l m. found_none (is_fall low) (e + 1) 1050 q u (omega arith) (omega arith))
+    by_fall : (o : Option ℕ) → next_fall low e sample_at ≡ o → after_last e last o ≡ Ends ending at → (e < at) × ((u : ℕ) → e < u → u < at → is_fall low u ≡ false)
+    by_fall None q k = let same : e + sample_at ≡ at = cc in (omega (arith, same), λ u l m. found_none (is_fall low) (e + 1) sample_at q u (omega arith) (omega arith))
     by_fall (Some g) q k =
         let same : g ≡ at = cc in
-        let d = found_first (is_fall low) (e + 1) 1050 g q in
+        let d = found_first (is_fall low) (e + 1) sample_at g q in
         (omega (arith, d.after, same), λ u l m. d.first u (omega arith) (omega arith))
 
 -- the next slot is the next stretch
@@ -152,7 +153,7 @@ rise_there s rest from w =
     rises_of_wave (s ∷ rest) from s.to w ∙ ap (λ b. b || list_any (λ (x : Stretch). x.to == s.to) rest) same
 
 -- the first rise comes by there
-rise_by : (s : Stretch) (rest : List Stretch) (from r : ℕ) → IsWaveFrom from (s ∷ rest) → Found (is_rise (line_of (s ∷ rest))) (s.from + 1) 3900 r → r ≤ s.to
+rise_by : (s : Stretch) (rest : List Stretch) (from r : ℕ) → IsWaveFrom from (s ∷ rest) → Found (is_rise (line_of (s ∷ rest))) (s.from + 1) standard.start_low.most r → r ≤ s.to
 rise_by s rest from r w d = elim (cases_lt s.to r) [
   | inl lt ↦ (let a = d.first s.to (omega (arith, w.1)) lt in let b = rise_there s rest from w in cc)
   | inr ge ↦ ge
@@ -160,7 +161,7 @@ rise_by s rest from r w d = elim (cases_lt s.to r) [
 
 start_slots : (s : Stretch) (rest : List Stretch) (from : ℕ) → IsWaveFrom from (s ∷ rest) → (st : Result ℕ ℕ) → start_of (line_of (s ∷ rest)) s.from ≡ st
     → (k : ℕ) → falls_at (read_start (line_of (s ∷ rest)) s.from st).slots k ≡ before (read_start (line_of (s ∷ rest)) s.from st).at (slice_get rest k)
-start_slots s rest from w st h = by_rise (next_rise low s.from 3900) refl h
+start_slots s rest from w st h = by_rise (next_rise low s.from standard.start_low.most) refl h
   where
     low : Line
     low = line_of (s ∷ rest)
@@ -198,36 +199,36 @@ start_slots s rest from w st h = by_rise (next_rise low s.from 3900) refl h
         subst (λ n. falls_at (read_slots low 160 [] n).slots k ≡ before (read_slots low 160 [] n).at (slice_get rest k)) same
         (subst (λ (fs : List Stretch). falls_at (read_slots low 160 [] x.from).slots k ≡ before (read_slots low 160 [] x.from).at (slice_get fs k)) (sym e) (walk low 160 [] x others own.3 k))
 
-    by_time : (r f : ℕ) (b : Bool) → r ≤ s.to → s.from < r → next_fall low r (s.from + 4700 - r) ≡ Some f → (if b then Err f else Ok f) ≡ st → Gives st
+    by_time : (r f : ℕ) (b : Bool) → r ≤ s.to → s.from < r → next_fall low r (s.from + standard.start_total.most - r) ≡ Some f → (if b then Err f else Ok f) ≡ st → Gives st
     by_time r f true by past q k =
-        let d = found_first (is_fall low) (r + 1) (s.from + 4700 - r) f q in
-        subst Gives k (bad f (quiet_fall r (s.from + 4700 - r) f by past d))
+        let d = found_first (is_fall low) (r + 1) (s.from + standard.start_total.most - r) f q in
+        subst Gives k (bad f (quiet_fall r (s.from + standard.start_total.most - r) f by past d))
     by_time r f false by past q k =
-        let d = found_first (is_fall low) (r + 1) (s.from + 4700 - r) f q in
-        subst Gives k (good rest refl f d.passes (omega (arith, d.after)) (quiet_fall r (s.from + 4700 - r) f by past d))
+        let d = found_first (is_fall low) (r + 1) (s.from + standard.start_total.most - r) f q in
+        subst Gives k (good rest refl f d.passes (omega (arith, d.after)) (quiet_fall r (s.from + standard.start_total.most - r) f by past d))
 
-    by_fall : (r : ℕ) (o : Option ℕ) → r ≤ s.to → s.from < r → next_fall low r (s.from + 4700 - r) ≡ o → start_fall s.from o ≡ st → Gives st
+    by_fall : (r : ℕ) (o : Option ℕ) → r ≤ s.to → s.from < r → next_fall low r (s.from + standard.start_total.most - r) ≡ o → start_fall s.from o ≡ st → Gives st
     by_fall r None by past q k =
-        subst Gives k (bad (s.from + 4701) (λ u l h. elim (cases_lt u (r + 1)) [
+        subst Gives k (bad (s.from + (standard.start_total.most + 1)) (λ u l h. elim (cases_lt u (r + 1)) [
           | inl lt ↦ quiet_rise r by u l lt
-          | inr ge ↦ found_none (is_fall low) (r + 1) (s.from + 4700 - r) q u ge (omega arith)
+          | inr ge ↦ found_none (is_fall low) (r + 1) (s.from + standard.start_total.most - r) q u ge (omega arith)
         ]))
-    by_fall r (Some f) by past q k = by_time r f (nat_lt f (s.from + 4300)) by past q k
+    by_fall r (Some f) by past q k = by_time r f (nat_lt f (s.from + standard.start_total.least)) by past q k
 
-    by_early : (r : ℕ) (b : Bool) → r ≤ s.to → s.from < r → (if b then Err r else start_fall s.from (next_fall low r (s.from + 4700 - r))) ≡ st → Gives st
+    by_early : (r : ℕ) (b : Bool) → r ≤ s.to → s.from < r → (if b then Err r else start_fall s.from (next_fall low r (s.from + standard.start_total.most - r))) ≡ st → Gives st
     by_early r true by past k = subst Gives k (bad r (λ u l h. quiet_rise r by u l (omega arith)))
-    by_early r false by past k = by_fall r (next_fall low r (s.from + 4700 - r)) by past refl k
+    by_early r false by past k = by_fall r (next_fall low r (s.from + standard.start_total.most - r)) by past refl k
 
-    by_rise : (o : Option ℕ) → next_rise low s.from 3900 ≡ o → start_rise low s.from o ≡ st → Gives st
+    by_rise : (o : Option ℕ) → next_rise low s.from standard.start_low.most ≡ o → start_rise low s.from o ≡ st → Gives st
     by_rise None q k =
-        let late : s.from + 3900 < s.to = elim (cases_lt (s.from + 3900) s.to) [
+        let late : s.from + standard.start_low.most < s.to = elim (cases_lt (s.from + standard.start_low.most) s.to) [
           | inl lt ↦ lt
-          | inr ge ↦ (let a = found_none (is_rise low) (s.from + 1) 3900 q s.to (omega (arith, w.1)) (omega arith) in let b = rise_there s rest from w in cc)
+          | inr ge ↦ (let a = found_none (is_rise low) (s.from + 1) standard.start_low.most q s.to (omega (arith, w.1)) (omega arith) in let b = rise_there s rest from w in cc)
         ] in
-        subst Gives k (bad (s.from + 3901) (λ u l h. quiet_rise s.to (omega arith) u l (omega (arith, late))))
+        subst Gives k (bad (s.from + (standard.start_low.most + 1)) (λ u l h. quiet_rise s.to (omega arith) u l (omega (arith, late))))
     by_rise (Some r) q k =
-        let d = found_first (is_rise low) (s.from + 1) 3900 r q in
-        by_early r (nat_lt r (s.from + 3500)) (rise_by s rest from r w d) (omega (arith, d.after)) k
+        let d = found_first (is_rise low) (s.from + 1) standard.start_low.most r q in
+        by_early r (nat_lt r (s.from + standard.start_low.least)) (rise_by s rest from r w d) (omega (arith, d.after)) k
 
 -- the k-th slot of the reading, from 0, falls where the k-th stretch after the first one begins, before the reading's end
 pub slots_fall : (s : Stretch) (rest : List Stretch) (from : ℕ) → IsWaveFrom from (s ∷ rest) → (k : ℕ)

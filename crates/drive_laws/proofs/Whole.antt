@@ -1,19 +1,19 @@
 -- The line of a round is low exactly where one of its drives is.
-use Rattle.std.proofs.Common.{◌≡◌, ℕ, zero, suc, ◌+◌, ◌-◌, ◌==◌, ◌<◌, ◌≤◌, Bool, true, false, ◌&&◌, ◌||◌, if◌then◌else◌, List, [], ◌∷◌, ◌++◌, map, slice_get, inl, inr, Option, Some, None, refl, arith, ap, ap₂, ◌∙◌, sym, subst}
+use Rattle.std.proofs.Common.{◌≡◌, ℕ, zero, suc, ◌+◌, ◌-◌, ◌==◌, ◌<◌, ◌≤◌, Bool, true, false, not, nat_lt, ◌&&◌, ◌||◌, if◌then◌else◌, List, [], ◌∷◌, ◌++◌, map, slice_get, inl, inr, Option, Some, None, refl, arith, ap, ap₂, ◌∙◌, sym, subst}
 use Rattle.std.specs.List.{list_any, cons_option}
 use Rattle.std.proofs.lemmas.Bool.{cases_lt}
 use Rattle.std.proofs.lemmas.Bool.Decides.{nat_tests}
 use Rattle.cec_wave.specs.declared.Stretch.{Stretch}
 use Rattle.cec_wave.specs.Line.{Line, covers, line_of, was_low, IsWave}
-use Rattle.cec_bits.specs.Reading.{Read, known_at, reading_of, start_of}
+use Rattle.cec_bits.specs.Reading.{End, Read, known_at, reading_of, start_of}
 use Rattle.cec_bits.proofs.Waves.{quiet}
 use Rattle.cec_wire.specs.declared.Loser.{Loser}
 use Rattle.cec_wire.specs.declared.Seat.{Seat}
 use Rattle.cec_wire.specs.declared.Outcome.{Outcome}
 use Rattle.cec_wire.specs.Bounds.{begun_within}
 use Rattle.cec_bits.specs.Sending.{sender_pulls}
-use Rattle.cec_wire.specs.Round.{frames_of, is_within, lost_at, losers_from, out_in, out_of}
-use Rattle.cec_wire.proofs.SameLine.{none_begins}
+use Rattle.cec_wire.specs.Round.{frames_of, is_acknowledged, is_broken, is_within, lost_at, losers_from, out_in, out_of, pulse_pulls, IsRoundLine}
+use Rattle.cec_wire.proofs.Afterwards.{no_fall_after}
 use Rattle.cec_wire.proofs.Lasting.{begun_by, contended, low_at_begin}
 use Rattle.cec_wire.proofs.OneOutcome.{covers_own}
 use Rattle.cec_wire.proofs.Still.{high_before}
@@ -23,7 +23,7 @@ use Rattle.cec_drives.proofs.Driven.{lines_are_driven}
 use Rattle.drive_laws.specs.DriveLaws.{DrivesAreRuled, DrivesAreTheLine}
 use Rattle.drive_laws.proofs.Acks.{ack_line, any_append}
 use Rattle.drive_laws.proofs.Pulses.{pulses_line}
-use Rattle.drive_laws.proofs.Seats.{Reports, break_line, sent_line}
+use Rattle.drive_laws.proofs.Seats.{IsTimely, Reports, break_line, may_fall, sent_line}
 use Rattle.drive_laws.proofs.Slots.{falls_at, slots_fall}
 
 -- ---- the first stretch begins with the round
@@ -58,21 +58,46 @@ reports_by wave begin o s rest own same first w at (suc k) some =
 
 -- ---- seat by seat
 
--- past the reading's last microsecond a seat pulls only where the line is low already
-abbrev pub IsTimely : Line → ℕ → ℕ → Seat → Type 0
-IsTimely low begin t seat = list_any (sender_pulls begin (known_at t (reading_of low begin)) t) (frames_of (seat ∷ [])) ≡ true → (is_within (known_at t (reading_of low begin)).ended t || was_low low t) ≡ true
+-- where one of those who send would pull by its frame, the line is low exactly where it may
+timely : (seats : List Seat) (begin : ℕ) (pulses : List Stretch) (low : Line) → IsRoundLine seats begin pulses low → (t : ℕ)
+    → list_any (sender_pulls begin (known_at t (reading_of low begin)) t) (frames_of seats) ≡ true → low t ≡ may_fall low begin t
+timely seats begin pulses low line t sends = by (may_fall low begin t) refl
+  where
+    pulled : (a p w c : Bool) → p ≡ true → w ≡ true → (a || ((p && w) || c)) ≡ true
+    pulled true p w c x y = refl
+    pulled false true true c x y = refl
+    pulled false true false c x y = cc
+    pulled false false w c x y = cc
 
-and_same : (b c : Bool) → (b ≡ true → c ≡ true) → b ≡ (b && c)
-and_same true c h = sym (h refl)
-and_same false c h = refl
+    within_not : (b w : Bool) → (is_within (if b then (let some : Option End = Some (record { ending = (reading_of low begin).ending; at = (reading_of low begin).at; until = (reading_of low begin).until }) in some) else None) t || w) ≡ false → b ≡ true
+    within_not true w h = refl
+    within_not false w h = cc
 
-seat_same : (low : Line) (begin t : ℕ) (o : Outcome) → Reports low begin o → (seat : Seat) → IsTimely low begin t seat
+    was_not : (a w : Bool) → (a || w) ≡ false → w ≡ false
+    was_not true w h = cc
+    was_not false w h = h
+
+    by : (b : Bool) → may_fall low begin t ≡ b → low t ≡ b
+    by true e =
+        line t ∙ pulled (list_any (pulse_pulls begin (known_at t (reading_of low begin)).ended (was_low low t) t) pulses) (list_any (sender_pulls begin (known_at t (reading_of low begin)) t) (frames_of seats)) (may_fall low begin t)
+        (is_acknowledged seats (known_at t (reading_of low begin)) t || is_broken seats (known_at t (reading_of low begin)) t (known_at t (reading_of low begin)).ended) sends e
+    by false e =
+        let over : nat_lt (reading_of low begin).until t ≡ true = within_not (nat_lt (reading_of low begin).until t) (was_low low t) e in
+        let past : (reading_of low begin).until < t = grind (arith, nat_tests) in
+        let high = was_not (is_within (known_at t (reading_of low begin)).ended t) (was_low low t) e in
+        level (low t) (was_low low t) high (no_fall_after seats begin pulses low line t past)
+      where
+        level : (a w : Bool) → w ≡ false → (a && not w) ≡ false → a ≡ false
+        level false w x y = refl
+        level true false x y = cc
+        level true true x y = cc
+
+seat_same : (low : Line) (begin t : ℕ) (o : Outcome) → Reports low begin o → (seat : Seat) → IsTimely low begin t seat.sends
     → line_of (seat_stretches_by begin o seat (out_of (reading_of low begin) seat.sends)) t ≡ seat_line begin low seat t
-seat_same low begin t o reports seat timely =
+seat_same low begin t o reports seat now =
     let out = out_of (reading_of low begin) seat.sends in
     any_append (λ s. covers s t) (sent_stretches begin o out seat.sends) (ack_stretches o seat out ++ break_stretches o seat out)
-    ∙ ap₂ (λ a b. a || b) (sent_line low begin t o reports seat.sends
-    ∙ and_same (list_any (sender_pulls begin (known_at t (reading_of low begin)) t) (frames_of (seat ∷ []))) (is_within (known_at t (reading_of low begin)).ended t || was_low low t) timely)
+    ∙ ap₂ (λ a b. a || b) (sent_line low begin t o reports seat.sends now)
     (any_append (λ s. covers s t) (ack_stretches o seat out) (break_stretches o seat out) ∙ ap₂ (λ a b. a || b) (ack_line low begin t o reports seat) (break_line low begin t o reports seat))
 
 -- the losers after place n have greater places
@@ -101,7 +126,7 @@ out_found r n (suc k) m (x ∷ ss) s e h = by_out (out_of r x.sends) (out_found 
 
 -- of each seat, and of the drives that come after those of seats
 seats_same : (low : Line) (begin t : ℕ) (o : Outcome) (rest : List (List Stretch)) → Reports low begin o → (n : ℕ) (seats : List Seat)
-    → ((k : ℕ) (s : Seat) → slice_get seats k ≡ Some s → (out_in o.losers.items (n + k) ≡ out_of (reading_of low begin) s.sends) × IsTimely low begin t s)
+    → ((k : ℕ) (s : Seat) → slice_get seats k ≡ Some s → (out_in o.losers.items (n + k) ≡ out_of (reading_of low begin) s.sends) × IsTimely low begin t s.sends)
     → map (λ ss. line_of ss t) (drives_from begin o n seats ++ rest) ≡ map (λ seat. seat_line begin low seat t) seats ++ map (λ ss. line_of ss t) rest
 seats_same low begin t o rest reports n [] outs = refl
 seats_same low begin t o rest reports n (seat ∷ seats) outs =
@@ -136,23 +161,25 @@ sent_among test (suc k) (x ∷ ss) s h e = by x.sends (sent_among test k ss s h 
 -- ---- all drives
 
 pub drives_are_ruled : DrivesAreRuled
-drives_are_ruled seats begin pulses o frames sparse wave round begun t =
+drives_are_ruled seats begin pulses o order wave round begun t =
     let b = begun_by (line_of o.wave) begin (start_of (line_of o.wave) begin) refl in
-    let starts : line_of o.wave begin ≡ true = low_at_begin seats begin pulses (line_of o.wave) sparse (contended seats begin pulses (line_of o.wave) round.line) b.reports begun in
+    let starts : line_of o.wave begin ≡ true = low_at_begin seats begin pulses (line_of o.wave) order (contended seats begin pulses (line_of o.wave) round.line) b.reports begun in
     let first = first_begin o.wave begin wave starts (high_before seats begin pulses (line_of o.wave) round.line) in
     let reports : Reports (line_of o.wave) begin o = record {
       at = round.ends;
       ending = round.ending;
       bits = round.bits;
       slots = reports_by o.wave begin o first.0 first.1 refl first.2 first.3 (subst IsWave first.2 wave) round.ends;
+      level = ap (line_of o.wave) round.ends;
+      past = omega (arith, b.ends);
     } in
     seats_same (line_of o.wave) begin t o (begun_within begin o.rest pulses ∷ []) reports 0 seats
     (λ k s h. (
       ap (λ (ls : List Loser). out_in ls (0 + k)) round.losers ∙ out_found (reading_of (line_of o.wave) begin) 0 k (0 + k) seats s refl h,
-      λ e. none_begins seats begin pulses (line_of o.wave) frames sparse (contended seats begin pulses (line_of o.wave) round.line) t
+      λ e. timely seats begin pulses (line_of o.wave) round.line t
           (sent_among (sender_pulls begin (known_at t (reading_of (line_of o.wave) begin)) t) k seats s h e),
     ))
-    ∙ ap (λ b. map (λ seat. seat_line begin (line_of o.wave) seat t) seats ++ b ∷ []) (sym (pulses_line seats begin pulses o frames sparse wave round t))
+    ∙ ap (λ b. map (λ seat. seat_line begin (line_of o.wave) seat t) seats ++ b ∷ []) (sym (pulses_line seats begin pulses o order wave round t))
 
 -- ---- the whole line
 
@@ -162,12 +189,12 @@ any_of test [] = refl
 any_of test (x ∷ xs) = ap (λ b. test x || b) (any_of test xs)
 
 pub drives_are_the_line : DrivesAreTheLine
-drives_are_the_line seats begin pulses o frames sparse wave round begun t =
+drives_are_the_line seats begin pulses o order wave round begun t =
     lines_are_driven seats begin pulses (line_of o.wave) round.line t
     ∙ turned (pulse_line begin pulses (line_of o.wave) t) (list_any (λ seat. seat_line begin (line_of o.wave) seat t) seats)
     ∙ ap (λ b. b || (pulse_line begin pulses (line_of o.wave) t || false)) (any_of (λ seat. seat_line begin (line_of o.wave) seat t) seats)
     ∙ sym (any_append (λ b. b) (map (λ seat. seat_line begin (line_of o.wave) seat t) seats) (pulse_line begin pulses (line_of o.wave) t ∷ []))
-    ∙ ap (list_any (λ b. b)) (sym (drives_are_ruled seats begin pulses o frames sparse wave round begun t))
+    ∙ ap (list_any (λ b. b)) (sym (drives_are_ruled seats begin pulses o order wave round begun t))
     ∙ sym (any_of (λ ss. line_of ss t) (drives_of seats begin pulses o))
   where
     turned : (a b : Bool) → (a || b) ≡ (b || (a || false))

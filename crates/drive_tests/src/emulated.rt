@@ -100,6 +100,23 @@ fn refusals_write_nothing(rt: &(impl Abort + AllocGlobal)) {
     );
 }
 
+/// Three pulls under the low of the poll's start bit, and one that outlasts its reading and the script, each on the wire of the
+/// pulses.
+fn pulls_are_dumped(rt: &(impl Abort + AllocGlobal)) {
+    let script = "pull 12500 10\npull 12600 10\npull 13000 100\npull 38200 20000\nend 40000\n";
+    let (start, bits) = POLL.split_once("#15700\n").expect(rt, "the rise");
+    let (bits, _end) = bits.split_once("#38700\n").expect(rt, "the last rise");
+    let first = "#12500\n0c\n#12510\n1c\n#12600\n0c\n#12610\n1c\n#13000\n0c\n#13100\n1c\n#15700\n";
+    let last = "#38200\n0c\n#38700\n1a\n#58200\n1!\n1c\n#58200\n";
+    let text = format!(in rt.alloc(); "{start}{first}{bits}{last}").expect(rt, "a text");
+    is_written(
+        rt,
+        dumped(rt, TOPOLOGY, script, usize::MAX, usize::MAX),
+        text.as_str(),
+        "",
+    );
+}
+
 /// A writer that fails at a byte has all bytes before it, and the count is reported.
 fn faults_are_counted(rt: &(impl Abort + AllocGlobal)) {
     for room in 0..POLL.len() {
@@ -121,6 +138,7 @@ fn faults_are_counted(rt: &(impl Abort + AllocGlobal)) {
 #[test]
 fn runs_are_dumped(rt: HostRuntime) {
     dumps_come_out(&rt);
+    pulls_are_dumped(&rt);
     refusals_write_nothing(&rt);
 }
 

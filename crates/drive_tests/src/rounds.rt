@@ -4,10 +4,10 @@ ghost use Rattle.std.specs.List.{list_any};
 ghost use Rattle.cec_wire.specs.Lasting.{is_begun};
 
 use arrayvec::ArrayVec;
-use cec_drives::seat_drive;
+use cec_drives::{begun_within, seat_drive};
 use cec_frame::{Addr, Frame};
 use cec_one_wire::EdgeWire;
-use cec_wave::{Pulses, Stretch};
+use cec_wave::{Pulls, Stretch};
 use cec_wire::{Outcome, Seat, Wire};
 use std::alloc::Global;
 use std::process::Abort;
@@ -92,13 +92,13 @@ fn any_begins(pulses: &[Stretch], start: u64) -> bool
 }
 
 // Somebody pulls at once.
-fn is_begun(seats: &[Seat], start: u64, pulses: &Pulses) -> bool
+fn is_begun(seats: &[Seat], start: u64, pulses: &Pulls) -> bool
     ensures { result ≡ is_begun seats.now start pulses.now }
 {
     anybody_sends(seats) || any_begins(pulses.as_slice(), start)
 }
 
-fn round(rt: &impl Abort, seats: &[Seat], start: u64, pulses: &Pulses) -> Outcome
+fn round(rt: &impl Abort, seats: &[Seat], start: u64, pulses: &Pulls) -> Outcome
     requires few { length seats.now ≤ 15 }
 {
     assert!(rt; start <= 2_000_000_000_000 && is_begun(seats, start, pulses));
@@ -127,14 +127,16 @@ fn put_drive(alloc: Global, text: &mut String, stretches: &[Stretch]) {
     }
 }
 
-// The drive of each seat, one after another.
+// The drive of each seat, one after another, and then that of the pulses.
 fn drives_text(
     rt: &(impl Abort + AllocGlobal),
     seats: &[Seat],
     start: u64,
+    pulses: &Pulls,
     outcome: &Outcome,
 ) -> String {
     assert!(rt; start <= 2_000_000_000_000 && outcome.reading.at <= 3_000_000_000_000);
+    assert!(rt; outcome.rest <= 3_000_000_000_000);
     let mut text = String::new(rt.alloc());
     for (number, seat) in seats.iter().enumerate() {
         put_drive(
@@ -144,30 +146,48 @@ fn drives_text(
         );
         let _ = text.push_str(" ");
     }
+    put_drive(
+        rt.alloc(),
+        &mut text,
+        begun_within(pulses.as_slice(), start, outcome.rest),
+    );
     text
 }
 
-// The drives of a round of some seats that begins at an instant, with a pulse.
+// Pulses, with commas between.
+fn pulses_of(words: &str) -> Option<Pulls> {
+    let mut stretches: ArrayVec<Stretch, 16> = ArrayVec::new();
+    for word in words.split(',') {
+        let _ = stretches.try_push(pulse_of(word)?);
+    }
+    Pulls::new(stretches.as_slice())
+}
+
+// The drives of a round of some seats that begins at an instant, with pulses.
 fn reported(rt: &(impl Abort + AllocGlobal), row: &str) -> Option<String> {
     let (seats, rest) = row.split_once(" | ")?;
-    let (start, pulse) = rest.split_once(" | ")?;
+    let (start, pulses) = rest.split_once(" | ")?;
     let seats = seats_of(seats)?;
-    let pulses = Pulses::new(&[pulse_of(pulse)?]).ok()?;
+    let pulses = pulses_of(pulses)?;
     let start: u64 = start.parse().ok()?;
     let outcome = round(rt, &seats, start, &pulses);
-    Some(drives_text(rt, &seats, start, &outcome))
+    Some(drives_text(rt, &seats, start, &pulses, &outcome))
 }
 
 // A poll that the television acknowledges; a frame of two blocks; two senders, of which the one with the higher address is
 // out at its first bit; a fall too early, after which the television pulls; a bit that a pulse turns into a 0, at whose
-// sample the sender is out. The bits are those of CEC 5.2: 3,700 low of 4,500, then 1,500 or 600 of 2,400. A pull that
-// answers a fall begins a microsecond after it.
+// sample the sender is out. Three pulls inside the low of a start, and one that acknowledges and outlasts the reading: the next
+// one begins no sooner than the line is high. Two that let slots fall 350 and 351 early: the reading ends as the sender's fourth
+// slot is due, 2,751 after the third, and the sender makes no fall then. The bits are those of CEC 5.2: 3,700 low of 4,500, then
+// 1,500 or 600 of 2,400. A pull that answers a fall begins a microsecond after it.
 const ROUNDS: &str = "\
-0 4:40 | 1000000 | 900+1 => 1026101-1027600, 1000000-1003700,1004500-1006000,1006900-1007500,1009300-1010800,1011700-1013200,1014100-1015600,1016500-1018000,1018900-1020400,1021300-1022800,1023700-1024300,1026100-1026700, 
-0 4:40,04 | 1000000 | 900+1 => 1026101-1027600,1050101-1051600, 1000000-1003700,1004500-1006000,1006900-1007500,1009300-1010800,1011700-1013200,1014100-1015600,1016500-1018000,1018900-1020400,1021300-1022800,1023700-1025200,1026100-1026700,1028500-1030000,1030900-1032400,1033300-1034800,1035700-1037200,1038100-1039600,1040500-1041100,1042900-1044400,1045300-1046800,1047700-1048300,1050100-1050700, 
-4:40 8:80 | 1000000 | 900+1 => 1000000-1003700,1004500-1006000,1006900-1007500,1009300-1010800,1011700-1013200,1014100-1015600,1016500-1018000,1018900-1020400,1021300-1022800,1023700-1024300,1026100-1026700, 1000000-1003700,1004500-1005100, 
-0 4:40,04 | 1000000 | 1006500+100 => 1006501-1010100, 1000000-1003700,1004500-1006000, 
-0 4:40,04 | 1000000 | 1006600+1200 => - 1000000-1003700,1004500-1006000,1006900-1007500, ";
+0 4:40 | 1000000 | 900+1 => 1026101-1027600, 1000000-1003700,1004500-1006000,1006900-1007500,1009300-1010800,1011700-1013200,1014100-1015600,1016500-1018000,1018900-1020400,1021300-1022800,1023700-1024300,1026100-1026700, -
+0 4:40,04 | 1000000 | 900+1 => 1026101-1027600,1050101-1051600, 1000000-1003700,1004500-1006000,1006900-1007500,1009300-1010800,1011700-1013200,1014100-1015600,1016500-1018000,1018900-1020400,1021300-1022800,1023700-1025200,1026100-1026700,1028500-1030000,1030900-1032400,1033300-1034800,1035700-1037200,1038100-1039600,1040500-1041100,1042900-1044400,1045300-1046800,1047700-1048300,1050100-1050700, -
+4:40 8:80 | 1000000 | 900+1 => 1000000-1003700,1004500-1006000,1006900-1007500,1009300-1010800,1011700-1013200,1014100-1015600,1016500-1018000,1018900-1020400,1021300-1022800,1023700-1024300,1026100-1026700, 1000000-1003700,1004500-1005100, -
+0 4:40,04 | 1000000 | 1006500+100 => 1006501-1010100, 1000000-1003700,1004500-1006000, 1006500-1006600,
+0 4:40,04 | 1000000 | 1006600+1200 => - 1000000-1003700,1004500-1006000,1006900-1007500, 1006600-1007800,
+4:40 | 1000000 | 1000500+100,1000700+100,1000900+2000,1026200+50000,1080000+10 => 1000000-1003700,1004500-1006000,1006900-1007500,1009300-1010800,1011700-1013200,1014100-1015600,1016500-1018000,1018900-1020400,1021300-1022800,1023700-1024300,1026100-1026700, 1000500-1000600,1000700-1000800,1000900-1002900,1026200-1076200,
+4:40,04 | 1000000 | 1006550+400,1008949+400 => 1000000-1003700,1004500-1006000,1006900-1007500,1009300-1010800, 1006550-1006950,1008949-1009349,";
 
 // Each row comes out as it is wanted.
 fn report(rt: &(impl Abort + AllocGlobal), rows: &str) {

@@ -5,7 +5,6 @@ use Rattle.std.specs.List.{All, flat_map, list_any}
 use Rattle.std.proofs.lemmas.List.Folds.{list_any-append}
 use Rattle.cec_wave.specs.declared.Stretch.{Stretch}
 use Rattle.cec_wave.specs.Line.{IsWave, covers, line_of}
-use Rattle.cec_wave.specs.Pulses.{AreSparse}
 use Rattle.cec_wave.specs.Bounds.{latest_instant}
 use Rattle.cec_wire.specs.declared.Seat.{Seat}
 use Rattle.cec_wire.specs.declared.Outcome.{Outcome}
@@ -37,7 +36,7 @@ use Rattle.cec_driven.specs.Emulate.{IsDrivesOf}
 use Rattle.cec_driven.proofs.Counts.{count_started}
 use Rattle.cec_driven.proofs.HasDrives.{runs_have_drives}
 use Rattle.capture_laws.proofs.Formats.{is_capture, lines_are_read_back}
-use Rattle.capture_laws.proofs.ReadBack.{same_line}
+use Rattle.capture_laws.proofs.ReadBack.{over_by_script, same_line}
 use Rattle.dump_laws.specs.Dumps.{Declared, Span, ReportsLine, ReportsWires, dump_of, level_at, numbered_names, wire_at}
 use Rattle.dump_laws.proofs.ReadHead.{dumps_are_read_as_the_line}
 use Rattle.dump_laws.proofs.Whole.{dumps_report_their_wires}
@@ -49,9 +48,9 @@ use Rattle.driven_laws.proofs.Turns.{Stands, Told, all_reported, driven_line, pu
 
 -- ---- a run of accepted texts
 
-stands_started : (tree : List Node) (pulses : List Stretch) → AreSparse pulses → Stands (length tree) 0 (first_net tree pulses)
-stands_started tree pulses sparse = record {
-  sparse = sparse;
+stands_started : (tree : List Node) (pulses : List Stretch) → IsWave pulses → Stands (length tree) 0 (first_net tree pulses)
+stands_started tree pulses order = record {
+  order = order;
   framed = framed-started tree pulses;
   later = λ k p l. omega arith;
   rested = omega arith;
@@ -68,7 +67,7 @@ reported_of : (topology script text : List ℕ) (totals : Totals) → (p : IsDri
 reported_of topology script text totals p =
     let sound = scripts_are_sound p.plan.tree script p.course p.accepted.course_is in
     all_reported (length p.plan.tree) p.course.end p.driven.run.turns 0 (start (first_net p.plan.tree p.course.pulses) p.course.events) p.driven.run.at_end p.driven.run.line p.driven.run.body
-    p.driven.run.drives (stands_started p.plan.tree p.course.pulses sound.sparse) sound.framed
+    p.driven.run.drives (stands_started p.plan.tree p.course.pulses sound.timely.order) sound.framed
 
 pub rounds_are_ruled : RoundsAreRuled
 rounds_are_ruled topology script text totals p = (reported_of topology script text totals p).ruled
@@ -146,9 +145,10 @@ rounds_are_the_traces topology script x y s t p q =
 soon : (topology script text : List ℕ) (totals : Totals) → (p : IsDrivesOf topology script text totals) → end_of topology script text totals p ≤ latest_instant
 soon topology script text totals p =
     let sound = scripts_are_sound p.plan.tree script p.course p.accepted.course_is in
-    let close = runs_close_soon (Line Vcd) p.plan.tree p.course.pulses p.course.events p.course.end p.driven.run.turns p.driven.run.line p.driven.run.at_end sound.sparse
-    (leads p.course.end p.driven.run.turns (start (first_net p.plan.tree p.course.pulses) p.course.events) p.driven.run.at_end p.driven.run.line p.driven.run.body p.driven.run.drives) in
     let limit = sound.limit in
+    let close = runs_close_soon (Line Vcd) p.plan.tree p.course.pulses p.course.events latest_instant p.course.end p.driven.run.turns p.driven.run.line p.driven.run.at_end
+    (omega (arith, limit)) (over_by_script (length p.plan.tree) p.course sound)
+    (leads p.course.end p.driven.run.turns (start (first_net p.plan.tree p.course.pulses) p.course.events) p.driven.run.at_end p.driven.run.line p.driven.run.body p.driven.run.drives) in
     omega (arith, close, limit)
 
 abbrev spans_in : (topology script text : List ℕ) (totals : Totals) → IsDrivesOf topology script text totals → List Span
@@ -310,7 +310,7 @@ dumps_report_drives topology script text totals p =
 
 pub texts_have_drives : TextsHaveDrives
 texts_have_drives topology script plan course edid accepted root =
-    let driven = runs_have_drives plan.tree course.pulses course.events course.end (scripts_are_sound plan.tree script course accepted.course_is).sparse in
+    let driven = runs_have_drives plan.tree course.pulses course.events course.end (scripts_are_sound plan.tree script course accepted.course_is).timely.order in
     (driven.0, driven.1, record { plan = plan; course = course; edid = edid; accepted = accepted; root = root; driven = driven.2 })
 
 -- ---- it is read as the dump of the line alone
@@ -335,7 +335,7 @@ has_line : (topology script text : List ℕ) (totals : Totals) → (p : IsDrives
 has_line topology script text totals p =
     let sound = scripts_are_sound p.plan.tree script p.course p.accepted.course_is in
     let q = its_line topology script text totals p in
-    let k = lines_are_of_the_rounds Vcd p.plan.tree p.course.pulses p.course.events p.course.end (line_of_run topology script text totals p) totals sound.sparse sound.framed q.line in
+    let k = lines_are_of_the_rounds Vcd p.plan.tree p.course.pulses p.course.events p.course.end (line_of_run topology script text totals p) totals sound.timely.order sound.framed q.line in
     let end = end_of topology script text totals p in
     let os = outcomes (rounds_of topology script text totals p) in
     let waves = map (λ (o : Outcome). o.wave) os in

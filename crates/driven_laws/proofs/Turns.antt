@@ -4,9 +4,8 @@ use Rattle.std.specs.List.{All, filter, list_any}
 use Rattle.std.proofs.lemmas.Bool.Decides.{nat_tests}
 use Rattle.std.proofs.lemmas.List.Elements.{All-cons, All-nil, filter_passes}
 use Rattle.cec_wave.specs.declared.Stretch.{Stretch}
-use Rattle.cec_wave.specs.Line.{line_of}
-use Rattle.cec_wave.specs.Pulses.{AreSparse}
-use Rattle.cec_wave.proofs.Kept.{sparse-filter}
+use Rattle.cec_wave.specs.Line.{IsWave, line_of}
+use Rattle.cec_wave.proofs.Kept.{wave_filter}
 use Rattle.cec_bits.specs.Readings.{IsLone}
 use Rattle.cec_wire.specs.declared.Outcome.{Outcome}
 use Rattle.cec_wire.specs.Alone.{part_of}
@@ -42,7 +41,7 @@ use Rattle.driven_laws.specs.Rounds.{IsRuled, Laid, drives, pulls, rounds_by, ro
 
 -- no round begins before `from`, and there are so many devices
 pub record Stands (count from : ℕ) (s : NetState) : Type 0 where
-  pub sparse : AreSparse s.pulses
+  pub order : IsWave s.pulses
   pub framed : AreFramed s
   pub later : All (λ p. from ≤ p.from) s.pulses
   pub rested : from ≤ s.rest + 1
@@ -53,7 +52,7 @@ stands_applied : (count from at : ℕ) (e : TimedEvent) (events : List TimedEven
 stands_applied count from at e events s framed h =
     let k = kept at e.event s in
     record {
-      sparse = subst (λ (ps : List Stretch). AreSparse ps) (sym k.pulses) h.sparse;
+      order = subst IsWave (sym k.pulses) h.order;
       framed = framed-applied at e.event s framed.0 h.framed;
       later = subst (λ (ps : List Stretch). All (λ p. from ≤ p.from) ps) (sym k.pulses) h.later;
       rested = omega (arith, k.rest, h.rested);
@@ -97,7 +96,7 @@ ruled : (count from begin : ℕ) (s t : NetState) (x y : Totals) (line : List �
 unfolding laid
 ruled count from begin s t x y line begins turn h = record {
   frames = seats_fit s begin h.framed;
-  sparse = h.sparse;
+  order = h.order;
   wave = turn.wave;
   round = turn.next.round;
   begun = begun s begin begins;
@@ -108,7 +107,7 @@ later_than rest pulses k p l = (let e = filter_passes (λ (q : Stretch). nat_lt 
 
 stands_round : (count from begin : ℕ) (s : NetState) (o : Outcome) → Stands count from s → Stands count (o.rest + 1) (after_round s begin o)
 stands_round count from begin s o h = record {
-  sparse = sparse-filter (λ p. nat_lt o.rest p.from) s.pulses h.sparse;
+  order = wave_filter (λ p. nat_lt o.rest p.from) s.pulses h.order;
   framed = framed-round s begin o h.framed;
   later = later_than o.rest s.pulses;
   rested = omega arith;
@@ -135,14 +134,14 @@ none_low u place (wire ∷ wires) h = by (line_of wire u) refl h place (λ rest 
     by false e k (suc place) more = more k place
 
 pub driven_line : (r : Laid) → IsRuled r → (u : ℕ) → line_of r.outcome.wave u ≡ list_any (λ ss. line_of ss u) (drives r)
-driven_line r h u = drives_are_the_line r.seats r.begin r.pulses r.outcome h.frames h.sparse h.wave h.round h.begun u
+driven_line r h u = drives_are_the_line r.seats r.begin r.pulses r.outcome h.order h.wave h.round h.begun u
 
 -- each of its drives is low exactly where its seat, or a pulse, pulls
 pub pulled : (r : Laid) → IsRuled r → (u : ℕ) → map (λ ss. line_of ss u) (drives r) ≡ pulls r u
-pulled r h u = drives_are_ruled r.seats r.begin r.pulses r.outcome h.frames h.sparse h.wave h.round h.begun u
+pulled r h u = drives_are_ruled r.seats r.begin r.pulses r.outcome h.order h.wave h.round h.begun u
 
 pub begins_low : (r : Laid) → IsRuled r → r.begin < r.outcome.rest
-begins_low r h = (rounds_last r.seats r.begin r.pulses r.outcome h.sparse h.wave h.round h.begun).0
+begins_low r h = (rounds_last r.seats r.begin r.pulses r.outcome h.order h.wave h.round h.begun).0
 
 within : (r : Laid) → IsRuled r → IsWithin (span_of r)
 within r h = record { some = omega (arith, low); before = early; after = late }
@@ -151,7 +150,7 @@ within r h = record { some = omega (arith, low); before = early; after = late }
     low = begins_low r h
 
     lone : IsLone (part_of r.outcome)
-    lone = rounds_are_lone.lone r.seats r.begin r.pulses r.outcome h.frames h.sparse h.wave h.round h.begun
+    lone = rounds_are_lone.lone r.seats r.begin r.pulses r.outcome h.frames h.order h.wave h.round h.begun
 
     starts : r.outcome.reading.begin ≡ r.begin
     starts = h.round.starts

@@ -2,7 +2,6 @@
 use Rattle.std.specs.Prelude.{◌≡◌, ℕ, zero, suc, Bool, true, List, [], ◌∷◌, ◌++◌, map, All}
 use Rattle.cec_wave.specs.declared.Stretch.{Stretch}
 use Rattle.cec_wave.specs.Line.{IsWave, line_of}
-use Rattle.cec_wave.specs.Pulses.{AreSparse}
 use Rattle.cec_wire.specs.declared.Seat.{Seat}
 use Rattle.cec_wire.specs.declared.Outcome.{Outcome}
 use Rattle.cec_wire.specs.Contend.{AreFrames}
@@ -51,11 +50,11 @@ abbrev pub rounds_of : (topology script text : List ℕ) (totals : Totals) → I
 rounds_of topology script text totals p =
     rounds_in p.course.end p.driven.run.turns (start (first_net p.plan.tree p.course.pulses) p.course.events) p.driven.run.line p.driven.run.body p.driven.run.at_end p.driven.run.drives
 
--- it is one of which `drives_are_the_line` of drive_laws speaks: its seats send frames, pulses are sparse, its line is in order and
--- is that of a round, and somebody pulls at once
+-- it is one of which `drives_are_the_line` of drive_laws speaks: its seats send frames, its pulses and its line are in order, this is
+-- that of a round, and somebody pulls at once
 pub record IsRuled (r : Laid) : Type 0 where
   pub frames : AreFrames r.seats
-  pub sparse : AreSparse r.pulses
+  pub order : IsWave r.pulses
   pub wave : IsWave r.outcome.wave
   pub round : IsRound r.seats r.begin r.pulses r.outcome
   pub begun : is_begun r.seats r.begin r.pulses ≡ true

@@ -1,5 +1,5 @@
 -- The events of a script have the numbers of its lines.
-use Rattle.std.proofs.Common.{◌≡◌, ℕ, suc, ◌+◌, ◌^◌, ◌<◌, ◌≤◌, ◌==◌, ◌&&◌, Bool, true, false, cond, min, nat_lt, nat_le, if◌then◌else◌, List, [], ◌∷◌, ◌++◌, length, codes, get_or, Option, Some, None, is_some, Result, Ok, Err, sym, ap, subst, arith}
+use Rattle.std.proofs.Common.{◌≡◌, ℕ, suc, ◌+◌, ◌^◌, ◌<◌, ◌≤◌, ◌==◌, ◌&&◌, ◌||◌, Bool, true, false, cond, min, nat_lt, nat_le, if◌then◌else◌, List, [], ◌∷◌, ◌++◌, length, codes, get_or, Option, Some, None, is_some, Result, Ok, Err, sym, ap, subst, arith}
 use Rattle.std.specs.List.{All, slice_split}
 use Rattle.std.specs.Str.{bytes_eq}
 use Rattle.std.proofs.lemmas.List.Elements.{All-append, All-cons, All-nil}
@@ -25,8 +25,8 @@ use Rattle.cec_asm.specs.Fault.{at_word}
 use Rattle.cec_asm.specs.declared.fault.LineFault.{LineFault}
 use Rattle.cec_asm.specs.declared.script.ScriptCause.TheVariants as causes
 use Rattle.cec_asm.specs.declared.script.TimedEvent.{TimedEvent}
-use Rattle.cec_asm.specs.Script.{AreLinesRead, Course, IsEventRead, IsLineRead, IsScriptRead, IsSendRead, IsWordsRead, Notes, Onward, end_read, end_words, course_at_end, event_words, key_read, key_words, act_read, hold_words, drop_words, last_end, last_time, no_notes, other_words, plug_read, plug_words, pulse_read, pulse_words, notes_with_event, send_read, time_of, unless_fault, unplug_read, unplug_words}
-use Rattle.cec_wave.specs.Bounds.{most_pulses}
+use Rattle.cec_asm.specs.Script.{AreLinesRead, Course, IsEventRead, IsLineRead, IsScriptRead, IsSendRead, IsWordsRead, Notes, Onward, end_read, end_words, course_at_end, event_words, key_read, key_words, act_read, hold_words, drop_words, last_end, last_time, no_notes, other_words, plug_read, plug_words, pulse_read, pulse_words, pull_read, pull_words, touches, notes_with_event, send_read, time_of, unless_fault, unplug_read, unplug_words}
+use Rattle.cec_wave.specs.Bounds.{most_pulses, most_pulls, widest_pull}
 
 -- no event stands below this line
 abbrev pub AreBy : ℕ → List TimedEvent → Type 0
@@ -159,6 +159,21 @@ unfolding Fits
 fits_pulse_words notes line many None h = tt
 fits_pulse_words notes line many (Some words) h = fits_pulse notes line (time_of words.0) (number_of words.1) h
 
+fits_pull : (notes : Notes) (line : ℕ) (time width : Option ℕ) → AreBy line notes.events → Fits line (pull_read notes (length notes.pulses) time width)
+unfolding Fits
+fits_pull notes line None width h = tt
+fits_pull notes line (Some time) None h = tt
+fits_pull notes line (Some time) (Some width) h =
+    fits_if line (width == 0 || nat_lt widest_pull width) (Err (at_word 2 causes.Width)) _ tt
+    (fits_if line (touches (last_end notes.pulses) time) (Err (at_word 1 causes.Order)) _ tt
+    (fits_if line (nat_le most_pulls (length notes.pulses)) (Err (at_word 0 causes.TooMany)) _ tt
+    (fits_if line (is_some notes.end) (Err (at_word 0 causes.End)) (Ok (record notes { pulses = notes.pulses ++ record { from = time; to = time + width } ∷ [] })) tt h)))
+
+fits_pull_words : (notes : Notes) (line : ℕ) (many : ℕ) (words : Option (List ℕ × List ℕ)) → AreBy line notes.events → Fits line (pull_words notes (length notes.pulses) many words)
+unfolding Fits
+fits_pull_words notes line many None h = tt
+fits_pull_words notes line many (Some words) h = fits_pull notes line (time_of words.0) (number_of words.1) h
+
 fits_end : (notes : Notes) (line : ℕ) (time : Option ℕ) → AreBy line notes.events → Fits line (end_read notes time)
 unfolding Fits
 fits_end notes line None h = tt
@@ -175,7 +190,8 @@ fits_other : (notes : Notes) (line : ℕ) (verb : List ℕ) (words : List (List 
 unfolding Fits
 fits_other notes line verb words h =
     fits_if line (bytes_eq verb (codes "pulse")) (pulse_words notes (length notes.pulses) (length words) (two_of words)) _ (fits_pulse_words notes line (length words) (two_of words) h)
-    (fits_if line (bytes_eq verb (codes "end")) (end_words notes (length words) (one_of words)) (Err (at_word 0 causes.Word)) (fits_end_words notes line (length words) (one_of words) h) tt)
+    (fits_if line (bytes_eq verb (codes "pull")) (pull_words notes (length notes.pulses) (length words) (two_of words)) _ (fits_pull_words notes line (length words) (two_of words) h)
+    (fits_if line (bytes_eq verb (codes "end")) (end_words notes (length words) (one_of words)) (Err (at_word 0 causes.Word)) (fits_end_words notes line (length words) (one_of words) h) tt))
 
 -- ---- a line, and all lines
 

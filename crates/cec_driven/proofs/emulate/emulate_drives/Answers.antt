@@ -1,7 +1,7 @@
 use Rattle.std.proofs.Common.{rules, ◌≡◌, Ok, arith, option_map}
 use Rattle.cec_asm.specs.Topology.{topology_of, plan_of}
 use Rattle.cec_asm.specs.Script.{IsScriptRead, course_of}
-use Rattle.cec_run.proofs.Accepted.{early, has_device}
+use Rattle.cec_run.proofs.Accepted.{early, ends_early, has_device}
 use Rattle.cec_driven.proofs.Counts.{count_started}
 use Rattle.cec_driven.proofs.HasDrives.{runs_have_drives}
 use Rattle.cec_driven.proofs.emulate.emulate_drives.Goals as goal
@@ -12,17 +12,23 @@ on_heap-requires-clause-some g c =
     has_device c.args.topology.now (plan_of c.in_ok-topology.topology) plan
 
 pub on_heap-requires-clause-early : goal.on_heap-requires-clause-early
-on_heap-requires-clause-early g c = rw c.deref-2.ensures.value (early c.in_ok-script.script.pulses.items c.in_ok-script.ensures.script.early)
+on_heap-requires-clause-early g c = rw c.deref.ensures.value (early c.in_ok-script.script.pulses.items c.in_ok-script.ensures.script.early)
+
+pub on_heap-requires-clause-ends : goal.on_heap-requires-clause-ends
+on_heap-requires-clause-ends g c = rw c.deref.ensures.value (ends_early c.in_ok-script.script.pulses.items c.in_ok-script.ensures.script.early c.in_ok-script.ensures.script.wide)
 
 pub run-requires-clause-few : goal.run-requires-clause-few
-run-requires-clause-few g c = rw (c.deref_mut.ensures.value, c.in-Ok-on_heap.ensures) (omega (arith, count_started c.in_ok-topology.topology.tree c.in_ok-script.script.pulses.items, c.count-count.ensures.value, c.count-count.ensures.fits))
+run-requires-clause-few g c = rw (c.deref_mut.ensures.value, c.in-Ok.ensures) (omega (arith, count_started c.in_ok-topology.topology.tree c.in_ok-script.script.pulses.items, c.count-count.ensures.value, c.count-count.ensures.fits))
+
+pub run-requires-clause-order : goal.run-requires-clause-order
+run-requires-clause-order g c = rw c.deref-2.ensures.value c.in_ok-script.ensures.script.timely.order
 
 pub returns-clause-cut : goal.returns-clause-cut
 returns-clause-cut g c =
     let plan : topology_of c.args.topology.now ≡ Ok (plan_of c.in_ok-topology.topology) = search rules in
     let course : IsScriptRead c.in_ok-topology.topology.tree c.args.script.now (Ok (course_of c.in_ok-script.script)) = c.in_ok-script.ensures.gives in
-    let due = runs_have_drives c.in_ok-topology.topology.tree (course_of c.in_ok-script.script).pulses (course_of c.in_ok-script.script).events (course_of c.in_ok-script.script).end c.in_ok-script.ensures.script.sparse in
-    let front = c.in-Err.ensures.cut due.0 due.1 (rw (c.deref_mut.ensures.value, c.in-Ok-on_heap.ensures, c.deref-3.ensures.value, c.deref-2.ensures.value) due.2) in (
+    let due = runs_have_drives c.in_ok-topology.topology.tree (course_of c.in_ok-script.script).pulses (course_of c.in_ok-script.script).events (course_of c.in_ok-script.script).end c.in_ok-script.ensures.script.timely.order in
+    let front = c.in-Err.ensures.cut due.0 due.1 (rw (c.deref_mut.ensures.value, c.in-Ok.ensures, c.deref-3.ensures.value, c.deref.ensures.value) due.2) in (
       due.0,
       due.1,
       record {

@@ -1,11 +1,10 @@
-use Rattle.std.proofs.Common.{arith, filter, map, nat_lt, ◌≤◌, ℕ, refl, subst, sym, ap, ap₂, ◌∙◌}
+use Rattle.std.proofs.Common.{arith, filter, map, nat_le, ◌+◌, ◌≤◌, ℕ, refl, subst, sym, ap, ap₂, ◌∙◌}
 use Rattle.cec_wave.specs.declared.Stretch.{Stretch}
-use Rattle.cec_wave.specs.Line.{IsWave}
 use Rattle.cec_net.specs.Step.{after_round, seat_of}
 use Rattle.hdmi_core.specs.Adds.{Adds}
 use Rattle.cec_driven.specs.Driven.{round_drives}
 use Rattle.cec_driven.proofs.Counts.{count_round}
-use Rattle.cec_driven.proofs.RoundBounds.{bounds}
+use Rattle.cec_driven.proofs.RoundBounds.{bounds, since_after}
 use Rattle.cec_driven.proofs.round.add_drives.Goals as goal
 
 pub seats_of-seats-requires-clause-few : goal.seats_of-seats-requires-clause-few
@@ -14,32 +13,25 @@ seats_of-seats-requires-clause-few g c = rw c.devices.ensures c.requires.kept.fe
 pub seats_of-seats-requires-clause-rest : goal.seats_of-seats-requires-clause-rest
 seats_of-seats-requires-clause-rest g c = omega (arith, c.requires.kept.rest, c.requires.progress.later, c.requires.soon)
 
-pub add_round-requires-clause-pulses : goal.add_round-requires-clause-pulses
-add_round-requires-clause-pulses g c =
-    (bounds c.args.net.now (after_round c.args.net.now c.args.begin c.args.outcome.now) c.args.begin c.as_slice.result.now c.args.outcome.now (c.as_slice.ensures.pulses ∙ c.requires.kept.pulses) c.as_slice.ensures.sparse
-    (subst IsWave c.as_slice-stretches.ensures.stretches c.as_slice-stretches.ensures.wave) c.requires.soon (record { round = c.requires.round; after_is = refl }) c.requires.progress).few
-
 pub add_round-requires-clause-early : goal.add_round-requires-clause-early
 add_round-requires-clause-early g c =
-    (bounds c.args.net.now (after_round c.args.net.now c.args.begin c.args.outcome.now) c.args.begin c.as_slice.result.now c.args.outcome.now (c.as_slice.ensures.pulses ∙ c.requires.kept.pulses) c.as_slice.ensures.sparse
-    (subst IsWave c.as_slice-stretches.ensures.stretches c.as_slice-stretches.ensures.wave) c.requires.soon (record { round = c.requires.round; after_is = refl }) c.requires.progress).at
+    (bounds c.args.net.now (after_round c.args.net.now c.args.begin c.args.outcome.now) c.args.begin c.args.outcome.now c.requires.soon (record { round = c.requires.round; after_is = refl }) c.requires.progress).at
 
 pub add_round-requires-clause-rest : goal.add_round-requires-clause-rest
 add_round-requires-clause-rest g c =
-    let b = bounds c.args.net.now (after_round c.args.net.now c.args.begin c.args.outcome.now) c.args.begin c.as_slice.result.now c.args.outcome.now (c.as_slice.ensures.pulses ∙ c.requires.kept.pulses) c.as_slice.ensures.sparse
-    (subst IsWave c.as_slice-stretches.ensures.stretches c.as_slice-stretches.ensures.wave) c.requires.soon (record { round = c.requires.round; after_is = refl }) c.requires.progress in
+    let b = bounds c.args.net.now (after_round c.args.net.now c.args.begin c.args.outcome.now) c.args.begin c.args.outcome.now c.requires.soon (record { round = c.requires.round; after_is = refl }) c.requires.progress in
     (b.later, b.rest)
 
 pub returns-clause-drives : goal.returns-clause-drives
 returns-clause-drives g c =
     let seats = c.deref.ensures.0 ∙ c.seats_of-seats.ensures ∙ ap₂ (λ rest ds. map (seat_of rest c.args.begin) ds) c.requires.kept.rest c.devices.ensures in
-    let pulses = c.as_slice.ensures.pulses ∙ c.requires.kept.pulses in
     subst (λ ss. Adds c.args.out.now c.add_round.new.out (round_drives ss c.args.begin c.args.net.now.pulses c.args.outcome.now)) seats
-    (subst (λ ps. Adds c.args.out.now c.add_round.new.out (round_drives c.deref.result.now c.args.begin ps c.args.outcome.now)) pulses c.add_round.ensures)
+    (subst (λ ps. Adds c.args.out.now c.add_round.new.out (round_drives c.deref.result.now c.args.begin ps c.args.outcome.now)) c.requires.kept.pulses c.add_round.ensures)
 
 pub returns-clause-kept : goal.returns-clause-kept
 returns-clause-kept g c = record {
-  pulses = c.drop_until.ensures ∙ ap (filter (λ (p : Stretch). nat_lt c.args.outcome.now.rest p.from)) c.requires.kept.pulses;
+  pulses = c.begun_since-kept.ensures.later ∙ ap (filter (λ (p : Stretch). nat_le (c.args.outcome.now.rest + 1) p.from)) c.requires.kept.pulses ∙ since_after c.args.outcome.now.rest c.args.net.now.pulses;
+  order = c.begun_since-kept.ensures.order;
   rest = refl;
   few = subst (λ (n : ℕ). n ≤ 15) (sym (count_round c.args.begin c.args.outcome.now c.args.net.now (after_round c.args.net.now c.args.begin c.args.outcome.now) (record { round = c.requires.round; after_is = refl }))) c.requires.kept.few;
 }

@@ -8,7 +8,7 @@ pub write_drives-requires-clause-fresh : goal.write_drives-requires-clause-fresh
 write_drives-requires-clause-fresh g c = (omega (arith, c.requires.fresh.0), omega (arith, c.requires.fresh.1))
 
 pub write_drives-requires-clause-kept : goal.write_drives-requires-clause-kept
-write_drives-requires-clause-kept g c = record { pulses = c.requires.pulses; rest = c.requires.rest ∙ sym c.requires.fresh.1; few = c.requires.few }
+write_drives-requires-clause-kept g c = record { pulses = c.requires.pulses; order = c.requires.order; rest = c.requires.rest ∙ sym c.requires.fresh.1; few = c.requires.few }
 
 pub returns-clause-cut : goal.returns-clause-cut
 returns-clause-cut g c = written_cut (IsDriven c.args.end (start c.args.net.now c.args.events.now)) _ _ _ _ c.write_drives.result c.write_drives.ensures

@@ -1,18 +1,29 @@
-use Rattle.std.proofs.Common.{◌-◌, ◌∷◌, arith, subst, sym}
+use Rattle.std.proofs.Common.{◌-◌, ◌+◌, ◌<◌, ◌≤◌, ℕ, [], ◌∷◌, ◌++◌, take, ◌∙◌, arith, subst, sym, false, ◌≡◌, List}
+use Rattle.std.specs.List.{list_any}
+use Rattle.cec_wave.specs.declared.Stretch.{Stretch}
+use Rattle.cec_wave.specs.Line.{line_of}
 use Rattle.hdmi_core.specs.Adds.{Adds}
 use Rattle.hdmi_core.proofs.Adding.{then}
 use Rattle.cec_wires.specs.Wires.{instant_text, wires_text}
-use Rattle.cec_wires.proofs.Quiet.{more_instants}
+use Rattle.cec_wires.proofs.Left.{more_instants}
+use Rattle.cec_wires.proofs.Quiet.{is_end}
 use Rattle.cec_wires.proofs.instants.add_wires.Goals as goal
 
 pub instants-preserved : goal.instants-preserved
 instants-preserved g c =
-    let wires = c.args.line.now ∷ c.args.drives.now in
-    let whole = more_instants c.args.line.now c.args.drives.now c.args.from c.instants.t c.next_end-t.result c.next_end_of.result c.instants.invariant.after c.next_end-t.ensures.later c.next_end-t.ensures.near
-    c.next_end-t.ensures.quiet c.next_end_of.ensures.quiet in
+    let wires = c.args.line.now ∷ (c.args.drives.now ++ c.args.pulses.now ∷ []) in
+    let two = c.args.line.now ∷ (c.args.drives.now ++ take 2 c.not_over-left.result.now ∷ []) in
+    let quiet = subst (λ (ss : List Stretch). (u : ℕ) → c.instants.t < u → u < c.next_end.result → list_any (is_end u) ss ≡ false) c.next_two-next.ensures c.next_end.ensures.quiet in
+    let added = subst (λ (ss : List Stretch). Adds c.instants.out c.add_instant.new.out (instant_text (c.args.line.now ∷ (c.args.drives.now ++ ss ∷ [])) c.instants.t)) c.next_two-next.ensures c.add_instant.ensures in
+    let same : (u : ℕ) → c.instants.t ≤ u + 1 → line_of c.not_over-left.result.now u ≡ line_of c.args.pulses.now u = λ u l. c.not_over-left.ensures.same u l ∙ c.instants.invariant.same u l in
+    let whole = more_instants c.args.line.now c.args.drives.now c.args.pulses.now c.not_over-left.result.now c.args.from c.instants.t c.next_end-t.result c.next_end_of.result c.next_end.result
+    c.instants.invariant.after c.next_end-t.ensures.later c.next_end-t.ensures.near c.next_end_of.ensures.near
+    c.not_over-left.ensures.order c.not_over-left.ensures.first same c.next_end-t.ensures.quiet c.next_end_of.ensures.quiet quiet in
     record {
       so_far = subst (Adds c.args.out.now c.add_instant.new.out) (sym whole)
-          (then _ _ _ (wires_text wires c.args.from (c.instants.t - c.args.from)) (instant_text wires c.instants.t) c.instants.invariant.so_far c.add_instant.ensures);
+          (then _ _ _ (wires_text wires c.args.from (c.instants.t - c.args.from)) (instant_text two c.instants.t) c.instants.invariant.so_far added);
       after = omega (arith, c.instants.invariant.after, c.next_end-t.ensures.later);
-      before = omega (arith, c.next_end-t.ensures.near, c.next_end_of.ensures.near);
+      before = omega (arith, c.next_end-t.ensures.near, c.next_end_of.ensures.near, c.next_end.ensures.near);
+      order = c.not_over-left.ensures.order;
+      same = λ u l. same u (omega (arith, l, c.next_end-t.ensures.later));
     }

@@ -1,14 +1,17 @@
-use Rattle.std.proofs.Common.{◌≤◌, ◌-◌, ◌∷◌}
+use Rattle.std.proofs.Common.{◌≡◌, ℕ, ◌+◌, ◌≤◌, ◌-◌, [], ◌∷◌, ◌++◌}
+use Rattle.cec_wave.specs.Line.{line_of, IsWave}
 use Rattle.hdmi_core.specs.Adds.{Adds}
 use Rattle.cec_wires.specs.Wires.{wires_text}
 use Rattle.cec_wires.proofs.instants.add_wires.Given as goal
 
--- the instants so far are added
+-- the instants so far are added, and what is left of the pulses says all from t on
 abbrev pub invariant-instants : goal.invariant-instants
 invariant-instants g l = record {
-  so_far : Adds l.fn.out l.out (wires_text (l.line ∷ l.drives) l.from (l.t - l.from));
+  so_far : Adds l.fn.out l.out (wires_text (l.line ∷ (l.drives ++ l.pulses ∷ [])) l.from (l.t - l.from));
   after : l.from ≤ l.t;
   before : l.t ≤ l.to;
+  order : IsWave l.left;
+  same : (u : ℕ) → l.t ≤ u + 1 → line_of l.left u ≡ line_of l.pulses u;
 }
 
 abbrev pub decreases-instants : goal.decreases-instants

@@ -1,4 +1,4 @@
-use Rattle.std.proofs.Common.{◌∙◌, ap, sym, subst, ◌≤◌, ℕ}
+use Rattle.std.proofs.Common.{◌∙◌, sym}
 use Rattle.hdmi_core.proofs.Adding.{nothing}
 use Rattle.cec_run.proofs.Advance.{event_keeps}
 use Rattle.cec_driven.proofs.Counts.{count_applied}
@@ -11,6 +11,7 @@ returns g c = λ before applied kept. (
       let keeps = event_keeps c.args._at c.args._event.now.event before c.args._net.now applied.after_is in
       record {
         pulses = kept.pulses ∙ sym keeps.pulses;
+        order = kept.order;
         rest = kept.rest ∙ sym keeps.rest;
         few = rw (count_applied c.args._at c.args._event.now.event before c.args._net.now applied.after_is) kept.few;
       }
