@@ -2,4 +2,6 @@ pub mod Slots
 pub mod Nominal
 pub mod Widths
 pub mod Runs
+pub mod Waits
+pub mod Tries
 pub mod Told

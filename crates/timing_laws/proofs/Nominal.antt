@@ -1,5 +1,5 @@
 -- Without pulses the line of a round is that of one sender of the nominal times, which sends the bits that are read.
-use Rattle.std.proofs.Common.{◌≡◌, ◌≢◌, ℕ, zero, suc, ◌+◌, ◌-◌, ◌*◌, ◌%◌, ◌==◌, ◌<◌, ◌≤◌, Bool, true, false, ◌||◌, nat_lt, if◌then◌else◌, List, [], ◌∷◌, ◌++◌, length, length-append, slice_index_or, ◌⊎◌, inl, inr, Option, Some, None, is_some, Result, Ok, Err, refl, arith, ap, ◌∙◌, sym, subst}
+use Rattle.std.proofs.Common.{◌≡◌, ◌≢◌, ℕ, zero, suc, ◌+◌, ◌-◌, ◌*◌, ◌%◌, ◌==◌, ◌<◌, ◌≤◌, Bool, true, false, ◌||◌, nat_lt, if◌then◌else◌, List, [], ◌∷◌, ◌++◌, length, length-append, slice_index_or, ◌⊎◌, inl, inr, Option, Some, None, is_some, Result, Ok, Err, refl, arith, ap, ◌∙◌, sym, subst, append_assoc}
 use Rattle.std.specs.List.{list_any, filter_map, cons_option}
 use Rattle.std.specs.Option.{option_to_list}
 use Rattle.std.proofs.Math.Path.{fun_ext}
@@ -12,6 +12,7 @@ use Rattle.cec_frame.specs.Bits.{frame_bits, least_among}
 use Rattle.cec_frame.specs.declared.Ending.{Ending}
 use Rattle.cec_frame.specs.declared.Ending.TheVariants.{Complete, Short, Silent, BadStart, Long, Open}
 use Rattle.cec_frame.proofs.Slots.{length-frame_bits}
+use Rattle.cec_bits.specs.Windows.{standard, sample_at}
 use Rattle.cec_bits.specs.Reading.After.{Next, Ends}
 use Rattle.cec_bits.specs.Reading.{next_fall, next_rise, Read, Slot, known_at, reading_of, read_slots, read_on, read_start, after_slot, after_fall, after_last, last_ending, last_heard, bit_sampled_at, start_of, start_fall, bits_of, After}
 use Rattle.cec_bits.proofs.Search.{first_in_some, found_first, found_none}
@@ -32,7 +33,7 @@ use Rattle.cec_wire.proofs.Afterwards.{no_fall_after}
 use Rattle.cec_wire.proofs.Still.{high_before}
 use Rattle.cec_wire.proofs.OneOutcome.{one_outcome}
 use Rattle.timing_laws.specs.Nominal.{RoundsAreNominal}
-use Rattle.timing_laws.proofs.Slots.{Calm, IsSlotTime, OnSlot, Puller, SlotLow, falls_nominal, high_to, in_slot, low_for, no_pulses, quiet_slot, quiet_start, slot_low, soon_low, who_makes}
+use Rattle.timing_laws.proofs.Slots.{Calm, IsSlotTime, OnSlot, Puller, SlotLow, Starter, falls_nominal, high_to, in_slot, low_for, quiet_slot, quiet_start, slot_low, soon_low, starter, who_makes}
 
 -- ---- from slot to slot
 
@@ -60,21 +61,21 @@ ends_over low e bits ending at quiet h = by_last (last_ending bits) refl h
         P (Next f) = Unit {0}
         P (Ends z c) = IsOver low e c (last_heard z c)
 
-    silent : (o : Option ℕ) → next_fall low e 2750 ≡ o → after_fall e o ≡ Ends ending at → IsOver low e at (last_heard ending at)
-    silent None none k = over Silent ending (e + 2751) at k (record { later = omega arith; near = omega arith; quiet = λ u a b. found_none (is_fall low) (e + 1) 2750 none u (omega arith) (omega arith) })
-    silent (Some f) found k = by_time (nat_lt f (e + 2050)) refl k
+    silent : (o : Option ℕ) → next_fall low e standard.bit_total.most ≡ o → after_fall e o ≡ Ends ending at → IsOver low e at (last_heard ending at)
+    silent None none k = over Silent ending (e + (standard.bit_total.most + 1)) at k (record { later = omega arith; near = omega arith; quiet = λ u a b. found_none (is_fall low) (e + 1) standard.bit_total.most none u (omega arith) (omega arith) })
+    silent (Some f) found k = by_time (nat_lt f (e + standard.bit_total.least)) refl k
       where
-        by_time : (b : Bool) → nat_lt f (e + 2050) ≡ b → (if b then Ends Short f else Next f) ≡ Ends ending at → IsOver low e at (last_heard ending at)
+        by_time : (b : Bool) → nat_lt f (e + standard.bit_total.least) ≡ b → (if b then Ends Short f else Next f) ≡ Ends ending at → IsOver low e at (last_heard ending at)
         by_time true early g =
-            let d = found_first (is_fall low) (e + 1) 2750 f found in
-            let lt : f < e + 2050 = grind (arith, nat_tests) in
+            let d = found_first (is_fall low) (e + 1) standard.bit_total.most f found in
+            let lt : f < e + standard.bit_total.least = grind (arith, nat_tests) in
             absurd (false≢true (sym (quiet f (omega (arith, d.after)) (omega arith)) ∙ d.passes))
         by_time false late g = cc
 
-    last : (x : Ending) → last_ending bits ≡ Some x → (o : Option ℕ) → next_fall low e 1050 ≡ o → after_last e x o ≡ Ends ending at → IsOver low e at (last_heard ending at)
-    last x some None none k = over x ending (e + 1050) at k (whole x (last_heard x (e + 1050)) refl)
+    last : (x : Ending) → last_ending bits ≡ Some x → (o : Option ℕ) → next_fall low e sample_at ≡ o → after_last e x o ≡ Ends ending at → IsOver low e at (last_heard ending at)
+    last x some None none k = over x ending (e + sample_at) at k (whole x (last_heard x (e + sample_at)) refl)
       where
-        whole : (y : Ending) (n : ℕ) → last_heard y (e + 1050) ≡ n → IsOver low e (e + 1050) n
+        whole : (y : Ending) (n : ℕ) → last_heard y (e + sample_at) ≡ n → IsOver low e (e + sample_at) n
         whole Silent n g = record { later = omega arith; near = omega (arith, g); quiet = λ u a b. quiet u a (omega (arith, g)) }
         whole Complete n g = record { later = omega arith; near = omega (arith, g); quiet = λ u a b. quiet u a (omega (arith, g)) }
         whole Short n g = record { later = omega arith; near = omega (arith, g); quiet = λ u a b. quiet u a (omega (arith, g)) }
@@ -82,12 +83,12 @@ ends_over low e bits ending at quiet h = by_last (last_ending bits) refl h
         whole Long n g = record { later = omega arith; near = omega (arith, g); quiet = λ u a b. quiet u a (omega (arith, g)) }
         whole Open n g = record { later = omega arith; near = omega (arith, g); quiet = λ u a b. quiet u a (omega (arith, g)) }
     last x some (Some f) found k =
-        let d = found_first (is_fall low) (e + 1) 1050 f found in
+        let d = found_first (is_fall low) (e + 1) sample_at f found in
         absurd (false≢true (sym (quiet f (omega (arith, d.after)) (omega (arith, d.within))) ∙ d.passes))
 
     by_last : (o : Option Ending) → last_ending bits ≡ o → after_slot low e o ≡ Ends ending at → IsOver low e at (last_heard ending at)
-    by_last None none k = silent (next_fall low e 2750) refl k
-    by_last (Some x) some k = last x some (next_fall low e 1050) refl k
+    by_last None none k = silent (next_fall low e standard.bit_total.most) refl k
+    by_last (Some x) some k = last x some (next_fall low e sample_at) refl k
 
 -- how the reading ends, by its last slot
 reading_ends : (low : Line) (begin left : ℕ) (xs : List Slot) (bits : List Bool) (e at : ℕ) (ending : Ending) → Reached low begin (suc left) xs bits e → after_slot low e (last_ending bits) ≡ Ends ending at
@@ -224,16 +225,16 @@ ends_closed low e bits ending at h = by_last (last_ending bits) refl h
     by_time f false k = cc
 
     by_fall : (o : Option ℕ) → after_fall e o ≡ Ends ending at → ending ≢ Open
-    by_fall None k = ends_so Silent ending (e + 2751) at k silent_so
-    by_fall (Some f) k = by_time f (nat_lt f (e + 2050)) k
+    by_fall None k = ends_so Silent ending (e + (standard.bit_total.most + 1)) at k silent_so
+    by_fall (Some f) k = by_time f (nat_lt f (e + standard.bit_total.least)) k
 
     by_end : (x : Ending) → last_ending bits ≡ Some x → (o : Option ℕ) → after_last e x o ≡ Ends ending at → ending ≢ Open
-    by_end x some None k = ends_so x ending (e + 1050) at k (last_open (length bits % 10 == 9) (slice_index_or bits (length bits - 1) false) (length bits == 159) x some)
+    by_end x some None k = ends_so x ending (e + sample_at) at k (last_open (length bits % 10 == 9) (slice_index_or bits (length bits - 1) false) (length bits == 159) x some)
     by_end x some (Some f) k = ends_so Short ending f at k short_so
 
     by_last : (o : Option Ending) → last_ending bits ≡ o → after_slot low e o ≡ Ends ending at → ending ≢ Open
-    by_last None none k = by_fall (next_fall low e 2750) k
-    by_last (Some x) some k = by_end x some (next_fall low e 1050) k
+    by_last None none k = by_fall (next_fall low e standard.bit_total.most) k
+    by_last (Some x) some k = by_end x some (next_fall low e sample_at) k
 
 -- and no fall breaks it
 whole_last : (nine eom end : Bool) (x : Ending) → (if nine then (if eom then Some Complete else if end then Some Long else None) else None) ≡ Some x → x ≢ Short
@@ -255,23 +256,23 @@ silent_whole = λ s. cc
 ends_whole : (low : Line) (e : ℕ) (bits : List Bool) (ending : Ending) (at : ℕ) → ((u : ℕ) → e < u → u < e + 2400 → is_fall low u ≡ false) → after_slot low e (last_ending bits) ≡ Ends ending at → ending ≢ Short
 ends_whole low e bits ending at quiet h = by_last (last_ending bits) refl h
   where
-    by_time : (f : ℕ) (b : Bool) → e < f → is_fall low f ≡ true → nat_lt f (e + 2050) ≡ b → (if b then Ends Short f else Next f) ≡ Ends ending at → ending ≢ Short
-    by_time f true after falls early k = let lt : f < e + 2050 = grind (arith, nat_tests) in absurd (false≢true (sym (quiet f after (omega arith)) ∙ falls))
+    by_time : (f : ℕ) (b : Bool) → e < f → is_fall low f ≡ true → nat_lt f (e + standard.bit_total.least) ≡ b → (if b then Ends Short f else Next f) ≡ Ends ending at → ending ≢ Short
+    by_time f true after falls early k = let lt : f < e + standard.bit_total.least = grind (arith, nat_tests) in absurd (false≢true (sym (quiet f after (omega arith)) ∙ falls))
     by_time f false after falls late k = cc
 
-    by_fall : (o : Option ℕ) → next_fall low e 2750 ≡ o → after_fall e o ≡ Ends ending at → ending ≢ Short
-    by_fall None none k = ends_whole_so Silent ending (e + 2751) at k silent_whole
-    by_fall (Some f) found k = let d = found_first (is_fall low) (e + 1) 2750 f found in by_time f (nat_lt f (e + 2050)) (omega (arith, d.after)) d.passes refl k
+    by_fall : (o : Option ℕ) → next_fall low e standard.bit_total.most ≡ o → after_fall e o ≡ Ends ending at → ending ≢ Short
+    by_fall None none k = ends_whole_so Silent ending (e + (standard.bit_total.most + 1)) at k silent_whole
+    by_fall (Some f) found k = let d = found_first (is_fall low) (e + 1) standard.bit_total.most f found in by_time f (nat_lt f (e + standard.bit_total.least)) (omega (arith, d.after)) d.passes refl k
 
-    by_end : (x : Ending) → last_ending bits ≡ Some x → (o : Option ℕ) → next_fall low e 1050 ≡ o → after_last e x o ≡ Ends ending at → ending ≢ Short
-    by_end x some None none k = ends_whole_so x ending (e + 1050) at k (whole_last (length bits % 10 == 9) (slice_index_or bits (length bits - 1) false) (length bits == 159) x some)
+    by_end : (x : Ending) → last_ending bits ≡ Some x → (o : Option ℕ) → next_fall low e sample_at ≡ o → after_last e x o ≡ Ends ending at → ending ≢ Short
+    by_end x some None none k = ends_whole_so x ending (e + sample_at) at k (whole_last (length bits % 10 == 9) (slice_index_or bits (length bits - 1) false) (length bits == 159) x some)
     by_end x some (Some f) found k =
-        let d = found_first (is_fall low) (e + 1) 1050 f found in
+        let d = found_first (is_fall low) (e + 1) sample_at f found in
         absurd (false≢true (sym (quiet f (omega (arith, d.after)) (omega (arith, d.within))) ∙ d.passes))
 
     by_last : (o : Option Ending) → last_ending bits ≡ o → after_slot low e o ≡ Ends ending at → ending ≢ Short
-    by_last None none k = by_fall (next_fall low e 2750) refl k
-    by_last (Some x) some k = by_end x some (next_fall low e 1050) refl k
+    by_last None none k = by_fall (next_fall low e standard.bit_total.most) refl k
+    by_last (Some x) some k = by_end x some (next_fall low e sample_at) refl k
 
 pub record IsOwnEnding (ending : Ending) : Type 0 where
   pub closed : ending ≢ Open
@@ -315,6 +316,88 @@ slots_end seats begin low c (suc left) xs bits e s all some =
     by_bit d a h ih =
         subst (λ (b : After). EndsLater low left (bits ++ option_to_list (bit_sampled_at low e)) e (bit_sampled_at low e) b) (sym h)
         (subst (λ (o : Option Bool). EndsLater low left (bits ++ option_to_list (bit_sampled_at low e)) e o a) (sym d.1.read) (by_after d.0 d.1 a h ih))
+
+-- ---- the last slot
+
+-- no slot ends a bad start
+begun_last : (nine eom end : Bool) (x : Ending) → (if nine then (if eom then Some Complete else if end then Some Long else None) else None) ≡ Some x → x ≢ BadStart
+begun_last true true end x h = λ s. (let e : Some Complete ≡ Some BadStart = h ∙ ap (λ (y : Ending). Some y) s in cc)
+begun_last true false true x h = λ s. (let e : Some Long ≡ Some BadStart = h ∙ ap (λ (y : Ending). Some y) s in cc)
+begun_last true false false x h = cc
+begun_last false eom end x h = cc
+
+ends_begun_so : (x ending : Ending) (a at : ℕ) → Ends x a ≡ Ends ending at → x ≢ BadStart → ending ≢ BadStart
+ends_begun_so x ending a at same h = subst P same h
+  where
+    P : After → Type 0
+    P (Next f) = Unit {0}
+    P (Ends z c) = z ≢ BadStart
+
+silent_begun : Silent ≢ BadStart
+silent_begun = λ s. cc
+
+short_begun : Short ≢ BadStart
+short_begun = λ s. cc
+
+ends_begun : (low : Line) (e : ℕ) (bits : List Bool) (ending : Ending) (at : ℕ) → after_slot low e (last_ending bits) ≡ Ends ending at → ending ≢ BadStart
+ends_begun low e bits ending at h = by_last (last_ending bits) refl h
+  where
+    by_time : (f : ℕ) (b : Bool) → (if b then Ends Short f else Next f) ≡ Ends ending at → ending ≢ BadStart
+    by_time f true k = ends_begun_so Short ending f at k short_begun
+    by_time f false k = cc
+
+    by_fall : (o : Option ℕ) → after_fall e o ≡ Ends ending at → ending ≢ BadStart
+    by_fall None k = ends_begun_so Silent ending (e + 2751) at k silent_begun
+    by_fall (Some f) k = by_time f (nat_lt f (e + 2050)) k
+
+    by_end : (x : Ending) → last_ending bits ≡ Some x → (o : Option ℕ) → after_last e x o ≡ Ends ending at → ending ≢ BadStart
+    by_end x some None k = ends_begun_so x ending (e + 1050) at k (begun_last (length bits % 10 == 9) (slice_index_or bits (length bits - 1) false) (length bits == 159) x some)
+    by_end x some (Some f) k = ends_begun_so Short ending f at k short_begun
+
+    by_last : (o : Option Ending) → last_ending bits ≡ o → after_slot low e o ≡ Ends ending at → ending ≢ BadStart
+    by_last None none k = by_fall (next_fall low e 2750) k
+    by_last (Some x) some k = by_end x some (next_fall low e 1050) k
+
+-- a winner makes the last slot fall, which has not stopped in one before
+pub record LastStarts (seats : List Seat) (bits : List Bool) : Type 0 where
+  pub before : List Bool
+  pub last : Bool
+  pub all : bits ≡ before ++ last ∷ []
+  pub starts : Starter seats before
+
+abbrev LastLater : List Seat → Line → ℕ → List Bool → List Bool → Option Bool → After → Type 0
+LastLater seats low left before bits bit a = LastStarts seats (before ++ cons_option bit (reported_slots (read_on (read_slots low left bits) a))) × ((read_on (read_slots low left bits) a).ending ≢ BadStart)
+
+slots_last : (seats : List Seat) (begin : ℕ) (low : Line) → Calm seats begin low → (left : ℕ) (xs : List Slot) (bits : List Bool) (e : ℕ) → OnSlot low begin left xs bits e → length bits + left ≡ 160 → 0 < left
+    → LastStarts seats (bits ++ reported_slots (read_slots low left bits e)) × ((read_slots low left bits e).ending ≢ BadStart)
+unfolding read_slots
+slots_last seats begin low c zero xs bits e s all some = absurd (omega arith)
+slots_last seats begin low c (suc left) xs bits e s all some =
+    by_bit (slot_low seats begin low c left xs bits e s) (after_slot low e (last_ending bits)) refl
+    (λ f more room on. slots_last seats begin low c left (xs ++ record { fall = e; bit = bit_sampled_at low e } ∷ []) (bits ++ option_to_list (bit_sampled_at low e)) f on more room)
+  where
+    More : Type 0
+    More = (f : ℕ) → length (bits ++ option_to_list (bit_sampled_at low e)) + left ≡ 160 → 0 < left → OnSlot low begin left (xs ++ record { fall = e; bit = bit_sampled_at low e } ∷ []) (bits ++ option_to_list (bit_sampled_at low e)) f
+        → LastStarts seats ((bits ++ option_to_list (bit_sampled_at low e)) ++ reported_slots (read_slots low left (bits ++ option_to_list (bit_sampled_at low e)) f))
+        × ((read_slots low left (bits ++ option_to_list (bit_sampled_at low e)) f).ending ≢ BadStart)
+
+    by_after : (bit : Bool) → SlotLow low e bit → (a : After) → after_slot low e (last_ending bits) ≡ a → More → LastLater seats low left bits (bits ++ option_to_list (bit_sampled_at low e)) (Some bit) a
+    by_after bit d (Next f) h ih =
+        let n = on_next seats begin low c left xs bits e s all bit d f h in
+        let m = ih f n.2 n.3 n.1 in
+        let rest : List Bool = reported_slots (read_slots low left (bits ++ option_to_list (bit_sampled_at low e)) f) in
+        let same : (bits ++ option_to_list (bit_sampled_at low e)) ++ rest ≡ bits ++ bit ∷ rest = ap (λ (o : Option Bool). (bits ++ option_to_list o) ++ rest) d.read ∙ append_assoc bits (bit ∷ []) rest in
+        (subst (λ (xs : List Bool). LastStarts seats xs) same m.0, m.1)
+    by_after bit d (Ends ending at) h ih = (
+      record { before = bits; last = bit; all = refl; starts = starter seats begin low c (suc left) xs bits e s },
+      ends_begun low e bits ending at h,
+    )
+
+    by_bit : (bit : Bool) × SlotLow low e bit → (a : After) → after_slot low e (last_ending bits) ≡ a → More
+        → LastLater seats low left bits (bits ++ option_to_list (bit_sampled_at low e)) (bit_sampled_at low e) (after_slot low e (last_ending bits))
+    by_bit d a h ih =
+        subst (λ (b : After). LastLater seats low left bits (bits ++ option_to_list (bit_sampled_at low e)) (bit_sampled_at low e) b) (sym h)
+        (subst (λ (o : Option Bool). LastLater seats low left bits (bits ++ option_to_list (bit_sampled_at low e)) o a) (sym d.1.read) (by_after d.0 d.1 a h ih))
 
 -- ---- the start bit
 
@@ -381,9 +464,9 @@ start_high seats begin low s = by (low (begin + 3700)) refl
 high_till : (seats : List Seat) (begin : ℕ) (low : Line) → Sent seats begin low → (t : ℕ) → begin + 3700 ≤ t → t < begin + 4500 → low t ≡ false
 high_till seats begin low s t l h = high_to low (begin + 3700) t (start_high seats begin low s) l (λ u a b. quiet_start seats begin low s.calm u (omega arith) (omega arith))
 
-rises : (seats : List Seat) (begin : ℕ) (low : Line) → Sent seats begin low → next_rise low begin 3900 ≡ Some (begin + 3700)
+rises : (seats : List Seat) (begin : ℕ) (low : Line) → Sent seats begin low → next_rise low begin standard.start_low.most ≡ Some (begin + 3700)
 rises seats begin low s =
-    first_in_some (is_rise low) (begin + 1) 3900 (begin + 3700) (omega arith) (omega arith) rise (λ u a b. no_rise_in seats begin low s u (omega arith) b)
+    first_in_some (is_rise low) (begin + 1) standard.start_low.most (begin + 3700) (omega arith) (omega arith) rise (λ u a b. no_rise_in seats begin low s u (omega arith) b)
   where
     rise : is_rise low (begin + 3700) ≡ true
     rise =
@@ -417,8 +500,8 @@ slot_falls seats begin low s =
 starts : (seats : List Seat) (begin : ℕ) (low : Line) → Sent seats begin low → start_of low begin ≡ Ok (begin + 4500)
 starts seats begin low s =
     start_risen low begin (begin + 3700) (rises seats begin low s) (omega arith)
-    ∙ ap (start_fall begin) (first_in_some (is_fall low) (begin + 3700 + 1) (begin + 4700 - (begin + 3700)) (begin + 4500) (omega arith) (omega arith) (slot_falls seats begin low s) (λ u a b. quiet_start seats begin low s.calm u (omega arith) b))
-    ∙ ap (λ (b : Bool). let r : Result ℕ ℕ = if b then Err (begin + 4500) else Ok (begin + 4500) in r) (let e : nat_lt (begin + 4500) (begin + 4300) ≡ false = grind (arith, nat_tests) in e)
+    ∙ ap (start_fall begin) (first_in_some (is_fall low) (begin + 3700 + 1) (begin + standard.start_total.most - (begin + 3700)) (begin + 4500) (omega arith) (omega arith) (slot_falls seats begin low s) (λ u a b. quiet_start seats begin low s.calm u (omega arith) b))
+    ∙ ap (λ (b : Bool). let r : Result ℕ ℕ = if b then Err (begin + 4500) else Ok (begin + 4500) in r) (let e : nat_lt (begin + 4500) (begin + standard.start_total.least) ≡ false = grind (arith, nat_tests) in e)
 
 -- ---- the whole line
 
@@ -475,7 +558,7 @@ sent_first seats begin low c h =
     let l : Least (frames_of seats) = least_of (frames_of seats) f.0 f.1 in
     let begun : is_begun seats begin [] ≡ true = rw h refl in
     let b = begun_by low begin (start_of low begin) refl in
-    record { calm = c; frame = l.frame; among = l.one; least = is_least (frames_of seats) l; first = low_at_begin seats begin [] low no_pulses (contended seats begin [] low c.line) b.reports begun }
+    record { calm = c; frame = l.frame; among = l.one; least = is_least (frames_of seats) l; first = low_at_begin seats begin [] low tt (contended seats begin [] low c.line) b.reports begun }
 
 pub rounds_are_nominal : RoundsAreNominal
 rounds_are_nominal seats begin o frames wave r h =
@@ -503,3 +586,19 @@ ends_later seats begin o frames r h =
 
     d : IsEndOf (begin + 4500) (reported_slots (read_slots low 160 [] (begin + 4500))) (read_slots low 160 [] (begin + 4500))
     d = slots_end seats begin low s.calm 160 [] [] (begin + 4500) (record { reached = reached_start low begin (begin + 4500) (starts seats begin low s); time = omega arith; count = refl; fall = slot_falls seats begin low s }) refl (omega arith)
+
+pub last_starts : (seats : List Seat) (begin : ℕ) (o : Outcome) → AreFrames seats → IsRound seats begin [] o → list_any (λ s. is_some s.sends) seats ≡ true
+    → LastStarts seats o.reading.bits.items × (o.reading.ending ≢ BadStart)
+last_starts seats begin o frames r h =
+    let bits : o.reading.bits.items ≡ reported_slots (read_slots low 160 [] (begin + 4500)) = r.bits ∙ ap (λ (q : Result ℕ ℕ). bits_of (read_start low begin q)) (starts seats begin low s) in
+    let ending : o.reading.ending ≡ (read_slots low 160 [] (begin + 4500)).ending = r.ending ∙ ap (λ (q : Result ℕ ℕ). (read_start low begin q).ending) (starts seats begin low s) in
+    (subst (λ (xs : List Bool). LastStarts seats xs) (sym bits) d.0, subst (λ (x : Ending). x ≢ BadStart) (sym ending) d.1)
+  where
+    low : Line
+    low = line_of o.wave
+
+    s : Sent seats begin low
+    s = sent_first seats begin low (record { line = r.line; frames = frames }) h
+
+    d : LastStarts seats (reported_slots (read_slots low 160 [] (begin + 4500))) × ((read_slots low 160 [] (begin + 4500)).ending ≢ BadStart)
+    d = slots_last seats begin low s.calm 160 [] [] (begin + 4500) (record { reached = reached_start low begin (begin + 4500) (starts seats begin low s); time = omega arith; count = refl; fall = slot_falls seats begin low s }) refl (omega arith)

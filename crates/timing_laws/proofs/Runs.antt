@@ -9,6 +9,7 @@ use Rattle.cec_wave.specs.Line.{line_of}
 use Rattle.cec_wave.specs.Sender.{slot_stretches, sender_stretches}
 use Rattle.cec_frame.specs.declared.Ending.{Ending}
 use Rattle.cec_frame.specs.declared.Ending.TheVariants.{Complete, Short, Silent, BadStart, Long, Open}
+use Rattle.cec_bits.specs.Windows.{standard}
 use Rattle.cec_bits.specs.Reading.{reading_of}
 use Rattle.cec_bits.specs.Readings.{IsLone, Listed}
 use Rattle.cec_bits.proofs.Ends.{at_by}
@@ -18,7 +19,6 @@ use Rattle.cec_timing.specs.Lows.{first_low, gone_to, low_at, lows_before, lows_
 use Rattle.cec_timing.specs.Misfits.{drive_within, last_of, long_by, long_low}
 use Rattle.cec_remarks.specs.declared.free.Before.TheVariants.{Nothing}
 use Rattle.cec_remarks.specs.declared.free.Previous.{Previous}
-use Rattle.cec_remarks.specs.declared.free.TooSoon.{TooSoon}
 use Rattle.cec_remarks.specs.Attempts.{tries_again}
 use Rattle.cec_remarks.specs.Free.{before_of, final_bit, final_by, free_before, free_due, is_bad_start, last_fall, previous_with, too_soon}
 use Rattle.cec_audit.specs.Audit.{Tape, after, come_to, drive_by, falls_until, first_tape, is_folded, lows_of}
@@ -30,18 +30,17 @@ use Rattle.cec_wire.specs.Alone.{outcome_listed, part_of}
 use Rattle.cec_wire.specs.Lasting.{is_begun}
 use Rattle.cec_wire.proofs.Alone.{rounds_are_lone}
 use Rattle.cec_wire.proofs.Lays.{after_start, slot_at}
-use Rattle.cec_wire.proofs.Differ.{In}
+pub use Rattle.cec_wire.proofs.Differ.{In}
 use Rattle.cec_net.specs.State.{NetState, next_start}
 use Rattle.cec_net.specs.Start.{first_onset, least_start, sooner}
 use Rattle.cec_net.specs.Apply.{net_after}
 use Rattle.cec_net.specs.Step.{after_round, seats_of}
 use Rattle.cec_net.specs.Framed.{AreFramed}
 use Rattle.cec_net.specs.Line.{Move, Happens, Goes, GoesFrom, Moves, rounds_of, run_wave}
-use Rattle.cec_net.proofs.Framed.{framed-applied, framed-round, seats_fit}
-use Rattle.cec_net.proofs.Lines.{begun, kept}
-use Rattle.cec_net.proofs.Progress.{Led, led}
+pub use Rattle.cec_net.proofs.Framed.{framed-applied, framed-round, seats_fit}
+pub use Rattle.cec_net.proofs.Lines.{begun, kept}
+pub use Rattle.cec_net.proofs.Progress.{Led, led}
 use Rattle.timing_laws.specs.Times.{AreFree, AreInTime, AsksForMore}
-use Rattle.timing_laws.proofs.Slots.{no_pulses}
 use Rattle.timing_laws.proofs.Nominal.{IsOwnEnding, ends_later, rounds_are_nominal}
 use Rattle.timing_laws.proofs.Widths.{Later, none_later, sender_remarks}
 
@@ -66,7 +65,7 @@ AreTimed (o ∷ os) = IsTimed o × Apart o os × AreTimed os
 -- ---- the edges of rounds
 
 -- all edges come before an instant
-abbrev AreBefore : ℕ → List Edge → Type 0
+abbrev pub AreBefore : ℕ → List Edge → Type 0
 AreBefore t [] = Unit {0}
 AreBefore t (e ∷ es) = (e.at < t) × AreBefore t es
 
@@ -136,11 +135,11 @@ round_remarks o os h edges e =
     u = until_is o.reading.ending o.reading.at h.0.closed
 
 -- what is past comes before the next round
-abbrev OldBefore : List Edge → List Outcome → Type 0
+abbrev pub OldBefore : List Edge → List Outcome → Type 0
 OldBefore old [] = Unit {0}
 OldBefore old (o ∷ os) = AreBefore o.reading.begin old
 
-old_before : (o : Outcome) (os : List Outcome) → AreTimed (o ∷ os) → OldBefore (edges_of o.wave) os
+pub old_before : (o : Outcome) (os : List Outcome) → AreTimed (o ∷ os) → OldBefore (edges_of o.wave) os
 old_before o [] h = tt
 old_before o (p ∷ os) h =
     subst (λ (w : List Stretch). AreBefore p.reading.begin (edges_of w)) (sym h.0.wave)
@@ -156,7 +155,7 @@ undriven BadStart (Some low) h = refl
 undriven Long (Some low) h = refl
 undriven Open (Some low) h = refl
 
-come_here : (o : Outcome) (os : List Outcome) → AreTimed (o ∷ os) → (t : Tape) (old : List Edge) → t.place ≡ old ++ edges_of (run_wave (o ∷ os)) → OldBefore old (o ∷ os)
+pub come_here : (o : Outcome) (os : List Outcome) → AreTimed (o ∷ os) → (t : Tape) (old : List Edge) → t.place ≡ old ++ edges_of (run_wave (o ∷ os)) → OldBefore old (o ∷ os)
     → (come_to (outcome_listed o) t).place ≡ edges_of o.wave ++ edges_of (run_wave os)
 come_here o os h t old left past =
     ap (λ (es : List Edge). gone_to o.reading.begin es) left
@@ -284,7 +283,7 @@ final_is BadStart at last h = refl
 final_is Long at last h = refl
 final_is Open at last h = refl
 
-final_by_round : (o : Outcome) (os : List Outcome) → AreTimed (o ∷ os) → (edges : List Edge) → edges ≡ edges_of o.wave ++ edges_of (run_wave os)
+pub final_by_round : (o : Outcome) (os : List Outcome) → AreTimed (o ∷ os) → (edges : List Edge) → edges ≡ edges_of o.wave ++ edges_of (run_wave os)
     → final_bit (outcome_listed o) (lows_of (outcome_listed o) edges) ≤ o.reading.begin + 2100 + 2400 * length o.reading.bits.items
 final_by_round o os h edges e =
     let same : final_bit (outcome_listed o) (lows_of (outcome_listed o) edges) ≡ last_fall o.reading.begin (lows_of (outcome_listed o) edges) =
@@ -363,7 +362,7 @@ rounds_free (o ∷ os) h t old left past free = (
 
 -- ---- a run
 
-sends_any : (seats : List Seat) (f : List ℕ) → In f (frames_of seats) → list_any (λ (s : Seat). is_some s.sends) seats ≡ true
+pub sends_any : (seats : List Seat) (f : List ℕ) → In f (frames_of seats) → list_any (λ (s : Seat). is_some s.sends) seats ≡ true
 sends_any [] f i = absurd i
 sends_any (s ∷ seats) f i = by_frame (λ k. sends_any seats f k) s.sends i
   where
@@ -372,7 +371,7 @@ sends_any (s ∷ seats) f i = by_frame (λ k. sends_any seats f k) s.sends i
     by_frame later (Some g) k = refl
 
 -- without pulses it is a device that starts
-leads : (s : NetState) (begin : ℕ) → s.pulses ≡ [] → next_start s ≡ Some begin → Led s.rest begin s.devices
+pub leads : (s : NetState) (begin : ℕ) → s.pulses ≡ [] → next_start s ≡ Some begin → Led s.rest begin s.devices
 leads s begin none next = led s.rest begin s.devices (by (least_start s.rest s.devices) (ap (λ (ps : List Stretch). sooner (least_start s.rest s.devices) (first_onset ps)) (sym none) ∙ next))
   where
     by : (o : Option ℕ) → sooner o None ≡ Some begin → o ≡ Some begin
@@ -418,11 +417,11 @@ last_low o h =
     by false = refl
 
 -- the round is over by where the state stands
-record Rested (o : Outcome) (rest : ℕ) : Type 0 where
-  low : o.reading.begin + 2100 + 2400 * length o.reading.bits.items < rest
-  soon : o.reading.at ≤ rest + 4701
+pub record Rested (o : Outcome) (rest : ℕ) : Type 0 where
+  pub low : o.reading.begin + 2100 + 2400 * length o.reading.bits.items < rest
+  pub soon : o.reading.at ≤ rest + (standard.start_total.most + 1)
 
-rested_after : (s : NetState) (begin : ℕ) (o : Outcome) → AreFramed s → s.pulses ≡ [] → GoesFrom s begin o → Rested o o.rest
+pub rested_after : (s : NetState) (begin : ℕ) (o : Outcome) → AreFramed s → s.pulses ≡ [] → GoesFrom s begin o → Rested o o.rest
 rested_after s begin o framed none g = record { low = low; soon = soon }
   where
     round : IsRound (seats_of s begin) begin [] o
@@ -432,7 +431,7 @@ rested_after s begin o framed none g = record { low = low; soon = soon }
     starts = subst (λ (ps : List Stretch). is_begun (seats_of s begin) begin ps ≡ true) none (begun s begin g.begins)
 
     lone : IsLone (part_of o)
-    lone = rounds_are_lone.lone (seats_of s begin) begin [] o (seats_fit s begin framed) no_pulses g.wave round starts
+    lone = rounds_are_lone.lone (seats_of s begin) begin [] o (seats_fit s begin framed) tt g.wave round starts
 
     low : o.reading.begin + 2100 + 2400 * length o.reading.bits.items < o.rest
     low = elim (cases_lt (o.reading.begin + 2100 + 2400 * length o.reading.bits.items) o.rest) [
@@ -440,9 +439,9 @@ rested_after s begin o framed none g = record { low = low; soon = soon }
       | inr ge ↦ absurd (false≢true (sym (lone.after (o.reading.begin + 2100 + 2400 * length o.reading.bits.items) ge) ∙ last_low o (timed s begin o framed none g)))
     ]
 
-    soon : o.reading.at ≤ o.rest + 4701
+    soon : o.reading.at ≤ o.rest + (standard.start_total.most + 1)
     soon =
-        let a : (reading_of (line_of o.wave) o.reading.begin).until ≤ o.rest + 4700 = rounds_are_lone.soon (seats_of s begin) begin [] o no_pulses g.wave round starts in
+        let a : (reading_of (line_of o.wave) o.reading.begin).until ≤ o.rest + standard.start_total.most = rounds_are_lone.soon (seats_of s begin) begin [] o tt g.wave round starts in
         let b : (reading_of (line_of o.wave) o.reading.begin).at ≤ (reading_of (line_of o.wave) o.reading.begin).until + 1 = at_by (line_of o.wave) o.reading.begin in
         let c : o.reading.at ≡ (reading_of (line_of o.wave) o.reading.begin).at = g.round.ends ∙ ap (λ (x : ℕ). (reading_of (line_of o.wave) x).at) (sym g.round.starts) in
         omega (arith, a, b, c)

@@ -12,6 +12,7 @@ use Rattle.cec_frame.specs.Bits.{frame_bits, least_among}
 use Rattle.cec_frame.specs.declared.Ending.{Ending}
 use Rattle.cec_frame.specs.declared.Ending.TheVariants.{Complete, Short, Silent, BadStart, Long, Open}
 use Rattle.cec_frame.proofs.Slots.{ack_slot}
+use Rattle.cec_bits.specs.Windows.{sample_at}
 use Rattle.cec_bits.specs.Reading.After.{Ends}
 use Rattle.cec_bits.specs.Reading.{next_fall, Slot, End, Known, known_at, known_slot, reading_of, read_slots, after_slot, after_last, last_ending, last_heard, bit_sampled_at}
 use Rattle.cec_bits.specs.Sending.{bit_read, out_slot, sender_pulls, goes_on}
@@ -245,7 +246,7 @@ no_some (Some x) t m h s = cc
 
 pub slot_known : (seats : List Seat) (begin : ℕ) (low : Line) → Calm seats begin low → (left : ℕ) (xs : List Slot) (bits : List Bool) (e : ℕ) → OnSlot low begin (suc left) xs bits e
     → (t : ℕ) → e < t → t < e + 2400 → KnownIn low begin xs e t
-slot_known seats begin low c left xs bits e s t l h = elim (cases_lt (e + 1050) t) [
+slot_known seats begin low c left xs bits e s t l h = elim (cases_lt (e + sample_at) t) [
   | inl late ↦ by_last late (last_ending bits) refl
   | inr soon ↦ record { slot = record { fall = e; bit = None }; ended = None; reports = known_unsampled low begin left xs bits e t s.reached (λ u a b. quiet u a (omega arith)) l soon; falls = refl; whole = tt }
 ]
@@ -260,23 +261,23 @@ slot_known seats begin low c left xs bits e s t l h = elim (cases_lt (e + 1050) 
     not_short true x at until n = n
     not_short false x at until n = tt
 
-    by_last : e + 1050 < t → (last : Option Ending) → last_ending bits ≡ last → KnownIn low begin xs e t
+    by_last : e + sample_at < t → (last : Option Ending) → last_ending bits ≡ last → KnownIn low begin xs e t
     by_last late None none = record {
       slot = slot;
       ended = None;
-      reports = known_in_slot low begin t e left xs bits s.reached.goes (over_sampled e t xs (omega arith) s.reached.over) l (λ u a b. quiet u a (omega arith)) (omega arith) (no_some (last_ending bits) t (e + 1050) none);
+      reports = known_in_slot low begin t e left xs bits s.reached.goes (over_sampled e t xs (omega arith) s.reached.over) l (λ u a b. quiet u a (omega arith)) (omega arith) (no_some (last_ending bits) t (e + sample_at) none);
       falls = refl;
       whole = tt;
     }
     by_last late (Some x) some =
-        let found : next_fall low e 1050 ≡ None = first_in_none (is_fall low) (e + 1) 1050 (λ u a b. quiet u (omega arith) (omega arith)) in
-        let after : after_slot low e (last_ending bits) ≡ Ends x (e + 1050) = ap (after_slot low e) some ∙ ap (after_last e x) found in
+        let found : next_fall low e sample_at ≡ None = first_in_none (is_fall low) (e + 1) sample_at (λ u a b. quiet u (omega arith) (omega arith)) in
+        let after : after_slot low e (last_ending bits) ≡ Ends x (e + sample_at) = ap (after_slot low e) some ∙ ap (after_last e x) found in
         record {
           slot = slot;
-          ended = if nat_lt (last_heard x (e + 1050)) t then Some (record { ending = x; at = e + 1050; until = last_heard x (e + 1050) }) else None;
-          reports = known_here low begin left xs bits e t s.reached l (Ends x (e + 1050)) after;
+          ended = if nat_lt (last_heard x (e + sample_at)) t then Some (record { ending = x; at = e + sample_at; until = last_heard x (e + sample_at) }) else None;
+          reports = known_here low begin left xs bits e t s.reached l (Ends x (e + sample_at)) after;
           falls = refl;
-          whole = not_short (nat_lt (last_heard x (e + 1050)) t) x (e + 1050) (last_heard x (e + 1050)) (last_not_short bits x some);
+          whole = not_short (nat_lt (last_heard x (e + sample_at)) t) x (e + sample_at) (last_heard x (e + sample_at)) (last_not_short bits x some);
         }
 
 -- ---- how long a slot is low
@@ -345,7 +346,7 @@ reported_unsampled low begin left xs bits e r = reported_more xs bits (record { 
 -- until its sample a sender that stays pulls
 pub sender_in : (seats : List Seat) (begin : ℕ) (low : Line) → Calm seats begin low → (left : ℕ) (xs : List Slot) (bits : List Bool) (e : ℕ) → OnSlot low begin (suc left) xs bits e
     → (frame : List ℕ) → In frame (frames_of seats) → least_among (frames_of seats) frame ≡ true → Stays bits (frame_bits frame)
-    → (t : ℕ) → e < t → t ≤ e + 1050 → line_of (sender_stretches begin (frame_bits frame)) t ≡ true → low t ≡ true
+    → (t : ℕ) → e < t → t ≤ e + sample_at → line_of (sender_stretches begin (frame_bits frame)) t ≡ true → low t ≡ true
 sender_in seats begin low c left xs bits e s frame among least stays t l h pulls =
     sender_low seats begin [] low t (xs ++ record { fall = e; bit = None } ∷ []) (contended seats begin [] low c.line)
     (known_unsampled low begin left xs bits e t s.reached (λ u a b. quiet_slot seats begin low c (suc left) xs bits e s u a (omega arith)) l h) frame among least
@@ -370,7 +371,7 @@ pub held_slot : (seats : List Seat) (begin : ℕ) (low : Line) → Calm seats be
 held_slot seats begin low c left xs bits e s held = record {
   lows = λ t l h. elim (cases_lt t (e + 600)) [ inl soon ↦ soon_held seats begin low c left xs bits e s t l soon | inr late ↦ held t late h ];
   highs = λ t l h. high_to low (e + 1500) t (high_at seats begin low c left xs bits e s) l (λ u a b. quiet_slot seats begin low c (suc left) xs bits e s u (omega arith) (omega arith));
-  read = quiet_sample low e (λ u a b. quiet_slot seats begin low c (suc left) xs bits e s u a (omega arith)) ∙ ap (λ (b : Bool). Some (not b)) (held (e + 1050) (omega arith) (omega arith));
+  read = quiet_sample low e (λ u a b. quiet_slot seats begin low c (suc left) xs bits e s u a (omega arith)) ∙ ap (λ (b : Bool). Some (not b)) (held (e + sample_at) (omega arith) (omega arith));
 }
 
 -- a winner that sends a 0
@@ -419,11 +420,11 @@ zero_held seats begin low c left xs bits e s p = held
         sym (in_slot begin e (t - e) t bits sent s.time (omega arith) (omega arith))
         ∙ later_low (nat_lt (length bits) (length sent)) (slice_index_or sent (length bits) false) (t - e) room zero_sent (omega arith)
 
-    soon : (t : ℕ) → e < t → t ≤ e + 1050 → low t ≡ true
+    soon : (t : ℕ) → e < t → t ≤ e + sample_at → low t ≡ true
     soon t l h = sender_in seats begin low c left xs bits e s p.frame p.among p.least stays t l h (pulls t (omega arith) (omega arith))
 
     read : bit_sampled_at low e ≡ Some false
-    read = quiet_sample low e (λ u a b. quiet_slot seats begin low c (suc left) xs bits e s u a (omega arith)) ∙ ap (λ (b : Bool). Some (not b)) (soon (e + 1050) (omega arith) (omega arith))
+    read = quiet_sample low e (λ u a b. quiet_slot seats begin low c (suc left) xs bits e s u a (omega arith)) ∙ ap (λ (b : Bool). Some (not b)) (soon (e + sample_at) (omega arith) (omega arith))
 
     -- what it sent was read, so it stays
     stays_on : Stays (bits ++ false ∷ []) sent
@@ -438,14 +439,14 @@ zero_held seats begin low c left xs bits e s p = held
       | inr before ↦ leaves_more bits (false ∷ []) sent n l before ∙ stays n l before
     ]
 
-    after : (t : ℕ) → e + 1050 < t → t < e + 1500 → Reports low begin t (xs ++ record { fall = e; bit = Some false } ∷ [])
+    after : (t : ℕ) → e + sample_at < t → t < e + 1500 → Reports low begin t (xs ++ record { fall = e; bit = Some false } ∷ [])
     after t l h =
-        known_in_slot low begin t e left xs bits s.reached.goes (over_sampled e t xs (omega arith) s.reached.over) (omega arith) (λ u a b. quiet_slot seats begin low c (suc left) xs bits e s u a (omega arith)) (omega arith) (no_some (last_ending bits) t (e + 1050) not_last)
-        ∙ ap (λ (b : Bool). let k : Known = record { slots = xs ++ record { fall = e; bit = if b then bit_sampled_at low e else None } ∷ []; ended = None } in k) (let y : nat_lt (e + 1050) t ≡ true = grind (arith, nat_tests) in y)
+        known_in_slot low begin t e left xs bits s.reached.goes (over_sampled e t xs (omega arith) s.reached.over) (omega arith) (λ u a b. quiet_slot seats begin low c (suc left) xs bits e s u a (omega arith)) (omega arith) (no_some (last_ending bits) t (e + sample_at) not_last)
+        ∙ ap (λ (b : Bool). let k : Known = record { slots = xs ++ record { fall = e; bit = if b then bit_sampled_at low e else None } ∷ []; ended = None } in k) (let y : nat_lt (e + sample_at) t ≡ true = grind (arith, nat_tests) in y)
         ∙ ap (λ (o : Option Bool). let k : Known = record { slots = xs ++ record { fall = e; bit = o } ∷ []; ended = None } in k) read
 
     held : (t : ℕ) → e + 600 ≤ t → t < e + 1500 → low t ≡ true
-    held t l h = elim (cases_lt (e + 1050) t) [
+    held t l h = elim (cases_lt (e + sample_at) t) [
       | inl late ↦ sender_low seats begin [] low t (xs ++ record { fall = e; bit = Some false } ∷ []) (contended seats begin [] low c.line) (after t late h) p.frame p.among p.least
           (subst (λ (ys : List Bool). Stays ys sent) (sym (reported_more xs bits (record { fall = e; bit = Some false }) s.reached.reported)) stays_on) (pulls t (omega arith) h)
       | inr early ↦ soon t (omega arith) early
@@ -486,6 +487,6 @@ slot_low seats begin low c left xs bits e s = by (low (e + 600)) refl
       record {
         lows = λ t l m. soon_held seats begin low c left xs bits e s t l m;
         highs = λ t l m. high h t l m;
-        read = quiet_sample low e (λ u a b. quiet u a (omega arith)) ∙ ap (λ (b : Bool). Some (not b)) (high h (e + 1050) (omega arith) (omega arith));
+        read = quiet_sample low e (λ u a b. quiet u a (omega arith)) ∙ ap (λ (b : Bool). Some (not b)) (high h (e + sample_at) (omega arith) (omega arith));
       },
     )

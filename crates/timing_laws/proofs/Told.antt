@@ -2,6 +2,7 @@
 use Rattle.std.proofs.Common.{◌≡◌, ℕ, zero, suc, ◌+◌, ◌≤◌, max, false, List, [], ◌∷◌, ◌++◌, map, refl, sym, ap, ◌∙◌, subst, arith}
 use Rattle.std.proofs.Math.Path.{fun_ext}
 use Rattle.std.specs.List.{flat_map}
+use Rattle.std.proofs.lemmas.List.Elements.{All-nil}
 use Rattle.cec_wave.specs.declared.Stretch.{Stretch}
 use Rattle.cec_wave.specs.Line.{line_of, IsWave}
 use Rattle.cec_wave.specs.Bounds.{latest_instant}
@@ -32,9 +33,15 @@ use Rattle.cec_run.proofs.WholeLine.{lines_are_of_the_rounds}
 use Rattle.capture_laws.specs.Formats.{IsReadAs}
 use Rattle.capture_laws.proofs.Formats.{is_capture, lines_are_read_back}
 use Rattle.capture_laws.proofs.ReadBack.{same_line}
+use Rattle.capture_laws.specs.Formats.{IsReadText}
+use Rattle.cec_line.specs.declared.format.Format.{Format}
+use Rattle.cec_wave.specs.Bounds.{latest_event}
+use Rattle.cec_wave.specs.declared.Edge.{Edge}
+use Rattle.timing_laws.specs.Attempts.{AreOfSix, RunsGiveUp}
 use Rattle.timing_laws.specs.Times.{AreFree, AreInTime, KeepsTimes, RunsKeepTheirTimes}
-use Rattle.timing_laws.proofs.Slots.{no_pulses}
 use Rattle.timing_laws.proofs.Runs.{AreTimed, first_in_time, runs_are_timed}
+use Rattle.timing_laws.proofs.Tries.{first_of_six}
+use Rattle.timing_laws.proofs.Waits.{kept-started}
 
 -- the moves of a run, with these rounds
 record IsMoved (s t : NetState) (os : List Outcome) : Type 0 where
@@ -83,8 +90,21 @@ reported_timed reporting tree events end text totals framed reported =
     let m = moved reporting end reported.run.turns (start (first_net tree []) events) reported.run.last reported.run.body reported.run.leads framed in
     subst AreTimed m.rounds (runs_are_timed (first_net tree []) reported.run.last.net m.moves (framed-started tree []) refl m.goes)
 
-pub runs_keep_their_times : RunsKeepTheirTimes
-runs_keep_their_times format tree events end text totals framed reported limit = (c, record { read = read; capture = is_capture (flat_map (λ ss. ss) waves) last wave over low }, in_time)
+-- and have six attempts at most
+reported_six : (reporting : Reporting) (tree : List Node) (events : List TimedEvent) (end : ℕ) (text : List ℕ) (totals : Totals) → AreFramedEvents events
+    → (reported : IsRunText reporting end (start (first_net tree []) events) text totals)
+    → AreOfSix (first_tape (edges_of (run_wave (rounds_reported reporting end (start (first_net tree []) events) text totals reported)))) (map outcome_listed (rounds_reported reporting end (start (first_net tree []) events) text totals reported))
+reported_six reporting tree events end text totals framed reported =
+    let m = moved reporting end reported.run.turns (start (first_net tree []) events) reported.run.last reported.run.body reported.run.leads framed in
+    subst (λ (os : List Outcome). AreOfSix (first_tape (edges_of (run_wave os))) (map outcome_listed os)) m.rounds
+    (first_of_six (first_net tree []) reported.run.last.net m.moves (framed-started tree []) refl m.goes (kept-started 0 0 tree))
+
+-- what holds of the edges and the readings of its rounds holds of those of the capture that its line is read as
+runs_say : (Says : List Edge → List Listed → Type 0) (format : Format) (tree : List Node) (events : List TimedEvent) (end : ℕ) (text : List ℕ) (totals : Totals) → AreFramedEvents events
+    → (reported : IsRunText (Line format) end (start (first_net tree []) events) text totals) → end ≤ latest_event
+    → Says (edges_of (run_wave (rounds_reported (Line format) end (start (first_net tree []) events) text totals reported))) (map outcome_listed (rounds_reported (Line format) end (start (first_net tree []) events) text totals reported))
+    → (c : Captured) × IsReadText format text c × Says c.edges (readings_of (line_of_edges c.edges) c.end)
+runs_say Says format tree events end text totals framed reported limit said = (c, record { read = read; capture = is_capture (flat_map (λ ss. ss) waves) last wave over low }, says)
   where
     os : List Outcome
     os = rounds_reported (Line format) end (start (first_net tree []) events) text totals reported
@@ -96,10 +116,11 @@ runs_keep_their_times format tree events end text totals framed reported limit =
     last = max end reported.run.last.net.close
 
     k : IsLineText format os last text
-    k = lines_are_of_the_rounds format tree [] events end text totals no_pulses framed reported
+    k = lines_are_of_the_rounds format tree [] events end text totals tt framed reported
 
     low : last ≤ latest_instant
-    low = let soon : reported.run.last.net.close ≤ end + 458461 = runs_close_soon (Line format) tree [] events end reported.run.turns reported.run.body reported.run.last no_pulses reported.run.leads in omega (arith, soon, limit)
+    low = let soon : reported.run.last.net.close ≤ end + 458461 = runs_close_soon (Line format) tree [] events (end + 458461) end reported.run.turns reported.run.body reported.run.last (omega arith)
+        (record { order = tt; ends = All-nil (λ (p : Stretch). p.from ≤ end + 448461 → p.to ≤ end + 458461) }) reported.run.leads in omega (arith, soon, limit)
 
     wave : IsWave (flat_map (λ ss. ss) waves)
     wave = subst (λ (ss : List Stretch). IsWave ss) (waves_flat os) k.read.wave
@@ -116,7 +137,14 @@ runs_keep_their_times format tree events end text totals framed reported limit =
     readings : readings_of (line_of_edges c.edges) last ≡ map outcome_listed os
     readings = ap (λ line. readings_of line last) (fun_ext (λ u. same_line (flat_map (λ ss. ss) waves) 0 u wave)) ∙ ap (λ (ss : List Stretch). readings_of (line_of ss) last) (sym (waves_flat os)) ∙ k.read.readings
 
-    in_time : KeepsTimes c
-    in_time =
-        subst (λ (xs : List Listed). AreInTime (first_tape c.edges) xs × AreFree (first_tape c.edges) xs) (sym readings)
-        (subst (λ (ss : List Stretch). AreInTime (first_tape (edges_of ss)) (map outcome_listed os) × AreFree (first_tape (edges_of ss)) (map outcome_listed os)) (waves_flat os) (first_in_time os (reported_timed (Line format) tree events end text totals framed reported)))
+    says : Says c.edges (readings_of (line_of_edges c.edges) last)
+    says = subst (λ (xs : List Listed). Says c.edges xs) (sym readings) (subst (λ (ss : List Stretch). Says (edges_of ss) (map outcome_listed os)) (waves_flat os) said)
+
+pub runs_keep_their_times : RunsKeepTheirTimes
+runs_keep_their_times format tree events end text totals framed reported limit =
+    runs_say (λ es xs. AreInTime (first_tape es) xs × AreFree (first_tape es) xs) format tree events end text totals framed reported limit
+    (first_in_time (rounds_reported (Line format) end (start (first_net tree []) events) text totals reported) (reported_timed (Line format) tree events end text totals framed reported))
+
+pub runs_give_up : RunsGiveUp
+runs_give_up format tree events end text totals framed reported limit =
+    runs_say (λ es xs. AreOfSix (first_tape es) xs) format tree events end text totals framed reported limit (reported_six (Line format) tree events end text totals framed reported)

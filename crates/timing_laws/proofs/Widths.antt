@@ -1,4 +1,5 @@
 -- The widths of a line of nominal times are in their windows.
+use Rattle.cec_bits.specs.Windows.{standard}
 use Rattle.std.proofs.Common.{◌≡◌, ℕ, zero, suc, ◌+◌, ◌-◌, ◌*◌, ◌==◌, ◌<◌, ◌≤◌, Bool, true, false, not, ◌&&◌, nat_lt, if◌then◌else◌, List, [], ◌∷◌, ◌++◌, length, length-append, slice_index_or, take, Option, Some, None, refl, arith, ap, ◌∙◌, sym, subst, append_assoc}
 use Rattle.std.proofs.Math.Seq.{get_or-append_seam}
 use Rattle.std.proofs.lemmas.Bool.Decides.{nat_tests}
@@ -49,7 +50,7 @@ low_fits slot fall width rise w e h =
 -- the low of a bit
 low_fits_bit : (bits : List Bool) (slot fall rise : ℕ) (bit : Bool) → 0 < slot → slot_bit bits slot ≡ bit → rise ≡ fall + (if bit then 600 else 1500) → misfit_of slot Low (low_window bits slot) (rise - fall) ≡ None
 low_fits_bit bits slot fall rise bit some is e =
-    ap (λ (b : Bool). misfit_of slot Low (if b then window 3500 3900 else if slot_bit bits slot then window 400 800 else window 1300 1700) (rise - fall)) (let x : (slot == 0) ≡ false = grind (arith, nat_tests) in x)
+    ap (λ (b : Bool). misfit_of slot Low (if b then window standard.start_low.least standard.start_low.most else if slot_bit bits slot then window 400 800 else window 1300 1700) (rise - fall)) (let x : (slot == 0) ≡ false = grind (arith, nat_tests) in x)
     ∙ ap (λ (b : Bool). misfit_of slot Low (if b then window 400 800 else window 1300 1700) (rise - fall)) is
     ∙ by bit e
   where
@@ -58,7 +59,7 @@ low_fits_bit bits slot fall rise bit some is e =
     by false e = low_fits slot fall 1500 rise false e refl
 
 low_fits_start : (bits : List Bool) (fall rise : ℕ) → rise ≡ fall + 3700 → misfit_of 0 Low (low_window bits 0) (rise - fall) ≡ None
-low_fits_start bits fall rise e = ap (λ (n : ℕ). misfit_of 0 Low (window 3500 3900) n) (let x : rise - fall ≡ 3700 = omega arith in x)
+low_fits_start bits fall rise e = ap (λ (n : ℕ). misfit_of 0 Low (window standard.start_low.least standard.start_low.most) n) (let x : rise - fall ≡ 3700 = omega arith in x)
 
 -- a total that fits, or that is none
 unless : (b : Bool) (o : Option Misfit) → o ≡ None → (if b then o else None) ≡ None
@@ -68,13 +69,13 @@ unless false o h = refl
 total_fits_bit : (ending : Ending) (last slot fall next : ℕ) → 0 < slot → next ≡ fall + 2400 → total_by ending last slot fall (Some next) ≡ None
 total_fits_bit ending last slot fall next some e =
     unless (is_total ending last slot (next - fall)) (misfit_of slot Total (total_window slot) (next - fall))
-    (ap (λ (b : Bool). misfit_of slot Total (if b then window 4300 4700 else window 2050 2750) (next - fall)) (let x : (slot == 0) ≡ false = grind (arith, nat_tests) in x)
-    ∙ ap (λ (n : ℕ). misfit_of slot Total (window 2050 2750) n) (let x : next - fall ≡ 2400 = omega arith in x))
+    (ap (λ (b : Bool). misfit_of slot Total (if b then window standard.start_total.least standard.start_total.most else window standard.bit_total.least standard.bit_total.most) (next - fall)) (let x : (slot == 0) ≡ false = grind (arith, nat_tests) in x)
+    ∙ ap (λ (n : ℕ). misfit_of slot Total (window standard.bit_total.least standard.bit_total.most) n) (let x : next - fall ≡ 2400 = omega arith in x))
 
 total_fits_start : (ending : Ending) (last fall next : ℕ) → next ≡ fall + 4500 → total_by ending last 0 fall (Some next) ≡ None
 total_fits_start ending last fall next e =
     unless (is_total ending last 0 (next - fall)) (misfit_of 0 Total (total_window 0) (next - fall))
-    (ap (λ (n : ℕ). misfit_of 0 Total (window 4300 4700) n) (let x : next - fall ≡ 4500 = omega arith in x))
+    (ap (λ (n : ℕ). misfit_of 0 Total (window standard.start_total.least standard.start_total.most) n) (let x : next - fall ≡ 4500 = omega arith in x))
 
 total_fits_free : (ending : Ending) (last slot fall next : ℕ) → fall + 7200 ≤ next → total_by ending last slot fall (Some next) ≡ None
 total_fits_free ending last slot fall next l =

@@ -1,4 +1,5 @@
 //! Laws of the times of rounds and runs.
+ghost use Rattle.timing_laws.specs.Attempts.{RunsGiveUp};
 ghost use Rattle.timing_laws.specs.Nominal.{RoundsAreNominal};
 ghost use Rattle.timing_laws.specs.Times.{RunsKeepTheirTimes};
 
@@ -14,4 +15,10 @@ pub fn rounds_are_nominal()
 /// the one before (CEC 9.1).
 pub fn runs_keep_their_times()
     ensures { RunsKeepTheirTimes }
+{}
+
+/// The line of a run without pulses, written in any format, is read as a capture of which an audit remarks no seventh attempt
+/// (CEC 7.1), whatever the script: also where devices from outside send from one address.
+pub fn runs_give_up()
+    ensures { RunsGiveUp }
 {}

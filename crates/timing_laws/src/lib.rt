@@ -3,4 +3,4 @@
 
 mod laws;
 
-pub use laws::{rounds_are_nominal, runs_keep_their_times};
+pub use laws::{rounds_are_nominal, runs_give_up, runs_keep_their_times};
