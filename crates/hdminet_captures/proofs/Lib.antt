@@ -1,4 +1,5 @@
 pub mod ShownLemmas
 pub mod CaptureLemmas
 pub mod AuditLemmas
+pub mod FoldLemmas
 pub mod TestLemmas

@@ -3,6 +3,7 @@ use Rattle.std.specs.Prelude.{◌≡◌, ℕ, zero, suc, min, ◌==◌, Bool, tr
 use Rattle.std.specs.Io.KnownBytes.{Appends}
 use Rattle.cec_audit.specs.Audit.{audit_text_of}
 use Rattle.cec_audit_lines.specs.Kinds.{has_remark}
+use Rattle.cec_fold.specs.Folded.{folded}
 use Rattle.cec_formats.specs.Captures.{capture_in}
 use Rattle.cec_formats.specs.Forms.{form_of as line_form}
 use Rattle.cec_formats.specs.declared.form.Form.{Form as CaptureForm}
@@ -79,6 +80,15 @@ IsHeard form name inverted glitch margin report input text =
     × (capture_in form name input ≡ Ok c)
     × IsReport report (without_short glitch (turned_by inverted c)) (readings_at margin (without_short glitch (turned_by inverted c))) text
 
+-- the same as it stands, or with bad starts one after another as one line
+abbrev pub IsShown : Bool → CaptureForm → List ℕ → Bool → ℕ → ℕ → Report → List ℕ → List ℕ → Type 0
+IsShown false form name inverted glitch margin report input text = IsHeard form name inverted glitch margin report input text
+IsShown true form name inverted glitch margin report input text =
+    (lines : List ℕ) × IsHeard form name inverted glitch margin report input lines × (text ≡ folded (lines_of lines))
+
 -- is written, and nothing else
 abbrev pub Heard : CaptureForm → List ℕ → Bool → ℕ → ℕ → Report → List ℕ → Option (List ℕ) → Option (List ℕ) → Type 0
 Heard form name inverted glitch margin report input old new = (text : List ℕ) × IsHeard form name inverted glitch margin report input text × Appends old new text
+
+abbrev pub Shown : Bool → CaptureForm → List ℕ → Bool → ℕ → ℕ → Report → List ℕ → Option (List ℕ) → Option (List ℕ) → Type 0
+Shown folding form name inverted glitch margin report input old new = (text : List ℕ) × IsShown folding form name inverted glitch margin report input text × Appends old new text

@@ -1,17 +1,20 @@
 //! What is reported of a capture.
 ghost use Rattle.std.specs.Prelude.{◌≡◌, ◌≤◌, min, OnOk, IfOk, Some, true, false};
+ghost use Rattle.std.specs.Io.KnownBytes.{Appends};
 ghost use Rattle.cec_audit.specs.Audit.{audit_text_of};
 ghost use Rattle.cec_bits.specs.Windows.{AreWindows, most_margin};
 ghost use Rattle.cec_mon.specs.Joined.{captured_by};
 ghost use Rattle.cec_audit_lines.specs.Kinds.{has_remark};
+ghost use Rattle.cec_fold.specs.Folded.{folded};
 ghost use Rattle.hdmi_core.specs.Lines.{lines_of};
-ghost use Rattle.hdminet_captures.specs.Captures.{Heard, Reports, edges_kept, edges_turned, form_of, report_of};
+ghost use Rattle.hdminet_captures.specs.Captures.{Heard, Reports, Shown, edges_kept, edges_turned, form_of, report_of};
 
 use crate::signs::{Signs, has_several, signs_of};
 use arrayvec::ArrayString;
 use cec_audit::{AuditOptions, audit_capture_by};
 use cec_audit_lines::has_remark;
 use cec_bits::{MOST_MARGIN, Windows};
+use cec_fold::fold;
 use cec_formats::{Form as CaptureForm, read_capture};
 use cec_invert::invert;
 use cec_json::Held;
@@ -252,6 +255,67 @@ pub fn monitor<W: Sink>(
     listen(
         alloc, form, signal, inverted, glitch, margin, report, input, out,
     )
+}
+
+// Writes lines, bad starts one after another as one.
+fn write_folded<W: Sink>(alloc: Global, lines: &[u8], out: &mut W) -> Result<(), ProgramFault>
+    ensures { OnOk result (Appends (W.contents out.old) (W.contents out.new) (folded (lines_of lines.now))) }
+{
+    let text = fold(alloc, lines)?;
+    Ok(put_all(out, &text)?)
+}
+
+// Writes what is asked for of a capture with bad starts one after another as one line. The lines are held until they are all there;
+// those of a strict audit that has a remark are written too.
+#[inline(never)]
+fn show_folded<W: Sink>(
+    alloc: Global,
+    form: Option<Form>,
+    signal: &[u8],
+    inverted: bool,
+    glitch: u64,
+    margin: u64,
+    report: Option<Report>,
+    input: &[u8],
+    out: &mut W,
+) -> Result<Signs, ProgramFault>
+    ensures { OnOk result (Shown true (form_of form input.now) signal.now inverted glitch margin (report_of report (form_of form input.now)) input.now (W.contents out.old) (W.contents out.new)) }
+{
+    let mut held = Held::new(alloc);
+    let done = monitor(
+        alloc, form, signal, inverted, glitch, margin, report, input, &mut held,
+    );
+    if held.is_full() {
+        return Err(ProgramFault::Memory(AllocError));
+    }
+    write_folded(alloc, held.bytes(), out)?;
+    done
+}
+
+/// Writes the same as `monitor`, as it stands or with bad starts one after another as one line.
+pub fn show<W: Sink>(
+    alloc: Global,
+    folds: bool,
+    form: Option<Form>,
+    signal: &[u8],
+    inverted: bool,
+    glitch: u64,
+    margin: u64,
+    report: Option<Report>,
+    input: &[u8],
+    out: &mut W,
+) -> Result<Signs, ProgramFault>
+    ensures { OnOk result (Shown folds (form_of form input.now) signal.now inverted glitch margin (report_of report (form_of form input.now)) input.now (W.contents out.old) (W.contents out.new)) }
+{
+    if folds {
+        show_folded(
+            alloc, form, signal, inverted, glitch, margin, report, input, out,
+        )
+    } else {
+        monitor(
+            alloc, form, signal, inverted, glitch, margin, report, input, out,
+        )
+    }
 }
 
 // The line that names an event before which others were lost.

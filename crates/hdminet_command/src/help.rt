@@ -75,7 +75,7 @@ pub const RUN_FLAGS: &[(&str, &str)] = &[
     ),
     (
         "room",
-        "With --json, objects of the topology and of the pulses come first, and events have their line",
+        "With --json, objects of the topology, pulses and pulls come first, and events have their line",
     ),
     (
         "drives",
@@ -121,6 +121,8 @@ The script says what happens, in the order of its times, and when the run ends:
   at T drop NAME                of a device from outside: it drops what it has to send
   pulse T WIDTH                 the line is pulled low from outside: 1 to 10000 microseconds, each
                                 at least 25000 after the end of the one above, at most 4096
+  pull T WIDTH                  the same, as dense as you like: 1 to 10000000 microseconds, each
+                                after the end of the pulse or pull above, at most 16384 of both
   end T                         the last line
 
 The keys, and the kinds that have them, are listed below. PA is an address as 1.0.0.0, LLL a language as
@@ -223,7 +225,7 @@ pub const CHECK_RULES: &str = "
 
 pub const CHECK_HELP: &str = "\
 The input is that of `hdminet run`, and its script may also have labels and expectations:
-  label NAME LINE                        a label before an event, a pulse or an expectation
+  label NAME LINE                        a label before an event, a pulse, a pull or an expectation
   expect within D of NAME PATTERN        a round that meets the pattern, D microseconds from a label on
   expect from T to U PATTERN             or between two times
   expect none .., expect once ..         no such round, or exactly one
@@ -233,7 +235,7 @@ The input is that of `hdminet run`, and its script may also have labels and expe
 A pattern is met by a round whose line in the trace begins with it after its two times, without the word
 complete, up to the end of a word; `*` stands for any part of one word. A round is in a window where it
 begins and ends in it. The instant of a label is that at which its event was applied, the onset of its
-pulse, or the end of the first round that meets its expectation.
+pulse or pull, or the end of the first round that meets its expectation.
 
 The output is in the Test Anything Protocol, version 13: a line `ok` or `not ok` for each expectation, in
 order, then one for each refused event that none expects. Below a failure stand the window and rounds in it,
@@ -272,7 +274,7 @@ gives of examples/race.sweep
   5000000..5000000 ok not-ok
 Where a test fails at any of them, the status is 1 and standard error has `failed tests in the range`.
 With --trace and --plain no time is a range. A range has at most 1000000 instants, and each keeps the order
-of the script: events and pulses in order of time, `end` after each event, no state after `end`.
+of the script: events in order of time, pulses and pulls too, `end` after each event, no state after `end`.
 
 With --capture the input is expectations, a line `capture`, and a capture in any form that `hdminet mon`
 reads, of which they are to hold. Here `label NAME at T` names an instant, and the other lines are
@@ -288,7 +290,7 @@ With --json each line of the report is an object of JSON.
 Faults: those of `hdminet run`, and then `script line N: CAUSE` for the first label or expectation at fault;
 nothing is written then. CAUSE is the first of these that applies:
   word       no such expectation; a pattern of no or more than 160 bytes, with more than four `*`, or with a
-             space at an end; after a label no event, no pulse and no expectation
+             space at an end; after a label no event, pulse, pull or expectation
   number     a number that is none
   name       a device that the topology does not declare
   label      a label that is empty or stands above already; one that no line above has; for a refusal, one
@@ -368,7 +370,8 @@ With --explain a refused line is shown on standard error after its answer, with 
 An edge is a line `~ T 0` or `~ T 1`, the level that the line then has, above its round's line.
 Without the answers and the edges, what is written is the trace that `hdminet run` writes of the
 lines taken.
-At most 4096 pulses wait at a time: one that a round has taken counts no more once that is told.
+At most 16384 pulses and pulls wait at a time, and a pulse comes while fewer than 4096 wait: one that
+a round has taken counts no more once that is told.
 
 An example, `>` before what is sent:
   > device tv tv 1
@@ -488,6 +491,10 @@ pub const MON_FLAGS: &[(&str, &str)] = &[
         "Ends with status 1 where the audit has a remark, once all of it is printed",
     ),
     (
+        "fold",
+        "Prints bad starts one after another as one line, from the first to the last",
+    ),
+    (
         "json",
         "Prints each line as an object of JSON: readings, and with --audit remarks",
     ),
@@ -520,7 +527,7 @@ pub const MON_VALUES: &[(&str, &str, &str)] = &[
 pub const MON_RULES: &str = "
   --from takes edges, vcd, pin or csv; --glitch a number of microseconds, --margin one up to 300
   --signal goes with vcd and csv alone; of --from-start and --from-idle one is given at most, and neither
-  with --audit and --timing; --strict goes with one of these two
+  with --audit and --timing; --strict goes with one of these two; --fold does not go with --json
 ";
 
 pub const MON_HELP: &str = "\
@@ -569,6 +576,11 @@ stands a summary; with --timing the widths of each reading's parts too:
       slot 13 block 2 bit 3 low 870 not 400..800
 With --strict the status is 1 where it has a remark: something that the standard has otherwise. A note is
 none: a block that nobody takes, bad starts, a second address, what was read, and the summary.
+
+With --fold bad starts one after another are one line, from the first fall to the last ending:
+  START END bad-starts N
+An audit remarks the widths of the first one alone; with --fold those after it are one line there too, as
+far as none has a line below it.
 
 With --json each line of the output is an object of JSON, whose first field is that line. Of an audit its
 type is reading, remark, note, sender, widths or summary; a remark has its kind, the section of HDMI 1.4

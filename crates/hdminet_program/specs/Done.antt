@@ -33,7 +33,7 @@ use Rattle.hdminet_words.specs.declared.choice.Report.TheVariants.{Audit}
 use Rattle.hdminet_words.specs.declared.choice.TestView.{TestView}
 use Rattle.hdminet_words.specs.declared.choice.TestView.TheVariants.{Report, Traced}
 use Rattle.hdminet_captures.specs.CaptureTests.{IsCaptureTest}
-use Rattle.hdminet_captures.specs.Captures.{IsHeard, form_of, name_of, report_of}
+use Rattle.hdminet_captures.specs.Captures.{IsHeard, IsShown, form_of, name_of, report_of}
 use Rattle.hdminet_edids.specs.Edids.{IsMade}
 use Rattle.hdminet_program.specs.Live.{IsLiveDone}
 use Rattle.hdminet_faults.specs.Parted.{IsParted, IsRunInput}
@@ -162,7 +162,7 @@ IsDone Step name input text = AreStepsDone input text
 IsDone Live name input text = IsLiveDone input text
 IsDone Asm name input text = (frames : List (List ℕ)) × AreTextsOf (lines_of_frames (lines_of input)) frames × (text ≡ flat_map frame_line frames)
 IsDone (Dis meaning) name input text = (first_fault 1 (lines_of input) ≡ None) × (text ≡ flat_map (dis_text meaning) (lines_of input))
-IsDone (Mon form glitch margin inverted report) name input text = IsHeard (form_of form input) name inverted glitch margin (report_of report (form_of form input)) input text
+IsDone (Mon form glitch margin inverted folded report) name input text = IsShown folded (form_of form input) name inverted glitch margin (report_of report (form_of form input)) input text
 IsDone (Json objects) name input text = (lines : List ℕ) × AreLines objects name input lines × AreObjectsOf objects input lines text
 IsDone (Edid source reading view) name input text = IsMade source reading view input text
 

@@ -12,7 +12,7 @@ use cec_meaning::dis_with_meaning;
 use cec_step::step_run::step_run;
 use cec_text::asm_lines;
 use hdmi_core::Sink;
-use hdminet_captures::monitor;
+use hdminet_captures::show;
 use hdminet_edids::edid::edid;
 use hdminet_faults::ProgramFault;
 use hdminet_faults::parts::{parted, parts};
@@ -97,10 +97,11 @@ pub fn perform<W: Sink>(
             glitch,
             margin,
             inverted,
+            folded,
             report,
         } => {
-            let signs = monitor(
-                alloc, form, signal, inverted, glitch, margin, report, input, out,
+            let signs = show(
+                alloc, folded, form, signal, inverted, glitch, margin, report, input, out,
             )?;
             Ok(Told::Capture(signs))
         }

@@ -40,7 +40,7 @@ asked_of Step words = only_explained choices.Step words
 asked_of Live words = only_explained choices.Live words
 asked_of Asm words = only_explained choices.Asm words
 asked_of Dis words = option_map dis_asked (dis_flags (record { meaning = false; explains = false }) words)
-asked_of Mon words = option_and_then mon_asked (mon_flags (record { form = None; named = false; glitch = None; margin = None; inverted = false; start = None; audit = false; timing = false; strict = false; json = false; explains = false; waits = None }) words)
+asked_of Mon words = option_and_then mon_asked (mon_flags (record { form = None; named = false; glitch = None; margin = None; inverted = false; start = None; audit = false; timing = false; strict = false; folded = false; json = false; explains = false; waits = None }) words)
 asked_of Edid words =
     option_and_then edid_asked (edid_flags (record { source = None; nth = None; reading = None; wanted = None; address = None; port = None; amplified = false; spoken = false; merges = false; rows = None; explains = false; waits = None }) words)
 

@@ -54,6 +54,7 @@ with_mon_flag flags word =
     else if bytes_eq word (codes "--audit") && not flags.audit then Some (record flags { audit = true })
     else if bytes_eq word (codes "--timing") && not flags.timing then Some (record flags { timing = true })
     else if bytes_eq word (codes "--strict") && not flags.strict then Some (record flags { strict = true })
+    else if bytes_eq word (codes "--fold") && not flags.folded then Some (record flags { folded = true })
     else if bytes_eq word (codes "--json") && not flags.json then Some (record flags { json = true })
     else if bytes_eq word (codes "--explain") && not flags.explains then Some (record flags { explains = true })
     else None
@@ -93,20 +94,20 @@ mon_report None true timing strict = Some (Some (Audit timing strict))
 mon_report (Some start) true timing strict = None
 
 -- what is done with the capture
-abbrev pub mon_choice : Bool → Option Form → ℕ → ℕ → Bool → Option Report → Choice
-mon_choice true form glitch margin inverted report = Json (objects.Capture form glitch margin inverted report)
-mon_choice false form glitch margin inverted report = Mon form glitch margin inverted report
+abbrev pub mon_choice : Bool → Option Form → ℕ → ℕ → Bool → Bool → Option Report → Choice
+mon_choice true form glitch margin inverted folded report = Json (objects.Capture form glitch margin inverted report)
+mon_choice false form glitch margin inverted folded report = Mon form glitch margin inverted folded report
 
--- a value is missing, or a wire has no name
+-- a value is missing, a wire has no name, or objects are asked for of lines that are folded
 abbrev pub is_misfit : MonFlags → Bool
-is_misfit flags = is_some flags.waits || (flags.named && not (has_names flags.form))
+is_misfit flags = is_some flags.waits || (flags.named && not (has_names flags.form)) || (flags.folded && flags.json)
 
 -- what they ask for
 abbrev pub mon_asked : MonFlags → Option Asked
 mon_asked flags =
     if is_misfit flags then None
     else option_map (λ report. record {
-      choice = mon_choice flags.json flags.form (unwrap_or flags.glitch 0) (unwrap_or flags.margin 0) flags.inverted report;
+      choice = mon_choice flags.json flags.form (unwrap_or flags.glitch 0) (unwrap_or flags.margin 0) flags.inverted flags.folded report;
       explains = flags.explains;
     }) (mon_report flags.start (flags.audit || flags.timing) flags.timing flags.strict)
 

@@ -190,12 +190,13 @@ pub enum Choice {
     },
     /// What a capture reports. Its first line reports its form where none is given; pulses and gaps shorter than so many
     /// microseconds are passed over; the windows are so many microseconds wider, 300 at most; the levels are read as they stand, or
-    /// the other way round; and where no report is given, that is by the form.
+    /// the other way round; bad starts one after another are a line each, or one; and where no report is given, that is by the form.
     Mon {
         form: Option<Form>,
         glitch: u64,
         margin: u64,
         inverted: bool,
+        folded: bool,
         report: Option<Report>,
     },
     /// Lines of a run or of a capture, as objects.

@@ -33,6 +33,7 @@ pub struct MonFlags {
     pub audit: bool,
     pub timing: bool,
     pub strict: bool,
+    pub folded: bool,
     pub json: bool,
     pub explains: bool,
     /// The flag whose value comes next.
@@ -51,6 +52,7 @@ impl MonFlags {
         audit: false,
         timing: false,
         strict: false,
+        folded: false,
         json: false,
         explains: false,
         waits: None,
@@ -162,6 +164,10 @@ fn with_mon_flag(flags: MonFlags, word: &str) -> Option<MonFlags>
             strict: true,
             ..flags
         }),
+        "--fold" if !flags.folded => Some(MonFlags {
+            folded: true,
+            ..flags
+        }),
         "--json" if !flags.json => Some(MonFlags {
             json: true,
             ..flags
@@ -240,9 +246,10 @@ fn mon_choice(
     glitch: u64,
     margin: u64,
     inverted: bool,
+    folded: bool,
     report: Option<Report>,
 ) -> Choice
-    ensures { result ≡ mon_choice json form glitch margin inverted report }
+    ensures { result ≡ mon_choice json form glitch margin inverted folded report }
 {
     if json {
         Choice::Json(Objects::Capture {
@@ -258,16 +265,17 @@ fn mon_choice(
             glitch,
             margin,
             inverted,
+            folded,
             report,
         }
     }
 }
 
-// Whether a value is missing, or a wire has no name.
+// Whether a value is missing, a wire has no name, or objects are asked for of lines that are folded.
 fn is_misfit(flags: &MonFlags) -> bool
     ensures { result ≡ is_misfit flags.now }
 {
-    flags.waits.is_some() || (flags.named && !has_names(flags.form))
+    flags.waits.is_some() || (flags.named && !has_names(flags.form)) || (flags.folded && flags.json)
 }
 
 /// What `mon` with these flags asks for.
@@ -286,6 +294,7 @@ pub fn mon_asked(flags: &MonFlags) -> Option<Asked>
             flags.glitch.unwrap_or(0),
             flags.margin.unwrap_or(0),
             flags.inverted,
+            flags.folded,
             report,
         ),
         explains: flags.explains,

@@ -25,7 +25,7 @@ fn reads_captures_in_each_form(rt: HostRuntime) {
 
 /// A command line, an input with `;` for a line feed, and what is read in it, with `;` for one: forms by their names; a wire by
 /// its name and the first; a pulse of 3 and a gap of 4, which are passed over; levels that are turned; readings that begin before
-/// the line was idle.
+/// the line was idle; bad starts one after another, as one line.
 const FLAGS: &str = "\
 mon --from edges => 1000 0;4700 1;5500 0;6100 1;20000 end; => 1000 8251 silent 1;
 mon --from csv --signal CEC => Time,SCL,CEC;0,1,1;0.021,1,0;0.0247,1,1;0.0255,1,0;0.0261,1,1; => 21000 28251 silent 1;
@@ -40,6 +40,10 @@ mon --invert => 3700 0;4500 1;5100 0;20000 end; => 0 7251 silent 1;
 mon --invert --glitch 5 => 0 0;1000 1;4700 0;4900 1;4904 0;5500 1;6100 0;20000 end; => 1000 8251 silent 1;
 mon --from-start --invert => Time,CEC;0,0;0.001,1;0.0047,0;0.0055,1;0.0061,0; => 1000 8251 silent 1;
 mon --from-idle => 1000 0;4700 1;5500 0;6100 1;13299 end; => 0 13299 joined -;
+mon --fold => 1000 0;1400 1;2000 0;2400 1;3000 0;3600 1;20000 end; => 1000 3600 bad-starts 3;
+mon --fold => 1000 0;1400 1;20000 end; => 1000 1400 bad-start -;
+mon --fold --from edges --from-start => 1000 0;1400 1;2000 0;2400 1;21000 0;24700 1;25500 0;26100 1;30000 0;30400 1;31000 0;31400 1;40000 end; => 1000 2400 bad-starts 2;21000 28251 silent 1;30000 31400 bad-starts 2;
+mon --fold --audit => 1000 0;1400 1;2000 0;2400 1;3000 0;3600 1;20000 end; => 1000 1400 bad-start -;  start low 400 not 3500..3900;  start total 1000 not 4300..4700;2000 3600 bad-starts 2;  all readings;
 mon --from-start --from csv => Time,CEC;0,1;0.001,0;0.0047,1;0.0055,0;0.0061,1; => 1000 8251 silent 1;
 mon => Time,CEC;0,1;0.001,0;0.0047,1;0.0055,0;0.0061,1;0.03,0;0.0304,1;0.04,1; => 0 13300 joined -;30000 30400 bad-start -;
 ";
@@ -127,7 +131,7 @@ const UNREMARKED: &[u8] = b"21000 0\n24700 1\n25500 0\n26100 1\n40000 end\n";
 /// A strict audit has the same output, and status 1 where there is a remark. A note is none: nobody takes a block.
 #[test]
 fn strict_audits_fail_where_there_is_a_remark(rt: HostRuntime) {
-    for flags in ["--audit", "--timing", "--audit --json"] {
+    for flags in ["--audit", "--timing", "--audit --json", "--audit --fold"] {
         let line = format!(in rt.alloc(); "mon {flags}").expect(&rt, "a line");
         let strict = format!(in rt.alloc(); "mon {flags} --strict").expect(&rt, "a line");
         let text = written(&rt, line.as_str(), REMARKED);

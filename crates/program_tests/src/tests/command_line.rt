@@ -32,6 +32,7 @@ run --help => --drives
 mon --help => --margin
 mon --help => --invert
 mon --help => --from-idle
+mon --help => --fold
 mon --help => --strict
 mon --help => or a remark with --strict
 mon --help => --signal
@@ -61,10 +62,12 @@ run --help => PORTS is 0 to 15;
 run --help =>                                 of 0 to e, as 4 or 1+4;
 run --help => is pulled low from outside: 1 to 10000 microseconds, each;
 run --help =>                                 at least 25000 after the end of the one above, at most 4096;
+run --help => the same, as dense as you like: 1 to 10000000 microseconds, each;
+run --help =>                                 after the end of the pulse or pull above, at most 16384 of both;
 run --help => past 1048576 bytes
 run --help => ext N checksum (N is 1 to 3)
 check --help => a pattern of no or more than 160 bytes, with more than four `*`
-live --help => At most 4096 pulses wait at a time
+live --help => At most 16384 pulses and pulls wait at a time, and a pulse comes while fewer than 4096 wait
 live --help => `script line N: too-long` for a line of more than 4096 bytes.
 asm --help =>   too-long   more than 14 operands in hex;
 asm --help =>   VOLUME is `mute` or `sound`, and 0 to 100 after a space;
@@ -239,6 +242,11 @@ mon --from-idle --from-start
 mon --from-idle --audit
 mon --timing --from-start
 mon --audit --audit
+mon --fold --json
+mon --audit --json --fold
+mon --fold --fold
+mon --fold=yes
+check --capture --fold
 run --as vcd
 run --edges --as
 run --edges --as edges
