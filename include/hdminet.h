@@ -1,12 +1,13 @@
-/* Calls of hdminet that are proved and take memory: the emulator, the report of a script's expectations, and the readings of an
-   edge file. hdminet_wire.h has the others, and what callers promise: it holds here too.
+/* Calls of hdminet that are proved and take memory: the emulator, the report of a script's expectations, the readings of an
+   edge file, and of EDIDs their bytes, their check and their meaning. hdminet_wire.h has the others, and what callers promise:
+   it holds here too.
 
    These calls take memory by the program's malloc, realloc and free, and give all of it back before they return. The
    caller promises besides:
    - The three functions are of one allocator, and align a block as C asks for.
    - No call comes from a signal handler, nor from the forked child of a process with threads.
-   - The stack has 80 KB left: the emulator takes some 60 KB of it. A thread of 128 KB will do for the calls of this header
-     and of hdminet_wire.h.
+   - The stack has 80 KB left, for hdminet_edid_meaning 96 and for hdminet_edid_bytes 120: the emulator takes some 60 KB of it.
+     A thread of 192 KB will do for the calls of this header and of hdminet_wire.h.
    Where memory runs out, HDMINET_MEMORY is the answer. */
 #ifndef HDMINET_H
 #define HDMINET_H
@@ -18,8 +19,11 @@ extern "C" {
 #endif
 
 /* How such a call went, beside the numbers of hdminet_wire.h: those of frames are a script's, with its line, and those of
-   EDIDs are the topology's. */
+   EDIDs are the topology's, or of the bytes that a call of EDIDs was handed. */
 enum hdminet_run_code {
+    HDMINET_EDID_TEXT_SYNTAX = 40, /* on this line of an EDID's text another line has to stand */
+    HDMINET_EDID_TEXT_FIELD = 41,  /* a word of this line is at fault */
+
     HDMINET_MEMORY = 50, /* memory ran out */
 
     HDMINET_TOPOLOGY_WORD = 60,        /* there is no such line, or it is a second `edid` line */
@@ -37,10 +41,10 @@ enum hdminet_run_code {
     HDMINET_SCRIPT_WORD = 80,     /* there is no such line, or no such key */
     HDMINET_SCRIPT_NUMBER = 81,   /* a number is ill-formed, or a time is past 1,000,000,000,000 */
     HDMINET_SCRIPT_NAME = 82,     /* the topology has no such device */
-    HDMINET_SCRIPT_WIDTH = 83,    /* a pulse is not 1 to 10,000 microseconds wide */
-    HDMINET_SCRIPT_ORDER = 84,    /* a time is before that of the event above, or a pulse begins before the end of the one above */
-    HDMINET_SCRIPT_CLOSE = 85,    /* a pulse is less than 25,000 microseconds after the end of the one above */
-    HDMINET_SCRIPT_TOO_MANY = 86, /* a pulse stands after 4,096 others */
+    HDMINET_SCRIPT_WIDTH = 83,    /* a pulse is not 1 to 10,000 microseconds wide, or a pull not 1 to 10,000,000 */
+    HDMINET_SCRIPT_ORDER = 84,    /* a time is before that of the event above, a pulse begins before the end of the pulse or pull above, or a pull not after it */
+    HDMINET_SCRIPT_CLOSE = 85,    /* a pulse is less than 25,000 microseconds after the end of the pulse or pull above */
+    HDMINET_SCRIPT_TOO_MANY = 86, /* a pulse stands after 4,096 pulses and pulls, or a pull after 16,384 */
     HDMINET_SCRIPT_END = 87,      /* there is no `end`, a line after it, or it is not after every event */
 
     HDMINET_EXPECT_WORD = 90,   /* there is no such expectation, its pattern is too long, or nothing follows a label */
@@ -73,6 +77,16 @@ hdminet_answer hdminet_check(const uint8_t *topology, size_t topology_length, co
 
 /* Puts the lines of what was read on the line of an edge file into the room. */
 hdminet_answer hdminet_watch(const uint8_t *edges, size_t edges_length, uint8_t *room, size_t room_length);
+
+/* The bytes of the EDID that has exactly this text, as hdminet_edid_text puts it: 128, 256, 384 or 512. */
+hdminet_answer hdminet_edid_bytes(const uint8_t *text, size_t text_length, uint8_t *room, size_t room_length);
+
+/* Puts a line into the room for each rule that the EDID of a display breaks: none, where it keeps all. Sets *fails, also where
+   the room is too small: whether one of them is a failure, and not a warning alone. */
+hdminet_answer hdminet_edid_check(const uint8_t *bytes, size_t bytes_length, uint8_t *room, size_t room_length, bool *fails);
+
+/* Puts the text of an EDID into the room, and below each line, after two spaces, what it means. */
+hdminet_answer hdminet_edid_meaning(const uint8_t *bytes, size_t bytes_length, uint8_t *room, size_t room_length);
 
 #ifdef __cplusplus
 }

@@ -134,6 +134,12 @@ hdminet_answer hdminet_edid_text(const uint8_t *bytes, size_t bytes_length, uint
 hdminet_answer hdminet_edid_port(const uint8_t *bytes, size_t bytes_length, uint16_t address, bool from_amplifier,
                                  uint8_t *room, size_t room_length);
 
+/* Fills the room with what is read of these bytes over DDC, from an offset of a segment on: a segment is two blocks, and after
+   offset 255 comes offset 0 of the same one. What is missing in a segment with a block is FF; HDMINET_ABSENT where it has none,
+   and is not acknowledged. The bytes are one block to four; what they spell does not count. */
+hdminet_answer hdminet_edid_read(const uint8_t *bytes, size_t bytes_length, uint8_t segment, uint8_t offset, uint8_t *room,
+                                 size_t room_length);
+
 /* A receiver of a line of which nothing is told yet: it is high, and no reading runs. */
 hdminet_receiver hdminet_receiver_new(void);
 

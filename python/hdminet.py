@@ -14,8 +14,8 @@ import ctypes.util
 import os
 from collections import namedtuple
 
-__all__ = ["Error", "Reading", "Receiver", "Report", "Sender", "check", "edid_fault", "edid_port", "edid_text", "emulate", "emulate_edges",
-           "frame_bytes", "frame_text", "watch"]
+__all__ = ["Error", "Findings", "Reading", "Receiver", "Report", "Sender", "check", "edid_bytes", "edid_check", "edid_fault",
+           "edid_meaning", "edid_port", "edid_read", "edid_text", "emulate", "emulate_edges", "frame_bytes", "frame_text", "watch"]
 
 # The numbers of answers, as include/hdminet_wire.h and include/hdminet.h have them.
 CODES = {
@@ -25,6 +25,7 @@ CODES = {
     30: "edid: length", 31: "edid: count", 32: "edid: base header", 33: "edid: base checksum", 34: "edid: base revision",
     35: "edid: base maker", 36: "edid: ext 1 checksum", 37: "edid: ext 2 checksum", 38: "edid: ext 3 checksum",
     39: "edid: no-hdmi-block",
+    40: "text: syntax", 41: "text: field",
     50: "no memory",
     60: "topology: word", 61: "topology: number", 62: "topology: name", 63: "topology: full", 64: "topology: second-root",
     65: "topology: no-root", 66: "topology: port-range", 67: "topology: port-taken", 68: "topology: not-loose",
@@ -94,6 +95,7 @@ _CALLS = {
     "hdminet_edid_fault": (ctypes.c_uint32, _BYTES),
     "hdminet_edid_text": (_Answer, _BYTES * 2),
     "hdminet_edid_port": (_Answer, _BYTES + [ctypes.c_uint16, ctypes.c_bool] + _BYTES),
+    "hdminet_edid_read": (_Answer, _BYTES + [ctypes.c_uint8, ctypes.c_uint8] + _BYTES),
     "hdminet_receiver_new": (_Receiver, []),
     "hdminet_receiver_hear": (_Heard, [ctypes.POINTER(_Receiver), ctypes.c_uint64, ctypes.c_bool, ctypes.POINTER(_Reading)]),
     "hdminet_receiver_wakes_at": (_Instant, [ctypes.POINTER(_Receiver)]),
@@ -108,6 +110,9 @@ _CALLS = {
     "hdminet_emulate_edges": (_Answer, _BYTES * 3),
     "hdminet_check": (_Answer, _BYTES * 3 + [ctypes.POINTER(_Counts)]),
     "hdminet_watch": (_Answer, _BYTES * 2),
+    "hdminet_edid_bytes": (_Answer, _BYTES * 2),
+    "hdminet_edid_check": (_Answer, _BYTES * 2 + [ctypes.POINTER(ctypes.c_bool)]),
+    "hdminet_edid_meaning": (_Answer, _BYTES * 2),
 }
 
 
@@ -178,6 +183,43 @@ def edid_port(edid, address, from_amplifier=False):
             raise ValueError("an address has four nibbles, as 1.2.0.0")
         address = nibbles[0] << 12 | nibbles[1] << 8 | nibbles[2] << 4 | nibbles[3]
     return _filled(_library.hdminet_edid_port, edid, len(edid), address, from_amplifier)
+
+
+def edid_read(edid, segment, offset, count):
+    """What a reader reads over DDC: so many bytes from an offset of a segment on; None where that is not acknowledged."""
+    edid, buffer = bytes(edid), ctypes.create_string_buffer(count)
+    answer = _library.hdminet_edid_read(edid, len(edid), segment, offset, buffer, count)
+    if answer.code == ABSENT:
+        return None
+    if answer.code:
+        raise Error(answer.code)
+    return buffer.raw
+
+
+def edid_bytes(text):
+    """The bytes of the EDID that has exactly this text, as `edid_text` gives it."""
+    text = _text(text)
+    return _filled(_library.hdminet_edid_bytes, text, len(text))
+
+
+Findings = namedtuple("Findings", "text fails")
+
+
+def edid_check(edid):
+    """The rules that the EDID of a display breaks: a line for each, and whether one of them is a failure."""
+    edid, fails = bytes(edid), ctypes.c_bool()
+
+    def call(*arguments):
+        return _library.hdminet_edid_check(*arguments, ctypes.byref(fails))
+
+    text = _filled(call, edid, len(edid), room=4096).decode("latin-1")
+    return Findings(text, fails.value)
+
+
+def edid_meaning(edid):
+    """The text of an EDID, and below each line, after two spaces, what it means."""
+    edid = bytes(edid)
+    return _filled(_library.hdminet_edid_meaning, edid, len(edid), room=1 << 14).decode("latin-1")
 
 
 def emulate(topology, script):

@@ -1,6 +1,7 @@
 #!/usr/bin/env bash
 # install.sh: tools/install into a folder of its own; the installed program and check-room from another folder, the manual by man,
-# and the completions in bash, zsh and fish. A shell that is not here is left out, and named. The last line is
+# the completions in bash, zsh and fish, and the library by C and Python. What is not here, a shell, a C compiler or a released
+# library, is left out, and named. The last line is
 # 'installed: N passed, M failed'.
 set -u
 top=$(cd "$(dirname "${BASH_SOURCE[0]}")/.." && pwd)
@@ -44,6 +45,17 @@ share/bash-completion/completions/hdminet 644
 share/fish/vendor_completions.d/hdminet.fish 644
 share/man/man1/hdminet.1 644
 share/zsh/site-functions/_hdminet 644'
+LIBRARY='include/hdminet.h 644
+include/hdminet_wire.h 644
+lib/libhdminet.a 644
+lib/libhdminet.so 644
+lib/libhdminet_wire.a 644
+lib/pkgconfig/hdminet.pc 644
+lib/pkgconfig/hdminet_wire.pc 644
+python/hdminet.py 644'
+both() { printf '%s\n' "$FILES" "$LIBRARY" | LC_ALL=C sort; }
+PROGRAM_FILES=$FILES
+[ ! -d "$top/release/lib" ] || FILES=$(both)
 
 # What stands in for a toolchain, and tells that it was called.
 mkdir "$room/kit"
@@ -53,7 +65,7 @@ start env PATH="$room/kit:$PATH" "$top/tools/install" "$dir"
 check "it installs" ended 0
 check "and calls no toolchain" [ ! -e "$room/called" ]
 check "each file, with its mode" [ "$(files_of "$dir")" = "$FILES" ]
-check "and names each" [ "$(grep -c "^install: $dir/" "$room/out")" = 7 ]
+check "and names each" [ "$(grep -c "^install: $dir/" "$room/out")" = "$(wc -l <<< "$FILES")" ]
 check "the program is the released one" cmp -s "$top/release/hdminet" "$dir/bin/hdminet"
 check "the manual is the one that stands here" cmp -s "$top/hdminet.1" "$dir/share/man/man1/hdminet.1"
 
@@ -105,6 +117,21 @@ if command -v man > /dev/null; then
   check "and finds it by its name" wrote "$dir/share/man/man1/hdminet.1"
 else
   echo "installed: there is no man here"
+fi
+
+# The tests of the library, over the one that is installed.
+. "$top/tools/sources.bash"
+if [ ! -d "$top/release/lib" ]; then
+  echo "installed: there is no released library here"
+elif ! is_library_of_these_sources "$top"; then
+  echo "installed: the released library was built of other sources"
+elif ! command -v cc > /dev/null || ! command -v pkg-config > /dev/null; then
+  echo "installed: there is no cc or pkg-config here"
+else
+  start "$top/tools/install" "$room/calls"
+  check "the library is installed" ended 0
+  start env HDMINET_FRAMES=2000 "$top/tests/library.sh" "$room/calls" "$room/calls/bin/hdminet"
+  check "and its tests hold" ended 0
 fi
 
 # What a shell is asked, and what it is to offer. A line that ends with a space asks for the next word.
@@ -221,6 +248,42 @@ check "with the released program" cmp -s "$top/release/hdminet" "$dir/bin/hdmine
 check "and says that the sources are other ones" grep -qxF "install: the released program was built of other sources than those beside it" "$room/err"
 check "which refuses nothing" ended 0
 
+# One with a library that is a stand-in for one.
+rm -rf "$room/checkout/release"/{lib,include,python,library*}
+with_library() {
+  local file
+  for file in "${LIBRARY_FILES[@]}"; do
+    mkdir -p "$room/checkout/release/$(dirname "$file")"
+    echo "stands for $file" > "$room/checkout/release/$file"
+    (cd "$room/checkout/release" && sha256sum "$file")
+  done > "$room/sums"
+  mv "$room/sums" "$room/checkout/release/library.sha256"
+}
+start "$room/checkout/tools/install" "$room/without"
+check "with no library the program is installed" [ "$(files_of "$room/without")" = "$PROGRAM_FILES" ]
+with_library
+start "$room/checkout/tools/install" "$room/with"
+check "a released library is installed" [ "$(files_of "$room/with")" = "$(both)" ]
+check "its files are the released ones" cmp -s "$room/checkout/release/lib/libhdminet.a" "$room/with/lib/libhdminet.a"
+check "and say so where the sources are other ones" grep -qxF "install: the released library was built of other sources than those beside it" "$room/err"
+check "pkg-config is told the folder" grep -qxF "prefix=$room/with" "$room/with/lib/pkgconfig/hdminet_wire.pc"
+check "and the version" grep -qxF "Version: $("$top/release/hdminet" --version | cut -d' ' -f2)" "$room/with/lib/pkgconfig/hdminet.pc"
+start "$room/checkout/tools/install" relative
+check "and of a folder from here its whole name" grep -qxF "prefix=$room/elsewhere/relative" "$room/elsewhere/relative/lib/pkgconfig/hdminet.pc"
+start "$room/checkout/tools/install" --remove "$room/with"
+check "--remove takes the library away" [ -z "$(files_of "$room/with")" ]
+for file in lib/libhdminet.so include/hdminet.h; do
+  echo other >> "$room/checkout/release/$file"
+  start "$room/checkout/tools/install" "$room/new"
+  check "another $file than the released one is refused" refused "install: the released library does not have the sums that stand beside it"
+  check "and nothing is installed" [ ! -e "$room/new" ]
+  with_library
+  rm "$room/checkout/release/$file"
+  start "$room/checkout/tools/install" "$room/new"
+  check "and so is a library without $file" refused "install: the released library does not have the sums that stand beside it"
+  with_library
+done
+
 # One whose released program is not the one that its sum is of.
 echo >> "$room/checkout/release/hdminet"
 start "$room/checkout/tools/install" "$room/new"
@@ -241,7 +304,7 @@ done
 : > "$dir/bin/other"
 start "$top/tools/install" --remove "$dir"
 check "--remove takes the files away" [ "$(files_of "$dir" | cut -d' ' -f1)" = bin/other ]
-check "and names each" [ "$(grep -c '^install: removed ' "$room/out")" = 7 ]
+check "and names each" [ "$(grep -c '^install: removed ' "$room/out")" = "$(wc -l <<< "$FILES")" ]
 start "$top/tools/install" --remove "$dir"
 check "and says where there is nothing" wrote "install: nothing of hdminet is in $dir"
 

@@ -1,9 +1,12 @@
 /* What a caller of the library that takes memory sees, over C, from a thread of 512 KB of stack: a trace, its edges, what
-   was read of them and a report. Each failed line is printed; the status is 0 where none is. */
+   was read of them and a report; of an EDID its bytes, its check and its meaning, also where memory is refused. Each failed line
+   is printed; the status is 0 where none is. The arguments are the files of an EDID, of its text, of the rules that it breaks,
+   one of them a failure, and of its meaning. It is linked with --wrap=malloc,realloc. */
 #include "hdminet.h"
 
 #include <pthread.h>
 #include <stdio.h>
+#include <stdlib.h>
 #include <string.h>
 
 static int failed;
@@ -168,6 +171,82 @@ static void numbers(void) {
     HOLDS(counts.count == 7 && counts.failed == 7);
 }
 
+/* How many more times memory is given. */
+static long given = -1;
+
+void *__real_malloc(size_t size);
+void *__real_realloc(void *at, size_t size);
+void *__wrap_malloc(size_t size) { return given == 0 ? NULL : (given -= given > 0, __real_malloc(size)); }
+void *__wrap_realloc(void *at, size_t size) { return given == 0 ? NULL : (given -= given > 0, __real_realloc(at, size)); }
+
+/* A file, and how long it is. */
+struct file {
+    uint8_t bytes[1 << 15];
+    size_t length;
+};
+
+static struct file edid, text, findings, meaning;
+
+static bool read_file(const char *name, struct file *into) {
+    FILE *file = fopen(name, "rb");
+    if (!file) return false;
+    into->length = fread(into->bytes, 1, sizeof into->bytes, file);
+    return fclose(file) == 0 && into->length > 0;
+}
+
+static bool fails;
+
+static hdminet_answer to_bytes(const struct file *file, uint8_t *into, size_t length) {
+    return hdminet_edid_bytes(file->bytes, file->length, into, length);
+}
+static hdminet_answer to_findings(const struct file *file, uint8_t *into, size_t length) {
+    fails = false;
+    return hdminet_edid_check(file->bytes, file->length, into, length, &fails);
+}
+static hdminet_answer to_meaning(const struct file *file, uint8_t *into, size_t length) {
+    return hdminet_edid_meaning(file->bytes, file->length, into, length);
+}
+
+/* A call puts what is due, says how much room it needs, and is refused where memory is, each growth of it in turn. */
+static void puts_due(hdminet_answer call(const struct file *, uint8_t *, size_t), const struct file *from, const struct file *due) {
+    fill();
+    hdminet_answer answer = call(from, room, sizeof room);
+    HOLDS(answer.code == HDMINET_DONE && answer.line == 0 && answer.length == due->length);
+    HOLDS(memcmp(room, due->bytes, due->length) == 0 && is_filled(due->length));
+    fill();
+    answer = call(from, room, due->length - 1);
+    HOLDS(answer.code == HDMINET_ROOM && answer.line == 0 && answer.length == due->length && is_filled(0));
+    long refusals = 0;
+    for (;; refusals++) {
+        given = refusals;
+        answer = call(from, room, sizeof room);
+        given = -1;
+        if (answer.code == HDMINET_DONE || refusals == 100) break;
+        HOLDS(refused(answer, HDMINET_MEMORY, 0) && !fails);
+    }
+    HOLDS(refusals > 0 && refusals < 100 && answer.length == due->length);
+}
+
+static void edids(void) {
+    puts_due(to_bytes, &text, &edid);
+    puts_due(to_findings, &edid, &findings);
+    HOLDS(fails);
+    fails = false;
+    puts_due(to_meaning, &edid, &meaning);
+    fill();
+    fails = true;
+    HOLDS(refused(hdminet_edid_bytes(NULL, 0, room, sizeof room), HDMINET_EDID_TEXT_SYNTAX, 1));
+    HOLDS(refused(hdminet_edid_bytes(TEXT("edid 1.3\nfrob 1\n"), room, sizeof room), HDMINET_EDID_TEXT_SYNTAX, 2));
+    HOLDS(refused(hdminet_edid_bytes(TEXT("edid 1.5\n"), room, sizeof room), HDMINET_EDID_TEXT_FIELD, 1));
+    HOLDS(refused(hdminet_edid_bytes(TEXT("edid 1.3\nmaker sam\n"), room, sizeof room), HDMINET_EDID_TEXT_FIELD, 2));
+    HOLDS(refused(hdminet_edid_check(edid.bytes, 127, room, sizeof room, &fails), HDMINET_EDID_LENGTH, 0) && fails);
+    HOLDS(refused(hdminet_edid_meaning(edid.bytes, 127, room, sizeof room), HDMINET_EDID_LENGTH, 0));
+    edid.bytes[130] ^= 1;
+    HOLDS(refused(hdminet_edid_check(edid.bytes, edid.length, room, sizeof room, &fails), HDMINET_EDID_FIRST, 0) && fails);
+    HOLDS(refused(hdminet_edid_meaning(edid.bytes, edid.length, room, sizeof room), HDMINET_EDID_FIRST, 0));
+    edid.bytes[130] ^= 1;
+}
+
 static void *calls(void *unused) {
     (void)unused;
     traces();
@@ -175,10 +254,13 @@ static void *calls(void *unused) {
     reports();
     numbers();
     nothing_at_null();
+    edids();
     return NULL;
 }
 
-int main(void) {
+int main(int count, char **words) {
+    if (count != 5 || !read_file(words[1], &edid) || !read_file(words[2], &text) || !read_file(words[3], &findings) ||
+        !read_file(words[4], &meaning)) return 2;
     pthread_attr_t small;
     pthread_t thread;
     HOLDS(pthread_attr_init(&small) == 0 && pthread_attr_setstacksize(&small, 512 << 10) == 0);

@@ -32,6 +32,16 @@ static void bytes(void) { code = hdminet_frame_bytes(TEXT("4>f active-source 1.0
 static void fault(void) { code = hdminet_edid_fault(edid, edid_length); }
 static void edid_text(void) { code = hdminet_edid_text(edid, edid_length, room, sizeof room).code; }
 static void port(void) { code = hdminet_edid_port(edid, edid_length, 0x1200, true, room, sizeof room).code; }
+static void ddc(void) { code = hdminet_edid_read(edid, edid_length, 0, 128, room, 128).code; }
+static void of_text(void) {
+    size_t length = hdminet_edid_text(edid, edid_length, edges, sizeof edges).length;
+    code = hdminet_edid_bytes(edges, length, room, sizeof room).code;
+}
+static void meaning(void) { code = hdminet_edid_meaning(edid, edid_length, room, sizeof room).code; }
+static void rules(void) {
+    bool fails;
+    code = hdminet_edid_check(edid, edid_length, room, sizeof room, &fails).code;
+}
 static void emulate(void) { code = hdminet_emulate(TEXT(topology), TEXT(plain), room, sizeof room).code; }
 static void watch(void) { code = hdminet_watch(edges, edges_length, room, sizeof room).code; }
 
@@ -86,6 +96,8 @@ static size_t taken(void (*call)(void)) {
 static const struct { const char *name; void (*call)(void); } calls[] = {
     {"hdminet_frame_text", text}, {"hdminet_frame_bytes", bytes}, {"a receiver", hear}, {"a sender", send},
     {"hdminet_edid_fault", fault}, {"hdminet_edid_text", edid_text}, {"hdminet_edid_port", port},
+    {"hdminet_edid_read", ddc}, {"hdminet_edid_text and hdminet_edid_bytes", of_text}, {"hdminet_edid_check", rules},
+    {"hdminet_edid_meaning", meaning},
     {"hdminet_emulate", emulate}, {"hdminet_emulate_edges", emulate_edges}, {"hdminet_check", check}, {"hdminet_watch", watch},
 };
 

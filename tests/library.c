@@ -179,6 +179,30 @@ static void edids(const char *edid_name, const char *text_name) {
     HOLDS(hdminet_edid_port(passed, 128, 0x1200, false, room, sizeof room).code == HDMINET_EDID_NO_HDMI_BLOCK && is_filled(room, 0, 1024));
 }
 
+/* What is read over DDC is what stands there; after offset 255 comes offset 0 of the segment. */
+static void reader(const char *edid_name) {
+    static uint8_t edid[1024], room[512];
+    size_t count = read_file(edid_name, edid, sizeof edid);
+    for (size_t offset = 0; offset < 256; offset++) {
+        memset(room, 0xa5, sizeof room);
+        hdminet_answer answer = hdminet_edid_read(edid, count, 0, (uint8_t)offset, room, 300);
+        HOLDS(answer.code == HDMINET_DONE && answer.line == 0 && answer.length == 300 && is_filled(room, 300, sizeof room));
+        for (size_t i = 0; i < 300; i++) {
+            size_t at = (offset + i) % 256;
+            HOLDS(room[i] == (at < count ? edid[at] : 0xff));
+        }
+    }
+    memset(room, 0xa5, sizeof room);
+    hdminet_answer answer = hdminet_edid_read(edid, count, (uint8_t)((count + 255) / 256), 0, room, sizeof room);
+    HOLDS(answer.code == HDMINET_ABSENT && answer.length == 0 && is_filled(room, 0, sizeof room));
+    HOLDS(hdminet_edid_read(edid, count - 1, 0, 0, room, sizeof room).code == HDMINET_EDID_LENGTH && is_filled(room, 0, sizeof room));
+    HOLDS(hdminet_edid_read(edid, 640, 0, 0, room, sizeof room).code == HDMINET_EDID_LENGTH && is_filled(room, 0, sizeof room));
+    /* What the bytes spell does not count, and nothing may be asked for. */
+    edid[0] = 0x5a;
+    HOLDS(hdminet_edid_read(edid, count, 0, 0, room, 1).code == HDMINET_DONE && room[0] == 0x5a);
+    HOLDS(hdminet_edid_read(edid, count, 0, 0, room, 0).code == HDMINET_DONE);
+}
+
 /* The states are as large as the header says, and a spoilt one is refused and kept. */
 static void states(void) {
     hdminet_receiver receiver = hdminet_receiver_new(), spoilt, before;
@@ -331,6 +355,7 @@ int main(int count, char **words) {
     turned_texts(atol(words[3]));
     nothing_at_null();
     edids(words[1], words[2]);
+    reader(words[1]);
     states();
     line(true);
     line(false);

@@ -72,6 +72,20 @@ def edids():
     passed = hdminet.edid_port(edid, "1.2.0.0")
     assert passed == hdminet.edid_port(edid, 0x1200) and len(passed) == len(edid) and b"\x03\x0c\x00\x12\x00" in passed
     assert hdminet.edid_port(edid, "1.2.0.0", True) != passed
+    assert hdminet.edid_read(edid, 0, 126, 200) == (edid + edid)[126:326] and hdminet.edid_read(edid, 1, 0, 1) is None
+    refused(30, 0, hdminet.edid_read, edid[:-1], 0, 0, 1)
+
+
+def judged_edids():
+    for name in ("lg-oled55b6v", "denon-avr-x2300w"):
+        edid, text = read(name + ".edid"), read(name + ".edid.txt")
+        assert hdminet.edid_bytes(text) == hdminet.edid_bytes(text.decode("latin-1")) == edid
+        assert hdminet.edid_check(edid) == (read(name + ".findings").decode("latin-1"), True)
+        assert hdminet.edid_meaning(edid) == read(name + ".meaning").decode("latin-1")
+    refused(40, 1, hdminet.edid_bytes, "")
+    refused(41, 2, hdminet.edid_bytes, "edid 1.3\nmaker sam\n")
+    refused(30, 0, hdminet.edid_check, edid[:-1])
+    refused(36, 0, hdminet.edid_meaning, edid[:130] + bytes([edid[130] ^ 1]) + edid[131:])
 
 
 def lines():
@@ -161,5 +175,6 @@ frames()
 edids()
 lines()
 if hasattr(hdminet._library, "hdminet_emulate"):
+    judged_edids()
     runs()
 print("library.py: ok")

@@ -2,7 +2,8 @@
 # library.sh DIR [PROGRAM]: tests what tools/library has installed under DIR, over C and Python, and with PROGRAM, the
 # program as it is built, that traces, edges, readings, reports and texts are the program's. The last line is
 # 'library: N passed, M failed'. With no DIR it tests what needs no library: the headers, that the C files compile, and what
-# tools/library asks of rt and installs, with a stand-in for the toolchain that takes the words of one kit or of another.
+# tools/library asks of rt and installs, and what tools/release makes of it, with a stand-in for the toolchain that takes the words
+# of one kit or of another.
 #
 # $CC is the C compiler, cc where there is none. $HDMINET_RUN is what stands before a program that it has built, as
 # 'qemu-aarch64 -L /usr/aarch64-linux-gnu' for CC=aarch64-linux-gnu-gcc; nothing is called from Python then.
@@ -140,6 +141,66 @@ for KIT in 13b 13f; do
   rm "$REFUSING"
 done
 
+# Runs tools/release in that checkout, of a program that is a stand-in, with these words.
+ask_release() {
+  PATH="$room/kit/bin:$PATH" TMPDIR="$room/tmp" "$room/checkout/tools/release" "$@" > "$room/said" 2> "$room/said.err"
+}
+# Whether it says these two lines of a release, after a program of its own, with this status.
+finds() {
+  local status=$1 of_program=$2 of_library=$3
+  shift 3
+  ask_release --check "$room/program" "$@"
+  [ $? = "$status" ] && [ "$(cat "$room/said")" = "release: $of_program"$'\n'"release: $of_library" ]
+}
+# A library that tools/library has installed, of the same checkout, is the released one.
+releases() {
+  cp "$top/tools/release" "$room/checkout/tools" && grep -q '^hdminet:' "$room/checkout/crates.txt" ||
+    { echo 'hdminet: low' >> "$room/checkout/crates.txt" && mkdir -p "$room/checkout/crates/hdminet/src" && cp "$(type -P true)" "$room/program"; } || return 1
+  rm -rf "$room/checkout/release" "$CALLS"
+  ask_release "$room/program" && [ "$(cat "$CALLS")" = ci ] && (cd "$room/checkout/release" && sha256sum --status -c library.sha256 hdminet.sha256) &&
+    [ "$(cd "$room/checkout/release" && find . -type f | LC_ALL=C sort | tr '\n' ' ')" = "$RELEASED" ] &&
+    [ "$(stat -c %a "$room/checkout/release/lib/libhdminet.so")" = 644 ] && [ -z "$(ls -A "$room/tmp")" ] &&
+    finds 0 "$SAME" "its library was built of these sources" && ask_library && finds 0 "$SAME" "its library is the one in $room/installed" "$room/installed"
+}
+# A folder's library is released as it stands, and rt is asked for nothing.
+releases_a_folder() {
+  rm -rf "$room/checkout/release" "$CALLS"
+  ask_release "$room/program" "$room/installed" && [ ! -e "$CALLS" ] && finds 0 "$SAME" "its library is the one in $room/installed" "$room/installed" &&
+    ! ask_release "$room/program" "$room/kit" && [ "$(cat "$room/said.err")" = "release: there is no lib/libhdminet_wire.a in $room/kit" ] && [ -d "$room/checkout/release/lib" ]
+}
+# What else differs is found, and told apart.
+finds_others() {
+  local here=$room/checkout
+  echo >> "$room/installed/lib/libhdminet.a"
+  finds 1 "$SAME" "its lib/libhdminet.a is not the one in $room/installed" "$room/installed" || return 1
+  sed -i 's/kit 1/kit 0/' "$here/release/library-built-of"
+  finds 1 "$SAME" "its lib/libhdminet.a is not the one in $room/installed, and was built by another toolchain, kit 0 of this test" "$room/installed" || return 1
+  echo >> "$here/include/hdminet.h"
+  finds 1 "$SAME" "its include/hdminet.h is not the one that stands here" || return 1
+  echo changed >> "$here/crates/low/src/lib.rt"
+  finds 0 "it was built of other sources" "its library was built of other sources" || return 1
+  echo >> "$here/release/python/hdminet.py"
+  finds 1 "it was built of other sources" "its library does not have the sums that stand beside it" || return 1
+  rm -r "$here/release/lib"
+  finds 0 "it was built of other sources" "there is no library" || return 1
+  cp "$top/include/hdminet.h" "$here/include"
+}
+# Where the library is not proved, the release stays as it was.
+releases_nothing() {
+  cp -R "$room/checkout/release" "$room/before" && touch "$BROKEN"
+  ask_release "$room/program" && return 1
+  rm "$BROKEN"
+  [ "$(tail -n 1 "$room/said.err")" = "release: no library was made: nothing is released" ] && diff -r "$room/before" "$room/checkout/release" && rm -r "$room/before"
+}
+SAME="its program is the one that was built"
+RELEASED="./built-of ./hdminet ./hdminet.sha256 ./include/hdminet.h ./include/hdminet_wire.h ./lib/libhdminet.a ./lib/libhdminet.so ./lib/libhdminet_wire.a ./library-built-of ./library.sha256 ./python/hdminet.py "
+for KIT in 13b 13f; do
+  line "tools/release with the words of kit $KIT" releases
+  line "tools/release of a library that is given, with the words of kit $KIT" releases_a_folder
+  line "tools/release where no library is proved, with the words of kit $KIT" releases_nothing
+  line "tools/release --check of what differs, with the words of kit $KIT" finds_others
+done
+
 # Links a program with libhdminet_wire.a, or with libhdminet.a.
 link() {
   local name=$1 library=$2
@@ -232,8 +293,8 @@ if [ $# -ge 1 ]; then
   line "what libhdminet.a and libhdminet.so give and ask for" all_names
   line "library.c links" link library -lhdminet_wire "$top/tests/library.c"
   line "library.c" $run "$room/library" "$top/examples/living-room.edid" "$top/examples/living-room.edid.txt" "$count" "$room/texts" "$room/dumps"
-  line "library-run.c links" link library-run -lhdminet "$top/tests/library-run.c"
-  line "library-run.c" $run "$room/library-run"
+  line "library-run.c links" link library-run -lhdminet "$top/tests/library-run.c" -Wl,--wrap={malloc,realloc}
+  line "library-run.c" $run "$room/library-run" "$top"/examples/lg-oled55b6v.{edid,edid.txt,findings,meaning}
   line "library-stack.c links" link library-stack -lhdminet "$top/tests/library-stack.c"
   line "library-stack.c" $run "$room/library-stack" "$top/examples/living-room.edid"
   line "receiver.c links" link receiver -lhdminet_wire "$top/examples/c/receiver.c"

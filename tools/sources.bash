@@ -31,12 +31,13 @@ needed_crates() {
   while IFS=: read -r name names; do printf '%s\n' "${name%% *}"; done < <(needed_lines "$@")
 }
 
-# The sum over what the program is built of: the lines of its crates, and the sum and the name of each file of src/, specs/ and
-# proofs/ in them that the toolchain reads. Times, the place of the checkout and the order of crates.txt do not count.
+# The sum over what the program is built of, or the crates that are named after the top: the lines of its crates, and the sum and
+# the name of each file of src/, specs/ and proofs/ in them that the toolchain reads. Times, the place of the checkout and the
+# order of crates.txt do not count.
 sources_sum() (
   export LC_ALL=C
   cd "$1" || exit 1
-  lines=$(needed_lines . | sort)
+  lines=$(needed_lines . "${@:2}" | sort)
   folders=()
   while IFS=: read -r name _; do
     folders+=("crates/$name/src" "crates/$name/specs" "crates/$name/proofs")
@@ -53,12 +54,13 @@ sum_of() {
   read -r sum _ < <(sha256sum < "$1") && printf '%s\n' "$sum"
 }
 
-# What release/built-of says under this word: `sources`, the sum over the sources, or `toolchain`, the line of `rt version`.
+# What release/built-of, or another file of release/, says under this word: `sources`, the sum over the sources, or `toolchain`,
+# the line of `rt version`.
 built_of() {
   local word rest
   while read -r word rest; do
     [ "$word" != "$2" ] || printf '%s\n' "$rest"
-  done 2> /dev/null < "$1/release/built-of"
+  done 2> /dev/null < "$1/release/${3:-built-of}"
 }
 
 # Whether the released program has the sum that stands beside it.
@@ -72,4 +74,25 @@ is_of_these_sources() {
   local sum
   sum=$(built_of "$1" sources)
   [ -n "$sum" ] && [ "$(sources_sum "$1")" = "$sum" ]
+}
+
+# The crates of the library for C and Python that export its calls, and what of it is released.
+LIBRARY_CRATES=(hdminet_wire hdminet_c)
+LIBRARY_FILES=(lib/libhdminet_wire.a lib/libhdminet.a lib/libhdminet.so include/hdminet_wire.h include/hdminet.h python/hdminet.py)
+
+# Whether each file of the released library has the sum that stands beside it.
+is_whole_library() {
+  local file sum name
+  local -A sums=()
+  while read -r sum name; do sums[$name]=$sum; done 2> /dev/null < "$1/release/library.sha256"
+  for file in "${LIBRARY_FILES[@]}"; do
+    [ -f "$1/release/$file" ] && [ "$(sum_of "$1/release/$file")" = "${sums[$file]-}" ] || return 1
+  done
+}
+
+# Whether the sources are those that the released library was built of.
+is_library_of_these_sources() {
+  local sum
+  sum=$(built_of "$1" sources library-built-of)
+  [ -n "$sum" ] && [ "$(sources_sum "$1" "${LIBRARY_CRATES[@]}")" = "$sum" ]
 }

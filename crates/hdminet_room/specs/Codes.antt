@@ -1,7 +1,7 @@
 -- The numbers of answers (this profile's own).
 use Rattle.std.specs.Prelude.{ℕ}
 use Rattle.hdminet_room.specs.declared.code.Code.{Code}
-use Rattle.hdminet_room.specs.declared.code.Code.TheVariants.{Done, Room, State, Late, Absent, Heard, FrameEmpty, FrameTooLong, TextAddress, TextName, TextTooLong, TextCount, TextOperand, EdidLength, EdidCount, EdidHeader, EdidChecksum, EdidRevision, EdidMaker, EdidFirst, EdidSecond, EdidThird, EdidNoHdmiBlock, Memory, TopologyWord, TopologyNumber, TopologyName, TopologyFull, TopologySecondRoot, TopologyNoRoot, TopologyPortRange, TopologyPortTaken, TopologyNotLoose, TopologyLoop, TopologyHex, ScriptWord, ScriptNumber, ScriptName, ScriptWidth, ScriptOrder, ScriptClose, ScriptTooMany, ScriptEnd, ExpectWord, ExpectNumber, ExpectLabel, ExpectOrder, EdgesLine, EdgesOrder}
+use Rattle.hdminet_room.specs.declared.code.Code.TheVariants.{Done, Room, State, Late, Absent, Heard, FrameEmpty, FrameTooLong, TextAddress, TextName, TextTooLong, TextCount, TextOperand, EdidLength, EdidCount, EdidHeader, EdidChecksum, EdidRevision, EdidMaker, EdidFirst, EdidSecond, EdidThird, EdidNoHdmiBlock, EdidTextSyntax, EdidTextField, Memory, TopologyWord, TopologyNumber, TopologyName, TopologyFull, TopologySecondRoot, TopologyNoRoot, TopologyPortRange, TopologyPortTaken, TopologyNotLoose, TopologyLoop, TopologyHex, ScriptWord, ScriptNumber, ScriptName, ScriptWidth, ScriptOrder, ScriptClose, ScriptTooMany, ScriptEnd, ExpectWord, ExpectNumber, ExpectLabel, ExpectOrder, EdgesLine, EdgesOrder}
 
 abbrev pub number_of : Code → ℕ
 number_of Done = 0
@@ -27,6 +27,8 @@ number_of EdidFirst = 36
 number_of EdidSecond = 37
 number_of EdidThird = 38
 number_of EdidNoHdmiBlock = 39
+number_of EdidTextSyntax = 40
+number_of EdidTextField = 41
 number_of Memory = 50
 number_of TopologyWord = 60
 number_of TopologyNumber = 61

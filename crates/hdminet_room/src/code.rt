@@ -51,6 +51,10 @@ pub enum Code {
     EdidThird,
     /// The EDID has no HDMI block.
     EdidNoHdmiBlock,
+    /// On this line of an EDID's text another line has to stand.
+    EdidTextSyntax,
+    /// A word of this line of an EDID's text is at fault.
+    EdidTextField,
     /// Memory ran out.
     Memory,
     /// There is no such line of a topology, or a second `edid` line.
@@ -81,13 +85,13 @@ pub enum Code {
     ScriptNumber,
     /// The topology has no such device.
     ScriptName,
-    /// A pulse is not 1 to 10,000 microseconds wide.
+    /// A pulse is not 1 to 10,000 microseconds wide, or a pull not 1 to 10,000,000.
     ScriptWidth,
-    /// A time is before that of the event above, or a pulse begins before the end of the one above.
+    /// A time is before that of the event above, a pulse begins before the end of the pulse or pull above, or a pull not after it.
     ScriptOrder,
-    /// A pulse is less than 25,000 microseconds after the end of the one above.
+    /// A pulse is less than 25,000 microseconds after the end of the pulse or pull above.
     ScriptClose,
-    /// A pulse stands after 4,096 others.
+    /// A pulse stands after 4,096 pulses and pulls, or a pull after 16,384.
     ScriptTooMany,
     /// There is no `end`, a line after it, or it is not after every event.
     ScriptEnd,
@@ -134,6 +138,8 @@ impl Code {
             Code::EdidSecond => 37,
             Code::EdidThird => 38,
             Code::EdidNoHdmiBlock => 39,
+            Code::EdidTextSyntax => 40,
+            Code::EdidTextField => 41,
             Code::Memory => 50,
             Code::TopologyWord => 60,
             Code::TopologyNumber => 61,

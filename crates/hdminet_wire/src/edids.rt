@@ -1,18 +1,19 @@
-//! EDIDs: what is wrong with them, their texts, and what a port passes on.
-ghost use Rattle.std.specs.Prelude.{◌≡◌, ◌≢◌, ◌≤◌, ◌<◌, Some, None};
+//! EDIDs: what is wrong with them, their texts, what a port passes on, and what is read of them over DDC.
+ghost use Rattle.std.specs.Prelude.{◌≡◌, ◌≢◌, ◌≤◌, ◌<◌, Some, None, true, false};
 ghost use Rattle.hdmi_blocks.specs.Address.{edid_address};
-ghost use Rattle.hdmi_blocks.specs.Bytes.{edid_bytes};
+ghost use Rattle.hdmi_blocks.specs.Bytes.{edid_bytes, has_length};
 ghost use Rattle.hdmi_blocks.specs.Passing.{passed_on_bytes};
 ghost use Rattle.hdmi_blocks.specs.declared.edid.Edid.{Edid as EdidValue};
 ghost use Rattle.hdmi_core.specs.declared.phys.Phys.{Phys as PhysValue};
+ghost use Rattle.hdmi_ddc.specs.Bus.{has_segment};
 ghost use Rattle.hdmi_edtext.specs.Lines.{edid_text};
 ghost use Rattle.hdminet_room.specs.Codes.{number_of};
 ghost use Rattle.hdminet_room.specs.Room.{IsPut, IsRefused};
-ghost use Rattle.hdminet_room.specs.declared.code.Code.TheVariants.{EdidNoHdmiBlock};
-ghost use Rattle.wire_calls.specs.Edids.{IsEdidFound, IsEdidRefused, audio_of, phys_of};
+ghost use Rattle.hdminet_room.specs.declared.code.Code.TheVariants.{Absent, EdidLength, EdidNoHdmiBlock};
+ghost use Rattle.wire_calls.specs.Edids.{IsEdidFound, IsEdidRefused, IsReadOver, audio_of, phys_of};
 
 use hdminet_room::Answer;
-use wire_calls::{edid_fault, put_edid_port, put_edid_text};
+use wire_calls::{edid_fault, put_edid_port, put_edid_text, read_edid};
 
 /// Why bytes are no EDID, as the number of a `Code`: 0 where they are one, of one block to four.
 #[unsafe(no_mangle)]
@@ -54,4 +55,23 @@ pub extern "C" fn hdminet_edid_port(
     ensures refused { 1 < result.code → result.code ≢ number_of EdidNoHdmiBlock → IsEdidRefused bytes.now room.old room.new result }
 {
     put_edid_port(bytes, address, from_amplifier, room)
+}
+
+/// Fills the room with what a reader of these bytes reads over DDC, from an offset of a segment of 256 bytes on. After offset
+/// 255 comes offset 0 of the same segment; what is missing in a segment with a block is FF (E-DDC, section 2.2). What the bytes
+/// spell does not count.
+///
+/// Refused where they are not one block to four, and then where the segment has no block, and is not acknowledged.
+#[unsafe(no_mangle)]
+pub extern "C" fn hdminet_edid_read(
+    bytes: &[u8],
+    segment: u8,
+    offset: u8,
+    room: &mut [u8],
+) -> Answer
+    ensures read { has_length bytes.now ≡ true → has_segment bytes.now segment ≡ true → IsReadOver bytes.now segment offset room.old room.new result }
+    ensures unacknowledged { has_length bytes.now ≡ true → has_segment bytes.now segment ≡ false → IsRefused Absent 0 room.old room.new result }
+    ensures length { has_length bytes.now ≡ false → IsRefused EdidLength 0 room.old room.new result }
+{
+    read_edid(bytes, segment, offset, room)
 }

@@ -1,8 +1,8 @@
-//! What is wrong with EDIDs, their texts, and what a port passes on, with each number.
-use crate::rooms::{UNTOUCHED, holds, is_put, is_refused, is_small, number};
+//! What is wrong with EDIDs, their texts, what a port passes on, and what is read of them, with each number.
+use crate::rooms::{UNTOUCHED, byte, first_word, holds, is_put, is_refused, is_small, number};
 use crate::samples::{bytes_of, first_bytes_of};
 use std::process::Abort;
-use wire_calls::{edid_fault, put_edid_port, put_edid_text};
+use wire_calls::{edid_fault, put_edid_port, put_edid_text, read_edid};
 
 /// How many bytes of which blocks are no EDID, and the number of each cause.
 pub(crate) const REFUSED: &str = "\
@@ -22,7 +22,7 @@ pub(crate) const REFUSED: &str = "\
 512 tv..034f map..0c empty..06 speaking..e9 => 38";
 
 /// EDIDs of one block to four, and the lines that their texts begin with.
-const READ: &str = "\
+pub(crate) const READ: &str = "\
 128 tv..0052
 256 tv..0151 speaking..e8
 384 tv..0250 map..0c speaking..e8
@@ -118,4 +118,41 @@ fn ports_pass_on_address_and_audio(rt: HostRuntime) {
     let of_amplifier = bytes_of(&rt, BELOW_AN_AMPLIFIER);
     passes_on(&rt, &bytes, false, &of_television, "below a television");
     passes_on(&rt, &bytes, true, &of_amplifier, "below an amplifier");
+}
+
+/// So many bytes of which blocks; a segment, an offset, and the four bytes that are read, or the number of the refusal.
+const READINGS: &str = "\
+256 tv..0151 speaking..e8 => 0 126 01510203
+256 tv..0151 speaking..e8 => 0 254 00e800ff
+256 tv..0151 speaking..e8 => 1 0 refused 4
+384 tv..0250 map..0c speaking..e8 => 1 0 020316f1
+384 tv..0250 map..0c speaking..e8 => 1 126 00e8ffff
+384 tv..0250 map..0c speaking..e8 => 1 255 ff020316
+384 tv..0250 map..0c speaking..e8 => 2 0 refused 4
+128 tv..0053 => 0 127 53ffffff
+127 tv..0052 => 0 0 refused 30
+0 tv..0052 => 0 0 refused 30
+640 tv..044e empty..06 empty..06 empty..06 empty..06 => 0 0 refused 30";
+
+fn is_read_over(rt: &(impl Abort + AllocGlobal), row: &str) {
+    let (words, asked) = row.split_once(" => ").expect(rt, row);
+    let (segment, asked) = first_word(asked);
+    let (offset, due) = first_word(asked);
+    let bytes = first_bytes_of(rt, words);
+    let mut room = [UNTOUCHED; 4];
+    let answer = read_edid(&bytes, byte(rt, segment), byte(rt, offset), &mut room);
+    match due.strip_prefix("refused ") {
+        Some(code) => holds(rt, is_refused(answer, &room, number(rt, code)), row),
+        None => {
+            let want = hex::decode(rt.alloc(), due).expect(rt, row);
+            holds(rt, is_put(answer, &room, &want), row);
+        }
+    }
+}
+
+#[test]
+fn edids_are_read_over_ddc(rt: HostRuntime) {
+    for row in READINGS.lines() {
+        is_read_over(&rt, row);
+    }
 }

@@ -5,6 +5,8 @@
 #[cfg(test)]
 mod answers;
 #[cfg(test)]
+mod edid_texts;
+#[cfg(test)]
 mod edids;
 #[cfg(test)]
 mod fates;

@@ -32,7 +32,8 @@ const BEFORE: Counts = Counts {
     failed: 7,
 };
 
-fn is_line_refused(answer: Answer, room: &[u8], code: u32, line: u64) -> bool {
+/// The call was refused with this number and line, and the room is as it was.
+pub(crate) fn is_line_refused(answer: Answer, room: &[u8], code: u32, line: u64) -> bool {
     answer.line == line && is_refused(Answer { line: 0, ..answer }, room, code)
 }
 
@@ -172,7 +173,7 @@ fn long_files_are_read(rt: HostRuntime) {
     assert!(&rt; code == 1 && length > 200_000, "{code} {length}");
 }
 
-fn is_number(rt: &impl Abort, answer: Answer, code: u32, line: u64, case: &str) {
+pub(crate) fn is_number(rt: &impl Abort, answer: Answer, code: u32, line: u64, case: &str) {
     let want = Answer {
         code,
         line,

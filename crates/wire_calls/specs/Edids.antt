@@ -1,14 +1,16 @@
 -- What is answered of EDIDs (this profile's own).
-use Rattle.std.specs.Prelude.{◌≡◌, ℕ, ◌/◌, ◌%◌, Bool, true, false, List}
+use Rattle.std.specs.Prelude.{◌≡◌, ℕ, ◌+◌, ◌/◌, ◌%◌, Bool, true, false, List, Some, EachIndex, length, slice_index}
 use Rattle.hdmi_core.specs.declared.phys.Phys.{Phys}
 use Rattle.hdmi_blocks.specs.Bytes.{IsRefused as IsNoEdid}
 use Rattle.hdmi_blocks.specs.declared.bytes.EdidError.{EdidError}
 use Rattle.hdmi_blocks.specs.declared.passing.AudioFrom.{AudioFrom}
 use Rattle.hdmi_blocks.specs.declared.passing.AudioFrom.TheVariants.{Television, Amplifier}
+use Rattle.hdmi_ddc.specs.Bus.{byte_at}
 use Rattle.hdminet_room.specs.Codes.{number_of}
 use Rattle.hdminet_room.specs.Faults.{edid_code}
 use Rattle.hdminet_room.specs.Room.{IsRefused}
 use Rattle.hdminet_room.specs.declared.answer.Answer.{Answer}
+use Rattle.hdminet_room.specs.declared.code.Code.TheVariants.{Done}
 
 -- the bytes are no EDID, for the cause of this number
 abbrev pub IsEdidFound : List ℕ → ℕ → Type 0
@@ -25,3 +27,9 @@ phys_of address = record { high = address / 256; low = address % 256 }
 abbrev pub audio_of : Bool → AudioFrom
 audio_of true = Amplifier
 audio_of false = Television
+
+-- the room is filled with what stands from an offset of a segment on (E-DDC, section 2.2)
+pub record IsReadOver (bytes : List ℕ) (segment offset : ℕ) (old new : List ℕ) (answer : Answer) : Type 0 where
+  pub there : EachIndex new (λ k. byte_at bytes segment ((offset + k) % 256) ≡ Some (slice_index new k))
+  pub filled : length new ≡ length old
+  pub reported : answer ≡ record { code = number_of Done; line = 0; length = length old }

@@ -1,21 +1,23 @@
-//! EDIDs: what is wrong with them, their texts, and what a port passes on.
-ghost use Rattle.std.specs.Prelude.{◌≡◌, ◌≢◌, ◌≤◌, ◌<◌, ◌+◌, ◌++◌, ◌/◌, ◌%◌, Some, None, length, take, drop};
+//! EDIDs: what is wrong with them, their texts, what a port passes on, and what is read of them over DDC.
+ghost use Rattle.std.specs.Prelude.{◌≡◌, ◌≢◌, ◌≤◌, ◌<◌, ◌+◌, ◌++◌, ◌/◌, ◌%◌, Some, None, true, false, length, take, drop};
 ghost use Rattle.hdmi_edid.specs.Base.{base_bytes};
 ghost use Rattle.hdmi_blocks.specs.Address.{edid_address, first_address};
-ghost use Rattle.hdmi_blocks.specs.Bytes.{edid_bytes};
+ghost use Rattle.hdmi_blocks.specs.Bytes.{edid_bytes, has_length};
 ghost use Rattle.hdmi_blocks.specs.Passing.{passed_extensions, passed_on_bytes};
 ghost use Rattle.hdmi_blocks.specs.declared.edid.Edid.{Edid as EdidValue};
 ghost use Rattle.hdmi_core.specs.declared.phys.Phys.{Phys as PhysValue};
+ghost use Rattle.hdmi_ddc.specs.Bus.{has_segment};
 ghost use Rattle.hdmi_edtext.specs.Lines.{edid_text, part_text};
 ghost use Rattle.hdminet_room.specs.Codes.{number_of};
 ghost use Rattle.hdminet_room.specs.Room.{IsPut, IsRefused};
-ghost use Rattle.hdminet_room.specs.declared.code.Code.TheVariants.{EdidNoHdmiBlock};
-ghost use Rattle.wire_calls.specs.Edids.{IsEdidFound, IsEdidRefused, audio_of, phys_of};
+ghost use Rattle.hdminet_room.specs.declared.code.Code.TheVariants.{Absent, EdidLength, EdidNoHdmiBlock};
+ghost use Rattle.wire_calls.specs.Edids.{IsEdidFound, IsEdidRefused, IsReadOver, audio_of, phys_of};
 
 use arrayvec::ArrayVec;
 use hdmi_blocks::{AudioFrom, read_parts, write_passed_parts};
 use hdmi_core::Phys;
 use hdmi_cta::Ext;
+use hdmi_ddc::Ddc;
 use hdmi_edid::Base;
 use hdmi_edtext::line_at;
 use hdminet_room::{Answer, Code, edid_code, put, refused};
@@ -161,5 +163,37 @@ pub fn put_edid_port(bytes: &[u8], address: u16, from_amplifier: bool, room: &mu
     match read_parts(bytes, &mut extensions) {
         Ok(base) => put_passed(&base, extensions.as_slice(), audio, phys, room),
         Err(error) => refused(edid_code(error), 0),
+    }
+}
+
+// Reads so many bytes as the room has of a segment that is acknowledged.
+fn read_into(mut ddc: Ddc, offset: u8, room: &mut [u8]) -> Answer
+    ensures { IsReadOver ddc.bytes ddc.segment offset room.old room.new result }
+{
+    ddc.offset(offset);
+    ddc.read(room);
+    Answer {
+        code: Code::Done.number(),
+        line: 0,
+        length: room.len(),
+    }
+}
+
+/// Fills the room with what a reader of these bytes reads over DDC, from an offset of a segment of 256 bytes on. After offset
+/// 255 comes offset 0 of the same segment; what is missing in a segment with a block is FF (E-DDC, section 2.2). What the bytes
+/// spell does not count.
+///
+/// Refused where they are not one block to four, and then where the segment has no block, and is not acknowledged.
+pub fn read_edid(bytes: &[u8], segment: u8, offset: u8, room: &mut [u8]) -> Answer
+    ensures read { has_length bytes.now ≡ true → has_segment bytes.now segment ≡ true → IsReadOver bytes.now segment offset room.old room.new result }
+    ensures unacknowledged { has_length bytes.now ≡ true → has_segment bytes.now segment ≡ false → IsRefused Absent 0 room.old room.new result }
+    ensures length { has_length bytes.now ≡ false → IsRefused EdidLength 0 room.old room.new result }
+{
+    let Ok(mut ddc) = Ddc::over(bytes) else {
+        return refused(Code::EdidLength, 0);
+    };
+    match ddc.segment(segment) {
+        Ok(()) => read_into(ddc, offset, room),
+        Err(_) => refused(Code::Absent, 0),
     }
 }

@@ -11,7 +11,7 @@ mod readings;
 mod receiver;
 mod sender;
 
-pub use edids::{edid_fault, put_edid_port, put_edid_text};
+pub use edids::{edid_fault, put_edid_port, put_edid_text, read_edid};
 pub use fate::{SentFate, sender_fate};
 pub use frames::{put_frame_bytes, put_frame_text};
 pub use heard::{Heard, Instant, what_was_reported_is_reported};
