@@ -69,7 +69,7 @@ export function readObjects(text, model) {
       test.window = object;
     } else if (object.type === 'stretch') {
       model.stretches.push(object);
-    } else if (['device', 'plug', 'edid', 'pulse'].includes(object.type)) {
+    } else if (['device', 'plug', 'edid', 'pulse', 'pull'].includes(object.type)) {
       addHead(object, (model.room ||= emptyRoom()));
     } else {
       object.line = object.line.replace(/^# /, ''); // as it stands in a report
@@ -121,6 +121,7 @@ function cleaned(o) {
       return { type, line, device: asText(o.device), parent: asText(o.parent), port: asText(o.port) };
     case 'edid':
     case 'pulse':
+    case 'pull':
     case 'version':
     case 'trace':
     case 'plan':

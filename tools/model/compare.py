@@ -495,6 +495,59 @@ def gen_ops(r):
     return ['run'], '\n'.join(topo + ['script'] + ls + ['end %d' % (t + 500000)]) + '\n'
 
 
+def frame_pulls(r, at, frame):
+    """a frame laid as pulls, at nominal times or beside them"""
+    far = r.choice([0, 0, 60, 200])
+    out = [(at, 3700)] + [(at + 4500 + 2400 * k, 600 if b else 1500) for k, b in enumerate(wire.bits_of(frame))]
+    return [(max(0, t + r.randrange(-far, far + 1)), max(1, w + r.randrange(-far, far + 1))) for t, w in out]
+
+
+def chatter(r, at):
+    out = []
+    for _ in range(r.randrange(1, 80)):
+        w = r.choice([1, 50, 400, 600, 1500, 3600, r.randrange(1, 4000)])
+        out.append((at, w))
+        at += w + r.choice([1, 1, 50, 900, 1650, 1800, r.randrange(1, 4000)])
+    return out
+
+
+def near_slots(r, at):
+    """about the slots of a sender, sooner by more and more, so that readings go on"""
+    out, d, t = [], r.choice([0, 100, 200]), at
+    for k in range(1, r.randrange(2, 42)):
+        own = at + 4500 + 2400 * (k - 1)
+        if d or r.random() < .1: out.append((own - d, r.choice([1, 20, 200, 590, 700, d, d + 1, d + r.randrange(1, 1500)])))
+        d = max(0, min(d + r.choice([0, 0, 50, 350, 350, -100]), r.choice([350, 450, 800, 899, 899, 1249, 1350])))
+    return out
+
+
+def gen_pulls_run(r):
+    """rooms in which anything is pulled from outside: laid frames, chatter, stuck lines, pulls that drag a frame's slots"""
+    topo = ['device tv %s 5' % r.choice(['tv', 'tv', 'outside-tv']), 'device p1 player 0', 'device dut outside 0', 'plug p1 tv 1', 'plug dut tv 2']
+    if r.random() < .4: topo += ['device a outside 0', 'device b outside 0', 'plug a tv 3', 'plug b tv 4']
+    base = r.choice([0, 12000, 50705, 1000000, 1000000, 1000000])
+    ls = ['at 900000 hold dut %s' % r.choice('0148e-')] if r.random() < .3 else []
+    for name, frames in ('p1', ['4>0 standby', '4>f standby', '4>8 give-osd-name', '4>0 image-view-on']), ('tv', ['0>4 standby', '0>f standby']), ('dut', ['8>8', '8>4 give-osd-name']), \
+            ('a', ['4>0 deck-status stop', '4>f standby']), ('b', ['4>0 abort']):
+        if r.random() < .5 and 'device %s ' % name in '\n'.join(topo): ls.append('at 1000000 send %s %s' % (name, r.choice(frames)))
+    pulls, low, at = [], 0, base + r.choice([0, 0, 1, 50, 100, 350, r.randrange(3000)])
+    for _ in range(r.choice([1, 1, 2, 4])):
+        style = r.choice([frame_pulls, chatter, near_slots, near_slots, None])
+        if style is None: more = [(at + r.randrange(60000), r.choice([1, 3599, 3600, 3601, 3700, 3901, 5000, 10000, 100000, 1000000, r.randrange(1, 300000)]))]
+        elif style is frame_pulls: more = frame_pulls(r, at, bytes.fromhex(r.choice(['8446', '4446', '0f36', '44', '88', '8483', '40', '4f82', '80', '8447' + '41' * r.choice([3, 14, 15])])))
+        else: more = style(r, at)
+        for t, w in more:
+            if r.random() < .02: t = low
+            if t > low or t == low == 0:
+                kind = 'pulse' if w <= 10000 and (t >= low + 25000 or not pulls) and r.random() < .5 else 'pull'
+                pulls.append('%s %d %d' % (kind, t, w))
+                low = t + w
+        at = max(low, at) + r.choice([1, 50, 2000, 7200, 30000, 200000])
+    lines = ls + pulls if r.random() < .5 else pulls + ls
+    text = '\n'.join(topo + ['script'] + lines + ['end %d' % max(1000001, base + r.choice([30000, 100000, 400000]))]) + '\n'
+    return ['run'] + (['--edges'] if r.random() < .3 else []), text
+
+
 def gen_edges(r):
     k = r.random()
     if k < .5: return gen_wire(r, True)
@@ -568,6 +621,22 @@ def gen_margin(r):
     args, text = gen_mon(r)
     if r.random() < .2: args = args + ['--invert']
     return args + r.choice([[], ['--margin', str(r.choice([0, 1, 20, 50, 300, r.randrange(301)]))]]), text
+
+
+def gen_fold(r):
+    """bad starts one after another, between readings of other kinds, as they stand or in an audit"""
+    lines, at = [], r.choice([0, 20000])
+    for _ in range(r.choice([1, 3, 6])):
+        for _ in range(r.choice([0, 1, 1, 2, 3, 9])):
+            lines += ['%d 0' % at, '%d 1' % (at + r.choice([1, 400, 1500, 3499, 3901, 6000]))]
+            at += r.choice([6001, 7000, 30000])
+        if r.random() < .7:
+            more, last = gen_frame_slots(r, r.choice([b'\x40', b'\x04\x8f', b'\x4f\x82\x10\0']), r.choice([0, 1, 9]), at)
+            lines += more[:r.choice([len(more), len(more), 4])]
+            at = int(lines[-1].split()[0]) + r.choice([3000, 7200, 20000])
+    lines.append('%d end' % (at + r.choice([0, 3000])))
+    args = ['mon', '--from', 'edges', '--fold'] + r.choice([[], [], ['--from-start'], ['--audit'], ['--timing', '--strict'], ['--invert'], ['--margin', '300']])
+    return args, '\n'.join(lines) + '\n'
 
 
 def gen_audit(r):
@@ -863,7 +932,7 @@ def gen_expect(r):
     for n, line in out:
         if n is None:
             line = expectation()
-        elif line.startswith('pulse ') and r.random() < .5:
+        elif line.startswith(('pulse ', 'pull ')) and r.random() < .5:
             labels.append(('l%d' % n, int(line.split(' ')[1])))
             line = 'label l%d %s' % (n, line)
         elif line.startswith('at ') and r.random() < .5 or str(n) in events and events[str(n)][3] == 'refused' and r.random() < .7:
@@ -986,7 +1055,7 @@ def gen_odd(r):
         i = r.randrange(len(ls))
         sp = r.choice(['device x tv 1', 'device x outside-tv 1', 'device x player 16', 'device x player 015', 'device xxxxxxxxxxxxxxx player 1', 'device -x player 1', 'device X player 1', 'device x combo 0', 'device x tv', 'device x tv 1 1',
                        'plug x y 1', 'plug x', 'plug tv tv 1', 'plug p1 tv 0', 'plug p1 tv 300', 'plug tv p1 1', 'edid 00', 'edid zz', 'edid 0', 'edid', 'edid -', 'edid ', 'device  tv 1', 'device x player ', 'device x  1',
-                       'end 5', 'end', 'end 1000000000001', 'end 1000000000000', 'end 01', 'end x', 'end ', 'pulse 5 0', 'pulse 5 1', 'pulse 5 3001', 'pulse 1000000000001 1', 'pulse 5', 'pulse 5 99999999999999999999999', 'pulse 5 01', 'pulse  5',
+                       'end 5', 'end', 'end 1000000000001', 'end 1000000000000', 'end 01', 'end x', 'end ', 'pulse 5 0', 'pulse 5 1', 'pulse 5 3001', 'pulse 1000000000001 1', 'pulse 5', 'pulse 5 99999999999999999999999', 'pulse 5 01', 'pulse  5', 'pull 5 0', 'pull 5 1', 'pull 5 10000000', 'pull 5 10000001', 'pull 1000000000001 1', 'pull 5', 'pull 5 99999999999999999999999', 'pull 5 01', 'pull  5',
                        'at 5 plug p1 tv', 'at 5 plug p1 tv x', 'at 5 unplug', 'at 5 unplug x', 'at 5 unplug ', 'at 5 press tv', 'at 5 press tv ', 'at 5 press tv power ', 'at 5 press tv watch 1.0.0', 'at 5 press tv port 01', 'at 5 press tv port x', 'at 5 press x port x', 'at 5 press x power',
                        'at 5 press tv language EN', 'at 5 press tv language deu', 'at 5 press tv remote f play', 'at 5 press tv remote 0 play', 'at 5 press tv remote 4 frob', 'at 5 press tv remote 4', 'at 5 press tv audio', 'at 5 press tv audio up', 'at x press x play',
                        'at 5 send tv', 'at 5 send tv ', 'at 5 send tv 0>f', 'at 5 send x 0>g', 'at 5 send tv 0>g', 'at 5 send tv 0>4 frob', 'at 5 send tv 0>4 play', 'at 5 send tv 0>4 play :24', 'at 5 send tv 0>4 play :' + '00' * 15, 'at 1000000000001 send tv 0>4', 'at 99999999999 send tv 0>g', 'at 5', 'at', 'script', 'steps', 'edge', 'until opcode 84'])
@@ -1007,8 +1076,8 @@ def small_run(r):
     return a, t
 
 
-ODD = [gen_run, small_run, small_run, gen_asm, gen_edidcmd, gen_edtext, gen_mon, gen_step, gen_expect]
-GEN = dict(ops=gen_ops, met=gen_met, amp=gen_amp, run=gen_run, feat=gen_feat, wire=gen_wire, edges=gen_edges, mon=gen_margin, audit=gen_audit, step=gen_step, asm=gen_asm, edid=gen_edidcmd, edtext=gen_edtext, merge=gen_merge, check=gen_check, ways=gen_ways, expect=gen_expect, sweep=gen_sweep, capture=gen_capture, json=gen_json, odd=gen_odd)
+ODD = [gen_run, gen_pulls_run, small_run, small_run, gen_asm, gen_edidcmd, gen_edtext, gen_mon, gen_step, gen_expect]
+GEN = dict(pulls=gen_pulls_run, ops=gen_ops, met=gen_met, amp=gen_amp, run=gen_run, feat=gen_feat, wire=gen_wire, edges=gen_edges, mon=gen_margin, fold=gen_fold, audit=gen_audit, step=gen_step, asm=gen_asm, edid=gen_edidcmd, edtext=gen_edtext, merge=gen_merge, check=gen_check, ways=gen_ways, expect=gen_expect, sweep=gen_sweep, capture=gen_capture, json=gen_json, odd=gen_odd)
 
 
 def main():

@@ -15,7 +15,7 @@ SHOWN = 8
 MOST_PATTERN = 160
 MOST_STARS = 4
 MOST = 2 ** 64 - 1
-LABELABLE = (b'expect', b'at', b'pulse')
+LABELABLE = (b'expect', b'at', b'pulse', b'pull')
 
 
 def is_expectation(line):
@@ -98,7 +98,7 @@ ORDER = ['word', 'number', 'name', 'label', 'order', 'pattern']
 
 
 def expectations(script, names, end):
-    """the expectations, {label: line of its event} and {label: onset of its pulse}; raises the first fault"""
+    """the expectations, {label: line of its event} and {label: onset of its pulse or pull}; raises the first fault"""
     found, labels, onsets = [], {}, {}
     for n, line in enumerate(lines_of(script), 1):
         if skipped(line):
@@ -126,7 +126,7 @@ def expectations(script, names, end):
             raise Fault('script line %d: %s' % (n, min(causes, key=ORDER.index)))
         if label is not None:
             labels[label] = n if body.startswith(b'at ') else None
-            if body.startswith(b'pulse '):
+            if body.startswith((b'pulse ', b'pull ')):
                 onsets[label] = number(body.split(b' ')[1])
         if it:
             found.append(it)

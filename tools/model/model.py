@@ -26,6 +26,9 @@ def model(args, data):
         return status, objects.objects(out, told_of), fault
     if sub == 'mon' and '--invert' in args:
         return model([word for word in args if word != '--invert'], wire.turned(data)) if wire.mon(data)[0] == 0 else wire.mon(data)
+    if sub == 'mon' and '--fold' in args:
+        status, out, fault = model([word for word in args if word != '--fold'], data)
+        return status, wire.folded(out), fault
     if sub == 'run': return net.run(data, '--edges' in args)
     if sub == 'check' and '--capture' in args: return captures.check(data)
     if sub == 'check': return sweep.check(data)

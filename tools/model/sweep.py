@@ -1,6 +1,6 @@
 """Sweeps of scripts with expectations: a plain model."""
 import expectations
-from net import Fault, parts
+from net import WIDEST_PULL, Fault, parts
 from wire import T_LIMIT, lines_of, number
 
 
@@ -13,7 +13,7 @@ def time_places(words):
     rest = words[first:]
     if not rest:
         return []
-    if rest[0] in (b'at', b'pulse', b'end'):
+    if rest[0] in (b'at', b'pulse', b'pull', b'end'):
         return [first + 1]
     if rest[0] != b'expect':
         return []
@@ -68,10 +68,10 @@ def clock_of(line):
     words = [] if words is None else words.split(b' ')
     if len(words) > 2 and words[0] == b'expect' and words[1] == b'state':
         return 'state', 0, words[2]
-    if len(words) < 2 or words[0] not in (b'at', b'pulse', b'end'):
+    if len(words) < 2 or words[0] not in (b'at', b'pulse', b'pull', b'end'):
         return None
-    width = number(words[2]) if words[0] == b'pulse' and len(words) > 2 else None
-    return words[0].decode(), min(width or 0, 65535), words[1]
+    width = number(words[2]) if words[0] in (b'pulse', b'pull') and len(words) > 2 else None
+    return words[0].decode(), min(width or 0, 65535 if words[0] == b'pulse' else WIDEST_PULL + 1), words[1]
 
 
 def in_order(above, below, instant):
@@ -86,6 +86,10 @@ def in_order(above, below, instant):
             return first < second
         case 'pulse', 'pulse':
             return first + above[1] + 25000 <= second
+        case 'pull', 'pulse':
+            return first + above[1] + 25000 <= second
+        case ('pulse' | 'pull'), 'pull':
+            return first + above[1] < second
         case 'end', 'state':
             return second <= first
     return True

@@ -1,4 +1,5 @@
 """Frames, opcode table, assembler, wire and readings: a plain model."""
+import itertools
 import re
 
 # ---------------------------------------------------------------- numbers and small texts
@@ -461,6 +462,18 @@ def mon(data, margin=0):
         return 1, b'', 'line %d: line' % (len(ls) + 1)
     rd = Reader(edges, ended, margin)
     return 0, ''.join(reading_text(r) + '\n' for r in rd.readings).encode(), ''
+
+
+def folded(text):
+    """the lines of readings with bad starts one after another as one line"""
+    out = []
+    for is_bad, group in itertools.groupby(lines_of(text), lambda line: line.split(b' ')[2:3] == [b'bad-start']):
+        group = list(group)
+        if is_bad and len(group) > 1:
+            out.append(b'%s %s bad-starts %d' % (group[0].split(b' ')[0], group[-1].split(b' ')[1], len(group)))
+        else:
+            out += group
+    return b''.join(line + b'\n' for line in out)
 
 
 # ---------------------------------------------------------------- a round
