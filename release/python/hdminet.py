@@ -1,0 +1,381 @@
+"""hdminet over ctypes: frames of the CEC line and their texts, EDIDs, the emulator, a receiver and a sender of the line.
+
+The calls are those of libhdminet.so, which are proved; docs/library.md says what is. The library is looked for where
+HDMINET_LIBRARY says, beside this file, in ../lib of it, and where the system keeps libraries. Times are whole microseconds.
+
+    >>> frame_text(b"\\x4f\\x82\\x10\\x00")
+    '4>f active-source 1.0.0.0'
+    >>> frame_bytes("4>0 play forward").hex()
+    '404124'
+"""
+
+import ctypes
+import ctypes.util
+import os
+from collections import namedtuple
+
+__all__ = ["Error", "Findings", "Reading", "Receiver", "Report", "Sender", "check", "edid_bytes", "edid_check", "edid_fault",
+           "edid_meaning", "edid_port", "edid_read", "edid_text", "emulate", "emulate_edges", "frame_bytes", "frame_text", "watch"]
+
+# The numbers of answers, as include/hdminet_wire.h and include/hdminet.h have them.
+CODES = {
+    1: "room", 2: "state", 3: "late", 4: "absent", 5: "heard",
+    10: "frame: empty", 11: "frame: too-long",
+    20: "frame: address", 21: "frame: name", 22: "frame: too-long", 23: "frame: count", 24: "frame: operand",
+    30: "edid: length", 31: "edid: count", 32: "edid: base header", 33: "edid: base checksum", 34: "edid: base revision",
+    35: "edid: base maker", 36: "edid: ext 1 checksum", 37: "edid: ext 2 checksum", 38: "edid: ext 3 checksum",
+    39: "edid: no-hdmi-block",
+    40: "text: syntax", 41: "text: field",
+    50: "no memory",
+    60: "topology: word", 61: "topology: number", 62: "topology: name", 63: "topology: full", 64: "topology: second-root",
+    65: "topology: no-root", 66: "topology: port-range", 67: "topology: port-taken", 68: "topology: not-loose",
+    69: "topology: loop", 70: "topology: hex",
+    80: "script: word", 81: "script: number", 82: "script: name", 83: "script: width", 84: "script: order",
+    85: "script: close", 86: "script: too-many", 87: "script: end",
+    90: "expect: word", 91: "expect: number", 92: "expect: label", 93: "expect: order",
+    100: "edges: line", 101: "edges: order",
+}
+DONE, ROOM, ABSENT = 0, 1, 4
+FATES = (None, "delivered", "unacked", "lost", "broken")
+ENDINGS = (None, "complete", "short", "silent", "bad-start", "long", "open")
+
+
+class Error(ValueError):
+    """A call was refused. `code` is the number of the header, `line` the line at fault, counted from 1, or 0."""
+
+    def __init__(self, code, line=0):
+        self.code, self.line = code, line
+        super().__init__(CODES.get(code, "code %d" % code) + (", line %d" % line if line else ""))
+
+
+class _Answer(ctypes.Structure):
+    _fields_ = [("code", ctypes.c_uint32), ("line", ctypes.c_uint64), ("length", ctypes.c_size_t)]
+
+
+class _Receiver(ctypes.Structure):
+    _fields_ = [("was_low", ctypes.c_bool), ("is_low", ctypes.c_bool), ("place", ctypes.c_uint8), ("count", ctypes.c_uint8),
+                ("begin", ctypes.c_uint64), ("fall", ctypes.c_uint64), ("bits", ctypes.c_bool * 160)]
+
+
+class _Sender(ctypes.Structure):
+    _fields_ = [("begin", ctypes.c_uint64), ("last", ctypes.c_uint64), ("slot", ctypes.c_uint64), ("state", ctypes.c_uint8),
+                ("count", ctypes.c_uint8), ("bytes", ctypes.c_uint8 * 16)]
+
+
+class _Reading(ctypes.Structure):
+    _fields_ = [("begin", ctypes.c_uint64), ("at", ctypes.c_uint64), ("ending", ctypes.c_uint8), ("count", ctypes.c_uint8),
+                ("bits", ctypes.c_bool * 160)]
+
+
+class _Heard(ctypes.Structure):
+    _fields_ = [("code", ctypes.c_uint32), ("kind", ctypes.c_uint8), ("ending", ctypes.c_uint8), ("bit", ctypes.c_bool),
+                ("slot", ctypes.c_uint64)]
+
+
+class _Instant(ctypes.Structure):
+    _fields_ = [("code", ctypes.c_uint32), ("at", ctypes.c_uint64)]
+
+
+class _Pull(ctypes.Structure):
+    _fields_ = [("code", ctypes.c_uint32), ("is_low", ctypes.c_bool)]
+
+
+class _Fate(ctypes.Structure):
+    _fields_ = [("code", ctypes.c_uint32), ("fate", ctypes.c_uint8)]
+
+
+class _Counts(ctypes.Structure):
+    _fields_ = [("count", ctypes.c_uint64), ("failed", ctypes.c_uint64)]
+
+
+_BYTES = [ctypes.c_char_p, ctypes.c_size_t]
+_CALLS = {
+    "hdminet_frame_text": (_Answer, _BYTES * 2),
+    "hdminet_frame_bytes": (_Answer, _BYTES * 2),
+    "hdminet_edid_fault": (ctypes.c_uint32, _BYTES),
+    "hdminet_edid_text": (_Answer, _BYTES * 2),
+    "hdminet_edid_port": (_Answer, _BYTES + [ctypes.c_uint16, ctypes.c_bool] + _BYTES),
+    "hdminet_edid_read": (_Answer, _BYTES + [ctypes.c_uint8, ctypes.c_uint8] + _BYTES),
+    "hdminet_receiver_new": (_Receiver, []),
+    "hdminet_receiver_hear": (_Heard, [ctypes.POINTER(_Receiver), ctypes.c_uint64, ctypes.c_bool, ctypes.POINTER(_Reading)]),
+    "hdminet_receiver_wakes_at": (_Instant, [ctypes.POINTER(_Receiver)]),
+    "hdminet_receiver_running": (ctypes.c_uint32, [ctypes.POINTER(_Receiver), ctypes.c_uint64, ctypes.POINTER(_Reading)]),
+    "hdminet_reading_frame": (_Answer, [ctypes.POINTER(_Reading)] + _BYTES),
+    "hdminet_sender_begin": (ctypes.c_uint32, [ctypes.POINTER(_Sender)] + _BYTES + [ctypes.c_uint64]),
+    "hdminet_sender_heard": (ctypes.c_uint32, [ctypes.POINTER(_Sender), ctypes.POINTER(_Heard), ctypes.c_uint64]),
+    "hdminet_sender_pulls": (_Pull, [ctypes.POINTER(_Sender), ctypes.c_uint64]),
+    "hdminet_sender_next_change": (_Instant, [ctypes.POINTER(_Sender), ctypes.c_uint64]),
+    "hdminet_sender_fate": (_Fate, [ctypes.POINTER(_Sender), ctypes.POINTER(_Reading)]),
+    "hdminet_emulate": (_Answer, _BYTES * 3),
+    "hdminet_emulate_edges": (_Answer, _BYTES * 3),
+    "hdminet_check": (_Answer, _BYTES * 3 + [ctypes.POINTER(_Counts)]),
+    "hdminet_watch": (_Answer, _BYTES * 2),
+    "hdminet_edid_bytes": (_Answer, _BYTES * 2),
+    "hdminet_edid_check": (_Answer, _BYTES * 2 + [ctypes.POINTER(ctypes.c_bool)]),
+    "hdminet_edid_meaning": (_Answer, _BYTES * 2),
+}
+
+
+def _load():
+    here = os.path.dirname(os.path.abspath(__file__))
+    names = [os.environ.get("HDMINET_LIBRARY"), os.path.join(here, "libhdminet.so"),
+             os.path.join(here, os.pardir, "lib", "libhdminet.so"), ctypes.util.find_library("hdminet")]
+    for name in names:
+        if name and (os.path.exists(name) or not os.path.isabs(name)):
+            return ctypes.CDLL(name)
+    raise ImportError("libhdminet.so is not there: tools/library makes it, and HDMINET_LIBRARY may name it")
+
+
+_library = _load()
+for _name, (_result, _parameters) in _CALLS.items():
+    if hasattr(_library, _name):
+        _call = getattr(_library, _name)
+        _call.restype, _call.argtypes = _result, _parameters
+
+
+def _filled(call, *arguments, room=512):
+    # The answer says how much room is needed: a second call has that much.
+    while True:
+        buffer = ctypes.create_string_buffer(room)
+        answer = call(*arguments, buffer, room)
+        if answer.code == DONE:
+            return buffer.raw[:answer.length]
+        if answer.code != ROOM:
+            raise Error(answer.code, answer.line)
+        room = answer.length
+
+
+def _text(text):
+    return text.encode("latin-1") if isinstance(text, str) else bytes(text)
+
+
+def frame_text(frame):
+    """The one text of a frame of 1 to 16 bytes, as '4>f active-source 1.0.0.0'."""
+    frame = bytes(frame)
+    return _filled(_library.hdminet_frame_text, frame, len(frame), room=96).decode("ascii")
+
+
+def frame_bytes(text):
+    """The bytes of the frame that has exactly this text."""
+    text = _text(text)
+    return _filled(_library.hdminet_frame_bytes, text, len(text), room=16)
+
+
+def edid_fault(edid):
+    """Why bytes are no EDID, as 'edid: base checksum'; None where they are one."""
+    edid = bytes(edid)
+    code = _library.hdminet_edid_fault(edid, len(edid))
+    return CODES[code] if code else None
+
+
+def edid_text(edid):
+    """The text of an EDID, a line for each part of it."""
+    edid = bytes(edid)
+    return _filled(_library.hdminet_edid_text, edid, len(edid), room=4096).decode("latin-1")
+
+
+def edid_port(edid, address, from_amplifier=False):
+    """The EDID that a port passes on of one. The address is 0x1200 or '1.2.0.0'; an amplifier on the way has its own audio."""
+    edid = bytes(edid)
+    if isinstance(address, str):
+        nibbles = [int(nibble, 16) for nibble in address.split(".")]
+        if len(nibbles) != 4 or max(nibbles) > 15:
+            raise ValueError("an address has four nibbles, as 1.2.0.0")
+        address = nibbles[0] << 12 | nibbles[1] << 8 | nibbles[2] << 4 | nibbles[3]
+    return _filled(_library.hdminet_edid_port, edid, len(edid), address, from_amplifier)
+
+
+def edid_read(edid, segment, offset, count):
+    """What a reader reads over DDC: so many bytes from an offset of a segment on; None where that is not acknowledged."""
+    edid, buffer = bytes(edid), ctypes.create_string_buffer(count)
+    answer = _library.hdminet_edid_read(edid, len(edid), segment, offset, buffer, count)
+    if answer.code == ABSENT:
+        return None
+    if answer.code:
+        raise Error(answer.code)
+    return buffer.raw
+
+
+def edid_bytes(text):
+    """The bytes of the EDID that has exactly this text, as `edid_text` gives it."""
+    text = _text(text)
+    return _filled(_library.hdminet_edid_bytes, text, len(text))
+
+
+Findings = namedtuple("Findings", "text fails")
+
+
+def edid_check(edid):
+    """The rules that the EDID of a display breaks: a line for each, and whether one of them is a failure."""
+    edid, fails = bytes(edid), ctypes.c_bool()
+
+    def call(*arguments):
+        return _library.hdminet_edid_check(*arguments, ctypes.byref(fails))
+
+    text = _filled(call, edid, len(edid), room=4096).decode("latin-1")
+    return Findings(text, fails.value)
+
+
+def edid_meaning(edid):
+    """The text of an EDID, and below each line, after two spaces, what it means."""
+    edid = bytes(edid)
+    return _filled(_library.hdminet_edid_meaning, edid, len(edid), room=1 << 14).decode("latin-1")
+
+
+def emulate(topology, script):
+    """The trace of the run of a script on a topology, both in the words of docs/formats.md."""
+    topology, script = _text(topology), _text(script)
+    return _filled(_library.hdminet_emulate, topology, len(topology), script, len(script), room=1 << 16).decode("latin-1")
+
+
+def emulate_edges(topology, script):
+    """The falls and rises of the line of that run, as `watch` reads them."""
+    topology, script = _text(topology), _text(script)
+    return _filled(_library.hdminet_emulate_edges, topology, len(topology), script, len(script), room=1 << 18).decode("latin-1")
+
+
+Report = namedtuple("Report", "text count failed")
+
+
+def check(topology, script):
+    """Whether the run of a script is as its expectations have it: the report, how many tests it has, and how many failed."""
+    topology, script, counts = _text(topology), _text(script), _Counts()
+
+    def call(*arguments):
+        return _library.hdminet_check(*arguments, ctypes.byref(counts))
+
+    text = _filled(call, topology, len(topology), script, len(script), room=1 << 16).decode("latin-1")
+    return Report(text, counts.count, counts.failed)
+
+
+def watch(edges):
+    """What was read on a line of these falls and rises, a line each."""
+    edges = _text(edges)
+    return _filled(_library.hdminet_watch, edges, len(edges), room=1 << 16).decode("latin-1")
+
+
+class Reading(namedtuple("Reading", "begin at ending bits")):
+    """A reading of the line: its fall, the instant of its ending, how it ended, and the bits that were sampled."""
+
+    def _parts(self):
+        return _Reading(self.begin, self.at, ENDINGS.index(self.ending), len(self.bits), (ctypes.c_bool * 160)(*self.bits))
+
+    def frame(self):
+        """The bytes of the frame of a complete reading, and None of another one."""
+        parts = self._parts()
+        try:
+            return _filled(_library.hdminet_reading_frame, ctypes.byref(parts), room=16)
+        except Error as error:
+            if error.code == ABSENT:
+                return None
+            raise
+
+    def acknowledged(self):
+        """Whether a complete reading was acknowledged or, of a frame to all, not refused."""
+        frame = self.frame()
+        return frame is not None and bool(self.bits[-1]) == (frame[0] % 16 == 15)
+
+
+def _reading(parts):
+    return Reading(parts.begin, parts.at, ENDINGS[parts.ending], tuple(int(bit) for bit in parts.bits[:parts.count]))
+
+
+class Receiver:
+    """A receiver of the line.
+
+        receiver = Receiver()
+        for t, is_low in edges:
+            for reading in receiver.edge(t, is_low): ...
+        for reading in receiver.until(end): ...
+    """
+
+    def __init__(self):
+        self.state = _library.hdminet_receiver_new()
+        self.heard = _Heard()
+
+    def hear(self, t, is_low):
+        """Instant t has come, an edge or a wake; the reading that it ends, or None. `heard` has what it told."""
+        parts = _Reading()
+        self.heard = _library.hdminet_receiver_hear(ctypes.byref(self.state), t, is_low, ctypes.byref(parts))
+        if self.heard.code:
+            raise Error(self.heard.code)
+        return _reading(parts) if self.heard.kind >= 2 else None
+
+    def wakes_at(self):
+        """The instant at which it is to hear again, where no edge comes first, or None."""
+        instant = _library.hdminet_receiver_wakes_at(ctypes.byref(self.state))
+        if instant.code == ABSENT:
+            return None
+        if instant.code:
+            raise Error(instant.code)
+        return instant.at
+
+    def until(self, t):
+        """The readings that have ended by t, t itself too, where no edge comes: a list of one at most."""
+        readings = []
+        while (wake := self.wakes_at()) is not None and wake <= t:
+            readings.append(self.hear(wake, self.state.is_low))
+        return [reading for reading in readings if reading is not None]
+
+    def edge(self, t, is_low):
+        """The line falls or rises at t. A list of the readings that have ended since the edge before, at this edge too."""
+        readings = self.until(t - 1) + [self.hear(t, is_low)]
+        return [reading for reading in readings if reading is not None]
+
+    def running(self, t):
+        """The reading that runs, open at t, or None."""
+        parts = _Reading()
+        code = _library.hdminet_receiver_running(ctypes.byref(self.state), t, ctypes.byref(parts))
+        if code == ABSENT:
+            return None
+        if code:
+            raise Error(code)
+        return _reading(parts)
+
+
+class Sender:
+    """A sender of one frame, which begins at an instant. It hears what a receiver told of the line: `receiver.heard`."""
+
+    def __init__(self, frame, begin):
+        frame = bytes(frame)
+        self.state = _Sender()
+        self._check(_library.hdminet_sender_begin(ctypes.byref(self.state), frame, len(frame), begin))
+
+    @staticmethod
+    def _check(code):
+        if code:
+            raise Error(code)
+
+    def hear(self, heard, t):
+        """What a receiver told at t of the reading that this sender began."""
+        self._check(_library.hdminet_sender_heard(ctypes.byref(self.state), ctypes.byref(heard), t))
+
+    def pulls(self, t):
+        """Whether it pulls the line low in microsecond t."""
+        pull = _library.hdminet_sender_pulls(ctypes.byref(self.state), t)
+        self._check(pull.code)
+        return pull.is_low
+
+    def next_change(self, t):
+        """The first instant after t at which its pull changes, or None."""
+        instant = _library.hdminet_sender_next_change(ctypes.byref(self.state), t)
+        if instant.code == ABSENT:
+            return None
+        self._check(instant.code)
+        return instant.at
+
+    def is_sending(self):
+        """Whether it has not stopped yet."""
+        return self.state.state == 0
+
+    def fate(self, reading):
+        """What became of the frame, by the reading that it began: 'delivered', 'unacked', 'lost' or 'broken'; None while it sends."""
+        fate = _library.hdminet_sender_fate(ctypes.byref(self.state), ctypes.byref(reading._parts()))
+        if fate.code == ABSENT:
+            return None
+        self._check(fate.code)
+        return FATES[fate.fate]
+
+    def slot(self):
+        """The slot at which it went out, or None."""
+        return self.state.slot if self.state.state == 1 else None
