@@ -6,7 +6,7 @@
    caller promises besides:
    - The three functions are of one allocator, and align a block as C asks for.
    - No call comes from a signal handler, nor from the forked child of a process with threads.
-   - The stack has 80 KB left, for hdminet_edid_meaning 96 and for hdminet_edid_bytes 120: the emulator takes some 60 KB of it.
+   - The stack has 80 KB left, for hdminet_edid_meaning 96 and for hdminet_edid_bytes 128: the emulator takes some 60 KB of it.
      A thread of 192 KB will do for the calls of this header and of hdminet_wire.h.
    Where memory runs out, HDMINET_MEMORY is the answer. */
 #ifndef HDMINET_H
