@@ -347,8 +347,9 @@ fn trace(alloc: Global, topology: &str, script: &str) -> Option<String> {
 
 // The end of a trace before the states.
 fn is_end(rt: &(impl Abort + AllocGlobal), trace: &str, lines: &str) -> bool {
+    let whole = format!(in rt.alloc(); "\n{trace}").expect(rt, "a trace");
     let end = format!(in rt.alloc(); "\n{lines}\nstate tv ").expect(rt, "lines");
-    trace.contains(end.as_str())
+    whole.contains(end.as_str())
 }
 
 fn scene_holds(rt: &(impl Abort + AllocGlobal), scene: &str) {
