@@ -53,8 +53,8 @@ lib/libhdminet_wire.a 644
 lib/pkgconfig/hdminet.pc 644
 lib/pkgconfig/hdminet_wire.pc 644
 python/hdminet.py 644'
-both() { printf '%s\n' "$FILES" "$LIBRARY" | LC_ALL=C sort; }
 PROGRAM_FILES=$FILES
+both() { printf '%s\n' "$PROGRAM_FILES" "$LIBRARY" | LC_ALL=C sort; }
 [ ! -d "$top/release/lib" ] || FILES=$(both)
 
 # What stands in for a toolchain, and tells that it was called.
