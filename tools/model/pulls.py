@@ -93,7 +93,7 @@ class Round:
 
     def next(self):
         """the next instant at which anything may change"""
-        at = [self.begin + 3901, self.begin + 4701, self.fall + 1050, self.fall + 2751, self.acknowledged, self.driven]
+        at = [self.begin + 3901, self.begin + 4701, self.fall + 1050, self.fall + 1051, self.fall + 2751, self.acknowledged, self.driven]
         if self.ended: at += [self.ended[1] + 1, self.ended[2] + 1]
         later = bisect_right(self.instants, self.t)
         return min([t for t in at if t > self.t] + self.instants[later:later + 1])
