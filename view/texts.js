@@ -69,7 +69,7 @@ export function readObjects(text, model) {
       test.window = object;
     } else if (object.type === 'stretch') {
       model.stretches.push(object);
-    } else if (['device', 'plug', 'edid', 'pulse', 'pull'].includes(object.type)) {
+    } else if (['device', 'plug', 'edid', 'pulse', 'pull', 'pin'].includes(object.type)) {
       addHead(object, (model.room ||= emptyRoom()));
     } else {
       object.line = object.line.replace(/^# /, ''); // as it stands in a report
@@ -122,6 +122,7 @@ function cleaned(o) {
     case 'edid':
     case 'pulse':
     case 'pull':
+    case 'pin':
     case 'version':
     case 'trace':
     case 'plan':

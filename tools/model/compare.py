@@ -548,6 +548,31 @@ def gen_pulls_run(r):
     return ['run'] + (['--edges'] if r.random() < .3 else []), text
 
 
+def as_pins(r, lines):
+    """some pulls of a script as levels of the pin, now and then one said twice, at an instant beside, or not let go"""
+    out, share, slips = [], r.choice([.3, .7, 1]), r.choice([0, 0, 0, .02, .1])
+    for line in lines:
+        verb, *words = line.split(' ')
+        if verb not in ('pulse', 'pull') or r.random() > share:
+            out.append(line)
+            continue
+        t, w = map(int, words)
+        levels = [(t, 0), (t + w, 1)]
+        if r.random() < slips: levels.insert(r.choice([0, 1, 2]), (t + r.choice([-1, 0, 1, w - 1, w, w + 1]), r.choice([0, 1])))
+        if r.random() < slips / 5: levels.pop(r.randrange(len(levels)))
+        out += ['pin %d %d' % (max(0, at), level) for at, level in levels]
+    return out
+
+
+def gen_pins_run(r):
+    """the same rooms with a device's own pin: its levels in the place of pulls, some wrong, the last pull perhaps let go by the end"""
+    a, text = gen_pulls_run(r)
+    lines = as_pins(r, text.split('\n'))
+    levels = [i for i, line in enumerate(lines) if line.startswith('pin ')]
+    if levels and r.random() < .3: lines = [line for i, line in enumerate(lines) if i < levels[-1] or not line.startswith(('pin ', 'pulse ', 'pull '))]
+    return a, '\n'.join(lines)
+
+
 def gen_edges(r):
     k = r.random()
     if k < .5: return gen_wire(r, True)
@@ -895,6 +920,18 @@ def gen_window(r, lines, labels, end, near):
 REFUSALS = ['port-range', 'port-taken', 'not-loose', 'loop', 'not-plugged', 'off-wire', 'not-for-kind', 'no-address', 'own-address', 'queue-full', 'nonsense']
 
 
+def with_names(r, body, trace):
+    """names of devices in the place of addresses in the header of a pattern, mostly of those that hold them at the end"""
+    states = [l.split(' ')[1:4] for l in trace if l.startswith('state ')]
+
+    def name(address):
+        holders = [s[0] for s in states if address in s[2].split('+')]
+        if r.random() < .2 or r.random() < .9 and not holders: return address
+        if r.random() < .02: return r.choice(['@nosuch', '@', '@tv@tv', '*@tv'])
+        return '@' + r.choice(holders if holders and r.random() < .8 else [s[0] for s in states])
+    return re.sub(r' ([0-9a-f*])>([0-9a-f*])(?= |$)', lambda m: ' %s>%s' % (name(m[1]), name(m[2])), body, count=1)
+
+
 def gen_expect(r):
     """a run with labels and expectations of its rounds, many at the border of what holds; a part with a line at fault"""
     trace = []
@@ -914,7 +951,9 @@ def gen_expect(r):
         body = 'expect %s%s %s' % (r.choice(['', '', 'none ', 'once ']), gen_window(r, rounds, labels, end, near), gen_pattern(r, near))
         if slips and r.random() < .3:
             label, word = r.choice(slips)
-            body = 'expect refused %s %s' % (label, word if r.random() < .8 else r.choice(REFUSALS))
+            body = 'expect refused %s%s' % (label + ' ' if r.random() < .97 else '', word if r.random() < .8 else r.choice(REFUSALS))
+        elif named and r.random() < .6:
+            body = with_names(r, body, trace)
         elif r.random() < .15:
             body = gen_state(r, trace, end)
         if r.random() < .3:
@@ -923,6 +962,7 @@ def gen_expect(r):
             labels.append((label, int(near.split(' ')[1])))
         return body
     inside = r.choice([0, .1, .3])
+    named = r.random() < .3
     for n, line in enumerate(lines, 1):
         out.append((n, line))
         if r.random() < inside: out.append((None, None))
@@ -932,7 +972,7 @@ def gen_expect(r):
     for n, line in out:
         if n is None:
             line = expectation()
-        elif line.startswith(('pulse ', 'pull ')) and r.random() < .5:
+        elif line.startswith(('pulse ', 'pull ', 'pin ')) and r.random() < .5:
             labels.append(('l%d' % n, int(line.split(' ')[1])))
             line = 'label l%d %s' % (n, line)
         elif line.startswith('at ') and r.random() < .5 or str(n) in events and events[str(n)][3] == 'refused' and r.random() < .7:
@@ -942,6 +982,9 @@ def gen_expect(r):
             if event and event[3] == 'refused': slips.append((label, event[4]))
             elif r.random() < .1: slips.append((label, r.choice(REFUSALS)))
             line = 'label %s %s' % (label, line)
+            if r.random() < .3:
+                lines.append(line)
+                line = 'expect refused ' + (event[4] if event and event[3] == 'refused' and r.random() < .9 else r.choice(REFUSALS))
         elif r.random() < .01:
             line = r.choice(['# ' + line] * 9 + ['label x # ' + line])
         lines.append(line)
@@ -952,7 +995,7 @@ def gen_expect(r):
         else:
             lines.insert(i, r.choice(['expect', 'expect ', 'label', 'label ', 'label x', 'label x ', 'label  at 5', 'label x expect', 'expect none', 'expect once', 'expect some from 0 to 1 *', 'expect from 0 to 1', 'expect from 0 to 1 ', 'expect from 0 to 1  ',
                                       'expect from 1 to 0 *', 'expect from 0 to 01 *', 'expect from 0 to 1000000000001 *', 'expect from 0 to 1000000000000 *', 'expect within 5 of nosuch *', 'expect within x of nosuch *', 'expect within 5 of', 'expect within 5 of l1', 'expect within 5 of  *',
-                                      'expect from 0 to 18446744073709551615 *', 'expect from 0 to 18446744073709551616 *', 'expect from 0 to 1 * ', 'label y end 5', 'label y # x', 'expect refused', 'expect refused nosuch', 'expect refused nosuch off-wire', 'expect refused l1 nonsense', 'expect refused l1 off-wire x', 'expect refused e0 off-wire', 'label y label z at 5 press tv power', 'label y expect within 5 of y *', 'label y expect from 0 to 1 * * * * *',
+                                      'expect from 0 to 18446744073709551615 *', 'expect from 0 to 18446744073709551616 *', 'expect from 0 to 1 * ', 'label y end 5', 'label y # x', 'expect refused', 'expect refused nosuch', 'expect refused off-wire', 'expect refused ', 'expect refused nosuch off-wire', 'expect refused l1 nonsense', 'expect refused l1 off-wire x', 'expect refused e0 off-wire', 'label y label z at 5 press tv power', 'label y expect within 5 of y *', 'label y expect from 0 to 1 * * * * *',
                                       'expect from 0 to 1 ' + 'x' * 160, 'expect from 0 to 1 ' + 'x' * 161, 'label y expect from 9 to 8 *', 'label l1 expect from 9 to 8 *', 'label y expect within x of nosuch ', 'expect  from 0 to 1 *', ' expect from 0 to 1 *', 'Expect from 0 to 1 *', 'expect once none from 0 to 1 *']))
     return ['check'], topology + '\nscript\n' + '\n'.join(lines) + r.choice(['\n', '\n', ''])
 
@@ -1055,7 +1098,7 @@ def gen_odd(r):
         i = r.randrange(len(ls))
         sp = r.choice(['device x tv 1', 'device x outside-tv 1', 'device x player 16', 'device x player 015', 'device xxxxxxxxxxxxxxx player 1', 'device -x player 1', 'device X player 1', 'device x combo 0', 'device x tv', 'device x tv 1 1',
                        'plug x y 1', 'plug x', 'plug tv tv 1', 'plug p1 tv 0', 'plug p1 tv 300', 'plug tv p1 1', 'edid 00', 'edid zz', 'edid 0', 'edid', 'edid -', 'edid ', 'device  tv 1', 'device x player ', 'device x  1',
-                       'end 5', 'end', 'end 1000000000001', 'end 1000000000000', 'end 01', 'end x', 'end ', 'pulse 5 0', 'pulse 5 1', 'pulse 5 3001', 'pulse 1000000000001 1', 'pulse 5', 'pulse 5 99999999999999999999999', 'pulse 5 01', 'pulse  5', 'pull 5 0', 'pull 5 1', 'pull 5 10000000', 'pull 5 10000001', 'pull 1000000000001 1', 'pull 5', 'pull 5 99999999999999999999999', 'pull 5 01', 'pull  5',
+                       'end 5', 'end', 'end 1000000000001', 'end 1000000000000', 'end 01', 'end x', 'end ', 'pulse 5 0', 'pulse 5 1', 'pulse 5 3001', 'pulse 1000000000001 1', 'pulse 5', 'pulse 5 99999999999999999999999', 'pulse 5 01', 'pulse  5', 'pull 5 0', 'pull 5 1', 'pull 5 10000000', 'pull 5 10000001', 'pull 1000000000001 1', 'pull 5', 'pull 5 99999999999999999999999', 'pull 5 01', 'pull  5', 'pin 5 0', 'pin 5 1', 'pin 5 2', 'pin 5 01', 'pin 1000000000001 0', 'pin 1000000000000 0', 'pin 5', 'pin  0', 'pin 05 0',
                        'at 5 plug p1 tv', 'at 5 plug p1 tv x', 'at 5 unplug', 'at 5 unplug x', 'at 5 unplug ', 'at 5 press tv', 'at 5 press tv ', 'at 5 press tv power ', 'at 5 press tv watch 1.0.0', 'at 5 press tv port 01', 'at 5 press tv port x', 'at 5 press x port x', 'at 5 press x power',
                        'at 5 press tv language EN', 'at 5 press tv language deu', 'at 5 press tv remote f play', 'at 5 press tv remote 0 play', 'at 5 press tv remote 4 frob', 'at 5 press tv remote 4', 'at 5 press tv audio', 'at 5 press tv audio up', 'at x press x play',
                        'at 5 send tv', 'at 5 send tv ', 'at 5 send tv 0>f', 'at 5 send x 0>g', 'at 5 send tv 0>g', 'at 5 send tv 0>4 frob', 'at 5 send tv 0>4 play', 'at 5 send tv 0>4 play :24', 'at 5 send tv 0>4 play :' + '00' * 15, 'at 1000000000001 send tv 0>4', 'at 99999999999 send tv 0>g', 'at 5', 'at', 'script', 'steps', 'edge', 'until opcode 84'])
@@ -1076,8 +1119,8 @@ def small_run(r):
     return a, t
 
 
-ODD = [gen_run, gen_pulls_run, small_run, small_run, gen_asm, gen_edidcmd, gen_edtext, gen_mon, gen_step, gen_expect]
-GEN = dict(pulls=gen_pulls_run, ops=gen_ops, met=gen_met, amp=gen_amp, run=gen_run, feat=gen_feat, wire=gen_wire, edges=gen_edges, mon=gen_margin, fold=gen_fold, audit=gen_audit, step=gen_step, asm=gen_asm, edid=gen_edidcmd, edtext=gen_edtext, merge=gen_merge, check=gen_check, ways=gen_ways, expect=gen_expect, sweep=gen_sweep, capture=gen_capture, json=gen_json, odd=gen_odd)
+ODD = [gen_run, gen_pulls_run, gen_pins_run, small_run, small_run, gen_asm, gen_edidcmd, gen_edtext, gen_mon, gen_step, gen_expect]
+GEN = dict(pulls=gen_pulls_run, pins=gen_pins_run, ops=gen_ops, met=gen_met, amp=gen_amp, run=gen_run, feat=gen_feat, wire=gen_wire, edges=gen_edges, mon=gen_margin, fold=gen_fold, audit=gen_audit, step=gen_step, asm=gen_asm, edid=gen_edidcmd, edtext=gen_edtext, merge=gen_merge, check=gen_check, ways=gen_ways, expect=gen_expect, sweep=gen_sweep, capture=gen_capture, json=gen_json, odd=gen_odd)
 
 
 def main():

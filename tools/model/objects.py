@@ -111,7 +111,7 @@ def objects(text, told=told_of):
 
 
 HEADS = {'device': (('device', str), ('kind', str), ('ports', int)), 'plug': (('device', str), ('parent', str), ('port', int)),
-         'edid': (('edid', str),), **dict.fromkeys(('pulse', 'pull'), (('at', int), ('width', int)))}
+         'edid': (('edid', str),), **dict.fromkeys(('pulse', 'pull'), (('at', int), ('width', int))), 'pin': (('at', int), ('level', int))}
 
 
 def head_told_of(line):
@@ -120,7 +120,7 @@ def head_told_of(line):
 
 
 def room_objects(data, out):
-    """the objects of a run with its room: its devices, plugs, EDID, pulses and pulls, then the trace, each event with its line"""
+    """the objects of a run with its room: its devices, plugs, EDID, pulses, pulls and pin, then the trace, each event with its line"""
     lines = data.decode('latin1').split('\n')
     script = lines[lines.index('script') + 1:]
     heads = [line for line in lines if line.split(' ')[0] in HEADS]

@@ -13,7 +13,7 @@ def time_places(words):
     rest = words[first:]
     if not rest:
         return []
-    if rest[0] in (b'at', b'pulse', b'pull', b'end'):
+    if rest[0] in (b'at', b'pulse', b'pull', b'pin', b'end'):
         return [first + 1]
     if rest[0] != b'expect':
         return []
@@ -68,8 +68,10 @@ def clock_of(line):
     words = [] if words is None else words.split(b' ')
     if len(words) > 2 and words[0] == b'expect' and words[1] == b'state':
         return 'state', 0, words[2]
-    if len(words) < 2 or words[0] not in (b'at', b'pulse', b'pull', b'end'):
+    if len(words) < 2 or words[0] not in (b'at', b'pulse', b'pull', b'pin', b'end'):
         return None
+    if words[0] == b'pin':
+        return 'high' if words[2:3] == [b'1'] else 'low', 0, words[1]
     width = number(words[2]) if words[0] in (b'pulse', b'pull') and len(words) > 2 else None
     return words[0].decode(), min(width or 0, 65535 if words[0] == b'pulse' else WIDEST_PULL + 1), words[1]
 
@@ -88,8 +90,14 @@ def in_order(above, below, instant):
             return first + above[1] + 25000 <= second
         case 'pull', 'pulse':
             return first + above[1] + 25000 <= second
-        case ('pulse' | 'pull'), 'pull':
+        case ('pulse' | 'pull'), ('pull' | 'low'):
             return first + above[1] < second
+        case ('pulse' | 'pull'), 'high':
+            return first + above[1] <= second
+        case ('low', 'high') | ('high', 'low'):
+            return first < second
+        case ('low' | 'high'), ('low' | 'high' | 'pulse' | 'pull'):
+            return first <= second
         case 'end', 'state':
             return second <= first
     return True

@@ -1,5 +1,5 @@
 -- What holds of every script: the order of times, the limit, devices of the tree, frames and pulses.
-use Rattle.std.proofs.Common.{◌≡◌, ℕ, suc, ◌+◌, ◌-◌, ◌<◌, ◌≤◌, ◌==◌, ◌&&◌, ◌||◌, Bool, true, false, cond, codes, List, [], ◌∷◌, ◌++◌, length, min, nat_lt, nat_le, if◌then◌else◌, slice_get, Option, Some, None, is_some, option_map, Result, Ok, Err, refl, sym, ap, subst, ◌∙◌, arith}
+use Rattle.std.proofs.Common.{◌≡◌, ℕ, suc, ◌+◌, ◌-◌, ◌<◌, ◌≤◌, ◌==◌, ◌&&◌, ◌||◌, Bool, true, false, cond, codes, List, [], ◌∷◌, ◌++◌, length, max, min, nat_lt, nat_le, if◌then◌else◌, slice_get, Option, Some, None, is_some, option_map, Result, Ok, Err, refl, sym, ap, subst, ◌∙◌, arith}
 use Rattle.std.specs.Str.{bytes_eq}
 use Rattle.std.specs.Option.{option_map_or}
 use Rattle.std.specs.List.{All}
@@ -30,8 +30,8 @@ use Rattle.cec_event.specs.declared.event.Event.{Event}
 use Rattle.cec_event.specs.declared.event.Event.TheVariants.{Plug, Unplug, Key, Send, Outside}
 use Rattle.cec_asm.specs.declared.script.TimedEvent.{TimedEvent}
 use Rattle.cec_asm.specs.declared.fault.LineFault.{LineFault}
-use Rattle.cec_asm.proofs.Adding.{few_pulses}
-use Rattle.cec_asm.specs.Script.{Course, Notes, within_limit, time_of, last_time, last_end, notes_with_event, plug_read, plug_words, unplug_read, unplug_words, key_read, key_words, act_read, hold_words, drop_words, send_read, event_words, unless_fault, notes_with_pulse, pulse_read, pulse_words, touches, notes_with_pull, pull_read, pull_words, end_read, end_words, other_words, course_at_end, no_notes, IsFrameOf, IsSendRead, IsEventRead, IsWordsRead, IsLineRead, IsSchedule, AreFramedEvents, IsNoWider, IsScript, Onward, AreLinesRead, ScriptsAreSound}
+use Rattle.cec_asm.proofs.Adding.{AreFew, few_pulses, none_while_low}
+use Rattle.cec_asm.specs.Script.{Course, Notes, within_limit, time_of, last_time, last_end, notes_with_event, plug_read, plug_words, unplug_read, unplug_words, key_read, key_words, act_read, hold_words, drop_words, send_read, event_words, unless_fault, pulse_refusal, notes_with_pulse, pulse_read, pulse_words, touches, notes_with_pull, pull_read, pull_words, is_before, level_of, pin_falls, pin_rises, pin_stays_high, pin_stays_low, notes_with_level, pin_read, pin_words, pulses_ended, end_read, end_words, other_words, course_at_end, no_notes, IsFrameOf, IsSendRead, IsEventRead, IsWordsRead, IsLineRead, IsSchedule, AreFramedEvents, IsNoWider, MayFall, IsScript, Onward, AreLinesRead, ScriptsAreSound}
 
 -- ---- times
 
@@ -173,9 +173,11 @@ pub record AreSound (count : ℕ) (notes : Notes) : Type 0 where
   pub wide : All IsNoWider notes.pulses
   pub early : All IsEarly notes.pulses
   pub ended : (time : ℕ) → notes.end ≡ Some time → IsSchedule count time 0 notes.events × (time ≤ latest_event)
+  pub held : (from : ℕ) → notes.pin ≡ Some from → MayFall notes.pulses from
+  pub let_go : (time : ℕ) → notes.end ≡ Some time → notes.pin ≡ None
 
 pub sound_start : (count : ℕ) → AreSound count no_notes
-sound_start count = record { schedule = tt; framed = tt; order = tt; wide = All-nil IsNoWider; early = All-nil IsEarly; ended = λ t e. (cc) }
+sound_start count = record { schedule = tt; framed = tt; order = tt; wide = All-nil IsNoWider; early = All-nil IsEarly; ended = λ t e. (cc); held = λ t e. (cc); let_go = λ t e. refl }
 
 Keeps : ℕ → Result Notes LineFault → Type 0
 Keeps count read = (next : Notes) → read ≡ Ok next → AreSound count next
@@ -222,6 +224,8 @@ scheduled-keeps count notes line time event s known framed =
           wide = s.wide;
           early = s.early;
           ended = λ t h. (let clash = rw h at unended in cc);
+          held = s.held;
+          let_go = s.let_go;
         }
 
 named-below : (tree : List Node) (name : List ℕ) (device : ℕ) → device_named tree name ≡ Some device → device < length tree
@@ -328,8 +332,8 @@ within_limit-limit None time h = cc
 within_limit-limit (Some n) time h = grind (arith, nat_tests)
 
 -- one more that is pulled low from outside
-sound_with : (count : ℕ) (notes : Notes) (pulse : Stretch) → AreSound count notes → pulse.from ≤ latest_event → free_after (last_end notes.pulses) ≤ pulse.from → pulse.from < pulse.to → pulse.to ≤ pulse.from + widest_pull
-    → AreSound count (record notes { pulses = notes.pulses ++ pulse ∷ [] })
+sound_with : (count : ℕ) (notes : Notes) (pulse : Stretch) → AreSound count notes → pulse.from ≤ latest_event → free_after (last_end notes.pulses) ≤ pulse.from → pulse.from < pulse.to → IsNoWider pulse
+    → AreSound count (record notes { pulses = notes.pulses ++ pulse ∷ []; pin = None })
 sound_with count notes pulse s within later some wide = record {
   schedule = s.schedule;
   framed = s.framed;
@@ -337,19 +341,40 @@ sound_with count notes pulse s within later some wide = record {
   wide = All-append IsNoWider notes.pulses (pulse ∷ []) s.wide (All-from_recursion IsNoWider (pulse ∷ []) (wide, tt));
   early = All-append IsEarly notes.pulses (pulse ∷ []) s.early (All-from_recursion IsEarly (pulse ∷ []) (within, tt));
   ended = s.ended;
+  held = λ t h. (cc);
+  let_go = λ t h. refl;
 }
+
+-- while the pin is high
+sound_high : (count : ℕ) (notes : Notes) (pulse : Stretch) → AreSound count notes → is_some notes.pin ≡ false → pulse.from ≤ latest_event → free_after (last_end notes.pulses) ≤ pulse.from → pulse.from < pulse.to
+    → pulse.to ≤ pulse.from + widest_pull → AreSound count (record notes { pulses = notes.pulses ++ pulse ∷ [] })
+sound_high count notes pulse s high within later some wide =
+    let none = is_high notes.pin high in
+    let With : Option ℕ → Type 0 = λ pin. AreSound count (record notes { pulses = notes.pulses ++ pulse ∷ []; pin = pin }) in
+    subst With (sym none) (sound_with count notes pulse s within later some (omega (arith, wide)))
+  where
+    is_high : (pin : Option ℕ) → is_some pin ≡ false → pin ≡ None
+    is_high None h = refl
+    is_high (Some from) h = cc
 
 pulsed-keeps : (count : ℕ) (notes : Notes) (waiting : ℕ) (pulse : Stretch) → AreSound count notes → pulse.from ≤ latest_event → Keeps count (notes_with_pulse notes waiting pulse)
 pulsed-keeps count notes waiting pulse s within =
-    elim (stretch_fault (last_end notes.pulses) pulse) as (λ o. stretch_fault (last_end notes.pulses) pulse ≡ o → Keeps count (unless_fault o notes waiting pulse)) [
+    elim (pulse_refusal notes.pin (last_end notes.pulses) pulse) as (λ o. pulse_refusal notes.pin (last_end notes.pulses) pulse ≡ o → Keeps count (unless_fault o notes waiting pulse)) [
       | Some fault ↦ λ e. keeps_err count _ refl
       | None ↦ λ e. keeps_if count (nat_le most_pulses waiting) _ _ (λ full. keeps_err count _ refl)
           (λ room. keeps_if count (is_some notes.end) _ _ (λ ended. keeps_err count _ refl)
-          (λ unended. keeps_ok count _ (sound_with count notes pulse s within (apart e).0 (apart e).1 (let narrow = (apart e).2 in omega (arith, narrow)))))
+          (λ unended. keeps_ok count _ (sound_high count notes pulse s (high e) within (apart e).0 (apart e).1 (let narrow = (apart e).2 in omega (arith, narrow)))))
     ] refl
   where
-    apart : stretch_fault (last_end notes.pulses) pulse ≡ None → IsApart (last_end notes.pulses) pulse
-    apart e = pulse-apart (last_end notes.pulses) pulse e
+    high : pulse_refusal notes.pin (last_end notes.pulses) pulse ≡ None → is_some notes.pin ≡ false
+    high e = none_while_low notes.pin (last_end notes.pulses) pulse e
+
+    by : (pin : Option ℕ) → pulse_refusal pin (last_end notes.pulses) pulse ≡ None → is_some pin ≡ false → stretch_fault (last_end notes.pulses) pulse ≡ None
+    by None e h = e
+    by (Some from) e h = cc
+
+    apart : pulse_refusal notes.pin (last_end notes.pulses) pulse ≡ None → IsApart (last_end notes.pulses) pulse
+    apart e = pulse-apart (last_end notes.pulses) pulse (by notes.pin e (high e))
 
 pulse_read-keeps : (count : ℕ) (notes : Notes) (waiting : ℕ) (time width : Option ℕ) → AreSound count notes → ((t : ℕ) → time ≡ Some t → t ≤ latest_event) → Keeps count (pulse_read notes waiting time width)
 pulse_read-keeps count notes waiting None width s limit = keeps_err count _ refl
@@ -359,6 +384,11 @@ pulse_read-keeps count notes waiting (Some time) (Some width) s limit = pulsed-k
 pulse_words-keeps : (count : ℕ) (notes : Notes) (waiting many : ℕ) (words : Option (List ℕ × List ℕ)) → AreSound count notes → Keeps count (pulse_words notes waiting many words)
 pulse_words-keeps count notes waiting many None s = keeps_err count _ refl
 pulse_words-keeps count notes waiting many (Some words) s = pulse_read-keeps count notes waiting (time_of words.0) (number_of words.1) s (within_limit-limit (number_of words.0))
+
+-- none of two
+both_false : (a b : Bool) → (a || b) ≡ false → (a ≡ false) × (b ≡ false)
+both_false true b h = cc
+both_false false b h = (refl, h)
 
 -- a pull that is not refused for its width
 fits_width : (time width : ℕ) → (width == 0 || nat_lt widest_pull width) ≡ false → (time < time + width) × (time + width ≤ time + widest_pull)
@@ -372,11 +402,66 @@ fits_width time width h = by (width == 0) (nat_lt widest_pull width) refl refl h
 pulled-keeps : (count : ℕ) (notes : Notes) (waiting time width : ℕ) → AreSound count notes → time ≤ latest_event → Keeps count (notes_with_pull notes waiting time width)
 pulled-keeps count notes waiting time width s within =
     keeps_if count (width == 0 || nat_lt widest_pull width) _ _ (λ misfits. keeps_err count _ refl)
-    (λ fits. keeps_if count (touches (last_end notes.pulses) time) _ _ (λ near. keeps_err count _ refl)
+    (λ fits. keeps_if count (is_some notes.pin || touches (last_end notes.pulses) time) _ _ (λ near. keeps_err count _ refl)
     (λ apart. keeps_if count (nat_le most_pulls waiting) _ _ (λ full. keeps_err count _ refl)
     (λ room. keeps_if count (is_some notes.end) _ _ (λ ended. keeps_err count _ refl)
-    (λ unended. keeps_ok count _ (sound_with count notes (record { from = time; to = time + width }) s within (touches-apart (last_end notes.pulses) time apart)
-    (fits_width time width fits).0 (fits_width time width fits).1)))))
+    (λ unended. keeps_ok count _ (sound_high count notes (record { from = time; to = time + width }) s (both_false (is_some notes.pin) (touches (last_end notes.pulses) time) apart).0 within
+    (touches-apart (last_end notes.pulses) time (both_false (is_some notes.pin) (touches (last_end notes.pulses) time) apart).1) (fits_width time width fits).0 (fits_width time width fits).1)))))
+
+-- the pin
+fall-keeps : (count : ℕ) (notes : Notes) (waiting time : ℕ) → AreSound count notes → time ≤ latest_event → Keeps count (pin_falls notes waiting time)
+fall-keeps count notes waiting time s within =
+    keeps_if count (touches (last_end notes.pulses) time) _ _ (λ near. keeps_err count _ refl)
+    (λ apart. keeps_if count (nat_le most_pulls waiting) _ _ (λ full. keeps_err count _ refl)
+    (λ room. keeps_if count (is_some notes.end) _ _ (λ ended. keeps_err count _ refl)
+    (λ unended. keeps_ok count _ (fallen apart unended))))
+  where
+    fallen : touches (last_end notes.pulses) time ≡ false → is_some notes.end ≡ false → AreSound count (record notes { pin = Some time })
+    fallen apart unended = record {
+      schedule = s.schedule;
+      framed = s.framed;
+      order = s.order;
+      wide = s.wide;
+      early = s.early;
+      ended = s.ended;
+      held = λ from h. (let same : time ≡ from = cc in subst (MayFall notes.pulses) same (apart, within));
+      let_go = λ t h. (let clash = rw h at unended in cc);
+    }
+
+high-keeps : (count : ℕ) (notes : Notes) (time : ℕ) → AreSound count notes → Keeps count (pin_stays_high notes time)
+high-keeps count notes time s =
+    keeps_if count (is_before (last_end notes.pulses) time) _ _ (λ early. keeps_err count _ refl)
+    (λ late. keeps_if count (is_some notes.end) _ _ (λ ended. keeps_err count _ refl) (λ unended. keeps_ok count notes s))
+
+-- a pull of the pin, which ends by the latest time of a script or a microsecond after it began
+sound_risen : (count : ℕ) (notes : Notes) (from to : ℕ) → AreSound count notes → notes.pin ≡ Some from → from < to → to ≤ max latest_event (from + 1)
+    → AreSound count (record notes { pulses = notes.pulses ++ record { from = from; to = to } ∷ []; pin = None })
+sound_risen count notes from to s is some early =
+    let fell = s.held from is in
+    sound_with count notes (record { from = from; to = to }) s fell.1 (touches-apart (last_end notes.pulses) from fell.0) some (omega (arith, early))
+
+rise-keeps : (count : ℕ) (notes : Notes) (from time : ℕ) → AreSound count notes → notes.pin ≡ Some from → time ≤ latest_event → Keeps count (pin_rises notes from time)
+rise-keeps count notes from time s is within =
+    keeps_if count (nat_le time from) _ _ (λ early. keeps_err count _ refl)
+    (λ later. keeps_ok count _ (sound_risen count notes from time s is (grind (arith, nat_tests, later)) (omega (arith, within))))
+
+low-keeps : (count : ℕ) (notes : Notes) (from time : ℕ) → AreSound count notes → Keeps count (pin_stays_low notes from time)
+low-keeps count notes from time s = keeps_if count (nat_lt time from) _ _ (λ early. keeps_err count _ refl) (λ late. keeps_ok count notes s)
+
+level-keeps : (count : ℕ) (notes : Notes) (waiting time : ℕ) (pin : Option ℕ) (level : Bool) → AreSound count notes → notes.pin ≡ pin → time ≤ latest_event → Keeps count (notes_with_level notes waiting time pin level)
+level-keeps count notes waiting time None false s is within = fall-keeps count notes waiting time s within
+level-keeps count notes waiting time None true s is within = high-keeps count notes time s
+level-keeps count notes waiting time (Some from) false s is within = low-keeps count notes from time s
+level-keeps count notes waiting time (Some from) true s is within = rise-keeps count notes from time s is within
+
+pin_read-keeps : (count : ℕ) (notes : Notes) (waiting : ℕ) (time : Option ℕ) (level : Option Bool) → AreSound count notes → ((t : ℕ) → time ≡ Some t → t ≤ latest_event) → Keeps count (pin_read notes waiting time level)
+pin_read-keeps count notes waiting None level s limit = keeps_err count _ refl
+pin_read-keeps count notes waiting (Some time) None s limit = keeps_err count _ refl
+pin_read-keeps count notes waiting (Some time) (Some level) s limit = level-keeps count notes waiting time notes.pin level s refl (limit time refl)
+
+pin_words-keeps : (count : ℕ) (notes : Notes) (waiting many : ℕ) (words : Option (List ℕ × List ℕ)) → AreSound count notes → Keeps count (pin_words notes waiting many words)
+pin_words-keeps count notes waiting many None s = keeps_err count _ refl
+pin_words-keeps count notes waiting many (Some words) s = pin_read-keeps count notes waiting (time_of words.0) (level_of words.1) s (within_limit-limit (number_of words.0))
 
 pull_read-keeps : (count : ℕ) (notes : Notes) (waiting : ℕ) (time width : Option ℕ) → AreSound count notes → ((t : ℕ) → time ≡ Some t → t ≤ latest_event) → Keeps count (pull_read notes waiting time width)
 pull_read-keeps count notes waiting None width s limit = keeps_err count _ refl
@@ -394,20 +479,34 @@ ends_after count time (event ∷ events) s h =
     let after : last_time (event ∷ events) < time = grind (arith, nat_tests) in
     IsSchedule-later count (last_time (event ∷ events) + 1) time 0 (event ∷ events) (omega arith) s
 
+-- with its end, where the pin is high
+sound_ended : (count : ℕ) (notes : Notes) (pulses : List Stretch) (time : ℕ) → AreSound count (record notes { pulses = pulses; pin = None })
+    → (nat_lt 0 (length notes.events) && nat_le time (last_time notes.events)) ≡ false → time ≤ latest_event → AreSound count (record notes { pulses = pulses; end = Some time; pin = None })
+sound_ended count notes pulses time s after within = record {
+  schedule = s.schedule;
+  framed = s.framed;
+  order = s.order;
+  wide = s.wide;
+  early = s.early;
+  ended = λ t h. (let same : time ≡ t = cc in let Ends : ℕ → Type 0 = λ n. IsSchedule count n 0 notes.events × (n ≤ latest_event) in
+      subst Ends same (ends_after count time notes.events s.schedule after, within));
+  held = s.held;
+  let_go = λ t h. refl;
+}
+
 end_read-keeps : (count : ℕ) (notes : Notes) (time : Option ℕ) → AreSound count notes → ((t : ℕ) → time ≡ Some t → t ≤ latest_event) → Keeps count (end_read notes time)
 end_read-keeps count notes None s limit = keeps_err count _ refl
 end_read-keeps count notes (Some time) s limit =
     keeps_if count (is_some notes.end) _ _ (λ e. keeps_err count _ refl)
     (λ unended. keeps_if count (nat_lt 0 (length notes.events) && nat_le time (last_time notes.events)) _ _ (λ e. keeps_err count _ refl)
-    (λ after. keeps_ok count _ (record {
-      schedule = s.schedule;
-      framed = s.framed;
-      order = s.order;
-      wide = s.wide;
-      early = s.early;
-      ended = λ t h. (let same : time ≡ t = cc in let Ends : ℕ → Type 0 = λ n. IsSchedule count n 0 notes.events × (n ≤ latest_event) in
-          subst Ends same (ends_after count time notes.events s.schedule after, limit time refl));
-    })))
+    (λ after. keeps_ok count _ (sound_ended count notes (pulses_ended notes.pin notes.pulses time) time (high_again notes.pin refl) after (limit time refl))))
+  where
+    high_again : (pin : Option ℕ) → notes.pin ≡ pin → AreSound count (record notes { pulses = pulses_ended pin notes.pulses time; pin = None })
+    high_again None is = let With : Option ℕ → Type 0 = λ pin. AreSound count (record notes { pin = pin }) in subst With is s
+    high_again (Some from) is =
+        let within = limit time refl in
+        let fell = (s.held from is).1 in
+        sound_risen count notes from (max time (min from latest_event + 1)) s is (omega (arith, fell)) (omega (arith, fell, within))
 
 end_words-keeps : (count : ℕ) (notes : Notes) (many : ℕ) (words : Option (List ℕ)) → AreSound count notes → Keeps count (end_words notes many words)
 end_words-keeps count notes many None s = keeps_err count _ refl
@@ -417,7 +516,8 @@ other_words-keeps : (count : ℕ) (notes : Notes) (waiting : ℕ) (verb : List �
 other_words-keeps count notes waiting verb words s =
     keeps_if count (bytes_eq verb (codes "pulse")) _ _ (λ e. pulse_words-keeps count notes waiting (length words) (two_of words) s)
     (λ e. keeps_if count (bytes_eq verb (codes "pull")) _ _ (λ e. pull_words-keeps count notes waiting (length words) (two_of words) s)
-    (λ e. keeps_if count (bytes_eq verb (codes "end")) _ _ (λ e. end_words-keeps count notes (length words) (one_of words) s) (λ e. keeps_err count _ refl)))
+    (λ e. keeps_if count (bytes_eq verb (codes "pin")) _ _ (λ e. pin_words-keeps count notes waiting (length words) (two_of words) s)
+    (λ e. keeps_if count (bytes_eq verb (codes "end")) _ _ (λ e. end_words-keeps count notes (length words) (one_of words) s) (λ e. keeps_err count _ refl))))
 
 words-keep : (tree : List Node) (notes : Notes) (waiting line : ℕ) (words : List (List ℕ)) (next : Notes) → AreSound (length tree) notes → IsWordsRead tree notes waiting line words (Ok next) → AreSound (length tree) next
 words-keep tree notes waiting line [] next s h = cc
@@ -457,13 +557,13 @@ sound_script count notes line course s few h =
           subst Is same (record { schedule = r.0; framed = s.framed; timely = timely notes.pulses few s.order s.wide s.early; wide = s.wide; early = s.early; limit = r.1 }))
     ] refl h
 
-lines-sound : (tree : List Node) (texts : List (List ℕ)) (line : ℕ) (notes : Notes) (course : Course) → AreSound (length tree) notes → length notes.pulses ≤ most_pulls → AreLinesRead tree texts line notes (Ok course)
+lines-sound : (tree : List Node) (texts : List (List ℕ)) (line : ℕ) (notes : Notes) (course : Course) → AreSound (length tree) notes → AreFew notes → AreLinesRead tree texts line notes (Ok course)
     → IsScript (length tree) course
-lines-sound tree [] line notes course s few h = sound_script (length tree) notes line course s few h
+lines-sound tree [] line notes course s few h = sound_script (length tree) notes line course s (omega (arith, few)) h
 lines-sound tree (text ∷ texts) line notes course s few h = step h.0 h.1 h.2 (λ next n room. lines-sound tree texts (line + 1) next course n room)
   where
     step : (r : Result Notes LineFault) → IsLineRead tree notes (length notes.pulses) line text r → Onward line r (λ next. AreLinesRead tree texts (line + 1) next (Ok course)) (Ok course)
-        → ((next : Notes) → AreSound (length tree) next → length next.pulses ≤ most_pulls → AreLinesRead tree texts (line + 1) next (Ok course) → IsScript (length tree) course) → IsScript (length tree) course
+        → ((next : Notes) → AreSound (length tree) next → AreFew next → AreLinesRead tree texts (line + 1) next (Ok course) → IsScript (length tree) course) → IsScript (length tree) course
     step (Ok next) l k on = on next (line-keeps tree notes (length notes.pulses) line text next s l) (few_pulses tree notes line text next l few) k
     step (Err fault) l k on = cc
 

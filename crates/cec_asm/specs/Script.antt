@@ -1,12 +1,12 @@
--- Texts of scripts (own): lines `at T EVENT`, `pulse T WIDTH`, `pull T WIDTH`, and last `end T`. Of the causes that apply to a line
--- it has the first in the order of `ScriptCause`.
-use Rattle.std.specs.Prelude.{◌≡◌, ℕ, ◌+◌, ◌-◌, ◌<◌, ◌≤◌, ◌==◌, ◌&&◌, ◌||◌, Bool, true, false, cond, codes, length, min, List, [], ◌∷◌, ◌++◌, nat_lt, nat_le, slice_get, if◌then◌else◌, Option, Some, None, is_some, option_map, Result, Ok, Err, All}
+-- Texts of scripts (own): lines `at T EVENT`, `pulse T WIDTH`, `pull T WIDTH`, `pin T LEVEL`, and last `end T`. Of the causes that apply
+-- to a line it has the first in the order of `ScriptCause`.
+use Rattle.std.specs.Prelude.{◌≡◌, ℕ, ◌+◌, ◌-◌, ◌<◌, ◌≤◌, ◌==◌, ◌&&◌, ◌||◌, Bool, true, false, cond, codes, length, max, min, List, [], ◌∷◌, ◌++◌, nat_lt, nat_le, slice_get, if◌then◌else◌, Option, Some, None, is_some, option_map, Result, Ok, Err, All}
 use Rattle.std.specs.Str.{bytes_eq}
 use Rattle.std.specs.Option.{option_map_or}
 use Rattle.cec_wave.specs.declared.Stretch.{Stretch}
 use Rattle.cec_wave.specs.declared.PulsesError.{PulsesError}
 use Rattle.cec_wave.specs.declared.PulsesError.TheVariants as faults
-use Rattle.cec_wave.specs.Pulses.{stretch_fault}
+use Rattle.cec_wave.specs.Pulses.{first_of, stretch_fault}
 use Rattle.cec_wave.specs.Pulls.{AreTimely}
 use Rattle.cec_wave.specs.Bounds.{latest_event, most_pulses, most_pulls, widest_pull}
 use Rattle.cec_feature.specs.declared.keys.Key.{Key as KeyValue}
@@ -50,7 +50,7 @@ script_cause Close = codes "close"
 script_cause TooMany = codes "too-many"
 script_cause End = codes "end"
 
--- what a script says, without where it lies in memory; pulses and pulls are one list
+-- what a script says, without where it lies in memory; pulses, pulls and the pulls of the pin are one list
 pub record Course : Type 0 where
   pub events : List TimedEvent
   pub pulses : List Stretch
@@ -59,18 +59,19 @@ pub record Course : Type 0 where
 abbrev pub course_of : Script → Course
 course_of script = record { events = script.events.items; pulses = script.pulses.items; end = script.end }
 
--- what the lines so far say
+-- what the lines so far say, and the instant at which the pin went low and has not gone high, where it is low
 pub record Notes : Type 0 where
   pub events : List TimedEvent
   pub pulses : List Stretch
   pub end : Option ℕ
+  pub pin : Option ℕ
 
 abbrev pub notes_of : ScriptDraft → Notes
-notes_of draft = record { events = draft.events.items; pulses = draft.pulses.items; end = draft.end }
+notes_of draft = record { events = draft.events.items; pulses = draft.pulses.items; end = draft.end; pin = draft.pin }
 
 -- nothing yet
 abbrev pub no_notes : Notes
-no_notes = record { events = []; pulses = []; end = None }
+no_notes = record { events = []; pulses = []; end = None; pin = None }
 
 -- a time, at most 1,000,000,000,000 microseconds
 abbrev pub within_limit : Option ℕ → Option ℕ
@@ -180,7 +181,7 @@ IsEventRead tree notes line (time ∷ []) read = read ≡ Err (at_word 2 Word)
 IsEventRead tree notes line (time ∷ verb ∷ words) read =
     cond {A = Type 0} (bytes_eq verb (codes "send")) (IsSendRead tree notes line time words read) (read ≡ event_words tree notes line time verb words)
 
--- ---- pulses, pulls and the end
+-- ---- pulses, pulls, the pin and the end
 
 abbrev pub pulse_fault : PulsesError → LineFault
 pulse_fault faults.Width = at_word 2 Width
@@ -201,8 +202,13 @@ unless_fault None notes waiting pulse =
     else if is_some notes.end then Err (at_word 0 End)
     else Ok (record notes { pulses = notes.pulses ++ pulse ∷ [] })
 
+-- what is wrong with a pulse, if there is something: while the pin is low none may begin
+abbrev pub pulse_refusal : Option ℕ → Option ℕ → Stretch → Option PulsesError
+pulse_refusal None before pulse = stretch_fault before pulse
+pulse_refusal (Some from) before pulse = first_of (stretch_fault None pulse) (Some faults.Order)
+
 abbrev pub notes_with_pulse : Notes → ℕ → Stretch → Result Notes LineFault
-notes_with_pulse notes waiting pulse = unless_fault (stretch_fault (last_end notes.pulses) pulse) notes waiting pulse
+notes_with_pulse notes waiting pulse = unless_fault (pulse_refusal notes.pin (last_end notes.pulses) pulse) notes waiting pulse
 
 -- `pulse T WIDTH`; a width above 65,535 counts as 65,535
 abbrev pub pulse_read : Notes → ℕ → Option ℕ → Option ℕ → Result Notes LineFault
@@ -219,12 +225,12 @@ abbrev pub touches : Option ℕ → ℕ → Bool
 touches None time = false
 touches (Some end) time = nat_le time end
 
--- a pull after the others: 1 to 10,000,000 wide, neither over nor touching the last, one of at most 16,384 with the pulses and
--- pulls that wait, and no `end` stands above it
+-- a pull after the others: 1 to 10,000,000 wide, while the pin is high, neither over nor touching the last, one of at most 16,384 with
+-- the pulses and pulls that wait, and no `end` stands above it
 abbrev pub notes_with_pull : Notes → ℕ → ℕ → ℕ → Result Notes LineFault
 notes_with_pull notes waiting time width =
     if width == 0 || nat_lt widest_pull width then Err (at_word 2 Width)
-    else if touches (last_end notes.pulses) time then Err (at_word 1 Order)
+    else if is_some notes.pin || touches (last_end notes.pulses) time then Err (at_word 1 Order)
     else if nat_le most_pulls waiting then Err (at_word 0 TooMany)
     else if is_some notes.end then Err (at_word 0 End)
     else Ok (record notes { pulses = notes.pulses ++ record { from = time; to = time + width } ∷ [] })
@@ -239,13 +245,69 @@ abbrev pub pull_words : Notes → ℕ → ℕ → Option (List ℕ × List ℕ) 
 pull_words notes waiting count None = Err (misfit 1 count 2)
 pull_words notes waiting count (Some words) = pull_read notes waiting (time_of words.0) (number_of words.1)
 
+-- `0` is low, `1` is high
+abbrev pub level_of : List ℕ → Option Bool
+level_of word = if bytes_eq word (codes "0") then Some false else if bytes_eq word (codes "1") then Some true else None
+
+-- the pin goes low: its pull neither overlaps nor touches the last pulse or pull, is one of at most 16,384 with those that wait, and
+-- no `end` stands above it
+abbrev pub pin_falls : Notes → ℕ → ℕ → Result Notes LineFault
+pin_falls notes waiting time =
+    if touches (last_end notes.pulses) time then Err (at_word 1 Order)
+    else if nat_le most_pulls waiting then Err (at_word 0 TooMany)
+    else if is_some notes.end then Err (at_word 0 End)
+    else Ok (record notes { pin = Some time })
+
+-- whether an instant lies before the end of the last pulse or pull
+abbrev pub is_before : Option ℕ → ℕ → Bool
+is_before None time = false
+is_before (Some end) time = nat_lt time end
+
+-- the pin is high already: nothing changes
+abbrev pub pin_stays_high : Notes → ℕ → Result Notes LineFault
+pin_stays_high notes time =
+    if is_before (last_end notes.pulses) time then Err (at_word 1 Order)
+    else if is_some notes.end then Err (at_word 0 End)
+    else Ok notes
+
+-- the pin is low from an instant on: its pull is from there on until it goes high, however long that takes
+abbrev pub pin_rises : Notes → ℕ → ℕ → Result Notes LineFault
+pin_rises notes from time =
+    if nat_le time from then Err (at_word 1 Order)
+    else Ok (record notes { pulses = notes.pulses ++ record { from = from; to = time } ∷ []; pin = None })
+
+-- it is low already: nothing changes
+abbrev pub pin_stays_low : Notes → ℕ → ℕ → Result Notes LineFault
+pin_stays_low notes from time = if nat_lt time from then Err (at_word 1 Order) else Ok notes
+
+abbrev pub notes_with_level : Notes → ℕ → ℕ → Option ℕ → Bool → Result Notes LineFault
+notes_with_level notes waiting time None false = pin_falls notes waiting time
+notes_with_level notes waiting time None true = pin_stays_high notes time
+notes_with_level notes waiting time (Some from) false = pin_stays_low notes from time
+notes_with_level notes waiting time (Some from) true = pin_rises notes from time
+
+-- `pin T LEVEL`: a device's own pin as it changes level
+abbrev pub pin_read : Notes → ℕ → Option ℕ → Option Bool → Result Notes LineFault
+pin_read notes waiting None level = Err (at_word 1 Number)
+pin_read notes waiting (Some time) None = Err (at_word 2 Number)
+pin_read notes waiting (Some time) (Some level) = notes_with_level notes waiting time notes.pin level
+
+abbrev pub pin_words : Notes → ℕ → ℕ → Option (List ℕ × List ℕ) → Result Notes LineFault
+pin_words notes waiting count None = Err (misfit 1 count 2)
+pin_words notes waiting count (Some words) = pin_read notes waiting (time_of words.0) (level_of words.1)
+
+-- the end lets the pin go, a microsecond after it went low at the earliest; it went low at a time of a script
+abbrev pub pulses_ended : Option ℕ → List Stretch → ℕ → List Stretch
+pulses_ended None pulses time = pulses
+pulses_ended (Some from) pulses time = pulses ++ record { from = from; to = max time (min from latest_event + 1) } ∷ []
+
 -- `end T`: one alone, after every event
 abbrev pub end_read : Notes → Option ℕ → Result Notes LineFault
 end_read notes None = Err (at_word 1 Number)
 end_read notes (Some time) =
     if is_some notes.end then Err (at_word 0 End)
     else if nat_lt 0 (length notes.events) && nat_le time (last_time notes.events) then Err (at_word 1 End)
-    else Ok (record notes { end = Some time })
+    else Ok (record notes { pulses = pulses_ended notes.pin notes.pulses time; end = Some time; pin = None })
 
 abbrev pub end_words : Notes → ℕ → Option (List ℕ) → Result Notes LineFault
 end_words notes count None = Err (misfit 1 count 1)
@@ -258,6 +320,7 @@ abbrev pub other_words : Notes → ℕ → List ℕ → List (List ℕ) → Resu
 other_words notes waiting verb words =
     if bytes_eq verb (codes "pulse") then pulse_words notes waiting (length words) (two_of words)
     else if bytes_eq verb (codes "pull") then pull_words notes waiting (length words) (two_of words)
+    else if bytes_eq verb (codes "pin") then pin_words notes waiting (length words) (two_of words)
     else if bytes_eq verb (codes "end") then end_words notes (length words) (one_of words)
     else Err (at_word 0 Word)
 
@@ -338,9 +401,13 @@ abbrev pub AreFramedEvents : List TimedEvent → Type 0
 AreFramedEvents [] = Unit {0}
 AreFramedEvents (event ∷ events) = IsFramedEvent event.event × AreFramedEvents events
 
--- a pull has a greatest width
+-- a pull has a greatest width, but for the pin's: that ends by the latest time of a script
 abbrev pub IsNoWider : Stretch → Type 0
-IsNoWider pull = pull.to ≤ pull.from + widest_pull
+IsNoWider pull = pull.to ≤ max latest_event (pull.from + widest_pull)
+
+-- an instant from which on the pin may be low, after these pulses and pulls
+abbrev pub MayFall : List Stretch → ℕ → Type 0
+MayFall pulses from = (touches (last_end pulses) from ≡ false) × (from ≤ latest_event)
 
 -- a script for so many devices: its pulses and pulls are in order, and no two of them overlap or touch
 pub record IsScript (count : ℕ) (course : Course) : Type 0 where

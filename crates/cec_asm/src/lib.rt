@@ -7,6 +7,7 @@ mod fault;
 mod holding;
 mod keys;
 mod laws;
+mod pin;
 mod script;
 mod topology;
 

@@ -3,12 +3,13 @@ ghost use Rattle.std.specs.Prelude.{◌≡◌, ◌+◌, ◌<◌, ◌≤◌, leng
 ghost use Rattle.std.specs.Option.{option_copied};
 ghost use Rattle.cec_wave.specs.Bounds.{latest_event};
 ghost use Rattle.hdmi_core.specs.Words.{words_after, one_of, two_of, three_of};
-ghost use Rattle.cec_asm.specs.Script.{no_notes, notes_of, course_of, time_of, last_time, last_end, notes_with_event, plug_words, unplug_words, key_words, act_read, hold_words, drop_words, event_words, send_read, pulse_fault, notes_with_pulse, pulse_words, touches, notes_with_pull, pull_words, end_words, other_words, error_at, IsFrameOf, IsSendRead, IsEventRead, IsLineRead, GivesNotes, Gives, GivesScript, IsScript};
+ghost use Rattle.cec_asm.specs.Script.{no_notes, notes_of, course_of, time_of, last_time, last_end, notes_with_event, plug_words, unplug_words, key_words, act_read, hold_words, drop_words, event_words, send_read, pulse_fault, pulse_refusal, notes_with_pulse, pulse_words, touches, notes_with_pull, pull_words, end_words, other_words, error_at, IsFrameOf, IsSendRead, IsEventRead, IsLineRead, GivesNotes, Gives, GivesScript, IsScript};
 
 use crate::course::Script;
 use crate::fault::{LineFault, at_word, frame_word, misfit};
 use crate::holding::hold_in;
 use crate::keys::key_in;
+use crate::pin::{end_pull, take_pin};
 use crate::topology::Topology;
 use cec_device::Act;
 use cec_event::Event;
@@ -39,12 +40,12 @@ pub enum ScriptCause {
     Frame(AssembleError),
     /// A pulse that is not 1 to 10,000 microseconds wide, or a pull that is not 1 to 10,000,000.
     Width,
-    /// A time before that of the event above, a pulse that begins before the end of the pulse or pull above, or a pull that
-    /// does not begin after it.
+    /// A time before that of the event above, a pulse that begins before the end of the pulse or pull above, a pull that
+    /// does not begin after it, a pulse or pull while the pin is low, or a time of the pin before what it did last.
     Order,
     /// A pulse less than 25,000 microseconds after the end of the pulse or pull above.
     Close,
-    /// A pulse after 4,096 pulses and pulls that wait, or a pull after 16,384.
+    /// A pulse after 4,096 pulses and pulls that wait, or a pull, of the pin too, after 16,384.
     TooMany,
     /// No `end`, a line after it, or one that is not after every event.
     End,
@@ -112,12 +113,14 @@ pub struct TimedEvent {
     pub event: Event,
 }
 
-/// What the lines so far say. Pulses and pulls are one list.
+/// What the lines so far say. Pulses and pulls are one list, and the pin's pulls are in it once it goes high. Where the pin is
+/// low, `pin` is the instant from which on it is.
 #[derive(Drop)]
 pub struct ScriptDraft {
     pub events: Vec<TimedEvent>,
     pub pulses: Vec<Stretch>,
     pub end: Option<u64>,
+    pub pin: Option<u64>,
 }
 
 impl ScriptDraft {
@@ -129,11 +132,12 @@ impl ScriptDraft {
             events: Vec::new(alloc),
             pulses: Vec::new(alloc),
             end: None,
+            pin: None,
         }
     }
 }
 
-fn time_in(word: &[u8]) -> Option<u64>
+pub(crate) fn time_in(word: &[u8]) -> Option<u64>
     ensures { result ≡ time_of word.now }
 {
     let time = number_in(word)?;
@@ -154,7 +158,7 @@ fn last_time(events: &[TimedEvent]) -> u64
 }
 
 /// Where the last pulse or pull ends.
-fn last_end(pulses: &[Stretch]) -> Option<u64>
+pub(crate) fn last_end(pulses: &[Stretch]) -> Option<u64>
     ensures { result ≡ last_end pulses.now }
 {
     match pulses.last() {
@@ -411,11 +415,24 @@ fn pulse_fault(fault: PulsesError) -> LineFault
     }
 }
 
+/// Why a pulse is refused, after one that ends so; while the pin is low none may begin.
+fn pulse_refusal(pin: Option<u64>, before: Option<u64>, pulse: Stretch) -> Option<PulsesError>
+    ensures { result ≡ pulse_refusal pin before pulse }
+{
+    if pin.is_none() {
+        return stretch_fault(before, pulse);
+    }
+    match stretch_fault(None, pulse) {
+        Some(fault) => Some(fault),
+        None => Some(PulsesError::Order),
+    }
+}
+
 fn add_pulse(draft: &mut ScriptDraft, waiting: usize, pulse: Stretch) -> Result<(), ScriptLineError>
     ensures gives { GivesNotes (notes_of draft.new) result (notes_with_pulse (notes_of draft.old) waiting pulse) }
     ensures kept { OnErr result (notes_of draft.new ≡ notes_of draft.old) }
 {
-    if let Some(fault) = stretch_fault(last_end(&draft.pulses), pulse) {
+    if let Some(fault) = pulse_refusal(draft.pin, last_end(&draft.pulses), pulse) {
         return Err(ScriptLineError::Fault(pulse_fault(fault)));
     }
     if waiting >= MOST_PULSES {
@@ -451,7 +468,7 @@ fn take_pulse(
 }
 
 /// Whether a pull from an instant on would overlap or touch one that ends so.
-fn touches(end: Option<u64>, time: u64) -> bool
+pub(crate) fn touches(end: Option<u64>, time: u64) -> bool
     ensures { result ≡ touches end time }
 {
     match end {
@@ -473,7 +490,7 @@ fn add_pull(
     if width == 0 || width > WIDEST_PULL {
         return Err(ScriptLineError::Fault(at_word(2, ScriptCause::Width)));
     }
-    if touches(last_end(&draft.pulses), from) {
+    if draft.pin.is_some() || touches(last_end(&draft.pulses), from) {
         return Err(ScriptLineError::Fault(at_word(1, ScriptCause::Order)));
     }
     if waiting >= MOST_PULLS {
@@ -525,6 +542,10 @@ fn take_end(draft: &mut ScriptDraft, rest: Option<&[u8]>) -> Result<(), ScriptLi
     if !draft.events.is_empty() && time <= last_time(&draft.events) {
         return Err(ScriptLineError::Fault(at_word(1, ScriptCause::End)));
     }
+    if let Some(from) = draft.pin {
+        draft.pulses.push(end_pull(from, time))?;
+    }
+    draft.pin = None;
     draft.end = Some(time);
     Ok(())
 }
@@ -597,6 +618,8 @@ fn take_other(
         take_pulse(draft, waiting, rest)
     } else if verb == b"pull".as_slice() {
         take_pull(draft, waiting, rest)
+    } else if verb == b"pin".as_slice() {
+        take_pin(draft, waiting, rest)
     } else if verb == b"end".as_slice() {
         take_end(draft, rest)
     } else {
@@ -641,8 +664,8 @@ pub fn error_at(line: u64, error: ScriptLineError) -> ScriptError
     }
 }
 
-/// Reads a script for the devices of a topology: lines `at T EVENT`, `pulse T WIDTH`, `pull T WIDTH` and last `end T`, where EVENT is
-/// `plug CHILD PARENT PORT`, `unplug CHILD`, `press NAME KEY`, `release NAME KEY`, `send NAME FRAME`, `hold NAME ADDRS`
+/// Reads a script for the devices of a topology: lines `at T EVENT`, `pulse T WIDTH`, `pull T WIDTH`, `pin T LEVEL` and last
+/// `end T`, where EVENT is `plug CHILD PARENT PORT`, `unplug CHILD`, `press NAME KEY`, `release NAME KEY`, `send NAME FRAME`, `hold NAME ADDRS`
 /// or `drop NAME`; empty lines and lines that begin with `#` are skipped. Times are microseconds. Those of events do not go back and are before
 /// the end; pulses and pulls are in order, and none touches another. A device's number is below the count of devices, and no frame
 /// is empty.
@@ -656,11 +679,7 @@ pub fn parse_script(alloc: Global, topology: &Topology, text: &[u8]) -> Result<S
     ensures script { IfOk result (λ script. IsScript (length topology.now.tree) (course_of script)) }
 {
     let tree = &topology.tree;
-    let mut draft = ScriptDraft {
-        events: Vec::new(alloc),
-        pulses: Vec::new(alloc),
-        end: None,
-    };
+    let mut draft = ScriptDraft::new(alloc);
     let mut rest = text;
     let mut number = 1;
     while let Some((line, after)) = first_line(rest) {

@@ -1,4 +1,4 @@
--- The objects of a topology's lines, of pulses and of pulls (own).
+-- The objects of a topology's lines, of pulses, of pulls and of the pin (own).
 use Rattle.std.specs.Prelude.{ℕ, if◌then◌else◌, codes, List, [], ◌∷◌, ◌++◌}
 use Rattle.std.specs.Str.{bytes_eq}
 use Rattle.cec_json.specs.Columns.{fields}
@@ -17,6 +17,7 @@ head_of word =
     else if bytes_eq word (codes "edid") then heads.Edid
     else if bytes_eq word (codes "pulse") then heads.Pulse
     else if bytes_eq word (codes "pull") then heads.Pull
+    else if bytes_eq word (codes "pin") then heads.Pin
     else heads.Other
 
 -- a line, and what it says after its first word
@@ -43,12 +44,17 @@ pulse_body line = said_by (codes "pulse") ((codes "at", Number) ∷ (codes "widt
 abbrev pub pull_body : List ℕ → List ℕ
 pull_body line = said_by (codes "pull") ((codes "at", Number) ∷ (codes "width", Number) ∷ []) line
 
+-- `pin T LEVEL`
+abbrev pub pin_body : List ℕ → List ℕ
+pin_body line = said_by (codes "pin") ((codes "at", Number) ∷ (codes "level", Number) ∷ []) line
+
 abbrev pub body_of : Head → List ℕ → List ℕ
 body_of heads.Device line = device_body line
 body_of heads.Plug line = plug_body line
 body_of heads.Edid line = edid_body line
 body_of heads.Pulse line = pulse_body line
 body_of heads.Pull line = pull_body line
+body_of heads.Pin line = pin_body line
 body_of heads.Other line = []
 
 -- the object of a line, if it has one

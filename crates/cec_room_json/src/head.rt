@@ -1,9 +1,9 @@
-//! The objects of a topology's lines, of pulses and of pulls.
+//! The objects of a topology's lines, of pulses, of pulls and of the pin.
 ghost use Rattle.std.specs.Prelude.{◌≡◌, map};
 ghost use Rattle.std.specs.List.{flat_map};
 ghost use Rattle.cec_json.specs.Columns.{column_parts};
 ghost use Rattle.hdmi_core.specs.Adds.{Adds};
-ghost use Rattle.cec_room_json.specs.Head.{device_body, edid_body, head_of, head_text, plug_body, pulse_body, pull_body, said_by};
+ghost use Rattle.cec_room_json.specs.Head.{device_body, edid_body, head_of, head_text, pin_body, plug_body, pulse_body, pull_body, said_by};
 ghost use Rattle.hdmi_core.specs.Lines.{lines_of};
 
 use cec_json::{Column, Shape, add_fields, add_quoted, add_type, after_word, word};
@@ -17,6 +17,7 @@ pub enum Head {
     Edid,
     Pulse,
     Pull,
+    Pin,
     /// None of these.
     Other,
 }
@@ -71,6 +72,18 @@ const LOW: &[Column] = &[
     },
 ];
 
+/// After `pin`: microseconds, and 0 or 1.
+const LEVEL: &[Column] = &[
+    Column {
+        name: "at",
+        shape: Shape::Number,
+    },
+    Column {
+        name: "level",
+        shape: Shape::Number,
+    },
+];
+
 fn head_of(word: &[u8]) -> Head
     ensures { result ≡ head_of word.now }
 {
@@ -84,6 +97,8 @@ fn head_of(word: &[u8]) -> Head
         Head::Pulse
     } else if word == b"pull".as_slice() {
         Head::Pull
+    } else if word == b"pin".as_slice() {
+        Head::Pin
     } else {
         Head::Other
     }
@@ -130,6 +145,12 @@ fn add_pull<S: Sink>(out: &mut Counted<'_, S>, line: &[u8])
     add_said(out, "pull", LOW, line);
 }
 
+fn add_pin<S: Sink>(out: &mut Counted<'_, S>, line: &[u8])
+    ensures { Adds out.old out.new (pin_body line.now) }
+{
+    add_said(out, "pin", LEVEL, line);
+}
+
 // Adds the object of a line, if it has one.
 fn add_head<S: Sink>(out: &mut Counted<'_, S>, line: &[u8])
     ensures { Adds out.old out.new (head_text line.now) }
@@ -140,11 +161,12 @@ fn add_head<S: Sink>(out: &mut Counted<'_, S>, line: &[u8])
         Head::Edid => add_edid(out, line),
         Head::Pulse => add_pulse(out, line),
         Head::Pull => add_pull(out, line),
+        Head::Pin => add_pin(out, line),
         Head::Other => out.add(b""),
     }
 }
 
-/// Adds the objects of the devices, plugs, EDIDs, pulses and pulls among these lines.
+/// Adds the objects of the devices, plugs, EDIDs, pulses, pulls and levels of the pin among these lines.
 pub(crate) fn add_heads<S: Sink>(out: &mut Counted<'_, S>, text: &[u8])
     ensures { Adds out.old out.new (flat_map head_text (lines_of text.now)) }
 {

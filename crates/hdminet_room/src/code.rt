@@ -87,7 +87,8 @@ pub enum Code {
     ScriptName,
     /// A pulse is not 1 to 10,000 microseconds wide, or a pull not 1 to 10,000,000.
     ScriptWidth,
-    /// A time is before that of the event above, a pulse begins before the end of the pulse or pull above, or a pull not after it.
+    /// A time is before that of the event above, a pulse begins before the end of the pulse or pull above, a pull not after it, or
+    /// the pin goes back in time.
     ScriptOrder,
     /// A pulse is less than 25,000 microseconds after the end of the pulse or pull above.
     ScriptClose,

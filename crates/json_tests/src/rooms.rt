@@ -20,6 +20,7 @@ pulse 2000 100
 pull 2101 20000
 at 3000 send p1 4>0 set-osd-name \"a\"
 at 4000 plug p1 tv 2
+pin 30000 0
 end 5000
 ";
 
@@ -40,6 +41,7 @@ const OBJECTS: &str = "\
 {'line':'edid 00ff','type':'edid','edid':'00ff'}
 {'line':'pulse 2000 100','type':'pulse','at':2000,'width':100}
 {'line':'pull 2101 20000','type':'pull','at':2101,'width':20000}
+{'line':'pin 30000 0','type':'pin','at':30000,'level':0}
 {'line':'1000 event 1 ok','type':'event','at':1000,'script_line':1,'verdict':'ok','cause':null,'verb':'press','device':'p1','text':'press p1 play'}
 {'line':'3000 event 5 refused no-address','type':'event','at':3000,'script_line':5,'verdict':'refused','cause':'no-address','verb':'send','device':'p1','text':'send p1 4>0 set-osd-name \\'a\\''}
 {'line':'4000 event 6 ok','type':'event','at':4000,'script_line':6,'verdict':'ok','cause':null,'verb':'plug','device':'p1','text':'plug p1 tv 2'}

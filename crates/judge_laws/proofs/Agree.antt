@@ -1,11 +1,12 @@
 -- A run that ends earlier agrees with the whole one before then, and reports the states that a script speaks of.
-use Rattle.std.proofs.Common.{◌≡◌, ℕ, ◌≤◌, Bool, true, false, cond, List, [], ◌∷◌, ◌++◌, filter, length, nat_lt, nat_le, Result, Ok, refl, sym, ap, subst, ◌∙◌, arith, append-nil}
+use Rattle.std.proofs.Common.{◌≡◌, ℕ, ◌+◌, ◌≤◌, Bool, true, false, cond, List, [], ◌∷◌, ◌++◌, filter, length, max, min, nat_lt, nat_le, Option, Some, None, Result, Ok, refl, sym, ap, subst, ◌∙◌, arith, append-nil}
 use Rattle.std.proofs.lemmas.Bool.Decides.{nat_tests}
-use Rattle.std.proofs.lemmas.List.Elements.{All-nil, All-weaker, filter_passes}
+use Rattle.std.proofs.lemmas.List.Elements.{All-cons, All-nil, All-weaker, filter_passes}
+use Rattle.std.specs.List.{All}
 use Rattle.cec_wave.specs.declared.Stretch.{Stretch}
 use Rattle.cec_wave.specs.Bounds.{latest_event}
 use Rattle.cec_asm.specs.Topology.{Plan}
-use Rattle.cec_asm.specs.Script.{Course, IsSchedule, IsScriptRead, ScriptFault}
+use Rattle.cec_asm.specs.Script.{Course, IsSchedule, IsScriptRead, ScriptFault, pulses_ended}
 use Rattle.cec_asm.specs.declared.script.TimedEvent.{TimedEvent}
 use Rattle.cec_asm.proofs.OneReading.{one_script}
 use Rattle.cec_asm.proofs.Sound.{scripts_are_sound}
@@ -15,9 +16,9 @@ use Rattle.cec_run.proofs.Accepted.{one_plan}
 use Rattle.cec_certain.specs.Causal.{AgreeBefore}
 use Rattle.cec_certain.proofs.Causality.{traces_are_causal}
 use Rattle.cec_expect.specs.Line.{cut_script}
-use Rattle.cec_check.specs.Cuts.{cut_course, is_early}
+use Rattle.cec_check.specs.Cuts.{IsCut, is_early}
 use Rattle.cec_check.proofs.Cuts.{cuts_are_read}
-use Rattle.judge_laws.specs.States.{CutTracesAgree, IsStateLine, StatesAreOfRuns, device_of}
+use Rattle.judge_laws.specs.States.{agree_until, CutTracesAgree, IsStateLine, StatesAreOfRuns, device_of}
 use Rattle.judge_laws.proofs.States.{state_lines_are_read}
 
 -- at the time or later
@@ -74,6 +75,38 @@ parted_events time count end from (event ∷ events) s = by (nat_lt event.at tim
         ∙ ap (λ b. cond b (event ∷ filter (is_late time) events) (filter (is_late time) events)) (late event.at time on)
         ∙ ap (λ es. event ∷ es) rest.1)
 
+-- those before an instant are among those before a later one
+early_twice : (until time : ℕ) (events : List TimedEvent) → until ≤ time → filter (is_early until) (filter (is_early time) events) ≡ filter (is_early until) events
+early_twice until time [] h = refl
+early_twice until time (event ∷ events) h = by (nat_lt event.at time) refl (early_twice until time events h)
+  where
+    sooner : nat_lt event.at time ≡ false → nat_lt event.at until ≡ false
+    sooner e = (let on : time ≤ event.at = from_there event.at time e in let x : until ≤ event.at = omega (arith, on, h) in no_early event.at until x)
+
+    by : (b : Bool) → nat_lt event.at time ≡ b → filter (is_early until) (filter (is_early time) events) ≡ filter (is_early until) events
+        → filter (is_early until) (cond b (event ∷ filter (is_early time) events) (filter (is_early time) events)) ≡ cond (nat_lt event.at until) (event ∷ filter (is_early until) events) (filter (is_early until) events)
+    by true e again = ap (λ es. cond (nat_lt event.at until) (event ∷ es) es) again
+    by false e again = again ∙ sym (ap (λ b. cond b (event ∷ filter (is_early until) events) (filter (is_early until) events)) (sooner e))
+
+-- the pull of a pin that only the end lets go
+last_pull : Option ℕ → ℕ → List Stretch
+last_pull None end = []
+last_pull (Some from) end = record { from = from; to = max end (min from latest_event + 1) } ∷ []
+
+with_last : (pin : Option ℕ) (pulses : List Stretch) (end : ℕ) → pulses_ended pin pulses end ≡ pulses ++ last_pull pin end
+unfolding last_pull
+with_last None pulses end = sym (append-nil pulses)
+with_last (Some from) pulses end = refl
+
+begins_there : (pin : Option ℕ) (time end : ℕ) → All (λ (p : Stretch). agree_until time pin ≤ p.from) (last_pull pin end)
+unfolding last_pull
+begins_there None time end = All-nil (λ (p : Stretch). time ≤ p.from)
+begins_there (Some from) time end = All-cons (λ (p : Stretch). min time from ≤ p.from) (record { from = from; to = max end (min from latest_event + 1) }) [] (omega arith) (All-nil (λ (p : Stretch). min time from ≤ p.from))
+
+until_low : (time : ℕ) (pin : Option ℕ) → agree_until time pin ≤ time
+until_low time None = omega arith
+until_low time (Some from) = omega arith
+
 same_course : (a b : Course) → ◌≡◌ {A = Result Course ScriptFault} (Ok a) (Ok b) → a ≡ b
 same_course a b e = cc
 
@@ -82,11 +115,12 @@ same_plan : (topology script other x y : List ℕ) (s t : Totals) → (p : IsTra
 same_plan topology script other x y s t p q = one_plan topology p.plan q.plan p.accepted.plan_is q.accepted.plan_is
 
 cut_is : (topology script x y : List ℕ) (s t : Totals) (time : ℕ) → time ≤ latest_event → (p : IsTraceOf topology script x s) → (q : IsTraceOf topology (cut_script time script) y t)
-    → q.course ≡ cut_course time p.course
+    → IsCut time p.course q.course
 cut_is topology script x y s t time low p q =
-    let read = cuts_are_read p.plan.tree time script p.course low p.accepted.course_is in
+    let cut = cuts_are_read p.plan.tree time script p.course low p.accepted.course_is in
     let other = subst (λ (l : Plan). IsScriptRead l.tree (cut_script time script) (Ok q.course)) (same_plan topology script (cut_script time script) x y s t p q) q.accepted.course_is in
-    same_course q.course (cut_course time p.course) (one_script p.plan.tree (cut_script time script) (cut_course time p.course) (Ok q.course) read other)
+    let same : q.course ≡ cut.0 = same_course q.course cut.0 (one_script p.plan.tree (cut_script time script) cut.0 (Ok q.course) cut.2 other) in
+    subst (λ (c : Course). IsCut time p.course c) (sym same) cut.1
 
 pub states_are_of_runs : StatesAreOfRuns
 states_are_of_runs topology plain text totals time device state low p s = record {
@@ -96,34 +130,45 @@ states_are_of_runs topology plain text totals time device state low p s = record
       (state_lines_are_read topology (cut_script time plain) s.trace s.totals s.run device);
 }
 
+-- at an instant or later
+late_ones : (until : ℕ) (events : List TimedEvent) → All (λ (e : TimedEvent). until ≤ e.at) (filter (is_late until) events)
+late_ones until events =
+    All-weaker (λ (e : TimedEvent). is_late until e ≡ true) (λ (e : TimedEvent). until ≤ e.at) (λ e l. late_there e.at until l) (filter (is_late until) events) (filter_passes (is_late until) events)
+
 pub cut_traces_agree : CutTracesAgree
 cut_traces_agree topology script x y s t time low p within q =
-    let course = cut_is topology script x y s t time low p q in
+    let cut = cut_is topology script x y s t time low p q in
+    let until = agree_until time cut.pin in
+    let soon = until_low time cut.pin in
     let sound = scripts_are_sound p.plan.tree script p.course p.accepted.course_is in
-    let agree : AgreeBefore time p.course q.course = record {
-      events = filter (is_early time) p.course.events;
-      pulses = p.course.pulses;
+    let also = scripts_are_sound q.plan.tree (cut_script time script) q.course q.accepted.course_is in
+    let early : q.course.events ≡ filter (is_early time) p.course.events = ap (λ (c : Course). c.events) cut.cut_is in
+    let front : filter (is_early until) q.course.events ≡ filter (is_early until) p.course.events = ap (filter (is_early until)) early ∙ early_twice until time p.course.events soon in
+    let agree : AgreeBefore until p.course q.course = record {
+      events = filter (is_early until) p.course.events;
+      pulses = cut.pulses;
       first = record {
-        more = filter (is_late time) p.course.events;
-        later = [];
-        events_are = parted_events time (length p.plan.tree) p.course.end 0 p.course.events sound.schedule;
-        pulses_are = sym (append-nil p.course.pulses);
+        more = filter (is_late until) p.course.events;
+        later = last_pull cut.pin p.course.end;
+        events_are = parted_events until (length p.plan.tree) p.course.end 0 p.course.events sound.schedule;
+        pulses_are = cut.whole ∙ with_last cut.pin cut.pulses p.course.end;
         comes = record {
-          scheduled = All-weaker (λ (e : TimedEvent). is_late time e ≡ true) (λ (e : TimedEvent). time ≤ e.at) (λ e l. late_there e.at time l) (filter (is_late time) p.course.events) (filter_passes (is_late time) p.course.events);
-          begun = All-nil (λ (p : Stretch). time ≤ p.from);
-          over = within;
+          scheduled = late_ones until p.course.events;
+          begun = begins_there cut.pin time p.course.end;
+          over = omega (arith, within, soon);
         };
       };
       second = record {
-        more = [];
-        later = [];
-        events_are = ap (λ (c : Course). c.events) course ∙ sym (append-nil (filter (is_early time) p.course.events));
-        pulses_are = ap (λ (c : Course). c.pulses) course ∙ sym (append-nil p.course.pulses);
+        more = filter (is_late until) q.course.events;
+        later = last_pull cut.pin time;
+        events_are = parted_events until (length q.plan.tree) q.course.end 0 q.course.events also.schedule ∙ ap (λ es. es ++ filter (is_late until) q.course.events) front;
+        pulses_are = ap (λ (c : Course). c.pulses) cut.cut_is ∙ with_last cut.pin cut.pulses time;
         comes = record {
-          scheduled = All-nil (λ (e : TimedEvent). time ≤ e.at);
-          begun = All-nil (λ (p : Stretch). time ≤ p.from);
-          over = subst (λ n. time ≤ n) (sym (ap (λ (c : Course). c.end) course)) (omega arith);
+          scheduled = late_ones until q.course.events;
+          begun = begins_there cut.pin time time;
+          over = subst (λ n. until ≤ n) (sym (ap (λ (c : Course). c.end) cut.cut_is)) soon;
         };
       };
     } in
-    traces_are_causal topology script (cut_script time script) x y s t time p q agree
+    let causal = traces_are_causal topology script (cut_script time script) x y s t until p q agree in
+    (cut, causal.0, causal.1, causal.2, causal.3, causal.4)

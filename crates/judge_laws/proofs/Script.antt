@@ -7,7 +7,6 @@ use Rattle.std.proofs.lemmas.List.Splits.{length-slice_split}
 use Rattle.std.proofs.lemmas.List.Sums.{count_by-le-length}
 use Rattle.cec_wave.specs.declared.Stretch.{Stretch}
 use Rattle.cec_wave.specs.declared.PulsesError.{PulsesError}
-use Rattle.cec_wave.specs.Pulses.{stretch_fault}
 use Rattle.hdmi_topo.specs.Node.{Node}
 use Rattle.hdmi_topo.specs.Tree.{device_named}
 use Rattle.cec_feature.specs.declared.keys.Key.{Key as KeyValue}
@@ -25,7 +24,7 @@ use Rattle.cec_asm.specs.Fault.{at_word}
 use Rattle.cec_asm.specs.declared.fault.LineFault.{LineFault}
 use Rattle.cec_asm.specs.declared.script.ScriptCause.TheVariants as causes
 use Rattle.cec_asm.specs.declared.script.TimedEvent.{TimedEvent}
-use Rattle.cec_asm.specs.Script.{AreLinesRead, Course, IsEventRead, IsLineRead, IsScriptRead, IsSendRead, IsWordsRead, Notes, Onward, end_read, end_words, course_at_end, event_words, key_read, key_words, act_read, hold_words, drop_words, last_end, last_time, no_notes, other_words, plug_read, plug_words, pulse_read, pulse_words, pull_read, pull_words, touches, notes_with_event, send_read, time_of, unless_fault, unplug_read, unplug_words}
+use Rattle.cec_asm.specs.Script.{AreLinesRead, Course, IsEventRead, IsLineRead, IsScriptRead, IsSendRead, IsWordsRead, Notes, Onward, end_read, end_words, course_at_end, event_words, key_read, key_words, act_read, hold_words, drop_words, last_end, last_time, no_notes, other_words, plug_read, plug_words, pulse_read, pulse_words, pull_read, pull_words, pulse_refusal, touches, is_before, level_of, notes_with_level, pin_read, pin_words, pulses_ended, notes_with_event, send_read, time_of, unless_fault, unplug_read, unplug_words}
 use Rattle.cec_wave.specs.Bounds.{most_pulses, most_pulls, widest_pull}
 
 -- no event stands below this line
@@ -152,7 +151,7 @@ fits_pulse notes line None width h = tt
 fits_pulse notes line (Some time) None h = tt
 fits_pulse notes line (Some time) (Some width) h =
     let pulse : Stretch = record { from = time; to = time + min width 65535 } in
-    fits_pulsed (stretch_fault (last_end notes.pulses) pulse) notes line pulse h
+    fits_pulsed (pulse_refusal notes.pin (last_end notes.pulses) pulse) notes line pulse h
 
 fits_pulse_words : (notes : Notes) (line : ℕ) (many : ℕ) (words : Option (List ℕ × List ℕ)) → AreBy line notes.events → Fits line (pulse_words notes (length notes.pulses) many words)
 unfolding Fits
@@ -165,7 +164,7 @@ fits_pull notes line None width h = tt
 fits_pull notes line (Some time) None h = tt
 fits_pull notes line (Some time) (Some width) h =
     fits_if line (width == 0 || nat_lt widest_pull width) (Err (at_word 2 causes.Width)) _ tt
-    (fits_if line (touches (last_end notes.pulses) time) (Err (at_word 1 causes.Order)) _ tt
+    (fits_if line (is_some notes.pin || touches (last_end notes.pulses) time) (Err (at_word 1 causes.Order)) _ tt
     (fits_if line (nat_le most_pulls (length notes.pulses)) (Err (at_word 0 causes.TooMany)) _ tt
     (fits_if line (is_some notes.end) (Err (at_word 0 causes.End)) (Ok (record notes { pulses = notes.pulses ++ record { from = time; to = time + width } ∷ [] })) tt h)))
 
@@ -174,12 +173,36 @@ unfolding Fits
 fits_pull_words notes line many None h = tt
 fits_pull_words notes line many (Some words) h = fits_pull notes line (time_of words.0) (number_of words.1) h
 
+-- a level of the pin says nothing of events
+fits_level : (notes : Notes) (line time : ℕ) (pin : Option ℕ) (level : Bool) → AreBy line notes.events → Fits line (notes_with_level notes (length notes.pulses) time pin level)
+unfolding Fits
+fits_level notes line time None false h =
+    fits_if line (touches (last_end notes.pulses) time) (Err (at_word 1 causes.Order)) _ tt
+    (fits_if line (nat_le most_pulls (length notes.pulses)) (Err (at_word 0 causes.TooMany)) _ tt
+    (fits_if line (is_some notes.end) (Err (at_word 0 causes.End)) (Ok (record notes { pin = Some time })) tt h))
+fits_level notes line time None true h =
+    fits_if line (is_before (last_end notes.pulses) time) (Err (at_word 1 causes.Order)) _ tt (fits_if line (is_some notes.end) (Err (at_word 0 causes.End)) (Ok notes) tt h)
+fits_level notes line time (Some from) false h = fits_if line (nat_lt time from) (Err (at_word 1 causes.Order)) (Ok notes) tt h
+fits_level notes line time (Some from) true h =
+    fits_if line (nat_le time from) (Err (at_word 1 causes.Order)) (Ok (record notes { pulses = notes.pulses ++ record { from = from; to = time } ∷ []; pin = None })) tt h
+
+fits_pin : (notes : Notes) (line : ℕ) (time : Option ℕ) (level : Option Bool) → AreBy line notes.events → Fits line (pin_read notes (length notes.pulses) time level)
+unfolding Fits
+fits_pin notes line None level h = tt
+fits_pin notes line (Some time) None h = tt
+fits_pin notes line (Some time) (Some level) h = fits_level notes line time notes.pin level h
+
+fits_pin_words : (notes : Notes) (line : ℕ) (many : ℕ) (words : Option (List ℕ × List ℕ)) → AreBy line notes.events → Fits line (pin_words notes (length notes.pulses) many words)
+unfolding Fits
+fits_pin_words notes line many None h = tt
+fits_pin_words notes line many (Some words) h = fits_pin notes line (time_of words.0) (level_of words.1) h
+
 fits_end : (notes : Notes) (line : ℕ) (time : Option ℕ) → AreBy line notes.events → Fits line (end_read notes time)
 unfolding Fits
 fits_end notes line None h = tt
 fits_end notes line (Some time) h =
     fits_if line (is_some notes.end) (Err (at_word 0 causes.End)) _ tt
-    (fits_if line (nat_lt 0 (length notes.events) && nat_le time (last_time notes.events)) (Err (at_word 1 causes.End)) (Ok (record notes { end = Some time })) tt h)
+    (fits_if line (nat_lt 0 (length notes.events) && nat_le time (last_time notes.events)) (Err (at_word 1 causes.End)) (Ok (record notes { pulses = pulses_ended notes.pin notes.pulses time; end = Some time; pin = None })) tt h)
 
 fits_end_words : (notes : Notes) (line : ℕ) (many : ℕ) (words : Option (List ℕ)) → AreBy line notes.events → Fits line (end_words notes many words)
 unfolding Fits
@@ -191,7 +214,8 @@ unfolding Fits
 fits_other notes line verb words h =
     fits_if line (bytes_eq verb (codes "pulse")) (pulse_words notes (length notes.pulses) (length words) (two_of words)) _ (fits_pulse_words notes line (length words) (two_of words) h)
     (fits_if line (bytes_eq verb (codes "pull")) (pull_words notes (length notes.pulses) (length words) (two_of words)) _ (fits_pull_words notes line (length words) (two_of words) h)
-    (fits_if line (bytes_eq verb (codes "end")) (end_words notes (length words) (one_of words)) (Err (at_word 0 causes.Word)) (fits_end_words notes line (length words) (one_of words) h) tt))
+    (fits_if line (bytes_eq verb (codes "pin")) (pin_words notes (length notes.pulses) (length words) (two_of words)) _ (fits_pin_words notes line (length words) (two_of words) h)
+    (fits_if line (bytes_eq verb (codes "end")) (end_words notes (length words) (one_of words)) (Err (at_word 0 causes.Word)) (fits_end_words notes line (length words) (one_of words) h) tt)))
 
 -- ---- a line, and all lines
 

@@ -1,5 +1,5 @@
 -- The states that a script speaks of are those of its run, cut at their time (own).
-use Rattle.std.specs.Prelude.{◌≡◌, ℕ, ◌≤◌, codes, List, [], ◌++◌, filter, Option, Some, None}
+use Rattle.std.specs.Prelude.{◌≡◌, ℕ, ◌≤◌, codes, List, [], ◌++◌, filter, min, Option, Some, None}
 use Rattle.std.specs.List.{find}
 use Rattle.std.specs.Str.{bytes_eq}
 use Rattle.cec_wave.specs.Bounds.{latest_event}
@@ -14,7 +14,7 @@ use Rattle.cec_certain.specs.Certain.{AllBefore}
 use Rattle.cec_certain.specs.Causal.{BeginsWith, before_reported}
 use Rattle.cec_expect.specs.Line.{cut_script}
 use Rattle.cec_judge.specs.Told.{state_line as line_read}
-use Rattle.cec_check.specs.Cuts.{cut_course, is_early}
+use Rattle.cec_check.specs.Cuts.{IsCut, is_early}
 use Rattle.cec_check.specs.States.{IsStateAt}
 
 -- ---- the state lines of a trace
@@ -37,19 +37,25 @@ StateLinesAreRead = (topology script text : List ℕ) (totals : Totals) → (p :
 -- ---- runs that end earlier
 
 -- The state that a script speaks of, of a device at a time, is told by a run of the same topology: of the script's events before
--- the time and all its pulses, which ends at the time. It is the device's state at the end of that run.
+-- the time and all its pulses and pulls, which ends at the time. It is the device's state at the end of that run.
 pub record IsStateOfRun (topology plain text : List ℕ) (totals : Totals) (time : ℕ) (device state : List ℕ) (p : IsTraceOf topology plain text totals) (s : IsStateAt topology plain time device state) : Type 0 where
   pub plan_is : s.run.plan ≡ p.plan
-  pub course_is : s.run.course ≡ cut_course time p.course
+  pub course_is : IsCut time p.course s.run.course
   pub line : IsStateLine (device_of device s.run.trace.run.last.net.devices) state
 
 abbrev pub StatesAreOfRuns : Type 0
 StatesAreOfRuns = (topology plain text : List ℕ) (totals : Totals) (time : ℕ) (device state : List ℕ) → time ≤ latest_event
     → (p : IsTraceOf topology plain text totals) → (s : IsStateAt topology plain time device state) → IsStateOfRun topology plain text totals time device state p s
 
--- That run is the whole one up to the time: both traces begin with the text of all turns that are over before then.
+-- up to when that run is the whole one: up to the time, but a pin that only the end lets go may have gone low before
+abbrev pub agree_until : ℕ → Option ℕ → ℕ
+agree_until time None = time
+agree_until time (Some from) = min time from
+
+-- Both traces begin with the text of all turns that are over before then.
 abbrev pub CutTracesAgree : Type 0
 CutTracesAgree = (topology script x y : List ℕ) (s t : Totals) (time : ℕ) → time ≤ latest_event → (p : IsTraceOf topology script x s) → time ≤ p.course.end
-    → IsTraceOf topology (cut_script time script) y t
-    → (body : List ℕ) × (last : Config) × AllBefore (Trace p.edid) time (start (first_net p.plan.tree p.course.pulses) (filter (is_early time) p.course.events)) body last
-    × BeginsWith (before_reported (Trace p.edid) p.plan.tree p.course.pulses body) x × BeginsWith (before_reported (Trace p.edid) p.plan.tree p.course.pulses body) y
+    → (q : IsTraceOf topology (cut_script time script) y t)
+    → (c : IsCut time p.course q.course) × (body : List ℕ) × (last : Config)
+    × AllBefore (Trace p.edid) (agree_until time c.pin) (start (first_net p.plan.tree c.pulses) (filter (is_early (agree_until time c.pin)) p.course.events)) body last
+    × BeginsWith (before_reported (Trace p.edid) p.plan.tree c.pulses body) x × BeginsWith (before_reported (Trace p.edid) p.plan.tree c.pulses body) y

@@ -1,4 +1,4 @@
-//! Rooms in which anything is pulled from outside: frames laid bit by bit, with faults, among those of the devices. Each trace was
+//! Rooms in which anything is pulled from outside, by pulls and by a pin: frames laid bit by bit, with faults, among those of the devices. Each trace was
 //! worked out by hand from the standard's times.
 use cec_run::emulate::emulate;
 use hdmi_core::Writes;
@@ -296,7 +296,76 @@ pull 1005200 20
 pull 1006900 1500
 end 1060000
 =>
-1000000 1005200 short - by - out -";
+1000000 1005200 short - by - out -
+--
+a pin that nobody lets go holds the line until the end: an event that waits for the line does not come
+pin 1200000 0
+at 1500000 send p1 4>0 image-view-on
+end 3000000
+=>
+1200000 1203901 bad-start - by - out -
+--
+a pin may be low for longer than a pull
+pin 1200000 0
+pin 31200000 1
+at 31500000 send p1 4>0 image-view-on
+end 32000000
+=>
+1200000 1203901 bad-start - by - out -
+31500000 event 3 ok
+31500000 31551150 complete 4>0 image-view-on ack by p1 out -
+--
+a pin that goes low and high while another one is low makes no edge
+at 1000000 send p1 4>0 image-view-on
+pin 1000100 0
+pin 1003000 1
+end 3000000
+=>
+1000000 event 1 ok
+1000000 1051150 complete 4>0 image-view-on ack by p1 out -
+--
+chatter of a pin, and levels that it has already
+pin 1000000 0
+pin 1000050 1
+pin 1000050 1
+pin 1000100 0
+pin 1000120 0
+pin 1000150 1
+at 1000020 send p1 4>0 image-view-on
+end 3000000
+=>
+1000000 1000050 bad-start - by - out -
+1000050 event 7 ok
+1000100 1000150 bad-start - by - out -
+1016950 1068100 complete 4>0 image-view-on ack by p1 out -
+--
+the edges of a capture, as levels of the pin: a poll of 4, which the player holds
+pin 0 1
+pin 1000000 0
+pin 1003700 1
+pin 1004500 0
+pin 1006000 1
+pin 1006900 0
+pin 1007500 1
+pin 1009300 0
+pin 1010800 1
+pin 1011700 0
+pin 1013200 1
+pin 1014100 0
+pin 1015600 1
+pin 1016500 0
+pin 1017100 1
+pin 1018900 0
+pin 1020400 1
+pin 1021300 0
+pin 1022800 1
+pin 1023700 0
+pin 1024300 1
+pin 1026100 0
+pin 1026700 1
+end 3000000
+=>
+1000000 1027150 complete 4>4 ack by - out -";
 
 /// How long a bit is low.
 fn low_of(bit: u8) -> u64 {

@@ -70,6 +70,10 @@ pull => line 1: word
 pull 5 => line 1: word
 pull 5 6 7 => line 1: word
 pull x y z => line 1: word
+pin => line 1: word
+pin 5 => line 1: word
+pin 5 0 1 => line 1: word
+pin x y z => line 1: word
 end => line 1: word
 end 5 6 => line 1: word
 at x press p2 port x => line 1: number
@@ -83,6 +87,13 @@ pulse 1000000000001 0 => line 1: number
 pull 05 0 => line 1: number
 pull 5 0x64 => line 1: number
 pull 1000000000001 0 => line 1: number
+pin x 2 => line 1: number
+pin 05 0 => line 1: number
+pin 1000000000001 0 => line 1: number
+pin 5 2 => line 1: number
+pin 5 01 => line 1: number
+pin 5 low => line 1: number
+pin 5  => line 1: number
 end 1000000000001 => line 1: number
 at 5 press p2 port 1 => line 1: name
 at 5 release P1 play => line 1: name
@@ -174,6 +185,52 @@ pulse 100000 400 => line 2: end
 --
 end 10
 pull 100000 400 => line 2: end
+--
+pin 10 0
+pin 10 1 => line 2: order
+--
+pin 10 0
+pin 9 0 => line 2: order
+--
+pin 10 0
+pin 11 1
+pin 11 0 => line 3: order
+--
+pull 100000 400
+pin 100399 1 => line 2: order
+--
+pull 100000 400
+pin 100400 0 => line 2: order
+--
+pin 10 0
+pulse 100000 400 => line 2: order
+--
+pin 10 0
+pulse 5 10001 => line 2: width
+--
+pin 10 0
+pull 100000 400 => line 2: order
+--
+pin 10 0
+pull 5 0 => line 2: width
+--
+end 10
+pin 20 0 => line 2: end
+--
+end 10
+pin 20 1 => line 2: end
+--
+pin 10 0
+end 20
+pin 30 1 => line 3: end
+--
+pin 10 0
+end 20
+pin 20 0 => line 3: order
+--
+pull 5 10
+end 10
+pin 14 1 => line 3: order
 --
 at 10 press p1 play
 end 10 => line 2: end
@@ -517,6 +574,42 @@ fn makes_the_pulls_of_a_run(rt: HostRuntime) {
     assert!(rt; hands_on_pulls(rt.alloc()));
 }
 
+// A pin that is low for longer than a pull may be, levels that it has already, and one that only the end lets go.
+const PINS: &str =
+    "pin 0 1\npin 100 0\npin 100 0\npin 20000000 0\npin 30000000 1\npin 30000000 1\npin 30000001 0\nend 30000005\n";
+
+// A pin that goes low when its script ends, and at the latest time, is low for a microsecond.
+const LAST_PIN: &str = "pin 1000000000000 0\nend 1000000000000\n";
+
+fn hands_on_pins(alloc: Global) -> bool {
+    match read(alloc, PINS) {
+        Ok(script) => match script.pulses.as_slice() {
+            [first, last] => {
+                (first.from, first.to) == (100, 30_000_000)
+                    && (last.from, last.to) == (30_000_001, 30_000_005)
+            }
+            _ => false,
+        },
+        Err(_) => false,
+    }
+}
+
+fn hands_on_the_last_pin(alloc: Global) -> bool {
+    match read(alloc, LAST_PIN) {
+        Ok(script) => match script.pulses.as_slice() {
+            [only] => (only.from, only.to) == (1_000_000_000_000, 1_000_000_000_001),
+            _ => false,
+        },
+        Err(_) => false,
+    }
+}
+
+#[test]
+fn makes_pulls_of_a_pin(rt: HostRuntime) {
+    assert!(rt; hands_on_pins(rt.alloc()));
+    assert!(rt; hands_on_the_last_pin(rt.alloc()));
+}
+
 // So many pulls of a microsecond with a microsecond between, and what follows them.
 fn dense_script(alloc: Global, count: u64, after: &str) -> Option<String> {
     let mut text = String::new(alloc);
@@ -541,6 +634,16 @@ fn reads_the_most_pulls(rt: HostRuntime) {
         &rt,
         refuses(alloc, more, "line 16385: too-many"),
         "one pull more",
+    );
+    let pin = dense_script(
+        alloc,
+        16_383,
+        "pin 32766 0\npin 32767 1\npin 32768 0\nend 20\n",
+    );
+    case_holds(
+        &rt,
+        refuses(alloc, pin, "line 16386: too-many"),
+        "a pin that goes low once more",
     );
     let pulse = dense_script(alloc, 4_096, "pulse 33191 1\nend 20\n");
     case_holds(

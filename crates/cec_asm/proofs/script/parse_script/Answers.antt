@@ -27,7 +27,8 @@ loop-line-preserved c =
 pub invariant_of-result : goal.invariant_of-result
 invariant_of-result c =
     let sound = c.loop-line.invariant.sound in
-    record { timely = tested (notes_of c.loop-line.draft).pulses c.loop-line.invariant.few sound.order sound.wide sound.early }
+    let few = c.loop-line.invariant.few in
+    record { timely = tested (notes_of c.loop-line.draft).pulses (omega (arith, few)) sound.order sound.wide sound.early }
 
 pub returns-clause-script : goal.returns-clause-script
 returns-clause-script c =

@@ -1,7 +1,7 @@
 use Rattle.std.proofs.Common.{◌+◌, ◌≤◌, length, Result}
-use Rattle.cec_wave.specs.Bounds.{most_pulls}
 use Rattle.hdmi_core.specs.Lines.{lines_of}
 use Rattle.cec_asm.specs.Script.{Course, ScriptFault, AreLinesRead, IsScriptRead, notes_of}
+use Rattle.cec_asm.proofs.Adding.{AreFew}
 use Rattle.cec_asm.proofs.Sound.{AreSound}
 use Rattle.cec_asm.proofs.script.parse_script.Given as goal
 
@@ -10,7 +10,7 @@ abbrev pub invariant-loop-line : goal.invariant-loop-line
 invariant-loop-line l = record {
   reads : (read : Result Course ScriptFault) → AreLinesRead l.tree (lines_of l.rest) l.number (notes_of l.draft) read → IsScriptRead l.tree l.text read;
   sound : AreSound (length l.tree) (notes_of l.draft);
-  few : length (notes_of l.draft).pulses ≤ most_pulls;
+  few : AreFew (notes_of l.draft);
   counts : l.number + length l.rest ≤ length l.text + 1;
 }
 
