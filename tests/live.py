@@ -1,6 +1,7 @@
 #!/usr/bin/env python3
 """tests/live.py [PROGRAM]: drives `hdminet live` as a co-process, which no test of `rt ci` can. PROGRAM is
 crates/hdminet/out/hdminet, which ./hdminet builds, where none is given. The last line is 'live: N passed, M failed'."""
+import json
 import os
 import random
 import select
@@ -11,14 +12,15 @@ import sys
 TOP = os.path.dirname(os.path.dirname(os.path.realpath(__file__)))
 PROGRAM = os.path.realpath(sys.argv[1]) if len(sys.argv) > 1 else os.path.join(TOP, 'crates/hdminet/out/hdminet')
 ROOM = 'device tv tv 4\ndevice p1 player 0\nplug p1 tv 1\nscript\n'
+SEAT = 'device tv tv 2\ndevice p1 player 0\ndevice dut outside 0\nplug p1 tv 1\nplug dut tv 2\nscript\n'
 OWN = ('run', 'wait', 'show', 'edge', 'edges')
 
 
 class Session:
     """A session, and what was sent and told in it."""
 
-    def __init__(self, start):
-        self.live = subprocess.Popen([PROGRAM, 'live'], stdin=subprocess.PIPE, stdout=subprocess.PIPE, stderr=subprocess.PIPE)
+    def __init__(self, start, *flags):
+        self.live = subprocess.Popen([PROGRAM, 'live', *flags], stdin=subprocess.PIPE, stdout=subprocess.PIPE, stderr=subprocess.PIPE)
         self.send(start)
         self.script, self.trace, self.edges = [], [], []
 
@@ -97,6 +99,48 @@ def closed():
     fault = s.live.stderr.read().decode()
     s.live.stdin.close()
     return s.live.wait() == 3 and fault == 'hdminet: write fault after 50 bytes\n'
+
+
+def read(object_line):
+    """The line of an object, and the object, which has it first."""
+    told = json.loads(object_line)
+    return told['line'] + '\n', told if list(told)[:2] == ['line', 'type'] else None
+
+
+def objects():
+    """With --json each line is an object as soon as it would come as a line: of each plain session the same lines."""
+    lines = ['run to 400000', 'wait', 'frob', 'edges on', 'at 1000000 press p1 play', 'pulse 1006500 100', 'wait', 'show p1', 'edge 1050000',
+             'at 1400000 send p1 4>0 frob', 'run to 1', 'edges off', 'run to 1399999', 'end 1500000']
+    plain, told = Session(ROOM), Session(ROOM, '--json')
+    right, trace, kinds = True, [], set()
+    for line in lines:
+        plain.send(line + '\n')
+        told.send(line + '\n')
+        want, answer = plain.answer()
+        for each in want + [answer]:
+            text, got = read(told.live.stdout.readline())
+            right = right and text == each and got is not None
+            kinds.add(got['type'])
+            trace += [got] if each[0] not in '=!~' else []
+        # After the last line the pipe is closed, which is no quiet.
+        right = right and (line.startswith('end ') or told.is_quiet(0.01))
+    script = ['' if line.split(' ')[0] in OWN or line == 'frob' or line.endswith(' frob') else line for line in lines]
+    text = ROOM + ''.join(line + '\n' for line in script)
+    ran = subprocess.run([PROGRAM, 'run', '--json'], input=text.encode(), stdout=subprocess.PIPE).stdout.decode()
+    right = right and plain.ended() == told.ended() == (0, '', '') and trace == [json.loads(line) for line in ran.splitlines()]
+    return right and kinds == {'round', 'event', 'state', 'end', 'horizon', 'refusal', 'edge'}
+
+
+def objects_closed():
+    """A driver that stops reading objects ends the session with the count of their bytes."""
+    s = Session(ROOM, '--json')
+    s.send('run to 1\n')
+    count = len(s.live.stdout.readline())
+    s.live.stdout.close()
+    s.send('run to 400000\n')
+    fault = s.live.stderr.read().decode()
+    s.live.stdin.close()
+    return s.live.wait() == 3 and fault == 'hdminet: write fault after %d bytes\n' % count
 
 
 def instant(line):
@@ -186,6 +230,49 @@ def edge_by_edge():
     return right and ' pulse ' in ' ' + text.replace('\n', ' ') and len(edges) > 200 and s.edges == edges and ''.join(s.trace) == run(text)
 
 
+def is_held(start):
+    """A pin that goes low and high at random, dense and wide, leaves the trace and the edges of the run of the lines taken."""
+    numbers = random.Random(start)
+    s = Session(SEAT)
+    s.ask('edges on')
+    s.ask('at 450000 send p1 4>8 give-osd-name')
+    horizon, level = 0, 1
+    while horizon < 600_000:
+        ahead = numbers.choice([0, 1, 300, 600, 1500, 2400, 3700, numbers.randrange(30_000)])
+        line = numbers.choice(['run to %d' % (horizon + ahead), 'edge %d' % (horizon + ahead), 'wait', 'pin %d %d' % (horizon + ahead, 1 - level)])
+        answer = s.ask(line)
+        if answer[0] == '=':
+            horizon = int(answer.split()[1])
+            level = 1 - level if line[0] == 'p' else level
+    right = s.ask('pin %d %d' % (horizon - 1, 1 - level))[0] == '!' and s.ask('end %d' % (horizon - 1)).endswith(' past\n')
+    right = right and s.ask('end %d' % (horizon + 1000))[0] == '=' and s.ended() == (0, '', '')
+    text = SEAT + ''.join(line + '\n' for line in s.script)
+    ran = subprocess.run([PROGRAM, 'run', '--edges'], input=text.encode(), stdout=subprocess.PIPE).stdout.decode()
+    edges = ['~ %s\n' % line for line in ran.split('\n') if line and not line.endswith(' end')]
+    return right and '\npin ' in text and s.edges == edges and ''.join(s.trace) == run(text)
+
+
+def held_at_random():
+    """Sessions whose pin goes low and high at random."""
+    right = True
+    for start in range(20):
+        if not is_held(start):
+            print('live: the session %d of a pin is another run' % start)
+            right = False
+    return right
+
+
+def pin_by_levels():
+    """Firmware acknowledges a frame by its pin where its interrupts are early enough; where they are late it reads another address."""
+    acknowledged = '1000000 1051150 complete 4>8 give-osd-name ack by p1 out -\n'
+    misread = '1000000 1028851 silent 0100100001 by - out p1@10\n'
+    right = True
+    for late, line in [(1, acknowledged), (100, acknowledged), (300, acknowledged), (500, misread)]:
+        ran = subprocess.run([os.path.join(TOP, 'examples/live/pin.py'), PROGRAM, str(late)], capture_output=True, text=True)
+        right = right and ran.returncode == 0 and ran.stdout == line
+    return right
+
+
 def driver():
     """The driver in Python ends well, and its room was asked and answered."""
     ran = subprocess.run([os.path.join(TOP, 'examples/live/active-source.py'), PROGRAM], capture_output=True, text=True)
@@ -227,7 +314,7 @@ def main():
         sys.exit('live: no program at %s: start ./hdminet once' % PROGRAM)
     signal.alarm(600)
     passed = failed = 0
-    for test in [answers_at_once, ends_early, has_faults, closed, examples_cut, pulses_let_go, edge_by_edge, driver, device_under_test, television_under_test, claimed_twice, shell]:
+    for test in [answers_at_once, ends_early, has_faults, closed, objects, objects_closed, examples_cut, pulses_let_go, edge_by_edge, held_at_random, pin_by_levels, driver, device_under_test, television_under_test, claimed_twice, shell]:
         if test():
             passed += 1
         else:

@@ -24,7 +24,7 @@ class Room:
         self.live.stdin.write((topology + "script\n").encode())
 
     def ask(self, line):
-        """Sends a line. Returns the lines of the trace that came for it, and the answer."""
+        """Sends a line. Returns the lines of the trace that came for it, with the edges among them, and the answer."""
         self.live.stdin.write((line + "\n").encode())
         self.live.stdin.flush()
         told = []
@@ -35,9 +35,9 @@ class Room:
             if got[0] in "=!":
                 break
             told.append(got)
-        is_own = line.split(" ")[0] in ("run", "wait", "show")
+        is_own = line.split(" ")[0] in ("run", "wait", "show", "edge", "edges")
         self.script.append("" if is_own or got[0] == "!" else line)
-        self.trace += told
+        self.trace += [line for line in told if line[0] != "~"]
         return told, got.rstrip("\n")
 
     def is_of_run(self):

@@ -13,6 +13,7 @@ use Rattle.cec_session.specs.declared.live.Step.TheVariants.{Refuse, Idle, Go, E
 use Rattle.cec_session.specs.declared.answer.Refusal.{Refusal}
 use Rattle.cec_session.specs.Session.{Session, SessionGoes, StepsHaveOneText, IsDue, idle_line, refused_line, span_of, taken_line}
 use Rattle.cec_session.specs.Taken.{IsAnswered, IsGone, IsTaken, StandsSomewhere}
+use Rattle.cec_session.specs.Turns.{certain_until}
 use Rattle.cec_session.proofs.Going.{goes_one}
 
 -- a text after what is reported, by where the session then stands
@@ -108,7 +109,7 @@ IsGoing edges s text t = (reported : List ℕ) × (own : List ℕ) × (place : C
 
 going_one : (edges : Bool) (s t u : Session) (text other : List ℕ) → IsGoing edges s text t → IsGoing edges s other u → (text ≡ other) × (t ≡ u)
 going_one edges s t u text other a b =
-    let one = goes_one s.edid false (span_of edges false s) s.horizon s.place a.2 b.2 a.0 a.1 b.0 b.1 a.3 b.3 in
+    let one = goes_one s.edid false s.notes.pin (span_of edges false s) (certain_until s.notes.pin s.horizon) s.place a.2 b.2 a.0 a.1 b.0 b.1 a.3 b.3 in
     (a.4 ∙ ap (λ (xs : List ℕ). xs ++ taken_line s.horizon) one.0 ∙ sym b.4, a.5 ∙ ap (λ (p : Config). let v : Session = record s { place = p } in v) one.1 ∙ sym b.5)
 
 pub steps_have_one_text : StepsHaveOneText
@@ -119,7 +120,7 @@ steps_have_one_text (Show device) s t u text other a b =
 steps_have_one_text Go s t u text other a b = going_one s.edges s t u text other a b
 steps_have_one_text Edge s t u text other a b = going_one true s t u text other a b
 steps_have_one_text Finish s t u text other a b =
-    let one = goes_one s.edid true (span_of s.edges true s) s.horizon s.place a.2 b.2 a.0 a.1 b.0 b.1 a.3 b.3 in
+    let one = goes_one s.edid true s.notes.pin (span_of s.edges true s) (certain_until s.notes.pin s.horizon) s.place a.2 b.2 a.0 a.1 b.0 b.1 a.3 b.3 in
     let tail : Config → List ℕ = λ p. end_reported (Trace s.edid) s.horizon p.net ++ taken_line s.horizon in (
       a.4 ∙ ap (λ (xs : List ℕ). xs ++ tail a.2) one.0 ∙ ap (λ (p : Config). b.1 ++ tail p) one.1 ∙ sym b.4,
       a.5 ∙ ap (λ (p : Config). let v : Session = record s { place = p } in v) one.1 ∙ sym b.5,

@@ -67,3 +67,10 @@ pub known_round : (net : NetState) (next : Option Outcome) (o : Outcome) (begin 
 known_round net next o begin starts is h =
     let k = known_next net next o begin is starts h in
     (o, after_round net begin o, k.0, k.1, refl)
+
+-- and closes when that closes
+pub known_edges : (net : NetState) (next : Option Outcome) (o : Outcome) (begin close : ℕ) → next_start net ≡ Some begin → next ≡ Some o → IsForeseen net next → IfSome next (λ o. close ≡ close_in o)
+    → (outcome : Outcome) × (after : NetState) × IsWave outcome.wave × IsNextRound net begin outcome after × (o.wave ≡ outcome.wave) × (close ≡ after.close)
+known_edges net next o begin close starts is h closes =
+    let k = known_next net next o begin is starts h in
+    (o, after_round net begin o, k.0, k.1, refl, subst (λ (x : Option Outcome). IfSome x (λ o. close ≡ close_in o)) is closes)

@@ -24,10 +24,10 @@ use Rattle.cec_run.proofs.Whole.{heard_text, trace_by}
 use Rattle.cec_certain.specs.Certain.{LeadsIf, IsHeldBy}
 use Rattle.cec_certain.proofs.Before.{NoTurn, held_ends, one_turn}
 use Rattle.cec_session.specs.declared.edges.Span.{Span}
-use Rattle.cec_session.specs.Edges.{edges_reported}
+use Rattle.cec_session.specs.Edges.{edges_reported, pinned_by}
 use Rattle.cec_session.specs.Session.{Session, span_of}
 use Rattle.cec_session.specs.Taken.{IsGone}
-use Rattle.cec_session.specs.Turns.{AreEdgesOf, AreEdgesOn, AreHeard, ComesLast, Goes, GoesIf, GoesWith, IsLast, IsOn, IsReported, IsSoon, LeadsWith, edges_of, text_with}
+use Rattle.cec_session.specs.Turns.{AreEdgesOf, AreEdgesOn, AreHeard, ComesLast, Goes, GoesIf, GoesWith, IsLast, IsOn, IsReported, IsSoon, LeadsWith, certain_until, edges_of, text_with}
 
 -- ---- no turn is reported after the last
 
@@ -36,12 +36,12 @@ no_more edid false until c last = held_ends (Trace edid) until c last
 no_more edid true until c last = λ line d turn over. no_turn (Trace edid) until c line d last turn
 
 -- the edges of a turn are one text
-edges_one : (span : Span) (net : NetState) (turn : Turn) (a b : List ℕ) → AreEdgesOf span net turn a → AreEdgesOf span net turn b → a ≡ b
-edges_one span net Stop a b e f = e ∙ sym f
-edges_one span net (Apply at) a b e f = e ∙ sym f
-edges_one span net (Round begin) a b (o, after, wave, next, e) (p, other, wave', next', f) =
+edges_one : (span : Span) (pin : Option ℕ) (net : NetState) (turn : Turn) (a b : List ℕ) → AreEdgesOf span pin net turn a → AreEdgesOf span pin net turn b → a ≡ b
+edges_one span pin net Stop a b e f = e ∙ sym f
+edges_one span pin net (Apply at) a b e f = e ∙ sym f
+edges_one span pin net (Round begin) a b (o, after, wave, next, e) (p, other, wave', next', f) =
     let same : o ≡ p = same_outcome o p (one_outcome (seats_of net begin) begin net.pulses o p wave wave' next.round next'.round) in
-    e ∙ ap (λ (x : Outcome). edges_reported span x.wave) same ∙ sym f
+    e ∙ ap (λ (x : Outcome). edges_reported span (pinned_by pin x.wave)) same ∙ sym f
 
 -- some turns that are reported come first in all of them
 begin_with : (edid : Option Edid) (ended : Bool) (span : Span) (until n m : ℕ) (c d last : Config) (reported over whole text : List ℕ) → LeadsWith edid ended span until n c reported over d
@@ -53,7 +53,7 @@ begin_with edid ended span until (suc n) zero c d last reported over whole text 
     absurd (subst (NoTurn (IsReported ended until) (Trace edid) until) w.2 none line mid turn is)
 begin_with edid ended span until (suc n) (suc m) c d last reported over whole text (mid, line, edges, others, rest, turn, is, own, after, e, f) (mid', line', edges', others', rest', turn', is', own', after', e', f') none =
     let one = one_turn (Trace edid) (turn_at until c) c line line' mid mid' turn turn' in
-    let same : edges ≡ edges' = edges_one span c.net (turn_at until c) edges edges' own own' in
+    let same : edges ≡ edges' = edges_one span None c.net (turn_at until c) edges edges' own own' in
     let there : LeadsWith edid ended span until m mid others' rest' last = subst (λ x. LeadsWith edid ended span until m x others' rest' last) (sym one.1) after' in
     let go = begin_with edid ended span until n m mid d last others rest others' rest' after there none in (
       go.0,
@@ -77,17 +77,18 @@ leads_of edid ended span until zero c d reported text l = (l.0, l.2)
 leads_of edid ended span until (suc n) c d reported text (mid, line, edges, others, rest, turn, is, own, after, e, f) =
     (mid, line, others, turn, is, leads_of edid ended span until n mid d others rest after, e)
 
-pub goes_of : (edid : Option Edid) (ended : Bool) (span : Span) (until : ℕ) (c d : Config) (reported text : List ℕ) → GoesWith edid ended span until c reported text d → Goes edid ended until c reported d
-goes_of edid ended span until c d reported text g = record { turns = g.turns; leads = leads_of edid ended span until g.turns c d reported g.over g.leads; last = g.last }
+pub goes_of : (edid : Option Edid) (ended : Bool) (pin : Option ℕ) (span : Span) (until : ℕ) (c d : Config) (reported text : List ℕ) → GoesWith edid ended pin span until c reported text d
+    → Goes edid ended until c reported d
+goes_of edid ended pin span until c d reported text g = record { turns = g.turns; leads = leads_of edid ended span until g.turns c d reported g.over g.leads; last = g.last }
 
 -- so what is written is one text
-pub goes_one : (edid : Option Edid) (ended : Bool) (span : Span) (until : ℕ) (c d e : Config) (reported text other words : List ℕ) → GoesWith edid ended span until c reported text d
-    → GoesWith edid ended span until c other words e → (text ≡ words) × (d ≡ e)
-goes_one edid ended span until c d e reported text other words a b =
+pub goes_one : (edid : Option Edid) (ended : Bool) (pin : Option ℕ) (span : Span) (until : ℕ) (c d e : Config) (reported text other words : List ℕ) → GoesWith edid ended pin span until c reported text d
+    → GoesWith edid ended pin span until c other words e → (text ≡ words) × (d ≡ e)
+goes_one edid ended pin span until c d e reported text other words a b =
     let go = begin_with edid ended span until a.turns b.turns c d e reported a.over other b.over a.leads b.leads (no_more edid ended until e b.last) in
     let end = end_with edid ended span until go.0 d e go.1 go.2 (no_more edid ended until d a.last) go.3 in
     let over : b.over ≡ a.over = go.5 ∙ ap (λ t. a.over ++ t) end.1 ∙ append-nil a.over in
-    let on : a.on ≡ b.on = edges_one span d.net (turn_at until d) a.on b.on a.on_is (subst (λ (x : Config). AreEdgesOf span x.net (turn_at until x) b.on) end.2 b.on_is) in
+    let on : a.on ≡ b.on = edges_one span pin d.net (turn_at until d) a.on b.on a.on_is (subst (λ (x : Config). AreEdgesOf span pin x.net (turn_at until x) b.on) end.2 b.on_is) in
     (a.text_is ∙ ap₂ (λ x y. x ++ y) (sym over) on ∙ sym b.text_is, sym end.2)
 
 -- ---- what was heard of so far
@@ -145,7 +146,7 @@ heard_is hears ended until c net rest left totals old new goes_on on r split las
 
 -- ---- what is added of them
 
-edges_by : (span : Span) (turn : Turn) (c : Config) (x : Happening) (d : Config) → HappensBy turn c x d → AreEdgesOf span c.net turn (edges_of span x)
+edges_by : (span : Span) (turn : Turn) (c : Config) (x : Happening) (d : Config) → HappensBy turn c x d → AreEdgesOf span None c.net turn (edges_of span x)
 edges_by span Stop c x d h = absurd h
 edges_by span (Apply at) c x d h = ap (edges_of span) h.is
 edges_by span (Round begin) c x d h = (h.outcome, d.net, h.wave, h.next, ap (edges_of span) h.is)
@@ -198,29 +199,30 @@ comes_last ended until d None stops = last_stop ended until d.net d.events d.tot
 comes_last false until d (Some begin) (turn, late) = subst (IsHeldBy until d.net) (sym turn) late.1
 comes_last true until d (Some begin) (turn, late) = absurd (true≢false late.0)
 
-edges_last : (ended : Bool) (span : Span) (until : ℕ) (d : Config) (on : Option ℕ) (edges : List ℕ) → ComesLast ended until d on → AreEdgesOn span d.net on edges → AreEdgesOf span d.net (turn_at until d) edges
-edges_last ended span until d None edges stops own = subst (λ t. AreEdgesOf span d.net t edges) (sym stops) own
-edges_last ended span until d (Some begin) edges (turn, late) own = subst (λ t. AreEdgesOf span d.net t edges) (sym turn) own
+edges_last : (ended : Bool) (pin : Option ℕ) (span : Span) (until : ℕ) (d : Config) (on : Option ℕ) (edges : List ℕ) → ComesLast ended until d on → AreEdgesOn span pin d.net on edges
+    → AreEdgesOf span pin d.net (turn_at until d) edges
+edges_last ended pin span until d None edges stops own = subst (λ t. AreEdgesOf span pin d.net t edges) (sym stops) own
+edges_last ended pin span until d (Some begin) edges (turn, late) own = subst (λ t. AreEdgesOf span pin d.net t edges) (sym turn) own
 
 -- what was added of the turns and of the round that is on is what is due, whole or up to a fault
-pub record Added (edid : Option Edid) (ended : Bool) (span : Span) (until : ℕ) (c d : Config) (old new : Tally) : Type 0 where
+pub record Added (edid : Option Edid) (ended : Bool) (pin : Option ℕ) (span : Span) (until : ℕ) (c d : Config) (old new : Tally) : Type 0 where
   pub reported : List ℕ
   pub text : List ℕ
   pub place : Config
-  pub goes : GoesWith edid ended span until c reported text place
+  pub goes : GoesWith edid ended pin span until c reported text place
   pub added : Adds old new text
   pub stands : new.failed ≡ false → d ≡ place
 
-pub all_added : (edid : Option Edid) (ended : Bool) (span : Span) (until : ℕ) (c d : Config) (xs : List Happening) (on : Option ℕ) (edges : List ℕ) (old mid new : Tally)
-    → GoesIf (IsReported ended until) until c xs d → (not mid.failed ≡ true → ComesLast ended until d on) → AreEdgesOn span d.net on edges
-    → (reported : List ℕ) × (text : List ℕ) × (place : Config) × GoesWith edid ended span until c reported text place
-    → Adds old mid (flat_map (text_with edid span) xs) → Adds mid new edges → Added edid ended span until c d old new
-all_added edid ended span until c d xs on edges old mid new goes last own due first second = by_fault mid.failed refl
+pub all_added : (edid : Option Edid) (ended : Bool) (pin : Option ℕ) (span : Span) (until : ℕ) (c d : Config) (xs : List Happening) (on : Option ℕ) (edges : List ℕ) (old mid new : Tally)
+    → GoesIf (IsReported ended until) until c xs d → (not mid.failed ≡ true → ComesLast ended until d on) → AreEdgesOn span pin d.net on edges
+    → (reported : List ℕ) × (text : List ℕ) × (place : Config) × GoesWith edid ended pin span until c reported text place
+    → Adds old mid (flat_map (text_with edid span) xs) → Adds mid new edges → Added edid ended pin span until c d old new
+all_added edid ended pin span until c d xs on edges old mid new goes last own due first second = by_fault mid.failed refl
   where
     over : List ℕ
     over = flat_map (text_with edid span) xs
 
-    by_fault : (b : Bool) → mid.failed ≡ b → Added edid ended span until c d old new
+    by_fault : (b : Bool) → mid.failed ≡ b → Added edid ended pin span until c d old new
     by_fault true e =
         let all = due.3 in
         let go = begin_with edid ended span until (length xs) all.turns c d due.2 (flat_map (text_of edid) xs) over due.0 all.over (leads_by edid ended span until xs c d goes) all.leads (no_more edid ended until due.2 all.last) in
@@ -246,7 +248,7 @@ all_added edid ended span until c d xs on edges old mid new goes last own due fi
             on = edges;
             leads = leads_by edid ended span until xs c d goes;
             last = comes_last ended until d on end;
-            on_is = edges_last ended span until d on edges end own;
+            on_is = edges_last ended pin span until d on edges end own;
             text_is = refl;
           };
           added = then old mid new over edges first second;
@@ -285,12 +287,12 @@ drop_drop (suc n) m (event ∷ events) = let more : suc n + m ≡ suc (n + m) = 
 -- ---- a session that went on
 
 pub gone_is : (edges ended : Bool) (span : Span) (s t : Session) (d : Config) (old new : Tally) → span ≡ span_of edges ended s → t ≡ record s { place = d }
-    → Added s.edid ended span s.horizon s.place d old new → IsGone edges ended s t old new
+    → Added s.edid ended s.notes.pin span (certain_until s.notes.pin s.horizon) s.place d old new → IsGone edges ended s t old new
 gone_is edges ended span s t d old new known stands a = record {
   reported = a.reported;
   text = a.text;
   place = a.place;
-  goes = subst (λ (span : Span). GoesWith s.edid ended span s.horizon s.place a.reported a.text a.place) known a.goes;
+  goes = subst (λ (span : Span). GoesWith s.edid ended s.notes.pin span (certain_until s.notes.pin s.horizon) s.place a.reported a.text a.place) known a.goes;
   added = a.added;
   stands = λ f. stands ∙ ap (λ (p : Config). let u : Session = record s { place = p } in u) (a.stands f);
   somewhere = (d, stands);

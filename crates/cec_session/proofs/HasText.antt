@@ -1,5 +1,5 @@
 -- A session that goes on has a text: each round has an outcome, and the turns come to an end.
-use Rattle.std.proofs.Common.{◌≡◌, ℕ, zero, suc, ◌+◌, ◌-◌, ◌<◌, ◌≤◌, Bool, true, false, nat_lt, if◌then◌else◌, List, [], ◌∷◌, ◌++◌, length, filter, inl, inr, All, Option, Some, None, option_map, Result, Ok, Err, MatchResult, refl, sym, ap, ◌∙◌, subst, arith, append_assoc}
+use Rattle.std.proofs.Common.{◌≡◌, ℕ, zero, suc, ◌+◌, ◌-◌, ◌<◌, ◌≤◌, Bool, true, false, nat_lt, if◌then◌else◌, List, [], ◌∷◌, ◌++◌, length, filter, inl, inr, All, Option, Some, None, Result, Ok, Err, MatchResult, refl, sym, ap, ◌∙◌, subst, arith, append_assoc}
 use Rattle.std.proofs.lemmas.Bool.{cases_lt}
 use Rattle.std.proofs.lemmas.Bool.Decides.{nat_tests}
 use Rattle.std.proofs.lemmas.List.Elements.{All-append, All-cons, All-nil, filter_passes}
@@ -27,7 +27,7 @@ use Rattle.cec_run.specs.Run.{Config, turn_at, turn_of, first_time, round_turn, 
 use Rattle.cec_run.proofs.Advance.{event_keeps, round_begins}
 use Rattle.cec_certain.specs.Certain.{IsHeldBy}
 use Rattle.cec_session.specs.declared.edges.Span.{Span}
-use Rattle.cec_session.specs.Edges.{edges_reported}
+use Rattle.cec_session.specs.Edges.{edges_reported, pinned_by}
 use Rattle.cec_session.specs.Turns.{AreAhead, AreEdgesOf, GoesWith, HasEdges, IsReported}
 use Rattle.cec_session.proofs.Going.{last_stop, reported_event}
 
@@ -81,21 +81,24 @@ ahead_added s t pulse (Err error) h a = subst AreAhead (sym h.1) a
 
 -- ---- one turn
 
+pub begins_before : (until begin : ℕ) (c : Config) → turn_at until c ≡ Round begin → begin < until
+begins_before until begin c turn = (round_begins until c.net (first_time c.events) begin turn).1
+
 -- what is left
 abbrev size : ℕ → Config → ℕ
 size until c = length c.events + (until - c.net.rest)
 
-abbrev pub HasText : Option Edid → Bool → Span → ℕ → Config → Type 0
-HasText edid ended span until c = (reported : List ℕ) × (text : List ℕ) × (place : Config) × GoesWith edid ended span until c reported text place
+abbrev pub HasText : Option Edid → Bool → Option ℕ → Span → ℕ → Config → Type 0
+HasText edid ended pin span until c = (reported : List ℕ) × (text : List ℕ) × (place : Config) × GoesWith edid ended pin span until c reported text place
 
 -- smaller ones have a text
-abbrev HaveTexts : Option Edid → Bool → Span → ℕ → Config → Type 0
-HaveTexts edid ended span until c = (d : Config) → size until d < size until c → AreAhead d.net → HasText edid ended span until d
+abbrev HaveTexts : Option Edid → Bool → Option ℕ → Span → ℕ → Config → Type 0
+HaveTexts edid ended pin span until c = (d : Config) → size until d < size until c → AreAhead d.net → HasText edid ended pin span until d
 
-in_front : (edid : Option Edid) (ended : Bool) (span : Span) (until : ℕ) (c d : Config) (line edges : List ℕ) (turn : Turn) → turn_at until c ≡ turn → IsTurnBy (Trace edid) turn c line d → IsReported ended until turn d
-    → AreEdgesOf span c.net turn edges → HasText edid ended span until d
-    → HasText edid ended span until c
-in_front edid ended span until c d line edges turn e is over own (reported, text, place, goes) = (
+in_front : (edid : Option Edid) (ended : Bool) (pin : Option ℕ) (span : Span) (until : ℕ) (c d : Config) (line edges : List ℕ) (turn : Turn) → turn_at until c ≡ turn → IsTurnBy (Trace edid) turn c line d → IsReported ended until turn d
+    → AreEdgesOf span None c.net turn edges → HasText edid ended pin span until d
+    → HasText edid ended pin span until c
+in_front edid ended pin span until c d line edges turn e is over own (reported, text, place, goes) = (
   line ++ reported,
   (edges ++ line) ++ text,
   place,
@@ -111,7 +114,7 @@ in_front edid ended span until c d line edges turn e is over own (reported, text
       goes.over,
       subst (λ t. IsTurnBy (Trace edid) t c line d) (sym e) is,
       subst (λ t. IsReported ended until t d) (sym e) over,
-      subst (λ t. AreEdgesOf span c.net t edges) (sym e) own,
+      subst (λ t. AreEdgesOf span None c.net t edges) (sym e) own,
       goes.leads,
       refl,
       refl,
@@ -130,19 +133,19 @@ no_event end at (Some begin) e = by_test (nat_lt begin end) e
     by_test true k = cc
     by_test false k = cc
 
-event_step : (edid : Option Edid) (ended : Bool) (span : Span) (until at : ℕ) (c : Config) (events : List TimedEvent) → c.events ≡ events → turn_at until c ≡ Apply at → AreAhead c.net → HaveTexts edid ended span until c
-    → HasText edid ended span until c
-event_step edid ended span until at c [] same e ahead go = absurd (no_event until at (next_start c.net) (sym (ap (λ (xs : List TimedEvent). turn_of until c.net (first_time xs)) same) ∙ e))
-event_step edid ended span until at c (x ∷ xs) same e ahead go =
+event_step : (edid : Option Edid) (ended : Bool) (pin : Option ℕ) (span : Span) (until at : ℕ) (c : Config) (events : List TimedEvent) → c.events ≡ events → turn_at until c ≡ Apply at → AreAhead c.net → HaveTexts edid ended pin span until c
+    → HasText edid ended pin span until c
+event_step edid ended pin span until at c [] same e ahead go = absurd (no_event until at (next_start c.net) (sym (ap (λ (xs : List TimedEvent). turn_of until c.net (first_time xs)) same) ∙ e))
+event_step edid ended pin span until at c (x ∷ xs) same e ahead go =
     let d : Config = record { net = net_after at x.event c.net; events = xs; totals = counted_event (event_fault c.net x.event) c.totals } in
     let line = event_text edid at x c.net in
     let kept = event_keeps at x.event c.net (net_after at x.event c.net) refl in
     let turn : IsTurnBy (Trace edid) (Apply at) c line d = subst (λ (es : List TimedEvent). IsEventTurn (Trace edid) at es c line d) (sym same) (refl, refl) in
     let count : length c.events ≡ suc (length xs) = ap length same in
-    in_front edid ended span until c d line [] (Apply at) e turn (reported_event ended until at d) refl (go d (omega (arith, count, kept.rest)) (ahead_event at x.event c.net (net_after at x.event c.net) refl ahead))
+    in_front edid ended pin span until c d line [] (Apply at) e turn (reported_event ended until at d) refl (go d (omega (arith, count, kept.rest)) (ahead_event at x.event c.net (net_after at x.event c.net) refl ahead))
 
-round_step : (edid : Option Edid) (ended : Bool) (span : Span) (until begin : ℕ) (c : Config) → turn_at until c ≡ Round begin → AreAhead c.net → HaveTexts edid ended span until c → HasText edid ended span until c
-round_step edid ended span until begin c e ahead go =
+round_step : (edid : Option Edid) (ended : Bool) (pin : Option ℕ) (span : Span) (until begin : ℕ) (c : Config) → turn_at until c ≡ Round begin → AreAhead c.net → HaveTexts edid ended pin span until c → HasText edid ended pin span until c
+round_step edid ended pin span until begin c e ahead go =
     let begins = round_begins until c.net (first_time c.events) begin e in
     let has = rounds_have_outcomes (seats_of c.net begin) begin c.net.pulses ahead.order in
     let o : Outcome = has.0 in
@@ -155,39 +158,40 @@ round_step edid ended span until begin c e ahead go =
     let rest = go d (omega (arith, begins.1, p.later, p.low)) (ahead_round begin c.net net o refl ahead) in
     by_end ended o has.1 net next d turn rest (o, net, has.1, next, refl)
   where
-    by_end : (b : Bool) (o : Outcome) → IsWave o.wave → (net : NetState) → IsNextRound c.net begin o net → (d : Config) → IsTurnBy (Trace edid) (Round begin) c (round_reported (Trace edid) net.devices o) d → HasText edid b span until d
-        → HasEdges span begin c.net (edges_reported span o.wave) → HasText edid b span until c
-    by_end true o wave net next d turn rest has = in_front edid true span until c d (round_reported (Trace edid) net.devices o) (edges_reported span o.wave) (Round begin) e turn tt has rest
+    by_end : (b : Bool) (o : Outcome) → IsWave o.wave → (net : NetState) → IsNextRound c.net begin o net → (d : Config) → IsTurnBy (Trace edid) (Round begin) c (round_reported (Trace edid) net.devices o) d → HasText edid b pin span until d
+        → HasEdges span None begin c.net (edges_reported span o.wave) → HasText edid b pin span until c
+    by_end true o wave net next d turn rest has = in_front edid true pin span until c d (round_reported (Trace edid) net.devices o) (edges_reported span o.wave) (Round begin) e turn tt has rest
     by_end false o wave net next d turn rest has =
         elim (cases_lt d.net.close until) [
-          | inl lt ↦ in_front edid false span until c d (round_reported (Trace edid) net.devices o) (edges_reported span o.wave) (Round begin) e turn lt has rest
+          | inl lt ↦ in_front edid false pin span until c d (round_reported (Trace edid) net.devices o) (edges_reported span o.wave) (Round begin) e turn lt has rest
           | inr ge ↦ (
             [],
-            edges_reported span o.wave,
+            edges_reported span (pinned_by pin o.wave),
             c,
             record {
               turns = zero;
               over = [];
-              on = edges_reported span o.wave;
+              on = edges_reported span (pinned_by pin o.wave);
               leads = (refl, refl, refl);
               last = subst (IsHeldBy until c.net) (sym e) (turn.0.outcome, d.net, turn.0.wave, turn.0.next, ge);
-              on_is = subst (λ t. AreEdgesOf span c.net t (edges_reported span o.wave)) (sym e) has;
+              on_is = subst (λ t. AreEdgesOf span pin c.net t (edges_reported span (pinned_by pin o.wave))) (sym e) (o, net, wave, next, refl);
               text_is = refl;
             },
           )
         ]
 
-some_step : (edid : Option Edid) (ended : Bool) (span : Span) (until : ℕ) (c : Config) (turn : Turn) → turn_at until c ≡ turn → AreAhead c.net → HaveTexts edid ended span until c → HasText edid ended span until c
-some_step edid ended span until c Stop e ahead go =
-    ([], [], c, record { turns = zero; over = []; on = []; leads = (refl, refl, refl); last = last_stop ended until c.net c.events c.totals e; on_is = subst (λ t. AreEdgesOf span c.net t []) (sym e) refl; text_is = refl })
-some_step edid ended span until c (Apply at) e ahead go = event_step edid ended span until at c c.events refl e ahead go
-some_step edid ended span until c (Round begin) e ahead go = round_step edid ended span until begin c e ahead go
+some_step : (edid : Option Edid) (ended : Bool) (pin : Option ℕ) (span : Span) (until : ℕ) (c : Config) (turn : Turn) → turn_at until c ≡ turn → AreAhead c.net → HaveTexts edid ended pin span until c → HasText edid ended pin span until c
+some_step edid ended pin span until c Stop e ahead go =
+    let on : List ℕ = edges_reported span (pinned_by pin []) in
+    ([], on, c, record { turns = zero; over = []; on = on; leads = (refl, refl, refl); last = last_stop ended until c.net c.events c.totals e; on_is = subst (λ t. AreEdgesOf span pin c.net t on) (sym e) refl; text_is = refl })
+some_step edid ended pin span until c (Apply at) e ahead go = event_step edid ended pin span until at c c.events refl e ahead go
+some_step edid ended pin span until c (Round begin) e ahead go = round_step edid ended pin span until begin c e ahead go
 
 -- ---- all turns
 
-has_some : (edid : Option Edid) (ended : Bool) (span : Span) (until n : ℕ) (c : Config) → size until c ≤ n → AreAhead c.net → HasText edid ended span until c
-has_some edid ended span until zero c few ahead = some_step edid ended span until c (turn_at until c) refl ahead (λ d l a. absurd (omega (arith, l, few)))
-has_some edid ended span until (suc n) c few ahead = some_step edid ended span until c (turn_at until c) refl ahead (λ d l a. has_some edid ended span until n d (omega (arith, l, few)) a)
+has_some : (edid : Option Edid) (ended : Bool) (pin : Option ℕ) (span : Span) (until n : ℕ) (c : Config) → size until c ≤ n → AreAhead c.net → HasText edid ended pin span until c
+has_some edid ended pin span until zero c few ahead = some_step edid ended pin span until c (turn_at until c) refl ahead (λ d l a. absurd (omega (arith, l, few)))
+has_some edid ended pin span until (suc n) c few ahead = some_step edid ended pin span until c (turn_at until c) refl ahead (λ d l a. has_some edid ended pin span until n d (omega (arith, l, few)) a)
 
-pub has_text : (edid : Option Edid) (ended : Bool) (span : Span) (until : ℕ) (c : Config) → AreAhead c.net → HasText edid ended span until c
-has_text edid ended span until c ahead = has_some edid ended span until (size until c) c (omega arith) ahead
+pub has_text : (edid : Option Edid) (ended : Bool) (pin : Option ℕ) (span : Span) (until : ℕ) (c : Config) → AreAhead c.net → HasText edid ended pin span until c
+has_text edid ended pin span until c ahead = has_some edid ended pin span until (size until c) c (omega arith) ahead

@@ -6,6 +6,7 @@ pub mod HasText
 pub mod Noting
 mod SameEdges
 pub mod EdgesStay
+mod PinnedEdges
 pub mod Wholly
 pub mod Answering
 pub mod NoteCalls

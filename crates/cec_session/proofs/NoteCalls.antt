@@ -1,5 +1,5 @@
 -- A line of the script, from what the calls give to what a session has.
-use Rattle.std.proofs.Common.{◌≡◌, ℕ, ◌≤◌, ◌∙◌, List, ◌++◌, length, drop, Option, Some, None, MatchOption, Result, Err, refl, sym, ap, subst, append-nil}
+use Rattle.std.proofs.Common.{◌≡◌, ℕ, ◌≤◌, ◌∙◌, List, ◌++◌, length, drop, Option, Some, None, MatchOption, IfSome, Bool, true, false, if◌then◌else◌, Result, Ok, Err, refl, sym, ap, subst, append-nil}
 use Rattle.hdmi_topo.specs.Node.{Node}
 use Rattle.cec_net.specs.State.{NetState}
 use Rattle.cec_asm.specs.Script.{Notes, Gives, IsLineRead}
@@ -7,9 +7,10 @@ use Rattle.cec_asm.specs.declared.script.TimedEvent.{TimedEvent}
 use Rattle.cec_asm.specs.declared.fault.LineFault.{LineFault}
 use Rattle.cec_asm.specs.declared.script.ScriptLineError.{ScriptLineError}
 use Rattle.cec_asm.specs.declared.script.ScriptLineError.TheVariants.{Fault, Memory}
+use Rattle.cec_session.specs.declared.answer.RefusalCause.TheVariants.{Past}
 use Rattle.cec_session.specs.declared.live.Step.{Step}
 use Rattle.cec_session.specs.Note.{IsSettled, refused_by}
-use Rattle.cec_session.specs.Session.{Session, Standing, IsReady, standing, with_standing}
+use Rattle.cec_session.specs.Session.{Session, Standing, IsReady, NamesShown, is_late, refuse, standing, step_by, step_noted, with_standing}
 use Rattle.cec_session.proofs.Noting.{IsKept, kept, kept_same, drop_all}
 
 -- a line that the draft has not taken
@@ -52,3 +53,20 @@ noted_with s t line (Some step) e = (e.0, e.1, e.2, refl)
 pub noted_is : (s now v : Session) (t : Standing) (line : List ℕ) (result : Option Step) → s ≡ now → v ≡ with_standing s t → NotedBy s t line result → Noted now v line result
 noted_is s now v t line result same is e =
     subst (λ (s : Session). Noted s v line result) same (subst (λ (v : Session). Noted s v line result) (sym is) (noted_with s t line result e))
+
+-- none of its steps shows a device
+shows_none : (count : ℕ) (s : Standing) (read : Result Notes LineFault) → NamesShown count (step_noted s read)
+shows_none count s (Err fault) = tt
+shows_none count s (Ok new) = by_late (is_late s new)
+  where
+    by_end : (end : Option ℕ) → NamesShown count (step_by end)
+    by_end None = tt
+    by_end (Some end) = tt
+
+    by_late : (late : Bool) → NamesShown count (if late then refuse 1 Past else step_by new.end)
+    by_late true = tt
+    by_late false = by_end new.end
+
+pub note_shows : (count : ℕ) (s v : Session) (line : List ℕ) (result : Option Step) → Noted s v line result → IfSome result (λ step. NamesShown count step)
+note_shows count s v line None e = tt
+note_shows count s v line (Some step) e = subst (λ (step : Step). NamesShown count step) (sym e.2.asks) (shows_none count (standing s) e.0)

@@ -18,13 +18,14 @@ use Rattle.cec_session.proofs.Extends.{line_extends, front_all}
 -- ---- what becomes of a line
 
 abbrev back : Notes → Notes → Notes
-back old new = record { events = take (length old.events) new.events; pulses = take (length old.pulses) new.pulses; end = None }
+back old new = record { events = take (length old.events) new.events; pulses = take (length old.pulses) new.pulses; end = None; pin = old.pin }
 
 back_is : (old new : Notes) → Extends old new → old.end ≡ None → back old new ≡ old
 back_is old new e none = λ i. record {
   events = front_all old.events e.events new.events e.events_are i;
   pulses = front_all old.pulses e.pulses new.pulses e.pulses_are i;
   end = sym none i;
+  pin = old.pin;
 }
 
 abbrev pub taken : Standing → Notes → Standing
@@ -86,10 +87,10 @@ only_one p (q ∷ others) few = absurd (omega (arith, few))
 -- ---- a session stays ready
 
 sound_of : (count : ℕ) (notes : Notes) → AreFit count notes → AreSound count notes
-sound_of count notes f = record { schedule = f.schedule; framed = f.framed; order = f.order; wide = f.wide; early = f.early; ended = f.ended }
+sound_of count notes f = record { schedule = f.schedule; framed = f.framed; order = f.order; wide = f.wide; early = f.early; ended = f.ended; held = f.held; let_go = f.let_go }
 
 fit_of : (count : ℕ) (notes : Notes) → AreSound count notes → AreFit count notes
-fit_of count notes f = record { schedule = f.schedule; framed = f.framed; order = f.order; wide = f.wide; early = f.early; ended = f.ended }
+fit_of count notes f = record { schedule = f.schedule; framed = f.framed; order = f.order; wide = f.wide; early = f.early; ended = f.ended; held = f.held; let_go = f.let_go }
 
 noted_cases : (s : Standing) (new : Notes) (late : Bool) → is_late s new ≡ late → (standing_with s (Ok new) ≡ s) ⊎ (standing_with s (Ok new) ≡ taken s new)
 noted_cases s new true e = inl (ap (λ b. if b then s else taken s new) e)

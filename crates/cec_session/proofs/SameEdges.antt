@@ -28,10 +28,10 @@ all_past span from (s ∷ ss) w l =
 
 -- ---- where a wave is low
 
-before_it : (s : Stretch) (t : ℕ) → t < s.from → covers s t ≡ false
+pub before_it : (s : Stretch) (t : ℕ) → t < s.from → covers s t ≡ false
 before_it s t l = let e : nat_le s.from t ≡ false = grind (arith, nat_tests) in ap (λ b. b && nat_lt t s.to) e
 
-quiet : (ss : List Stretch) (from t : ℕ) → IsWaveFrom from ss → t < from → line_of ss t ≡ false
+pub quiet : (ss : List Stretch) (from t : ℕ) → IsWaveFrom from ss → t < from → line_of ss t ≡ false
 quiet [] from t w l = refl
 quiet (s ∷ ss) from t w l =
     let a : covers s t ≡ false = before_it s t (let x = w.0 in omega (arith, l, x)) in
@@ -45,16 +45,16 @@ after_it s t l = let e : nat_lt t s.to ≡ false = grind (arith, nat_tests) in a
     off true = refl
     off false = refl
 
-in_it : (s : Stretch) (t : ℕ) → s.from ≤ t → t < s.to → covers s t ≡ true
+pub in_it : (s : Stretch) (t : ℕ) → s.from ≤ t → t < s.to → covers s t ≡ true
 in_it s t l m =
     let e : nat_le s.from t ≡ true = grind (arith, nat_tests) in
     let f : nat_lt t s.to ≡ true = grind (arith, nat_tests) in
     ap₂ (λ a b. a && b) e f
 
-low_in : (s : Stretch) (ss : List Stretch) (t : ℕ) → s.from ≤ t → t < s.to → line_of (s ∷ ss) t ≡ true
+pub low_in : (s : Stretch) (ss : List Stretch) (t : ℕ) → s.from ≤ t → t < s.to → line_of (s ∷ ss) t ≡ true
 low_in s ss t l m = ap (λ b. b || line_of ss t) (in_it s t l m)
 
-past_first : (s : Stretch) (ss : List Stretch) (t : ℕ) → s.to ≤ t → line_of (s ∷ ss) t ≡ line_of ss t
+pub past_first : (s : Stretch) (ss : List Stretch) (t : ℕ) → s.to ≤ t → line_of (s ∷ ss) t ≡ line_of ss t
 past_first s ss t l = ap (λ b. b || line_of ss t) (after_it s t l)
 
 -- between the first stretch and the next one the line is high

@@ -1,5 +1,5 @@
 -- What the lines of a session have reported is the front of the trace, and in the end that trace.
-use Rattle.std.proofs.Common.{◌≡◌, ℕ, zero, suc, ◌≤◌, ◌||◌, ◌⊎◌, max, Bool, true, false, nat_lt, if◌then◌else◌, List, [], ◌∷◌, ◌++◌, length, inl, inr, Option, Some, None, Result, Ok, Err, refl, sym, ap, ap₂, subst, ◌∙◌, arith, append-nil, append_assoc}
+use Rattle.std.proofs.Common.{◌≡◌, ℕ, zero, suc, ◌≤◌, ◌||◌, ◌⊎◌, max, min, Bool, true, false, nat_lt, if◌then◌else◌, List, [], ◌∷◌, ◌++◌, length, inl, inr, Option, Some, None, Result, Ok, Err, refl, sym, ap, ap₂, subst, ◌∙◌, arith, append-nil, append_assoc}
 use Rattle.std.specs.List.{All, list_any}
 use Rattle.std.proofs.lemmas.List.Elements.{All-nil, All-cons}
 use Rattle.std.proofs.lemmas.List.Prefix.{front_rest}
@@ -25,9 +25,9 @@ use Rattle.cec_session.specs.declared.command.Command.{Command}
 use Rattle.cec_session.specs.declared.command.Command.TheVariants as commands
 use Rattle.cec_session.specs.declared.live.Step.{Step}
 use Rattle.cec_session.specs.declared.live.Step.TheVariants.{Refuse, Idle, Show, Go, Edge, Finish}
-use Rattle.cec_session.specs.Turns.{IsReported, Goes}
+use Rattle.cec_session.specs.Turns.{IsReported, Goes, GoesWith, MayCome, certain_until}
 use Rattle.cec_session.specs.Command.{command_of}
-use Rattle.cec_session.specs.Session.{Session, Standing, first_session, refuse, with_line_counted, standing, with_standing, standing_with, step_noted, step_by, step_to, after_to, step_wait, after_wait, step_show, span_of, is_late, is_past, refuses_pulse, ends_before, horizon_by, new_events, new_pulses, IsEdgeStep, IsEdgeStepBy, IsStepBy, IsDue, SessionGoes}
+use Rattle.cec_session.specs.Session.{Session, Standing, first_session, refuse, with_line_counted, standing, with_standing, standing_with, step_noted, step_by, step_to, after_to, step_wait, after_wait, step_show, span_of, is_late, is_past, refuses_pulse, rises_before, is_given_before, horizon_by, new_events, new_pulses, IsEdgeStep, IsEdgeStepBy, IsStepBy, IsDue, SessionGoes}
 use Rattle.cec_session.specs.Whole.{reported_of, AreLines, SessionsReportFronts, SessionsReportTraces}
 use Rattle.cec_session.proofs.Extends.{line_extends}
 use Rattle.cec_session.proofs.Going.{goes_of}
@@ -38,7 +38,7 @@ use Rattle.cec_session.proofs.Noting.{taken, drop_all}
 record SoFar (edid : Option Edid) (tree : List Node) (s : Session) (reported : List ℕ) : Type 0 where
   edid_is : s.edid ≡ edid
   turns : ℕ
-  leads : LeadsBy (Trace edid) s.horizon turns (start (first_net tree s.notes.pulses) s.notes.events) reported s.place
+  leads : LeadsBy (Trace edid) (certain_until s.notes.pin s.horizon) turns (start (first_net tree s.notes.pulses) s.notes.events) reported s.place
   sound : AreSound (length s.tree) s.notes
 
 so_far_start : (edid : Option Edid) (tree : List Node) → SoFar edid tree (first_session edid tree) []
@@ -57,16 +57,26 @@ same_place place =
     ap₂ (λ (ps : List Stretch) (es : List TimedEvent). let c : Config = record { net = record place.net { pulses = ps }; events = es; totals = place.totals } in c)
     (append-nil place.net.pulses) (append-nil place.events)
 
+certain_by : (pin : Option ℕ) (horizon : ℕ) → certain_until pin horizon ≤ horizon
+certain_by None horizon = omega arith
+certain_by (Some low) horizon = omega arith
+
+certain_on : (pin : Option ℕ) (horizon on : ℕ) → horizon ≤ on → certain_until pin horizon ≤ certain_until pin on
+certain_on None horizon on le = le
+certain_on (Some low) horizon on le = omega (arith, le)
+
 raised : (edid : Option Edid) (tree : List Node) (s : Session) (reported : List ℕ) (horizon : ℕ) → SoFar edid tree s reported → s.horizon ≤ horizon → SoFar edid tree (record s { horizon = horizon }) reported
 raised edid tree s reported horizon r le =
-    let comes : ComesFrom s.horizon [] [] horizon = record { scheduled = All-nil (λ e. s.horizon ≤ e.at); begun = All-nil (λ p. s.horizon ≤ p.from); over = le } in
-    let l = stay_on edid tree s.horizon horizon r.turns (length s.tree) s.notes s.place reported [] [] r.sound r.leads comes in
+    let until = certain_until s.notes.pin s.horizon in
+    let on = certain_until s.notes.pin horizon in
+    let comes : ComesFrom until [] [] on = record { scheduled = All-nil (λ e. until ≤ e.at); begun = All-nil (λ p. until ≤ p.from); over = certain_on s.notes.pin s.horizon horizon le } in
+    let l = stay_on edid tree until on r.turns (length s.tree) s.notes s.place reported [] [] r.sound r.leads comes in
     record {
       edid_is = r.edid_is;
       turns = r.turns;
-      leads = subst (λ (c : Config). LeadsBy (Trace edid) horizon r.turns (start (first_net tree s.notes.pulses) s.notes.events) reported c) (same_place s.place)
-          (subst (λ (es : List TimedEvent). LeadsBy (Trace edid) horizon r.turns (start (first_net tree s.notes.pulses) es) reported (with_more [] [] s.place)) (append-nil s.notes.events)
-          (subst (λ (ps : List Stretch). LeadsBy (Trace edid) horizon r.turns (start (first_net tree ps) (s.notes.events ++ [])) reported (with_more [] [] s.place)) (append-nil s.notes.pulses) l));
+      leads = subst (λ (c : Config). LeadsBy (Trace edid) on r.turns (start (first_net tree s.notes.pulses) s.notes.events) reported c) (same_place s.place)
+          (subst (λ (es : List TimedEvent). LeadsBy (Trace edid) on r.turns (start (first_net tree s.notes.pulses) es) reported (with_more [] [] s.place)) (append-nil s.notes.events)
+          (subst (λ (ps : List Stretch). LeadsBy (Trace edid) on r.turns (start (first_net tree ps) (s.notes.events ++ [])) reported (with_more [] [] s.place)) (append-nil s.notes.pulses) l));
       sound = r.sound;
     }
 
@@ -76,11 +86,11 @@ neither : (a b : Bool) → (a || b) ≡ false → (a ≡ false) × (b ≡ false)
 neither true b e = cc
 neither false b e = (refl, e)
 
-from_events : (horizon : ℕ) (events : List TimedEvent) → list_any (λ e. nat_lt e.at horizon) events ≡ false → All (λ e. horizon ≤ e.at) events
-from_events horizon [] e = All-nil (λ e. horizon ≤ e.at)
-from_events horizon (event ∷ events) e =
+from_events : (until horizon : ℕ) (events : List TimedEvent) → until ≤ horizon → list_any (λ e. nat_lt e.at horizon) events ≡ false → All (λ e. until ≤ e.at) events
+from_events until horizon [] le e = All-nil (λ e. until ≤ e.at)
+from_events until horizon (event ∷ events) le e =
     let parts = neither (nat_lt event.at horizon) (list_any (λ e. nat_lt e.at horizon) events) e in
-    All-cons (λ e. horizon ≤ e.at) event events (let no = parts.0 in grind (arith, nat_tests)) (from_events horizon events parts.1)
+    All-cons (λ e. until ≤ e.at) event events (let no = parts.0 in let later : horizon ≤ event.at = grind (arith, nat_tests) in omega (arith, le, later)) (from_events until horizon events le parts.1)
 
 from_pulses : (horizon : ℕ) (pulses : List Stretch) → list_any (λ p. nat_lt p.from horizon) pulses ≡ false → All (λ p. horizon ≤ p.from) pulses
 from_pulses horizon [] e = All-nil (λ p. horizon ≤ p.from)
@@ -88,16 +98,35 @@ from_pulses horizon (pulse ∷ pulses) e =
     let parts = neither (nat_lt pulse.from horizon) (list_any (λ p. nat_lt p.from horizon) pulses) e in
     All-cons (λ p. horizon ≤ p.from) pulse pulses (let no = parts.0 in grind (arith, nat_tests)) (from_pulses horizon pulses parts.1)
 
-from_end : (horizon : ℕ) (end : Option ℕ) → ends_before horizon end ≡ false → horizon ≤ horizon_by horizon end
+from_end : (horizon : ℕ) (end : Option ℕ) → is_given_before horizon end ≡ false → horizon ≤ horizon_by horizon end
 from_end horizon None e = omega arith
 from_end horizon (Some end) e = grind (arith, nat_tests)
 
-comes : (s : Standing) (new : Notes) → is_late s new ≡ false → ComesFrom s.horizon (new_events s.notes new) (new_pulses s.notes new) (horizon_by s.horizon new.end)
+-- the pin goes low when that is still open
+from_fall : (until on : ℕ) (pin : Option ℕ) → until ≤ on → is_given_before until pin ≡ false → until ≤ certain_until pin on
+from_fall until on None le e = le
+from_fall until on (Some low) le e = (let later : until ≤ low = grind (arith, nat_tests) in omega (arith, le, later))
+
+comes : (s : Standing) (new : Notes) → is_late s new ≡ false
+    → ComesFrom (certain_until s.notes.pin s.horizon) (new_events s.notes new) (new_pulses s.notes new) (certain_until new.pin (horizon_by s.horizon new.end))
 comes s new e =
-    let past = (neither (is_past s.horizon s.notes new) (refuses_pulse (new_pulses s.notes new) s.net) e).0 in
-    let parts = neither (list_any (λ e. nat_lt e.at s.horizon) (new_events s.notes new)) (list_any (λ p. nat_lt p.from s.horizon) (new_pulses s.notes new) || ends_before s.horizon new.end) past in
-    let rest = neither (list_any (λ p. nat_lt p.from s.horizon) (new_pulses s.notes new)) (ends_before s.horizon new.end) parts.1 in
-    record { scheduled = from_events s.horizon (new_events s.notes new) parts.0; begun = from_pulses s.horizon (new_pulses s.notes new) rest.0; over = from_end s.horizon new.end rest.1 }
+    let until = certain_until s.notes.pin s.horizon in
+    let events = new_events s.notes new in
+    let pulses = new_pulses s.notes new in
+    let rises = rises_before s.horizon s.notes.pin pulses in
+    let falls = is_given_before until new.pin in
+    let ends = is_given_before s.horizon new.end in
+    let past = (neither (is_past s.horizon s.notes new) (refuses_pulse pulses s.net) e).0 in
+    let first = neither (list_any (λ e. nat_lt e.at s.horizon) events) (list_any (λ p. nat_lt p.from until) pulses || (rises || (falls || ends))) past in
+    let second = neither (list_any (λ p. nat_lt p.from until) pulses) (rises || (falls || ends)) first.1 in
+    let last = neither falls ends (neither rises (falls || ends) second.1).1 in
+    let le = certain_by s.notes.pin s.horizon in
+    let later = from_end s.horizon new.end last.1 in
+    record {
+      scheduled = from_events until s.horizon events le first.0;
+      begun = from_pulses until pulses second.0;
+      over = from_fall until (horizon_by s.horizon new.end) new.pin (omega (arith, le, later)) last.0;
+    }
 
 -- a step that ends the script, or does not
 abbrev EndBy : Step → Session → Type 0
@@ -123,9 +152,10 @@ asked_taken edid tree s reported line new r read late =
     let e = line_extends s.tree s.notes (length s.place.net.pulses) s.lines line new read in
     let events : s.notes.events ++ new_events s.notes new ≡ new.events = ap (λ (es : List TimedEvent). s.notes.events ++ es) (front_rest new.events s.notes.events e.events e.events_are) ∙ sym e.events_are in
     let pulses : s.notes.pulses ++ new_pulses s.notes new ≡ new.pulses = ap (λ (ps : List Stretch). s.notes.pulses ++ ps) (front_rest new.pulses s.notes.pulses e.pulses e.pulses_are) ∙ sym e.pulses_are in
-    let on = horizon_by s.horizon new.end in
+    let until = certain_until s.notes.pin s.horizon in
+    let on = certain_until new.pin (horizon_by s.horizon new.end) in
     let place = with_more (new_events s.notes new) (new_pulses s.notes new) s.place in
-    let l = stay_on edid tree s.horizon on r.turns (length s.tree) s.notes s.place reported (new_events s.notes new) (new_pulses s.notes new) r.sound r.leads (comes (standing s) new late) in
+    let l = stay_on edid tree until on r.turns (length s.tree) s.notes s.place reported (new_events s.notes new) (new_pulses s.notes new) r.sound r.leads (comes (standing s) new late) in
     record {
       edid_is = r.edid_is;
       turns = r.turns;
@@ -242,9 +272,10 @@ still edid tree s t reported r going same =
 gone_reached : (edid : Option Edid) (tree : List Node) (s t : Session) (reported : List ℕ) (edges : Bool) (first own : List ℕ) (place : Config) → SoFar edid tree s reported → s.notes.end ≡ None
     → SessionGoes edges false s first own place → t ≡ record s { place = place } → Reached edid tree t (reported ++ first)
 gone_reached edid tree s t reported edges first own place r going goes stands =
-    let here : Goes edid false s.horizon s.place first place =
-    subst (λ (e : Option Edid). Goes e false s.horizon s.place first place) r.edid_is (goes_of s.edid false (span_of edges false s) s.horizon s.place place first own goes) in
-    let all = all_on (IsReported false s.horizon) (Trace edid) s.horizon r.turns here.turns (start (first_net tree s.notes.pulses) s.notes.events) s.place place reported first r.leads here.leads in
+    let until = certain_until s.notes.pin s.horizon in
+    let here : Goes edid false until s.place first place =
+    subst (λ (e : Option Edid). Goes e false until s.place first place) r.edid_is (goes_of s.edid false s.notes.pin (span_of edges false s) until s.place place first own goes) in
+    let all = all_on (IsReported false until) (Trace edid) until r.turns here.turns (start (first_net tree s.notes.pulses) s.notes.events) s.place place reported first r.leads here.leads in
     subst (λ (t : Session). Reached edid tree t (reported ++ first)) (sym stands) (inl (record { edid_is = r.edid_is; turns = all.0; leads = all.1; sound = r.sound }, going))
 
 due_reached : (edid : Option Edid) (tree : List Node) (s t : Session) (reported text : List ℕ) (step : Step) → Asked edid tree step s reported → (due : IsDue step s text t) → Reached edid tree t (reported ++ reported_of step s text t due)
@@ -255,9 +286,14 @@ due_reached edid tree s t reported text Go a (first, own, place, goes, is, stand
 due_reached edid tree s t reported text Edge a (first, own, place, goes, is, stands) = gone_reached edid tree s t reported true first own place a.so_far a.ended goes stands
 due_reached edid tree s t reported text Finish a (first, own, place, goes, is, stands) =
     let r = a.so_far in
+    let until = certain_until s.notes.pin s.horizon in
+    let gone : until ≡ s.horizon = ap (λ (pin : Option ℕ). certain_until pin s.horizon) (r.sound.let_go s.horizon a.ended) in
     let here : Goes edid true s.horizon s.place first place =
-    subst (λ (e : Option Edid). Goes e true s.horizon s.place first place) r.edid_is (goes_of s.edid true (span_of s.edges true s) s.horizon s.place place first own goes) in
-    let before = any_turns (IsReported false s.horizon) edid s.horizon r.turns (start (first_net tree s.notes.pulses) s.notes.events) s.place reported r.leads in
+    subst (λ (e : Option Edid). Goes e true s.horizon s.place first place) r.edid_is
+    (goes_of s.edid true s.notes.pin (span_of s.edges true s) s.horizon s.place place first own
+    (subst (λ (n : ℕ). GoesWith s.edid true s.notes.pin (span_of s.edges true s) n s.place first own place) gone goes)) in
+    let before = any_turns (IsReported false s.horizon) edid s.horizon r.turns (start (first_net tree s.notes.pulses) s.notes.events) s.place reported
+    (subst (λ (n : ℕ). LeadsBy (Trace edid) n r.turns (start (first_net tree s.notes.pulses) s.notes.events) reported s.place) gone r.leads) in
     let all = all_on (IsReported true s.horizon) (Trace edid) s.horizon r.turns here.turns (start (first_net tree s.notes.pulses) s.notes.events) s.place place reported first before here.leads in
     let last = end_reported (Trace s.edid) s.horizon place.net in
     let run : IsRunTextFrom (Trace edid) s.horizon (start (first_net tree s.notes.pulses) s.notes.events) (reported ++ (first ++ last)) place.totals = record {
@@ -295,14 +331,24 @@ all_lines edid tree (line ∷ lines) kept s t before reported text (inl (so_far,
 reached : (edid : Option Edid) (tree : List Node) (lines kept : List (List ℕ)) (reported text : List ℕ) (t : Session) → AreLines lines (first_session edid tree) kept reported text t → Reached edid tree t reported
 reached edid tree lines kept reported text t l = all_lines edid tree lines kept (first_session edid tree) t [] reported text (inl (so_far_start edid tree, refl)) l
 
+-- whatever may still come comes when nothing is certain yet
+pub comes_from : (pin : Option ℕ) (horizon end : ℕ) (events : List TimedEvent) (later : List Stretch) → MayCome pin horizon events later end → ComesFrom (certain_until pin horizon) events later end
+comes_from None horizon end events later comes = comes
+comes_from (Some low) horizon end events [] comes = absurd comes
+comes_from (Some low) horizon end events (pull ∷ later) (begins, ends, comes) = record {
+  scheduled = λ k e l. (let x = comes.scheduled k e l in omega (arith, x));
+  begun = All-cons (λ p. min horizon low ≤ p.from) pull later (omega (arith, begins)) (λ k p l. (let x = comes.begun k p l in omega (arith, x)));
+  over = (let x = comes.over in omega (arith, x));
+}
+
 pub sessions_report_fronts : SessionsReportFronts
 sessions_report_fronts edid tree lines kept reported text t l going events later end whole totals comes run =
     by_case (reached edid tree lines kept reported text t l)
   where
     by_case : Reached edid tree t reported → (more : List ℕ) × (whole ≡ (start_reported (Trace edid) (first_net tree t.notes.pulses) ++ reported) ++ more)
     by_case (inl (r, none)) =
-        reported_is_front (Trace edid) tree t.notes.pulses later t.notes.events events t.horizon end r.turns t.place reported whole totals
-        r.sound.order r.sound.framed comes r.leads run
+        reported_is_front (Trace edid) tree t.notes.pulses later t.notes.events events (certain_until t.notes.pin t.horizon) end r.turns t.place reported whole totals
+        r.sound.order r.sound.framed (comes_from t.notes.pin t.horizon end events later comes) r.leads run
     by_case (inr over) = absurd (not_both t.notes.end t.horizon going over.ended)
 
 pub sessions_report_traces : SessionsReportTraces

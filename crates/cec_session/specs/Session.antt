@@ -12,7 +12,7 @@ use Rattle.cec_device.specs.State.{State}
 use Rattle.cec_net.specs.State.{NetState, first_net}
 use Rattle.cec_net.specs.Step.{IsNextRound}
 use Rattle.cec_net.specs.Added.{pulse_fault}
-use Rattle.cec_asm.specs.Script.{IsNoWider, Notes, no_notes, last_time, within_limit, script_cause, IsLineRead, IsSchedule, AreFramedEvents}
+use Rattle.cec_asm.specs.Script.{IsNoWider, Notes, no_notes, last_time, script_cause, IsLineRead, IsSchedule, AreFramedEvents, MayFall}
 use Rattle.cec_asm.specs.declared.script.TimedEvent.{TimedEvent}
 use Rattle.cec_asm.specs.declared.fault.LineFault.{LineFault}
 use Rattle.cec_asm.specs.declared.script.ScriptCause.TheVariants.{Number, Name}
@@ -32,8 +32,8 @@ use Rattle.cec_session.specs.declared.live.Step.{Step}
 use Rattle.cec_session.specs.declared.live.Step.TheVariants.{Refuse, Idle, Show, Go, Edge, Finish}
 use Rattle.cec_session.specs.Command.{command_of}
 use Rattle.cec_session.specs.declared.edges.Span.{Span}
-use Rattle.cec_session.specs.Edges.{first_edge}
-use Rattle.cec_session.specs.Turns.{GoesWith, IsWithin}
+use Rattle.cec_session.specs.Edges.{first_edge, pinned_by}
+use Rattle.cec_session.specs.Turns.{GoesWith, IsWithin, certain_until}
 
 -- ---- a session
 
@@ -67,15 +67,22 @@ new_events old new = drop (length old.events) new.events
 abbrev pub new_pulses : Notes → Notes → List Stretch
 new_pulses old new = drop (length old.pulses) new.pulses
 
--- it ends the script before an instant
-abbrev pub ends_before : ℕ → Option ℕ → Bool
-ends_before horizon None = false
-ends_before horizon (Some end) = nat_lt end horizon
+-- it lets the pin go, which is low, before an instant
+abbrev pub rises_before : ℕ → Option ℕ → List Stretch → Bool
+rises_before horizon None pulses = false
+rises_before horizon (Some low) pulses = list_any (λ p. nat_lt p.to horizon) pulses
 
--- it is for an instant before the horizon
+-- an instant that it gives, of the pin's fall or of the script's end, lies before another
+abbrev pub is_given_before : ℕ → Option ℕ → Bool
+is_given_before horizon None = false
+is_given_before horizon (Some time) = nat_lt time horizon
+
+-- It is for an instant before the horizon. What begins, begins when it is still open; the pull that lets the pin go began before.
 abbrev pub is_past : ℕ → Notes → Notes → Bool
 is_past horizon old new =
-    list_any (λ e. nat_lt e.at horizon) (new_events old new) || (list_any (λ p. nat_lt p.from horizon) (new_pulses old new) || ends_before horizon new.end)
+    list_any (λ e. nat_lt e.at horizon) (new_events old new)
+    || (list_any (λ p. nat_lt p.from (certain_until old.pin horizon)) (new_pulses old new)
+    || (rises_before horizon old.pin (new_pulses old new) || (is_given_before (certain_until old.pin horizon) new.pin || is_given_before horizon new.end)))
 
 -- what a line of the script can change: what the lines say, the horizon, and the pulses that the network knows
 pub record Standing : Type 0 where
@@ -138,16 +145,20 @@ after_to s (Some time) = if nat_lt time s.horizon then s else record s { horizon
 
 -- ---- `wait`
 
--- the least horizon at which one more turn is reported, if nothing else comes: one microsecond after an event is applied or a round
--- closes. There is none where nothing comes by 1,000,000,000,000.
-abbrev pub IsSoonestBy : NetState → Turn → Option ℕ → Type 0
-IsSoonestBy net Stop soon = soon ≡ None
-IsSoonestBy net (Apply at) soon = soon ≡ Some (at + 1)
-IsSoonestBy net (Round begin) soon =
-    (outcome : Outcome) × (after : NetState) × IsWave outcome.wave × IsNextRound net begin outcome after × (soon ≡ within_limit (Some (after.close + 1)))
+-- an instant that is not after another
+abbrev pub at_most : ℕ → ℕ → Option ℕ
+at_most limit time = if nat_lt limit time then None else Some time
 
-abbrev pub IsSoonest : Config → Option ℕ → Type 0
-IsSoonest c soon = IsSoonestBy c.net (turn_at latest_event c) soon
+-- The least horizon at which one more turn is reported, if nothing else comes: one microsecond after an event is applied or a round
+-- closes. There is none where nothing comes by a limit: 1,000,000,000,000, or the instant from which on the pin is low.
+abbrev pub IsSoonestBy : ℕ → NetState → Turn → Option ℕ → Type 0
+IsSoonestBy limit net Stop soon = soon ≡ None
+IsSoonestBy limit net (Apply at) soon = soon ≡ Some (at + 1)
+IsSoonestBy limit net (Round begin) soon =
+    (outcome : Outcome) × (after : NetState) × IsWave outcome.wave × IsNextRound net begin outcome after × (soon ≡ at_most limit (after.close + 1))
+
+abbrev pub IsSoonest : ℕ → Config → Option ℕ → Type 0
+IsSoonest limit c soon = IsSoonestBy limit c.net (turn_at limit c) soon
 
 abbrev pub step_wait : Option ℕ → Step
 step_wait None = Idle
@@ -165,18 +176,29 @@ abbrev pub edge_horizon : ℕ → ℕ → Option ℕ → ℕ
 edge_horizon until close None = min until (close + 1)
 edge_horizon until close (Some edge) = min until (edge + 1)
 
-abbrev pub IsEdgeBy : ℕ → ℕ → NetState → Turn → ℕ → Type 0
-IsEdgeBy from until net Stop to = to ≡ until
-IsEdgeBy from until net (Apply at) to = to ≡ at + 1
-IsEdgeBy from until net (Round begin) to =
-    (outcome : Outcome) × (after : NetState) × IsWave outcome.wave × IsNextRound net begin outcome after × (to ≡ edge_horizon until after.close (first_edge from outcome.wave))
+-- where no round is on there is the pin's edge alone
+abbrev pub to_edge : ℕ → Option ℕ → ℕ
+to_edge until None = until
+to_edge until (Some edge) = min until (edge + 1)
 
-abbrev pub IsEdge : ℕ → ℕ → Config → ℕ → Type 0
-IsEdge from until c to = IsEdgeBy from until c.net (turn_at until c) to
+-- the pin as a round has it that closes then: not where it goes low later
+abbrev pub pin_by : Option ℕ → ℕ → Option ℕ
+pin_by None close = None
+pin_by (Some low) close = if nat_lt close low then None else Some low
+
+abbrev pub IsEdgeBy : Option ℕ → ℕ → ℕ → NetState → Turn → ℕ → Type 0
+IsEdgeBy pin from until net Stop to = to ≡ to_edge until (first_edge from (pinned_by pin []))
+IsEdgeBy pin from until net (Apply at) to = to ≡ at + 1
+IsEdgeBy pin from until net (Round begin) to =
+    (outcome : Outcome) × (after : NetState) × IsWave outcome.wave × IsNextRound net begin outcome after
+    × (to ≡ edge_horizon until after.close (first_edge from (pinned_by (pin_by pin after.close) outcome.wave)))
+
+abbrev pub IsEdge : Option ℕ → ℕ → ℕ → Config → ℕ → Type 0
+IsEdge pin from until c to = IsEdgeBy pin from until c.net (turn_at (certain_until pin until) c) to
 
 abbrev pub IsEdgeStepBy : Bool → Session → ℕ → Step → Session → Type 0
 IsEdgeStepBy true s until step t = (step ≡ refuse 1 Past) × (t ≡ s)
-IsEdgeStepBy false s until step t = (step ≡ Edge) × (to : ℕ) × IsEdge s.horizon until s.place to × (t ≡ record s { horizon = max s.horizon to })
+IsEdgeStepBy false s until step t = (step ≡ Edge) × (to : ℕ) × IsEdge s.notes.pin s.horizon until s.place to × (t ≡ record s { horizon = max s.horizon to })
 
 abbrev pub IsEdgeStep : Session → Option ℕ → Step → Session → Type 0
 IsEdgeStep s None step t = (step ≡ refuse 1 (Script Number)) × (t ≡ s)
@@ -193,7 +215,7 @@ step_show (Some device) = Show device
 abbrev pub IsStepBy : Session → Command → List ℕ → Step → Session → Type 0
 IsStepBy s commands.Script line step t =
     (read : Result Notes LineFault) × IsLineRead s.tree s.notes (length s.place.net.pulses) s.lines line read × (step ≡ step_noted (standing s) read) × (t ≡ with_standing s (standing_with (standing s) read))
-IsStepBy s commands.Wait line step t = (soon : Option ℕ) × IsSoonest s.place soon × (step ≡ step_wait soon) × (t ≡ after_wait s soon)
+IsStepBy s commands.Wait line step t = (soon : Option ℕ) × IsSoonest (certain_until s.notes.pin latest_event) s.place soon × (step ≡ step_wait soon) × (t ≡ after_wait s soon)
 IsStepBy s (commands.RunTo time) line step t = (step ≡ step_to s time) × (t ≡ after_to s time)
 IsStepBy s (commands.Show device) line step t = (step ≡ step_show device) × (t ≡ s)
 IsStepBy s (commands.Edge time) line step t = IsEdgeStep s time step t
@@ -228,7 +250,8 @@ span_of true true s = record { from = s.since; until = 18446744073709551615 }
 
 -- a session goes on: what it reports in the trace, that text with the edges, where edges are reported, and where its run then stands
 abbrev pub SessionGoes : Bool → Bool → Session → List ℕ → List ℕ → Config → Type 0
-SessionGoes edges ended s reported text place = GoesWith s.edid ended (span_of edges ended s) s.horizon s.place reported text place
+SessionGoes edges ended s reported text place =
+    GoesWith s.edid ended s.notes.pin (span_of edges ended s) (certain_until s.notes.pin s.horizon) s.place reported text place
 
 -- Of each step: the text that is due, and the session after it. It goes on where time has gone on: the turns that are certain, with
 -- the edges that are, then the answer; at the end all that is left of the trace.
@@ -258,6 +281,8 @@ pub record AreFit (count : ℕ) (notes : Notes) : Type 0 where
   pub wide : All IsNoWider notes.pulses
   pub early : All (λ pulse. pulse.from ≤ latest_event) notes.pulses
   pub ended : (time : ℕ) → notes.end ≡ Some time → IsSchedule count time 0 notes.events × (time ≤ latest_event)
+  pub held : (from : ℕ) → notes.pin ≡ Some from → MayFall notes.pulses from
+  pub let_go : (time : ℕ) → notes.end ≡ Some time → notes.pin ≡ None
 
 pub record IsReady (s : Session) : Type 0 where
   pub addressed : HasAddress s.edid

@@ -1,5 +1,6 @@
 -- The turns that a session reports (this profile's own).
-use Rattle.std.specs.Prelude.{◌≡◌, ℕ, zero, suc, ◌+◌, ◌<◌, ◌≤◌, Bool, true, false, List, [], ◌∷◌, ◌++◌, length, Option, Some, None, IsSome, All}
+use Rattle.std.specs.Prelude.{◌≡◌, ℕ, zero, suc, ◌+◌, ◌<◌, ◌≤◌, min, Bool, true, false, List, [], ◌∷◌, ◌++◌, length, Option, Some, None, IsSome, All}
+use Rattle.cec_wave.specs.declared.Stretch.{Stretch}
 use Rattle.cec_wave.specs.Line.{IsWave}
 use Rattle.cec_wave.specs.Bounds.{latest_instant}
 use Rattle.cec_wire.specs.declared.Outcome.{Outcome}
@@ -7,15 +8,28 @@ use Rattle.cec_net.specs.Progress.{IsProgress}
 use Rattle.cec_net.specs.State.{NetState, next_start}
 use Rattle.cec_net.specs.Step.{IsNextRound, after_round}
 use Rattle.hdmi_blocks.specs.declared.edid.Edid.{Edid}
+use Rattle.cec_asm.specs.declared.script.TimedEvent.{TimedEvent}
 use Rattle.cec_run.specs.declared.run.Reporting.TheVariants.{Trace}
 use Rattle.cec_run.specs.declared.run.Turn.{Turn}
 use Rattle.cec_run.specs.declared.run.Turn.TheVariants.{Stop, Apply, Round}
 use Rattle.cec_run.specs.Run.{Config, turn_at, IsTurn}
 use Rattle.cec_run.specs.Happening.{Happening, OfEvent, OfRound, Happens, text_of}
 use Rattle.cec_run.specs.Heard.{Hears}
-use Rattle.cec_certain.specs.Certain.{IsOverBy, LeadsIf, IsHeld, IsHeldBy}
+use Rattle.cec_certain.specs.Certain.{ComesFrom, IsOverBy, LeadsIf, IsHeld, IsHeldBy}
 use Rattle.cec_session.specs.declared.edges.Span.{Span}
-use Rattle.cec_session.specs.Edges.{edges_reported}
+use Rattle.cec_session.specs.Edges.{edges_reported, pinned_by}
+
+-- The instant before which turns are certain: the horizon. While the pin is low its pull is still to come, and began when it went low.
+abbrev pub certain_until : Option ℕ → ℕ → ℕ
+certain_until None horizon = horizon
+certain_until (Some low) horizon = min horizon low
+
+-- What may still come of a script: all of it for the horizon or later, but first the pull of the pin, where that is low. It began when
+-- the pin went low, and ends at the horizon or later.
+abbrev pub MayCome : Option ℕ → ℕ → List TimedEvent → List Stretch → ℕ → Type 0
+MayCome None horizon events later end = ComesFrom horizon events later end
+MayCome (Some low) horizon events [] end = ⊥
+MayCome (Some low) horizon events (pull ∷ later) end = (pull.from ≡ low) × (horizon ≤ pull.to) × ComesFrom horizon events later end
 
 -- What a turn has to be to be reported: while more lines may come, over before the horizon; once the script has ended, each is.
 abbrev pub IsReported : Bool → ℕ → Turn → Config → Type 0
@@ -35,32 +49,33 @@ pub record Goes (edid : Option Edid) (ended : Bool) (until : ℕ) (c : Config) (
 
 -- ---- the edges of turns
 
--- the edges of the next round, which begins then, that lie in a span
-abbrev pub HasEdges : Span → ℕ → NetState → List ℕ → Type 0
-HasEdges span begin net edges = (outcome : Outcome) × (after : NetState) × IsWave outcome.wave × IsNextRound net begin outcome after × (edges ≡ edges_reported span outcome.wave)
+-- the edges of the next round, which begins then, that lie in a span, by the pin
+abbrev pub HasEdges : Span → Option ℕ → ℕ → NetState → List ℕ → Type 0
+HasEdges span pin begin net edges =
+    (outcome : Outcome) × (after : NetState) × IsWave outcome.wave × IsNextRound net begin outcome after × (edges ≡ edges_reported span (pinned_by pin outcome.wave))
 
--- what a turn has of edges: those of a round
-abbrev pub AreEdgesOf : Span → NetState → Turn → List ℕ → Type 0
-AreEdgesOf span net Stop edges = edges ≡ []
-AreEdgesOf span net (Apply at) edges = edges ≡ []
-AreEdgesOf span net (Round begin) edges = HasEdges span begin net edges
+-- what a turn has of edges: those of a round, and the pin's
+abbrev pub AreEdgesOf : Span → Option ℕ → NetState → Turn → List ℕ → Type 0
+AreEdgesOf span pin net Stop edges = edges ≡ edges_reported span (pinned_by pin [])
+AreEdgesOf span pin net (Apply at) edges = edges ≡ edges_reported span (pinned_by pin [])
+AreEdgesOf span pin net (Round begin) edges = HasEdges span pin begin net edges
 
 -- So many turns that are reported: what they report in the trace, and the same with the edges of each round before its line.
 abbrev pub LeadsWith : Option Edid → Bool → Span → ℕ → ℕ → Config → List ℕ → List ℕ → Config → Type 0
 LeadsWith edid ended span until zero c reported text d = (reported ≡ []) × (text ≡ []) × (d ≡ c)
 LeadsWith edid ended span until (suc turns) c reported text d =
     (mid : Config) × (line : List ℕ) × (edges : List ℕ) × (others : List ℕ) × (rest : List ℕ) × IsTurn (Trace edid) until c line mid × IsReported ended until (turn_at until c) mid
-    × AreEdgesOf span c.net (turn_at until c) edges × LeadsWith edid ended span until turns mid others rest d × (reported ≡ line ++ others) × (text ≡ (edges ++ line) ++ rest)
+    × AreEdgesOf span None c.net (turn_at until c) edges × LeadsWith edid ended span until turns mid others rest d × (reported ≡ line ++ others) × (text ≡ (edges ++ line) ++ rest)
 
 -- All turns that are reported from one place on, with their edges that lie in a span, and last those of the round that comes next:
--- of one that is on, for no edge of a later one lies before the horizon.
-pub record GoesWith (edid : Option Edid) (ended : Bool) (span : Span) (until : ℕ) (c : Config) (reported text : List ℕ) (d : Config) : Type 0 where
+-- of one that is on, for no edge of a later one lies before the horizon, and from where the pin is low no edge but its fall.
+pub record GoesWith (edid : Option Edid) (ended : Bool) (pin : Option ℕ) (span : Span) (until : ℕ) (c : Config) (reported text : List ℕ) (d : Config) : Type 0 where
   pub turns : ℕ
   pub over : List ℕ
   pub on : List ℕ
   pub leads : LeadsWith edid ended span until turns c reported over d
   pub last : IsLast ended until d
-  pub on_is : AreEdgesOf span d.net (turn_at until d) on
+  pub on_is : AreEdgesOf span pin d.net (turn_at until d) on
   pub text_is : text ≡ over ++ on
 
 -- ---- what is heard of turns
@@ -94,10 +109,10 @@ abbrev pub ComesLast : Bool → ℕ → Config → Option ℕ → Type 0
 ComesLast ended until d None = turn_at until d ≡ Stop
 ComesLast ended until d (Some begin) = (turn_at until d ≡ Round begin) × IsOn true ended until begin d.net
 
--- the edges of the round that is on, where one is
-abbrev pub AreEdgesOn : Span → NetState → Option ℕ → List ℕ → Type 0
-AreEdgesOn span net None edges = edges ≡ []
-AreEdgesOn span net (Some begin) edges = HasEdges span begin net edges
+-- the edges of the round that is on, where one is, and the pin's
+abbrev pub AreEdgesOn : Span → Option ℕ → NetState → Option ℕ → List ℕ → Type 0
+AreEdgesOn span pin net None edges = edges ≡ edges_reported span (pinned_by pin [])
+AreEdgesOn span pin net (Some begin) edges = HasEdges span pin begin net edges
 
 -- turns that are reported were heard of, each once and in order: all of them, where it still wants to hear more
 pub record AreHeard {R : Type 0} (hears : R → Happening → R → Type 0) (ended : Bool) (until : ℕ) (c d : Config) (old new : R) (goes_on : Bool) (on : Option ℕ) : Type 0 where

@@ -12,12 +12,12 @@ use Rattle.cec_run.specs.declared.run.Reporting.TheVariants.{Trace}
 use Rattle.cec_run.specs.declared.run.Totals.{Totals}
 use Rattle.cec_run.specs.Run.{start, end_reported, IsRunText}
 use Rattle.cec_run.specs.Emulate.{IsTraceOf}
-use Rattle.cec_certain.specs.Certain.{ComesFrom}
 use Rattle.cec_certain.specs.Causal.{BeginsWith, before_reported}
 use Rattle.cec_session.specs.declared.command.Command.{Command}
 use Rattle.cec_session.specs.declared.command.Command.TheVariants as commands
 use Rattle.cec_session.specs.declared.live.Step.{Step}
 use Rattle.cec_session.specs.declared.live.Step.TheVariants.{Refuse, Idle, Show, Go, Edge, Finish}
+use Rattle.cec_session.specs.Turns.{MayCome}
 use Rattle.cec_session.specs.Command.{command_of}
 use Rattle.cec_session.specs.Session.{Session, first_session, IsStep, IsDue}
 use Rattle.cec_wave.specs.Bounds.{most_pulses}
@@ -71,7 +71,7 @@ AreLines (line ∷ lines) s kept reported text t =
 -- come of the lines that were taken.
 abbrev pub SessionsReportFronts : Type 0
 SessionsReportFronts = (edid : Option Edid) (tree : List Node) (lines kept : List (List ℕ)) (reported text : List ℕ) (t : Session) → AreLines lines (first_session edid tree) kept reported text t → t.notes.end ≡ None
-    → (events : List TimedEvent) (later : List Stretch) (end : ℕ) (whole : List ℕ) (totals : Totals) → ComesFrom t.horizon events later end
+    → (events : List TimedEvent) (later : List Stretch) (end : ℕ) (whole : List ℕ) (totals : Totals) → MayCome t.notes.pin t.horizon events later end
     → IsRunText (Trace edid) end (start (first_net tree (t.notes.pulses ++ later)) (t.notes.events ++ events)) whole totals
     → BeginsWith (before_reported (Trace edid) tree t.notes.pulses reported) whole
 

@@ -1,9 +1,10 @@
 //! The edges of the line that a session reports.
 ghost use Rattle.std.specs.Prelude.{◌≡◌};
+ghost use Rattle.cec_wave.specs.Bounds.{latest_instant};
 ghost use Rattle.hdmi_core.specs.Adds.{Adds};
-ghost use Rattle.cec_session.specs.Edges.{edge_line, edge_reported, edges_reported, first_edge, is_in, stretch_reported};
+ghost use Rattle.cec_session.specs.Edges.{edge_line, edge_reported, edges_reported, first_edge, is_in, pinned, pinned_by, stretch_reported};
 
-use cec_wave::Stretch;
+use cec_wave::{LATEST_INSTANT, Stretch};
 use hdmi_core::{Counted, Piece, Sink};
 
 /// The instants from one on and before another.
@@ -70,8 +71,51 @@ pub(crate) fn add_edges<S: Sink>(out: &mut Counted<'_, S>, span: Span, stretches
     add_stretches(out, span, stretches);
 }
 
-/// The first edge of a round at an instant or later, by its low stretches.
-pub(crate) fn first_edge(from: u64, stretches: &[Stretch]) -> Option<u64>
+// A pull of a pin that is low, from an instant on.
+fn open_pull(from: u64) -> Stretch
+    ensures { result ≡ record { from = from; to = latest_instant } }
+{
+    Stretch {
+        from,
+        to: LATEST_INSTANT,
+    }
+}
+
+// Adds the edges of a round, where the pin is low from an instant on, that lie in the span.
+#[tactic(auto, using(hdmi_core::proofs::Adding::then, hdmi_core::proofs::Adding::nothing))]
+fn add_pinned<S: Sink>(out: &mut Counted<'_, S>, span: Span, low: u64, stretches: &[Stretch])
+    ensures { Adds out.old out.new (edges_reported span (pinned low stretches.now)) }
+{
+    let Some((stretch, others)) = stretches.split_first() else {
+        add_stretch(out, span, open_pull(low));
+        return;
+    };
+    if stretch.to < low {
+        add_stretch(out, span, *stretch);
+        add_pinned(out, span, low, others);
+    } else {
+        add_stretch(out, span, open_pull(stretch.from.min(low)));
+    }
+}
+
+/// Adds the edges of a round that lie in the span, by its low stretches, and by the instant from which on the pin is low, where
+/// it is.
+pub(crate) fn add_edges_by<S: Sink>(
+    out: &mut Counted<'_, S>,
+    span: Span,
+    pin: Option<u64>,
+    stretches: &[Stretch],
+)
+    ensures { Adds out.old out.new (edges_reported span (pinned_by pin stretches.now)) }
+{
+    match pin {
+        None => add_edges(out, span, stretches),
+        Some(low) => add_pinned(out, span, low, stretches),
+    }
+}
+
+// The first edge of a round at an instant or later, by its low stretches.
+fn first_edge(from: u64, stretches: &[Stretch]) -> Option<u64>
     ensures { result ≡ first_edge from stretches.now }
 {
     let Some((stretch, others)) = stretches.split_first() else {
@@ -83,5 +127,35 @@ pub(crate) fn first_edge(from: u64, stretches: &[Stretch]) -> Option<u64>
         Some(stretch.to)
     } else {
         first_edge(from, others)
+    }
+}
+
+// The first edge at an instant or later of a round, where the pin is low from an instant on.
+fn first_pinned(from: u64, low: u64, stretches: &[Stretch]) -> Option<u64>
+    ensures { result ≡ first_edge from (pinned low stretches.now) }
+{
+    let Some((first, others)) = stretches.split_first() else {
+        return first_edge(from, &[open_pull(low)]);
+    };
+    if low <= first.to {
+        return first_edge(from, &[open_pull(first.from.min(low))]);
+    }
+    if from <= first.from {
+        Some(first.from)
+    } else if from <= first.to {
+        Some(first.to)
+    } else {
+        first_pinned(from, low, others)
+    }
+}
+
+/// The first edge of a round at an instant or later, by its low stretches, and by the instant from which on the pin is low, where
+/// it is.
+pub(crate) fn first_edge_by(from: u64, pin: Option<u64>, stretches: &[Stretch]) -> Option<u64>
+    ensures { result ≡ first_edge from (pinned_by pin stretches.now) }
+{
+    match pin {
+        None => first_edge(from, stretches),
+        Some(low) => first_pinned(from, low, stretches),
     }
 }

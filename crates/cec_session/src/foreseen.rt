@@ -14,10 +14,11 @@ ghost use Rattle.hdmi_core.specs.Adds.{Adds};
 ghost use Rattle.cec_text.specs.ReadingText.{is_complete};
 ghost use Rattle.cec_run.specs.Run.{counted_event, counted_round, turn_of};
 ghost use Rattle.cec_run.specs.Happening.{OfEvent, OfRound};
-ghost use Rattle.cec_session.specs.Edges.{first_edge};
+ghost use Rattle.cec_session.specs.Edges.{first_edge, pinned_by};
+ghost use Rattle.cec_session.specs.Session.{pin_by};
 ghost use Rattle.cec_session.specs.Turns.{AreAhead, AreEdgesOn, HasEdges, IsForeseen, IsKept, IsOn};
 
-use crate::edges::{Span, add_edges, first_edge};
+use crate::edges::{Span, add_edges_by, first_edge_by};
 use cec_asm::TimedEvent;
 use cec_device::Device;
 use cec_net::{Net, PulseError};
@@ -92,6 +93,14 @@ fn foresee(
     }
     *is_known = true;
     run_ahead(net, begin, next)
+}
+
+// The pin as a round has it that closes then.
+fn pin_by(pin: Option<u64>, close: u64) -> Option<u64>
+    ensures { result ≡ pin_by pin close }
+{
+    let low = pin?;
+    if close < low { None } else { Some(low) }
 }
 
 impl Foreseen {
@@ -200,43 +209,57 @@ impl Foreseen {
         foresee(&mut self.net, begin, &mut self.next, &mut self.is_known)
     }
 
-    /// The first edge of the next round, which begins at `begin`, at an instant or later.
-    pub fn next_edge(&mut self, begin: u64, from: u64) -> Option<u64>
+    /// The first edge of the next round, which begins at `begin`, at an instant or later: of its own, or where the pin goes low by its
+    /// close the pin's.
+    pub fn next_edge(&mut self, begin: u64, from: u64, pin: Option<u64>) -> Option<u64>
         requires early { self.old.close ≤ latest_instant }
         requires begins { next_start self.old ≡ Some begin }
         ensures same { self.new ≡ self.old }
-        ensures edge { (outcome : OutcomeValue) × (after : NetState) × IsWave outcome.wave × IsNextRound self.old begin outcome after × (result ≡ first_edge from outcome.wave) }
+        ensures edge { (outcome : OutcomeValue) × (after : NetState) × IsWave outcome.wave × IsNextRound self.old begin outcome after × (result ≡ first_edge from (pinned_by (pin_by pin after.close) outcome.wave)) }
+    {
+        let close = foresee(&mut self.net, begin, &mut self.next, &mut self.is_known);
+        let Some(outcome) = &self.next else {
+            unreachable!();
+        };
+        first_edge_by(from, pin_by(pin, close), outcome.wave.as_slice())
+    }
+
+    // Adds the edges of the next round, which begins at `begin`, that lie in a span, by the pin.
+    fn add_edges<S: Sink>(
+        &mut self,
+        out: &mut Counted<'_, S>,
+        begin: u64,
+        span: Span,
+        pin: Option<u64>,
+    )
+        requires early { self.old.close ≤ latest_instant }
+        requires begins { next_start self.old ≡ Some begin }
+        ensures same { self.new ≡ self.old }
+        ensures edges { (edges : List ℕ) × HasEdges span pin begin self.old edges × Adds out.old out.new edges }
     {
         let _close = foresee(&mut self.net, begin, &mut self.next, &mut self.is_known);
         let Some(outcome) = &self.next else {
             unreachable!();
         };
-        first_edge(from, outcome.wave.as_slice())
+        add_edges_by(out, span, pin, outcome.wave.as_slice());
     }
 
-    // Adds the edges of the next round, which begins at `begin`, that lie in a span.
-    fn add_edges<S: Sink>(&mut self, out: &mut Counted<'_, S>, begin: u64, span: Span)
-        requires early { self.old.close ≤ latest_instant }
-        requires begins { next_start self.old ≡ Some begin }
-        ensures same { self.new ≡ self.old }
-        ensures edges { (edges : List ℕ) × HasEdges span begin self.old edges × Adds out.old out.new edges }
-    {
-        let _close = foresee(&mut self.net, begin, &mut self.next, &mut self.is_known);
-        let Some(outcome) = &self.next else {
-            unreachable!();
-        };
-        add_edges(out, span, outcome.wave.as_slice());
-    }
-
-    /// Adds the edges of the next round that lie in a span, where it is on.
-    pub fn add_edges_on<S: Sink>(&mut self, out: &mut Counted<'_, S>, on: Option<u64>, span: Span)
+    /// Adds the edges of the next round that lie in a span, where it is on, and the pin's, where it is low.
+    pub fn add_edges_on<S: Sink>(
+        &mut self,
+        out: &mut Counted<'_, S>,
+        on: Option<u64>,
+        span: Span,
+        pin: Option<u64>,
+    )
         requires early { self.old.close ≤ latest_instant }
         requires begins { IfSome on (λ begin. next_start self.old ≡ Some begin) }
         ensures same { self.new ≡ self.old }
-        ensures edges { (edges : List ℕ) × AreEdgesOn span self.old on edges × Adds out.old out.new edges }
+        ensures edges { (edges : List ℕ) × AreEdgesOn span pin self.old on edges × Adds out.old out.new edges }
     {
-        if let Some(begin) = on {
-            self.add_edges(out, begin, span);
+        match on {
+            None => add_edges_by(out, span, pin, &[]),
+            Some(begin) => self.add_edges(out, begin, span, pin),
         }
     }
 

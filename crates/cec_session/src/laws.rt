@@ -1,5 +1,5 @@
 //! Laws of whole sessions.
-ghost use Rattle.cec_session.specs.EdgesStay.{EdgesStay};
+ghost use Rattle.cec_session.specs.EdgesStay.{EdgesStay, PinnedEdgesStay};
 ghost use Rattle.cec_session.specs.Session.{StepsHaveOneText};
 ghost use Rattle.cec_session.specs.Whole.{SessionsReportFronts, SessionsReportTraces, SessionsReportTracesOf};
 
@@ -23,6 +23,11 @@ pub fn sessions_report_traces()
 /// it has before the horizon.
 pub fn edges_stay()
     ensures { EdgesStay }
+{}
+
+/// So they are while the pin is low, where it goes low within the round's reading, however long it is.
+pub fn pinned_edges_stay()
+    ensures { PinnedEdgesStay }
 {}
 
 /// What a session has reported is the trace that its topology has with its script, with the lines that were refused and the

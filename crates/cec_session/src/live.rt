@@ -9,10 +9,11 @@ use crate::edges::Span;
 use crate::foreseen::Foreseen;
 use crate::note::{events_after, note_line};
 use crate::session_text::SessionText;
-use crate::turns::{next_edge, soonest, take_turns};
+use crate::turns::{certain_until, next_edge, soonest, take_turns};
 use cec_asm::{ScriptCause, ScriptDraft};
 use cec_run::{Totals, first_time};
 use cec_trace::{add_last_lines, write_ports};
+use cec_wave::LATEST_EVENT;
 use hdmi_blocks::Edid;
 use hdmi_core::{Counted, Sink, WriteFault};
 use hdmi_topo::Tree;
@@ -150,6 +151,7 @@ impl Live {
     ghost use Rattle.cec_session.specs.declared.live.Step.TheVariants.{Edge, Finish, Go, Idle, Refuse, Show};
     ghost use Rattle.cec_session.specs.Note.{IsSettled};
     ghost use Rattle.cec_session.specs.Session.{IsEdgeStep, IsSoonest, IsStep, NamesShown, after_to, after_wait, first_session, span_of, with_line_counted, standing, step_to, step_wait, taken_line, with_standing};
+    ghost use Rattle.cec_session.specs.Turns.{certain_until};
     ghost use Rattle.cec_session.specs.Taken.{IsAnswered, IsGone, IsLineTaken, IsOfMemory, IsTaken};
 
     /// A run before its first line. The television's EDID, where it is given, has an HDMI block.
@@ -211,11 +213,13 @@ impl Live {
 
     // Takes `wait`.
     fn wait(&mut self) -> Step
-        ensures { (soon : Option ℕ) × IsSoonest self.old.place soon × (result ≡ step_wait soon) × (self.new ≡ after_wait self.old soon) }
+        ensures { (soon : Option ℕ) × IsSoonest (certain_until self.old.notes.pin latest_event) self.old.place soon × (result ≡ step_wait soon) × (self.new ≡ after_wait self.old soon) }
     {
+        let limit = certain_until(self.draft.pin, LATEST_EVENT);
         match soonest(
             &mut self.net,
             first_time(events_after(&self.draft, self.applied)),
+            limit,
         ) {
             None => Step::Idle,
             Some(time) => {
@@ -254,11 +258,13 @@ impl Live {
         if until < self.horizon {
             return refuse(1, RefusalCause::Past);
         }
+        let pin = self.draft.pin;
         let horizon = next_edge(
             &mut self.net,
             first_time(events_after(&self.draft, self.applied)),
             self.horizon,
             until,
+            pin,
         );
         self.horizon = self.horizon.max(horizon);
         Step::Edge
@@ -310,6 +316,8 @@ impl Live {
     {
         self.net.pulses_are_ahead();
         let span = self.span(edges, ended);
+        let pin = self.draft.pin;
+        let until = certain_until(pin, self.horizon);
         let mut applied = 0;
         let mut told = SessionText::new(text, &self.edid, span);
         let on = take_turns(
@@ -317,13 +325,13 @@ impl Live {
             &mut self.totals,
             events_after(&self.draft, self.applied),
             &mut applied,
-            self.horizon,
+            until,
             ended,
             &mut told,
         );
         self.applied += applied;
         let mut text = told.into_text();
-        self.net.add_edges_on(&mut text, on, span);
+        self.net.add_edges_on(&mut text, on, span, pin);
         text
     }
 

@@ -5,12 +5,14 @@ ghost use Rattle.cec_asm.specs.Script.{IsLineRead, Notes, notes_of};
 ghost use Rattle.cec_asm.specs.declared.fault.LineFault.{LineFault as LineFaultValue};
 ghost use Rattle.cec_certain.specs.Certain.{with_pulses};
 ghost use Rattle.cec_session.specs.Note.{Extends, IsSettled, refused_by};
-ghost use Rattle.cec_session.specs.Session.{ends_before, refuse, refuses_pulse};
+ghost use Rattle.cec_session.specs.Session.{is_given_before, refuse, refuses_pulse, rises_before};
+ghost use Rattle.cec_session.specs.Turns.{certain_until};
 ghost use Rattle.cec_session.specs.declared.answer.RefusalCause.TheVariants.{Past};
 
 use crate::answer::{Refusal, RefusalCause};
 use crate::foreseen::Foreseen;
 use crate::live::Step;
+use crate::turns::certain_until;
 use cec_asm::{ScriptDraft, ScriptLineError, TimedEvent, take_line};
 use cec_wave::Stretch;
 use hdmi_topo::Tree;
@@ -45,12 +47,28 @@ fn any_pulse_before(pulses: &[Stretch], horizon: u64) -> bool
     pulses.iter().any(|pulse| pulse.from < horizon)
 }
 
-fn ends_before(horizon: u64, end: Option<u64>) -> bool
-    ensures { result ≡ ends_before horizon end }
+fn any_pulse_ended(pulses: &[Stretch], horizon: u64) -> bool
+    ensures { result ≡ list_any (λ p. nat_lt p.to horizon) pulses.now }
 {
-    match end {
+    pulses.iter().any(|pulse| pulse.to < horizon)
+}
+
+// Whether the pull that lets a pin go, which is low, ends before the horizon.
+fn rises_before(horizon: u64, pin: Option<u64>, pulses: &[Stretch]) -> bool
+    ensures { result ≡ rises_before horizon pin pulses.now }
+{
+    match pin {
         None => false,
-        Some(end) => end < horizon,
+        Some(_) => any_pulse_ended(pulses, horizon),
+    }
+}
+
+fn is_given_before(horizon: u64, time: Option<u64>) -> bool
+    ensures { result ≡ is_given_before horizon time }
+{
+    match time {
+        None => false,
+        Some(time) => time < horizon,
     }
 }
 
@@ -70,48 +88,57 @@ fn add_pulse(net: &mut Foreseen, pulses: &[Stretch]) -> bool
     }
 }
 
-// Whether what came after so many events and pulses, or an end, is for an instant before the horizon.
-fn is_past(draft: &ScriptDraft, events: usize, pulses: usize, horizon: u64) -> bool
-    ensures { result ≡ (list_any (λ e. nat_lt e.at horizon) (drop events draft.now.events.items)
-        || (list_any (λ p. nat_lt p.from horizon) (drop pulses draft.now.pulses.items) || ends_before horizon draft.now.end)) }
-{
-    any_event_before(after(&draft.events, events), horizon)
-        || any_pulse_before(after(&draft.pulses, pulses), horizon)
-        || ends_before(horizon, draft.end)
+// What a draft had before a line.
+#[derive(Clone, Copy, Debug)]
+struct Before {
+    events: usize,
+    pulses: usize,
+    pin: Option<u64>,
 }
 
-// Takes a line back, before which there were so many events and pulses and no end, and refuses it.
-fn take_back(draft: &mut ScriptDraft, events: usize, pulses: usize) -> Step
-    ensures notes { notes_of draft.new ≡ record { events = take events draft.old.events.items; pulses = take pulses draft.old.pulses.items; end = None } }
+// Whether what a line adds, a fall of the pin, or an end, is for an instant before the horizon.
+fn is_past(draft: &ScriptDraft, before: Before, horizon: u64) -> bool
+    ensures { result ≡ (list_any (λ e. nat_lt e.at horizon) (drop before.events draft.now.events.items)
+        || (list_any (λ p. nat_lt p.from (certain_until before.pin horizon)) (drop before.pulses draft.now.pulses.items)
+        || (rises_before horizon before.pin (drop before.pulses draft.now.pulses.items)
+        || (is_given_before (certain_until before.pin horizon) draft.now.pin || is_given_before horizon draft.now.end)))) }
+{
+    let pulses = after(&draft.pulses, before.pulses);
+    let certain = certain_until(before.pin, horizon);
+    any_event_before(after(&draft.events, before.events), horizon)
+        || any_pulse_before(pulses, certain)
+        || rises_before(horizon, before.pin, pulses)
+        || is_given_before(certain, draft.pin)
+        || is_given_before(horizon, draft.end)
+}
+
+// Takes a line back, before which there was no end, and refuses it.
+fn take_back(draft: &mut ScriptDraft, before: Before) -> Step
+    ensures notes { notes_of draft.new ≡ record { events = take before.events draft.old.events.items; pulses = take before.pulses draft.old.pulses.items; end = None; pin = before.pin } }
     ensures step { result ≡ refuse 1 Past }
 {
-    draft.events.truncate(events);
-    draft.pulses.truncate(pulses);
+    draft.events.truncate(before.events);
+    draft.pulses.truncate(before.pulses);
     draft.end = None;
+    draft.pin = before.pin;
     Step::Refuse(Refusal {
         cause: RefusalCause::Past,
         word: 1,
     })
 }
 
-// What becomes of a line that the draft has taken, before which there were so many events and pulses and no end.
-fn settle(
-    draft: &mut ScriptDraft,
-    events: usize,
-    pulses: usize,
-    net: &mut Foreseen,
-    horizon: &mut u64,
-) -> Step
-    requires few { length (drop pulses draft.old.pulses.items) ≤ 1 }
-    ensures { (old : Notes) → old.end ≡ None → Extends old (notes_of draft.old) → events ≡ length old.events → pulses ≡ length old.pulses
+// What becomes of a line that the draft has taken, before which there was no end.
+fn settle(draft: &mut ScriptDraft, before: Before, net: &mut Foreseen, horizon: &mut u64) -> Step
+    requires few { length (drop before.pulses draft.old.pulses.items) ≤ 1 }
+    ensures { (old : Notes) → old.end ≡ None → Extends old (notes_of draft.old) → before.events ≡ length old.events → before.pulses ≡ length old.pulses → before.pin ≡ old.pin
         → IsSettled (record { notes = old; horizon = horizon.old; net = net.old }) (Ok (notes_of draft.old)) result
         (record { notes = notes_of draft.new; horizon = horizon.new; net = net.new }) }
 {
-    if is_past(draft, events, pulses, *horizon) {
-        return take_back(draft, events, pulses);
+    if is_past(draft, before, *horizon) {
+        return take_back(draft, before);
     }
-    if add_pulse(net, after(&draft.pulses, pulses)) {
-        return take_back(draft, events, pulses);
+    if add_pulse(net, after(&draft.pulses, before.pulses)) {
+        return take_back(draft, before);
     }
     match draft.end {
         None => Step::Go,
@@ -150,10 +177,13 @@ pub(crate) fn note_line(
         × IsSettled (record { notes = notes_of draft.old; horizon = horizon.old; net = net.old }) read step
         (record { notes = notes_of draft.new; horizon = horizon.new; net = net.new })) }
 {
-    let events = draft.events.len();
-    let pulses = draft.pulses.len();
+    let before = Before {
+        events: draft.events.len(),
+        pulses: draft.pulses.len(),
+        pin: draft.pin,
+    };
     match take_line(tree, draft, net.waiting(), number, line) {
-        Ok(()) => Some(settle(draft, events, pulses, net, horizon)),
+        Ok(()) => Some(settle(draft, before, net, horizon)),
         Err(error) => refused_by(error),
     }
 }

@@ -1,4 +1,6 @@
-//! Scripts cut into sessions: without its answers, what a session wrote is the trace of the lines that were taken.
+//! Scripts cut into sessions: without its answers, what a session wrote is the trace of the lines that were taken, and the edges
+//! of its run.
+use crate::edges::edges_of;
 use crate::pipes::{Wanted, end_of, lines_of, said_in};
 use crate::rooms::{ROOMS, parts};
 use cec_run::emulate::emulate;
@@ -64,8 +66,8 @@ fn send_others(
     now
 }
 
-/// A session over a script, cut by the numbers from a start on, writes what `run` writes of its script.
-fn is_cut(rt: &(impl Abort + AllocGlobal), room: &str, start: u64) {
+/// A session over a script, cut by the numbers from a start on, writes what `run` writes of its script, and these edges after a line.
+fn is_cut(rt: &(impl Abort + AllocGlobal), room: &str, asks: &[u8], edges: &[u8], start: u64) {
     let (topology, lines) = parts(room);
     let mut numbers = Numbers(start);
     let mut sent = Vec::new(rt.alloc());
@@ -73,6 +75,7 @@ fn is_cut(rt: &(impl Abort + AllocGlobal), room: &str, start: u64) {
     sent.extend_from_slice(topology.as_bytes())
         .expect(rt, "a topology");
     sent.extend_from_slice(b"\nscript\n").expect(rt, "a line");
+    send(rt, &mut sent, &mut script, asks, false);
     let mut now = 0u64;
     for line in lines.lines() {
         now = send_others(rt, &mut numbers, &mut sent, &mut script, now, instant(line));
@@ -91,14 +94,26 @@ fn is_cut(rt: &(impl Abort + AllocGlobal), room: &str, start: u64) {
         ended.is_ok() && ran.is_ok() && reported.as_slice() == trace.as_slice(),
         "{start}: {room}"
     );
+    let reported = lines_of(rt, said.as_slice(), Wanted::Edges);
+    assert!(rt; reported.as_slice() == edges, "{start}: {room}");
 }
 
 #[test]
 fn reports_the_trace_of_the_lines_taken(rt: HostRuntime) {
     for room in ROOMS {
         for start in 0..10u64 {
-            is_cut(&rt, room, start);
+            is_cut(&rt, room, b"edges off", b"", start);
         }
+    }
+}
+
+#[test]
+fn reports_the_edges_of_the_lines_taken(rt: HostRuntime) {
+    for room in ROOMS {
+        let (topology, script) = parts(room);
+        let edges = edges_of(&rt, topology, script);
+        is_cut(&rt, room, b"edges on", edges.as_slice(), 10);
+        is_cut(&rt, room, b"edges on", edges.as_slice(), 11);
     }
 }
 

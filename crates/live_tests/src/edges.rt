@@ -123,7 +123,7 @@ fn send(rt: &impl Abort, sent: &mut Vec<u8>, line: &[u8]) {
 }
 
 /// The edges that `run --edges` writes of a room, as a session reports them.
-fn edges_of(rt: &(impl Abort + AllocGlobal), topology: &str, script: &str) -> Vec<u8> {
+pub(crate) fn edges_of(rt: &(impl Abort + AllocGlobal), topology: &str, script: &str) -> Vec<u8> {
     let mut file = Vec::new(rt.alloc());
     let ran = emulate_edges(
         rt.alloc(),

@@ -1,4 +1,4 @@
-//! Inputs of `run` in examples/, and three more: each a topology, a line `script` and a script in the order of its times.
+//! Inputs of `run` in examples/, and four more: each a topology, a line `script` and a script in the order of its times.
 
 pub(crate) const ROOMS: &[&str] = &[
     "\
@@ -127,6 +127,30 @@ at 850000 hold dut 0
 at 900000 send dut 0>4 give-osd-name
 pulse 950000 600
 at 1000000 drop dut
+end 1300000
+",
+    "\
+# A seat whose firmware acknowledges a frame by its pin, then holds the line, and is let go by the end.
+device tv tv 2
+device p1 player 0
+device dut outside 0
+plug p1 tv 1
+plug dut tv 2
+script
+at 1000000 send p1 4>8 give-osd-name
+pin 1026400 0
+pin 1027600 1
+pin 1050101 0
+pin 1051000 0
+pin 1051900 1
+pull 1052500 600
+pin 1060000 0
+at 1100000 press p1 play
+pin 1130000 1
+pin 1140000 1
+at 1150000 send p1 4>0 image-view-on
+pulse 1160000 100
+pin 1290000 0
 end 1300000
 ",
 ];

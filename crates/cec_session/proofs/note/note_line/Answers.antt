@@ -1,4 +1,4 @@
-use Rattle.std.proofs.Common.{rules, ◌≡◌, ◌≤◌, ℕ, length, drop, Option, MatchOption, Result, Ok, Err, sym, subst}
+use Rattle.std.proofs.Common.{rules, ◌≡◌, ◌≤◌, ℕ, length, drop, Option, MatchOption, Result, Ok, Err, refl, sym, subst}
 use Rattle.cec_asm.specs.Script.{Gives, Notes, IsLineRead, notes_of}
 use Rattle.cec_asm.specs.declared.fault.LineFault.{LineFault}
 use Rattle.cec_session.specs.declared.live.Step.{Step}
@@ -11,7 +11,7 @@ pub settle-requires : goal.settle-requires
 settle-requires c =
     let old = notes_of c.args.draft.now in
     let new = notes_of c.take_line.new.draft in
-    let count : c.len-pulses.result ≡ length old.pulses = search rules in
+    let count : c.len-2.result ≡ length old.pulses = search rules in
     let e = line_extends c.args.tree.now old c.waiting.result c.args.number c.args.line.now new c.in-Ok.ensures.gives in
     record { few = subst (λ (n : ℕ). length (drop n new.pulses) ≤ 1) (sym count) (few_new old new e) }
 
@@ -19,10 +19,10 @@ pub returns-in-Ok : goal.returns-in-Ok
 returns-in-Ok c =
     let old = notes_of c.args.draft.now in
     let new = notes_of c.take_line.new.draft in
-    let events : c.len-events.result ≡ length old.events = search rules in
-    let pulses : c.len-pulses.result ≡ length old.pulses = search rules in
+    let events : c.len.result ≡ length old.events = search rules in
+    let pulses : c.len-2.result ≡ length old.pulses = search rules in
     let e = line_extends c.args.tree.now old c.waiting.result c.args.number c.args.line.now new c.in-Ok.ensures.gives in
-    (Ok new, subst (λ (waiting : ℕ). IsLineRead c.args.tree.now old waiting c.args.number c.args.line.now (Ok new)) c.waiting.ensures c.in-Ok.ensures.gives, c.settle.ensures old c.requires.going e events pulses)
+    (Ok new, subst (λ (waiting : ℕ). IsLineRead c.args.tree.now old waiting c.args.number c.args.line.now (Ok new)) c.waiting.ensures c.in-Ok.ensures.gives, c.settle.ensures old c.requires.going e events pulses refl)
 
 pub returns-in-Err : goal.returns-in-Err
 returns-in-Err c =

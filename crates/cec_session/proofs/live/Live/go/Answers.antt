@@ -5,7 +5,7 @@ use Rattle.cec_asm.specs.declared.script.TimedEvent.{TimedEvent}
 use Rattle.cec_run.specs.Run.{Config}
 use Rattle.cec_session.specs.Session.{Session, span_of}
 use Rattle.cec_session.specs.Taken.{IsGone}
-use Rattle.cec_session.proofs.Going.{all_added, drop_schedule, drop_drop, gone_is, told_from, told_text}
+use Rattle.cec_session.proofs.Going.{Added, all_added, drop_schedule, drop_drop, gone_is, told_from, told_text}
 use Rattle.cec_session.proofs.HasText.{has_text}
 use Rattle.cec_session.proofs.live.Live.go.Goals as goal
 
@@ -48,5 +48,6 @@ returns g c =
     let second = subst (λ (m : Tally). Adds m c.add_edges_on.new.out edges.0) c.into_text-text.ensures edges.2 in
     subst (λ (s : Session). IsGone c.args.edges c.args.ended s t c.args.text c.add_edges_on.new.out) from
     (gone_is c.args.edges c.args.ended c.span-span.result s t d c.args.text c.add_edges_on.new.out (c.span-span.ensures ∙ ap (span_of c.args.edges c.args.ended) (sym from)) stands
-    (all_added here.edid.value c.args.ended c.span-span.result here.horizon s.place d heard.happened turns.result edges.0 c.args.text turns.new.reporter.trace.text c.add_edges_on.new.out
-    heard.goes heard.last edges.1 (has_text here.edid.value c.args.ended c.span-span.result here.horizon s.place c.pulses_are_ahead.ensures) first second))
+    (subst (λ (until : ℕ). Added here.edid.value c.args.ended here.draft.pin c.span-span.result until s.place d c.args.text c.add_edges_on.new.out) c.certain_until-until.ensures.result
+    (all_added here.edid.value c.args.ended here.draft.pin c.span-span.result c.certain_until-until.result s.place d heard.happened turns.result edges.0 c.args.text turns.new.reporter.trace.text c.add_edges_on.new.out
+    heard.goes heard.last edges.1 (has_text here.edid.value c.args.ended here.draft.pin c.span-span.result c.certain_until-until.result s.place c.pulses_are_ahead.ensures) first second)))
