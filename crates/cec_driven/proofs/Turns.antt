@@ -1,6 +1,10 @@
 -- A run has one text of its drives: each turn leads to one place, and reports one text.
 use Rattle.std.proofs.Common.{◌≡◌, ℕ, zero, suc, max, List, [], ◌∷◌, ◌++◌, ap, ap₂, ◌∙◌, sym, subst, append_assoc, append-nil}
+use Rattle.cec_wave.specs.declared.Stretch.{Stretch}
+use Rattle.cec_wave.specs.Line.{IsWave}
+use Rattle.cec_wire.specs.declared.Seat.{Seat}
 use Rattle.cec_wire.specs.declared.Outcome.{Outcome}
+use Rattle.cec_wire.specs.Round.{IsRound}
 use Rattle.cec_wire.proofs.OneOutcome.{one_outcome}
 use Rattle.cec_net.specs.Step.{after_round, seats_of}
 use Rattle.cec_vcd.specs.Text.{last}
@@ -15,6 +19,10 @@ use Rattle.cec_run.specs.Run.{Config, turn_at, counted_round, IsEventTurn}
 use Rattle.cec_run.proofs.Turns.{same_outcome}
 use Rattle.cec_driven.specs.Driven.{round_drives, IsDrivenBy, IsDrivenTurn, Drives, IsDrivenFrom}
 
+-- a round has one outcome
+pub same_round : (seats : List Seat) (begin : ℕ) (pulses : List Stretch) (o p : Outcome) → IsWave o.wave → IsWave p.wave → IsRound seats begin pulses o → IsRound seats begin pulses p → o ≡ p
+same_round seats begin pulses o p v w r s = same_outcome o p (one_outcome seats begin pulses o p v w r s)
+
 one_event : (at : ℕ) (events : List TimedEvent) (c d e : Config) (x y : List ℕ) → IsEventTurn (Line Vcd) at events c x d → IsEventTurn (Line Vcd) at events c y e → d ≡ e
 one_event at [] c d e x y r s = r.1 ∙ sym s.1
 one_event at (event ∷ events) c d e x y r s = r.1 ∙ sym s.1
@@ -25,8 +33,7 @@ one_by (Apply at) c d e x y p q r s = (r.1 ∙ sym s.1, one_event at c.events c 
 one_by (Round begin) c d e x y p q r s =
     let one = r.0 in
     let two = s.0 in
-    let same : one.outcome ≡ two.outcome =
-    same_outcome one.outcome two.outcome (one_outcome (seats_of c.net begin) begin c.net.pulses one.outcome two.outcome one.wave two.wave one.next.round two.next.round) in
+    let same = same_round (seats_of c.net begin) begin c.net.pulses one.outcome two.outcome one.wave two.wave one.next.round two.next.round in
     let net : d.net ≡ e.net = one.next.after_is ∙ ap (after_round c.net begin) same ∙ sym two.next.after_is in
     let events : d.events ≡ e.events = r.1 ∙ sym s.1 in
     let totals : d.totals ≡ e.totals = one.totals ∙ ap (λ (o : Outcome). counted_round (is_complete o.reading.ending) c.totals) same ∙ sym two.totals in (

@@ -10,6 +10,9 @@ use Rattle.cec_run.specs.declared.run.Totals.{Totals}
 use Rattle.cec_run.specs.Run.{start}
 use Rattle.cec_run.specs.Emulate.{IsAccepted, IsCutText}
 use Rattle.cec_driven.specs.Driven.{IsDriven}
+use Rattle.cec_driven.specs.Named.{IsNamed}
+use Rattle.cec_driven.specs.declared.wires.Wires.{Wires}
+use Rattle.cec_driven.specs.declared.wires.Wires.TheVariants.{Plain, Named}
 
 -- the line of the run that the texts spell, and who drives it
 pub record IsDrivesOf (topology script text : List ℕ) (totals : Totals) : Type 0 where
@@ -20,6 +23,19 @@ pub record IsDrivesOf (topology script text : List ℕ) (totals : Totals) : Type
   pub root : IsRoot plan.edid edid
   pub driven : IsDriven course.end (start (first_net plan.tree course.pulses) course.events) text totals
 
+-- and with names
+pub record IsNamedOf (topology script text : List ℕ) (totals : Totals) : Type 0 where
+  pub plan : Plan
+  pub course : Course
+  pub edid : Option Edid
+  pub accepted : IsAccepted topology script plan course
+  pub root : IsRoot plan.edid edid
+  pub named : IsNamed course.end (start (first_net plan.tree course.pulses) course.events) text totals
+
+abbrev pub IsDumpOf : Wires → List ℕ → List ℕ → List ℕ → Totals → Type 0
+IsDumpOf Plain = IsDrivesOf
+IsDumpOf Named = IsNamedOf
+
 -- what a refusal has written
-abbrev pub IsDrivesCut : List ℕ → List ℕ → Option (List ℕ) → Option (List ℕ) → EmulateError → Type 0
-IsDrivesCut topology script = IsCutText (IsDrivesOf topology script)
+abbrev pub IsDumpCut : Wires → List ℕ → List ℕ → Option (List ℕ) → Option (List ℕ) → EmulateError → Type 0
+IsDumpCut wires topology script = IsCutText (IsDumpOf wires topology script)

@@ -1,2 +1,3 @@
 pub mod Driven
+pub mod Named
 pub mod Emulate

@@ -2,6 +2,7 @@
 ghost use Rattle.std.specs.Prelude.{◌≡◌, not};
 
 use crate::round::{Kept, add_drives};
+use crate::wires::Wires;
 use cec_asm::TimedEvent;
 use cec_event::EventError;
 use cec_net::Net;
@@ -13,15 +14,17 @@ use hdmi_core::{Counted, Sink};
 #[derive(Drop)]
 pub struct DrivesText<'a, 'b, S: Sink> {
     pub text: Counted<'a, S>,
+    pub wires: Wires,
     pub kept: Kept<'b>,
 }
 
 impl<'a, 'b, S: Sink> Reporter for DrivesText<'a, 'b, S> {
-    ghost use Rattle.std.specs.Prelude.{not};
+    ghost use Rattle.std.specs.Prelude.{◌≡◌, not};
     ghost use Rattle.hdmi_core.specs.Adds.{Adds};
-    ghost use Rattle.cec_driven.specs.Driven.{IsBeside, drives_of_turn};
+    ghost use Rattle.cec_driven.specs.Driven.{IsBeside};
+    ghost use Rattle.cec_driven.specs.Named.{wires_of_turn};
 
-    ghost hears = { λ r x s. Adds r.text s.text (drives_of_turn x) };
+    ghost hears = { λ r x s. Adds r.text s.text (wires_of_turn r.wires x) × (s.wires ≡ r.wires) };
 
     ghost goes_on = { λ r. not r.text.failed };
 
@@ -37,7 +40,14 @@ impl<'a, 'b, S: Sink> Reporter for DrivesText<'a, 'b, S> {
     ) {}
 
     fn round<W>(&mut self, begin: u64, outcome: &Outcome, net: &Net<W>) {
-        add_drives(&mut self.text, &mut self.kept, begin, outcome, net);
+        add_drives(
+            &mut self.text,
+            self.wires,
+            &mut self.kept,
+            begin,
+            outcome,
+            net,
+        );
     }
 
     fn wants_more(&self) -> bool {

@@ -2,10 +2,11 @@
 ghost use Rattle.std.specs.Prelude.{◌≡◌, ℕ, List, ◌↔◌, false, IfOk, IfErr, IsTrue};
 ghost use Rattle.std.specs.Io.KnownBytes.{Appends};
 ghost use Rattle.cec_run.specs.Emulate.{IsReported, is_write};
-ghost use Rattle.cec_driven.specs.Emulate.{IsDrivesCut, IsDrivesOf};
+ghost use Rattle.cec_driven.specs.Emulate.{IsDumpCut, IsDumpOf};
 
 use crate::round::Kept;
 use crate::run::run;
+use crate::wires::Wires;
 use cec_asm::{parse_script, parse_topology};
 use cec_net::Net;
 use cec_run::Totals;
@@ -16,8 +17,9 @@ use std::alloc::Global;
 
 /// Runs a script on a topology, and writes a Value Change Dump (IEEE 1364-2005, 18) while it runs: a wire for the line of the
 /// whole run, and below it one for each device and one for the pulses, low where that device, as a sender, an acknowledger or
-/// by a low drive, or a pulse pulls. Instants are in microseconds; the last one is the later of the script's end and the
-/// close of the last round.
+/// by a low drive, or a pulse pulls. With names there are two wires of text more, GTKWave's type `string`: `frame` has what is
+/// read from a round's begin to its close, and `bit` which bit of it is on the line from a fall to the next. Instants are in
+/// microseconds; the last one is the later of the script's end and the close of the last round.
 ///
 /// # Errors
 ///
@@ -29,12 +31,13 @@ pub fn emulate_drives<S: Sink>(
     alloc: Global,
     topology: &[u8],
     script: &[u8],
+    wires: Wires,
     out: &mut S,
 ) -> Result<Totals, EmulateError>
-    ensures ok { IfOk result (λ totals. (text : List ℕ) × IsDrivesOf topology.now script.now text totals × Appends (S.contents out.old) (S.contents out.new) text) }
+    ensures ok { IfOk result (λ totals. (text : List ℕ) × IsDumpOf wires topology.now script.now text totals × Appends (S.contents out.old) (S.contents out.new) text) }
     ensures reported { IfErr result (IsReported topology.now script.now) }
     ensures write { S.is_stuck out.old ≡ false → (IsTrue (is_write result) ↔ IsTrue (S.is_stuck out.new)) }
-    ensures cut { IfErr result (IsDrivesCut topology.now script.now (S.contents out.old) (S.contents out.new)) }
+    ensures cut { IfErr result (IsDumpCut wires topology.now script.now (S.contents out.old) (S.contents out.new)) }
 {
     let topology = parse_topology(alloc, topology)?;
     let script = parse_script(alloc, &topology, script)?;
@@ -47,7 +50,7 @@ pub fn emulate_drives<S: Sink>(
         pulses: &script.pulses,
         rest: 0,
     };
-    match run(out, &mut net, kept, &script.events, script.end) {
+    match run(out, wires, &mut net, kept, &script.events, script.end) {
         Ok(totals) => Ok(totals),
         Err(fault) => Err(EmulateError::Write(fault.count)),
     }

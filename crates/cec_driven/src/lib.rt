@@ -7,5 +7,7 @@ mod head;
 mod round;
 mod run;
 mod seats;
+mod wires;
 
 pub use emulate::emulate_drives;
+pub use wires::Wires;

@@ -1,25 +1,55 @@
 //! One round, and who drives its line.
-ghost use Rattle.std.specs.Prelude.{◌≡◌, ◌+◌, ◌≤◌, length};
+ghost use Rattle.std.specs.Prelude.{◌≡◌, [], ◌+◌, ◌∷◌, ◌++◌, ◌≤◌, length};
 ghost use Rattle.cec_wave.specs.Bounds.{latest_heard, latest_instant};
 ghost use Rattle.cec_wave.specs.Line.{IsWave};
 ghost use Rattle.cec_wire.specs.Round.{IsRound};
 ghost use Rattle.cec_net.specs.Progress.{IsProgress};
 ghost use Rattle.cec_net.specs.Step.{after_round, seats_of};
 ghost use Rattle.hdmi_core.specs.Adds.{Adds};
-ghost use Rattle.cec_driven.specs.Driven.{IsBeside, round_drives};
+ghost use Rattle.cec_drives.specs.Stretches.{drives_of};
+ghost use Rattle.cec_driven.specs.Driven.{IsBeside};
+ghost use Rattle.cec_driven.specs.Named.{round_of};
 
 use crate::seats::seats_of;
+use crate::wires::Wires;
 use arrayvec::ArrayVec;
 use cec_drives::{begun_since, begun_within, put_drives};
+use cec_named::add_named_round;
 use cec_net::Net;
 use cec_wave::Stretch;
 use cec_wire::{Outcome, Seat};
-use cec_wires::add_wires;
+use cec_wires::{Drive, add_wires};
 use hdmi_core::{Counted, Sink};
+
+// Adds the line of a round that began at `begin` and gave this outcome, and these drives of it.
+fn add_round_wires<S: Sink>(
+    out: &mut Counted<'_, S>,
+    wires: Wires,
+    drives: &[Drive],
+    pulses: &[Stretch],
+    begin: u64,
+    outcome: &Outcome,
+)
+    requires few { length drives.now ≤ 90 }
+    requires pulses { IsWave pulses.now }
+    requires early { outcome.now.reading.at ≤ latest_heard }
+    requires rest { (begin ≤ outcome.now.rest) × (outcome.now.rest ≤ latest_heard) }
+    ensures { Adds out.old out.new (round_of wires (drives.now ++ pulses.now ∷ []) begin outcome.now) }
+{
+    let wave = outcome.wave.as_slice();
+    let rest = outcome.rest;
+    match wires {
+        Wires::Plain => add_wires(out, wave, drives, pulses, begin, rest + 1),
+        Wires::Named => {
+            add_named_round(out, wave, drives, pulses, &outcome.reading, begin, rest);
+        }
+    }
+}
 
 // Adds the line and the drives of a round that began at `begin` and gave this outcome.
 fn add_round<S: Sink>(
     out: &mut Counted<'_, S>,
+    wires: Wires,
     seats: &[Seat],
     begin: u64,
     pulses: &[Stretch],
@@ -30,18 +60,12 @@ fn add_round<S: Sink>(
     requires begin { begin ≤ latest_instant }
     requires early { outcome.now.reading.at ≤ latest_heard }
     requires rest { (begin ≤ outcome.now.rest) × (outcome.now.rest ≤ latest_heard) }
-    ensures { Adds out.old out.new (round_drives seats.now begin pulses.now outcome.now) }
+    ensures { Adds out.old out.new (round_of wires (drives_of seats.now begin pulses.now outcome.now) begin outcome.now) }
 {
     let mut drives = ArrayVec::new();
     put_drives(&mut drives, seats, begin, outcome);
-    add_wires(
-        out,
-        outcome.wave.as_slice(),
-        &drives,
-        begun_within(pulses, begin, outcome.rest),
-        begin,
-        outcome.rest + 1,
-    );
+    let begun = begun_within(pulses, begin, outcome.rest);
+    add_round_wires(out, wires, &drives, begun, begin, outcome);
 }
 
 /// What a run keeps beside its network: the pulses that no round has taken, and since when the line is high.
@@ -51,10 +75,11 @@ pub struct Kept<'a> {
     pub rest: u64,
 }
 
-/// Adds the line and the drives of the round that comes next, which begins at `begin`, at most 2,000,000,000,000, and gives this
+/// Adds these wires of the round that comes next, which begins at `begin`, at most 2,000,000,000,000, and gives this
 /// outcome, and keeps what is left after it. The network is that before the round.
 pub fn add_drives<S: Sink, W>(
     out: &mut Counted<'_, S>,
+    wires: Wires,
     kept: &mut Kept<'_>,
     begin: u64,
     outcome: &Outcome,
@@ -64,12 +89,12 @@ pub fn add_drives<S: Sink, W>(
     requires round { IsRound (seats_of net.now begin) begin net.now.pulses outcome.now }
     requires progress { IsProgress net.now begin (after_round net.now begin outcome.now) }
     requires kept { IsBeside kept.old net.now }
-    ensures drives { Adds out.old out.new (round_drives (seats_of net.now begin) begin net.now.pulses outcome.now) }
+    ensures drives { Adds out.old out.new (round_of wires (drives_of (seats_of net.now begin) begin net.now.pulses outcome.now) begin outcome.now) }
     ensures kept { IsBeside kept.new (after_round net.now begin outcome.now) }
 {
     let seats = seats_of(net.devices(), kept.rest, begin);
     let _stretches = outcome.wave.as_slice();
-    add_round(out, &seats, begin, kept.pulses, outcome);
+    add_round(out, wires, &seats, begin, kept.pulses, outcome);
     kept.pulses = begun_since(kept.pulses, outcome.rest + 1);
     kept.rest = outcome.rest;
 }

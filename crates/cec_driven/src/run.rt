@@ -8,11 +8,13 @@ ghost use Rattle.hdmi_core.specs.Cut.{CutOff};
 ghost use Rattle.cec_run.specs.declared.run.Totals.{Totals as TotalsRecord};
 ghost use Rattle.cec_run.specs.Run.{start};
 ghost use Rattle.cec_run.specs.Heard.{IsRunWritten};
-ghost use Rattle.cec_driven.specs.Driven.{IsBeside, IsDriven};
+ghost use Rattle.cec_driven.specs.Driven.{IsBeside};
+ghost use Rattle.cec_driven.specs.Named.{IsDump};
 
 use crate::drives_text::DrivesText;
 use crate::head::add_head;
 use crate::round::Kept;
+use crate::wires::Wires;
 use cec_asm::TimedEvent;
 use cec_net::Net;
 use cec_run::{Totals, run_turns, told};
@@ -23,6 +25,7 @@ use hdmi_core::{Counted, Sink, WriteFault};
 // Runs a network to `end`, and writes the dump.
 fn write_drives<S: Sink, W: Wire>(
     out: &mut S,
+    wires: Wires,
     net: &mut Net<W>,
     kept: Kept<'_>,
     events: &[TimedEvent],
@@ -32,14 +35,15 @@ fn write_drives<S: Sink, W: Wire>(
     requires fresh { (net.old.close ≤ latest_event) × (net.old.rest ≤ latest_event) }
     requires kept { IsBeside kept net.old }
     requires schedule { IsSchedule (length net.old.tree) end 0 events.now }
-    ensures { IsRunWritten (IsDriven end (start net.old events.now)) (S.contents out.old) (S.contents out.new) (S.is_stuck out.old) (S.is_stuck out.new) result }
+    ensures { IsRunWritten (IsDump wires end (start net.old events.now)) (S.contents out.old) (S.contents out.new) (S.is_stuck out.old) (S.is_stuck out.new) result }
 {
     let mut text = Counted::new(out);
-    add_head(&mut text, net.devices());
-    let mut drives = DrivesText { text, kept };
+    add_head(&mut text, wires, net.devices());
+    let mut drives = DrivesText { text, wires, kept };
     let totals = run_turns(net, events, end, &mut drives);
     let DrivesText {
         mut text,
+        wires: _wires,
         kept: _kept,
     } = drives;
     add_last(&mut text, end.max(net.close()));
@@ -50,7 +54,7 @@ fn write_drives<S: Sink, W: Wire>(
 }
 
 /// Runs a network from its start to `end`, at most 1,000,000,000,000 microseconds, and writes the dump of its line and of who
-/// drives it. What is kept beside the network is what it begins with: its pulses, which are in order, and that the line is high. The events stand in
+/// drives it, with these wires. What is kept beside the network is what it begins with: its pulses, which are in order, and that the line is high. The events stand in
 /// the order of their times, all before `end`, and name devices of the tree.
 ///
 /// # Errors
@@ -59,6 +63,7 @@ fn write_drives<S: Sink, W: Wire>(
 #[tactic(auto, using(cec_run::proofs::Whole::written_ok, cec_run::proofs::Whole::written_same, cec_run::proofs::Whole::written_stuck))]
 pub fn run<S: Sink, W: Wire>(
     out: &mut S,
+    wires: Wires,
     net: &mut Net<W>,
     kept: Kept<'_>,
     events: &[TimedEvent],
@@ -71,11 +76,11 @@ pub fn run<S: Sink, W: Wire>(
     requires order { IsWave kept.pulses.now }
     requires rest { kept.rest ≡ 0 }
     requires schedule { IsSchedule (length net.old.tree) end 0 events.now }
-    ensures ok { IfOk result (λ totals. (text : List ℕ) × IsDriven end (start net.old events.now) text totals × Appends (S.contents out.old) (S.contents out.new) text) }
+    ensures ok { IfOk result (λ totals. (text : List ℕ) × IsDump wires end (start net.old events.now) text totals × Appends (S.contents out.old) (S.contents out.new) text) }
     ensures same { OnOk result (S.is_stuck out.new ≡ S.is_stuck out.old) }
-    ensures cut { IfErr result (λ fault. (text : List ℕ) (totals : TotalsRecord) → IsDriven end (start net.old events.now) text totals
+    ensures cut { IfErr result (λ fault. (text : List ℕ) (totals : TotalsRecord) → IsDump wires end (start net.old events.now) text totals
         → CutOff (S.contents out.old) (S.contents out.new) text fault) }
     ensures stuck { OnErr result (S.is_stuck out.new ≡ true) }
 {
-    write_drives(out, net, kept, events, end)
+    write_drives(out, wires, net, kept, events, end)
 }

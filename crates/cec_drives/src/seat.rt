@@ -1,7 +1,6 @@
 //! Where a seat pulls the line of a round low.
 ghost use Rattle.std.specs.Prelude.{◌≡◌, [], ◌&&◌, ◌+◌, ◌*◌, ◌<◌, ◌≤◌, ◌++◌, nat_le, length, IfSome};
 ghost use Rattle.std.specs.List.{flat_map, range_with_len};
-ghost use Rattle.cec_wave.specs.Line.{line_of};
 ghost use Rattle.cec_wave.specs.Sender.{sender_stretches};
 ghost use Rattle.cec_wave.specs.Bounds.{latest_instant, latest_heard, most_sent, most_stretches};
 ghost use Rattle.cec_frame.specs.Bits.{frame_bits};
@@ -14,7 +13,7 @@ use cec_bits::{BLOCK_SLOTS, SAMPLE, destination};
 use cec_frame::{Ending, Frame};
 use cec_wave::{Stretch, lay};
 use cec_wire::{ACK_PULL, Outcome, SHORT_PULL, Seat};
-use cec_wires::Drive;
+use cec_wires::{Drive, is_low};
 
 // A frame has at most 16 blocks, the first of eight bits of addresses (CEC 6).
 const BLOCKS: usize = 16;
@@ -35,14 +34,6 @@ fn slot_fall(outcome: &Outcome, slot: usize) -> Option<u64>
 }
 
 // ---- what is sent
-
-// Whether a line is low in a microsecond.
-fn is_low(wave: &[Stretch], t: u64) -> bool
-    ensures { result ≡ line_of wave.now t }
-{
-    wave.iter()
-        .any(|stretch| stretch.from <= t && t < stretch.to)
-}
 
 // The last microsecond in which a sender pulls that is never out.
 fn last_at_end(outcome: &Outcome) -> u64

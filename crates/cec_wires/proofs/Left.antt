@@ -7,8 +7,10 @@ use Rattle.std.proofs.lemmas.Bool.Decides.{nat_tests}
 use Rattle.cec_wave.specs.declared.Stretch.{Stretch}
 use Rattle.cec_wave.specs.Line.{covers, line_of, was_low, IsWave, IsWaveFrom}
 use Rattle.cec_wires.specs.Left.{FirstNotOver}
-use Rattle.cec_wires.specs.Wires.{change_text, changes_from, instant_text, turns, wires_text}
-use Rattle.cec_wires.proofs.Quiet.{is_end, no_turn, no_turns, three_parts}
+use Rattle.cec_wires.specs.Noted.{Noted, is_noted, noted_instant, noted_text, notes_at}
+use Rattle.cec_wires.specs.Wires.{change_text, changes_from, turns}
+use Rattle.cec_wires.proofs.Noting.{no_instant, up_to}
+use Rattle.cec_wires.proofs.Quiet.{is_end, no_turn, no_turns}
 
 -- ---- pulses in order
 
@@ -86,10 +88,11 @@ any_alike : (t : ℕ) (drives : List (List Stretch)) (p q : List Stretch) → Ar
 any_alike t [] p q alike = ap (λ b. b || false) (turns_alike t p q alike)
 any_alike t (d ∷ drives) p q alike = ap (λ b. turns (line_of d) t || b) (any_alike t drives p q alike)
 
-instant_alike : (t : ℕ) (line : List Stretch) (drives : List (List Stretch)) (p q : List Stretch) → AreAlikeAt t p q
-    → instant_text (line ∷ (drives ++ p ∷ [])) t ≡ instant_text (line ∷ (drives ++ q ∷ [])) t
-instant_alike t line drives p q alike =
-    ap₂ (λ (any : Bool) (changes : List ℕ). if any then (35 ∷ (decimal t ++ 10 ∷ [])) ++ changes else []) (any_alike t (line ∷ drives) p q alike) (changes_alike t 0 (line ∷ drives) p q alike)
+instant_alike : (t : ℕ) (line : List Stretch) (drives : List (List Stretch)) (notes : List Noted) (p q : List Stretch) → AreAlikeAt t p q
+    → noted_instant (line ∷ (drives ++ p ∷ [])) notes t ≡ noted_instant (line ∷ (drives ++ q ∷ [])) notes t
+instant_alike t line drives notes p q alike =
+    ap₂ (λ (any : Bool) (changes : List ℕ). if any || is_noted t notes then ((35 ∷ (decimal t ++ 10 ∷ [])) ++ changes) ++ notes_at t notes else [])
+    (any_alike t (line ∷ drives) p q alike) (changes_alike t 0 (line ∷ drives) p q alike)
 
 -- ---- the last wire by itself
 
@@ -113,32 +116,25 @@ any_end t (d ∷ drives) p = ap (λ b. turns (line_of d) t || b) (any_end t driv
     grouped true b c = refl
     grouped false b c = refl
 
--- ---- up to the next end
+-- ---- up to the next end or note
 
-nothing_then : (wires : List (List Stretch)) (from count : ℕ) → ((u : ℕ) → from ≤ u → u < from + count → list_any (λ wire. turns (line_of wire) u) wires ≡ false)
-    → wires_text wires from count ≡ []
-nothing_then wires from zero quiet = refl
-nothing_then wires from (suc count) quiet =
-    ap₂ (λ a b. a ++ b) (ap (λ b. if b then (35 ∷ (decimal from ++ 10 ∷ [])) ++ changes_from from 0 wires else []) (quiet from (omega arith) (omega arith)))
-    (nothing_then wires (from + 1) count (λ u l h. quiet u (omega arith) (omega arith)))
-
--- where `drives_end` and `pulses_end` are the next ends of the other wires
-pub more_instants : (line : List Stretch) (drives : List (List Stretch)) (pulses left : List Stretch) (from t next drives_end pulses_end : ℕ) → from ≤ t → t < next → next ≤ drives_end → drives_end ≤ pulses_end
+-- where `line_end`, `drives_end` and `pulses_end` are the next ends of these wires
+pub more_instants : (line : List Stretch) (drives : List (List Stretch)) (pulses left : List Stretch) (notes : List Noted) (from t next line_end drives_end pulses_end : ℕ)
+    → from ≤ t → t < next → next ≤ line_end → line_end ≤ drives_end → drives_end ≤ pulses_end
     → IsWave left → FirstNotOver t left → ((u : ℕ) → t ≤ u + 1 → line_of left u ≡ line_of pulses u)
-    → ((u : ℕ) → t < u → u < next → list_any (is_end u) line ≡ false)
+    → ((u : ℕ) → t < u → u < next → is_noted u notes ≡ false)
+    → ((u : ℕ) → t < u → u < line_end → list_any (is_end u) line ≡ false)
     → ((u : ℕ) → t < u → u < drives_end → list_any (λ wire. list_any (is_end u) wire) drives ≡ false)
     → ((u : ℕ) → t < u → u < pulses_end → list_any (is_end u) (take 2 left) ≡ false)
-    → wires_text (line ∷ (drives ++ pulses ∷ [])) from (next - from)
-    ≡ wires_text (line ∷ (drives ++ pulses ∷ [])) from (t - from) ++ instant_text (line ∷ (drives ++ take 2 left ∷ [])) t
-more_instants line drives pulses left from t next drives_end pulses_end after before near nearer order first same quiet_line quiet_drives quiet_pulses =
-    three_parts (line ∷ (drives ++ pulses ∷ [])) from t next after before
-    ∙ ap (λ l. (wires_text (line ∷ (drives ++ pulses ∷ [])) from (t - from) ++ instant_text (line ∷ (drives ++ pulses ∷ [])) t) ++ l)
-    (nothing_then (line ∷ (drives ++ pulses ∷ [])) (t + 1) (next - (t + 1)) (λ u l h. none u (omega arith) (omega arith)))
-    ∙ append-nil (wires_text (line ∷ (drives ++ pulses ∷ [])) from (t - from) ++ instant_text (line ∷ (drives ++ pulses ∷ [])) t)
-    ∙ ap (λ l. wires_text (line ∷ (drives ++ pulses ∷ [])) from (t - from) ++ l) (sym (instant_alike t line drives (take 2 left) pulses (alike t (omega arith) before)))
+    → noted_text (line ∷ (drives ++ pulses ∷ [])) notes from (next - from)
+    ≡ noted_text (line ∷ (drives ++ pulses ∷ [])) notes from (t - from) ++ noted_instant (line ∷ (drives ++ take 2 left ∷ [])) notes t
+more_instants line drives pulses left notes from t next line_end drives_end pulses_end after before near nearer nearest order first same quiet_notes quiet_line quiet_drives quiet_pulses =
+    up_to (noted_instant (line ∷ (drives ++ pulses ∷ [])) notes) from t next after before
+    (λ u l h. no_instant (line ∷ (drives ++ pulses ∷ [])) notes u (none u l h) (quiet_notes u l h))
+    ∙ ap (λ l. noted_text (line ∷ (drives ++ pulses ∷ [])) notes from (t - from) ++ l) (sym (instant_alike t line drives notes (take 2 left) pulses (alike t (omega arith) before)))
   where
     level : (u : ℕ) → t ≤ u + 1 → u < next → line_of (take 2 left) u ≡ line_of pulses u
-    level u l h = two_say t pulses_end u left order first quiet_pulses (omega (arith, near, nearer)) ∙ same u l
+    level u l h = two_say t pulses_end u left order first quiet_pulses (omega (arith, near, nearer, nearest)) ∙ same u l
 
     alike : (u : ℕ) → t ≤ u → u < next → AreAlikeAt u (take 2 left) pulses
     alike u l h = record {
@@ -151,7 +147,7 @@ more_instants line drives pulses left from t next drives_end pulses_end after be
 
     none : (u : ℕ) → t < u → u < next → list_any (λ wire. turns (line_of wire) u) (line ∷ (drives ++ pulses ∷ [])) ≡ false
     none u l h =
-        ap₂ (λ a b. a || b) (no_turn line u (omega arith) (quiet_line u l h))
+        ap₂ (λ a b. a || b) (no_turn line u (omega arith) (quiet_line u l (omega (arith, near))))
         (any_end u drives pulses
-        ∙ ap₂ (λ a b. a || b) (no_turns drives u (omega arith) (quiet_drives u l (omega (arith, near))))
-        (sym (turns_alike u (take 2 left) pulses (alike u (omega arith) h)) ∙ no_turn (take 2 left) u (omega arith) (quiet_pulses u l (omega (arith, near, nearer)))))
+        ∙ ap₂ (λ a b. a || b) (no_turns drives u (omega arith) (quiet_drives u l (omega (arith, near, nearer))))
+        (sym (turns_alike u (take 2 left) pulses (alike u (omega arith) h)) ∙ no_turn (take 2 left) u (omega arith) (quiet_pulses u l (omega (arith, near, nearer, nearest)))))

@@ -1,2 +1,3 @@
 pub mod Quiet
+pub mod Noting
 pub mod Left

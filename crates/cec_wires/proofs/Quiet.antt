@@ -1,10 +1,10 @@
--- Between two ends of stretches no wire changes, and nothing is written.
+-- Between two ends of stretches no wire changes.
 use Rattle.std.proofs.Common.{◌≡◌, ℕ, zero, suc, ◌+◌, ◌-◌, ◌==◌, ◌<◌, ◌≤◌, Bool, true, false, not, ◌&&◌, ◌||◌, nat_lt, nat_le, List, [], ◌∷◌, ◌++◌, refl, arith, ap, ap₂, ◌∙◌, sym, append_assoc}
 use Rattle.std.specs.List.{flat_map, list_any, range_with_len}
 use Rattle.std.proofs.lemmas.Bool.Decides.{nat_tests}
 use Rattle.cec_wave.specs.declared.Stretch.{Stretch}
 use Rattle.cec_wave.specs.Line.{covers, line_of}
-use Rattle.cec_wires.specs.Wires.{high_at_first, instant_text, turns, wires_text}
+use Rattle.cec_wires.specs.Wires.{high_at_first, turns}
 
 -- a stretch begins or ends at u
 abbrev pub is_end : ℕ → Stretch → Bool
@@ -58,23 +58,10 @@ no_turns (wire ∷ wires) u some quiet =
     ap₂ (λ a b. a || b) (no_turn wire u some (or_left (list_any (is_end u) wire) (list_any (λ w. list_any (is_end u) w) wires) quiet))
     (no_turns wires u some (or_right (list_any (is_end u) wire) (list_any (λ w. list_any (is_end u) w) wires) quiet))
 
--- ---- and nothing is written
+-- ---- microseconds in two parts
 
--- microseconds in two parts
-parted : (f : ℕ → List ℕ) (a m n total b : ℕ) → total ≡ m + n → b ≡ a + m → flat_map f (range_with_len a total) ≡ flat_map f (range_with_len a m) ++ flat_map f (range_with_len b n)
+pub parted : (f : ℕ → List ℕ) (a m n total b : ℕ) → total ≡ m + n → b ≡ a + m → flat_map f (range_with_len a total) ≡ flat_map f (range_with_len a m) ++ flat_map f (range_with_len b n)
 parted f a zero n total b t e = let here : b ≡ a = omega arith in let all : total ≡ n = omega arith in rw (here, all) refl
 parted f a (suc m) n zero b t e = absurd (omega arith)
 parted f a (suc m) n (suc total) b t e =
     ap (λ l. f a ++ l) (parted f (a + 1) m n total b (omega arith) (omega arith)) ∙ sym (append_assoc (f a) (flat_map f (range_with_len (a + 1) m)) (flat_map f (range_with_len b n)))
-
--- up to an instant, that instant, and what follows it
-pub three_parts : (wires : List (List Stretch)) (from t to : ℕ) → from ≤ t → t < to
-    → wires_text wires from (to - from) ≡ (wires_text wires from (t - from) ++ instant_text wires t) ++ wires_text wires (t + 1) (to - (t + 1))
-three_parts wires from t to after before =
-    parted (instant_text wires) from (t - from) (to - t) (to - from) t (omega arith) (omega arith)
-    ∙ ap (λ l. wires_text wires from (t - from) ++ l) (first (to - t) refl)
-    ∙ sym (append_assoc (wires_text wires from (t - from)) (instant_text wires t) (wires_text wires (t + 1) (to - (t + 1))))
-  where
-    first : (n : ℕ) → to - t ≡ n → wires_text wires t n ≡ instant_text wires t ++ wires_text wires (t + 1) (to - (t + 1))
-    first zero e = absurd (omega arith)
-    first (suc n) e = let rest : n ≡ to - (t + 1) = omega arith in rw rest refl

@@ -1,2 +1,3 @@
+pub mod Noted
 pub mod Wires
 pub mod Left

@@ -28,14 +28,18 @@ opening = codes "$version hdminet $end\n$timescale 1 us $end\n$scope module hdmi
 abbrev pub high_at_first : ℕ → List ℕ
 high_at_first number = 49 ∷ id_of number ∷ 10 ∷ []
 
--- after so many devices: the pulses, and the first level of each wire
-abbrev pub closing : ℕ → List ℕ
-closing count =
+-- after so many devices: the pulses, the first values of further wires, and the first level of each wire
+abbrev pub closing_with : List ℕ → ℕ → List ℕ
+closing_with values count =
     codes "$upscope $end\n"
     ++ (variable (count + 1) (codes "pulses")
     ++ (codes "$upscope $end\n$enddefinitions $end\n#0\n$dumpvars\n"
+    ++ (values
     ++ (flat_map high_at_first (range_with_len 0 (count + 2))
-    ++ codes "$end\n")))
+    ++ codes "$end\n"))))
+
+abbrev pub closing : ℕ → List ℕ
+closing count = closing_with [] count
 
 abbrev pub head : List (List ℕ) → List ℕ
 head names = opening ++ (variables 1 names ++ closing (length names))

@@ -2,7 +2,7 @@
 ghost use Rattle.std.specs.Prelude.{◌≡◌, [], ◌+◌, ◌∷◌, ◌++◌, ◌≤◌, codes};
 ghost use Rattle.std.specs.List.{concat, flat_map, range_with_len};
 ghost use Rattle.hdmi_core.specs.Adds.{Adds};
-ghost use Rattle.cec_wires.specs.Wires.{closing, high_at_first, id_of, opening, variable};
+ghost use Rattle.cec_wires.specs.Wires.{closing, closing_with, high_at_first, id_of, opening, variable};
 
 use hdmi_core::{Counted, Piece, Sink};
 
@@ -83,14 +83,24 @@ fn add_highs<S: Sink>(out: &mut Counted<'_, S>, number: u8, count: u8)
     add_highs(out, number + 1, count - 1);
 }
 
-/// Adds what stands after so many devices, at most 90: the wire of the pulses, and that each wire is high at first.
-pub fn add_closing<S: Sink>(out: &mut Counted<'_, S>, count: u8)
+/// Adds what stands after so many devices, at most 90, where these are the first values of further wires: the wire of the pulses,
+/// these values, and that each wire of one bit is high at first.
+pub fn add_closing_with<S: Sink>(out: &mut Counted<'_, S>, count: u8, values: &str)
     requires { count ≤ 90 }
-    ensures { Adds out.old out.new (closing count) }
+    ensures { Adds out.old out.new (closing_with values.now count) }
 {
     add_text(out, "$upscope $end\n");
     add_variable(out, count + 1, b"pulses");
     add_text(out, "$upscope $end\n$enddefinitions $end\n#0\n$dumpvars\n");
+    add_text(out, values);
     add_highs(out, 0, count + 2);
     add_text(out, "$end\n");
+}
+
+/// The same with no further wires.
+pub fn add_closing<S: Sink>(out: &mut Counted<'_, S>, count: u8)
+    requires { count ≤ 90 }
+    ensures { Adds out.old out.new (closing count) }
+{
+    add_closing_with(out, count, "");
 }

@@ -1,4 +1,4 @@
-//! The changes of several wires, in order of time.
+//! What each wire does at an instant, and up to when nothing happens.
 ghost use Rattle.std.specs.Prelude.{◌≡◌, [], ◌+◌, ◌-◌, ◌==◌, ◌||◌, ◌∷◌, ◌++◌, ◌<◌, ◌≤◌, ℕ, if◌then◌else◌, false, codes, length, take};
 ghost use Rattle.std.specs.Fmt.{decimal};
 ghost use Rattle.std.specs.List.{concat, list_any};
@@ -14,8 +14,8 @@ use hdmi_core::{Counted, Piece, Sink};
 
 // ---- one wire
 
-// Whether a wire is low in microsecond `t`.
-fn is_low(wire: &[Stretch], t: u64) -> bool
+/// Whether a wire is low in microsecond `t`.
+pub fn is_low(wire: &[Stretch], t: u64) -> bool
     ensures { result ≡ line_of wire.now t }
 {
     wire.iter()
@@ -29,8 +29,8 @@ fn was_low(wire: &[Stretch], t: u64) -> bool
     t > 0 && is_low(wire, t - 1)
 }
 
-// Whether it falls or rises then.
-fn turns(wire: &[Stretch], t: u64) -> bool
+/// Whether it falls or rises then.
+pub(crate) fn turns(wire: &[Stretch], t: u64) -> bool
     ensures { result ≡ turns (line_of wire.now) t }
 {
     is_low(wire, t) != was_low(wire, t)
@@ -55,8 +55,8 @@ fn sooner(stretch: Stretch, t: u64, next: u64) -> u64
     }
 }
 
-// The first begin or end of a stretch after `t`, or `next` where that is sooner.
-fn next_end(wire: &[Stretch], t: u64, next: u64) -> u64
+/// The first begin or end of a stretch after `t`, or `next` where that is sooner.
+pub(crate) fn next_end(wire: &[Stretch], t: u64, next: u64) -> u64
     requires { t < next }
     ensures later { t < result }
     ensures near { result ≤ next }
@@ -68,8 +68,8 @@ fn next_end(wire: &[Stretch], t: u64, next: u64) -> u64
     }
 }
 
-// The same of several wires.
-fn next_end_of(drives: &[Drive], t: u64, next: u64) -> u64
+/// The same of several wires.
+pub(crate) fn next_end_of(drives: &[Drive], t: u64, next: u64) -> u64
     requires { t < next }
     ensures later { t < result }
     ensures near { result ≤ next }
@@ -83,8 +83,8 @@ fn next_end_of(drives: &[Drive], t: u64, next: u64) -> u64
 
 // ---- the pulses, in order
 
-// Those that are not over before `t`.
-fn not_over(pulses: &[Stretch], t: u64) -> &[Stretch]
+/// Those that are not over before `t`.
+pub(crate) fn not_over(pulses: &[Stretch], t: u64) -> &[Stretch]
     requires { IsWave pulses.now }
     ensures order { IsWave result.now }
     ensures first { FirstNotOver t result.now }
@@ -100,8 +100,8 @@ fn not_over(pulses: &[Stretch], t: u64) -> &[Stretch]
     left
 }
 
-// The first two of them, between which and the others nothing happens before the second one is over.
-fn next_two(pulses: &[Stretch]) -> &[Stretch]
+/// The first two of them, between which and the others nothing happens before the second one is over.
+pub(crate) fn next_two(pulses: &[Stretch]) -> &[Stretch]
     ensures { result.now ≡ take 2 pulses.now }
 {
     if pulses.len() < 2 {
@@ -111,7 +111,7 @@ fn next_two(pulses: &[Stretch]) -> &[Stretch]
     }
 }
 
-// ---- one instant
+// ---- one change
 
 fn add_value<S: Sink>(out: &mut Counted<'_, S>, number: u8, is_low: bool)
     requires { number ≤ 100 }
@@ -128,9 +128,9 @@ fn value_of(is_low: bool) -> u8
     if is_low { b'0' } else { b'1' }
 }
 
-// Adds the change of a wire, where it has one.
+/// Adds the change of a wire, where it has one.
 #[tactic(auto, using(hdmi_core::proofs::Adding::nothing))]
-fn add_change<S: Sink>(out: &mut Counted<'_, S>, t: u64, number: u8, wire: &[Stretch])
+pub(crate) fn add_change<S: Sink>(out: &mut Counted<'_, S>, t: u64, number: u8, wire: &[Stretch])
     requires { number ≤ 100 }
     ensures { Adds out.old out.new (change_text t number wire.now) }
 {
@@ -139,9 +139,9 @@ fn add_change<S: Sink>(out: &mut Counted<'_, S>, t: u64, number: u8, wire: &[Str
     }
 }
 
-// Adds the changes of wires from this number on.
+/// Adds the changes of wires from this number on.
 #[tactic(auto, using(hdmi_core::proofs::Adding::nothing))]
-fn add_changes<S: Sink>(out: &mut Counted<'_, S>, t: u64, number: u8, drives: &[Drive])
+pub(crate) fn add_changes<S: Sink>(out: &mut Counted<'_, S>, t: u64, number: u8, drives: &[Drive])
     requires { number + length drives.now ≤ 100 }
     ensures { Adds out.old out.new (changes_from t number drives.now) }
 {
@@ -152,78 +152,19 @@ fn add_changes<S: Sink>(out: &mut Counted<'_, S>, t: u64, number: u8, drives: &[
     add_changes(out, t, number + 1, others);
 }
 
-fn add_time<S: Sink>(out: &mut Counted<'_, S>, t: u64)
+/// Adds an instant.
+pub(crate) fn add_time<S: Sink>(out: &mut Counted<'_, S>, t: u64)
     ensures { Adds out.old out.new (concat (codes "#" ∷ decimal t ∷ codes "\n" ∷ [])) }
 {
     out.add_line(&[Piece::Text("#"), Piece::Decimal(t), Piece::Text("\n")]);
 }
 
-fn any_turns(drives: &[Drive], t: u64) -> bool
+/// Whether some wire falls or rises then.
+pub(crate) fn any_turns(drives: &[Drive], t: u64) -> bool
     ensures { result ≡ list_any (λ wire. turns (line_of wire) t) drives.now }
 {
     match drives {
         [] => false,
         [drive, others @ ..] => turns(drive.as_slice(), t) || any_turns(others, t),
-    }
-}
-
-// Adds an instant, and the changes of the line and of the wires below it then, the pulses' last.
-fn add_timed<S: Sink>(
-    out: &mut Counted<'_, S>,
-    t: u64,
-    line: &[Stretch],
-    drives: &[Drive],
-    pulses: &[Stretch],
-)
-    requires { length drives.now ≤ 90 }
-    ensures { Adds out.old out.new (concat (codes "#" ∷ decimal t ∷ codes "\n" ∷ []) ++ changes_from t 0 (line.now ∷ (drives.now ++ pulses.now ∷ []))) }
-{
-    add_time(out, t);
-    add_change(out, t, 0, line);
-    add_changes(out, t, 1, drives);
-    add_change(out, t, drives.len() as u8 + 1, pulses);
-}
-
-// Adds an instant, where some wire changes then.
-#[tactic(auto, using(hdmi_core::proofs::Adding::nothing))]
-fn add_instant<S: Sink>(
-    out: &mut Counted<'_, S>,
-    t: u64,
-    line: &[Stretch],
-    drives: &[Drive],
-    pulses: &[Stretch],
-)
-    requires { length drives.now ≤ 90 }
-    ensures { Adds out.old out.new (instant_text (line.now ∷ (drives.now ++ pulses.now ∷ [])) t) }
-{
-    if turns(line, t) || (any_turns(drives, t) || turns(pulses, t)) {
-        add_timed(out, t, line, drives, pulses);
-    }
-}
-
-// ---- all of them
-
-/// Adds the changes of the line and of the wires below it, from one instant up to another: those of its drives, and after them
-/// that of the pulses, which come in order, as many as there are.
-pub fn add_wires<S: Sink>(
-    out: &mut Counted<'_, S>,
-    line: &[Stretch],
-    drives: &[Drive],
-    pulses: &[Stretch],
-    from: u64,
-    to: u64,
-)
-    requires few { length drives.now ≤ 90 }
-    requires pulses { IsWave pulses.now }
-    requires order { from ≤ to }
-    ensures { Adds out.old out.new (wires_text (line.now ∷ (drives.now ++ pulses.now ∷ [])) from (to - from)) }
-{
-    let mut t = from;
-    let mut left = pulses;
-    'instants: while t < to {
-        left = not_over(left, t);
-        let next = next_two(left);
-        add_instant(out, t, line, drives, next);
-        t = next_end(line, t, next_end_of(drives, t, next_end(next, t, to)));
     }
 }

@@ -1,6 +1,6 @@
 //! Dumps of runs.
 use crate::rows::{DUMP, POLL, SCRIPT, TOPOLOGY};
-use cec_driven::emulate_drives;
+use cec_driven::{Wires, emulate_drives};
 use hdmi_core::Writes;
 use std::io::{self, ErrorKind, Write};
 use std::process::Abort;
@@ -32,15 +32,17 @@ impl Write for Narrow {
 
 /// What is written of a run, and why it was refused, or an empty text.
 #[derive(Drop)]
-struct Written {
+pub struct Written {
     bytes: Vec<u8>,
     refusal: String,
 }
 
-fn dumped(
+/// What is written of a run into a writer that takes so many bytes a call, and fails where so many have come.
+pub fn dumped(
     rt: &(impl Abort + AllocGlobal),
     topology: &str,
     script: &str,
+    wires: Wires,
     most: usize,
     room: usize,
 ) -> Written {
@@ -50,7 +52,13 @@ fn dumped(
         room,
     };
     let mut out = Writes::new(&mut narrow);
-    let outcome = emulate_drives(rt.alloc(), topology.as_bytes(), script.as_bytes(), &mut out);
+    let outcome = emulate_drives(
+        rt.alloc(),
+        topology.as_bytes(),
+        script.as_bytes(),
+        wires,
+        &mut out,
+    );
     let refusal = match outcome {
         Ok(_) => String::new(rt.alloc()),
         Err(error) => format!(in rt.alloc(); "{error}").expect(rt, "a refusal"),
@@ -61,7 +69,8 @@ fn dumped(
     }
 }
 
-fn is_written(rt: &impl Abort, reported: Written, text: &str, refusal: &str) {
+/// This text was written, with this refusal.
+pub fn is_written(rt: &impl Abort, reported: Written, text: &str, refusal: &str) {
     assert!(rt;
         reported.bytes.as_slice() == text.as_bytes(),
         "another text, with `{refusal}`"
@@ -77,24 +86,43 @@ fn is_written(rt: &impl Abort, reported: Written, text: &str, refusal: &str) {
 fn dumps_come_out(rt: &(impl Abort + AllocGlobal)) {
     is_written(
         rt,
-        dumped(rt, TOPOLOGY, SCRIPT, usize::MAX, usize::MAX),
+        dumped(rt, TOPOLOGY, SCRIPT, Wires::Plain, usize::MAX, usize::MAX),
         DUMP,
         "",
     );
-    is_written(rt, dumped(rt, TOPOLOGY, SCRIPT, 1, usize::MAX), DUMP, "");
+    is_written(
+        rt,
+        dumped(rt, TOPOLOGY, SCRIPT, Wires::Plain, 1, usize::MAX),
+        DUMP,
+        "",
+    );
 }
 
 /// A refused text writes nothing.
 fn refusals_write_nothing(rt: &(impl Abort + AllocGlobal)) {
     is_written(
         rt,
-        dumped(rt, "devise tv tv 1\n", SCRIPT, usize::MAX, usize::MAX),
+        dumped(
+            rt,
+            "devise tv tv 1\n",
+            SCRIPT,
+            Wires::Plain,
+            usize::MAX,
+            usize::MAX,
+        ),
         "",
         "topology line 1: word",
     );
     is_written(
         rt,
-        dumped(rt, TOPOLOGY, "stop 5\n", usize::MAX, usize::MAX),
+        dumped(
+            rt,
+            TOPOLOGY,
+            "stop 5\n",
+            Wires::Named,
+            usize::MAX,
+            usize::MAX,
+        ),
         "",
         "script line 1: word",
     );
@@ -111,7 +139,7 @@ fn pulls_are_dumped(rt: &(impl Abort + AllocGlobal)) {
     let text = format!(in rt.alloc(); "{start}{first}{bits}{last}").expect(rt, "a text");
     is_written(
         rt,
-        dumped(rt, TOPOLOGY, script, usize::MAX, usize::MAX),
+        dumped(rt, TOPOLOGY, script, Wires::Plain, usize::MAX, usize::MAX),
         text.as_str(),
         "",
     );
@@ -120,7 +148,7 @@ fn pulls_are_dumped(rt: &(impl Abort + AllocGlobal)) {
 /// A writer that fails at a byte has all bytes before it, and the count is reported.
 fn faults_are_counted(rt: &(impl Abort + AllocGlobal)) {
     for room in 0..POLL.len() {
-        let reported = dumped(rt, TOPOLOGY, "end 40000\n", usize::MAX, room);
+        let reported = dumped(rt, TOPOLOGY, "end 40000\n", Wires::Plain, usize::MAX, room);
         let refusal = format!(in rt.alloc(); "write fault after {room} bytes").expect(rt, "a text");
         let front = POLL.as_bytes().get(..room).unwrap_or(b"");
         assert!(rt;

@@ -4,6 +4,8 @@
 #[cfg(test)]
 mod emulated;
 #[cfg(test)]
+mod named;
+#[cfg(test)]
 mod rounds;
 #[cfg(test)]
 mod rows;

@@ -8,6 +8,8 @@ mod lines;
 #[cfg(test)]
 mod monitors;
 #[cfg(test)]
+mod named;
+#[cfg(test)]
 mod plain_readings;
 #[cfg(test)]
 mod random_files;

@@ -1,9 +1,12 @@
 use Rattle.std.proofs.Common.{rules, ◌≡◌, Ok, arith, option_map}
 use Rattle.cec_asm.specs.Topology.{topology_of, plan_of}
 use Rattle.cec_asm.specs.Script.{IsScriptRead, course_of}
+use Rattle.cec_net.specs.State.{first_net}
+use Rattle.cec_run.specs.Run.{start}
+use Rattle.cec_driven.specs.Named.{IsDump}
 use Rattle.cec_run.proofs.Accepted.{early, ends_early, has_device}
 use Rattle.cec_driven.proofs.Counts.{count_started}
-use Rattle.cec_driven.proofs.HasDrives.{runs_have_drives}
+use Rattle.cec_driven.proofs.HasDump.{dump_of_texts, runs_have_dumps}
 use Rattle.cec_driven.proofs.emulate.emulate_drives.Goals as goal
 
 pub on_heap-requires-clause-some : goal.on_heap-requires-clause-some
@@ -27,20 +30,27 @@ pub returns-clause-cut : goal.returns-clause-cut
 returns-clause-cut g c =
     let plan : topology_of c.args.topology.now ≡ Ok (plan_of c.in_ok-topology.topology) = search rules in
     let course : IsScriptRead c.in_ok-topology.topology.tree c.args.script.now (Ok (course_of c.in_ok-script.script)) = c.in_ok-script.ensures.gives in
-    let due = runs_have_drives c.in_ok-topology.topology.tree (course_of c.in_ok-script.script).pulses (course_of c.in_ok-script.script).events (course_of c.in_ok-script.script).end c.in_ok-script.ensures.script.timely.order in
+    let due = runs_have_dumps c.args.wires c.in_ok-topology.topology.tree (course_of c.in_ok-script.script).pulses (course_of c.in_ok-script.script).events (course_of c.in_ok-script.script).end c.in_ok-script.ensures.script.timely.order in
     let front = c.in-Err.ensures.cut due.0 due.1 (rw (c.deref_mut.ensures.value, c.in-Ok.ensures, c.deref-3.ensures.value, c.deref.ensures.value) due.2) in (
       due.0,
       due.1,
-      record {
-        plan = plan_of c.in_ok-topology.topology;
-        course = course_of c.in_ok-script.script;
-        edid = option_map (λ b. b.value) c.in_ok-_edid._edid;
-        accepted = record { plan_is = plan; course_is = course };
-        root = c.in_ok-_edid.ensures.read;
-        driven = due.2;
-      },
+      dump_of_texts c.args.wires c.args.topology.now c.args.script.now due.0 due.1 (plan_of c.in_ok-topology.topology) (course_of c.in_ok-script.script) (option_map (λ b. b.value) c.in_ok-_edid._edid)
+          (record { plan_is = plan; course_is = course }) c.in_ok-_edid.ensures.read due.2,
       front.0,
       front.1,
       front.2,
       front.3,
+    )
+
+pub returns-in-Ok-run-clause-ok : goal.returns-in-Ok-run-clause-ok
+returns-in-Ok-run-clause-ok g c =
+    let plan : topology_of c.args.topology.now ≡ Ok (plan_of c.in_ok-topology.topology) = search rules in
+    let course : IsScriptRead c.in_ok-topology.topology.tree c.args.script.now (Ok (course_of c.in_ok-script.script)) = c.in_ok-script.ensures.gives in
+    let ran = c.in-Ok-run.ensures.ok in
+    let dump : IsDump c.args.wires (course_of c.in_ok-script.script).end (start (first_net c.in_ok-topology.topology.tree (course_of c.in_ok-script.script).pulses) (course_of c.in_ok-script.script).events) ran.0 c.in-Ok-run.totals =
+    rw (← c.deref.ensures.value, ← c.deref-3.ensures.value, ← c.in-Ok.ensures, ← c.deref_mut.ensures.value) ran.1 in (
+      ran.0,
+      dump_of_texts c.args.wires c.args.topology.now c.args.script.now ran.0 c.in-Ok-run.totals (plan_of c.in_ok-topology.topology) (course_of c.in_ok-script.script) (option_map (λ b. b.value) c.in_ok-_edid._edid)
+          (record { plan_is = plan; course_is = course }) c.in_ok-_edid.ensures.read dump,
+      ran.2,
     )

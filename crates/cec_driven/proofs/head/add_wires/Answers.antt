@@ -1,12 +1,13 @@
 use Rattle.std.proofs.Common.{◌++◌, length, subst, sym}
 use Rattle.hdmi_core.specs.Adds.{Adds}
 use Rattle.hdmi_core.proofs.Adding.{then}
-use Rattle.cec_wires.specs.Wires.{closing, variables}
+use Rattle.cec_wires.specs.Wires.{variables}
 use Rattle.cec_driven.specs.Driven.{names_of}
+use Rattle.cec_driven.specs.Named.{closing_of}
 use Rattle.cec_driven.proofs.Counts.{count_names}
 use Rattle.cec_driven.proofs.head.add_wires.Goals as goal
 
 pub returns : goal.returns
 returns g c =
-    subst (λ n. Adds c.args.out.now c.add_closing.new.out (variables 1 (names_of c.args.devices.now) ++ closing n)) (sym (count_names c.args.devices.now))
-    (then _ _ _ (variables 1 (names_of c.args.devices.now)) (closing (length c.args.devices.now)) c.add_devices.ensures c.add_closing.ensures)
+    subst (λ n. Adds c.args.out.now c.add_closing_of.new.out (variables 1 (names_of c.args.devices.now) ++ closing_of c.args.wires n)) (sym (count_names c.args.devices.now))
+    (then _ _ _ (variables 1 (names_of c.args.devices.now)) (closing_of c.args.wires (length c.args.devices.now)) c.add_devices.ensures c.add_closing_of.ensures)

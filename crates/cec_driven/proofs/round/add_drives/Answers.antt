@@ -2,7 +2,8 @@ use Rattle.std.proofs.Common.{arith, filter, map, nat_le, ◌+◌, ◌≤◌, �
 use Rattle.cec_wave.specs.declared.Stretch.{Stretch}
 use Rattle.cec_net.specs.Step.{after_round, seat_of}
 use Rattle.hdmi_core.specs.Adds.{Adds}
-use Rattle.cec_driven.specs.Driven.{round_drives}
+use Rattle.cec_drives.specs.Stretches.{drives_of}
+use Rattle.cec_driven.specs.Named.{round_of}
 use Rattle.cec_driven.proofs.Counts.{count_round}
 use Rattle.cec_driven.proofs.RoundBounds.{bounds, since_after}
 use Rattle.cec_driven.proofs.round.add_drives.Goals as goal
@@ -25,8 +26,8 @@ add_round-requires-clause-rest g c =
 pub returns-clause-drives : goal.returns-clause-drives
 returns-clause-drives g c =
     let seats = c.deref.ensures.0 ∙ c.seats_of-seats.ensures ∙ ap₂ (λ rest ds. map (seat_of rest c.args.begin) ds) c.requires.kept.rest c.devices.ensures in
-    subst (λ ss. Adds c.args.out.now c.add_round.new.out (round_drives ss c.args.begin c.args.net.now.pulses c.args.outcome.now)) seats
-    (subst (λ ps. Adds c.args.out.now c.add_round.new.out (round_drives c.deref.result.now c.args.begin ps c.args.outcome.now)) c.requires.kept.pulses c.add_round.ensures)
+    subst (λ ss. Adds c.args.out.now c.add_round.new.out (round_of c.args.wires (drives_of ss c.args.begin c.args.net.now.pulses c.args.outcome.now) c.args.begin c.args.outcome.now)) seats
+    (subst (λ ps. Adds c.args.out.now c.add_round.new.out (round_of c.args.wires (drives_of c.deref.result.now c.args.begin ps c.args.outcome.now) c.args.begin c.args.outcome.now)) c.requires.kept.pulses c.add_round.ensures)
 
 pub returns-clause-kept : goal.returns-clause-kept
 returns-clause-kept g c = record {

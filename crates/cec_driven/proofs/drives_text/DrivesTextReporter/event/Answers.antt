@@ -1,4 +1,4 @@
-use Rattle.std.proofs.Common.{◌∙◌, sym}
+use Rattle.std.proofs.Common.{◌∙◌, refl, sym}
 use Rattle.hdmi_core.proofs.Adding.{nothing}
 use Rattle.cec_run.proofs.Advance.{event_keeps}
 use Rattle.cec_driven.proofs.Counts.{count_applied}
@@ -6,7 +6,7 @@ use Rattle.cec_driven.proofs.drives_text.DrivesTextReporter.event.Goals as goal
 
 pub returns : goal.returns
 returns g c = λ before applied kept. (
-  nothing c.args.self.now.text,
+  (nothing c.args.self.now.text, refl),
   (
       let keeps = event_keeps c.args._at c.args._event.now.event before c.args._net.now applied.after_is in
       record {

@@ -1,13 +1,13 @@
-use Rattle.std.proofs.Common.{◌≡◌, ℕ, ◌+◌, ◌≤◌, ◌-◌, [], ◌∷◌, ◌++◌}
+use Rattle.std.proofs.Common.{◌≡◌, ℕ, ◌+◌, ◌≤◌, ◌-◌, [], ◌∷◌, ◌++◌, map}
 use Rattle.cec_wave.specs.Line.{line_of, IsWave}
 use Rattle.hdmi_core.specs.Adds.{Adds}
-use Rattle.cec_wires.specs.Wires.{wires_text}
-use Rattle.cec_wires.proofs.instants.add_wires.Given as goal
+use Rattle.cec_wires.specs.Noted.{noted, noted_text}
+use Rattle.cec_wires.proofs.noted.add_noted_wires.Given as goal
 
 -- the instants so far are added, and what is left of the pulses says all from t on
 abbrev pub invariant-instants : goal.invariant-instants
 invariant-instants g l = record {
-  so_far : Adds l.fn.out l.out (wires_text (l.line ∷ (l.drives ++ l.pulses ∷ [])) l.from (l.t - l.from));
+  so_far : Adds l.fn.out l.out (noted_text (l.line ∷ (l.drives ++ l.pulses ∷ [])) (map noted l.notes) l.from (l.t - l.from));
   after : l.from ≤ l.t;
   before : l.t ≤ l.to;
   order : IsWave l.left;
