@@ -69,7 +69,7 @@ def expected(text):
             causes = ['word'] if not known else ['number'] if instant is None else []
             if label is not None:
                 instants.append((n, instant))
-        elif label is None and verb in (b'pulse', b'pull', b'end'):
+        elif label is None and verb in (b'pulse', b'pull', b'pin', b'end'):
             pass
         else:
             causes = ['word']

@@ -11,7 +11,7 @@ use Rattle.cec_mon.specs.declared.edge_file.EdgeFault.{EdgeFault}
 use Rattle.cec_mon.specs.declared.edge_file.EdgeFault.TheVariants as fault
 use Rattle.cec_mon.specs.declared.edge_file.EdgeLine.{EdgeLine}
 use Rattle.cec_mon.specs.declared.edge_file.EdgeLine.TheVariants.{Edge, End}
-use Rattle.cec_mon.specs.EdgeFile.{EdgeFile, edge_line_of, edges_read, end_read, file_of, is_in_turn, line_alone, line_by, edge_line_at, marked_by, read_line, turns, with_edge, with_edges, within, word_out_of_turn}
+use Rattle.cec_mon.specs.EdgeFile.{EdgeFile, EdgeLinesGoOn, edge_line_of, edges_read, end_read, file_of, is_in_turn, line_alone, line_by, edge_line_at, marked_by, read_line, turns, with_edge, with_edges, within, word_out_of_turn}
 use Rattle.cec_mon.specs.Reading.{GivesEdges, fault_reported}
 use Rattle.cec_mon.proofs.Files.{edge_before, end_none}
 
@@ -121,6 +121,9 @@ lines_are_read (line ∷ lines) number is_low from f h =
         → ((e : EdgeOf) (g : EdgeFile) → edges_read lines (number + 1) e.low (e.at + 1) ≡ Ok g → IsRead e.low (e.at + 1) g) → IsRead is_low from f
     by true k skip more = skip k
     by false k skip more = line_is_read number is_low from line (edge_line_of line) (λ e. edges_read lines (number + 1) e.low (e.at + 1)) lines f refl more k
+
+pub edge_lines_go_on : EdgeLinesGoOn
+edge_lines_go_on lines number is_low from f h = let r = lines_are_read lines number is_low from f h in (r.turn, r.ends, r.reach, r.early)
 
 pub file_is_capture : (text : List ℕ) (f : EdgeFile) → file_of text ≡ Ok f → IsCapture f.edges f.end
 file_is_capture text f h = let r = lines_are_read (lines_of text) 1 false 0 f h in record { turn = r.turn; ends = r.ends; early = r.early }

@@ -328,6 +328,23 @@ module _ (win : Windows) (ok : AreWindows win) where
       finishes low n t old.receiver.receiver.is_low (heard_by old.receiver.receiver) l h.stood.keeps (sym h.stood.level ∙ h.still) (λ u a c. calm u a c ∙ h.still)
       ∙ sym (ap (λ (m : Microsecond). ended_before_by win low n ++ option_to_list (option_or m.ended (running_by m.state t))) first)
 
+  pub calm_reported : (low : Line) (n until : ℕ) (old mid : Watcher) (w : Option Reading) → HeardBeforeBy win old low n → n ≤ until → IsCalm old low n until
+      → (let m : Microsecond = record { state = heard_by mid.receiver.receiver; ended = option_map listed_as w } in m) ≡ after_wakes old.receiver.windows until old.receiver.receiver.is_low (heard_by old.receiver.receiver)
+      → mid.receiver.windows ≡ old.receiver.windows → IsStill mid → mid.receiver.receiver.is_low ≡ old.receiver.receiver.is_low
+      → HeardBeforeBy win mid low until × (ended_before_by win low until ≡ ended_before_by win low n ++ option_to_list (option_map listed_as w))
+  calm_reported low n until old mid w h l calm waited mid_by still same =
+      let first : (let m : Microsecond = record { state = heard_by mid.receiver.receiver; ended = option_map listed_as w } in m) ≡ after_wakes win until old.receiver.receiver.is_low (heard_by old.receiver.receiver) =
+      waited ∙ ap (λ x. after_wakes x until old.receiver.receiver.is_low (heard_by old.receiver.receiver)) h.windows_are in
+      let k = waits low n until old.receiver.receiver.is_low (heard_by old.receiver.receiver) l h.stood.keeps (sym h.stood.level ∙ h.still) (λ u a c. calm u a c ∙ h.still) in (
+        record {
+          are = h.are;
+          windows_are = mid_by ∙ h.windows_are;
+          stood = record { keeps = ap (λ (m : Microsecond). m.state) first ∙ k.kept; level = still ∙ same ∙ sym k.level };
+          still = still;
+        },
+        k.reported ∙ ap (λ (m : Microsecond). ended_before_by win low n ++ option_to_list m.ended) (sym first),
+      )
+
 -- ---- by the standard's windows
 
 pub edge_standard : (old new : Watcher) (e : Edge) (reported : Option Listed) → FollowsEdgeBy standard old e reported new → FollowsEdge old e reported new

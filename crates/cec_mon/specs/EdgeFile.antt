@@ -5,6 +5,7 @@ use Rattle.std.specs.Prelude.{◌≡◌, ℕ, ◌+◌, ◌<◌, ◌≤◌, Bool,
 use Rattle.std.specs.Str.{bytes_eq}
 use Rattle.cec_wave.specs.Bounds.{latest_instant}
 use Rattle.cec_wave.specs.declared.Edge.{Edge as EdgeOf}
+use Rattle.cec_signal.specs.Edges.{AreInTurn, EndBy}
 use Rattle.hdmi_core.specs.Lines.{lines_of, is_skipped}
 use Rattle.hdmi_core.specs.Number.{number_of}
 use Rattle.hdmi_core.specs.Words.{words_of}
@@ -101,6 +102,12 @@ edges_read (line ∷ lines) number is_low from =
 -- what a text is read as
 abbrev pub file_of : List ℕ → Result EdgeFile EdgeFault
 file_of text = edges_read (lines_of text) 1 false 0
+
+-- What is left of a file that is read goes on from where the line of the bus stands: edges in turn, and an end that is not
+-- before them, within the limit.
+abbrev pub EdgeLinesGoOn : Type 0
+EdgeLinesGoOn = (lines : List (List ℕ)) (number : ℕ) (is_low : Bool) (from : ℕ) (f : EdgeFile) → edges_read lines number is_low from ≡ Ok f
+    → AreInTurn is_low from f.edges × EndBy f.end f.edges × (from ≤ f.end + 1) × (f.end ≤ latest_instant)
 
 -- ---- a reader of the lines
 

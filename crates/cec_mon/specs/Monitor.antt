@@ -61,6 +61,12 @@ abbrev pub FollowsEdgeBy : Windows → Watcher → Edge → Option Listed → Wa
 FollowsEdgeBy windows old edge reported new = (low : Line) (n : ℕ) → HeardBeforeBy windows old low n → n ≤ edge.at → IsCalm old low n edge.at → low edge.at ≡ edge.low
     → HeardBeforeBy windows new low (edge.at + 1) × (ended_before_by windows low (suc edge.at) ≡ ended_before_by windows low n ++ option_to_list reported)
 
+-- Told that no edge comes before an instant, it was told each line that goes on so, and reports the reading that has ended since,
+-- if one has.
+abbrev pub FollowsCalmBy : Windows → Watcher → ℕ → Option Listed → Watcher → Type 0
+FollowsCalmBy windows old until reported new = (low : Line) (n : ℕ) → HeardBeforeBy windows old low n → n ≤ until → IsCalm old low n until
+    → HeardBeforeBy windows new low until × (ended_before_by windows low until ≡ ended_before_by windows low n ++ option_to_list reported)
+
 -- Told the end of a line, it reports what is left of the line's readings.
 abbrev pub FollowsEndBy : Windows → Watcher → ℕ → Option Listed → Type 0
 FollowsEndBy windows old t reported = (low : Line) (n : ℕ) → HeardBeforeBy windows old low n → n ≤ t + 1 → IsCalm old low n (t + 1)

@@ -80,8 +80,12 @@ fn marked_by(at: Option<u64>, rest: Option<&[u8]>) -> Result<EdgeLine, usize>
     line_alone(edge_line_at(at, mark), rest)
 }
 
-// What a line says, or the number of its word at fault.
-fn line_in(line: &[u8]) -> Result<EdgeLine, usize>
+/// What a line that is not skipped says.
+///
+/// # Errors
+///
+/// The number of its word at fault.
+pub fn edge_line_in(line: &[u8]) -> Result<EdgeLine, usize>
     ensures { result ≡ edge_line_of line.now }
 {
     let (time, rest) = first_word(line);
@@ -92,7 +96,7 @@ fn line_in(line: &[u8]) -> Result<EdgeLine, usize>
 fn word_past(line: &[u8]) -> usize
     ensures { result ≡ word_past (edge_line_of line.now) }
 {
-    match line_in(line) {
+    match edge_line_in(line) {
         Err(word) => word,
         Ok(_) => 0,
     }
@@ -170,7 +174,7 @@ impl<'a> EdgeLines<'a> {
         requires room { self.old.number + length self.old.rest.now < 18446744073709551615 }
         ensures { ReadsLine number line.now self.old result self.new }
     {
-        match line_in(line) {
+        match edge_line_in(line) {
             Err(word) => Err(EdgeFault::Line { line: number, word }),
             Ok(line) => match line {
                 EdgeLine::Edge(edge) => {

@@ -50,7 +50,7 @@ impl Monitor {
     ghost use Rattle.cec_wave.specs.Line.{Line};
     ghost use Rattle.cec_bits.specs.Windows.{AreWindows};
     ghost use Rattle.cec_bits.specs.declared.times.Windows.{Windows};
-    ghost use Rattle.cec_mon.specs.Monitor.{HeardBefore, HeardBeforeBy, IsStill, FollowsEdge, FollowsEdgeBy, FollowsEnd, FollowsEndBy, Microsecond, heard_at, after_wake, after_wakes};
+    ghost use Rattle.cec_mon.specs.Monitor.{HeardBefore, HeardBeforeBy, IsStill, FollowsCalmBy, FollowsEdge, FollowsEdgeBy, FollowsEnd, FollowsEndBy, Microsecond, heard_at, after_wake, after_wakes};
 
     /// A monitor by the standard's windows, of a line of which nothing is reported yet.
     pub fn new() -> Self
@@ -139,6 +139,16 @@ impl Monitor {
         self.note(edge);
         let ended = self.tick(edge.at);
         waited.or(ended)
+    }
+
+    /// The line goes on without an edge up to `until`, which is not before the last edge and at most 2,000,000,000,001
+    /// microseconds. Answers the reading that has ended before `until`, since the last edge or the last call: there is one at
+    /// most.
+    pub fn calm(&mut self, until: u64) -> Option<Reading>
+        requires early { until ≤ latest_instant + 1 }
+        ensures { (windows : Windows) → FollowsCalmBy windows self.old until (option_map listed_as result) self.new }
+    {
+        self.wait(until)
     }
 
     /// The line goes on without an edge to `t`, which is not before the last edge and at most 2,000,000,000,000

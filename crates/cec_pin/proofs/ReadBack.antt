@@ -17,14 +17,12 @@ use Rattle.hdmi_core.specs.Lines.{is_skipped, lines_of}
 use Rattle.cec_signal.specs.Edges.{Captured, edges_of}
 use Rattle.cec_signal.specs.Seconds.{nine_digits}
 use Rattle.cec_signal.proofs.Decimals.{decimals_again}
-use Rattle.cec_signal.proofs.Moving as moving
-use Rattle.cec_signal.proofs.Moving.{due, track_at}
+use Rattle.cec_signal.proofs.Moving.{due, move_kept as moving_kept, move_reported as moving_reported, move_same as moving_same, track_at}
 use Rattle.cec_signal.proofs.Numbers.{number_again, some_length}
-use Rattle.cec_signal.proofs.Texts as texts
-use Rattle.cec_signal.proofs.Texts.{line_before}
+use Rattle.cec_signal.proofs.Texts.{Lacks as LacksEach, digits_lack as each_digits_lack, line_before, shown as each_shown}
 use Rattle.cec_signal.specs.Reading.{at_word, lines_read, with_edges}
 use Rattle.cec_signal.specs.declared.fault.CaptureFault.{CaptureFault}
-use Rattle.cec_signal.proofs.Passing.{alone, whole}
+use Rattle.cec_pin.proofs.Sampled.{alone, whole}
 use Rattle.cec_pin.specs.Pin.{first_reader, code_of, dot_in, event_by, event_by_start, event_cut, event_of, fraction_of, after_event, instant_of, moved_by, moved_to, nanos_by, pin_form, took, word_at_fault}
 use Rattle.cec_pin.specs.Text.{event_line, event_text, head, round_text, stretch_text, PinFilesAreReadBack}
 use Rattle.cec_pin.specs.declared.reader.Reader.{Reader}
@@ -32,16 +30,16 @@ use Rattle.cec_pin.specs.declared.reader.Reader.{Reader}
 -- ---- bytes
 
 abbrev Lacks : ℕ → List ℕ → Type 0
-Lacks b bytes = texts.Lacks (λ c. c == b) bytes
+Lacks b bytes = LacksEach (λ c. c == b) bytes
 
 no_byte : (b c : ℕ) → digit_value c < 10 → b < 48 → (c == b) ≡ false
 no_byte b c h low = grind (arith, nat_tests)
 
 digits_lack : (b : ℕ) (ds : List ℕ) → b < 48 → AllDigits 10 ds → Lacks b ds
-digits_lack b ds low h = texts.digits_lack (λ c. c == b) ds (λ c d. no_byte b c d low) h
+digits_lack b ds low h = each_digits_lack (λ c. c == b) ds (λ c d. no_byte b c d low) h
 
 shown : (b : ℕ) (line : List ℕ) → list_all (λ c. not (c == b)) line ≡ true → Lacks b line
-shown b line h = texts.shown (λ c. c == b) line h
+shown b line h = each_shown (λ c. c == b) line h
 
 dot_at : (xs r : List ℕ) → Lacks 46 xs → dot_in (xs ++ 46 ∷ r) ≡ length xs
 dot_at [] r h = refl
@@ -130,13 +128,13 @@ rise_code nanos = refl
 -- ---- events
 
 move_kept : (t at : ℕ) (b low : Bool) → at ≤ t → moved_to (Some t) (Some low) (stood at b b) ≡ Ok (record { state = stood t b low; edge = None })
-move_kept t at b low after = ap (λ m. moved_by m (Some low) (stood at b b)) (moving.move_kept t at b after)
+move_kept t at b low after = ap (λ m. moved_by m (Some low) (stood at b b)) (moving_kept t at b after)
 
 move_reported : (t at : ℕ) (b low : Bool) → at < t → moved_to (Some t) (Some low) (stood at (not b) b) ≡ Ok (record { state = stood t b low; edge = Some (record { at = at; low = b }) })
-move_reported t at b low after = ap (λ m. moved_by m (Some low) (stood at (not b) b)) (moving.move_reported t at b after)
+move_reported t at b low after = ap (λ m. moved_by m (Some low) (stood at (not b) b)) (moving_reported t at b after)
 
 move_same : (t : ℕ) (was is low : Bool) → moved_to (Some t) (Some low) (stood t was is) ≡ Ok (record { state = stood t was low; edge = None })
-move_same t was is low = ap (λ m. moved_by m (Some low) (stood t was is)) (moving.move_same t was is)
+move_same t was is low = ap (λ m. moved_by m (Some low) (stood t was is)) (moving_same t was is)
 
 fall_move : (t at : ℕ) (b : Bool) → cond b (at + 1) at ≤ t → moved_to (Some t) (Some true) (stood at b false) ≡ Ok (record { state = stood t false true; edge = due at b })
 fall_move t at true after = move_reported t at false true (omega (arith, after))

@@ -1,18 +1,18 @@
 -- A pin file that is read is its line, sampled.
-use Rattle.std.proofs.Common.{◌≡◌, ℕ, ◌+◌, ◌-◌, ◌*◌, ◌/◌, ◌≤◌, Bool, true, false, nat_lt, nat_le, if◌then◌else◌, List, [], ◌∷◌, ◌++◌, Option, Some, None, Result, Ok, Err, refl, sym, ap, subst, ◌∙◌, arith}
+use Rattle.std.proofs.Common.{◌≡◌, ℕ, ◌+◌, ◌-◌, ◌*◌, ◌/◌, ◌≤◌, Bool, true, false, nat_lt, nat_le, if◌then◌else◌, List, [], ◌∷◌, ◌++◌, Option, Some, None, IfSome, Result, Ok, Err, refl, sym, ap, subst, ◌∙◌, arith}
 use Rattle.std.specs.Option.{option_to_list}
 use Rattle.std.proofs.lemmas.Bool.Decides.{nat_tests}
 use Rattle.cec_wave.specs.declared.Edge.{Edge}
 use Rattle.hdmi_core.specs.Lines.{lines_of, is_skipped}
-use Rattle.cec_signal.specs.Edges.{Captured, IsCapture}
+use Rattle.cec_signal.specs.Edges.{Captured, EndBy, IsCapture}
 use Rattle.cec_signal.specs.Samples.{Sample, level_in}
 use Rattle.cec_signal.specs.Track.{Moved, last_edge, track_move}
 use Rattle.cec_signal.specs.declared.track.Track.{Track}
 use Rattle.cec_signal.proofs.Recording.{Records, moved_at, records_capture, records_end, records_level, records_line, records_moved}
 use Rattle.cec_signal.specs.Reading.{Step, lines_read}
-use Rattle.cec_signal.proofs.Passing.{onward, whole, without_word}
+pub use Rattle.cec_signal.proofs.Passing.{alone, onward, whole, without_word}
 use Rattle.cec_pin.specs.Pin.{Stepped, first_reader, edges_in, event_by_start, event_of, after_event, track_with_level, moved_by, moved_to, pin_form, reader_with_start, start_in_comment, took, word_at_fault}
-use Rattle.cec_pin.specs.Sampling.{Level, PinFilesAreSampled, event_in, last_time, level_by, level_of, level_reported, levels_in, or_start, start_after, time_by}
+use Rattle.cec_pin.specs.Sampling.{Level, PinFilesAreSampled, PinLinesAreEarly, PinLinesGoOn, event_in, last_time, level_by, level_of, level_reported, levels_in, or_start, start_after, time_by}
 use Rattle.cec_pin.specs.declared.line.Event.{Event}
 use Rattle.cec_pin.specs.declared.reader.Reader.{Reader}
 
@@ -149,3 +149,26 @@ pin_files_are_sampled text e h =
 
 pub read_is_capture : (text : List ℕ) (e : Captured) → edges_in text ≡ Ok e → IsCapture e.edges e.end
 read_is_capture text e h = let s = pin_files_are_sampled text e h in s.capture
+
+-- ---- line by line
+
+rounded_whole : (at : ℕ) → at ≡ rounded (at * 1000)
+rounded_whole at = omega arith
+
+pub pin_lines_go_on : PinLinesGoOn
+pin_lines_go_on number lines r e early h =
+    let ran = lines_ran number lines r e (r.track.at * 1000) (rounded_whole r.track.at) early h in
+    (ran.records.turn, ran.records.ends, ran.records.late, ran.early)
+
+edge_by : (edge : Option Edge) (edges : List Edge) (end limit : ℕ) → EndBy end (option_to_list edge ++ edges) → end ≤ limit → IfSome edge (λ e. e.at ≤ limit)
+edge_by None edges end limit ends l = tt
+edge_by (Some e) edges end limit ends l = let at = ends.0 in omega arith
+
+pub pin_lines_are_early : PinLinesAreEarly
+pin_lines_are_early line r step early h =
+    let time = r.track.at * 1000 in
+    let g : Goes r.track step (start_after line r.start) (time_by r.start (event_in line) time) (level_by r.start (event_in line)) =
+    subst (λ (st : Stepped). GoesBy r.track st (start_after line r.start) (time_by r.start (event_in line) time) (level_by r.start (event_in line))) h (line_goes r line time (rounded_whole r.track.at) early) in
+    let last = option_to_list (last_edge step.state.track) in
+    let all = g.more last [] step.state.track.at (records_end step.state.track) in
+    (g.early, edge_by step.edge last step.state.track.at 2000000000000 all.ends g.early)

@@ -1,11 +1,14 @@
 -- The line that a pin file reports: at an instant it has the level of the last event of the CEC pin at or before it. Times
 -- are nanoseconds here, and nothing is said of edges and faults.
-use Rattle.std.specs.Prelude.{◌≡◌, ℕ, ◌+◌, ◌-◌, ◌*◌, ◌/◌, Bool, false, nat_le, if◌then◌else◌, List, [], ◌∷◌, ◌++◌, Option, Some, None, Ok}
+use Rattle.std.specs.Prelude.{◌≡◌, ℕ, ◌+◌, ◌-◌, ◌*◌, ◌/◌, ◌≤◌, Bool, false, nat_le, if◌then◌else◌, List, [], ◌∷◌, ◌++◌, Option, Some, None, IfSome, Ok}
 use Rattle.std.specs.Option.{option_to_list}
 use Rattle.hdmi_core.specs.Lines.{lines_of, is_skipped}
-use Rattle.cec_signal.specs.Edges.{Captured, IsCapture, line_of_edges}
-use Rattle.cec_pin.specs.Pin.{edges_in, event_of, start_in_comment}
+use Rattle.cec_wave.specs.Bounds.{latest_instant}
+use Rattle.cec_signal.specs.Edges.{AreInTurn, Captured, EndBy, IsCapture, line_of_edges}
+use Rattle.cec_signal.specs.Reading.{Step, lines_read}
+use Rattle.cec_pin.specs.Pin.{edges_in, event_of, pin_form, start_in_comment, took}
 use Rattle.cec_pin.specs.declared.line.Event.{Event}
+use Rattle.cec_pin.specs.declared.reader.Reader.{Reader}
 
 -- from a time on, counted from the start, the line is low or not
 pub record Level : Type 0 where
@@ -59,3 +62,16 @@ pub record IsSampled (text : List ℕ) (e : Captured) : Type 0 where
 -- with the last event.
 abbrev pub PinFilesAreSampled : Type 0
 PinFilesAreSampled = (text : List ℕ) (e : Captured) → edges_in text ≡ Ok e → IsSampled text e
+
+-- ---- a file that is read line by line
+
+-- What is left of a file that is read goes on from where the reader stands: edges in turn, and an end that is not before them,
+-- within the limit.
+abbrev pub PinLinesGoOn : Type 0
+PinLinesGoOn = (number : ℕ) (lines : List (List ℕ)) (r : Reader) (e : Captured) → r.track.at ≤ latest_instant → lines_read pin_form number lines r ≡ Ok e
+    → AreInTurn r.track.was_low r.track.at e.edges × EndBy e.end e.edges × (r.track.at ≤ e.end) × (e.end ≤ latest_instant)
+
+-- The reader, and the edge that is known by a line, stay within the limit.
+abbrev pub PinLinesAreEarly : Type 0
+PinLinesAreEarly = (line : List ℕ) (r : Reader) (step : Step Reader) → r.track.at ≤ latest_instant → took line r ≡ Ok step
+    → (step.state.track.at ≤ latest_instant) × IfSome step.edge (λ e. e.at ≤ latest_instant)

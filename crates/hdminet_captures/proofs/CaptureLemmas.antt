@@ -1,9 +1,14 @@
 -- A capture by its edges and its end.
-use Rattle.std.proofs.Common.{◌≡◌, ℕ, zero, suc, List, min, ap, ◌∙◌}
+use Rattle.std.proofs.Common.{◌≡◌, ℕ, zero, suc, List, [], Option, Some, None, min, refl, ap, subst, append-nil, ◌∙◌}
 use Rattle.cec_bits.specs.Windows.{most_margin, standard, wider}
 use Rattle.cec_bits.specs.declared.times.Windows.{Windows}
 use Rattle.cec_mon.proofs.FollowedEdges.{captured_standard}
 use Rattle.cec_mon.specs.Joined.{captured_by}
+use Rattle.cec_mon.specs.Watch.{readings_text}
+use Rattle.cec_follow.specs.Follow.{HasFollowed, text_of}
+use Rattle.hdminet_captures.specs.Following.{FollowsTo, form_followed}
+use Rattle.hdminet_words.specs.declared.choice.LineForm.{LineForm}
+use Rattle.std.specs.Io.KnownBytes.{Appends, append_known}
 use Rattle.hdminet_captures.specs.Captures.{readings_at}
 use Rattle.cec_signal.specs.Edges.{Captured}
 use Rattle.cec_wave.specs.declared.Edge.{Edge}
@@ -20,3 +25,20 @@ same_capture c edges end es e =
 pub readings_are : (margin : ℕ) (windows : Windows) (c : Captured) → windows ≡ wider (min margin most_margin) → captured_by windows c ≡ readings_at margin c
 readings_are zero windows c e = let same : windows ≡ standard = e in ap (λ w. captured_by w c) same ∙ captured_standard c
 readings_are (suc n) windows c e = ap (λ w. captured_by w c) e
+
+-- ---- as its lines come
+
+nothing_more : (known : Option (List ℕ)) → append_known known [] ≡ known
+nothing_more None = refl
+nothing_more (Some xs) = ap Some (append-nil xs)
+
+-- all that was put is handed on
+pub follows_to : (form : LineForm) (margin : ℕ) (windows : Windows) (known old below : Option (List ℕ)) (pending : List ℕ) → windows ≡ wider (min margin most_margin) → pending ≡ []
+    → HasFollowed (form_followed form) windows known old (append_known below pending) → FollowsTo form margin known old below
+follows_to form margin windows known old below pending e none f = record {
+  input = f.input;
+  all = f.all;
+  text = text_of windows f.capture;
+  reported = λ name. (f.capture, f.read name, ap readings_text (readings_are margin windows f.capture e));
+  put = subst (λ (new : Option (List ℕ)). Appends old new (text_of windows f.capture)) (ap (append_known below) none ∙ nothing_more below) f.put;
+}

@@ -201,7 +201,7 @@ fn write_report<W: Sink>(
     }
 }
 
-fn within_most(margin: u64) -> u64
+pub(crate) fn within_most(margin: u64) -> u64
     ensures same { result ≡ min margin most_margin }
     ensures most { result ≤ most_margin }
 {

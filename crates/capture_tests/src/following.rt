@@ -1,0 +1,195 @@
+//! Captures that are followed, over a reader that gives one line at each read and a writer that notes when it was written to.
+use cec_bits::Windows;
+use cec_follow::{FollowError, LineForm, follow};
+use hdmi_core::{Buffered, Writes};
+use std::cell::RefCell;
+use std::io::{self, ErrorKind, Read, Write};
+use std::process::Abort;
+
+/// `FORM:MARGIN TEXT => SAID END`. In a text `|` ends a line, and `START` is a comment that starts pin events at 100 s; `POLL` has
+/// the lines of the television's own poll from 12,000 on up to its last bit, whose fall is at 38,100. `SAID` has `>` for each line
+/// that was read, and each reading where it was written, with `|` after it; `END` is `.` or the fault.
+const ROWS: &str = "\
+# A pulse that is no start bit is over with its rise; that of a pin is known with the next event, of another pin too.
+edges:0 12000 0|12300 1|40000 end => >>12000 12300 bad-start -|> .
+pin:0 START|100.012000000 0|100.012300000 1|100.012300001 1 => >>>>12000 12300 bad-start -| .
+pin:0 START|100.012000000 0|100.012300000 1|100.013000000 3|100.014000000 3 => >>>>12000 12300 bad-start -|> .
+pin:0 START|100.012000000 0|100.012300000 1|100.012300000 1 => >>>>12000 12300 bad-start -| .
+# A low that is too long for a start bit is over 3,901 after its fall.
+pin:0 START|100.012000000 0|100.015901000 2|100.015902000 2 => >>>>12000 15901 bad-start -| .
+edges:0 12000 0|15950 1|16000 end => >>12000 15901 bad-start -|> .
+# A poll that nobody acknowledges is over 1,050 after its last fall: with the first line that says more than that instant.
+edges:0 POLL|38700 1|39150 end => >>>>>>>>>>>>>>>>>>>>>>>12000 39150 complete 0>0 nack| .
+edges:0 POLL|38700 1|50000 end|# more => >>>>>>>>>>>>>>>>>>>>>>>12000 39150 complete 0>0 nack|> .
+edges:0 POLL|38700 1|50000 0|50001 end => >>>>>>>>>>>>>>>>>>>>>>>12000 39150 complete 0>0 nack|>50000 50001 open -| .
+# One that is acknowledged is over before its last bit rises.
+edges:0 POLL|39600 1|90000 end => >>>>>>>>>>>>>>>>>>>>>>12000 39150 complete 0>0 ack|> .
+# Lines that are skipped say nothing; what stands after the end is at fault.
+edges:0 # a pulse|12000 0||12300 1|# no more|40000 end|# none => >>>>12000 12300 bad-start -|>>> .
+edges:0 12000 0|12300 1|40000 end|41000 0 => >>12000 12300 bad-start -|>> line 4: line
+# Faults, and what was written before them.
+edges:0  => line 1: line
+edges:0 12000 0|12300 1 => >>12000 12300 bad-start -| line 3: line
+edges:0 12000 0|12300 1|12200 0 => >>12000 12300 bad-start -|> line 3: order
+edges:0 12000 0|12300 1|frob|40000 end => >>12000 12300 bad-start -|> line 3: line
+pin:0 START|100.012000000 0|100.012300000 1|100.013000000 1|100.012900000 0 => >>>>12000 12300 bad-start -|> line 5: order
+pin:0 START|99.999999999 0 => >> line 2: order
+pin:0 START|100.012000000 6 => >> line 2: word
+pin:0 => .
+# A reader that fails.
+edges:0 12000 0|12300 1|#fault => >>12000 12300 bad-start -| read fault
+# By wider windows a start bit that is low for 3,950 is one.
+edges:100 12000 0|15950 1|16000 end => >>>12000 16000 open -| .
+";
+
+const START: &str = "# start_monotonic 100.000000000";
+
+const POLL: &str =
+    "12000 0|15700 1|16500 0|18000 1|18900 0|20400 1|21300 0|22800 1|23700 0|25200 1|26100 0|27600 1|28500 0|30000 1|30900 0|32400 1|33300 0|34800 1|35700 0|36300 1|38100 0";
+
+/// A reader that gives one line at each read, at most as many bytes as there is room for, and notes that it did. A line `#fault`
+/// can't be read.
+#[derive(Drop)]
+struct Driver<'a> {
+    rest: &'a [u8],
+    said: &'a RefCell<Vec<u8>>,
+}
+
+impl<'a> Read for Driver<'a> {
+    fn read(&mut self, buf: &mut [u8]) -> io::Result<usize> {
+        if self.rest.starts_with(b"#fault") {
+            return Err(io::Error::from(ErrorKind::Other));
+        }
+        let length = match self.rest.iter().position(|byte| *byte == b'\n') {
+            Some(end) => end.saturating_add(1),
+            None => self.rest.len(),
+        };
+        let length = length.min(buf.len());
+        let (Some(line), Some(rest)) = (self.rest.get(..length), self.rest.get(length..)) else {
+            return Ok(0);
+        };
+        let Some(place) = buf.get_mut(..length) else {
+            return Err(io::Error::from(ErrorKind::Other));
+        };
+        place.copy_from_slice(line);
+        if length > 0 {
+            let Ok(mut said) = self.said.try_borrow_mut() else {
+                return Err(io::Error::from(ErrorKind::Other));
+            };
+            said.extend_from_slice(b">")?;
+        }
+        self.rest = rest;
+        Ok(length)
+    }
+}
+
+/// A writer that notes what it is handed, and fails once its room is full.
+#[derive(Drop)]
+struct Told<'a> {
+    said: &'a RefCell<Vec<u8>>,
+    room: usize,
+}
+
+impl<'a> Write for Told<'a> {
+    fn write(&mut self, bytes: &[u8]) -> io::Result<usize> {
+        let count = bytes.len().min(self.room);
+        if count == 0 && !bytes.is_empty() {
+            return Err(io::Error::from(ErrorKind::BrokenPipe));
+        }
+        let Some(taken) = bytes.get(..count) else {
+            return Ok(0);
+        };
+        let Ok(mut said) = self.said.try_borrow_mut() else {
+            return Err(io::Error::from(ErrorKind::Other));
+        };
+        said.extend_from_slice(taken)?;
+        self.room = self.room.saturating_sub(count);
+        Ok(count)
+    }
+
+    fn flush(&mut self) -> io::Result<()> {
+        Ok(())
+    }
+}
+
+/// How a capture that was followed ended.
+fn end_text(rt: &(impl Abort + AllocGlobal), end: &Result<(), FollowError>) -> String {
+    match end {
+        Ok(()) => format!(in rt.alloc(); ".").expect(rt, "an end"),
+        Err(error) => format!(in rt.alloc(); "{error}").expect(rt, "a fault"),
+    }
+}
+
+/// What is said where a capture is followed, over a writer with so much room.
+fn said_of(
+    rt: &(impl Abort + AllocGlobal),
+    form: LineForm,
+    margin: u64,
+    text: &[u8],
+    room: usize,
+) -> String {
+    let said = RefCell::new(Vec::new(rt.alloc()));
+    let mut driver = Driver {
+        rest: text,
+        said: &said,
+    };
+    let mut out = Buffered::new(Writes::new(Told { said: &said, room }));
+    let end = follow(form, Windows::wider(margin.min(300)), &mut driver, &mut out);
+    drop(out);
+    drop(driver);
+    let reported = String::from_utf8(said.into_inner()).expect(rt, "a text");
+    let reported = reported.replace(rt.alloc(), "\n", "|").expect(rt, "a text");
+    let end = end_text(rt, &end);
+    if reported.is_empty() {
+        return end;
+    }
+    format!(in rt.alloc(); "{reported} {end}").expect(rt, "a text")
+}
+
+/// A text without its short forms.
+fn spelled(rt: &(impl Abort + AllocGlobal), text: &str) -> String {
+    let text = text
+        .replace(rt.alloc(), "START", START)
+        .expect(rt, "a text");
+    let text = text.replace(rt.alloc(), "POLL", POLL).expect(rt, "a text");
+    text.replace(rt.alloc(), "|", "\n").expect(rt, "a text")
+}
+
+fn check(rt: &(impl Abort + AllocGlobal), row: &str) {
+    let (asked, want) = row.split_once(" => ").expect(rt, "a row");
+    let (words, text) = asked.split_once(' ').unwrap_or((asked, ""));
+    let (form, margin) = words.split_once(':').expect(rt, "a form");
+    let form = if form == "pin" {
+        LineForm::Pin
+    } else {
+        LineForm::Edges
+    };
+    let margin = margin.parse::<u64>().expect(rt, "a margin");
+    let text = spelled(rt, text);
+    let said = said_of(rt, form, margin, text.as_bytes(), usize::MAX);
+    assert!(rt; said.as_str() == want, "{row}: {said}");
+}
+
+#[test]
+fn readings_are_written_when_they_are_over(rt: HostRuntime) {
+    for row in ROWS.lines() {
+        if !row.starts_with("# ") {
+            check(&rt, row);
+        }
+    }
+}
+
+#[test]
+fn a_writer_that_is_full_ends_it(rt: HostRuntime) {
+    let text = b"12000 0\n12300 1\n40000 0\n40300 1\n50000 end\n";
+    let said = said_of(&rt, LineForm::Edges, 0, text, 10);
+    assert!(&rt;
+        said.as_str() == ">>12000 1230 write fault after 10 bytes",
+        "{said}"
+    );
+    let said = said_of(&rt, LineForm::Edges, 0, text, 30);
+    assert!(&rt;
+        said.as_str() == ">>12000 12300 bad-start -|>>40000  write fault after 30 bytes",
+        "{said}"
+    );
+}

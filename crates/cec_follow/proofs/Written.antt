@@ -1,0 +1,289 @@
+-- A capture that is followed over a reader and a sink.
+use Rattle.std.proofs.Common.{◌≡◌, ℕ, ◌+◌, Bool, true, false, List, [], ◌∷◌, ◌++◌, take, drop, Option, Some, None, IfSome, Ok, Err, Result, All, refl, sym, ap, subst, ◌∙◌, append_assoc, append-nil, take-append-drop}
+use Rattle.std.specs.Io.KnownBytes.{Appends, IsAtEnd, Keeps, append_known, prepend_known}
+use Rattle.std.proofs.KnownBytes.{Appends-kept, Appends-nil, Appends-trans}
+use Rattle.std.proofs.lemmas.List.Elements.{All-append, All-cons, All-nil}
+use Rattle.hdmi_core.specs.declared.buffered.Buffered.{Buffered}
+use Rattle.hdmi_core.specs.Lines.{lines_of}
+use Rattle.hdmi_core.specs.Written.{WrittenLine}
+use Rattle.hdmi_core.specs.declared.sink.WriteFault.{WriteFault}
+use Rattle.cec_bits.specs.declared.times.Windows.{Windows}
+use Rattle.cec_signal.specs.Edges.{Captured}
+use Rattle.cec_signal.specs.declared.fault.CaptureFault.{CaptureFault}
+use Rattle.cec_formats.specs.Captures.{capture_in}
+use Rattle.cec_incoming.specs.Incoming.{IsNext, IsWhole, Leads, text_of_lines}
+use Rattle.cec_incoming.proofs.Coming.{lines_again}
+use Rattle.cec_follow.specs.Follow.{AreLeft, Ends, Follows, HasBegun, HasFollowed, HasHeard, Hears, HearsEnd, HearsLine, IsAtFault, IsCut, IsFaultOf, IsFollowed, IsFront, IsOfWriting, IsReady, Puts, heard_text, text_of}
+use Rattle.cec_follow.specs.Follow.{IsWhole as IsAll}
+use Rattle.cec_follow.specs.Lines.{form_as, lines_captured}
+use Rattle.cec_follow.specs.declared.error.FollowError.{FollowError}
+use Rattle.cec_follow.specs.declared.error.FollowError.TheVariants.{Capture, Read, TooLong, Write}
+use Rattle.cec_follow.specs.declared.follower.Follower.{Follower}
+use Rattle.cec_follow.specs.declared.follower.Heard.{Heard}
+use Rattle.cec_follow.specs.declared.lines.LineForm.{LineForm}
+use Rattle.cec_follow.specs.declared.lines.LineForm.TheVariants as forms
+use Rattle.cec_follow.proofs.Telling.{followed_front}
+
+-- ---- what is put
+
+pub puts_front : (old new : Option (List ℕ)) (was is : Bool) (line text : List ℕ) (fault : WriteFault) → text ≡ line → WrittenLine old new was is line (Err fault) → Puts {F = WriteFault} old new text (Err fault)
+puts_front old new was is line text fault same w = (take fault.count line, drop fault.count line, same ∙ sym (take-append-drop fault.count line), w.1)
+
+pub puts_both : {F : Type 0} (old mid new : Option (List ℕ)) (one two : List ℕ) (result : Result (Unit {0}) F) → Appends old mid one → Puts mid new two result → Puts old new (one ++ two) result
+puts_both old mid new one two (Ok done) a p = Appends-trans old mid new one two a p
+puts_both old mid new one two (Err fault) a p =
+    (one ++ p.0, p.1, ap (λ t. one ++ t) p.2 ∙ sym (append_assoc one p.0 p.1), Appends-trans old mid new one p.0 a p.3)
+
+pub puts_first : {F : Type 0} (old new : Option (List ℕ)) (one two : List ℕ) (fault : F) → Puts old new one (Err fault) → Puts old new (one ++ two) (Err fault)
+puts_first old new one two fault p = (p.0, p.1 ++ two, ap (λ t. t ++ two) p.2 ∙ append_assoc p.0 p.1 two, p.3)
+
+-- what was put is handed on
+pub puts_handed : (old mid new : Option (List ℕ)) (text : List ℕ) (fault : WriteFault) (error : FollowError) → Puts old mid text (Err fault) → Keeps mid new → Puts old new text (Err error)
+puts_handed old mid new text fault error p k = (p.0, p.1, p.2, Appends-kept old mid new p.0 p.3 k)
+
+pub puts_all : (old mid new : Option (List ℕ)) (text : List ℕ) (error : FollowError) → Appends old mid text → Keeps mid new → Puts old new text (Err error)
+puts_all old mid new text error a k = (text, [], sym (append-nil text), Appends-kept old mid new text a k)
+
+-- ---- a line
+
+heard_so : (number : ℕ) (line : List ℕ) (old new : Follower) (heard : Heard) (before after : Option (List ℕ)) → HearsLine number line old (Ok heard) new → Puts {F = FollowError} before after (heard_text heard) (Ok tt)
+    → HasHeard number line old new before after
+heard_so number line old new heard before after h put = record { text = heard_text heard; put = put; followed = h }
+
+-- of a text of which all is a front, each front is one
+front_less : (more : Bool) (form : LineForm) (win : Windows) (past : List (List ℕ)) (text front rest : List ℕ) → text ≡ front ++ rest → (so_far : List ℕ) → IsFront more form win past (so_far ++ text) → IsFront more form win past (so_far ++ front)
+front_less more form win past text front rest is so_far h = λ left c all read.
+    let f = h left c all read in
+    (rest ++ f.0, f.1 ∙ ap (λ t. (so_far ++ t) ++ f.0) is ∙ ap (λ t. t ++ f.0) (sym (append_assoc so_far front rest)) ∙ append_assoc (so_far ++ front) rest f.0)
+
+pub hears : (number : ℕ) (line : List ℕ) (old new : Follower) (heard : Heard) (before after : Option (List ℕ)) (result : Result (Unit {0}) FollowError) → HearsLine number line old (Ok heard) new
+    → Puts before after (heard_text heard) result → IsOfWriting result → Hears number line old new before after result
+hears number line old new heard before after (Ok done) h put writes = heard_so number line old new heard before after h put
+hears number line old new heard before after (Err (Capture fault)) h put writes = absurd writes
+hears number line old new heard before after (Err Read) h put writes = absurd writes
+hears number line old new heard before after (Err TooLong) h put writes = absurd writes
+hears number line old new heard before after (Err (Write count)) h put writes = record {
+  text = put.0;
+  put = put.3;
+  front = λ form win past so_far w.
+      front_less true form win (past ++ line ∷ []) (heard_text heard) put.0 put.1 put.2 so_far (followed_front form win (past ++ line ∷ []) (number + 1) new (so_far ++ heard_text heard) (h form win past so_far w));
+}
+
+pub fault_heard : (number : ℕ) (line : List ℕ) (old new : Follower) (bytes : Option (List ℕ)) (fault : CaptureFault) → HearsLine number line old (Err fault) new → Hears number line old new bytes bytes (Err (Capture fault))
+fault_heard number line old new bytes fault h = record { put = Appends-nil bytes; refused = h }
+
+-- ---- the end
+
+whole_front : (form : LineForm) (win : Windows) (past : List (List ℕ)) (text : List ℕ) → IsAll form win past text → IsFront false form win past text
+whole_front form win past text w = λ rest c none read.
+    let same : Ok w.capture ≡ Ok c = sym w.read ∙ ap (lines_captured form) (sym (append-nil past) ∙ ap (λ ls. past ++ ls) (sym none)) ∙ read in
+    let is : w.capture ≡ c = cc in
+    ([], ap (text_of win) (sym is) ∙ w.all ∙ sym (append-nil text))
+
+pub ends : (number : ℕ) (f : Follower) (heard : Heard) (before after : Option (List ℕ)) (result : Result (Unit {0}) FollowError) → HearsEnd number f (Ok heard) → Puts before after (heard_text heard) result
+    → IsOfWriting result → Ends number f before after result
+ends number f heard before after (Ok done) h put writes = record { text = heard_text heard; put = put; all = h }
+ends number f heard before after (Err (Capture fault)) h put writes = absurd writes
+ends number f heard before after (Err Read) h put writes = absurd writes
+ends number f heard before after (Err TooLong) h put writes = absurd writes
+ends number f heard before after (Err (Write count)) h put writes = record {
+  text = put.0;
+  put = put.3;
+  front = λ form win past so_far w. front_less false form win past (heard_text heard) put.0 put.1 put.2 so_far (whole_front form win past (so_far ++ heard_text heard) (h form win past so_far w));
+}
+
+pub fault_ends : (number : ℕ) (f : Follower) (bytes : Option (List ℕ)) (fault : CaptureFault) → HearsEnd number f (Err fault) → Ends number f bytes bytes (Err (Capture fault))
+fault_ends number f bytes fault h = record { put = Appends-nil bytes; refused = h }
+
+-- ---- an input
+
+-- what a sink that hands on holds
+abbrev pub held : {S : Type 0} → (S → Option (List ℕ)) → Buffered S → Option (List ℕ)
+held contents b = append_known (contents b.sink) b.pending.items
+
+-- a line was handed out, or none is left
+pub next_line : (old new : Option (List ℕ)) (line : List ℕ) (more : Bool) → more ≡ true → IsNext old new line (Ok more) → Leads old new line
+next_line old new line true is h = h
+next_line old new line false is h = cc
+
+pub next_end : (old new : Option (List ℕ)) (line : List ℕ) (more : Bool) → more ≡ false → IsNext old new line (Ok more) → IsAtEnd old
+next_end old new line true is h = cc
+next_end old new line false is h = h
+
+-- these lines came
+abbrev pub Come : Option (List ℕ) → Option (List ℕ) → List (List ℕ) → Type 0
+Come None after lines = Unit {0}
+Come (Some before) None lines = ⊥
+Come (Some before) (Some after) lines = lines_of before ≡ lines ++ lines_of after
+
+pub record Going (form : LineForm) (win : Windows) (known now before after : Option (List ℕ)) (f : Follower) (number : ℕ) : Type 0 where
+  pub past : List (List ℕ)
+  pub text : List ℕ
+  pub come : Come known now past
+  pub whole : All IsWhole past
+  pub followed : IsFollowed form win past number f text
+  pub ready : IsReady f
+  pub put : Appends before after text
+
+nothing_pending : (known : Option (List ℕ)) → prepend_known [] known ≡ known
+nothing_pending None = refl
+nothing_pending (Some xs) = refl
+
+come_none : (known : Option (List ℕ)) → Come known known []
+come_none None = tt
+come_none (Some xs) = refl
+
+pub going_first : (form : LineForm) (win : Windows) (known before : Option (List ℕ)) (left : List ℕ) (f : Follower) → left ≡ [] → IsFollowed form win [] 1 f [] → IsReady f → Going form win known (prepend_known left known) before before f 1
+going_first form win known before left f none w ready = record {
+  past = [];
+  text = [];
+  come = subst (λ (now : Option (List ℕ)). Come known now []) (sym (ap (λ l. prepend_known l known) none ∙ nothing_pending known)) (come_none known);
+  whole = All-nil IsWhole;
+  followed = w;
+  ready = ready;
+  put = Appends-nil before;
+}
+
+come_more : (known now next : Option (List ℕ)) (past : List (List ℕ)) (line : List ℕ) → Come known now past → Leads now next line → Come known next (past ++ line ∷ [])
+come_more None now next past line a b = tt
+come_more (Some xs) None next past line a b = absurd a
+come_more (Some xs) (Some ys) None past line a b = absurd b
+come_more (Some xs) (Some ys) (Some zs) past line a b = a ∙ ap (λ ls. past ++ ls) b ∙ sym (append_assoc past (line ∷ []) (lines_of zs))
+
+pub going_more : (form : LineForm) (win : Windows) (known now next before mid after : Option (List ℕ)) (old new : Follower) (number : ℕ) (line : List ℕ) → Going form win known now before mid old number → IsWhole line → Leads now next line
+    → HasHeard number line old new mid after → IsReady new → Going form win known next before after new (number + 1)
+going_more form win known now next before mid after old new number line g whole leads h ready = record {
+  past = g.past ++ line ∷ [];
+  text = g.text ++ h.text;
+  come = come_more known now next g.past line g.come leads;
+  whole = All-append IsWhole g.past (line ∷ []) g.whole (All-cons IsWhole line [] whole (All-nil IsWhole));
+  followed = h.followed form win g.past g.text g.followed;
+  ready = ready;
+  put = Appends-trans before mid after g.text h.text g.put h.put;
+}
+
+-- the lines that have come are the first of those of the input
+came_first : (known now : Option (List ℕ)) (past : List (List ℕ)) → Come known now past → IfSome known (λ text. (rest : List (List ℕ)) × (lines_of text ≡ past ++ rest) × AreLeft true rest)
+came_first None now past a = tt
+came_first (Some xs) None past a = absurd a
+came_first (Some xs) (Some ys) past a = (lines_of ys, a, tt)
+
+-- or all of them
+came_all : (known now : Option (List ℕ)) (past : List (List ℕ)) → Come known now past → IsAtEnd now → IfSome known (λ text. (rest : List (List ℕ)) × (lines_of text ≡ past ++ rest) × AreLeft false rest)
+came_all None now past a end = tt
+came_all (Some xs) None past a end = absurd a
+came_all (Some xs) (Some ys) past a end = ([], a ∙ ap (λ t. past ++ lines_of t) end, refl)
+
+pub begun : (form : LineForm) (win : Windows) (known now before after : Option (List ℕ)) (f : Follower) (number : ℕ) → Going form win known now before after f number → HasBegun form win known before after
+begun form win known now before after f number g = record {
+  past = g.past;
+  more = true;
+  came = came_first known now g.past g.come;
+  text = g.text;
+  front = followed_front form win g.past number f g.text g.followed;
+  put = g.put;
+}
+
+-- a line of which the write failed
+cut_begun : (form : LineForm) (win : Windows) (known now next before mid after : Option (List ℕ)) (old : Follower) (number : ℕ) (line : List ℕ) → Going form win known now before mid old number → Leads now next line
+    → IsCut number line old mid after → HasBegun form win known before after
+cut_begun form win known now next before mid after old number line g leads h = record {
+  past = g.past ++ line ∷ [];
+  more = true;
+  came = came_first known next (g.past ++ line ∷ []) (come_more known now next g.past line g.come leads);
+  text = g.text ++ h.text;
+  front = h.front form win g.past g.text g.followed;
+  put = Appends-trans before mid after g.text h.text g.put h.put;
+}
+
+-- an input in a form, by its lines
+by_lines : (form : LineForm) (signal text : List ℕ) → capture_in (form_as form) signal text ≡ lines_captured form (lines_of text)
+by_lines forms.Edges signal text = refl
+by_lines forms.Pin signal text = refl
+
+refused_line : (form : LineForm) (known now next : Option (List ℕ)) (past : List (List ℕ)) (line : List ℕ) (fault : CaptureFault) → Come known now past → Leads now next line
+    → ((rest : List (List ℕ)) → lines_captured form (past ++ line ∷ rest) ≡ Err fault) → IsFaultOf form known (Capture fault)
+refused_line form None now next past line fault a b refused = tt
+refused_line form (Some xs) None next past line fault a b refused = absurd a
+refused_line form (Some xs) (Some ys) None past line fault a b refused = absurd b
+refused_line form (Some xs) (Some ys) (Some zs) past line fault a b refused = λ signal.
+    by_lines form signal xs ∙ ap (lines_captured form) (a ∙ ap (λ ls. past ++ ls) b) ∙ refused (lines_of zs)
+
+refused_end : (form : LineForm) (known now : Option (List ℕ)) (past : List (List ℕ)) (fault : CaptureFault) → Come known now past → IsAtEnd now → lines_captured form past ≡ Err fault → IsFaultOf form known (Capture fault)
+refused_end form None now past fault a end refused = tt
+refused_end form (Some xs) None past fault a end refused = absurd a
+refused_end form (Some xs) (Some ys) past fault a end refused = λ signal.
+    by_lines form signal xs ∙ ap (lines_captured form) (a ∙ ap (λ t. past ++ lines_of t) end ∙ append-nil past) ∙ refused
+
+-- a line that stops it
+pub line_stops : (form : LineForm) (win : Windows) (known now next before mid after : Option (List ℕ)) (old new : Follower) (number : ℕ) (line : List ℕ) (error : FollowError) → Going form win known now before mid old number
+    → Leads now next line → Hears number line old new mid after (Err error) → Follows form win known before after (Err error)
+unfolding begun
+line_stops form win known now next before mid after old new number line (Capture fault) g leads h = (
+  (let b = begun form win known now before mid old number g in
+      record {
+        past = b.past;
+        more = b.more;
+        came = b.came;
+        text = b.text;
+        front = b.front;
+        put = subst (λ t. Appends before after t) (append-nil g.text) (Appends-trans before mid after g.text [] g.put h.put);
+      }),
+  refused_line form known now next g.past line fault g.come leads (h.refused form win g.past g.text g.followed),
+)
+line_stops form win known now next before mid after old new number line (Write count) g leads h = (cut_begun form win known now next before mid after old number line g leads h, tt)
+line_stops form win known now next before mid after old new number line Read g leads h = absurd h
+line_stops form win known now next before mid after old new number line TooLong g leads h = absurd h
+
+-- nothing more is read
+pub reading_stops : (form : LineForm) (win : Windows) (known now before after : Option (List ℕ)) (f : Follower) (number : ℕ) → Going form win known now before after f number → Follows form win known before after (Err Read)
+reading_stops form win known now before after f number g = (begun form win known now before after f number g, tt)
+
+pub length_stops : (form : LineForm) (win : Windows) (known now before after : Option (List ℕ)) (f : Follower) (number : ℕ) → Going form win known now before after f number → Follows form win known before after (Err TooLong)
+length_stops form win known now before after f number g = (begun form win known now before after f number g, tt)
+
+-- no line is left
+input_of : (form : LineForm) (known now : Option (List ℕ)) (past : List (List ℕ)) → Come known now past → All IsWhole past → IsAtEnd now
+    → (input : List ℕ) × IfSome known (λ text. input ≡ text) × (lines_of input ≡ past)
+input_of form None now past a whole end = (text_of_lines past, tt, lines_again past whole)
+input_of form (Some xs) None past a whole end = absurd a
+input_of form (Some xs) (Some ys) past a whole end = (xs, refl, a ∙ ap (λ t. past ++ lines_of t) end ∙ append-nil past)
+
+pub end_stops : (form : LineForm) (win : Windows) (known now before mid after : Option (List ℕ)) (f : Follower) (number : ℕ) (result : Result (Unit {0}) FollowError) → Going form win known now before mid f number → IsAtEnd now
+    → Ends number f mid after result → Follows form win known before after result
+unfolding begun
+end_stops form win known now before mid after f number (Ok done) g end h =
+    let all = h.all form win g.past g.text g.followed in
+    let input = input_of form known now g.past g.come g.whole end in
+    record {
+      input = input.0;
+      all = input.1;
+      capture = all.capture;
+      read = λ signal. by_lines form signal input.0 ∙ ap (lines_captured form) input.2 ∙ all.read;
+      put = subst (λ t. Appends before after t) (sym all.all) (Appends-trans before mid after g.text h.text g.put h.put);
+    }
+end_stops form win known now before mid after f number (Err (Capture fault)) g end h = (
+  (let b = begun form win known now before mid f number g in
+      record {
+        past = b.past;
+        more = b.more;
+        came = b.came;
+        text = b.text;
+        front = b.front;
+        put = subst (λ t. Appends before after t) (append-nil g.text) (Appends-trans before mid after g.text [] g.put h.put);
+      }),
+  refused_end form known now g.past fault g.come end (h.refused form win g.past g.text g.followed),
+)
+end_stops form win known now before mid after f number (Err (Write count)) g end h = (
+  record {
+    past = g.past;
+    more = false;
+    came = came_all known now g.past g.come end;
+    text = g.text ++ h.text;
+    front = h.front form win g.past g.text g.followed;
+    put = Appends-trans before mid after g.text h.text g.put h.put;
+  },
+  tt,
+)
+end_stops form win known now before mid after f number (Err Read) g end h = absurd h
+end_stops form win known now before mid after f number (Err TooLong) g end h = absurd h

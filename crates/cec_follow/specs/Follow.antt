@@ -1,0 +1,205 @@
+-- What is reported of a capture as its lines come: at each moment the front of the text of the whole, whatever comes later (own).
+use Rattle.std.specs.Prelude.{◌≡◌, ℕ, ◌+◌, ◌≤◌, Bool, true, false, List, [], ◌∷◌, ◌++◌, Option, IfSome, Result, Ok, Err}
+use Rattle.std.specs.Io.KnownBytes.{Appends}
+use Rattle.hdmi_core.specs.Lines.{lines_of}
+use Rattle.cec_wave.specs.declared.Edge.{Edge}
+use Rattle.cec_wave.specs.Line.{Line, was_low}
+use Rattle.cec_bits.specs.declared.times.Windows.{Windows}
+use Rattle.cec_signal.specs.Edges.{AreInTurn, Captured, EndBy, level_at, line_of_edges}
+use Rattle.cec_signal.specs.Reading.{with_edges}
+use Rattle.cec_signal.specs.declared.fault.CaptureFault.{CaptureFault}
+use Rattle.cec_mon.specs.Joined.{captured_by}
+use Rattle.cec_mon.specs.Monitor.{HeardBeforeBy}
+use Rattle.cec_mon.specs.ReadBy.{ended_before_by}
+use Rattle.cec_mon.specs.Watch.{readings_text, reported_text}
+use Rattle.cec_mon.specs.declared.monitor.Monitor.{Monitor as Watcher}
+use Rattle.cec_formats.specs.Captures.{capture_in}
+use Rattle.cec_bits.specs.Readings.{Listed}
+use Rattle.cec_bits.specs.Reports.{listed_as}
+use Rattle.cec_follow.specs.Lines.{IsEarly, form_as, from_of, lines_captured, lines_left}
+use Rattle.cec_follow.specs.declared.lines.LineForm.{LineForm}
+use Rattle.cec_follow.specs.declared.follower.Follower.{Follower}
+use Rattle.cec_follow.specs.declared.follower.Heard.{Heard}
+use Rattle.cec_follow.specs.declared.error.FollowError.{FollowError}
+use Rattle.cec_follow.specs.declared.error.FollowError.TheVariants.{Capture, Read, TooLong, Write}
+use Rattle.std.specs.Option.{option_map, option_to_list}
+use Rattle.cec_wave.specs.Bounds.{latest_instant}
+
+-- the text of a whole capture
+abbrev pub text_of : Windows → Captured → List ℕ
+text_of windows c = readings_text (captured_by windows c)
+
+-- ---- a follower
+
+-- Before microsecond `known` a monitor was told a line, of which these edges are still to come, up to an end; the readings that
+-- have ended are reported.
+pub record HasTold (windows : Windows) (m : Watcher) (known : ℕ) (low : Line) (edges : List Edge) (end : ℕ) (text : List ℕ) : Type 0 where
+  pub is_low : Bool
+  pub level : (u : ℕ) → known ≤ u → low u ≡ level_at is_low edges u
+  pub before : was_low low known ≡ is_low
+  pub turn : AreInTurn is_low known edges
+  pub ends : EndBy end edges
+  pub reach : known ≤ end + 1
+  pub heard : HeardBeforeBy windows m low known
+  pub reported : text ≡ readings_text (ended_before_by windows low known)
+
+-- Of a capture these lines came, before the one of this number, and this text was reported: whatever comes later, these are the
+-- readings that have ended.
+pub record IsFollowed (form : LineForm) (windows : Windows) (past : List (List ℕ)) (number : ℕ) (f : Follower) (text : List ℕ) : Type 0 where
+  pub edges : List Edge
+  pub read : (rest : List (List ℕ)) → lines_captured form (past ++ rest) ≡ with_edges edges (lines_left f.lines number rest)
+  pub told : (rest : List (List ℕ)) (c : Captured) → lines_left f.lines number rest ≡ Ok c → HasTold windows f.monitor f.known (line_of_edges (edges ++ c.edges)) c.edges c.end text
+
+-- all is known that the lines say: a reading that is over by them is reported
+abbrev pub IsPrompt : Follower → Type 0
+IsPrompt f = from_of f.lines ≤ f.known
+
+abbrev pub IsReady : Follower → Type 0
+IsReady f = IsEarly f.lines × (f.known ≤ latest_instant + 1)
+
+abbrev pub heard_text : Heard → List ℕ
+heard_text h = reported_text (option_map listed_as h.first) ++ reported_text (option_map listed_as h.second)
+
+-- an edge is told, if there is one
+pub record TellsEdge (old : Follower) (edge : Option Edge) (reported : Option Listed) (new : Follower) : Type 0 where
+  pub lines : new.lines ≡ old.lines
+  pub early : new.known ≤ latest_instant + 1
+  pub told : (windows : Windows) (low : Line) (edges : List Edge) (end : ℕ) (text : List ℕ) → HasTold windows old.monitor old.known low (option_to_list edge ++ edges) end text
+      → HasTold windows new.monitor new.known low edges end (text ++ reported_text reported)
+
+-- no edge of these comes before an instant
+abbrev pub NoneBefore : ℕ → List Edge → Type 0
+NoneBefore from edges = (is_low : Bool) × AreInTurn is_low from edges
+
+-- it is told that none comes before an instant
+pub record TellsCalm (old : Follower) (from : ℕ) (reported : Option Listed) (new : Follower) : Type 0 where
+  pub lines : new.lines ≡ old.lines
+  pub early : new.known ≤ latest_instant + 1
+  pub prompt : from ≤ new.known
+  pub told : (windows : Windows) (low : Line) (edges : List Edge) (end : ℕ) (text : List ℕ) → HasTold windows old.monitor old.known low edges end text → NoneBefore from edges → from ≤ end + 1
+      → HasTold windows new.monitor new.known low edges end (text ++ reported_text reported)
+
+-- a line has come
+abbrev pub HearsLine : ℕ → List ℕ → Follower → Result Heard CaptureFault → Follower → Type 0
+HearsLine number line old (Ok heard) new = (form : LineForm) (windows : Windows) (past : List (List ℕ)) (text : List ℕ) → IsFollowed form windows past number old text
+    → IsFollowed form windows (past ++ line ∷ []) (number + 1) new (text ++ heard_text heard)
+HearsLine number line old (Err fault) new = (form : LineForm) (windows : Windows) (past : List (List ℕ)) (text : List ℕ) → IsFollowed form windows past number old text
+    → (rest : List (List ℕ)) → lines_captured form (past ++ line ∷ rest) ≡ Err fault
+
+-- no line is left
+pub record IsWhole (form : LineForm) (windows : Windows) (lines : List (List ℕ)) (text : List ℕ) : Type 0 where
+  pub capture : Captured
+  pub read : lines_captured form lines ≡ Ok capture
+  pub all : text_of windows capture ≡ text
+
+abbrev pub HearsEnd : ℕ → Follower → Result Heard CaptureFault → Type 0
+HearsEnd number f (Ok heard) = (form : LineForm) (windows : Windows) (past : List (List ℕ)) (text : List ℕ) → IsFollowed form windows past number f text
+    → IsWhole form windows past (text ++ heard_text heard)
+HearsEnd number f (Err fault) = (form : LineForm) (windows : Windows) (past : List (List ℕ)) (text : List ℕ) → IsFollowed form windows past number f text
+    → lines_captured form past ≡ Err fault
+
+-- ---- what is written
+
+-- a text is put, or its front
+abbrev pub Puts : {F : Type 0} → Option (List ℕ) → Option (List ℕ) → List ℕ → Result (Unit {0}) F → Type 0
+Puts old new text (Ok done) = Appends old new text
+Puts old new text (Err fault) = (front : List ℕ) × (rest : List ℕ) × (text ≡ front ++ rest) × Appends old new front
+
+-- nothing but a write fails
+abbrev pub IsOfWriting : Result (Unit {0}) FollowError → Type 0
+IsOfWriting (Ok done) = Unit {0}
+IsOfWriting (Err (Write count)) = Unit {0}
+IsOfWriting (Err (Capture fault)) = ⊥
+IsOfWriting (Err Read) = ⊥
+IsOfWriting (Err TooLong) = ⊥
+
+-- whether lines are left, or these are all
+abbrev pub AreLeft : Bool → List (List ℕ) → Type 0
+AreLeft true rest = Unit {0}
+AreLeft false rest = rest ≡ []
+
+-- Whatever comes after these lines, where some may come, this text is a front of that of the capture.
+abbrev pub IsFront : Bool → LineForm → Windows → List (List ℕ) → List ℕ → Type 0
+IsFront more form windows past text = (rest : List (List ℕ)) (c : Captured) → AreLeft more rest → lines_captured form (past ++ rest) ≡ Ok c
+    → (left : List ℕ) × (text_of windows c ≡ text ++ left)
+
+-- a line has come, and what has ended by it is written
+pub record HasHeard (number : ℕ) (line : List ℕ) (old new : Follower) (before after : Option (List ℕ)) : Type 0 where
+  pub text : List ℕ
+  pub put : Appends before after text
+  pub followed : (form : LineForm) (windows : Windows) (past : List (List ℕ)) (so_far : List ℕ) → IsFollowed form windows past number old so_far
+      → IsFollowed form windows (past ++ line ∷ []) (number + 1) new (so_far ++ text)
+
+-- it is at fault, and nothing is written
+pub record IsAtFault (number : ℕ) (line : List ℕ) (old : Follower) (before after : Option (List ℕ)) (fault : CaptureFault) : Type 0 where
+  pub put : Appends before after []
+  pub refused : (form : LineForm) (windows : Windows) (past : List (List ℕ)) (so_far : List ℕ) → IsFollowed form windows past number old so_far
+      → (rest : List (List ℕ)) → lines_captured form (past ++ line ∷ rest) ≡ Err fault
+
+-- a write failed
+pub record IsCut (number : ℕ) (line : List ℕ) (old : Follower) (before after : Option (List ℕ)) : Type 0 where
+  pub text : List ℕ
+  pub put : Appends before after text
+  pub front : (form : LineForm) (windows : Windows) (past : List (List ℕ)) (so_far : List ℕ) → IsFollowed form windows past number old so_far
+      → IsFront true form windows (past ++ line ∷ []) (so_far ++ text)
+
+abbrev pub Hears : ℕ → List ℕ → Follower → Follower → Option (List ℕ) → Option (List ℕ) → Result (Unit {0}) FollowError → Type 0
+Hears number line old new before after (Ok done) = HasHeard number line old new before after
+Hears number line old new before after (Err (Capture fault)) = IsAtFault number line old before after fault
+Hears number line old new before after (Err (Write count)) = IsCut number line old before after
+Hears number line old new before after (Err Read) = ⊥
+Hears number line old new before after (Err TooLong) = ⊥
+
+-- no line is left, and the rest is written, or the end is missing
+pub record HasWritten (number : ℕ) (f : Follower) (before after : Option (List ℕ)) : Type 0 where
+  pub text : List ℕ
+  pub put : Appends before after text
+  pub all : (form : LineForm) (windows : Windows) (past : List (List ℕ)) (so_far : List ℕ) → IsFollowed form windows past number f so_far
+      → IsWhole form windows past (so_far ++ text)
+
+pub record LacksEnd (number : ℕ) (f : Follower) (before after : Option (List ℕ)) (fault : CaptureFault) : Type 0 where
+  pub put : Appends before after []
+  pub refused : (form : LineForm) (windows : Windows) (past : List (List ℕ)) (so_far : List ℕ) → IsFollowed form windows past number f so_far → lines_captured form past ≡ Err fault
+
+pub record IsCutLast (number : ℕ) (f : Follower) (before after : Option (List ℕ)) : Type 0 where
+  pub text : List ℕ
+  pub put : Appends before after text
+  pub front : (form : LineForm) (windows : Windows) (past : List (List ℕ)) (so_far : List ℕ) → IsFollowed form windows past number f so_far
+      → IsFront false form windows past (so_far ++ text)
+
+abbrev pub Ends : ℕ → Follower → Option (List ℕ) → Option (List ℕ) → Result (Unit {0}) FollowError → Type 0
+Ends number f before after (Ok done) = HasWritten number f before after
+Ends number f before after (Err (Capture fault)) = LacksEnd number f before after fault
+Ends number f before after (Err (Write count)) = IsCutLast number f before after
+Ends number f before after (Err Read) = ⊥
+Ends number f before after (Err TooLong) = ⊥
+
+-- ---- an input
+
+-- the readings of the capture that an input spells are written, and nothing else
+pub record HasFollowed (form : LineForm) (windows : Windows) (known old new : Option (List ℕ)) : Type 0 where
+  pub input : List ℕ
+  pub all : IfSome known (λ text. input ≡ text)
+  pub capture : Captured
+  pub read : (signal : List ℕ) → capture_in (form_as form) signal input ≡ Ok capture
+  pub put : Appends old new (text_of windows capture)
+
+-- lines of it have come, all of them or not, and a front of that is written
+pub record HasBegun (form : LineForm) (windows : Windows) (known old new : Option (List ℕ)) : Type 0 where
+  pub past : List (List ℕ)
+  pub more : Bool
+  pub came : IfSome known (λ text. (rest : List (List ℕ)) × (lines_of text ≡ past ++ rest) × AreLeft more rest)
+  pub text : List ℕ
+  pub front : IsFront more form windows past text
+  pub put : Appends old new text
+
+-- a fault is that of the input
+abbrev pub IsFaultOf : LineForm → Option (List ℕ) → FollowError → Type 0
+IsFaultOf form known (Capture fault) = IfSome known (λ text. (signal : List ℕ) → capture_in (form_as form) signal text ≡ Err fault)
+IsFaultOf form known Read = Unit {0}
+IsFaultOf form known TooLong = Unit {0}
+IsFaultOf form known (Write count) = Unit {0}
+
+abbrev pub Follows : LineForm → Windows → Option (List ℕ) → Option (List ℕ) → Option (List ℕ) → Result (Unit {0}) FollowError → Type 0
+Follows form windows known old new (Ok done) = HasFollowed form windows known old new
+Follows form windows known old new (Err error) = HasBegun form windows known old new × IsFaultOf form known error

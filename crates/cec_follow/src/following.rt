@@ -1,0 +1,145 @@
+//! A capture that is followed over a reader and a sink.
+ghost use Rattle.std.specs.Prelude.{◌≡◌, [], Err, OnOk};
+ghost use Rattle.std.specs.Io.KnownBytes.{Keeps};
+ghost use Rattle.std.specs.Option.{option_map};
+ghost use Rattle.hdmi_core.specs.Buffered.{pending};
+ghost use Rattle.cec_bits.specs.Reports.{listed_as};
+ghost use Rattle.cec_bits.specs.Windows.{AreWindows};
+ghost use Rattle.cec_mon.specs.Watch.{reported_text};
+ghost use Rattle.cec_follow.specs.Follow.{Ends, Follows, Hears, IsOfWriting, IsReady, Puts, heard_text};
+
+use crate::error::FollowError;
+use crate::follower::{Follower, Heard};
+use crate::lines::LineForm;
+use arrayvec::ArrayVec;
+use cec_bits::Windows;
+use cec_frame::Reading;
+use cec_incoming::{LineFault, Lines};
+use cec_text::write_reading;
+use hdmi_core::{Buffered, Sink, WriteFault};
+use std::io::Read;
+
+/// The most lines of a capture.
+const MOST_LINES: u64 = 18_446_744_073_709_551_615;
+
+// Writes the line of a reading, if there is one.
+fn write_one<S: Sink>(reading: &Option<Reading>, out: &mut S) -> Result<(), WriteFault>
+    ensures { Puts (S.contents out.old) (S.contents out.new) (reported_text (option_map listed_as reading.now)) result }
+{
+    match reading {
+        None => Ok(()),
+        Some(reading) => match write_reading(reading, out) {
+            Ok(_) => Ok(()),
+            Err(fault) => Err(fault),
+        },
+    }
+}
+
+// Writes what has ended, up to a fault.
+fn write_both<S: Sink>(heard: &Heard, out: &mut S) -> Result<(), WriteFault>
+    ensures { Puts (S.contents out.old) (S.contents out.new) (heard_text heard.now) result }
+{
+    match write_one(&heard.first, out) {
+        Ok(()) => write_one(&heard.second, out),
+        Err(fault) => Err(fault),
+    }
+}
+
+// How many bytes were handed on, where a `put` took none.
+fn stopped<S: Sink>(fault: WriteFault, out: &mut Buffered<S>) -> FollowError
+    ensures writing { IsOfWriting (Err result) }
+    ensures bytes { Keeps (⟦<Buffered<S> as Sink>⟧.contents out.old) (⟦<Buffered<S> as Sink>⟧.contents out.new) }
+{
+    match out.flush() {
+        Ok(()) => FollowError::Write(fault.count),
+        Err(handed) => FollowError::Write(handed.count),
+    }
+}
+
+// Writes what has ended, and hands it on.
+fn write_heard<S: Sink>(heard: &Heard, out: &mut Buffered<S>) -> Result<(), FollowError>
+    ensures put { Puts (⟦<Buffered<S> as Sink>⟧.contents out.old) (⟦<Buffered<S> as Sink>⟧.contents out.new) (heard_text heard.now) result }
+    ensures handed { OnOk result (pending out.new ≡ []) }
+    ensures writing { IsOfWriting result }
+{
+    match write_both(heard, out) {
+        Err(fault) => Err(stopped(fault, out)),
+        Ok(()) => match out.flush() {
+            Ok(()) => Ok(()),
+            Err(fault) => Err(FollowError::Write(fault.count)),
+        },
+    }
+}
+
+// Takes a line, writes what has ended by it, and hands that on.
+fn hear<S: Sink>(
+    follower: &mut Follower,
+    number: u64,
+    line: &[u8],
+    out: &mut Buffered<S>,
+) -> Result<(), FollowError>
+    requires ready { IsReady follower.old }
+    ensures hears { Hears number line.now follower.old follower.new (⟦<Buffered<S> as Sink>⟧.contents out.old) (⟦<Buffered<S> as Sink>⟧.contents out.new) result }
+    ensures ready { OnOk result (IsReady follower.new) }
+    ensures handed { OnOk result (pending out.new ≡ []) }
+{
+    match follower.line(number, line) {
+        Err(fault) => Err(FollowError::Capture(fault)),
+        Ok(heard) => write_heard(&heard, out),
+    }
+}
+
+// No line is left: writes what is left of the readings.
+fn finish<S: Sink>(
+    follower: Follower,
+    number: u64,
+    out: &mut Buffered<S>,
+) -> Result<(), FollowError>
+    requires ready { IsReady follower }
+    ensures ends { Ends number follower (⟦<Buffered<S> as Sink>⟧.contents out.old) (⟦<Buffered<S> as Sink>⟧.contents out.new) result }
+    ensures handed { OnOk result (pending out.new ≡ []) }
+{
+    match follower.end(number) {
+        Err(fault) => Err(FollowError::Capture(fault)),
+        Ok(heard) => write_heard(&heard, out),
+    }
+}
+
+/// Follows a capture: reads it line by line, and writes each reading as soon as it is over by what has come, as these windows
+/// read it. What was written is handed on before the next line is read. At the end it has written what `watch_capture_by` writes
+/// of the whole.
+///
+/// # Errors
+///
+/// The first line at fault, counted from 1; a line has more than 4,096 bytes; a read or a write failed. What was written before
+/// stays written: the front of the text of each capture that begins with the lines before.
+pub fn follow<R: Read, S: Sink>(
+    form: LineForm,
+    windows: Windows,
+    input: &mut R,
+    out: &mut Buffered<S>,
+) -> Result<(), FollowError>
+    requires { AreWindows windows }
+    ensures follows { Follows form windows (R.remaining input.old) (⟦<Buffered<S> as Sink>⟧.contents out.old) (⟦<Buffered<S> as Sink>⟧.contents out.new) result }
+    ensures handed { OnOk result (pending out.new ≡ []) }
+{
+    let mut lines = Lines::new();
+    let mut line = ArrayVec::new();
+    let mut follower = Follower::new(form, windows);
+    for read in 0..MOST_LINES {
+        match lines.next(input, &mut line) {
+            Err(LineFault::Read) => return Err(FollowError::Read),
+            Err(LineFault::TooLong) => return Err(FollowError::TooLong),
+            Ok(more) => {
+                if !more {
+                    return finish(follower, read + 1, out);
+                }
+                match hear(&mut follower, read + 1, line.as_slice(), out) {
+                    Ok(()) => {}
+                    Err(error) => return Err(error),
+                }
+            }
+        }
+    }
+    Err(FollowError::TooLong)
+}

@@ -1,0 +1,13 @@
+//! A capture that is read line by line, and whose readings are written as soon as they are over.
+#![tactic(auto)]
+
+mod edge_lines;
+mod error;
+mod follower;
+mod following;
+mod lines;
+
+pub use error::FollowError;
+pub use follower::{Follower, Heard};
+pub use following::follow;
+pub use lines::LineForm;

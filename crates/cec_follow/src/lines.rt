@@ -1,0 +1,130 @@
+//! The lines of a capture, taken as they come.
+ghost use Rattle.std.specs.Prelude.{◌≡◌, ◌≤◌, List, IfOk, IfSome, OnOk, ℕ};
+ghost use Rattle.cec_wave.specs.Bounds.{latest_instant};
+ghost use Rattle.cec_signal.specs.Reading.{fault_at};
+ghost use Rattle.cec_follow.specs.Lines.{TakesLine};
+ghost use Rattle.cec_follow.specs.declared.lines.CaptureLines.TheVariants.{Pin};
+
+use crate::edge_lines::EdgeReader;
+use cec_pin::{PinReader, pin_lines_are_early};
+use cec_signal::{CaptureFault, Slip, TakesWords};
+use cec_wave::Edge;
+
+/// A form that is read line by line.
+#[derive(Clone, Copy, Debug, PartialEq, Eq)]
+pub enum LineForm {
+    /// An edge file, as `run --edges` writes it.
+    Edges,
+    /// A file of pin events, as cec-ctl stores it.
+    Pin,
+}
+
+/// The last edge, if it was not known before, and the end.
+#[derive(Clone, Copy, Debug, PartialEq, Eq)]
+pub struct Last {
+    pub edge: Option<Edge>,
+    pub end: u64,
+}
+
+/// A reader of the lines of a capture.
+#[derive(Clone, Copy, Debug)]
+pub enum CaptureLines {
+    /// Those of an edge file.
+    File(EdgeReader),
+    /// Those of a file of pin events.
+    Pin(PinReader),
+}
+
+fn fault_at(line: u64, slip: Slip) -> CaptureFault
+    ensures { result ≡ fault_at line slip }
+{
+    CaptureFault {
+        line,
+        cause: slip.cause,
+        word: slip.word,
+    }
+}
+
+// Takes a line of a file of pin events.
+fn take_pin(reader: &mut PinReader, number: u64, line: &[u8]) -> Result<Option<Edge>, CaptureFault>
+    requires early { reader.old.track.at ≤ latest_instant }
+    ensures takes { TakesLine (Pin reader.old) number line.now result (Pin reader.new) }
+    ensures early { OnOk result (reader.new.track.at ≤ latest_instant) }
+    ensures edge { IfOk result (λ edge. IfSome edge (λ e. e.at ≤ latest_instant)) }
+{
+    // No effect at run time. The proof reads from it that the reader stays within the limit.
+    pin_lines_are_early();
+    match reader.take(0, line) {
+        Ok(edge) => Ok(edge),
+        Err(slip) => Err(fault_at(number, slip)),
+    }
+}
+
+impl CaptureLines {
+    ghost use Rattle.cec_follow.specs.Lines.{EndsLines, IsEarly, from_of, lines_captured, lines_left};
+
+    /// A reader at the front of a capture.
+    pub fn new(form: LineForm) -> Self
+        ensures first { (lines : List (List ℕ)) → lines_left result 1 lines ≡ lines_captured form lines }
+        ensures early { IsEarly result }
+    {
+        match form {
+            LineForm::Edges => CaptureLines::File(EdgeReader::new()),
+            LineForm::Pin => CaptureLines::Pin(PinReader::new()),
+        }
+    }
+
+    /// Takes the line of this number, and returns the edge that is known by it.
+    ///
+    /// # Errors
+    ///
+    /// The line is at fault.
+    pub fn take(&mut self, number: u64, line: &[u8]) -> Result<Option<Edge>, CaptureFault>
+        requires early { IsEarly self.old }
+        ensures takes { TakesLine self.old number line.now result self.new }
+        ensures early { OnOk result (IsEarly self.new) }
+        ensures edge { IfOk result (λ edge. IfSome edge (λ e. e.at ≤ latest_instant)) }
+    {
+        match self {
+            CaptureLines::File(reader) => reader.take(number, line),
+            CaptureLines::Pin(reader) => take_pin(reader, number, line),
+        }
+    }
+
+    /// The instant before which no further edge comes.
+    pub fn from(&self) -> u64
+        requires early { IsEarly self.now }
+        ensures from { result ≡ from_of self.now }
+    {
+        match self {
+            CaptureLines::File(reader) => reader.from(),
+            CaptureLines::Pin(reader) => reader.track().at(),
+        }
+    }
+
+    /// What is known where no line is left. This number is that of the line after the last.
+    ///
+    /// # Errors
+    ///
+    /// The end is missing.
+    pub fn end(&self, number: u64) -> Result<Last, CaptureFault>
+        requires early { IsEarly self.now }
+        ensures ends { EndsLines self.now number result }
+        ensures early { IfOk result (λ last. last.end ≤ latest_instant) }
+        ensures edge { IfOk result (λ last. IfSome last.edge (λ e. e.at ≤ latest_instant)) }
+    {
+        match self {
+            CaptureLines::File(reader) => {
+                let end = reader.end(number)?;
+                Ok(Last { edge: None, end })
+            }
+            CaptureLines::Pin(reader) => {
+                let track = reader.track();
+                Ok(Last {
+                    edge: track.last(),
+                    end: track.at(),
+                })
+            }
+        }
+    }
+}

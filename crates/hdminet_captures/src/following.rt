@@ -1,0 +1,49 @@
+//! What is reported of a capture as its lines come.
+ghost use Rattle.std.specs.Prelude.{◌≡◌, OnOk};
+ghost use Rattle.hdmi_core.specs.Buffered.{below};
+ghost use Rattle.hdminet_captures.specs.Following.{FollowsTo, form_followed};
+
+use crate::capture::within_most;
+use cec_bits::Windows;
+use cec_follow::{FollowError, LineForm as FollowedForm, follow};
+use cec_formats::CaptureError;
+use hdmi_core::{Buffered, Sink, WriteFault};
+use hdminet_faults::ProgramFault;
+use hdminet_words::LineForm;
+use std::io::Read;
+
+fn form_followed(form: LineForm) -> FollowedForm
+    ensures { result ≡ form_followed form }
+{
+    match form {
+        LineForm::Edges => FollowedForm::Edges,
+        LineForm::Pin => FollowedForm::Pin,
+    }
+}
+
+fn fault_of(error: FollowError) -> ProgramFault {
+    match error {
+        FollowError::Read => ProgramFault::Read,
+        FollowError::TooLong => ProgramFault::TooLong,
+        FollowError::Capture(fault) => ProgramFault::Capture(CaptureError::Fault(fault)),
+        FollowError::Write(count) => ProgramFault::Write(WriteFault { count }),
+    }
+}
+
+/// Writes each reading of a capture as soon as it is over by the lines that have come, as windows read it that are `margin` wider
+/// at either side, 300 at most, and hands it on before the next line is read. Where a line is at fault, what was written before
+/// stays.
+pub fn follow_capture<R: Read, W: Sink>(
+    form: LineForm,
+    margin: u64,
+    input: &mut R,
+    out: &mut Buffered<W>,
+) -> Result<(), ProgramFault>
+    ensures { OnOk result (FollowsTo form margin (R.remaining input.old) (⟦<Buffered<W> as Sink>⟧.contents out.old) (W.contents (below out.new))) }
+{
+    let windows = Windows::wider(within_most(margin));
+    match follow(form_followed(form), windows, input, out) {
+        Ok(()) => Ok(()),
+        Err(error) => Err(fault_of(error)),
+    }
+}

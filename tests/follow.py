@@ -1,0 +1,202 @@
+#!/usr/bin/env python3
+"""tests/follow.py [PROGRAM]: writes captures into `hdminet mon --follow` piece by piece, and reads what it writes while the pipe is
+open, which no test of `rt ci` can. PROGRAM is crates/hdminet/out/hdminet, which ./hdminet builds, where none is given. The last line
+is 'follow: N passed, M failed'."""
+import os
+import random
+import select
+import subprocess
+import sys
+
+TOP = os.path.dirname(os.path.dirname(os.path.realpath(__file__)))
+PROGRAM = os.path.realpath(sys.argv[1]) if len(sys.argv) > 1 else os.path.join(TOP, 'crates/hdminet/out/hdminet')
+HEAD = '# cec-ctl --store-pin\n# version 1\n# start_monotonic 100.000000000\n# start_timeofday 0.000000\n# log_addr_mask 0x0000\n# phys_addr f.f.f.f\n'
+BITS = {0: 1500, 1: 600}
+MEGABYTE = 1024
+
+
+def edges_of(blocks, begin):
+    """The edges of a message: (instant, level), by the nominal times of the standard. Each block is a byte, its end of message and
+    how it is acknowledged."""
+    edges = [(begin, 0), (begin + 3700, 1)]
+    at = begin + 4500
+    for byte, last, ack in blocks:
+        for bit in [byte >> i & 1 for i in range(7, -1, -1)] + [last, ack]:
+            edges += [(at, 0), (at + BITS[bit], 1)]
+            at += 2400
+    return edges
+
+
+def pin_line(at, level):
+    return '%d.%06d000 %d\n' % (100 + at // 1000000, at % 1000000, level)
+
+
+def edge_line(at, level):
+    return '%d %d\n' % (at, level)
+
+
+class Bus:
+    """A capture that is followed, and the pipe into it."""
+
+    def __init__(self, form, flags=()):
+        self.mon = subprocess.Popen([PROGRAM, 'mon', '--from', form, '--follow', *flags], stdin=subprocess.PIPE, stdout=subprocess.PIPE, stderr=subprocess.PIPE)
+
+    def send(self, text):
+        self.mon.stdin.write(text.encode())
+        self.mon.stdin.flush()
+
+    def is_quiet(self, seconds=0.05):
+        """Nothing comes."""
+        return not select.select([self.mon.stdout], [], [], seconds)[0]
+
+    def line(self, seconds=5):
+        """The next line, where one comes in time."""
+        return self.mon.stdout.readline().decode() if select.select([self.mon.stdout], [], [], seconds)[0] else ''
+
+    def ended(self):
+        rest, fault = self.mon.communicate()
+        return self.mon.returncode, rest.decode(), fault.decode()
+
+
+def watched(form, text, *flags):
+    done = subprocess.run([PROGRAM, 'mon', '--from', form, *flags], input=text.encode(), capture_output=True)
+    return done.returncode, done.stdout.decode(), done.stderr.decode()
+
+
+def reads_edges_at_once():
+    """A frame that is acknowledged is over before its last bit rises: its reading comes with that rise, before the next edge, and
+    one that is over after the last edge with the line of the end."""
+    bus = Bus('edges')
+    frame = edges_of([(0x40, 0, 0), (0x04, 1, 0)], 20000)
+    for at, level in frame[:-1]:
+        bus.send(edge_line(at, level))
+    right = bus.is_quiet()
+    bus.send(edge_line(*frame[-1]))
+    right = right and bus.line() == '20000 %d complete 4>0 image-view-on ack\n' % (20000 + 4500 + 19 * 2400 + 1050) and bus.is_quiet()
+    for at, level in edges_of([(0x44, 1, 1)], 200000):
+        bus.send(edge_line(at, level))
+    right = right and bus.is_quiet()
+    bus.send('300000 end\n')
+    right = right and bus.line() == '200000 227150 complete 4>4 nack\n'
+    bus.mon.stdin.close()
+    bus.mon.stdin = None
+    return right and bus.ended() == (0, '', '')
+
+
+def reads_pins_at_once():
+    """A frame that nobody refuses is over after its last bit has risen: its reading comes with the level that is told again, or with
+    an event of another pin."""
+    bus = Bus('pin')
+    bus.send(HEAD + pin_line(0, 1))
+    right = True
+    for begin, told in ((20000, '1'), (200000, '3')):
+        for at, level in edges_of([(0x4F, 0, 1), (0x82, 0, 1), (0x10, 0, 1), (0x00, 1, 1)], begin):
+            bus.send(pin_line(at, level))
+        right = right and bus.is_quiet()
+        bus.send(pin_line(begin + 110000, 1)[:-2] + told)
+        right = right and bus.is_quiet()
+        bus.send('\n')
+        right = right and bus.line() == '%d %d complete 4>f active-source 1.0.0.0 ok\n' % (begin, begin + 4500 + 39 * 2400 + 1050)
+    bus.mon.stdin.close()
+    bus.mon.stdin = None
+    return right and bus.ended() == (0, '', '')
+
+
+def random_capture(form, seed):
+    """The lines of a capture of frames, broken frames and pulses."""
+    r = random.Random(seed)
+    at, edges = r.randrange(0, 30000), []
+    for _ in range(r.randrange(1, 8)):
+        blocks = [(r.randrange(256), 0, r.randrange(2)) for _ in range(r.randrange(0, 4))] + [(r.randrange(256), 1, r.randrange(2))]
+        frame = edges_of(blocks, at)
+        cut = r.randrange(0, 3)
+        if cut == 0:
+            frame = frame[:2 * r.randrange(1, len(frame) // 2 + 1)]
+        elif cut == 1:
+            frame = [(t + r.randrange(-120, 121), level) for t, level in frame]
+        if r.randrange(4) == 0:
+            frame.append((frame[-1][0] + r.randrange(1, 9000), 0))
+            frame.append((frame[-1][0] + r.randrange(1, 9000), 1))
+        edges += frame
+        at = edges[-1][0] + r.choice([700, 2000, 5000, 12000, 17000, 60000])
+    line = pin_line if form == 'pin' else edge_line
+    text = [line(*edge) for edge in edges]
+    if form == 'pin':
+        return [HEAD] + text + ([pin_line(edges[-1][0] + r.randrange(1, 20000), 1)] if r.randrange(2) else [])
+    if r.randrange(3) == 0:
+        text.insert(r.randrange(len(text)), '# a remark\n')
+    return text + ['%d end\n' % (edges[-1][0] + r.randrange(0, 20000))]
+
+
+def is_text_of_the_whole():
+    """What is written is the text of the whole, with the same status and the same fault; before a fault it is a front."""
+    for form in ('edges', 'pin'):
+        for seed in range(40):
+            lines = random_capture(form, seed)
+            margin = ('--margin', '150') if seed % 3 == 0 else ()
+            want = watched(form, ''.join(lines), '--from-start', *margin)
+            bus = Bus(form, margin)
+            for line in lines:
+                bus.send(line)
+            status, text, fault = bus.ended()
+            if (status, text) != want[:2] or fault:
+                return False
+            broken = lines[:len(lines) // 2] + ['frob\n'] + lines[len(lines) // 2:]
+            old = watched(form, ''.join(broken), '--from-start', *margin)
+            status, text, fault = followed(form, ''.join(broken), *margin)
+            if old[1] or (status, fault) != (old[0], old[2]) or not want[1].startswith(text):
+                return False
+    return True
+
+
+def followed(form, text, *flags):
+    return watched(form, text, '--follow', *flags)
+
+
+def has_faults():
+    """The faults are those of `mon`, of a missing end too; a line of more than 4,096 bytes is too long."""
+    right = True
+    for form, text in (('edges', ''), ('edges', '5 0\n4 1\n'), ('edges', '5 0\n9 1\n'), ('edges', '5 0\n9 end\n10 1\n'), ('pin', HEAD + '99.000000000 1\n'), ('pin', HEAD + '100.5 1\n')):
+        old, new = watched(form, text, '--from-start'), followed(form, text)
+        right = right and old[0] == new[0] == 1 and old[2] == new[2]
+    right = right and followed('edges', '#' * 4097 + '\n5 end\n')[::2] == (3, 'hdminet: input too long\n')
+    return right and followed('edges', '#' * 4096 + '\n5 end\n') == (0, '', '')
+
+
+def fails_to_write():
+    """A reader that goes away is a fault of the write."""
+    frame = ''.join(edge_line(*edge) for edge in edges_of([(0x40, 1, 0)], 20000))
+    with open('/dev/full', 'wb') as full:
+        done = subprocess.run([PROGRAM, 'mon', '--from', 'edges', '--follow'], input=(frame + '90000 end\n').encode(), stdout=full, stderr=subprocess.PIPE)
+    return done.returncode == 3 and done.stderr.startswith(b'hdminet: write fault after 0 bytes')
+
+
+def takes_no_memory():
+    """An hour of a busy bus leaves the program as small as it was."""
+    bus = Bus('pin')
+    bus.send(HEAD)
+    frame = edges_of([(0x4F, 0, 1), (0x82, 0, 1), (0x10, 0, 1), (0x00, 1, 1)], 0)
+    count = 0
+    for begin in range(20000, 3600 * 1000000, 400000):
+        bus.send(''.join(pin_line(begin + at, level) for at, level in frame) + pin_line(begin + 120000, 1))
+        count += bus.line() != ''
+    with open('/proc/%d/status' % bus.mon.pid, encoding='utf-8') as file:
+        peak = [int(line.split()[1]) for line in file if line.startswith('VmHWM')][0]
+    bus.mon.stdin.close()
+    bus.mon.stdin = None
+    return count == len(range(20000, 3600 * 1000000, 400000)) and peak < 4 * MEGABYTE and bus.ended()[0] == 0
+
+
+def main():
+    failed = 0
+    tests = [reads_edges_at_once, reads_pins_at_once, is_text_of_the_whole, has_faults, fails_to_write, takes_no_memory]
+    for test in tests:
+        right = test()
+        failed += not right
+        print('follow: %s: %s' % (test.__name__, 'passed' if right else 'failed'))
+    print('follow: %d passed, %d failed' % (len(tests) - failed, failed))
+    sys.exit(1 if failed else 0)
+
+
+if __name__ == '__main__':
+    main()
