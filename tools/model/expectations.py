@@ -15,7 +15,7 @@ SHOWN = 8
 MOST_PATTERN = 160
 MOST_STARS = 4
 MOST = 2 ** 64 - 1
-LABELABLE = (b'expect', b'at', b'pulse', b'pull')
+LABELABLE = (b'expect', b'at', b'pulse', b'pull', b'pin')
 
 
 def is_expectation(line):
@@ -54,9 +54,9 @@ def parse_expectation(n, text, label, body, names, end):
     words = body.split(b' ')
     it = Expectation(n, text, label, 'rounds')
     if words[1:2] == [b'refused']:
-        if len(words) != 4 or not words[3]:
+        if len(words) not in (3, 4):
             return ['word']
-        it.kind, it.of, it.word = 'refused', words[2], words[3]
+        it.kind, it.of, it.word = 'refused', words[2] if len(words) == 4 else None, words[-1]
         return it
     if words[1:2] == [b'state']:
         if len(words) < 5 or b'' in words[4:] or words[4:] == [b'not']:
@@ -82,14 +82,17 @@ def parse_expectation(n, text, label, body, names, end):
     if len(window) < 4 or not 1 <= len(pattern) <= MOST_PATTERN or pattern.count(b'*') > MOST_STARS or pattern.strip(b' ') != pattern:
         return ['word']
     it.pattern = pattern
+    strange = any(name.decode('latin1') not in names for name in patterns.names_in(pattern))
     if window[0] == b'within' and window[2] == b'of':
         it.window, it.span, it.of = 'within', number(window[1], MOST), window[3]
-        return ['number'] if it.span is None else it
+        return ['number'] if it.span is None else ['name'] if strange else it
     if window[0] == b'from' and window[2] == b'to':
         it.window, it.begin, it.end = 'from', number(window[1], MOST), number(window[3], MOST)
         if it.begin is None or it.end is None:
             return ['number']
         it.of = None
+        if strange:
+            return ['name']
         return it if it.begin <= it.end else ['order']
     return ['word']
 
@@ -98,12 +101,17 @@ ORDER = ['word', 'number', 'name', 'label', 'order', 'pattern']
 
 
 def expectations(script, names, end):
-    """the expectations, {label: line of its event} and {label: onset of its pulse or pull}; raises the first fault"""
+    """the expectations, {label: line of its event} and {label: onset of its pulse, its pull or its level}; raises the first fault"""
     found, labels, onsets = [], {}, {}
+    # the line of the event just above
+    above = None
     for n, line in enumerate(lines_of(script), 1):
+        event_above, above = above, None
         if skipped(line):
             continue
         label, body = parted(line)
+        if body and body.startswith(b'at '):
+            above = n
         causes = []
         if label is not None and (body is None or body.split(b' ')[0] not in LABELABLE):
             causes.append('word')
@@ -116,9 +124,12 @@ def expectations(script, names, end):
                 causes += it
                 it = None
                 # a window at fault in its order may name no label
-            elif it.kind != 'state' and it.of is not None:
-                if it.of not in labels or it.kind == 'refused' and labels[it.of] is None:
+            elif it.kind == 'refused':
+                it.event = event_above if it.of is None else labels.get(it.of)
+                if it.event is None:
                     causes.append('label')
+            elif it.kind == 'rounds' and it.of is not None and it.of not in labels:
+                causes.append('label')
             if it and (it.kind == 'rounds' and not patterns.is_met(it.pattern) or it.kind == 'refused' and it.word not in patterns.REFUSALS
                     or it.kind == 'state' and not all(STATE_WORD.fullmatch(word) for word in it.words)):
                 causes.append('pattern')
@@ -126,7 +137,7 @@ def expectations(script, names, end):
             raise Fault('script line %d: %s' % (n, min(causes, key=ORDER.index)))
         if label is not None:
             labels[label] = n if body.startswith(b'at ') else None
-            if body.startswith((b'pulse ', b'pull ')):
+            if body.startswith((b'pulse ', b'pull ', b'pin ')):
                 onsets[label] = number(body.split(b' ')[1])
         if it:
             found.append(it)
@@ -137,6 +148,12 @@ def fits(pattern, text):
     """the text begins with the pattern, up to the end of a word; a * is any bytes of one word"""
     parts_ = [re.escape(p) for p in pattern.split(b'*')]
     return re.match(b'[^ ]*'.join(parts_) + b'(?= |$)', text, re.S) is not None
+
+
+def meets(pattern, text):
+    """it fits with an address of each device that it names, by what the last word says"""
+    holders = [holder.split(b'=') for holder in text.split(b' ')[-1].split(b'@') if b'=' in holder]
+    return any(fits(p, text) for p in patterns.with_addresses(pattern, lambda name: [int(h[1], 16) for h in holders if h[0] == name]))
 
 
 def told(line):
@@ -168,7 +185,7 @@ class Judge:
     def judge(self, it):
         """(whether it holds, the lines below a failure)"""
         if it.kind == 'refused':
-            found = self.events.get(self.labels[it.of])
+            found = self.events.get(it.event)
             return found is not None and found[1] == it.word, []
         if it.kind == 'state':
             line = self.state_at(it.at, it.device)
@@ -177,21 +194,24 @@ class Judge:
         if window is None:
             return False, [b'no instant']
         inside = [r for r in self.rounds if window[0] <= r[0] and r[1] <= window[1]]
-        seen = [r for r in inside if fits(it.pattern, told(r[2]))]
+        seen = [r for r in inside if meets(it.pattern, told(r[2]))]
         holds = {'some': len(seen) > 0, 'none': len(seen) == 0, 'once': len(seen) == 1}[it.how]
         if holds and seen and it.label is not None:
             self.instants[it.label] = seen[0][1]
-        return holds, [b'seen %d from %d to %d' % (len(seen), *window)] + [r[2] for r in (seen or inside)[:SHOWN]]
+        return holds, [b'seen %d from %d to %d' % (len(seen), *window)] + [re.sub(rb' @[^ ]*$', b'', r[2]) for r in (seen or inside)[:SHOWN]]
 
 
-def trace_of(topology, script, end=None):
-    """the trace of the run, or of the run that is cut at `end`"""
-    tree, names, edid, events, pulses, last = load(topology, script)
+def trace_of(topology, script, end=None, named=False):
+    """the trace of the run, or of the run that is cut at `end`; with names a round's line ends with who holds which address"""
+    tree, names, edid, events, pulses, last = load(topology, script, end)
     if end is not None:
         events, last = [e for e in events if e[0] < end], end
     run = Run(tree, edid, events, pulses, last)
     while run.to_round():
         run.round()
+    if named:
+        for place, holders in run.holders.items():
+            run.lines[place] += ' @' + ''.join('%s=%x@' % holder for holder in holders)
     return [line.encode() for line in run.lines], [d.state_line().encode() for d in run.devs]
 
 
@@ -204,7 +224,7 @@ def check(data):
         found, labels, onsets = expectations(script, names, end)
     except Fault as f:
         return 1, b'', f.args[0]
-    trace = trace_of(topology, plain)[0]
+    trace = trace_of(topology, plain, named=any(it.kind == 'rounds' and patterns.names_in(it.pattern) for it in found))[0]
     states = {}
 
     def state_at(at, device):
@@ -221,7 +241,7 @@ def check(data):
         out.append(b'%sok %d - line %d: %s' % (b'' if holds else b'not ', n, it.number, escaped(it.text)))
         if not holds:
             out += [b'# ' + remark for remark in remarks]
-    expected = {labels[it.of] for it in found if it.kind == 'refused'}
+    expected = {it.event for it in found if it.kind == 'refused'}
     for line, (_, word) in sorted(judge.events.items()):
         if word and line not in expected:
             n += 1

@@ -1,4 +1,5 @@
 """Which patterns the line of some round can meet: a plain model, which follows all places of the pattern at once."""
+import re
 from wire import ROWS, SECOND, SETS
 
 DIGITS = frozenset(b'0123456789')
@@ -82,9 +83,28 @@ def opcode(at, code):
     return at.any(raw)
 
 
+NAME = re.compile(rb'([^ @]*)@([^ >]*)(.*)', re.S)
+
+
+def names_in(pattern):
+    """the names in its header, at most two"""
+    found = []
+    while len(found) < 2 and (m := NAME.fullmatch(pattern)):
+        found.append(m[2])
+        pattern = m[3]
+    return found
+
+
+def with_addresses(pattern, addresses, most=2):
+    """the patterns without names, with each address that a device has by the function in the place of its name"""
+    m = NAME.fullmatch(pattern) if most else None
+    if not m: return [pattern]
+    return [p for a in addresses(m[2]) for p in with_addresses(m[1] + b'%x' % a + m[3], addresses, most - 1)]
+
+
 def is_met(pattern):
-    """whether the line of some round meets it"""
-    start = Places(pattern)
+    """whether the line of some round meets it; all addresses below 15 are alike"""
+    start = Places(with_addresses(pattern, lambda name: [0])[0])
     said = []
     for ending in ENDINGS:
         at = start.text(ending + ' ')

@@ -73,9 +73,9 @@ abbrev pub verb_fault : Option (List ℕ) → List ℕ → LineFault
 verb_fault None verb = if bytes_eq verb (codes "label") then at_word 1 Word else at_word 0 Word
 verb_fault (Some label) verb = at_word 2 Word
 
--- a pulse or a pull without a label, and the end of a script
+-- a pulse, a pull or a level of the pin without a label, and the end of a script
 abbrev pub is_passed : Option (List ℕ) → List ℕ → Bool
-is_passed None verb = bytes_eq verb (codes "pulse") || bytes_eq verb (codes "pull") || bytes_eq verb (codes "end")
+is_passed None verb = bytes_eq verb (codes "pulse") || bytes_eq verb (codes "pull") || bytes_eq verb (codes "pin") || bytes_eq verb (codes "end")
 is_passed (Some label) verb = false
 
 abbrev pub kind_fault : Option (List ℕ) → List (List ℕ) → Option LineFault

@@ -170,7 +170,10 @@ fn is_passed(label: Option<&[u8]>, verb: &[u8]) -> bool
 {
     match label {
         None => {
-            verb == b"pulse".as_slice() || verb == b"pull".as_slice() || verb == b"end".as_slice()
+            verb == b"pulse".as_slice()
+                || verb == b"pull".as_slice()
+                || verb == b"pin".as_slice()
+                || verb == b"end".as_slice()
         }
         Some(_) => false,
     }

@@ -5,7 +5,7 @@ use Rattle.std.proofs.lemmas.Bool.{false≢true}
 use Rattle.std.proofs.lemmas.Grind.{common_steps}
 use Rattle.std.proofs.lemmas.List.{map-append}
 use Rattle.std.proofs.lemmas.List.Folds.{list_any-append}
-use Rattle.cec_expect.specs.Fits.{fits}
+use Rattle.cec_expect.specs.Names.{meets}
 use Rattle.cec_judge.specs.Told.{RoundLine}
 use Rattle.cec_judge.specs.declared.seen.Span.{Span}
 use Rattle.cec_check.specs.Kept.{Watch, is_within, watch_as}
@@ -43,7 +43,7 @@ met_in hull (w ∷ watches) r h = by (is_known_met r w) refl h (λ k. met_in (wi
   where
     by : (b : Bool) → is_known_met r w ≡ b → (b || list_any (is_known_met r) watches) ≡ true
         → (list_any (is_known_met r) watches ≡ true → is_within (Some (hull_from (widened hull w.span) watches)) r ≡ true) → is_within (Some (hull_from (widened hull w.span) watches)) r ≡ true
-    by true e k more = in_all (widened hull w.span) watches r (known_in hull w.span r (left_and (is_known_within w.span r) (fits w.pattern r.reported) e))
+    by true e k more = in_all (widened hull w.span) watches r (known_in hull w.span r (left_and (is_known_within w.span r) (meets w.pattern r.reported) e))
     by false e k more = more k
 
 -- a round outside it meets none

@@ -9,23 +9,23 @@ use Rattle.std.proofs.lemmas.Slice.Eq.{bytes_eq-Decides}
 use Rattle.hdmi_core.specs.Lines.{lines_of}
 use Rattle.hdmi_core.specs.Number.{number_of}
 use Rattle.hdmi_core.specs.Words.{words_of}
-use Rattle.cec_expect.specs.Fits.{fits}
+use Rattle.cec_expect.specs.Names.{meets}
 use Rattle.cec_expect.specs.Line.{onset_in, unlabelled_words}
 use Rattle.cec_expect.specs.Form.{Form, Window, expectation_in, form_in}
 use Rattle.cec_expect.specs.Form.Form.{Other, Rounds, State, Refused}
 use Rattle.cec_expect.specs.Form.Window.{Within, From}
-use Rattle.cec_expect.specs.Faults.{event_labelled, line_of_label}
+use Rattle.cec_expect.specs.Faults.{event_above, event_labelled, is_event_at, line_of_label}
 use Rattle.cec_expect.specs.declared.fault.LineFault.{LineFault}
 use Rattle.cec_expect.specs.declared.form.Quantity.{Quantity}
 use Rattle.cec_judge.specs.Told.{EventLine, RoundLine, event_at, event_in, refusal_in, round_in}
-use Rattle.cec_judge.specs.Named.{is_labelled, is_named, name_lines, names_line}
+use Rattle.cec_judge.specs.Named.{form_is_of_above, is_labelled, is_named, is_of_above, name_lines, names_line}
 use Rattle.cec_judge.proofs.Naming.{label_names}
 use Rattle.cec_judge.specs.Seen.{end_by, end_seen, ends_seen, first_of, is_seen}
 use Rattle.cec_judge.specs.Judged.{Finding, event_instant, finding_as, findings_from, findings_of, form_judged, instant_at, is_word, noted, or_more, verdicts_of, line_judged, lines_judged, of_instant, refusal_at, refusal_by, rounds_by, rounds_judged, span_from, span_of, states_for}
 use Rattle.cec_judge.specs.declared.seen.Span.{Span}
 use Rattle.cec_judge.specs.declared.judge.Judged.{Judged}
 use Rattle.cec_judge.specs.declared.judge.Finding.{Finding as FindingRead}
-use Rattle.cec_check.specs.Report.{Report, report_start, report_with_plan, form_remarks, report, seen_line, shown_line, shown_text, span_remarks, report_by, with_event, with_found, with_line, with_lines, with_refusals, with_remarks, with_test, with_word}
+use Rattle.cec_check.specs.Report.{Report, report_start, report_with_plan, form_remarks, report, seen_line, shown_round, shown_text, span_remarks, report_by, with_event, with_found, with_line, with_lines, with_refusals, with_remarks, with_test, with_word}
 use Rattle.cec_check.specs.Kept.{Watch, are_timed, has_failed, is_at, is_event_kept, is_kept, is_line_timed, is_met, is_other_kept, is_timed, is_unmet, kept, known_from, known_span, labelled_time, longest_wait, time_at, time_in, times_from, watch_by, watch_of, watches_of}
 use Rattle.cec_check.proofs.Found.{report_again}
 
@@ -147,14 +147,15 @@ not_seen script span pattern covers line h =
 
 -- ---- lines of a script
 
--- what an expectation looks for is looked for, and its line has no time
+-- what an expectation looks for is looked for, and its line has no time; the event of the line above that it speaks of is kept
 abbrev FormCovered : List ℕ → ℕ → Result Form LineFault → Type 0
 FormCovered script number (Err cause) = Unit {0}
 FormCovered script number (Ok Other) = Unit {0}
 FormCovered script number (Ok (Rounds quantity window pattern)) =
     ((r : RoundLine) → is_met r (record { span = known_span script (time_at script) window; pattern = pattern }) ≡ true → list_any (is_met r) (watches_of script) ≡ true) × (time_at script number ≡ None)
 FormCovered script number (Ok (State time device words)) = Unit {0}
-FormCovered script number (Ok (Refused name word)) = Unit {0}
+FormCovered script number (Ok (Refused None word)) = is_named script (number - 1) ≡ true
+FormCovered script number (Ok (Refused (Some name) word)) = Unit {0}
 
 -- the line of a pulse has no time of an event
 abbrev OnsetCovered : List ℕ → ℕ → Option ℕ → Type 0
@@ -196,16 +197,21 @@ no_labelled_time line quantity window pattern h = by (is_labelled line)
     by true = no_time (unlabelled_words (words_of line)) quantity window pattern h
     by false = refl
 
--- nor has a pulse or a pull
+-- nor has a pulse, a pull or the pin
 no_onset_time : (words : List (List ℕ)) (onset : ℕ) → onset_in words ≡ Some onset → time_in words ≡ None
 no_onset_time [] onset h = refl
 no_onset_time (verb ∷ []) onset h = refl
-no_onset_time (verb ∷ time ∷ words) onset h = by (bytes_eq verb (codes "pulse")) (bytes_eq verb (codes "pull")) refl refl h
+no_onset_time (verb ∷ time ∷ words) onset h = by (bytes_eq verb (codes "pulse")) (bytes_eq verb (codes "pull")) (bytes_eq verb (codes "pin")) refl refl refl h
   where
-    by : (pulse pull : Bool) → bytes_eq verb (codes "pulse") ≡ pulse → bytes_eq verb (codes "pull") ≡ pull → (if pulse || pull then number_of time else None) ≡ Some onset → time_in (verb ∷ time ∷ words) ≡ None
-    by true pull e g k = ap (λ (word : List ℕ). time_in (word ∷ time ∷ words)) ((bytes_eq-Decides verb (codes "pulse")).0 e)
-    by false true e g k = ap (λ (word : List ℕ). time_in (word ∷ time ∷ words)) ((bytes_eq-Decides verb (codes "pull")).0 g)
-    by false false e g k = cc
+    timeless : (word : List ℕ) → time_in (word ∷ time ∷ words) ≡ None → bytes_eq verb word ≡ true → time_in (verb ∷ time ∷ words) ≡ None
+    timeless word none e = ap (λ (w : List ℕ). time_in (w ∷ time ∷ words)) ((bytes_eq-Decides verb word).0 e) ∙ none
+
+    by : (pulse pull pin : Bool) → bytes_eq verb (codes "pulse") ≡ pulse → bytes_eq verb (codes "pull") ≡ pull → bytes_eq verb (codes "pin") ≡ pin
+        → (if pulse || pull || pin then number_of time else None) ≡ Some onset → time_in (verb ∷ time ∷ words) ≡ None
+    by true pull pin e f g k = timeless (codes "pulse") refl e
+    by false true pin e f g k = timeless (codes "pull") refl f
+    by false false true e f g k = timeless (codes "pin") refl g
+    by false false false e f g k = cc
 
 no_time_of_pulse : (line : List ℕ) (onset : ℕ) → onset_in (unlabelled_words (words_of line)) ≡ Some onset → labelled_time line ≡ None
 no_time_of_pulse line onset h = by (is_labelled line)
@@ -224,7 +230,8 @@ covered : (script : List ℕ) (number : ℕ) (lines : List (List ℕ))
 covered script number [] h names times = tt
 covered script number (line ∷ lines) h names times = (
   first (form_in (unlabelled_words (words_of line))) refl,
-  λ labelled. names number (or_first (names_line number line number) (name_lines (number + 1) lines number) (ap (λ b. b && (number == number)) labelled ∙ itself number)),
+  λ labelled. names number (or_first (names_line number line number) (name_lines (number + 1) lines number)
+      (or_first (is_labelled line && (number == number)) (is_of_above line && (number - 1 == number)) (ap (λ b. b && (number == number)) labelled ∙ itself number))),
   own_onset (onset_in (unlabelled_words (words_of line))) refl,
   covered script (number + 1) lines (λ r k. h r (more r (watch_of script (time_at script) line) k)) (λ other k. names other (ap (λ b. names_line number line other || b) k ∙ or_so (names_line number line other)))
       (λ other k. times other (omega (arith, k)) ∙ ap (λ (b : Bool). if b then labelled_time line else times_from (number + 1) lines other) (later number other k)),
@@ -246,7 +253,11 @@ covered script number (line ∷ lines) h names times = (
           ∙ no_labelled_time line quantity window pattern e,
     )
     first (Ok (State time device words)) e = tt
-    first (Ok (Refused name word)) e = tt
+    first (Ok (Refused None word)) e =
+        names (number - 1) (or_first (names_line number line (number - 1)) (name_lines (number + 1) lines (number - 1))
+        (ap (λ b. (is_labelled line && (number == number - 1)) || b) (ap (λ (g : Result Form LineFault). form_is_of_above g && (number - 1 == number - 1)) e ∙ itself (number - 1))
+        ∙ or_so (is_labelled line && (number == number - 1))))
+    first (Ok (Refused (Some name) word)) e = tt
 
     own_onset : (o : Option ℕ) → onset_in (unlabelled_words (words_of line)) ≡ o → OnsetCovered script number o
     own_onset None e = tt
@@ -335,7 +346,7 @@ module _ (script : List ℕ) (at : ℕ → Option ℕ) (near : AreNear script at
     where
       met : (instant : ℕ) → at line ≡ Some instant → (r : RoundLine) → is_seen (record { from = instant; to = min (instant + duration) (2 ^ 64 - 1) }) pattern r ≡ true
           → (o : Option ℕ) → time_at script line ≡ o → is_met r (record { span = known_from duration o; pattern = pattern }) ≡ true
-      met instant e r seen None k = last_and (nat_le instant r.begin) (nat_le r.at (min (instant + duration) (2 ^ 64 - 1))) (fits pattern r.reported) seen
+      met instant e r seen None k = last_and (nat_le instant r.begin) (nat_le r.at (min (instant + duration) (2 ^ 64 - 1))) (meets pattern r.reported) seen
       met instant e r seen (Some time) k =
           let is = near line instant time e k in
           wider (record { from = instant; to = min (instant + duration) (2 ^ 64 - 1) }) (record { from = time; to = min (time + duration + longest_wait) (2 ^ 64 - 1) }) pattern r
@@ -350,7 +361,7 @@ module _ (script : List ℕ) (at : ℕ → Option ℕ) (near : AreNear script at
       → SpanCovered (watches_of script) pattern (span_of script at window)
   window_covered (Within duration name) pattern covers = label_covered duration pattern (line_of_label script name) covers
   window_covered (From from to) pattern covers =
-      λ r seen. covers r (joined (nat_le from r.begin) (nat_le r.at to) (fits pattern r.reported) seen)
+      λ r seen. covers r (joined (nat_le from r.begin) (nat_le r.at to) (meets pattern r.reported) seen)
 
 -- ---- what is found
 
@@ -382,6 +393,13 @@ module _ (script few trace : List ℕ) (are : lines_of few ≡ filter (is_kept s
       by None e = refl
       by (Some line) e = ap refusal_by (same_event line (label_names true 1 (lines_of script) name line e))
 
+  refusals_above : (number : ℕ) → is_named script (number - 1) ≡ true → refusal_at few (event_above script number) ≡ refusal_at trace (event_above script number)
+  refusals_above number named = by (is_event_at script (number - 1))
+    where
+      by : (b : Bool) → refusal_at few (if b then Some (number - 1) else None) ≡ refusal_at trace (if b then Some (number - 1) else None)
+      by true = ap refusal_by (same_event (number - 1) named)
+      by false = refl
+
   form_same : (state : List ℕ) (at : ℕ → Option ℕ) → AreNear script at → (number : ℕ) (named : Bool) (onset : Option ℕ) (f : Result Form LineFault) → FormCovered script number f
       → (named ≡ true → is_named script number ≡ true) → form_judged script few state at number named onset f ≡ form_judged script trace state at number named onset f
   form_same state at near number named onset (Err cause) c names = refl
@@ -391,7 +409,8 @@ module _ (script few trace : List ℕ) (are : lines_of few ≡ filter (is_kept s
   form_same state at near number named onset (Ok (Rounds quantity window pattern)) c names =
       rounds_same quantity pattern (span_of script at window) (window_covered script at near window pattern c.0)
   form_same state at near number named onset (Ok (State time device words)) c names = refl
-  form_same state at near number named onset (Ok (Refused name word)) c names = ap (of_refusal word) (refusals_same name)
+  form_same state at near number named onset (Ok (Refused None word)) c names = ap (of_refusal word) (refusals_above number c)
+  form_same state at near number named onset (Ok (Refused (Some name) word)) c names = ap (of_refusal word) (refusals_same name)
 
   -- the instant of a line is near its time
   form_near : (state : List ℕ) (at : ℕ → Option ℕ) (number : ℕ) (named : Bool) (onset : Option ℕ) (f : Result Form LineFault) → FormCovered script number f → OnsetCovered script number onset
@@ -424,7 +443,7 @@ module _ (script few trace : List ℕ) (are : lines_of few ≡ filter (is_kept s
 
   shown_same : (span : Span) (pattern : List ℕ) → SpanCovered (watches_of script) pattern (Some span) → shown_text few span pattern ≡ shown_text trace span pattern
   shown_same span pattern covers =
-      ap (λ (ls : List (List ℕ)). flat_map shown_line (take 8 ls))
+      ap (λ (ls : List (List ℕ)). flat_map shown_round (take 8 ls))
       (ap (filter (λ line. is_some (end_seen span pattern line))) are
       ∙ kept_passes (is_kept script) (λ line. is_some (end_seen span pattern line)) (λ line h. ap is_some (not_seen script span pattern covers line h)) (lines_of trace))
 

@@ -1,9 +1,11 @@
+pub mod Running
 pub mod Standing
 pub mod Found
 pub mod Stated
 pub mod Checked
 pub mod EachLine
 pub mod PlainRead
+pub mod CutNotes
 pub mod Cuts
 pub mod Refusals
 pub mod Shown

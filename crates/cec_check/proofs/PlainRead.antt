@@ -1,10 +1,9 @@
 -- A script without labels and expectations has a line for each of the script's.
-use Rattle.std.proofs.Common.{◌≡◌, ℕ, ◌≤◌, ◌==◌, Bool, true, false, cond, codes, if◌then◌else◌, List, [], ◌∷◌, length, map, Some, None, Result, Ok, Err, refl, sym, ap, subst, arith}
+use Rattle.std.proofs.Common.{◌≡◌, ℕ, ◌==◌, Bool, true, false, cond, codes, if◌then◌else◌, List, [], ◌∷◌, length, map, Some, None, Result, Ok, Err, refl, sym, ap, subst, arith}
 use Rattle.std.specs.Str.{bytes_eq}
 use Rattle.std.specs.List.{onto_first}
 use Rattle.std.proofs.lemmas.List.Elements.{All-append, All-head, All-tail}
 use Rattle.hdmi_topo.specs.Node.{Node}
-use Rattle.cec_wave.specs.Bounds.{most_pulls}
 use Rattle.hdmi_core.specs.Lines.{lines_of}
 use Rattle.hdmi_core.specs.Words.{words_of, text_of}
 use Rattle.cec_signal.proofs.Texts.{Lacks, more_lack, none_lack}
@@ -15,6 +14,7 @@ use Rattle.cec_asm.specs.declared.script.ScriptCause.TheVariants.{End}
 use Rattle.cec_asm.specs.declared.script.ScriptError.TheVariants as errors
 use Rattle.cec_asm.specs.declared.script.ScriptLineError.{ScriptLineError}
 use Rattle.cec_asm.specs.declared.script.ScriptLineError.TheVariants.{Fault, Memory}
+use Rattle.cec_asm.proofs.Adding.{AreFew, few_pulses}
 use Rattle.cec_asm.proofs.Reading.{last_line}
 use Rattle.cec_asm.proofs.Sound.{AreSound, sound_start}
 use Rattle.cec_expect.specs.Line.{after_name, is_expectation, plain_part, plain_script, unlabelled_words}
@@ -68,10 +68,17 @@ Leads tree script lines number notes =
 first_lead : (tree : List Node) (script : List ℕ) → Leads tree script (lines_of script) 1 no_notes
 first_lead tree script read h = subst (λ ls. AreLinesRead tree ls 1 no_notes read) (sym (plain_lines script)) h
 
+-- what the lines so far pull low is few
+abbrev pub HoldsFew : Notes → Type 0
+HoldsFew notes = AreFew notes
+
+pub few_more : (tree : List Node) (notes : Notes) (line : ℕ) (text : List ℕ) (next : Notes) → IsLineRead tree notes (length notes.pulses) line text (Ok next) → HoldsFew notes → HoldsFew next
+few_more tree notes line text next read few = few_pulses tree notes line text next read few
+
 -- before the first line
-pub begun : (tree : List Node) (script : List ℕ) (notes : Notes) → notes ≡ no_notes → Leads tree script (lines_of script) 1 notes × AreSound (length tree) notes × (length notes.pulses ≤ most_pulls)
+pub begun : (tree : List Node) (script : List ℕ) (notes : Notes) → notes ≡ no_notes → Leads tree script (lines_of script) 1 notes × AreSound (length tree) notes × HoldsFew notes
 begun tree script notes is =
-    subst (λ (n : Notes). Leads tree script (lines_of script) 1 n × AreSound (length tree) n × (length n.pulses ≤ most_pulls)) (sym is)
+    subst (λ (n : Notes). Leads tree script (lines_of script) 1 n × AreSound (length tree) n × HoldsFew n) (sym is)
     (first_lead tree script, sound_start (length tree), omega arith)
 
 read_again : (tree : List Node) (line text : List ℕ) (number waiting : ℕ) (notes : Notes) (read : Result Notes LineFault) → text ≡ plain_part line → waiting ≡ length notes.pulses

@@ -1,5 +1,5 @@
 -- A run up to a time is not refused where the whole one is not.
-use Rattle.std.proofs.Common.{◌≡◌, ℕ, ◌≤◌, List, Option, IsSome, Some, None, Err, ap, sym, subst, ◌∙◌}
+use Rattle.std.proofs.Common.{◌≡◌, ℕ, ◌≤◌, List, Option, IsSome, Some, None, Result, Ok, Err, ap, sym, subst, ◌∙◌}
 use Rattle.cec_wave.specs.Bounds.{latest_event}
 use Rattle.hdmi_core.specs.declared.phys.Phys.{Phys}
 use Rattle.hdmi_blocks.specs.Address.{edid_address}
@@ -9,16 +9,13 @@ use Rattle.hdmi_blocks.proofs.OneEdid.{not_refused, one_edid}
 use Rattle.hdmi_blocks.specs.Root.{IsNoRoot, IsRoot}
 use Rattle.hdmi_blocks.specs.declared.root.EdidCause.{EdidCause}
 use Rattle.hdmi_blocks.specs.declared.root.EdidCause.TheVariants.{Edid as OfEdid, NoHdmiBlock}
-use Rattle.cec_asm.specs.Topology.{Plan}
-use Rattle.cec_asm.specs.Script.{IsScriptRead}
-use Rattle.cec_asm.proofs.OneReading.{one_script}
+use Rattle.cec_asm.specs.Topology.{Plan, TopologyFault, topology_of}
+use Rattle.cec_asm.specs.Script.{IsScriptRead, OneScript}
 use Rattle.cec_expect.specs.Line.{cut_script}
 use Rattle.cec_run.specs.Emulate.{IsTraceOf, IsReported}
 use Rattle.cec_run.specs.declared.emulate.EmulateError.{EmulateError}
 use Rattle.cec_run.specs.declared.emulate.EmulateError.TheVariants.{Topology, Script, Edid, Write, Memory}
 use Rattle.cec_run.specs.declared.run.Totals.{Totals}
-use Rattle.cec_run.proofs.Accepted.{one_plan}
-use Rattle.cec_check.specs.Cuts.{cut_course}
 use Rattle.cec_check.proofs.Cuts.{cuts_are_read}
 
 -- ---- an EDID that is read is not refused
@@ -50,17 +47,20 @@ IsWant (Edid cause) = ⊥
 IsWant (Write count) = Unit {0}
 IsWant Memory = Unit {0}
 
-pub not_refused_earlier : (topology plain text : List ℕ) (time : ℕ) (totals : Totals) (error : EmulateError) → time ≤ latest_event → IsTraceOf topology plain text totals
+one_plan : (p q : Plan) (r : Result Plan TopologyFault) → r ≡ Ok p → r ≡ Ok q → q ≡ p
+one_plan p q r a b = cc
+
+pub not_refused_earlier : OneScript → (topology plain text : List ℕ) (time : ℕ) (totals : Totals) (error : EmulateError) → time ≤ latest_event → IsTraceOf topology plain text totals
     → IsReported topology (cut_script time plain) error → IsWant error
-not_refused_earlier topology plain text time totals (Topology line cause word) early run reported = (let accepted = run.accepted.plan_is in cc)
-not_refused_earlier topology plain text time totals (Script line cause word) early run reported =
-    let same : reported.0 ≡ run.plan = one_plan topology run.plan reported.0 run.accepted.plan_is reported.1 in
+not_refused_earlier law topology plain text time totals (Topology line cause word) early run reported = (let accepted = run.accepted.plan_is in cc)
+not_refused_earlier law topology plain text time totals (Script line cause word) early run reported =
+    let same : reported.0 ≡ run.plan = one_plan run.plan reported.0 (topology_of topology) run.accepted.plan_is reported.1 in
     let refused = subst (λ (p : Plan). IsScriptRead p.tree (cut_script time plain) (Err (record { line = line; cause = cause; word = word }))) same reported.2 in
-    let read = cuts_are_read run.plan.tree time plain run.course early run.accepted.course_is in
-    let clash = one_script run.plan.tree (cut_script time plain) (cut_course time run.course) (Err (record { line = line; cause = cause; word = word })) read refused in
+    let cut = cuts_are_read run.plan.tree time plain run.course early run.accepted.course_is in
+    let clash = law run.plan.tree (cut_script time plain) cut.0 (Err (record { line = line; cause = cause; word = word })) cut.2 refused in
     cc
-not_refused_earlier topology plain text time totals (Edid cause) early run reported =
-    let same : reported.0 ≡ run.plan = one_plan topology run.plan reported.0 run.accepted.plan_is reported.2.plan_is in
+not_refused_earlier law topology plain text time totals (Edid cause) early run reported =
+    let same : reported.0 ≡ run.plan = one_plan run.plan reported.0 (topology_of topology) run.accepted.plan_is reported.2.plan_is in
     no_root_refused run.plan.edid run.edid reported.3 cause run.root (ap (λ (p : Plan). p.edid) (sym same) ∙ reported.4) reported.5
-not_refused_earlier topology plain text time totals (Write count) early run reported = tt
-not_refused_earlier topology plain text time totals Memory early run reported = tt
+not_refused_earlier law topology plain text time totals (Write count) early run reported = tt
+not_refused_earlier law topology plain text time totals Memory early run reported = tt

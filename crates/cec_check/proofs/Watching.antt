@@ -5,7 +5,7 @@ use Rattle.std.specs.Str.{bytes_eq}
 use Rattle.std.proofs.lemmas.Bool.{false≢true}
 use Rattle.std.proofs.lemmas.Slice.Eq.{bytes_eq-Decides}
 use denote.Ref.{Bor}
-use Rattle.cec_expect.specs.Fits.{fits}
+use Rattle.cec_expect.specs.Names.{meets}
 use Rattle.cec_judge.specs.Told.{RoundLine}
 use Rattle.cec_judge.specs.declared.seen.Span.{Span}
 use Rattle.cec_check.specs.Kept.{Watch, is_met, is_within}
@@ -32,34 +32,34 @@ or_not true = refl
 or_not false = refl
 
 -- a pattern that stands among others
-had : (texts : List (Bor (List ℕ))) (pattern reported : List ℕ) → list_any (λ text. bytes_eq text.now pattern) texts ≡ true → fits pattern reported ≡ true
-    → list_any (λ text. fits text.now reported) texts ≡ true
+had : (texts : List (Bor (List ℕ))) (pattern reported : List ℕ) → list_any (λ text. bytes_eq text.now pattern) texts ≡ true → meets pattern reported ≡ true
+    → list_any (λ text. meets text.now reported) texts ≡ true
 had [] pattern reported h k = h
 had (text ∷ texts) pattern reported h k = by (bytes_eq text.now pattern) refl h (λ m. had texts pattern reported m k)
   where
     by : (b : Bool) → bytes_eq text.now pattern ≡ b → (b || list_any (λ text. bytes_eq text.now pattern) texts) ≡ true
-        → (list_any (λ text. bytes_eq text.now pattern) texts ≡ true → list_any (λ text. fits text.now reported) texts ≡ true)
-        → (fits text.now reported || list_any (λ text. fits text.now reported) texts) ≡ true
+        → (list_any (λ text. bytes_eq text.now pattern) texts ≡ true → list_any (λ text. meets text.now reported) texts ≡ true)
+        → (meets text.now reported || list_any (λ text. meets text.now reported) texts) ≡ true
     by true e m more =
         let same : text.now ≡ pattern = (bytes_eq-Decides text.now pattern).0 e in
-        ap (λ b. b || list_any (λ (text : Bor (List ℕ)). fits text.now reported) texts) (ap (λ t. fits t reported) same ∙ k)
-    by false e m more = ap (λ b. fits text.now reported || b) (more m) ∙ or_so (fits text.now reported)
+        ap (λ b. b || list_any (λ (text : Bor (List ℕ)). meets text.now reported) texts) (ap (λ t. meets t reported) same ∙ k)
+    by false e m more = ap (λ b. meets text.now reported || b) (more m) ∙ or_so (meets text.now reported)
 
 -- one that stands there
 pub had_already : (texts : List (Bor (List ℕ))) (pattern reported : List ℕ) → list_any (λ text. bytes_eq text.now pattern) texts ≡ true
-    → list_any (λ text. fits text.now reported) texts ≡ (list_any (λ text. fits text.now reported) texts || fits pattern reported)
-had_already texts pattern reported there = by (fits pattern reported) refl
+    → list_any (λ text. meets text.now reported) texts ≡ (list_any (λ text. meets text.now reported) texts || meets pattern reported)
+had_already texts pattern reported there = by (meets pattern reported) refl
   where
-    by : (b : Bool) → fits pattern reported ≡ b → list_any (λ text. fits text.now reported) texts ≡ (list_any (λ text. fits text.now reported) texts || b)
-    by true e = had texts pattern reported there e ∙ sym (or_so (list_any (λ (text : Bor (List ℕ)). fits text.now reported) texts))
-    by false e = or_not (list_any (λ (text : Bor (List ℕ)). fits text.now reported) texts)
+    by : (b : Bool) → meets pattern reported ≡ b → list_any (λ text. meets text.now reported) texts ≡ (list_any (λ text. meets text.now reported) texts || b)
+    by true e = had texts pattern reported there e ∙ sym (or_so (list_any (λ (text : Bor (List ℕ)). meets text.now reported) texts))
+    by false e = or_not (list_any (λ (text : Bor (List ℕ)). meets text.now reported) texts)
 
 -- one that is new
 pub added : (old new : List (Bor (List ℕ))) (text : Bor (List ℕ)) (pattern reported : List ℕ) → text.now ≡ pattern → new ≡ old ++ text ∷ []
-    → list_any (λ text. fits text.now reported) new ≡ (list_any (λ text. fits text.now reported) old || fits pattern reported)
+    → list_any (λ text. meets text.now reported) new ≡ (list_any (λ text. meets text.now reported) old || meets pattern reported)
 added old new text pattern reported same made =
-    ap (list_any (λ (text : Bor (List ℕ)). fits text.now reported)) made ∙ any_more (λ text. fits text.now reported) old text
-    ∙ ap (λ b. list_any (λ (text : Bor (List ℕ)). fits text.now reported) old || b) (ap (λ t. fits t reported) same)
+    ap (list_any (λ (text : Bor (List ℕ)). meets text.now reported)) made ∙ any_more (λ text. meets text.now reported) old text
+    ∙ ap (λ b. list_any (λ (text : Bor (List ℕ)). meets text.now reported) old || b) (ap (λ t. meets t reported) same)
 
 -- one that is not sought
 pub not_sought : (a b c : Bool) → b ≡ false → a ≡ (a || (b && c))
@@ -97,12 +97,12 @@ neither : (a b : Bool) → a ≡ false → b ≡ false → (a || b) ≡ false
 neither a b h k = ap (λ c. c || b) h ∙ k
 
 -- a round that meets no pattern
-pub none_met : (watches : List Watch) (r : RoundLine) → list_any (λ watch. is_sought false watch && fits watch.pattern r.reported) watches ≡ false → list_any (is_met r) watches ≡ false
+pub none_met : (watches : List Watch) (r : RoundLine) → list_any (λ watch. is_sought false watch && meets watch.pattern r.reported) watches ≡ false → list_any (is_met r) watches ≡ false
 none_met [] r h = refl
 none_met (w ∷ watches) r h =
     neither (is_met r w) (list_any (is_met r) watches)
-    (and_not (is_within w.span r) (fits w.pattern r.reported) (left_of (fits w.pattern r.reported) (list_any (λ (watch : Watch). is_sought false watch && fits watch.pattern r.reported) watches) h))
-    (none_met watches r (right_of (fits w.pattern r.reported) (list_any (λ (watch : Watch). is_sought false watch && fits watch.pattern r.reported) watches) h))
+    (and_not (is_within w.span r) (meets w.pattern r.reported) (left_of (meets w.pattern r.reported) (list_any (λ (watch : Watch). is_sought false watch && meets watch.pattern r.reported) watches) h))
+    (none_met watches r (right_of (meets w.pattern r.reported) (list_any (λ (watch : Watch). is_sought false watch && meets watch.pattern r.reported) watches) h))
 
 mixed : (a b c d : Bool) → ((a || b) || (c || d)) ≡ ((a || c) || (b || d))
 mixed true b c d = refl
@@ -117,10 +117,10 @@ either (Some span) r b = refl
 
 -- a round that is looked for: by a pattern alone, or in a known span
 pub met_so : (watches : List Watch) (r : RoundLine)
-    → (list_any (λ watch. is_sought true watch && fits watch.pattern r.reported) watches || list_any (is_known_met r) watches) ≡ list_any (is_met r) watches
+    → (list_any (λ watch. is_sought true watch && meets watch.pattern r.reported) watches || list_any (is_known_met r) watches) ≡ list_any (is_met r) watches
 met_so [] r = refl
 met_so (w ∷ watches) r =
-    mixed (is_sought true w && fits w.pattern r.reported) (list_any (λ (watch : Watch). is_sought true watch && fits watch.pattern r.reported) watches)
+    mixed (is_sought true w && meets w.pattern r.reported) (list_any (λ (watch : Watch). is_sought true watch && meets watch.pattern r.reported) watches)
     (is_known_met r w) (list_any (is_known_met r) watches)
-    ∙ ap (λ b. b || (list_any (λ (watch : Watch). is_sought true watch && fits watch.pattern r.reported) watches || list_any (is_known_met r) watches)) (either w.span r (fits w.pattern r.reported))
+    ∙ ap (λ b. b || (list_any (λ (watch : Watch). is_sought true watch && meets watch.pattern r.reported) watches || list_any (is_known_met r) watches)) (either w.span r (meets w.pattern r.reported))
     ∙ ap (λ b. is_met r w || b) (met_so watches r)

@@ -4,6 +4,8 @@ use Rattle.std.specs.Io.KnownBytes.{Appends}
 use Rattle.hdmi_core.specs.Lines.{lines_of}
 use Rattle.cec_expect.specs.Line.{plain_script}
 use Rattle.cec_expect.specs.Faults.{first_fault}
+use Rattle.cec_expect.specs.Names.{has_names}
+use Rattle.cec_holdings.specs.HeldTrace.{IsHeldTraceOf}
 use Rattle.cec_run.specs.Emulate.{IsTraceOf, IsReported}
 use Rattle.cec_run.specs.declared.run.Totals.{Totals}
 use Rattle.cec_check.specs.States.{AreStates}
@@ -17,11 +19,20 @@ use Rattle.cec_check.specs.declared.checking.CheckError.TheVariants.{Emulate, Ex
 abbrev pub tally_of : List Bool → Tally
 tally_of verdicts = record { count = length verdicts; failed = length (filter not verdicts) }
 
+-- The trace by which a script is judged, that of its plain script's run: where a pattern has names, the one that says who holds which
+-- address.
+abbrev pub IsTraceBy : Bool → List ℕ → List ℕ → List ℕ → Totals → Type 0
+IsTraceBy false topology plain trace totals = IsTraceOf topology plain trace totals
+IsTraceBy true topology plain trace totals = IsHeldTraceOf topology plain trace totals
+
+abbrev pub IsTraceFor : List ℕ → List ℕ → List ℕ → Totals → Type 0
+IsTraceFor topology script trace totals = IsTraceBy (has_names script) topology (plain_script script) trace totals
+
 -- the report of a script, by the trace of the run of its plain script on the topology, which is accepted and has no line at fault
 pub record IsReportOf (topology script : List ℕ) (r : Report) : Type 0 where
   pub trace : List ℕ
   pub totals : Totals
-  pub run : IsTraceOf topology (plain_script script) trace totals
+  pub run : IsTraceFor topology script trace totals
   pub accepted : first_fault topology script ≡ None
   pub states : List (List ℕ)
   pub states_are : AreStates topology (plain_script script) (lines_of script) states
@@ -31,7 +42,7 @@ pub record IsReportOf (topology script : List ℕ) (r : Report) : Type 0 where
 pub record AreKept (topology script few : List ℕ) : Type 0 where
   pub trace : List ℕ
   pub totals : Totals
-  pub run : IsTraceOf topology (plain_script script) trace totals
+  pub run : IsTraceFor topology script trace totals
   pub lines_are : lines_of few ≡ kept script (lines_of trace)
   pub timed : are_timed script (lines_of trace) ≡ true
 

@@ -1,6 +1,6 @@
 -- What is looked for, in groups, so that a round is compared with few (own).
 use Rattle.std.specs.Prelude.{◌-◌, ◌^◌, ◌&&◌, ◌||◌, min, max, not, Bool, false, is_none, List, [], ◌∷◌, Option, Some, None}
-use Rattle.cec_expect.specs.Fits.{fits}
+use Rattle.cec_expect.specs.Names.{meets}
 use Rattle.cec_judge.specs.Told.{RoundLine}
 use Rattle.cec_judge.specs.declared.seen.Span.{Span}
 use Rattle.cec_check.specs.Kept.{Watch, is_within}
@@ -15,7 +15,7 @@ is_known_within None r = false
 is_known_within (Some span) r = is_within (Some span) r
 
 abbrev pub is_known_met : RoundLine → Watch → Bool
-is_known_met r w = is_known_within w.span r && fits w.pattern r.reported
+is_known_met r w = is_known_within w.span r && meets w.pattern r.reported
 
 -- no round is in it
 abbrev pub no_span : Span

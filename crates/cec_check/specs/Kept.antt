@@ -7,7 +7,7 @@ use Rattle.std.specs.Str.{bytes_eq}
 use Rattle.hdmi_core.specs.Lines.{lines_of}
 use Rattle.hdmi_core.specs.Number.{number_of}
 use Rattle.hdmi_core.specs.Words.{words_of}
-use Rattle.cec_expect.specs.Fits.{fits}
+use Rattle.cec_expect.specs.Names.{meets}
 use Rattle.cec_expect.specs.Line.{unlabelled_words, has_verb}
 use Rattle.cec_expect.specs.Faults.{line_of_label}
 use Rattle.cec_expect.specs.Form.{Form, Window, form_in}
@@ -104,7 +104,7 @@ is_within (Some span) r = nat_le span.from r.begin && nat_le r.at span.to
 
 -- a round is in the span, if that is known, and what its line says meets the pattern
 abbrev pub is_met : RoundLine → Watch → Bool
-is_met r w = is_within w.span r && fits w.pattern r.reported
+is_met r w = is_within w.span r && meets w.pattern r.reported
 
 -- ---- what is kept
 

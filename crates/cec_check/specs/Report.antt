@@ -1,8 +1,8 @@
 -- The report of a script's expectations (Test Anything Protocol, version 13): a line for each expectation, in order, and one for
 -- each refused event that none expects; then their count. Lines that begin with `#` stand below those that failed.
-use Rattle.std.specs.Prelude.{ℕ, ◌+◌, ◌==◌, ◌||◌, Bool, true, false, if◌then◌else◌, codes, length, take, filter, List, [], ◌∷◌, ◌++◌, Option, Some, None, is_some, Result, Ok, Err}
+use Rattle.std.specs.Prelude.{ℕ, ◌+◌, ◌==◌, ◌&&◌, ◌||◌, not, Bool, true, false, if◌then◌else◌, codes, length, take, filter, List, [], ◌∷◌, ◌++◌, Option, Some, None, is_some, Result, Ok, Err}
 use Rattle.std.specs.Fmt.{decimal}
-use Rattle.std.specs.List.{concat, flat_map}
+use Rattle.std.specs.List.{concat, flat_map, list_all}
 use Rattle.hdmi_core.specs.Lines.{lines_of}
 use Rattle.hdmi_core.specs.Words.{words_of}
 use Rattle.cec_expect.specs.Line.{unlabelled_words}
@@ -58,8 +58,22 @@ shown_rounds trace span pattern = take 8 (filter (λ line. is_some (end_seen spa
 abbrev pub shown_line : List ℕ → List ℕ
 shown_line line = codes "# " ++ line ++ codes "\n"
 
+-- one word that begins with `@`: who holds which address
+abbrev pub is_holders : List ℕ → Bool
+is_holders [] = false
+is_holders (b ∷ bs) = (b == 64) && list_all (λ x. not (x == 32)) bs
+
+-- how long the line of a round is without that word at its end, and the space before it
+abbrev pub bare_length : List ℕ → ℕ
+bare_length [] = 0
+bare_length (b ∷ bs) = if (b == 32) && is_holders bs then 0 else bare_length bs + 1
+
+-- a round as the trace of `run` has it
+unfoldable pub shown_round : List ℕ → List ℕ
+shown_round line = shown_line (take (bare_length line) line)
+
 abbrev pub shown_text : List ℕ → Span → List ℕ → List ℕ
-shown_text trace span pattern = flat_map shown_line (shown_rounds trace span pattern)
+shown_text trace span pattern = flat_map shown_round (shown_rounds trace span pattern)
 
 abbrev pub seen_line : ℕ → Span → List ℕ
 seen_line count span = concat (codes "# seen " ∷ decimal count ∷ codes " from " ∷ decimal span.from ∷ codes " to " ∷ decimal span.to ∷ codes "\n" ∷ [])

@@ -9,12 +9,12 @@ ghost use Rattle.cec_check.specs.Check.{AreKept, AreVerdictsOf, IsCheckCut, IsCh
 ghost use Rattle.cec_check.specs.Report.{report_as};
 
 use crate::held::Held;
-use crate::plain::PlainLines;
 use crate::report::{ReportDraft, report_of_few, whole_report};
+use crate::run::emulate_for;
 use crate::sieve::{Patterns, Sieve};
 use crate::states::all_states;
 use cec_expect::{ExpectFault, Labels, fault_among};
-use cec_run::emulate::{EmulateError, emulate_from};
+use cec_run::emulate::EmulateError;
 use hdmi_core::{Sink, put_all};
 use std::alloc::Global;
 use thiserror::Error;
@@ -83,7 +83,7 @@ fn report_by_trace(
     ensures reported { IfErr result (IsVerdictReported topology.now script.now) }
 {
     let mut trace = Held::new(alloc);
-    match emulate_from(alloc, topology, &PlainLines { script }, &mut trace) {
+    match emulate_for(alloc, topology, script, &mut trace) {
         Ok(_) => {}
         Err(EmulateError::Write(_)) => return Err(CheckError::Memory),
         Err(error) => return Err(CheckError::Emulate(error)),
@@ -95,7 +95,7 @@ fn report_by_trace(
 }
 
 // The lines of the trace of a script's run that its report needs, where these are enough as far as the run shows.
-#[tactic(auto, using(crate::proofs::Checked::traced_by, crate::proofs::Checked::kept_of_run))]
+#[tactic(auto, using(crate::proofs::Checked::kept_of_run))]
 fn few_of(alloc: Global, topology: &[u8], script: &[u8]) -> Result<Option<Vec<u8>>, CheckError>
     ensures traced { OnOk result (IsTraced topology.now (plain_script script.now)) }
     ensures kept { IfOk result (λ few. IfSome few (λ few. AreKept topology.now script.now few.items)) }
@@ -105,7 +105,7 @@ fn few_of(alloc: Global, topology: &[u8], script: &[u8]) -> Result<Option<Vec<u8
         return Err(CheckError::Memory);
     };
     let mut sieve = Sieve::new(alloc, patterns);
-    match emulate_from(alloc, topology, &PlainLines { script }, &mut sieve) {
+    match emulate_for(alloc, topology, script, &mut sieve) {
         Ok(_) => {}
         Err(EmulateError::Write(_)) => return Err(CheckError::Memory),
         Err(error) => return Err(CheckError::Emulate(error)),
@@ -170,7 +170,8 @@ fn report_of(alloc: Global, topology: &[u8], script: &[u8]) -> Result<ReportDraf
 /// Runs a script without its labels and expectations on a topology, and writes the report of whether the run is as they have
 /// it, as the Test Anything Protocol has it: a line for each expectation, in order, and one for each refused event that none
 /// expects. Of the trace the lines of events that have a label or are refused, and of rounds that meet an expectation, are held in
-/// memory, by a wider window where it hangs from a label; all of it only where a test failed whose window no round meets.
+/// memory, by a wider window where it hangs from a label; all of it only where a test failed whose window no round meets. Where a
+/// pattern has names, each round of that trace says who holds which address.
 ///
 /// # Errors
 ///

@@ -1,13 +1,13 @@
 //! What is looked for, in groups, so that a round is compared with few.
 ghost use Rattle.std.specs.Prelude.{◌≡◌, ◌&&◌, ◌||◌, ℕ, List, Some, map, IfOk, OnOk};
 ghost use Rattle.std.specs.List.{flat_map, list_any};
-ghost use Rattle.cec_expect.specs.Fits.{fits};
+ghost use Rattle.cec_expect.specs.Names.{meets};
 ghost use Rattle.cec_judge.specs.Told.{round_as};
 ghost use Rattle.cec_check.specs.Kept.{is_within, watch_as};
 ghost use Rattle.cec_check.specs.Groups.{hull_from, is_known_met, no_span, widened};
 
 use crate::watch::Watch;
-use cec_expect::fits;
+use cec_expect::meets;
 use cec_judge::{RoundLine, Span};
 use std::alloc::{AllocError, Global};
 
@@ -34,7 +34,7 @@ fn is_known_met(watch: &Watch, round: &RoundLine) -> bool
 {
     match watch.span {
         None => false,
-        Some(span) => is_in(span, round) && fits(watch.pattern, round.reported),
+        Some(span) => is_in(span, round) && meets(watch.pattern, round.reported),
     }
 }
 

@@ -2,12 +2,20 @@
 ghost use Rattle.cec_check.specs.Check.{TalliesCountVerdicts};
 ghost use Rattle.cec_check.specs.Cuts.{CutsAreRead};
 
+use cec_holdings::texts_have_one_held_trace;
+use cec_run::texts_have_one_trace;
+
 /// The tally of a check counts the verdicts of the same texts, and as failed those of them that are false.
 pub fn tallies_count_verdicts()
     ensures { TalliesCountVerdicts }
-{}
+{
+    // No effect at run time. The proof reads these laws.
+    texts_have_one_trace();
+    texts_have_one_held_trace();
+}
 
-/// A script that is read is also read where it ends at a time: its events before then, its pulses, and that end.
+/// A script that is read is also read where it ends at a time: its events before then, its pulses and
+/// pulls, and that end, which lets the pin go.
 pub fn cut_scripts_are_read()
     ensures { CutsAreRead }
 {}

@@ -7,6 +7,7 @@ mod held;
 mod laws;
 mod plain;
 mod report;
+mod run;
 mod sieve;
 mod states;
 mod times;

@@ -1,6 +1,6 @@
 //! The report of a script's expectations, by the trace of its run.
-ghost use Rattle.std.specs.Prelude.{◌≡◌, true, ◌++◌, ◌==◌, codes, if◌then◌else◌, ℕ, List, OnOk, IfOk, IfSome, Some, map, take};
-ghost use Rattle.std.specs.List.{flat_map, list_any};
+ghost use Rattle.std.specs.Prelude.{◌≡◌, ◌≤◌, true, not, ◌++◌, ◌==◌, codes, if◌then◌else◌, length, ℕ, List, OnOk, IfOk, IfSome, Some, map, take};
+ghost use Rattle.std.specs.List.{flat_map, list_all, list_any};
 ghost use Rattle.std.specs.Option.{option_map};
 ghost use Rattle.hdmi_core.specs.Piece.{piece_text};
 ghost use Rattle.hdmi_core.specs.Lines.{lines_of};
@@ -8,7 +8,7 @@ ghost use Rattle.cec_judge.specs.Judged.{finding_as, states_for};
 ghost use Rattle.cec_judge.specs.Index.{lines_among};
 ghost use Rattle.cec_judge.specs.Told.{event_as};
 ghost use Rattle.cec_check.specs.Kept.{are_timed, is_unmet, kept};
-ghost use Rattle.cec_check.specs.Report.{report_start, report_with_plan, escaped_text, escaped_byte, remarks, report, report_as, report_by, tests, tests_by, shown_text, shown_line, span_remarks, verdict_word, with_event, with_findings, with_line, with_refusals, with_test, with_word};
+ghost use Rattle.cec_check.specs.Report.{report_start, report_with_plan, escaped_text, bare_length, escaped_byte, is_holders, remarks, report, report_as, report_by, tests, tests_by, shown_text, shown_line, shown_round, span_remarks, verdict_word, with_event, with_findings, with_line, with_refusals, with_test, with_word};
 
 use crate::held::Held;
 use cec_expect::{Form, Labels, form_in, unlabelled};
@@ -115,6 +115,51 @@ fn append_shown_line(out: &mut Held, line: &[u8]) -> Result<(), AllocError>
     )
 }
 
+fn is_word(text: &[u8]) -> bool
+    ensures { result ≡ list_all (λ b. not (b == 32)) text.now }
+{
+    match text {
+        [] => true,
+        [byte, others @ ..] => *byte != b' ' && is_word(others),
+    }
+}
+
+// Whether a text is one word that says who holds which address.
+fn is_holders(text: &[u8]) -> bool
+    ensures { result ≡ is_holders text.now }
+{
+    match text {
+        [] => false,
+        [byte, others @ ..] => *byte == b'@' && is_word(others),
+    }
+}
+
+// How long the line of a round is without such a word at its end.
+fn bare_length(line: &[u8]) -> usize
+    ensures value { result ≡ bare_length line.now }
+    ensures within { result ≤ length line.now }
+{
+    match line {
+        [] => 0,
+        [byte, others @ ..] => {
+            if *byte == b' ' && is_holders(others) {
+                0
+            } else {
+                bare_length(others) + 1
+            }
+        }
+    }
+}
+
+// Appends the line of a round as the trace of `run` has it.
+#[tactic(auto, unfolding(crate::specs::Report::shown_round))]
+fn append_shown_round(out: &mut Held, line: &[u8]) -> Result<(), AllocError>
+    ensures { OnOk result (out.new.bytes.items ≡ out.old.bytes.items ++ shown_round line.now) }
+{
+    let (bare, _holders) = line.split_at(bare_length(line));
+    append_shown_line(out, bare)
+}
+
 // Appends the first eight lines of those of these rounds that are seen.
 fn append_first(
     out: &mut Held,
@@ -122,7 +167,7 @@ fn append_first(
     span: Span,
     pattern: &[u8],
 ) -> Result<(), AllocError>
-    ensures { OnOk result (out.new.bytes.items ≡ out.old.bytes.items ++ flat_map shown_line (take 8 (lines_among rounds.now span pattern.now))) }
+    ensures { OnOk result (out.new.bytes.items ≡ out.old.bytes.items ++ flat_map shown_round (take 8 (lines_among rounds.now span pattern.now))) }
 {
     let mut rest = rounds;
     let mut left = SHOWN_MOST;
@@ -131,7 +176,7 @@ fn append_first(
             return Ok(());
         }
         if is_seen(span, pattern, round) {
-            append_shown_line(out, round.line)?;
+            append_shown_round(out, round.line)?;
             left -= 1;
         }
         rest = others;

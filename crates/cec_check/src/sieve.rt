@@ -4,7 +4,7 @@ ghost use Rattle.std.specs.List.{flat_map, list_any};
 ghost use Rattle.std.specs.Option.{option_map};
 ghost use Rattle.hdmi_core.specs.Lines.{lines_of};
 ghost use Rattle.hdmi_core.specs.Words.{words_of};
-ghost use Rattle.cec_expect.specs.Fits.{fits};
+ghost use Rattle.cec_expect.specs.Names.{meets};
 ghost use Rattle.cec_expect.specs.Line.{has_verb};
 ghost use Rattle.cec_judge.specs.Told.{event_as, event_in, round_as};
 ghost use Rattle.cec_check.specs.Kept.{are_timed, is_event_kept, is_kept, is_met, kept, watch_as, watches_of};
@@ -33,8 +33,8 @@ pub(crate) struct Patterns<'a> {
     ghost named_are: { named.script.now ≡ script.now },
     ghost times_are: { times.script.now ≡ script.now },
     ghost groups_are: { flat_map (λ group. map watch_as group.watches.items) groups.items ≡ watches_of script.now },
-    ghost texts_are: { (reported : List ℕ) → list_any (λ text. fits text.now reported) texts.items ≡ list_any (λ watch. is_sought false watch && fits watch.pattern reported) (watches_of script.now) },
-    ghost timeless_are: { (reported : List ℕ) → list_any (λ text. fits text.now reported) timeless.items ≡ list_any (λ watch. is_sought true watch && fits watch.pattern reported) (watches_of script.now) },
+    ghost texts_are: { (reported : List ℕ) → list_any (λ text. meets text.now reported) texts.items ≡ list_any (λ watch. is_sought false watch && meets watch.pattern reported) (watches_of script.now) },
+    ghost timeless_are: { (reported : List ℕ) → list_any (λ text. meets text.now reported) timeless.items ≡ list_any (λ watch. is_sought true watch && meets watch.pattern reported) (watches_of script.now) },
 }
 
 fn is_same(left: &[u8], right: &[u8]) -> bool

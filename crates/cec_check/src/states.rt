@@ -8,6 +8,7 @@ ghost use Rattle.cec_judge.specs.Judged.{is_of_state, states_for};
 ghost use Rattle.cec_check.specs.States.{AreStates, IsStateAt, IsStateRead, IsTraced};
 
 use crate::sieve::{Patterns, Sieve};
+use cec_asm::one_script;
 use cec_expect::{Form, cut_script, form_in, plain_script, unlabelled};
 use cec_judge::{is_of_state, state_line};
 use cec_run::emulate::{EmulateError, emulate};
@@ -26,6 +27,8 @@ fn state_at(
     requires early { time ≤ latest_event }
     ensures { IfOk result (λ state. IsStateAt topology.now plain.now time device.now state.items) }
 {
+    // No effect at run time. The proof reads from it that the earlier script is read in one way.
+    one_script();
     let cut = cut_script(alloc, time, plain)?;
     let mut sieve = Sieve::new(alloc, Patterns::new(alloc, &[])?);
     match emulate(alloc, topology, &cut, &mut sieve) {

@@ -3,13 +3,13 @@ ghost use Rattle.std.specs.Prelude.{◌≡◌, ◌&&◌, ◌||◌, ℕ, List, ma
 ghost use Rattle.std.specs.List.{list_any};
 ghost use Rattle.std.specs.Option.{option_map};
 ghost use Rattle.std.specs.Str.{bytes_eq};
-ghost use Rattle.cec_expect.specs.Fits.{fits};
+ghost use Rattle.cec_expect.specs.Names.{meets};
 ghost use Rattle.cec_expect.specs.Form.{window_of};
 ghost use Rattle.cec_check.specs.Groups.{is_sought};
 ghost use Rattle.cec_check.specs.Kept.{known_from, known_span, time_at, watch_as, watch_of, watches_by};
 
 use crate::times::{LONGEST_WAIT, Times};
-use cec_expect::{Form, Labels, Window, fits, form_in, unlabelled};
+use cec_expect::{Form, Labels, Window, form_in, meets, unlabelled};
 use cec_judge::Span;
 use hdmi_core::first_line;
 use std::alloc::{AllocError, Global};
@@ -106,8 +106,8 @@ fn has(texts: &[&[u8]], pattern: &[u8]) -> bool
 // Adds a pattern, where it is new.
 #[tactic(auto, using(crate::proofs::Watching::had_already, crate::proofs::Watching::added))]
 fn add_pattern<'a>(texts: &mut Vec<&'a [u8]>, pattern: &'a [u8]) -> Result<(), AllocError>
-    ensures { OnOk result ((reported : List ℕ) → list_any (λ text. fits text.now reported) texts.new.items
-        ≡ (list_any (λ text. fits text.now reported) texts.old.items || fits pattern.now reported)) }
+    ensures { OnOk result ((reported : List ℕ) → list_any (λ text. meets text.now reported) texts.new.items
+        ≡ (list_any (λ text. meets text.now reported) texts.old.items || meets pattern.now reported)) }
 {
     if has(texts.as_slice(), pattern) {
         return Ok(());
@@ -129,8 +129,8 @@ fn add_sought<'a>(
     timeless: bool,
     watch: &Watch<'a>,
 ) -> Result<(), AllocError>
-    ensures { OnOk result ((reported : List ℕ) → list_any (λ text. fits text.now reported) texts.new.items
-        ≡ (list_any (λ text. fits text.now reported) texts.old.items || (is_sought timeless (watch_as watch.now) && fits watch.now.pattern.now reported))) }
+    ensures { OnOk result ((reported : List ℕ) → list_any (λ text. meets text.now reported) texts.new.items
+        ≡ (list_any (λ text. meets text.now reported) texts.old.items || (is_sought timeless (watch_as watch.now) && meets watch.now.pattern.now reported))) }
 {
     if !is_sought(timeless, watch) {
         return Ok(());
@@ -149,8 +149,8 @@ pub(crate) fn patterns_of<'a>(
     timeless: bool,
     watches: &[Watch<'a>],
 ) -> Result<Vec<&'a [u8]>, AllocError>
-    ensures { IfOk result (λ texts. (reported : List ℕ) → list_any (λ text. fits text.now reported) texts.items
-        ≡ list_any (λ watch. is_sought timeless watch && fits watch.pattern reported) (map watch_as watches.now)) }
+    ensures { IfOk result (λ texts. (reported : List ℕ) → list_any (λ text. meets text.now reported) texts.items
+        ≡ list_any (λ watch. is_sought timeless watch && meets watch.pattern reported) (map watch_as watches.now)) }
 {
     let mut texts = Vec::new(alloc);
     let mut rest = watches;
@@ -163,11 +163,11 @@ pub(crate) fn patterns_of<'a>(
 
 /// Whether a pattern is met.
 pub(crate) fn fits_any(texts: &[&[u8]], reported: &[u8]) -> bool
-    ensures { result ≡ list_any (λ text. fits text.now reported.now) texts.now }
+    ensures { result ≡ list_any (λ text. meets text.now reported.now) texts.now }
 {
     let mut rest = texts;
     'patterns: while let [text, others @ ..] = rest {
-        if fits(text, reported) {
+        if meets(text, reported) {
             return true;
         }
         rest = others;

@@ -4,4 +4,6 @@ pub mod Meeting
 pub mod Wording
 pub mod Fronts
 pub mod Saying
+pub mod Naming
+pub mod Marking
 pub mod Readings

@@ -1,7 +1,7 @@
 -- Labels of a script, and its first line at fault (own). Lines count from 1. A label is a word that is not empty, stands on one
--- line alone, before an event, a pulse, a pull or an expectation, and above those that name it; of a refusal it is an event's. A window does not end before it begins. The device of
--- a state is one of the topology, and its time is not past the end. Some line of a round meets a pattern, and some state line has each word of a state.
-use Rattle.std.specs.Prelude.{ℕ, ◌+◌, ◌==◌, nat_lt, ◌&&◌, not, codes, Bool, true, false, if◌then◌else◌, length, List, [], ◌∷◌, Option, Some, None, Result, Ok, Err}
+-- line alone, before an event, a pulse, a pull or an expectation, and above those that name it; of a refusal it is an event's; without one an event stands on the line above. A window does not end before it begins. The devices of
+-- a pattern and of a state are of the topology, and its time is not past the end. Some line of a round meets a pattern, and some state line has each word of a state.
+use Rattle.std.specs.Prelude.{ℕ, ◌+◌, ◌-◌, ◌==◌, nat_lt, ◌&&◌, ◌||◌, not, codes, Bool, true, false, if◌then◌else◌, length, List, [], ◌∷◌, Option, Some, None, Result, Ok, Err}
 use Rattle.std.specs.Str.{bytes_eq}
 use Rattle.std.specs.List.{list_any}
 use Rattle.std.specs.Option.{option_map}
@@ -11,7 +11,7 @@ use Rattle.hdmi_core.specs.Number.{number_of}
 use Rattle.cec_expect.specs.Line.{label_in, unlabelled_words, is_event, is_labelable}
 use Rattle.cec_expect.specs.Fault.{after_label, at_word}
 use Rattle.cec_expect.specs.Form.{Form, Window, form_in, in_window}
-use Rattle.cec_expect.specs.Said.{is_said, unmet_word}
+use Rattle.cec_expect.specs.Names.{Named, is_meetable, named_in, unmet_word}
 use Rattle.cec_expect.specs.StateTest.{strange_word}
 use Rattle.cec_expect.specs.Form.Form.{Other, Rounds, State, Refused}
 use Rattle.cec_expect.specs.Form.Window.{Within, From}
@@ -45,6 +45,28 @@ line_of_label script name = labelled_from false 1 (lines_of script) name
 -- the line of an event's label
 abbrev pub event_labelled : List ℕ → List ℕ → Option ℕ
 event_labelled script name = labelled_from true 1 (lines_of script) name
+
+-- a line of this number is an event's, and has the other number
+abbrev pub is_event_on : ℕ → List ℕ → ℕ → Bool
+is_event_on number line other = is_event_line line && (number == other)
+
+-- one of these lines, of which the first has this number, is an event's, and has the other number
+abbrev pub events_from : ℕ → List (List ℕ) → ℕ → Bool
+events_from number [] other = false
+events_from number (line ∷ lines) other = is_event_on number line other || events_from (number + 1) lines other
+
+-- the line of this number is an event's
+abbrev pub is_event_at : List ℕ → ℕ → Bool
+is_event_at script number = events_from 1 (lines_of script) number
+
+-- the line above, where it is an event's
+abbrev pub event_above : List ℕ → ℕ → Option ℕ
+event_above script number = if is_event_at script (number - 1) then Some (number - 1) else None
+
+-- the line of the event that the line of this number speaks of: by its label, or else the one above
+abbrev pub event_meant : List ℕ → ℕ → Option (List ℕ) → Option ℕ
+event_meant script number None = event_above script number
+event_meant script number (Some name) = event_labelled script name
 
 abbrev pub is_above : ℕ → Option ℕ → Bool
 is_above number None = false
@@ -93,7 +115,7 @@ window_fault script number quantity (From from to) = if nat_lt to from then Some
 
 -- no line of a round meets the pattern
 abbrev pub pattern_fault : Quantity → List ℕ → Option LineFault
-pattern_fault quantity pattern = if is_said pattern then None else Some (in_window quantity (4 + unmet_word pattern) Unmet)
+pattern_fault quantity pattern = if is_meetable pattern then None else Some (in_window quantity (4 + unmet_word pattern) Unmet)
 
 abbrev pub or_fault : Option LineFault → Option LineFault → Option LineFault
 or_fault None other = other
@@ -104,10 +126,15 @@ abbrev pub is_refusal : List ℕ → Bool
 is_refusal word =
     list_any (bytes_eq word) (codes "port-range" ∷ codes "port-taken" ∷ codes "not-loose" ∷ codes "loop" ∷ codes "not-plugged" ∷ codes "not-for-kind" ∷ codes "off-wire" ∷ codes "queue-full" ∷ codes "own-address" ∷ codes "no-address" ∷ [])
 
--- the label is no event's above, or no event is refused with this word
-abbrev pub refusal_fault : List ℕ → ℕ → List ℕ → List ℕ → Option LineFault
+-- the number of the word with which an event is refused
+abbrev pub refusal_word : Option (List ℕ) → ℕ
+refusal_word None = 2
+refusal_word (Some name) = 3
+
+-- there is no such event above, or no event is refused with this word
+abbrev pub refusal_fault : List ℕ → ℕ → Option (List ℕ) → List ℕ → Option LineFault
 refusal_fault script number name word =
-    if is_above number (event_labelled script name) then (if is_refusal word then None else Some (at_word 3 Unmet)) else Some (at_word 2 Label)
+    if is_above number (event_meant script number name) then (if is_refusal word then None else Some (at_word (refusal_word name) Unmet)) else Some (at_word 2 Label)
 
 -- no state line has one of the words
 abbrev pub strange_fault : Option ℕ → Option LineFault
@@ -124,17 +151,33 @@ form_fault script number (Rounds quantity window pattern) = or_fault (window_fau
 form_fault script number (State time device words) = state_fault script time words
 form_fault script number (Refused name word) = refusal_fault script number name word
 
+-- a name of a pattern that is not declared, and then one after it
+abbrev pub is_strange_name : List ℕ → Option Named → Bool
+is_strange_name topology None = false
+is_strange_name topology (Some n) = not (is_declared topology n.name)
+
+abbrev pub has_strange_name : List ℕ → Option Named → Bool
+has_strange_name topology None = false
+has_strange_name topology (Some n) = not (is_declared topology n.name) || is_strange_name topology (named_in n.rest)
+
 -- it names a device that is not declared
 abbrev pub is_strange : List ℕ → Form → Bool
 is_strange topology Other = false
-is_strange topology (Rounds quantity window pattern) = false
+is_strange topology (Rounds quantity window pattern) = has_strange_name topology (named_in pattern)
 is_strange topology (State time device words) = not (is_declared topology device)
 is_strange topology (Refused name word) = false
+
+-- the word that names it
+abbrev pub strange_at : Form → LineFault
+strange_at Other = at_word 3 Name
+strange_at (Rounds quantity window pattern) = in_window quantity 4 Name
+strange_at (State time device words) = at_word 3 Name
+strange_at (Refused name word) = at_word 3 Name
 
 abbrev pub fault_by : List ℕ → List ℕ → ℕ → Option (List ℕ) → Result Form LineFault → Option LineFault
 fault_by topology script number label (Err fault) = Some (after_label label fault)
 fault_by topology script number label (Ok form) =
-    if is_strange topology form then Some (after_label label (at_word 3 Name))
+    if is_strange topology form then Some (after_label label (strange_at form))
     else if is_own_label script number label then option_map (after_label label) (form_fault script number form)
     else Some (at_word 1 Label)
 

@@ -1,6 +1,7 @@
--- What the line of an expectation says (own): `expect HOW WINDOW PATTERN`, `expect state T DEVICE WORD..`, with `not` before the words or without it, or `expect refused NAME
--- WORD`, where HOW is nothing, `none` or `once`, and WINDOW is `within D of NAME` or `from T to U`. Times are in microseconds.
+-- What the line of an expectation says (own): `expect HOW WINDOW PATTERN`, `expect state T DEVICE WORD..`, with `not` before the words or without it, `expect refused NAME WORD`,
+-- or `expect refused WORD` below the line of an event, where HOW is nothing, `none` or `once`, and WINDOW is `within D of NAME` or `from T to U`. Times are in microseconds.
 use Rattle.std.specs.Prelude.{◌≡◌, ℕ, ◌+◌, ◌-◌, ◌^◌, ◌≤◌, ◌==◌, nat_lt, nat_le, ◌&&◌, ◌||◌, not, Bool, if◌then◌else◌, codes, length, filter, slice_index, List, [], ◌∷◌, Option, Some, None, Result, Ok, Err}
+use Rattle.std.specs.Option.{option_copied}
 use Rattle.std.specs.Str.{bytes_eq}
 use Rattle.cec_wave.specs.Bounds.{latest_event}
 use Rattle.hdmi_core.specs.Number.{number_of}
@@ -22,12 +23,13 @@ pub data Window : Type 0 where
   Within : ℕ → List ℕ → Window
   From : ℕ → ℕ → Window
 
--- a line that is no expectation, one of rounds, one of a device's state at a time, or one of an event that is refused with a word
+-- a line that is no expectation, one of rounds, one of a device's state at a time, or one of an event that is refused with a word: that of a
+-- label, or else of the line above
 pub data Form : Type 0 where
   Other : Form
   Rounds : Quantity → Window → List ℕ → Form
   State : ℕ → List ℕ → List (List ℕ) → Form
-  Refused : List ℕ → List ℕ → Form
+  Refused : Option (List ℕ) → List ℕ → Form
 
 -- ---- without where the texts lie in memory
 
@@ -39,7 +41,7 @@ abbrev pub form_as : FormRead → Form
 form_as forms.Other = Other
 form_as (forms.Rounds quantity window pattern) = Rounds quantity (window_of window) pattern.now
 form_as (forms.State time device words) = State time device.now (words_of words.now)
-form_as (forms.Refused label word) = Refused label.now word.now
+form_as (forms.Refused label word) = Refused (option_copied label) word.now
 
 -- ---- numbers
 
@@ -163,11 +165,11 @@ state_in (time ∷ device ∷ word ∷ words) = state_by (or_lacking (empty_from
 
 -- ---- all
 
--- a label and a word
+-- a label and a word, or a word alone
 abbrev pub refused_in : List (List ℕ) → Result Form LineFault
 refused_in [] = Err (at_word 2 Word)
-refused_in (name ∷ []) = Err (at_word 3 Word)
-refused_in (name ∷ word ∷ []) = Ok (Refused name word)
+refused_in (word ∷ []) = Ok (Refused None word)
+refused_in (name ∷ word ∷ []) = Ok (Refused (Some name) word)
 refused_in (name ∷ word ∷ more ∷ words) = Err (at_word 4 Word)
 
 -- the words after `expect`

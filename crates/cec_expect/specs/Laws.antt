@@ -7,6 +7,7 @@ use Rattle.cec_text.specs.FrameText.{frame_text}
 use Rattle.cec_text.specs.ReadingText.{bits_text, is_broadcast, verdict_by}
 use Rattle.cec_expect.specs.Fits.{fits}
 use Rattle.cec_expect.specs.Said.{IsSaid, ending_word, is_said}
+use Rattle.cec_expect.specs.Names.{for_names, is_meetable}
 use Rattle.cec_expect.specs.StateTest.{is_state_word}
 use Rattle.cec_expect.specs.StateWords.{IsStateWord}
 
@@ -14,6 +15,12 @@ use Rattle.cec_expect.specs.StateWords.{IsStateWord}
 pub record PatternsAreMet : Type 0 where
   pub only : (pattern text : List ℕ) → IsSaid text → fits pattern text ≡ true → is_said pattern ≡ true
   pub met : (pattern : List ℕ) → is_said pattern ≡ true → (text : List ℕ) × IsSaid text × (fits pattern text ≡ true)
+
+-- A pattern with names is refused exactly where no such text meets it with addresses below 15 in the place of the names, whichever the
+-- devices hold.
+pub record NamesAreMet : Type 0 where
+  pub only : (pattern text : List ℕ) (holds : List ℕ → ℕ → Bool) → IsSaid text → for_names holds (λ p. fits p text) pattern ≡ true → is_meetable pattern ≡ true
+  pub met : (pattern : List ℕ) → is_meetable pattern ≡ true → (text : List ℕ) × IsSaid text × (for_names (λ name b. true) (λ p. fits p text) pattern ≡ true)
 
 -- What the line of a reading says: a frame, with what was read in its last acknowledge slot, or the bits of one that is not
 -- complete; and then who went on to the end and who did not.

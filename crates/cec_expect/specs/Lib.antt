@@ -6,6 +6,7 @@ pub mod Said
 pub mod Line
 pub mod Fault
 pub mod Form
+pub mod Names
 pub mod Faults
 pub mod Labels
 pub mod Laws

@@ -45,15 +45,19 @@ is_pulse words = has_verb (codes "pulse") words
 abbrev pub is_pull : List (List ℕ) → Bool
 is_pull words = has_verb (codes "pull") words
 
--- what a label may stand before: an expectation, an event, a pulse or a pull
-abbrev pub is_labelable : List (List ℕ) → Bool
-is_labelable words = is_expectation words || is_event words || is_pulse words || is_pull words
+-- `pin ..`
+abbrev pub is_pin : List (List ℕ) → Bool
+is_pin words = has_verb (codes "pin") words
 
--- `pulse T D`, `pull T D`: its onset
+-- what a label may stand before: an expectation, an event, a pulse, a pull or a level of the pin
+abbrev pub is_labelable : List (List ℕ) → Bool
+is_labelable words = is_expectation words || is_event words || is_pulse words || is_pull words || is_pin words
+
+-- `pulse T D`, `pull T D`, `pin T LEVEL`: its onset
 abbrev pub onset_in : List (List ℕ) → Option ℕ
 onset_in [] = None
 onset_in (verb ∷ []) = None
-onset_in (verb ∷ time ∷ words) = if bytes_eq verb (codes "pulse") || bytes_eq verb (codes "pull") then number_of time else None
+onset_in (verb ∷ time ∷ words) = if bytes_eq verb (codes "pulse") || bytes_eq verb (codes "pull") || bytes_eq verb (codes "pin") then number_of time else None
 
 -- what is left of these words in a script without expectations
 abbrev pub plain_words : List (List ℕ) → List ℕ
@@ -82,7 +86,7 @@ is_before time [] = false
 is_before time (verb ∷ []) = false
 is_before time (verb ∷ at ∷ words) = is_sooner time (number_of at)
 
--- an event at this time or later is left out, and the end is at this time; pulses, pulls and comments are kept
+-- an event at this time or later is left out, and the end is at this time; pulses, pulls, levels of the pin and comments are kept
 abbrev pub cut_line : ℕ → List ℕ → List ℕ
 cut_line time line =
     if is_skipped line then line

@@ -1,7 +1,7 @@
 -- What the line of a round can say, and the patterns that none meets. A complete reading shows its frame (CEC 6: header, opcode,
 -- operands) and its verdict, another one its bits; then stands who was still sending at the end, and who had stopped. How each is
 -- spelled is this profile's own. The line of a reading of a capture is the front of such a line.
-use Rattle.std.specs.Prelude.{◌≡◌, ℕ, zero, suc, ◌+◌, ◌<◌, ◌==◌, ◌⊎◌, ◌||◌, true, false, Bool, if◌then◌else◌, codes, List, [], ◌∷◌, ◌++◌, map, slice_get, take, Some}
+use Rattle.std.specs.Prelude.{◌≡◌, ℕ, zero, suc, ◌<◌, ◌⊎◌, ◌||◌, true, false, Bool, if◌then◌else◌, codes, List, [], ◌∷◌, ◌++◌, map, slice_get, Some}
 use Rattle.std.specs.List.{list_any}
 use Rattle.cec_frame.specs.declared.Ending.{Ending}
 use Rattle.cec_frame.specs.declared.Ending.TheVariants.{Short, Silent, BadStart, Long, Open}
@@ -127,16 +127,3 @@ is_ending_met pattern ending = is_met (bits_parts ending) pattern || is_met (bit
 unfoldable pub is_said : List ℕ → Bool
 is_said pattern =
     list_any (is_ending_met pattern) (Short ∷ Silent ∷ BadStart ∷ Long ∷ Open ∷ []) || (is_complete_met pattern false || is_complete_met pattern true)
-
--- ---- words at fault
-
--- The word at fault of a pattern that is met by no line: the first with which its front is. At this place, in the word of this
--- number, these bytes are left.
-abbrev pub unmet_from : List ℕ → ℕ → ℕ → List ℕ → ℕ
-unmet_from pattern place number [] = number
-unmet_from pattern place number (b ∷ bs) =
-    if b == 32 then (if is_said (take place pattern) then unmet_from pattern (place + 1) (number + 1) bs else number)
-    else unmet_from pattern (place + 1) number bs
-
-abbrev pub unmet_word : List ℕ → ℕ
-unmet_word pattern = unmet_from pattern 0 0 pattern

@@ -7,7 +7,7 @@ use Rattle.cec_expect.specs.Parts.{has}
 use Rattle.cec_expect.specs.StateWords.{key, note_parts, number_parts, physical_parts, value_of}
 use Rattle.cec_expect.specs.declared.part.Part.{Part}
 use Rattle.cec_expect.specs.declared.part.Part.TheVariants.{Byte, One, Many, Word, Opcode}
-use Rattle.cec_expect.specs.declared.part.Class.TheVariants.{Digit, Hex}
+use Rattle.cec_expect.specs.declared.part.Class.TheVariants.{Hex}
 use Rattle.cec_expect.specs.declared.state_words.Field.{Field}
 use Rattle.cec_expect.specs.declared.state_words.Field.TheVariants.{Active, Path, Deck, Menu, Audio, Volume, Mute, Arc, Selected, Language, Osd, Held, Heard, Sub, Queue, Dropped}
 use Rattle.cec_expect.specs.declared.state_words.Value.{Value}

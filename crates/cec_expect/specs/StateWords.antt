@@ -1,13 +1,11 @@
 -- The words that a device's state line can have after the device's name (own), whatever the device and its kind. How many digits a
 -- number has, and whether they are of a value that the device can have, is not looked at.
-use Rattle.std.specs.Prelude.{◌≡◌, ℕ, ◌+◌, ◌==◌, nat_lt, ◌&&◌, ◌||◌, ◌⊎◌, ◌↔◌, not, Bool, true, false, if◌then◌else◌, codes, length, List, [], ◌∷◌, ◌++◌, Option, Some, None}
-use Rattle.std.specs.Str.{bytes_eq}
-use Rattle.std.specs.List.{list_any}
+use Rattle.std.specs.Prelude.{◌≡◌, ℕ, ◌⊎◌, codes, List, [], ◌∷◌, ◌++◌}
 use Rattle.hdmi_core.specs.Kind.{kind_word}
 use Rattle.hdmi_core.specs.declared.kind.Kind.{Kind}
-use Rattle.cec_expect.specs.Parts.{IsTextOf, has}
+use Rattle.cec_expect.specs.Parts.{IsTextOf}
 use Rattle.cec_expect.specs.declared.part.Part.{Part}
-use Rattle.cec_expect.specs.declared.part.Part.TheVariants.{Byte, One, Many, Word, Opcode}
+use Rattle.cec_expect.specs.declared.part.Part.TheVariants.{Byte, One, Many}
 use Rattle.cec_expect.specs.declared.part.Class.TheVariants.{Digit, Hex}
 use Rattle.cec_expect.specs.declared.state_words.Field.{Field}
 use Rattle.cec_expect.specs.declared.state_words.Field.TheVariants.{Active, Path, Deck, Menu, Audio, Volume, Mute, Arc, Selected, Language, Osd, Held, Heard, Sub, Queue, Dropped}

@@ -1,18 +1,20 @@
 //! The first line of a script at fault.
-ghost use Rattle.std.specs.Prelude.{◌≡◌, IfErr, IfOk, IfSome};
+ghost use Rattle.std.specs.Prelude.{◌≡◌, ◌≤◌, IfErr, IfOk, IfSome};
 ghost use Rattle.std.specs.Option.{option_copied, option_map};
 ghost use Rattle.hdmi_core.specs.Words.{words_after, words_of};
 ghost use Rattle.cec_expect.specs.Fault.{IsNear, after_label};
 ghost use Rattle.cec_expect.specs.Form.{IsForm, form_as, window_of};
 ghost use Rattle.cec_expect.specs.Line.{unlabelled_words};
+ghost use Rattle.cec_expect.specs.Names.{named_as};
 ghost use Rattle.cec_expect.specs.StateTest.{strange_word};
-ghost use Rattle.cec_expect.specs.Faults.{declared_in, end_in, ends_before, first_fault, form_fault, is_above, is_declared, is_line, is_named, is_own_label, is_past, is_refusal, is_strange, labelled_form, line_fault, or_fault, pattern_fault, refusal_fault, state_fault, strange_fault, window_fault};
+ghost use Rattle.cec_expect.specs.Faults.{declared_in, end_in, ends_before, first_fault, form_fault, has_strange_name, is_above, is_declared, is_line, is_named, is_own_label, is_past, is_refusal, is_strange, is_strange_name, labelled_form, line_fault, or_fault, pattern_fault, refusal_fault, refusal_word, state_fault, strange_at, strange_fault, window_fault};
 
 use crate::fault::{LineFault, after_label, at_word};
 use crate::form::{ExpectCause, Form, Quantity, Window, form_in, in_window};
 use crate::labels::Labels;
 use crate::line::{is_labelable, unlabelled};
-use crate::said::{is_said, unmet_word};
+use crate::named::Named;
+use crate::names::{is_meetable, named_in, unmet_word};
 use crate::state_words::strange_word;
 use hdmi_core::{first_line, first_word, number_in};
 use std::alloc::{AllocError, Global};
@@ -155,7 +157,7 @@ fn pattern_fault(quantity: Quantity, pattern: &[u8]) -> Option<LineFault>
     ensures value { result ≡ pattern_fault quantity pattern.now }
     ensures near { IfSome result IsNear }
 {
-    if is_said(pattern) {
+    if is_meetable(pattern) {
         None
     } else {
         Some(in_window(quantity, 4 + unmet_word(pattern), ExpectCause::Unmet))
@@ -194,16 +196,32 @@ fn is_refusal(word: &[u8]) -> bool
         || word == b"no-address".as_slice()
 }
 
-fn refusal_fault(labels: &Labels<'_>, number: u64, name: &[u8], word: &[u8]) -> Option<LineFault>
-    ensures value { result ≡ refusal_fault labels.now.script.now number name.now word.now }
+// The number of the word with which an event is refused.
+fn refusal_word(label: Option<&[u8]>) -> usize
+    ensures value { result ≡ refusal_word (option_copied label.entry) }
+    ensures few { result ≤ 3 }
+{
+    match label {
+        None => 2,
+        Some(_) => 3,
+    }
+}
+
+fn refusal_fault(
+    labels: &Labels<'_>,
+    number: u64,
+    label: Option<&[u8]>,
+    word: &[u8],
+) -> Option<LineFault>
+    ensures value { result ≡ refusal_fault labels.now.script.now number (option_copied label.entry) word.now }
     ensures near { IfSome result IsNear }
 {
-    if !is_above(number, labels.event_of(name)) {
+    if !is_above(number, labels.event_meant(number, label)) {
         Some(at_word(2, ExpectCause::Label))
     } else if is_refusal(word) {
         None
     } else {
-        Some(at_word(3, ExpectCause::Unmet))
+        Some(at_word(refusal_word(label), ExpectCause::Unmet))
     }
 }
 
@@ -244,15 +262,48 @@ fn form_fault(labels: &Labels<'_>, number: u64, form: Form) -> Option<LineFault>
     }
 }
 
+fn is_strange_name(topology: &[u8], named: Option<Named>) -> bool
+    ensures { result ≡ is_strange_name topology.now (option_map named_as named.entry) }
+{
+    match named {
+        None => false,
+        Some(named) => !is_declared(topology, named.name),
+    }
+}
+
+fn has_strange_name(topology: &[u8], named: Option<Named>) -> bool
+    ensures { result ≡ has_strange_name topology.now (option_map named_as named.entry) }
+{
+    match named {
+        None => false,
+        Some(named) => {
+            !is_declared(topology, named.name) || is_strange_name(topology, named_in(named.rest))
+        }
+    }
+}
+
 // Whether a form names a device that is not declared.
 fn is_strange(topology: &[u8], form: Form) -> bool
     ensures { result ≡ is_strange topology.now (form_as form.entry) }
 {
     match form {
         Form::Other => false,
-        Form::Rounds { .. } => false,
+        Form::Rounds { pattern, .. } => has_strange_name(topology, named_in(pattern)),
         Form::State { device, .. } => !is_declared(topology, device),
         Form::Refused { .. } => false,
+    }
+}
+
+// The word that names it.
+fn strange_at(form: Form) -> LineFault
+    ensures value { result ≡ strange_at (form_as form.entry) }
+    ensures near { IsNear result }
+{
+    match form {
+        Form::Other => at_word(3, ExpectCause::Name),
+        Form::Rounds { quantity, .. } => in_window(quantity, 4, ExpectCause::Name),
+        Form::State { .. } => at_word(3, ExpectCause::Name),
+        Form::Refused { .. } => at_word(3, ExpectCause::Name),
     }
 }
 
@@ -286,7 +337,7 @@ fn line_fault(topology: &[u8], labels: &Labels<'_>, number: u64, line: &[u8]) ->
         Err(fault) => Some(after_label(line.label, fault)),
         Ok(form) => {
             if is_strange(topology, form) {
-                Some(after_label(line.label, at_word(3, ExpectCause::Name)))
+                Some(after_label(line.label, strange_at(form)))
             } else if is_own_label(labels, number, line.label) {
                 any_after_label(line.label, form_fault(labels, number, form))
             } else {

@@ -27,7 +27,8 @@ pub enum ExpectCause {
     /// A device that the topology does not declare.
     #[error("name")]
     Name,
-    /// A label that stands above already; one that no line above has; for a refusal, one that is no event's.
+    /// A label that stands above already; one that no line above has; for a refusal, one that is no event's, or no event's line
+    /// just above.
     #[error("label")]
     Label,
     /// The window ends before it begins, or the time of a state is past the end.
@@ -78,9 +79,9 @@ pub enum Form<'a> {
         device: &'a [u8],
         words: &'a [u8],
     },
-    /// The event with the label is refused with the word.
+    /// The event with the label, or else that of the line above, is refused with the word.
     Refused {
-        label: &'a [u8],
+        label: Option<&'a [u8]>,
         word: &'a [u8],
     },
 }
@@ -405,13 +406,19 @@ fn refused_in<'a>(rest: Option<&'a [u8]>) -> Result<Form<'a>, LineFault>
     let Some(text) = rest else {
         return Err(at_word(2, ExpectCause::Word));
     };
-    let (label, rest) = first_word(text);
+    let (first, rest) = first_word(text);
     let Some(text) = rest else {
-        return Err(at_word(3, ExpectCause::Word));
+        return Ok(Form::Refused {
+            label: None,
+            word: first,
+        });
     };
     let (word, rest) = first_word(text);
     match rest {
-        None => Ok(Form::Refused { label, word }),
+        None => Ok(Form::Refused {
+            label: Some(first),
+            word,
+        }),
         Some(text) => {
             let (_word, _words) = first_word(text);
             Err(at_word(4, ExpectCause::Word))

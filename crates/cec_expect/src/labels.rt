@@ -1,24 +1,28 @@
 //! The labels of a script, read once.
-ghost use Rattle.std.specs.Prelude.{◌≡◌, if◌then◌else◌, true, List, ℕ, IfOk, OnOk};
+ghost use Rattle.std.specs.Prelude.{◌≡◌, ◌||◌, if◌then◌else◌, true, List, ℕ, IfOk, OnOk, nat_eq};
 ghost use Rattle.std.specs.HashMap.{get_by};
+ghost use Rattle.std.specs.HashSet.{contains};
+ghost use Rattle.std.specs.Option.{option_copied};
 ghost use Rattle.std.specs.Str.{bytes_eq};
 ghost use Rattle.hdmi_core.specs.Lines.{lines_of};
-ghost use Rattle.cec_expect.specs.Faults.{event_labelled, is_event_line, line_of_label, labelled_from};
+ghost use Rattle.cec_expect.specs.Faults.{event_above, event_labelled, event_meant, is_event_at, is_event_line, is_event_on, line_of_label, labelled_from};
 ghost use Rattle.cec_expect.specs.Labels.{labelled_on, or_line};
 
 use crate::line::{has_verb, unlabelled};
 use hdmi_core::first_line;
 use std::alloc::{AllocError, Global};
-use std::collections::HashMap;
+use std::collections::{HashMap, HashSet};
 
-/// The first line of each label of a script, and the first event of each.
+/// The first line of each label of a script, the first event of each, and which lines are events'.
 #[derive(Drop)]
 pub struct Labels<'a> {
     pub script: &'a [u8],
     lines: HashMap<&'a [u8], u64>,
     events: HashMap<&'a [u8], u64>,
+    event_lines: HashSet<u64>,
     ghost lines_are: { (name : List ℕ) → get_by (λ k. bytes_eq name k.now) lines ≡ line_of_label script.now name },
     ghost events_are: { (name : List ℕ) → get_by (λ k. bytes_eq name k.now) events ≡ event_labelled script.now name },
+    ghost event_lines_are: { (number : ℕ) → contains nat_eq event_lines number ≡ is_event_at script.now number },
 }
 
 fn is_event_line(line: &[u8]) -> bool
@@ -92,6 +96,36 @@ fn first_lines<'a>(
     Ok(lines)
 }
 
+// Notes the number of a line, where it is an event's.
+#[tactic(auto, using(crate::proofs::Marking::no_more, crate::proofs::Marking::put))]
+fn note_event(lines: &mut HashSet<u64>, number: u64, line: &[u8]) -> Result<(), AllocError>
+    ensures { OnOk result ((other : ℕ) → contains nat_eq lines.new other ≡ (contains nat_eq lines.old other || is_event_on number line.now other)) }
+{
+    if !is_event_line(line) {
+        return Ok(());
+    }
+    match lines.insert(number) {
+        Ok(_) => Ok(()),
+        Err(_) => Err(AllocError),
+    }
+}
+
+// Which lines of a script are events'.
+#[tactic(auto, using(crate::proofs::Marking::one_more, crate::proofs::Marking::all_noted))]
+fn event_lines(alloc: Global, script: &[u8]) -> Result<HashSet<u64>, AllocError>
+    ensures { IfOk result (λ lines. (number : ℕ) → contains nat_eq lines number ≡ is_event_at script.now number) }
+{
+    let mut lines = HashSet::new(alloc);
+    let mut rest = script;
+    let mut number = 1u64;
+    'lines: while let Some((line, after)) = first_line(rest) {
+        note_event(&mut lines, number, line)?;
+        rest = after;
+        number += 1;
+    }
+    Ok(lines)
+}
+
 impl<'a> Labels<'a> {
     /// Reads the labels of a script.
     ///
@@ -103,10 +137,12 @@ impl<'a> Labels<'a> {
     {
         let lines = first_lines(alloc, false, script)?;
         let events = first_lines(alloc, true, script)?;
+        let event_lines = event_lines(alloc, script)?;
         Ok(Labels {
             script,
             lines,
             events,
+            event_lines,
         })
     }
 
@@ -122,5 +158,27 @@ impl<'a> Labels<'a> {
         ensures { result ≡ event_labelled self.now.script.now name.now }
     {
         self.events.get(name).copied()
+    }
+
+    // The line above the line of this number, where it is an event's.
+    fn event_above(&self, number: u64) -> Option<u64>
+        ensures { result ≡ event_above self.now.script.now number }
+    {
+        let above = number.saturating_sub(1);
+        if self.event_lines.contains(&above) {
+            Some(above)
+        } else {
+            None
+        }
+    }
+
+    /// The event that a line of this number speaks of, by its line: the first one with the label, or else the one above.
+    pub fn event_meant(&self, number: u64, label: Option<&[u8]>) -> Option<u64>
+        ensures { result ≡ event_meant self.now.script.now number (option_copied label.entry) }
+    {
+        match label {
+            None => self.event_above(number),
+            Some(name) => self.event_of(name),
+        }
     }
 }

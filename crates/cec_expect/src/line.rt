@@ -54,7 +54,7 @@ pub(crate) fn has_verb(verb: &[u8], rest: Option<&[u8]>) -> bool
     }
 }
 
-/// Whether a label may stand before these words: those of an expectation, an event, a pulse or a pull.
+/// Whether a label may stand before these words: those of an expectation, an event, a pulse, a pull or a level of the pin.
 pub(crate) fn is_labelable(rest: Option<&[u8]>) -> bool
     ensures { result ≡ is_labelable (words_after (option_copied rest.entry)) }
 {
@@ -62,15 +62,17 @@ pub(crate) fn is_labelable(rest: Option<&[u8]>) -> bool
         || has_verb(b"at", rest)
         || has_verb(b"pulse", rest)
         || has_verb(b"pull", rest)
+        || has_verb(b"pin", rest)
 }
 
-/// The onset of a pulse or a pull, by its line without a label.
+/// The onset of a pulse or a pull, or the time of a level of the pin, by its line without a label.
 pub fn onset_in(rest: Option<&[u8]>) -> Option<u64>
     ensures { result ≡ onset_in (words_after (option_copied rest.entry)) }
 {
     let (verb, rest) = first_word(rest?);
     let (time, _others) = first_word(rest?);
-    if verb == b"pulse".as_slice() || verb == b"pull".as_slice() {
+    let is_pulled = verb == b"pulse".as_slice() || verb == b"pull".as_slice();
+    if is_pulled || verb == b"pin".as_slice() {
         number_in(time)
     } else {
         None

@@ -6,13 +6,12 @@ ghost use Rattle.cec_text.specs.ReadingText.{verdict_by};
 ghost use Rattle.cec_expect.specs.Parts.{is_met};
 ghost use Rattle.cec_expect.specs.declared.part.Part.TheVariants.{Many};
 ghost use Rattle.cec_expect.specs.declared.part.Class.TheVariants.{Any, Digit};
-ghost use Rattle.cec_expect.specs.Said.{any_below, bitless_parts, bits_parts, ending_word, header_parts, is_complete_met, is_ending_met, is_opcode_met, is_operand_met, is_poll_met, is_said, literal, opcode_parts, operand_parts, quoted_parts, raw_parts, sender_parts, unmet_from, unmet_word, verdict_parts, worded_parts};
+ghost use Rattle.cec_expect.specs.Said.{any_below, bitless_parts, bits_parts, ending_word, header_parts, is_complete_met, is_ending_met, is_opcode_met, is_operand_met, is_poll_met, is_said, literal, opcode_parts, operand_parts, quoted_parts, raw_parts, sender_parts, verdict_parts, worded_parts};
 
 use crate::part::{Class, Part, is_met};
 use arrayvec::ArrayVec;
 use cec_frame::Ending;
 use cec_opcode::{Operand, Operands, operands_of};
-use hdmi_core::before;
 
 /// A few parts of a line.
 type Parts = ArrayVec<Part, 48>;
@@ -309,25 +308,4 @@ pub fn is_said(pattern: &[u8]) -> bool
         || is_ending_met(pattern, Ending::Open)
         || is_complete_met(pattern, false)
         || is_complete_met(pattern, true)
-}
-
-/// The word at fault of a pattern that no line meets, counted from 0: the first with which its front is met by none.
-pub(crate) fn unmet_word(pattern: &[u8]) -> usize
-    ensures value { result ≡ unmet_word pattern.now }
-    ensures near { result < 2 ^ 63 }
-{
-    let mut rest = pattern;
-    let mut place = 0usize;
-    let mut number = 0usize;
-    'bytes: while let [byte, others @ ..] = rest {
-        if *byte == b' ' {
-            if !is_said(before(pattern, place)) {
-                return number;
-            }
-            number += 1;
-        }
-        place += 1;
-        rest = others;
-    }
-    number
 }

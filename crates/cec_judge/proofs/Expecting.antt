@@ -1,7 +1,7 @@
 -- The refused events that a script expects, read once, are those that are found line by line.
-use Rattle.std.proofs.Common.{◌≡◌, ℕ, ◌==◌, ◌||◌, Bool, true, false, cond, List, [], ◌∷◌, nat_eq, refl, sym, ap, ◌∙◌}
+use Rattle.std.proofs.Common.{◌≡◌, ℕ, ◌+◌, ◌==◌, ◌||◌, Bool, true, false, cond, List, [], ◌∷◌, nat_eq, refl, sym, ap, ◌∙◌}
 use Rattle.std.specs.HashSet.{HashSet, Updates, contains}
-use Rattle.std.specs.List.{list_any}
+use Rattle.cec_judge.specs.Judged.{line_expects, lines_expect}
 
 or_not : (b : Bool) → (b || false) ≡ b
 or_not true = refl
@@ -26,8 +26,9 @@ or_assoc true b c = refl
 or_assoc false b c = refl
 
 -- a line more
-pub one_more : (f : List ℕ → Bool) (a : Bool) (line : List ℕ) (rest : List (List ℕ)) → ((a || f line) || list_any f rest) ≡ (a || list_any f (line ∷ rest))
-one_more f a line rest = or_assoc a (f line) (list_any f rest)
+pub one_more : (a : Bool) (script : List ℕ) (own number : ℕ) (line : List ℕ) (rest : List (List ℕ))
+    → ((a || line_expects script own number line) || lines_expect script (own + 1) number rest) ≡ (a || lines_expect script own number (line ∷ rest))
+one_more a script own number line rest = or_assoc a (line_expects script own number line) (lines_expect script (own + 1) number rest)
 
-pub all_noted : (f : List ℕ → Bool) (a : Bool) (lines : List (List ℕ)) → lines ≡ [] → (a || list_any f lines) ≡ a
-all_noted f a lines none = ap (λ (ls : List (List ℕ)). a || list_any f ls) none ∙ or_not a
+pub all_noted : (a : Bool) (script : List ℕ) (own number : ℕ) (lines : List (List ℕ)) → lines ≡ [] → (a || lines_expect script own number lines) ≡ a
+all_noted a script own number lines none = ap (λ (ls : List (List ℕ)). a || lines_expect script own number ls) none ∙ or_not a

@@ -1,26 +1,26 @@
--- The lines of a script that have a label, read once, are those that are found line by line.
-use Rattle.std.proofs.Common.{◌≡◌, ℕ, ◌+◌, ◌==◌, ◌&&◌, ◌||◌, Bool, true, false, cond, if◌then◌else◌, List, [], ◌∷◌, is_some, Option, Some, None, nat_eq, refl, sym, ap, subst, ◌∙◌, arith}
+-- The lines of a script that others speak of, read once, are those that are found line by line.
+use Rattle.std.proofs.Common.{◌≡◌, ℕ, ◌+◌, ◌-◌, ◌==◌, ◌&&◌, ◌||◌, Bool, true, false, cond, if◌then◌else◌, List, [], ◌∷◌, is_some, Option, Some, None, nat_eq, refl, sym, ap, subst, ◌∙◌, arith}
 use Rattle.std.specs.HashSet.{HashSet, Updates, contains}
 use Rattle.std.proofs.lemmas.Bool.{false≢true}
 use Rattle.std.proofs.lemmas.Bool.Decides.{nat_tests}
 use Rattle.hdmi_core.specs.Words.{words_of}
 use Rattle.cec_expect.specs.Line.{label_in}
 use Rattle.cec_expect.specs.Faults.{has_label, is_event_line, is_named as bears, labelled_from}
-use Rattle.cec_judge.specs.Named.{is_labelled, name_lines, names_line}
+use Rattle.cec_judge.specs.Named.{is_labelled, is_of_above, name_lines, names_line}
 
 or_not : (b : Bool) → (b || false) ≡ b
 or_not true = refl
 or_not false = refl
 
--- a line without a label
-pub no_more : (a : Bool) (number other : ℕ) (line : List ℕ) → is_labelled line ≡ false → a ≡ (a || names_line number line other)
-no_more a number other line none = sym (ap (λ b. a || (b && (number == other))) none ∙ or_not a)
+-- a number that is not looked for
+pub no_more : (a is : Bool) (number other : ℕ) → is ≡ false → a ≡ (a || (is && (number == other)))
+no_more a is number other none = sym (ap (λ b. a || (b && (number == other))) none ∙ or_not a)
 
 -- one that is put
-pub put : {S : Type 0} (number : ℕ) (line : List ℕ) (s n : HashSet ℕ S) → is_labelled line ≡ true → Updates nat_eq s n number true
-    → (other : ℕ) → contains nat_eq n other ≡ (contains nat_eq s other || names_line number line other)
-put number line s n is updates other =
-    updates.0 other ∙ by (nat_eq number other) (contains nat_eq s other) ∙ ap (λ b. contains nat_eq s other || (b && (number == other))) (sym is)
+pub put : {S : Type 0} (number : ℕ) (s n : HashSet ℕ S) (is : Bool) → is ≡ true → Updates nat_eq s n number true
+    → (other : ℕ) → contains nat_eq n other ≡ (contains nat_eq s other || (is && (number == other)))
+put number s n is so updates other =
+    updates.0 other ∙ by (nat_eq number other) (contains nat_eq s other) ∙ ap (λ b. contains nat_eq s other || (b && (number == other))) (sym so)
   where
     by : (b c : Bool) → cond b true c ≡ (c || (true && b))
     by true true = refl
@@ -31,6 +31,10 @@ put number line s n is updates other =
 or_assoc : (a b c : Bool) → ((a || b) || c) ≡ (a || (b || c))
 or_assoc true b c = refl
 or_assoc false b c = refl
+
+-- one and then another
+pub both_noted : (a b c x y : Bool) → b ≡ (a || x) → c ≡ (b || y) → c ≡ (a || (x || y))
+both_noted a b c x y first second = second ∙ ap (λ d. d || y) first ∙ or_assoc a x y
 
 -- a line more
 pub one_more : (a : Bool) (number other : ℕ) (line : List ℕ) (rest : List (List ℕ))
@@ -71,7 +75,9 @@ label_names of_events number (line ∷ lines) name found h =
     by (has_label name line && (if of_events then is_event_line line else true)) refl h (λ k. label_names of_events (number + 1) lines name found k)
   where
     here : (b : Bool) → is_labelled line ≡ b → b ≡ true → number ≡ found → names_line number line found ≡ true
-    here b e k is = ap (λ c. c && (number == found)) (e ∙ k) ∙ subst (λ n. (number == n) ≡ true) is (same number)
+    here b e k is =
+        left_so (is_labelled line && (number == found)) (is_of_above line && (number - 1 == found))
+        (ap (λ c. c && (number == found)) (e ∙ k) ∙ subst (λ n. (number == n) ≡ true) is (same number))
 
     by : (b : Bool) → (has_label name line && (if of_events then is_event_line line else true)) ≡ b → (if b then Some number else labelled_from of_events (number + 1) lines name) ≡ Some found
         → (labelled_from of_events (number + 1) lines name ≡ Some found → name_lines (number + 1) lines found ≡ true)

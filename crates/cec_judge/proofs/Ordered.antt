@@ -3,7 +3,7 @@ use Rattle.std.proofs.Common.{◌≡◌, ℕ, ◌+◌, ◌<◌, ◌≤◌, ◌&&
 use Rattle.std.specs.List.{cons_option}
 use Rattle.std.proofs.lemmas.Bool.{false≢true}
 use Rattle.std.proofs.lemmas.Grind.{common_steps}
-use Rattle.cec_expect.specs.Fits.{fits}
+use Rattle.cec_expect.specs.Names.{meets}
 use Rattle.cec_judge.specs.Told.{round_as}
 use Rattle.cec_judge.specs.Seen.{end_by, is_seen, or_first}
 use Rattle.cec_judge.specs.Index.{are_in_order, ends_among, leads, lines_among}
@@ -48,7 +48,7 @@ begins r (next ∷ rounds) (suc place) d h k =
     omega (arith, first, more)
 
 early : (span : Span) (pattern : List ℕ) (r : RoundRead) → r.begin < span.from → end_by span pattern (Some (round_as r)) ≡ None
-early span pattern r h = ap (λ b. if b then Some r.at else None) (first_false (nat_le span.from r.begin) (nat_le r.at span.to) (fits pattern r.reported.now) (above span.from r.begin h))
+early span pattern r h = ap (λ b. if b then Some r.at else None) (first_false (nat_le span.from r.begin) (nat_le r.at span.to) (meets pattern r.reported.now) (above span.from r.begin h))
 
 left_out : (rounds : List RoundRead) (place : ℕ) (d : RoundRead) (span : Span) (pattern : List ℕ) → are_in_order rounds ≡ true → place < length rounds → (get_or rounds place d).begin < span.from
     → ends_among (map round_as (drop (suc place) rounds)) span pattern ≡ ends_among (map round_as rounds) span pattern
@@ -74,7 +74,7 @@ still_in_order (r ∷ rounds) (suc count) h = still_in_order rounds count (right
 -- ---- rounds that ended after a span
 
 late : (span : Span) (pattern : List ℕ) (r : RoundRead) → span.to < r.at → end_by span pattern (Some (round_as r)) ≡ None
-late span pattern r h = ap (λ b. if b then Some r.at else None) (second_false (nat_le span.from r.begin) (nat_le r.at span.to) (fits pattern r.reported.now) (above r.at span.to h))
+late span pattern r h = ap (λ b. if b then Some r.at else None) (second_false (nat_le span.from r.begin) (nat_le r.at span.to) (meets pattern r.reported.now) (above r.at span.to h))
 
 all_late : (r : RoundRead) (others : List RoundRead) (span : Span) (pattern : List ℕ) → are_in_order (r ∷ others) ≡ true → span.to < r.at → ends_among (map round_as (r ∷ others)) span pattern ≡ []
 all_late r [] span pattern h k = ap (λ (o : Option ℕ). cons_option o []) (late span pattern r k)
@@ -109,10 +109,10 @@ one_among r rounds span pattern = by (is_seen span pattern (round_as r))
     by false = refl
 
 unseen_early : (span : Span) (pattern : List ℕ) (r : RoundRead) → r.begin < span.from → is_seen span pattern (round_as r) ≡ false
-unseen_early span pattern r h = first_false (nat_le span.from r.begin) (nat_le r.at span.to) (fits pattern r.reported.now) (above span.from r.begin h)
+unseen_early span pattern r h = first_false (nat_le span.from r.begin) (nat_le r.at span.to) (meets pattern r.reported.now) (above span.from r.begin h)
 
 unseen_late : (span : Span) (pattern : List ℕ) (r : RoundRead) → span.to < r.at → is_seen span pattern (round_as r) ≡ false
-unseen_late span pattern r h = second_false (nat_le span.from r.begin) (nat_le r.at span.to) (fits pattern r.reported.now) (above r.at span.to h)
+unseen_late span pattern r h = second_false (nat_le span.from r.begin) (nat_le r.at span.to) (meets pattern r.reported.now) (above r.at span.to h)
 
 left_out_line : (r : RoundRead) (rounds : List RoundRead) (span : Span) (pattern : List ℕ) → is_seen span pattern (round_as r) ≡ false → lines_among (r ∷ rounds) span pattern ≡ lines_among rounds span pattern
 left_out_line r rounds span pattern h = one_among r rounds span pattern ∙ ap (λ b. with_line b r (lines_among rounds span pattern)) h

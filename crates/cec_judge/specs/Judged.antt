@@ -1,6 +1,6 @@
 -- What is found of each line of a script, by the trace and, of each line, the state line that it speaks of (own). Lines count
 -- from 1.
-use Rattle.std.specs.Prelude.{ℕ, ◌+◌, ◌-◌, ◌^◌, ◌==◌, nat_lt, min, not, codes, Bool, true, false, if◌then◌else◌, length, List, [], ◌∷◌, Option, Some, None, Result, Ok, Err}
+use Rattle.std.specs.Prelude.{ℕ, ◌+◌, ◌-◌, ◌^◌, ◌==◌, nat_lt, min, ◌||◌, not, codes, Bool, true, false, if◌then◌else◌, length, List, [], ◌∷◌, Option, Some, None, Result, Ok, Err}
 use Rattle.std.specs.Str.{bytes_eq}
 use Rattle.std.specs.List.{list_all, list_any}
 use Rattle.hdmi_core.specs.Lines.{lines_of}
@@ -9,7 +9,7 @@ use Rattle.cec_expect.specs.Line.{onset_in, unlabelled_words}
 use Rattle.cec_expect.specs.Form.{Form, Window, form_in}
 use Rattle.cec_expect.specs.Form.Form.{Other, Rounds, State, Refused}
 use Rattle.cec_expect.specs.Form.Window.{Within, From}
-use Rattle.cec_expect.specs.Faults.{line_of_label, event_labelled}
+use Rattle.cec_expect.specs.Faults.{line_of_label, event_meant}
 use Rattle.cec_expect.specs.declared.fault.LineFault.{LineFault}
 use Rattle.cec_expect.specs.declared.form.Quantity.{Quantity}
 use Rattle.cec_expect.specs.declared.form.Quantity.TheVariants.{AtLeastOnce, Never, Once}
@@ -98,8 +98,9 @@ abbrev pub is_word : List ℕ → Option (List ℕ) → Bool
 is_word word None = false
 is_word word (Some other) = bytes_eq other word
 
-abbrev pub refused_judged : List ℕ → List ℕ → List ℕ → List ℕ → Judged
-refused_judged script trace name word = record { holds = Some (is_word word (refusal_at trace (event_labelled script name))); at = None; span = None; count = 0 }
+-- of a line of this number that names the event of a label, or else that of the line above
+abbrev pub refused_judged : List ℕ → List ℕ → ℕ → Option (List ℕ) → List ℕ → Judged
+refused_judged script trace number name word = record { holds = Some (is_word word (refusal_at trace (event_meant script number name))); at = None; span = None; count = 0 }
 
 -- ---- lines
 
@@ -126,7 +127,7 @@ form_judged script trace state at number named onset (Err cause) = failure
 form_judged script trace state at number named onset (Ok Other) = if named then other_judged trace number onset else nothing
 form_judged script trace state at number named onset (Ok (Rounds quantity window pattern)) = rounds_judged trace quantity pattern (span_of script at window)
 form_judged script trace state at number named onset (Ok (State time device words)) = state_judged state words
-form_judged script trace state at number named onset (Ok (Refused name word)) = refused_judged script trace name word
+form_judged script trace state at number named onset (Ok (Refused name word)) = refused_judged script trace number name word
 
 -- a line of this number, by the instants of the lines above and the state line that it speaks of
 abbrev pub line_judged : List ℕ → List ℕ → List ℕ → (ℕ → Option ℕ) → ℕ → List ℕ → Judged
@@ -207,16 +208,22 @@ abbrev pub is_number : ℕ → Option ℕ → Bool
 is_number number None = false
 is_number number (Some line) = line == number
 
-abbrev pub form_expects : List ℕ → ℕ → Result Form LineFault → Bool
-form_expects script number (Err cause) = false
-form_expects script number (Ok Other) = false
-form_expects script number (Ok (Rounds quantity window pattern)) = false
-form_expects script number (Ok (State time device words)) = false
-form_expects script number (Ok (Refused name word)) = is_number number (event_labelled script name)
+abbrev pub form_expects : List ℕ → ℕ → ℕ → Result Form LineFault → Bool
+form_expects script own number (Err cause) = false
+form_expects script own number (Ok Other) = false
+form_expects script own number (Ok (Rounds quantity window pattern)) = false
+form_expects script own number (Ok (State time device words)) = false
+form_expects script own number (Ok (Refused name word)) = is_number number (event_meant script own name)
 
-abbrev pub line_expects : List ℕ → ℕ → List ℕ → Bool
-line_expects script number line = form_expects script number (form_in (unlabelled_words (words_of line)))
+-- a line of the first number expects that the event of the line of the other one is refused
+abbrev pub line_expects : List ℕ → ℕ → ℕ → List ℕ → Bool
+line_expects script own number line = form_expects script own number (form_in (unlabelled_words (words_of line)))
+
+-- one of these lines does, of which the first has the first number
+abbrev pub lines_expect : List ℕ → ℕ → ℕ → List (List ℕ) → Bool
+lines_expect script own number [] = false
+lines_expect script own number (line ∷ lines) = line_expects script own number line || lines_expect script (own + 1) number lines
 
 -- a line of the script expects that the event of this line is refused
 abbrev pub is_refusal_expected : List ℕ → ℕ → Bool
-is_refusal_expected script number = list_any (line_expects script number) (lines_of script)
+is_refusal_expected script number = lines_expect script 1 number (lines_of script)

@@ -1,21 +1,37 @@
--- The lines of a script that have a label (own). Lines count from 1.
-use Rattle.std.specs.Prelude.{ℕ, ◌+◌, ◌==◌, ◌&&◌, ◌||◌, Bool, false, is_some, List, [], ◌∷◌}
+-- The lines of a script that others speak of (own): those that have a label, and those of which the line below expects that their
+-- event is refused. Lines count from 1.
+use Rattle.std.specs.Prelude.{ℕ, ◌+◌, ◌-◌, ◌==◌, ◌&&◌, ◌||◌, Bool, true, false, is_some, List, [], ◌∷◌, Some, None, Result, Ok, Err}
 use Rattle.hdmi_core.specs.Lines.{lines_of}
 use Rattle.hdmi_core.specs.Words.{words_of}
-use Rattle.cec_expect.specs.Line.{label_in}
+use Rattle.cec_expect.specs.Line.{label_in, unlabelled_words}
+use Rattle.cec_expect.specs.Form.{Form, form_in}
+use Rattle.cec_expect.specs.Form.Form.{Other, Rounds, State, Refused}
+use Rattle.cec_expect.specs.declared.fault.LineFault.{LineFault}
 
 abbrev pub is_labelled : List ℕ → Bool
 is_labelled line = is_some (label_in (words_of line))
 
--- a line with this number has a label, and the other number
-abbrev pub names_line : ℕ → List ℕ → ℕ → Bool
-names_line number line other = is_labelled line && (number == other)
+abbrev pub form_is_of_above : Result Form LineFault → Bool
+form_is_of_above (Err cause) = false
+form_is_of_above (Ok Other) = false
+form_is_of_above (Ok (Rounds quantity window pattern)) = false
+form_is_of_above (Ok (State time device words)) = false
+form_is_of_above (Ok (Refused None word)) = true
+form_is_of_above (Ok (Refused (Some name) word)) = false
 
--- one of these lines, of which the first has this number, has a label and the other number
+-- a line expects that the event of the line above is refused
+abbrev pub is_of_above : List ℕ → Bool
+is_of_above line = form_is_of_above (form_in (unlabelled_words (words_of line)))
+
+-- a line with this number has a label, and the other number, or is of the line above, which has it
+abbrev pub names_line : ℕ → List ℕ → ℕ → Bool
+names_line number line other = (is_labelled line && (number == other)) || (is_of_above line && (number - 1 == other))
+
+-- one of these lines does, of which the first has this number
 abbrev pub name_lines : ℕ → List (List ℕ) → ℕ → Bool
 name_lines number [] other = false
 name_lines number (line ∷ lines) other = names_line number line other || name_lines (number + 1) lines other
 
--- the line of this number has a label
+-- others speak of the line of this number
 abbrev pub is_named : List ℕ → ℕ → Bool
 is_named script number = name_lines 1 (lines_of script) number

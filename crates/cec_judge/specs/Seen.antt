@@ -3,13 +3,13 @@ use Rattle.std.specs.Prelude.{ℕ, nat_le, ◌&&◌, Bool, if◌then◌else◌, 
 use Rattle.std.specs.List.{filter_map}
 use Rattle.hdmi_core.specs.Lines.{lines_of}
 use Rattle.hdmi_core.specs.Words.{words_of}
-use Rattle.cec_expect.specs.Fits.{fits}
+use Rattle.cec_expect.specs.Names.{meets}
 use Rattle.cec_judge.specs.Told.{RoundLine, round_in}
 use Rattle.cec_judge.specs.declared.seen.Span.{Span}
 
 -- it began and ended within the span, and what its line says meets the pattern
 abbrev pub is_seen : Span → List ℕ → RoundLine → Bool
-is_seen span pattern r = nat_le span.from r.begin && nat_le r.at span.to && fits pattern r.reported
+is_seen span pattern r = nat_le span.from r.begin && nat_le r.at span.to && meets pattern r.reported
 
 abbrev pub end_by : Span → List ℕ → Option RoundLine → Option ℕ
 end_by span pattern None = None

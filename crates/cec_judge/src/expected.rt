@@ -30,15 +30,20 @@ fn note(lines: &mut HashSet<u64>, line: Option<u64>) -> Result<(), AllocError>
     }
 }
 
-// Notes the line of the event that a line expects to be refused.
+// Notes the line of the event that a line of this number expects to be refused.
 #[tactic(auto, using(crate::proofs::Expecting::no_more))]
-fn note_line(lines: &mut HashSet<u64>, labels: &Labels<'_>, line: &[u8]) -> Result<(), AllocError>
-    ensures { OnOk result ((number : ℕ) → contains nat_eq lines.new number ≡ (contains nat_eq lines.old number || line_expects labels.now.script.now number line.now)) }
+fn note_line(
+    lines: &mut HashSet<u64>,
+    labels: &Labels<'_>,
+    own: u64,
+    line: &[u8],
+) -> Result<(), AllocError>
+    ensures { OnOk result ((number : ℕ) → contains nat_eq lines.new number ≡ (contains nat_eq lines.old number || line_expects labels.now.script.now own number line.now)) }
 {
     match form_in(unlabelled(line).rest) {
         Err(_) => Ok(()),
         Ok(form) => match form {
-            Form::Refused { label, .. } => note(lines, labels.event_of(label)),
+            Form::Refused { label, .. } => note(lines, labels.event_meant(own, label)),
             Form::Other => Ok(()),
             Form::Rounds { .. } => Ok(()),
             Form::State { .. } => Ok(()),
@@ -58,9 +63,11 @@ impl<'a> Expected<'a> {
     {
         let mut lines = HashSet::new(alloc);
         let mut rest = labels.script;
+        let mut number = 1u64;
         'lines: while let Some((line, after)) = first_line(rest) {
-            note_line(&mut lines, labels, line)?;
+            note_line(&mut lines, labels, number, line)?;
             rest = after;
+            number += 1;
         }
         Ok(Expected {
             script: labels.script,

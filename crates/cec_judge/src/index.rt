@@ -14,7 +14,7 @@ use hdmi_core::first_line;
 use std::alloc::{AllocError, Global};
 use std::collections::HashMap;
 
-/// A trace, with its rounds in order, and the event of each line of its script that has a label.
+/// A trace, with its rounds in order, and the event of each line of its script that others speak of.
 #[derive(Drop)]
 pub(crate) struct Index<'a> {
     pub trace: &'a [u8],
@@ -65,7 +65,7 @@ fn note<'a>(
     }
 }
 
-// Notes the event of a line of the trace, where it has one of a line that has a label.
+// Notes the event of a line of the trace, where it has one of a line that others speak of.
 #[tactic(auto, using(crate::proofs::Indexed::unless, crate::proofs::Indexed::unnamed))]
 fn note_line<'a>(
     events: &mut HashMap<u64, EventLine<'a>>,
@@ -84,7 +84,7 @@ fn note_line<'a>(
     note(events, event)
 }
 
-// The event of each line that has a label, as the trace has it.
+// The event of each line that others speak of, as the trace has it.
 #[tactic(auto, using(crate::proofs::Indexed::one_more, crate::proofs::Indexed::no_more))]
 fn named_events<'a>(
     alloc: Global,
@@ -103,7 +103,7 @@ fn named_events<'a>(
 }
 
 impl<'a> Index<'a> {
-    /// Reads a trace, and keeps the events of the lines of a script that have a label at hand.
+    /// Reads a trace, and keeps the events of the lines of a script that others speak of at hand.
     ///
     /// # Errors
     ///

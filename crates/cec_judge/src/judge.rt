@@ -142,11 +142,18 @@ fn is_word(word: &[u8], other: Option<&[u8]>) -> bool
     }
 }
 
-fn refused_judged(labels: &Labels<'_>, index: &Index<'_>, name: &[u8], word: &[u8]) -> Judged
-    ensures { result ≡ refused_judged labels.now.script.now index.now.trace.now name.now word.now }
+fn refused_judged(
+    labels: &Labels<'_>,
+    index: &Index<'_>,
+    number: u64,
+    label: Option<&[u8]>,
+    word: &[u8],
+) -> Judged
+    ensures { result ≡ refused_judged labels.now.script.now index.now.trace.now number (option_copied label.entry) word.now }
 {
+    let line = labels.event_meant(number, label);
     Judged {
-        holds: Some(is_word(word, refusal_at(index, labels.event_of(name)))),
+        holds: Some(is_word(word, refusal_at(index, line))),
         at: None,
         span: None,
         count: 0,
@@ -272,7 +279,7 @@ fn line_judged(
                 pattern,
             } => rounds_judged(index, quantity, pattern, span_of(labels, instants, window)),
             Form::State { words, .. } => state_judged(state, words),
-            Form::Refused { label, word } => refused_judged(labels, index, label, word),
+            Form::Refused { label, word } => { refused_judged(labels, index, number, label, word) }
         },
     }
 }

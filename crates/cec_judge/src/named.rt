@@ -1,14 +1,14 @@
-//! The lines of a script that have a label, read once.
-ghost use Rattle.std.specs.Prelude.{◌≡◌, ◌||◌, ℕ, IfOk, OnOk, nat_eq};
+//! The lines of a script that others speak of, read once.
+ghost use Rattle.std.specs.Prelude.{◌≡◌, ◌==◌, ◌&&◌, ◌||◌, ℕ, IfOk, OnOk, nat_eq};
 ghost use Rattle.std.specs.HashSet.{contains};
-ghost use Rattle.cec_judge.specs.Named.{is_labelled, is_named, names_line};
+ghost use Rattle.cec_judge.specs.Named.{is_labelled, is_named, is_of_above, names_line};
 
-use cec_expect::unlabelled;
+use cec_expect::{Form, form_in, unlabelled};
 use hdmi_core::first_line;
 use std::alloc::{AllocError, Global};
 use std::collections::HashSet;
 
-/// The lines of a script that have a label.
+/// The lines of a script that have a label, and those of which the line below expects that their event is refused.
 #[derive(Drop)]
 pub struct NamedLines<'a> {
     pub script: &'a [u8],
@@ -23,12 +23,27 @@ pub(crate) fn is_labelled(line: &[u8]) -> bool
     unlabelled(line).label.is_some()
 }
 
-// Notes the number of a line, where it has a label.
-#[tactic(auto, using(crate::proofs::Naming::no_more, crate::proofs::Naming::put))]
-fn note_line(lines: &mut HashSet<u64>, number: u64, line: &[u8]) -> Result<(), AllocError>
-    ensures { OnOk result ((other : ℕ) → contains nat_eq lines.new other ≡ (contains nat_eq lines.old other || names_line number line.now other)) }
+// Whether a line expects that the event of the line above is refused.
+fn is_of_above(line: &[u8]) -> bool
+    ensures { result ≡ is_of_above line.now }
 {
-    if !is_labelled(line) {
+    match form_in(unlabelled(line).rest) {
+        Err(_) => false,
+        Ok(form) => match form {
+            Form::Refused { label, .. } => label.is_none(),
+            Form::Other => false,
+            Form::Rounds { .. } => false,
+            Form::State { .. } => false,
+        },
+    }
+}
+
+// Notes a number, where it is one of those that are looked for.
+#[tactic(auto, using(crate::proofs::Naming::no_more, crate::proofs::Naming::put))]
+fn note_if(lines: &mut HashSet<u64>, is: bool, number: u64) -> Result<(), AllocError>
+    ensures { OnOk result ((other : ℕ) → contains nat_eq lines.new other ≡ (contains nat_eq lines.old other || (is && (number == other)))) }
+{
+    if !is {
         return Ok(());
     }
     match lines.insert(number) {
@@ -37,8 +52,17 @@ fn note_line(lines: &mut HashSet<u64>, number: u64, line: &[u8]) -> Result<(), A
     }
 }
 
+// Notes the number of a line, where it has a label, and of the one above, where the line speaks of it.
+#[tactic(auto, using(crate::proofs::Naming::both_noted))]
+fn note_line(lines: &mut HashSet<u64>, number: u64, line: &[u8]) -> Result<(), AllocError>
+    ensures { OnOk result ((other : ℕ) → contains nat_eq lines.new other ≡ (contains nat_eq lines.old other || names_line number line.now other)) }
+{
+    note_if(lines, is_labelled(line), number)?;
+    note_if(lines, is_of_above(line), number.saturating_sub(1))
+}
+
 impl<'a> NamedLines<'a> {
-    /// Reads which lines of a script have a label.
+    /// Reads which lines of a script others speak of.
     ///
     /// # Errors
     ///
@@ -58,7 +82,7 @@ impl<'a> NamedLines<'a> {
         Ok(NamedLines { script, lines })
     }
 
-    /// Whether the line of this number has a label.
+    /// Whether others speak of the line of this number.
     pub fn has(&self, number: u64) -> bool
         ensures { result ≡ is_named self.now.script.now number }
     {

@@ -5,7 +5,7 @@ ghost use Rattle.cec_judge.specs.Seen.{end_seen, first_of, is_seen, or_first};
 ghost use Rattle.cec_judge.specs.Told.{round_as};
 
 use crate::reported::{RoundLine, round_in};
-use cec_expect::fits;
+use cec_expect::meets;
 
 /// A span of time, in microseconds.
 #[derive(Clone, Copy, Debug, PartialEq, Eq)]
@@ -25,7 +25,7 @@ pub struct Seen {
 pub fn is_seen(span: Span, pattern: &[u8], round: &RoundLine) -> bool
     ensures { result ≡ is_seen span pattern.now (round_as round.now) }
 {
-    span.from <= round.begin && round.at <= span.to && fits(pattern, round.reported)
+    span.from <= round.begin && round.at <= span.to && meets(pattern, round.reported)
 }
 
 /// The end of a line's round, where it began and ended within the span and what its line says meets the pattern.

@@ -1,5 +1,7 @@
 -- The order of a script's lines in time (own). Events come in order of time, and at one time as they stand; a pulse begins at least
--- 25,000 microseconds after the end of the pulse or pull before, and a pull after it; the end comes after each event above it; and no state is asked for after the end.
+-- 25,000 microseconds after the end of the pulse or pull before, and a pull after it; so do levels of the pin, which come in order of
+-- time with pulses and pulls, and another level later than the one before; the end comes after each event above it; and no state is
+-- asked for after the end.
 use Rattle.std.specs.Prelude.{ℕ, ◌+◌, ◌-◌, ◌%◌, ◌==◌, nat_lt, nat_le, ◌&&◌, not, Bool, true, false, if◌then◌else◌, codes, List, [], ◌∷◌, min, Option, Some, None, Result, Ok, Err}
 use Rattle.std.specs.List.{list_any}
 use Rattle.std.specs.Option.{option_map}
@@ -15,7 +17,7 @@ use Rattle.cec_sweep.specs.Series.{Series, instants_of, is_range}
 use Rattle.cec_sweep.specs.declared.order.Clock.{Clock as ClockRead}
 use Rattle.cec_sweep.specs.declared.order.RangeLine.{RangeLine as RangeLineRead}
 use Rattle.cec_sweep.specs.declared.order.Kind.{Kind}
-use Rattle.cec_sweep.specs.declared.order.Kind.TheVariants.{Event, Pulse, Pull, End, State}
+use Rattle.cec_sweep.specs.declared.order.Kind.TheVariants.{Event, Pulse, Pull, Low, High, End, State}
 use Rattle.cec_sweep.specs.declared.order.Apart.{Apart}
 use Rattle.cec_sweep.specs.declared.order.Apart.TheVariants.{AnyOrder, After, Before}
 use Rattle.cec_sweep.specs.declared.places.WordRole.{WordRole}
@@ -45,7 +47,12 @@ abbrev pub state_clock : List (List ℕ) → Option Clock
 state_clock [] = None
 state_clock (time ∷ words) = Some (record { kind = State; word = time })
 
--- `at T ..`, `pulse T WIDTH`, `pull T WIDTH`, `end T` or `expect state T ..`
+-- the level of a pin, by the words after its time
+abbrev pub level_in : List (List ℕ) → Kind
+level_in [] = Low
+level_in (level ∷ words) = if bytes_eq level (codes "1") then High else Low
+
+-- `at T ..`, `pulse T WIDTH`, `pull T WIDTH`, `pin T LEVEL`, `end T` or `expect state T ..`
 abbrev pub clock_in : List (List ℕ) → Option Clock
 clock_in [] = None
 clock_in (verb ∷ []) = None
@@ -53,6 +60,7 @@ clock_in (verb ∷ time ∷ words) =
     if bytes_eq verb (codes "at") then Some (record { kind = Event; word = time })
     else if bytes_eq verb (codes "pulse") then Some (record { kind = Pulse (width_in words); word = time })
     else if bytes_eq verb (codes "pull") then Some (record { kind = Pull (width_in words); word = time })
+    else if bytes_eq verb (codes "pin") then Some (record { kind = level_in words; word = time })
     else if bytes_eq verb (codes "end") then Some (record { kind = End; word = time })
     else if bytes_eq verb (codes "expect") && bytes_eq time (codes "state") then state_clock words
     else None
@@ -75,6 +83,18 @@ between (Pulse width) (Pulse other) = After (min width 65535 + 25000)
 between (Pulse width) (Pull other) = After (min width 65535 + 1)
 between (Pull width) (Pulse other) = After (min width (widest_pull + 1) + 25000)
 between (Pull width) (Pull other) = After (min width (widest_pull + 1) + 1)
+between (Pulse width) Low = After (min width 65535 + 1)
+between (Pulse width) High = After (min width 65535)
+between (Pull width) Low = After (min width (widest_pull + 1) + 1)
+between (Pull width) High = After (min width (widest_pull + 1))
+between Low High = After 1
+between High Low = After 1
+between Low Low = After 0
+between Low (Pulse other) = After 0
+between Low (Pull other) = After 0
+between High High = After 0
+between High (Pulse other) = After 0
+between High (Pull other) = After 0
 between End State = Before
 between State End = After 0
 between _ _ = AnyOrder

@@ -1,4 +1,4 @@
--- Where times stand in the lines of a script (own): after `at`, `pulse`, `pull` and `end`, and in the windows of expectations after
+-- Where times stand in the lines of a script (own): after `at`, `pulse`, `pull`, `pin` and `end`, and in the windows of expectations after
 -- `within`, `from`, `to` and `state`; a label may stand before each.
 use Rattle.std.specs.Prelude.{ℕ, ◌||◌, Bool, true, false, if◌then◌else◌, codes, List}
 use Rattle.std.specs.Str.{bytes_eq}
@@ -6,7 +6,7 @@ use Rattle.cec_sweep.specs.declared.places.WordRole.{WordRole}
 use Rattle.cec_sweep.specs.declared.places.WordRole.TheVariants.{Begin, Name, Verb, Expectation, Window, From, To, Time, Other}
 
 abbrev pub is_time_verb : List ℕ → Bool
-is_time_verb word = bytes_eq word (codes "at") || bytes_eq word (codes "pulse") || bytes_eq word (codes "pull") || bytes_eq word (codes "end")
+is_time_verb word = bytes_eq word (codes "at") || bytes_eq word (codes "pulse") || bytes_eq word (codes "pull") || bytes_eq word (codes "pin") || bytes_eq word (codes "end")
 
 abbrev pub after_verb : List ℕ → WordRole
 after_verb word =

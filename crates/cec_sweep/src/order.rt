@@ -3,7 +3,7 @@ ghost use Rattle.std.specs.Prelude.{◌≡◌, ◌+◌, ◌≤◌, Some};
 ghost use Rattle.std.specs.Option.{option_copied, option_map};
 ghost use Rattle.hdmi_core.specs.Lines.{lines_of};
 ghost use Rattle.hdmi_core.specs.Words.{words_after, words_of};
-ghost use Rattle.cec_sweep.specs.Order.{between, are_apart, are_times_apart, clock_as, clock_in, clock_of, crossed_from, crossing, is_crossed, is_crossed_by, keeps_order, line_of, ordered_range, range_in, range_line, range_line_as, state_clock, time_at, unless_crossing, width_in};
+ghost use Rattle.cec_sweep.specs.Order.{between, are_apart, are_times_apart, clock_as, clock_in, clock_of, crossed_from, crossing, is_crossed, is_crossed_by, keeps_order, level_in, line_of, ordered_range, range_in, range_line, range_line_as, state_clock, time_at, unless_crossing, width_in};
 
 use crate::places::WordRole;
 use crate::script::{RangeFault, is_range_at, range_of};
@@ -21,6 +21,10 @@ pub(crate) enum Kind {
     Pulse(u64),
     /// `pull T WIDTH`, of this width.
     Pull(u64),
+    /// `pin T 0`.
+    Low,
+    /// `pin T 1`.
+    High,
     /// `end T`.
     End,
     /// `expect state T ..`.
@@ -64,6 +68,9 @@ const LEAST_GAP: u64 = 25_000;
 /// The same to the begin of the next pull: it touches nothing.
 const LEAST_HIGH: u64 = 1;
 
+/// The least time from one level of the pin to the other, in microseconds.
+const LEAST_LEVEL: u64 = 1;
+
 // The width of a pulse or a pull, by the words after its time.
 fn width_in(rest: Option<&[u8]>) -> u64
     ensures { result ≡ width_in (words_after (option_copied rest.entry)) }
@@ -75,6 +82,21 @@ fn width_in(rest: Option<&[u8]>) -> u64
     match number_in(width) {
         None => 0,
         Some(width) => width,
+    }
+}
+
+// The level of the pin, by the words after its time.
+fn level_in(rest: Option<&[u8]>) -> Kind
+    ensures { result ≡ level_in (words_after (option_copied rest.entry)) }
+{
+    let Some(rest) = rest else {
+        return Kind::Low;
+    };
+    let (level, _others) = first_word(rest);
+    if level == b"1".as_slice() {
+        Kind::High
+    } else {
+        Kind::Low
     }
 }
 
@@ -107,6 +129,11 @@ fn clock_in(rest: Option<&[u8]>) -> Option<Clock<'_>>
     } else if verb == b"pull".as_slice() {
         Some(Clock {
             kind: Kind::Pull(width_in(others)),
+            word,
+        })
+    } else if verb == b"pin".as_slice() {
+        Some(Clock {
+            kind: level_in(others),
             word,
         })
     } else if verb == b"end".as_slice() {
@@ -148,6 +175,18 @@ fn between(above: Kind, below: Kind) -> Apart
         (Kind::Pulse(width), Kind::Pull(_)) => Apart::After(width.min(WIDTH_MOST) + LEAST_HIGH),
         (Kind::Pull(width), Kind::Pulse(_)) => Apart::After(width.min(PULL_WIDTH_MOST) + LEAST_GAP),
         (Kind::Pull(width), Kind::Pull(_)) => Apart::After(width.min(PULL_WIDTH_MOST) + LEAST_HIGH),
+        (Kind::Pulse(width), Kind::Low) => Apart::After(width.min(WIDTH_MOST) + LEAST_HIGH),
+        (Kind::Pulse(width), Kind::High) => Apart::After(width.min(WIDTH_MOST)),
+        (Kind::Pull(width), Kind::Low) => Apart::After(width.min(PULL_WIDTH_MOST) + LEAST_HIGH),
+        (Kind::Pull(width), Kind::High) => Apart::After(width.min(PULL_WIDTH_MOST)),
+        (Kind::Low, Kind::High) => Apart::After(LEAST_LEVEL),
+        (Kind::High, Kind::Low) => Apart::After(LEAST_LEVEL),
+        (Kind::Low, Kind::Low) => Apart::After(0),
+        (Kind::Low, Kind::Pulse(_)) => Apart::After(0),
+        (Kind::Low, Kind::Pull(_)) => Apart::After(0),
+        (Kind::High, Kind::High) => Apart::After(0),
+        (Kind::High, Kind::Pulse(_)) => Apart::After(0),
+        (Kind::High, Kind::Pull(_)) => Apart::After(0),
         (Kind::End, Kind::State) => Apart::Before,
         (Kind::State, Kind::End) => Apart::After(0),
         _ => Apart::AnyOrder,

@@ -31,6 +31,7 @@ fn is_time_verb(word: &[u8]) -> bool
     word == b"at".as_slice()
         || word == b"pulse".as_slice()
         || word == b"pull".as_slice()
+        || word == b"pin".as_slice()
         || word == b"end".as_slice()
 }
 

@@ -1,7 +1,8 @@
 //! Each row through the public calls.
 use crate::rows::{
-    CUTS, FAULTS, LABELS, LABELS_REPORT, PATTERNS, PLAIN, PULSES, PULSES_REPORT, REFUSALS, REPORT,
-    SCRIPT, STATES, STATES_REPORT, TOPOLOGY, WINDOWS, WINDOWS_REPORT,
+    BELOW, BELOW_REPORT, CUTS, FAULTS, LABELS, LABELS_REPORT, PATTERNS, PLAIN, PULSES,
+    PULSES_REPORT, REFUSALS, REPORT, SCRIPT, STATES, STATES_REPORT, TOPOLOGY, WINDOWS,
+    WINDOWS_REPORT,
 };
 use cec_check::{CheckError, Tally, check, verdicts};
 use cec_expect::{cut_script, first_fault, fits, plain_script};
@@ -24,7 +25,7 @@ fn patterns_are_met(rt: HostRuntime) {
 }
 
 /// The lines of a row, each ended.
-fn spelled(rt: &(impl Abort + AllocGlobal), row: &str) -> String {
+pub(crate) fn spelled(rt: &(impl Abort + AllocGlobal), row: &str) -> String {
     let mut text = String::new(rt.alloc());
     for line in row.split('|') {
         text.push_str(line).expect(rt, row);
@@ -112,6 +113,13 @@ fn expectations_are_reported(rt: HostRuntime) {
     let (text, counts) = report_of(&rt, TOPOLOGY, SCRIPT);
     holds(&rt, counts.as_str() == "6 of 10", "counts");
     holds(&rt, text.as_str() == REPORT, "report");
+}
+
+#[test]
+fn refusals_below_events_are_reported(rt: HostRuntime) {
+    let (text, counts) = report_of(&rt, TOPOLOGY, BELOW);
+    holds(&rt, counts.as_str() == "2 of 3", "counts");
+    holds(&rt, text.as_str() == BELOW_REPORT, "report");
 }
 
 #[test]

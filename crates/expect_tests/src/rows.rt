@@ -44,7 +44,16 @@ at 5 press p1 play|expect never from 1 to 2 *a*b*c*d* => line 2: word at 1
 at 5 press p1 play|label b expect => line 2: word at 3
 at 5 press p1 play|label b expect never from 1 to 2 short => line 2: word at 3
 at 5 press p1 play|expect refused => line 2: word at 2
-at 5 press p1 play|expect refused a => line 2: word at 3
+at 5 press p1 play|expect refused a => line 2: pattern at 2
+at 5 press p1 play|label b expect refused a => line 2: pattern at 4
+at 5 press p1 play|expect refused not-for-kind => none
+label a at 5 press p1 play|label b expect refused not-for-kind => none
+at 5 press p1 play|expect refused loop|expect refused loop => line 3: label at 2
+at 5 press p1 play||expect refused loop => line 3: label at 2
+at 5 press p1 play|# here|expect refused loop => line 3: label at 2
+pulse 5 100|label b expect refused a => line 2: label at 4
+expect refused loop|at 5 press p1 play => line 1: label at 2
+expect refused loop => line 1: label at 2
 at 5 press p1 play|expect refused a b c => line 2: word at 4
 at 5 press p1 play|label b expect refused a b c => line 2: word at 6
 at 5 press p1 play|expect from 1 to 2 *a*b*c*d* => line 2: word at 5
@@ -105,6 +114,8 @@ expect state 11 tv on|end 10 => line 1: order at 2
 label a expect state 5 tv on|expect refused a off-wire => line 2: label at 2
 label a expect state 5 tv on|expect within 5 of a short => none
 label g pulse 5 100|expect within 10 of g short => none
+label g pin 5 0|expect within 10 of g short => none
+label g pin 5 0|expect refused g off-wire => line 2: label at 2
 label g pulse 5 100|expect refused g off-wire => line 2: label at 2
 label g pulse 5 100|label g at 7 press p1 play => line 2: label at 1
 label g pull 5 100|expect within 10 of g short => none
@@ -150,6 +161,7 @@ pub(crate) const PLAIN: &str = "\
 at 5 press p1 play => at 5 press p1 play
 label a at 5 press p1 play => at 5 press p1 play
 label a pulse 5 10 => pulse 5 10
+label a pin 5 0 => pin 5 0
 label a pull 5 10 => pull 5 10
 label a expect from 1 to 2 short => 
 expect from 1 to 2 short => 
@@ -168,6 +180,7 @@ pub(crate) const CUTS: &str = "\
 5 at 6 press p1 play|end 9 => |end 5
 0 at 0 press p1 play|end 9 => |end 0
 5 pulse 7 10|end 9 => pulse 7 10|end 5
+5 pin 7 0|end 9 => pin 7 0|end 5
 5 pull 7 10|end 9 => pull 7 10|end 5
 5 # at 7|end 9 => # at 7|end 5
 5 |end 9|# end 7 => |end 5|# end 7
@@ -218,6 +231,24 @@ not ok 9 - line 12: expect once from 0 to 400000 *>f report-physical-address
 # 224105 347255 complete 4>f report-physical-address 1.0.0.0 playback ok by p1 out -
 not ok 10 - line 9: refused not-for-kind
 1..10
+";
+
+/// Refused events, of which the lines below speak, but for the last one.
+pub(crate) const BELOW: &str = "\
+at 1000000 press tv eject
+expect refused not-for-kind
+at 1010000 press tv eject
+label b expect refused off-wire
+at 1020000 press tv eject
+end 2000000
+";
+
+pub(crate) const BELOW_REPORT: &str = "\
+TAP version 13
+ok 1 - line 2: expect refused not-for-kind
+not ok 2 - line 4: label b expect refused off-wire
+not ok 3 - line 5: refused not-for-kind
+1..3
 ";
 
 /// The same two rounds, by windows that have one of them, or end a microsecond too early for it.

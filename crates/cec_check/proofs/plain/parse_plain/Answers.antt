@@ -1,11 +1,10 @@
 use Rattle.std.proofs.Common.{rules, ◌≡◌, ℕ, length, map, Ok, ap, subst, arith}
 use Rattle.hdmi_core.specs.Lines.{lines_of}
 use Rattle.cec_asm.specs.Script.{IsLineRead, notes_of}
-use Rattle.cec_asm.proofs.Adding.{few_pulses}
 use Rattle.cec_asm.proofs.Reading.{line_read}
 use Rattle.cec_asm.proofs.Sound.{tested, line-keeps, scripts_are_sound}
 use Rattle.cec_expect.specs.Line.{plain_part, plain_script}
-use Rattle.cec_check.proofs.PlainRead.{begun, course_read}
+use Rattle.cec_check.proofs.PlainRead.{begun, course_read, few_more}
 use Rattle.cec_check.proofs.plain.parse_plain.Goals as goal
 
 pub lines-init : goal.lines-init
@@ -31,14 +30,15 @@ lines-preserved c =
           line_read tree (map plain_part (lines_of c.lines.rest.now)) (map plain_part (lines_of c.in-Some.after.now)) line c.lines.number notes next read
           (ap (map plain_part) c.in-Some.ensures.lines) taken rest);
       sound = line-keeps tree notes (length notes.pulses) c.lines.number line next c.lines.invariant.sound taken;
-      few = few_pulses tree notes c.lines.number line next taken c.lines.invariant.few;
+      few = few_more tree notes c.lines.number line next taken c.lines.invariant.few;
       counts = omega arith;
     }
 
 pub invariant_of-result : goal.invariant_of-result
 invariant_of-result c =
     let sound = c.lines.invariant.sound in
-    record { timely = tested (notes_of c.lines.draft).pulses c.lines.invariant.few sound.order sound.wide sound.early }
+    let few = c.lines.invariant.few in
+    record { timely = tested (notes_of c.lines.draft).pulses (omega (arith, few)) sound.order sound.wide sound.early }
 
 pub returns-clause-script : goal.returns-clause-script
 returns-clause-script c =

@@ -1,9 +1,8 @@
 use Rattle.std.proofs.Common.{◌+◌, ◌≤◌, length}
 use Rattle.hdmi_core.specs.Lines.{lines_of}
-use Rattle.cec_wave.specs.Bounds.{most_pulls}
 use Rattle.cec_asm.specs.Script.{notes_of}
 use Rattle.cec_asm.proofs.Sound.{AreSound}
-use Rattle.cec_check.proofs.PlainRead.{Leads}
+use Rattle.cec_check.proofs.PlainRead.{HoldsFew, Leads}
 use Rattle.cec_check.proofs.plain.parse_plain.Given as goal
 
 -- what the lines that are left give after those so far, the plain script gives; the draft is sound, and its pulses and pulls are few
@@ -11,7 +10,7 @@ abbrev pub invariant-lines : goal.invariant-lines
 invariant-lines l = record {
   leads : Leads l.tree l.script (lines_of l.rest) l.number (notes_of l.draft);
   sound : AreSound (length l.tree) (notes_of l.draft);
-  few : length (notes_of l.draft).pulses ≤ most_pulls;
+  few : HoldsFew (notes_of l.draft);
   counts : l.number + length l.rest ≤ length l.script + 1;
 }
 

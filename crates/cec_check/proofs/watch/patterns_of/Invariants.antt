@@ -1,6 +1,6 @@
 use Rattle.std.proofs.Common.{◌≡◌, ℕ, ◌&&◌, ◌||◌, List, length, map}
 use Rattle.std.specs.List.{list_any}
-use Rattle.cec_expect.specs.Fits.{fits}
+use Rattle.cec_expect.specs.Names.{meets}
 use Rattle.cec_check.specs.Groups.{is_sought}
 use Rattle.cec_check.specs.Kept.{watch_as}
 use Rattle.cec_check.proofs.watch.patterns_of.Given as goal
@@ -8,8 +8,8 @@ use Rattle.cec_check.proofs.watch.patterns_of.Given as goal
 -- the patterns of those before, and of those that are left
 abbrev pub invariant-watches : goal.invariant-watches
 invariant-watches l = (reported : List ℕ)
-    → (list_any (λ text. fits text.now reported) l.texts.items || list_any (λ watch. is_sought l.timeless watch && fits watch.pattern reported) (map watch_as l.rest))
-    ≡ list_any (λ watch. is_sought l.timeless watch && fits watch.pattern reported) (map watch_as l.watches)
+    → (list_any (λ text. meets text.now reported) l.texts.items || list_any (λ watch. is_sought l.timeless watch && meets watch.pattern reported) (map watch_as l.rest))
+    ≡ list_any (λ watch. is_sought l.timeless watch && meets watch.pattern reported) (map watch_as l.watches)
 
 abbrev pub decreases-watches : goal.decreases-watches
 decreases-watches l = length l.rest

@@ -1,6 +1,6 @@
 use Rattle.std.proofs.Common.{◌≡◌, ◌&&◌, ℕ, List, true, false, map, ap, ◌∙◌}
 use Rattle.std.specs.List.{list_any}
-use Rattle.cec_expect.specs.Fits.{fits}
+use Rattle.cec_expect.specs.Names.{meets}
 use Rattle.cec_check.specs.Kept.{Watch, watch_as, watches_by, watches_of}
 use Rattle.cec_check.specs.Groups.{is_sought}
 use Rattle.cec_check.specs.declared.watch.Watch.{Watch as WatchRead}
@@ -16,9 +16,9 @@ invariant_of-result c =
       times_are = c.in_ok-times.ensures;
       groups_are = c.in_ok-groups.ensures ∙ ap (map watch_as) c.deref.ensures.value ∙ are;
       texts_are = λ reported. c.in_ok-texts.ensures reported
-          ∙ ap (λ (ws : List WatchRead). list_any (λ (watch : Watch). is_sought false watch && fits watch.pattern reported) (map watch_as ws)) c.deref-2.ensures.value
-          ∙ ap (list_any (λ (watch : Watch). is_sought false watch && fits watch.pattern reported)) are;
+          ∙ ap (λ (ws : List WatchRead). list_any (λ (watch : Watch). is_sought false watch && meets watch.pattern reported) (map watch_as ws)) c.deref-2.ensures.value
+          ∙ ap (list_any (λ (watch : Watch). is_sought false watch && meets watch.pattern reported)) are;
       timeless_are = λ reported. c.in_ok-timeless.ensures reported
-          ∙ ap (λ (ws : List WatchRead). list_any (λ (watch : Watch). is_sought true watch && fits watch.pattern reported) (map watch_as ws)) c.deref-3.ensures.value
-          ∙ ap (list_any (λ (watch : Watch). is_sought true watch && fits watch.pattern reported)) are;
+          ∙ ap (λ (ws : List WatchRead). list_any (λ (watch : Watch). is_sought true watch && meets watch.pattern reported) (map watch_as ws)) c.deref-3.ensures.value
+          ∙ ap (list_any (λ (watch : Watch). is_sought true watch && meets watch.pattern reported)) are;
     }

@@ -1,6 +1,6 @@
 use Rattle.std.proofs.Common.{◌≡◌, ◌+◌, ◌≤◌, length}
-use Rattle.cec_expect.specs.Said.{unmet_from, unmet_word}
-use Rattle.cec_expect.proofs.said.unmet_word.Given as goal
+use Rattle.cec_expect.specs.Names.{unmet_from, unmet_word}
+use Rattle.cec_expect.proofs.names.unmet_word.Given as goal
 
 -- with no word before is the front met by none
 abbrev pub invariant-bytes : goal.invariant-bytes

@@ -1,0 +1,2 @@
+pub mod OneHeld
+pub mod Written
