@@ -135,7 +135,7 @@ else
 fi
 
 # What a shell is asked, and what it is to offer. A line that ends with a space asks for the next word.
-ROWS='hdminet | run check step live asm dis mon edid
+ROWS='hdminet | run check step live asm dis lay mon edid
 hdminet r| run
 hdminet zzz|
 hdminet --v| --version
@@ -152,7 +152,7 @@ hdminet asm --from|
 hdminet --explain run --str| --strict
 hdminet run < fi| film.test'
 # The flags of each subcommand are those of its help.
-for command in run check step live asm dis mon edid; do
+for command in run check step live asm dis lay mon edid; do
   ROWS+=$'\n'"hdminet $command --| $("$dir/bin/hdminet" "$command" --help | sed -n '/^Options:$/,/^$/p' | grep -oE '^ +(-h, )?--[a-z-]+' | grep -oE -- '--[a-z-]+' | tr '\n' ' ')"
 done
 : > "$room/elsewhere/film.test"

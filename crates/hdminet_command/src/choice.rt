@@ -2,7 +2,7 @@
 ghost use Rattle.std.specs.Prelude.{◌≡◌, MatchResult, None, Some, map, string_bytes};
 ghost use Rattle.hdminet_words.specs.Line.{asked_by};
 
-use crate::help;
+use crate::{frames_help, help};
 use clap::error::ErrorKind;
 use clap::{Arg, ArgAction, Command, Error};
 use hdminet_help::{frame_forms, run_words};
@@ -73,13 +73,13 @@ fn asks_help(words: &[String]) -> bool {
 // What follows the help of `asm`: with the forms of frames from the tables, where help is asked for.
 fn asm_help(alloc: Global, words: &[String]) -> Result<String, AllocError> {
     if !asks_help(words) {
-        return String::from_str(alloc, help::ASM_HELP);
+        return String::from_str(alloc, frames_help::ASM_HELP);
     }
     let forms = frame_forms(alloc)?;
     format!(in alloc;
         "{}\n\n{}\n{}",
-        help::ASM_HELP,
-        help::ASM_FORMS,
+        frames_help::ASM_HELP,
+        frames_help::ASM_FORMS,
         forms.trim_end()
     )
 }
@@ -140,7 +140,9 @@ fn add_step<'a>(alloc: Global, program: Command<'a>) -> Result<Command<'a>, Allo
 
 // Adds the command that answers a script line by line.
 fn add_live<'a>(alloc: Global, program: Command<'a>) -> Result<Command<'a>, AllocError> {
-    program.subcommand(plain_command(alloc, "live", help::LIVE_ABOUT, help::LIVE_HELP))
+    let live = plain_command(alloc, "live", help::LIVE_ABOUT, help::LIVE_HELP);
+    let live = with_flags(alloc, live, help::LIVE_FLAGS)?;
+    program.subcommand(live)
 }
 
 // Adds the command that reads texts of frames.
@@ -149,14 +151,20 @@ fn add_asm<'a>(
     program: Command<'a>,
     asm_help: &'a str,
 ) -> Result<Command<'a>, AllocError> {
-    program.subcommand(plain_command(alloc, "asm", help::ASM_ABOUT, asm_help))
+    program.subcommand(plain_command(alloc, "asm", frames_help::ASM_ABOUT, asm_help))
 }
 
 // Adds the command that reads frames in hex.
 fn add_dis<'a>(alloc: Global, program: Command<'a>) -> Result<Command<'a>, AllocError> {
-    let dis = plain_command(alloc, "dis", help::DIS_ABOUT, help::DIS_HELP);
-    let dis = with_flags(alloc, dis, help::DIS_FLAGS)?;
+    let dis = plain_command(alloc, "dis", frames_help::DIS_ABOUT, frames_help::DIS_HELP);
+    let dis = with_flags(alloc, dis, frames_help::DIS_FLAGS)?;
     program.subcommand(dis)
+}
+
+// Adds the command that lays frames.
+fn add_lay<'a>(alloc: Global, program: Command<'a>) -> Result<Command<'a>, AllocError> {
+    let lay = plain_command(alloc, "lay", frames_help::LAY_ABOUT, frames_help::LAY_HELP);
+    program.subcommand(lay)
 }
 
 // Adds the command that reads captures.
@@ -188,6 +196,7 @@ fn command<'a>(
     let program = add_live(alloc, program)?;
     let program = add_asm(alloc, program, asm_help)?;
     let program = add_dis(alloc, program)?;
+    let program = add_lay(alloc, program)?;
     let program = add_mon(alloc, program)?;
     add_edid(alloc, program)
 }
@@ -301,7 +310,8 @@ fn rules_of(subcommand: Subcommand) -> Option<&'static str> {
         Subcommand::Check => Some(help::CHECK_RULES),
         Subcommand::Mon => Some(help::MON_RULES),
         Subcommand::Edid => Some(help::EDID_RULES),
-        Subcommand::Step | Subcommand::Live | Subcommand::Asm | Subcommand::Dis => None,
+        Subcommand::Step | Subcommand::Live | Subcommand::Asm | Subcommand::Dis | Subcommand::Lay =>
+            None,
     }
 }
 

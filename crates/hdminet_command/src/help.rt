@@ -8,7 +8,7 @@ pub const EXPLAIN_FLAG: &str =
 
 /// What follows a refused command line that has `--explain`.
 pub const EXPLAINED: &str =
-    "  the subcommands are run, check, step, live, asm, dis, mon and edid; each reads standard input, as `hdminet run < FILE`\n";
+    "  the subcommands are run, check, step, live, asm, dis, lay, mon and edid; each reads standard input, as `hdminet run < FILE`\n";
 
 /// What follows a command line that is refused for a word that is no flag, up to the words that are left.
 pub const FILE_NAME: &str = "  a file is read as standard input, after `<`: `hdminet";
@@ -49,6 +49,8 @@ Examples, of which the folder examples/ has the inputs and outputs:
       `4>f active-source 1.0.0.0` gives `4f821000`
   ./hdminet dis < examples/frames.hex
       and `4f821000` gives `4>f active-source 1.0.0.0`
+  ./hdminet lay < examples/faults.lay
+      frames with a fault, as pulls of a script: `pull 1000000 3700` and so on
   ./hdminet mon < examples/capture.edges
       the falls and rises of a captured line give `1000 8251 silent 1` and so on
   ./hdminet edid < examples/living-room.edid
@@ -75,11 +77,15 @@ pub const RUN_FLAGS: &[(&str, &str)] = &[
     ),
     (
         "room",
-        "With --json, objects of the topology, pulses and pulls come first, and events have their line",
+        "With --json, objects of the topology, of pulses, pulls and the pin come first; events have their line",
     ),
     (
         "drives",
         "With --edges --as vcd, the dump also has a wire for each device and one for the pulses",
+    ),
+    (
+        "named",
+        "With --drives, the dump also has its frames and bits as strings, which GTKWave shows",
     ),
     (
         "strict",
@@ -96,7 +102,7 @@ pub const RUN_VALUES: &[(&str, &str, &str)] = &[(
 
 pub const RUN_RULES: &str = "
   --as takes vcd, pin or csv, and goes with --edges alone
-  --drives goes with --edges --as vcd alone
+  --drives goes with --edges --as vcd alone, --named with --drives alone
   --json goes without --edges; --room goes with --json alone
 ";
 
@@ -123,6 +129,8 @@ The script says what happens, in the order of its times, and when the run ends:
                                 at least 25000 after the end of the one above, at most 4096
   pull T WIDTH                  the same, as dense as you like: 1 to 10000000 microseconds, each
                                 after the end of the pulse or pull above, at most 16384 of both
+  pin T LEVEL                   a pin of your own: 0 pulls the line low from T on, 1 lets it go, and so
+                                does `end`
   end T                         the last line
 
 The keys, and the kinds that have them, are listed below. PA is an address as 1.0.0.0, LLL a language as
@@ -225,13 +233,14 @@ pub const CHECK_RULES: &str = "
 
 pub const CHECK_HELP: &str = "\
 The input is that of `hdminet run`, and its script may also have labels and expectations:
-  label NAME LINE                        a label before an event, a pulse, a pull or an expectation
+  label NAME LINE                        a label before an event, pulse, pull, `pin` or expectation
   expect within D of NAME PATTERN        a round that meets the pattern, D microseconds from a label on
   expect from T to U PATTERN             or between two times
   expect none .., expect once ..         no such round, or exactly one
   expect state T NAME WORD ..            at T the device's state line has each of these words
   expect state T NAME not WORD ..        or none of them
   expect refused NAME WORD               the event of this label is refused with the word
+  expect refused WORD                    or that of the line above
 A pattern is met by a round whose line in the trace begins with it after its two times, without the word
 complete, up to the end of a word; `*` stands for any part of one word. A round is in a window where it
 begins and ends in it. The instant of a label is that at which its event was applied, the onset of its
@@ -274,7 +283,8 @@ gives of examples/race.sweep
   5000000..5000000 ok not-ok
 Where a test fails at any of them, the status is 1 and standard error has `failed tests in the range`.
 With --trace and --plain no time is a range. A range has at most 1000000 instants, and each keeps the order
-of the script: events in order of time, pulses and pulls too, `end` after each event, no state after `end`.
+of the script: events in order of time, pulses, pulls and the pin too, `end` after each event, no state
+after `end`.
 
 With --capture the input is expectations, a line `capture`, and a capture in any form that `hdminet mon`
 reads, of which they are to hold. Here `label NAME at T` names an instant, and the other lines are
@@ -290,7 +300,7 @@ With --json each line of the report is an object of JSON.
 Faults: those of `hdminet run`, and then `script line N: CAUSE` for the first label or expectation at fault;
 nothing is written then. CAUSE is the first of these that applies:
   word       no such expectation; a pattern of no or more than 160 bytes, with more than four `*`, or with a
-             space at an end; after a label no event, pulse, pull or expectation
+             space at an end; after a label no event, pulse, pull, `pin` or expectation
   number     a number that is none
   name       a device that the topology does not declare
   label      a label that is empty or stands above already; one that no line above has; for a refusal, one
@@ -349,6 +359,12 @@ past 1048576 bytes; 4 no memory.";
 pub const LIVE_ABOUT: &str =
     "Runs a network whose script comes line by line, and answers each line";
 
+/// The flags of `live`, each with its help.
+pub const LIVE_FLAGS: &[(&str, &str)] = &[(
+    "json",
+    "Prints each line of the trace, of edges and of answers as an object of JSON",
+)];
+
 pub const LIVE_HELP: &str = "\
 The input is a topology, a line `script`, and then lines, each of which is answered before the next
 one is read. For each it writes what of the trace is certain by then, and one line of answer.
@@ -366,6 +382,9 @@ Answers:
   = state NAME ...        after `show`
   ! N CAUSE               line N after `script` is refused, for a cause of scripts, or last `past`:
                           it is for an instant before the horizon. It changes nothing
+With --json each of these lines is an object, as of `hdminet run --json`, in which it stands as
+`line`: `= H` is a `horizon` with `at` and `idle`, `= state ..` a `state`, `! N CAUSE` a `refusal`
+with `script_line` and `cause`, `~ T L` an `edge` with `at` and `level`.
 With --explain a refused line is shown on standard error after its answer, with what would be right.
 An edge is a line `~ T 0` or `~ T 1`, the level that the line then has, above its round's line.
 Without the answers and the edges, what is written is the trace that `hdminet run` writes of the
@@ -390,76 +409,6 @@ before `end T`, and `script line N: too-long` for a line of more than 4096 bytes
 before stays.
 
 Exit status: 0 done; 1 input refused; 2 command line refused; 3 a read or write fault, or a topology
-past 1048576 bytes; 4 no memory.";
-
-pub const ASM_ABOUT: &str = "Writes texts of CEC frames in hex";
-
-pub const ASM_HELP: &str = "\
-The input has the text of a frame a line. Lines that are empty or begin with `#` are skipped, but
-counted. The output has a line of hex for each frame: header, opcode and operands.
-
-The text of a frame is `I>D`, the logical addresses of initiator and destination as hex digits; a
-poll is that alone. Then come the opcode's name, or `op-XX` where it has none, and the operands, one
-space apart: as words where they fit the opcode exactly, and else as one word, `:` and all operands
-in lower-case hex. Each frame has one text.
-
-An example, and what it gives:
-  4>4                              44
-  4>f active-source 1.0.0.0        4f821000
-  4>0 play forward                 404124
-  4>0 play :99                     404199
-  5>0 set-osd-name \"AVR\"           5047415652
-  5>0 report-audio-status sound 20 507a14
-
-The fault is `line N: CAUSE` with the first line that tells no frame; nothing is written then. CAUSE
-is the first of these that applies:
-  address    the line does not begin with `I>D`
-  name       no opcode has that name
-  too-long   more than 14 operands in hex
-  count      not as many words as the opcode's operands have
-  operand    the words are no operands of the opcode, or not spelled as they should be
-
-Exit status: 0 done; 1 input refused; 2 command line refused; 3 a read or write fault, or input
-past 1048576 bytes; 4 no memory.";
-
-/// What the list of the forms of frames begins with.
-pub const ASM_FORMS: &str = "\
-The frames of each opcode that has a name, by its hex digits, after `I>D` and a space; what stands in
-brackets may be left out:";
-
-pub const DIS_ABOUT: &str = "Writes CEC frames in hex as texts";
-
-pub const DIS_FLAGS: &[(&str, &str)] = &[(
-    "meaning",
-    "Prints below each frame what it means, in plain words",
-)];
-
-pub const DIS_HELP: &str = "\
-The input has the bytes of a frame a line, in hex: header, opcode and operands. Lines that are empty or
-begin with `#` are skipped, but counted. The output has the text of each frame in a line, as
-`hdminet asm` takes it; after it stands ` # ` and a word of the standard where the text leaves the
-opcode or an operand as bytes.
-
-Each byte has two hex digits of either case, with `0x` before them or not. Between bytes there may be
-spaces, `:`, `,` and `-`, also none. What stands before the last `>>` or `<<` of a line, and these, is
-passed over, so that a log of cec-client is read as it is.
-
-An example, and what it gives:
-  44               4>4
-  4f:82:10:00      4>f active-source 1.0.0.0
-  40 41 24         4>0 play forward
-
-With --meaning a line follows each frame, indented by two spaces, that says what it means in plain
-words: who asks, tells or sends what to whom, and what its operands say.
-  40 41 24         4>0 play forward
-                     Playback Device 1 asks TV to play: forward
-
-The fault is `line N: CAUSE` with the first line that has no frame; nothing is written then. CAUSE is
-  digit      something else than hex digits and what may stand between bytes
-  half       a hex digit alone
-  length     no byte, or more than 16
-
-Exit status: 0 done; 1 input refused; 2 command line refused; 3 a read or write fault, or input
 past 1048576 bytes; 4 no memory.";
 
 pub const MON_ABOUT: &str = "Prints what was read on a captured line";
@@ -498,6 +447,10 @@ pub const MON_FLAGS: &[(&str, &str)] = &[
         "json",
         "Prints each line as an object of JSON: readings, and with --audit remarks",
     ),
+    (
+        "follow",
+        "With --from edges or pin, prints each reading as soon as the lines so far say that it is over",
+    ),
 ];
 
 /// Those that take a value, with what stands for it.
@@ -528,6 +481,7 @@ pub const MON_RULES: &str = "
   --from takes edges, vcd, pin or csv; --glitch a number of microseconds, --margin one up to 300
   --signal goes with vcd and csv alone; of --from-start and --from-idle one is given at most, and neither
   with --audit and --timing; --strict goes with one of these two; --fold does not go with --json
+  --follow goes with --from edges or pin, and of the others with --margin and --from-start alone
 ";
 
 pub const MON_HELP: &str = "\
@@ -581,6 +535,11 @@ With --fold bad starts one after another are one line, from the first fall to th
   START END bad-starts N
 An audit remarks the widths of the first one alone; with --fold those after it are one line there too, as
 far as none has a line below it.
+
+With --follow each line of an edge file or of pin events is read as it comes, at most 4096 bytes long, and a
+reading is printed as soon as it is over, all of them as with --from-start; what was printed before a fault
+stays:
+  pin-events | ./hdminet mon --follow --from pin
 
 With --json each line of the output is an object of JSON, whose first field is that line. Of an audit its
 type is reading, remark, note, sender, widths or summary; a remark has its kind, the section of HDMI 1.4

@@ -2,6 +2,7 @@
 #![tactic(auto)]
 
 mod choice;
+mod frames_help;
 mod help;
 
 pub use choice::{Refused, choose};

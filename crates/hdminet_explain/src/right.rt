@@ -3,6 +3,7 @@ use cec_asm::{ScriptCause, TopologyCause};
 use cec_dis::DisCause;
 use cec_expect::ExpectCause;
 use cec_formats::Cause;
+use cec_lay::LayCause;
 use cec_text::AssembleError;
 use hdmi_blocks::EdidError;
 use hdmi_dump::DumpError;
@@ -39,7 +40,7 @@ fn of_script(cause: ScriptCause) -> &'static str {
     match cause {
         ScriptCause::Word => "words stand one space apart, and nothing follows the last one",
         ScriptCause::Number => {
-            "T is decimal microseconds, 0 to 1000000000000; PORT and WIDTH are decimal numbers; none has a zero before it"
+            "T is decimal microseconds, 0 to 1000000000000; PORT and WIDTH are decimal numbers; none has a zero before it; LEVEL is 0 or 1"
         }
         ScriptCause::Name => {
             "a NAME, CHILD or PARENT of the script has a `device` line in the topology"
@@ -49,7 +50,7 @@ fn of_script(cause: ScriptCause) -> &'static str {
             "WIDTH is a number of microseconds, 1 to 10000, of a pull 1 to 10000000"
         }
         ScriptCause::Order => {
-            "times do not go back: each T is that of the line before it or later, and a pulse or a pull begins after the end of the last one"
+            "times do not go back: each T is that of the line before it or later, and a pulse or a pull begins after the end of the last one, with the pin high"
         }
         ScriptCause::Close => {
             "a pulse begins at least 25000 microseconds after the end of the last pulse or pull"
@@ -66,14 +67,14 @@ fn of_script(cause: ScriptCause) -> &'static str {
 fn of_expectation(cause: ExpectCause) -> &'static str {
     match cause {
         ExpectCause::Word | ExpectCause::Pattern => {
-            "words stand one space apart; PATTERN has 1 to 160 bytes, at most four `*` and no space at an end; a label stands before an event, a pulse, a pull or an expectation"
+            "words stand one space apart; PATTERN has 1 to 160 bytes, at most four `*` and no space at an end; a label stands before an event, a pulse, a pull, the pin or an expectation"
         }
         ExpectCause::Number => {
             "D, T and U are decimal numbers of microseconds; none has a zero before it"
         }
         ExpectCause::Name => "a line of the topology declares the device",
         ExpectCause::Label => {
-            "a label is a word that no other line has, on a line above those that name it; `refused` names that of an event"
+            "a label is a word that no other line has, on a line above those that name it; `refused` names that of an event, or stands on the line below one"
         }
         ExpectCause::Order => {
             "a window does not end before it begins: U is T or later; the time of a state is not past `end`"
@@ -91,7 +92,7 @@ fn of_range(cause: RangeSlip) -> &'static str {
         }
         RangeSlip::Order => "a range `T..U` does not end before it begins: U is T or later",
         RangeSlip::Crosses => {
-            "each instant of a range keeps the order of the script: events in order of time, pulses and pulls too, `end` after each event, no state after `end`"
+            "each instant of a range keeps the order of the script: events in order of time, pulses, pulls and the pin too, `end` after each event, no state after `end`"
         }
         RangeSlip::Second => {
             "one time of a script may be a range, `T..U` or `T..U/S`, of at most 1000000 instants; another line may have one already"
@@ -126,6 +127,32 @@ fn of_hex(cause: DisCause) -> &'static str {
         }
         DisCause::Half => "a hex digit stands alone; each byte has two",
         DisCause::Length => "a frame has 1 to 16 bytes",
+    }
+}
+
+fn of_laid(cause: LayCause) -> &'static str {
+    match cause {
+        LayCause::Word => {
+            "a line is `T FRAME`, or `T FAULT FRAME` with a fault and its numbers; `blocks HEX` may stand in the place of FRAME"
+        }
+        LayCause::Number => {
+            "T is decimal microseconds, 0 to 1000000000000, and BIT 0 or 1; BLOCK, SLOT, LOW, TOTAL and AFTER are decimal numbers; none has a zero before it"
+        }
+        LayCause::Width => {
+            "LOW is 1 to 10000000 microseconds, also of lows that a glitch joins, TOTAL more than LOW and at most 10000000, AFTER at most 10000000"
+        }
+        LayCause::Frame(AssembleError::Address) => {
+            "after T, or after a fault and its numbers, comes `blocks` or a frame, `I>D` first, the hex digits of initiator and destination in lower case; a fault is eom, bit, start, last, drive or glitch"
+        }
+        LayCause::Frame(cause) => of_frame(cause),
+        LayCause::Blocks => {
+            "HEX is two lower-case digits a byte, without spaces, of 1 to 64 bytes"
+        }
+        LayCause::Slot => {
+            "slots and blocks count from 1; a frame has a block for its header, its opcode and each operand, and ten slots a block"
+        }
+        LayCause::Order => "a frame begins after the end of the last pull above",
+        LayCause::Late => "each pull begins at 1000000000000 microseconds or before",
     }
 }
 
@@ -211,6 +238,7 @@ pub fn right(fault: Fault) -> &'static str {
         }
         Fault::Frame { cause, .. } => of_frame(cause),
         Fault::Hex { cause, .. } => of_hex(cause),
+        Fault::Lay { cause, .. } => of_laid(cause),
         Fault::Capture { cause, .. } => of_capture(cause),
         Fault::Edid(error) => of_edid(error),
         Fault::NoHdmiBlock => {

@@ -8,6 +8,7 @@ use cec_dialogue::SessionError;
 use cec_dis::DisError;
 use cec_expect::ExpectFault;
 use cec_formats::CaptureError;
+use cec_lay::LayError;
 use cec_run::Totals;
 use cec_run::emulate::EmulateError;
 use cec_step::step_run::StepRunError;
@@ -70,6 +71,8 @@ pub enum ProgramFault {
     Frames(#[from] FrameLinesError),
     #[error(transparent)]
     Dis(#[from] DisError),
+    #[error(transparent)]
+    Lay(#[from] LayError),
     #[error(transparent)]
     Capture(#[from] CaptureError),
     #[error(transparent)]
@@ -159,6 +162,7 @@ impl ProgramFault {
             | ProgramFault::Emulate(EmulateError::Write(_))
             | ProgramFault::Frames(FrameLinesError::Write(_))
             | ProgramFault::Dis(DisError::Write(_))
+            | ProgramFault::Lay(LayError::Write(_))
             | ProgramFault::EdidToText(EdidToTextError::Write(_))
             | ProgramFault::TextToHex(TextToHexError::Write(_))
             | ProgramFault::PassOn(PassOnError::Write(_)) => 3,
@@ -188,6 +192,7 @@ impl ProgramFault {
             | ProgramFault::Emulate(_)
             | ProgramFault::Frames(FrameLinesError::Line(_))
             | ProgramFault::Dis(DisError::Line(_))
+            | ProgramFault::Lay(LayError::Line(_))
             | ProgramFault::Capture(CaptureError::Fault(_))
             | ProgramFault::EdidToText(_)
             | ProgramFault::TextToHex(_)

@@ -3,6 +3,7 @@ use cec_asm::{ScriptCause, TopologyCause};
 use cec_dis::DisCause;
 use cec_expect::ExpectCause;
 use cec_formats::{Cause, Form};
+use cec_lay::LayCause;
 use cec_text::AssembleError;
 use hdmi_blocks::EdidError;
 use hdmi_dump::DumpError;
@@ -86,6 +87,12 @@ pub enum Fault {
     Hex {
         line: u64,
         cause: DisCause,
+    },
+    /// A line with a frame to lay.
+    Lay {
+        line: u64,
+        cause: LayCause,
+        word: usize,
     },
     /// A line of a capture in this form, which parts its words.
     Capture {

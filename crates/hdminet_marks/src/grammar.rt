@@ -20,6 +20,7 @@ const OF_SCRIPT: &[&str] = &[
     "at T drop NAME",
     "pulse T WIDTH",
     "pull T WIDTH",
+    "pin T LEVEL",
     "end T",
 ];
 
@@ -101,6 +102,17 @@ const OF_SESSION: &[&str] = &[
     "edges off",
 ];
 
+// The lines of frames to lay.
+const OF_LAID: &[&str] = &[
+    "T FRAME",
+    "T eom BLOCK BIT FRAME",
+    "T bit SLOT LOW TOTAL FRAME",
+    "T start LOW TOTAL FRAME",
+    "T last SLOT FRAME",
+    "T drive SLOT FRAME",
+    "T glitch SLOT AFTER LOW FRAME",
+];
+
 // The lines of steps.
 const OF_STEPS: &[&str] = &[
     "edge",
@@ -134,6 +146,9 @@ pub const EXPECTATIONS: &[&[&str]] = &[OF_ROUNDS, BESIDE_ROUNDS];
 
 /// The lines of the expectations of a capture.
 pub const CAPTURE_EXPECTATIONS: &[&[&str]] = &[OF_ROUNDS, BESIDE_READINGS];
+
+/// The lines of frames to lay.
+pub const LAID: &[&[&str]] = &[OF_LAID];
 
 /// The steps.
 pub const STEPS: &[&[&str]] = &[OF_STEPS];

@@ -8,6 +8,7 @@ use crate::words::{Gaps, word_at};
 use cec_asm::ScriptCause;
 use cec_expect::ExpectCause;
 use cec_formats::{Cause, Form};
+use cec_lay::LayCause;
 use cec_text::AssembleError;
 
 /// Words side by side in a line, by their numbers from 0.
@@ -55,6 +56,17 @@ fn of_frame(cause: AssembleError, word: usize) -> Option<Mark> {
     }
 }
 
+/// The word of a line with which a frame's text begins, by the word that is at fault for a cause.
+pub fn frame_start(cause: AssembleError, word: usize) -> usize {
+    match cause {
+        AssembleError::Address => word,
+        AssembleError::Name => word.saturating_sub(1),
+        AssembleError::Operand | AssembleError::Count | AssembleError::TooLong => {
+            word.saturating_sub(2)
+        }
+    }
+}
+
 // A line that is a frame's text.
 fn in_frame(cause: AssembleError) -> Option<Mark> {
     match cause {
@@ -77,6 +89,20 @@ fn in_script(cause: ScriptCause, word: usize) -> Option<Mark> {
         | ScriptCause::Close
         | ScriptCause::TooMany
         | ScriptCause::End => one(word),
+    }
+}
+
+// A line with a frame to lay.
+fn in_laid(cause: LayCause, word: usize) -> Option<Mark> {
+    match cause {
+        LayCause::Frame(cause) => of_frame(cause, word),
+        LayCause::Blocks => from(word),
+        LayCause::Word
+        | LayCause::Number
+        | LayCause::Width
+        | LayCause::Slot
+        | LayCause::Order
+        | LayCause::Late => one(word),
     }
 }
 
@@ -153,6 +179,7 @@ fn told(what: Input, fault: Fault, line: &str) -> Option<Mark> {
         Fault::Range { word, .. } => one(word),
         Fault::Steps { word, .. } => one(word),
         Fault::Frame { cause, .. } => in_frame(cause),
+        Fault::Lay { cause, word, .. } => in_laid(cause, word),
         Fault::Capture {
             form,
             cause,

@@ -150,13 +150,16 @@ pub fn place_of(input: &[u8], what: Input, fault: Fault) -> Option<Place<'_>> {
         Fault::Capture { line, .. } => line_of(input, before_capture(what, input), line),
         Fault::Frame { line, .. }
         | Fault::Hex { line, .. }
+        | Fault::Lay { line, .. }
         | Fault::TextSyntax { line }
         | Fault::TextField { line, .. } => line_of(input, 0, line),
         Fault::Edid(_) | Fault::NoHdmiBlock => edid_line(what, input),
         Fault::NoScriptLine => find_parting(
             input,
             "script",
-            &["at ", "pulse ", "pull ", "end ", "label ", "expect "],
+            &[
+                "at ", "pulse ", "pull ", "pin ", "end ", "label ", "expect ",
+            ],
         ),
         Fault::NoStepsLine => find_parting(input, "steps", &["edge", "round", "until ", "show "]),
         Fault::NoCaptureLine => find_parting(input, "capture", &[]),

@@ -138,7 +138,9 @@ fn in_expected(line: &str) -> Option<Slipped> {
 // Of a label without its name.
 fn in_label(line: &str) -> Option<Slipped> {
     match (word_at(line, 0), word_at(line, 1)) {
-        (Some("label"), Some("at" | "pulse" | "pull" | "expect")) => at_words(Slip::NoName, 1, 1),
+        (Some("label"), Some("at" | "pulse" | "pull" | "pin" | "expect")) => {
+            at_words(Slip::NoName, 1, 1)
+        }
         _ => None,
     }
 }
@@ -147,7 +149,9 @@ fn in_label(line: &str) -> Option<Slipped> {
 fn in_line(line: &str) -> Option<Slipped> {
     match word_at(line, 0) {
         Some("at") => in_event(line),
-        Some("pulse" | "pull" | "end") if is_word(line, 1, "at") => at_words(Slip::StrayAt, 1, 1),
+        Some("pulse" | "pull" | "pin" | "end") if is_word(line, 1, "at") => {
+            at_words(Slip::StrayAt, 1, 1)
+        }
         Some("expect") => in_expected(line),
         _ => None,
     }
@@ -241,6 +245,7 @@ fn of_expectation(line: &str, cause: ExpectCause, word: usize) -> Option<Slipped
                 in_script(own.line, own.words, word.saturating_sub(own.words)),
             ),
         ),
+        ExpectCause::Label => in_script(own.line, own.words, word.saturating_sub(own.words)),
         _ => None,
     }
 }
@@ -251,7 +256,7 @@ pub fn slip_of(fault: Fault, line: &str) -> Option<Slipped> {
         Fault::Topology { cause, word, .. } => of_topology(line, cause, word),
         Fault::Script { cause, word, .. } => of_script(line, cause, word),
         Fault::Expectation { cause, word, .. } => of_expectation(line, cause, word),
-        Fault::Steps { word, .. } => before(line, word),
+        Fault::Steps { word, .. } | Fault::Lay { word, .. } => before(line, word),
         _ => None,
     }
 }

@@ -6,11 +6,12 @@ use crate::order::add_order;
 use crate::room::{add_field_count, add_lack_of_room};
 use cec_asm::{ScriptCause, TopologyCause};
 use cec_expect::ExpectCause;
+use cec_lay::LayCause;
 use hdminet_help::Draft;
 use hdminet_marks::{
-    Fault, Input, Place, REFUSALS, REMARKS, SCRIPT, SESSION, STEPS, TEST, TOPOLOGY, as_form,
-    fitting, forms_of, is_word, missing, most_fitting, plain, slip_of, without_label, word_at,
-    word_count,
+    Fault, Input, LAID, Place, REFUSALS, REMARKS, SCRIPT, SESSION, STEPS, TEST, TOPOLOGY, as_form,
+    fitting, forms_of, frame_start, is_word, missing, most_fitting, plain, slip_of, without_label,
+    word_at, word_count,
 };
 
 /// What the words of a state are.
@@ -251,11 +252,21 @@ pub fn add_right_forms(
         }
         Fault::Steps { .. } => add_forms(draft, STEPS, line),
         Fault::Frame { cause, .. } => add_frame(draft, cause, line, 0),
+        Fault::Lay {
+            cause: LayCause::Frame(cause),
+            word,
+            ..
+        } => add_frame(draft, cause, line, frame_start(cause, word)),
+        Fault::Lay {
+            cause: LayCause::Word | LayCause::Number,
+            ..
+        } => add_forms(draft, LAID, line),
         Fault::TextField { .. } => return add_fields(draft, place, line),
         Fault::TextSyntax { .. } => return add_field_count(draft, line),
         Fault::Past { .. }
         | Fault::Range { .. }
         | Fault::Hex { .. }
+        | Fault::Lay { .. }
         | Fault::Capture { .. }
         | Fault::Edid(_)
         | Fault::NoHdmiBlock

@@ -8,19 +8,21 @@ use crate::wanted::add_nearest_of;
 use cec_asm::ScriptCause;
 use cec_feature::KeyWord;
 use cec_formats::{Cause, Form};
+use cec_lay::LayCause;
 use cec_opcode::{WordSet, code_named};
+use cec_text::AssembleError;
 use hdmi_lines::WORD_TEXTS;
 use hdminet_help::Draft;
 use hdminet_marks::{
-    EXPECTATIONS, Fault, Input, NETWORK, Place, SESSION, SESSION_ALONE, STEPS, is_number, is_word,
-    most_fitting, word_at,
+    EXPECTATIONS, Fault, Input, LAID, NETWORK, Place, SESSION, SESSION_ALONE, STEPS, is_number,
+    is_word, most_fitting, word_at,
 };
 use hdminet_near::{add_near, add_nearest, add_number, add_other, add_set_meant, add_suggestion};
 
 /// The latest time of a capture, in microseconds.
 const LATEST_INSTANT: u64 = 2_000_000_000_000;
 
-/// Words that are written for the levels of a line, and for the end of a capture.
+/// Words that are written for the levels of a line.
 const LEVELS: &[(&str, &str)] = &[
     ("low", "0"),
     ("l", "0"),
@@ -28,8 +30,10 @@ const LEVELS: &[(&str, &str)] = &[
     ("high", "1"),
     ("h", "1"),
     ("rise", "1"),
-    ("end", "end"),
 ];
+
+/// The word of the end of a capture.
+const ENDS: &[(&str, &str)] = &[("end", "end")];
 
 /// Words that are written for no logical address.
 const NO_ADDRESS: &[&str] = &["none", "no", "nothing", "empty", "off"];
@@ -59,6 +63,8 @@ const OTHER_VERBS: &[(&str, &str)] = &[
     ("glitch", "pulse"),
     ("low", "pull"),
     ("drive", "pull"),
+    ("level", "pin"),
+    ("gpio", "pin"),
 ];
 
 /// The words that mute, audio and arc take.
@@ -168,6 +174,15 @@ fn of_script_word(draft: &mut Draft, what: Input, line: &str, word: &str, number
     }
 }
 
+// What a number of a script may have been meant for: of a pin its level.
+fn of_script_number(draft: &mut Draft, line: &str, word: &str, number: usize) {
+    if number == 2 && is_word(line, 0, "pin") {
+        let _ = add_other(draft, LEVELS, word);
+    } else {
+        add_number(draft, word);
+    }
+}
+
 // What a word of a script may have been meant for, by its number in the line without a label.
 fn of_script(
     draft: &mut Draft,
@@ -182,7 +197,7 @@ fn of_script(
     };
     match cause {
         ScriptCause::Name => add_name_meant(draft, place, word),
-        ScriptCause::Number => add_number(draft, word),
+        ScriptCause::Number => of_script_number(draft, line, word, number),
         ScriptCause::Word => of_script_word(draft, what, line, word, number),
         ScriptCause::Frame(cause) => add_frame_meant(draft, cause, line, number),
         ScriptCause::Width
@@ -224,7 +239,7 @@ fn of_edge(draft: &mut Draft, word: &str, number: usize) {
         0 if word.eq_ignore_ascii_case("end") => draft.add_line("T stands before `end`"),
         0 => add_number(draft, word),
         _ => {
-            let _ = add_other(draft, LEVELS, word);
+            let _ = add_other(draft, LEVELS, word) || add_other(draft, ENDS, word);
         }
     }
 }
@@ -250,6 +265,18 @@ pub fn add_meant(
         }
         Fault::Steps { .. } => of_step(draft, place, line, word, number),
         Fault::Frame { cause, .. } => add_frame_meant(draft, cause, line, number),
+        Fault::Lay {
+            cause: LayCause::Number,
+            ..
+        } => add_number(draft, word),
+        Fault::Lay {
+            cause: LayCause::Frame(AssembleError::Address),
+            ..
+        } if add_nearest_of(draft, LAID, word) => {}
+        Fault::Lay {
+            cause: LayCause::Frame(cause),
+            ..
+        } => add_frame_meant(draft, cause, line, number),
         Fault::TextSyntax { .. } => {
             let _ = add_nearest(draft, WORD_TEXTS, word);
         }
@@ -261,6 +288,7 @@ pub fn add_meant(
         Fault::Past { .. }
         | Fault::Range { .. }
         | Fault::Hex { .. }
+        | Fault::Lay { .. }
         | Fault::Capture { .. }
         | Fault::Edid(_)
         | Fault::NoHdmiBlock

@@ -65,3 +65,20 @@ pub fn add_name_meant(draft: &mut Draft, place: Place<'_>, word: &str) {
         add_declared(draft, place);
     }
 }
+
+// The first of the names in a header, each after an `@`, that no line above declares.
+fn undeclared_in<'a>(place: Place<'_>, header: &'a str) -> Option<&'a str> {
+    for part in header.split('>') {
+        if let Some((_, name)) = part.split_once('@') {
+            if !is_declared(place, name) {
+                return Some(name);
+            }
+        }
+    }
+    None
+}
+
+/// What a name of an expectation, or one in the header of its pattern, may have been meant for.
+pub fn add_expected_name_meant(draft: &mut Draft, place: Place<'_>, word: &str) {
+    add_name_meant(draft, place, undeclared_in(place, word).unwrap_or(word));
+}

@@ -39,7 +39,7 @@ const OTHER_KINDS: &[(&str, &str)] = &[
 const TOPOLOGY_VERBS: &[&str] = &["device", "plug", "edid", "script"];
 
 /// The words with which lines of a script begin.
-const SCRIPT_VERBS: &[&str] = &["at", "pulse", "pull", "end", "label", "expect"];
+const SCRIPT_VERBS: &[&str] = &["at", "pulse", "pull", "pin", "end", "label", "expect"];
 
 /// Words that lines of a topology begin with elsewhere.
 const OTHER_VERBS: &[(&str, &str)] = &[

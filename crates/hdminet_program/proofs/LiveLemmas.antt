@@ -1,5 +1,5 @@
 -- What a session writes is the text that the program makes of its input.
-use Rattle.std.proofs.Common.{◌≡◌, ◌≢◌, ℕ, ◌==◌, true, not, codes, List, [], ◌∷◌, ◌++◌, Option, Some, None, All, refl, sym, ap, subst, ◌∙◌, append-nil}
+use Rattle.std.proofs.Common.{◌≡◌, ◌≢◌, ℕ, ◌==◌, Bool, true, false, not, codes, List, [], ◌∷◌, ◌++◌, length, drop, drop_at, Option, Some, None, Ok, Result, All, refl, sym, ap, subst, ◌∙◌, append-nil, append_assoc}
 use Rattle.std.specs.Io.KnownBytes.{Appends, Keeps, append_known}
 use Rattle.std.proofs.lemmas.Bool.{false≢true}
 use Rattle.std.proofs.lemmas.List.Elements.{All-append, All-cons, All-nil, All-weaker}
@@ -8,11 +8,14 @@ use Rattle.hdmi_core.specs.declared.buffered.Buffered.{Buffered}
 use Rattle.hdmi_core.specs.Buffered.{below, pending}
 pub use Rattle.hdmi_core.proofs.CutShort.{Appends-trans}
 use Rattle.hdmi_core.specs.Lines.{lines_of}
+use Rattle.cec_live_json.specs.Object.{AreLiveObjects}
+use Rattle.cec_live_json.specs.Put.{AreAllPut, mark}
 use Rattle.cec_incoming.specs.Incoming.{IsWhole, text_of_lines}
 use Rattle.cec_incoming.proofs.Coming.{lines_again}
-use Rattle.cec_dialogue.specs.Dialogue.{IsDone, first_reported}
+use Rattle.cec_dialogue.specs.Dialogue.{IsDone, IsSession, first_reported}
+use Rattle.cec_dialogue.specs.declared.error.SessionError.{SessionError}
 use Rattle.hdminet_words.specs.declared.choice.Choice.TheVariants.{Live}
-use Rattle.hdminet_program.specs.Live.{IsLiveDone, Lives}
+use Rattle.hdminet_program.specs.Live.{IsLiveDone, Lives, LivesAs, LivesInObjects}
 use Rattle.hdminet_program.specs.Done.{IsServed}
 
 -- ---- the text
@@ -111,7 +114,7 @@ spelled rest old new d = (
 
 -- ---- what the program does
 
-pub lived : (known old new : Option (List ℕ)) (name : List ℕ) → Lives known old new → IsServed known old new Live name
+pub lived : (known old new : Option (List ℕ)) (name : List ℕ) → Lives known old new → IsServed known old new (Live false) name
 lived None old new name (rest, d) =
     let of = spelled rest old new d in record {
       input = of.0;
@@ -139,7 +142,7 @@ nothing_more None = refl
 nothing_more (Some xs) = ap Some (append-nil xs)
 
 -- all that was put is handed on
-whole_below : {S : Type 0} (contents : S → Option (List ℕ)) (b : Buffered S) → pending b ≡ [] → append_known (contents (below b)) (pending b) ≡ contents (below b)
+pub whole_below : {S : Type 0} (contents : S → Option (List ℕ)) (b : Buffered S) → pending b ≡ [] → append_known (contents (below b)) (pending b) ≡ contents (below b)
 whole_below contents b empty = ap (append_known (contents (below b))) empty ∙ nothing_more (contents (below b))
 
 keeps_appends : (old mid new : Option (List ℕ)) (text : List ℕ) → Keeps old mid → Appends mid new text → Appends old new text
@@ -169,3 +172,53 @@ pub lives : {S : Type 0} (contents : S → Option (List ℕ)) (known rest old mi
     → Lives known old (contents (below b))
 lives contents known rest old mid b k d empty =
     (rest, subst (λ (new : Option (List ℕ)). IsDone known rest old new) (whole_below contents b empty) (after_more known rest old mid (append_known (contents (below b)) (pending b)) k d))
+
+-- ---- in objects of JSON
+
+-- what comes after the same text is the same
+same_after : (front x y : List ℕ) → front ++ x ≡ front ++ y → x ≡ y
+same_after front x y e = sym (drop_at front x (length front) refl) ∙ ap (drop (length front)) e ∙ drop_at front y (length front) refl
+
+pub lived_in_objects : (known old new : Option (List ℕ)) (name : List ℕ) → LivesInObjects known old new → IsServed known old new (Live true) name
+lived_in_objects known old new name l =
+    let served = lived known (Some l.front) (Some (l.front ++ l.lines)) name l.lives in
+    let lines = served.written.0 in
+    let same : l.lines ≡ lines = same_after l.front l.lines lines served.written.2 in record {
+      input = served.input;
+      all = served.all;
+      written = (l.objects, (lines, served.written.1, subst (λ (t : List ℕ). AreLiveObjects (lines_of t) l.objects) same l.are), l.put);
+    }
+
+pub lived_as : (json : Bool) (known old new : Option (List ℕ)) (name : List ℕ) → LivesAs json known old new → IsServed known old new (Live json) name
+lived_as false known old new name l = lived known old new name l
+lived_as true known old new name l = lived_in_objects known old new name l
+
+-- a session grows what was put by the text that is due
+grown : (known rest new : Option (List ℕ)) (front : List ℕ) → IsDone known rest (Some front) new → (text : List ℕ) × (new ≡ Some (front ++ text))
+grown known rest None front d = absurd (none (Some front) d.run.so_far (first_reported d.run.first) d.over.answers.text d.run.put d.over.answers.put)
+  where
+    none : (old mid : Option (List ℕ)) (x y : List ℕ) → Appends (Some front) mid x → Appends mid None y → ⊥
+    none old None x y a b = a
+    none old (Some m) x y a b = b
+grown known rest (Some new) front d =
+    let text = first_reported d.run.first ++ d.over.answers.text in
+    (text, ap Some (Appends-trans (Some front) d.run.so_far (Some new) (first_reported d.run.first) d.over.answers.text d.run.put d.over.answers.put))
+
+-- a session whose text comes after the mark of what the sink held at first, of which each line has its object
+pub in_objects : (known rest old put new : Option (List ℕ)) (held : Option (List ℕ)) → held ≡ Some (mark old) → IsDone known rest held put
+    → ((first : Option (List ℕ)) (text : List ℕ) → put ≡ Some (mark first ++ text) → AreAllPut text first new) → LivesInObjects known old new
+in_objects known rest old put new held is d puts =
+    let done : IsDone known rest (Some (mark old)) put = subst (λ (h : Option (List ℕ)). IsDone known rest h put) is d in
+    let more = grown known rest put (mark old) done in
+    let all = puts old more.0 more.1 in record {
+      front = mark old;
+      lines = more.0;
+      lives = (rest, subst (λ (p : Option (List ℕ)). IsDone known rest (Some (mark old)) p) more.1 done);
+      objects = all.0;
+      are = all.1;
+      put = all.2;
+    }
+
+-- a session that came to its end
+pub served : (known rest old new : Option (List ℕ)) (r : Result Unit SessionError) → r ≡ Ok tt → IsSession known rest old new r → IsDone known rest old new
+served known rest old new r ok is = subst (IsSession known rest old new) ok is

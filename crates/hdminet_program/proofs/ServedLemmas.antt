@@ -1,7 +1,10 @@
 -- What the words of a command line ask for is done.
 use Rattle.std.proofs.Common.{◌≡◌, ℕ, List, Option, Some, None, subst, sym}
+use Rattle.hdminet_captures.specs.Following.{FollowsTo}
 use Rattle.hdminet_program.specs.Done.{AreServedAs, IsHelp, IsServed}
 use Rattle.hdminet_words.specs.declared.choice.Asked.{Asked}
+use Rattle.hdminet_words.specs.declared.choice.Choice.TheVariants.{Follow}
+use Rattle.hdminet_words.specs.declared.choice.LineForm.{LineForm}
 
 -- where a choice was made
 pub chosen : (o : Option Asked) (asked : Asked) (name : List ℕ) (known old new : Option (List ℕ)) → o ≡ Some asked → IsServed known old new asked.choice name
@@ -11,3 +14,12 @@ chosen o asked name known old new is served = subst (λ x. AreServedAs x name kn
 -- and where none was
 pub helped : (o : Option Asked) (name : List ℕ) (known old new : Option (List ℕ)) → o ≡ None → IsHelp old new → AreServedAs o name known old new
 helped o name known old new is help = subst (λ x. AreServedAs x name known old new) (sym is) help
+
+-- a capture that is reported as its lines come
+pub followed : (form : LineForm) (margin : ℕ) (known old new : Option (List ℕ)) (name : List ℕ) → FollowsTo form margin known old new
+    → IsServed known old new (Follow form margin) name
+followed form margin known old new name f = record {
+  input = f.input;
+  all = f.all;
+  written = (f.text, f.reported name, f.put);
+}

@@ -1,12 +1,15 @@
 -- What the program does for a choice, an input and what it writes (own).
-use Rattle.std.specs.Prelude.{◌≡◌, ℕ, Bool, true, false, if◌then◌else◌, ◌⊎◌, List, take, Option, None, Some, IfSome, MatchOption, codes}
+use Rattle.std.specs.Prelude.{◌≡◌, ℕ, Bool, true, false, if◌then◌else◌, ◌⊎◌, List, take, Option, None, Some, Ok, IfSome, MatchOption, codes}
 use Rattle.std.specs.Str.{bytes_eq}
 use Rattle.std.specs.List.{flat_map}
 use Rattle.std.specs.Io.KnownBytes.{Appends}
 use Rattle.cec_audit_json.specs.Object.{AreAuditObjects}
 use Rattle.cec_dis.specs.Lines.{first_fault, line_text}
-use Rattle.cec_driven.specs.Emulate.{IsDrivesOf}
+use Rattle.cec_driven.specs.Emulate.{IsDumpOf}
+use Rattle.cec_driven.specs.declared.wires.Wires.{Wires}
+use Rattle.cec_driven.specs.declared.wires.Wires.TheVariants as wires
 use Rattle.cec_json.specs.Object.{AreObjects}
+use Rattle.cec_lay.specs.Text.{AreLinesRead, no_notes, pull_line}
 use Rattle.cec_line.specs.declared.format.Format.{Format}
 use Rattle.cec_line.specs.declared.format.Format.TheVariants as formats
 use Rattle.cec_meaning.specs.Lines.{meant_text}
@@ -18,24 +21,26 @@ use Rattle.cec_run.specs.Emulate.{IsLineOf, IsTraceOf}
 use Rattle.cec_run.specs.declared.run.Totals.{Totals}
 use Rattle.cec_step.specs.StepRun.{AreStepsOf}
 use Rattle.cec_text.specs.FrameLines.{AreTextsOf, hex_line as frame_line, lines_of_frames}
+use Rattle.cec_wave.specs.declared.Stretch.{Stretch}
 use Rattle.hdmi_core.specs.Lines.{lines_of}
 use Rattle.hdminet_words.specs.Line.{asked_by}
 use Rattle.hdminet_words.specs.MonFlags.{signal_in}
 use Rattle.hdminet_words.specs.declared.choice.Asked.{Asked}
 use Rattle.hdminet_words.specs.declared.choice.Choice.{Choice}
-use Rattle.hdminet_words.specs.declared.choice.Choice.TheVariants.{Run, Check, CheckCapture, Step, Live, Asm, Dis, Mon, Json, Edid}
+use Rattle.hdminet_words.specs.declared.choice.Choice.TheVariants.{Run, Check, CheckCapture, Step, Live, Asm, Dis, Lay, Mon, Follow, Json, Edid}
 use Rattle.hdminet_words.specs.declared.choice.Objects.{Objects}
 use Rattle.hdminet_words.specs.declared.choice.Objects.TheVariants as of
 use Rattle.hdminet_words.specs.declared.choice.Listing.{Listing}
-use Rattle.hdminet_words.specs.declared.choice.Listing.TheVariants.{Trace, Edges, Vcd, Pin, Csv, Drives}
+use Rattle.hdminet_words.specs.declared.choice.Listing.TheVariants.{Trace, Edges, Vcd, Pin, Csv, Drives, Named}
 use Rattle.hdminet_words.specs.declared.choice.Report.{Report as CaptureReport}
 use Rattle.hdminet_words.specs.declared.choice.Report.TheVariants.{Audit}
 use Rattle.hdminet_words.specs.declared.choice.TestView.{TestView}
 use Rattle.hdminet_words.specs.declared.choice.TestView.TheVariants.{Report, Traced}
 use Rattle.hdminet_captures.specs.CaptureTests.{IsCaptureTest}
 use Rattle.hdminet_captures.specs.Captures.{IsHeard, IsShown, form_of, name_of, report_of}
+use Rattle.hdminet_captures.specs.Following.{IsReported}
 use Rattle.hdminet_edids.specs.Edids.{IsMade}
-use Rattle.hdminet_program.specs.Live.{IsLiveDone}
+use Rattle.hdminet_program.specs.Live.{IsLiveDoneAs}
 use Rattle.hdminet_faults.specs.Parted.{IsParted, IsRunInput}
 use Rattle.hdminet_program.specs.Tests.{IsTestOf}
 
@@ -53,12 +58,12 @@ pub record IsLineDone (format : Format) (input text : List ℕ) (totals : Totals
   pub parts : IsRunInput input topology script
   pub line : IsLineOf format topology script text totals
 
--- the same of its line and who drives it
-pub record IsDrivenDone (input text : List ℕ) (totals : Totals) : Type 0 where
+-- the same of its line and who drives it, with its frames and bits as strings or without
+pub record IsDrivenDone (of_wires : Wires) (input text : List ℕ) (totals : Totals) : Type 0 where
   pub topology : List ℕ
   pub script : List ℕ
   pub parts : IsRunInput input topology script
-  pub drives : IsDrivesOf topology script text totals
+  pub dump : IsDumpOf of_wires topology script text totals
 
 -- this text is what is asked for of the test that the input spells
 pub record IsTestDone (view : TestView) (input text : List ℕ) : Type 0 where
@@ -84,7 +89,8 @@ IsListed Edges input text totals = IsLineDone formats.Edges input text totals
 IsListed Vcd input text totals = IsLineDone formats.Vcd input text totals
 IsListed Pin input text totals = IsLineDone formats.Pin input text totals
 IsListed Csv input text totals = IsLineDone formats.Csv input text totals
-IsListed Drives input text totals = IsDrivenDone input text totals
+IsListed Drives input text totals = IsDrivenDone wires.Plain input text totals
+IsListed Named input text totals = IsDrivenDone wires.Named input text totals
 
 -- a report, with its trace or without
 abbrev pub report_view : Bool → TestView
@@ -159,12 +165,20 @@ IsDone (Run listing strict) name input text = (totals : Totals) × IsListed list
 IsDone (Check view) name input text = IsTestDone view input text
 IsDone (CheckCapture form glitch) name input text = IsCaptureTest form name glitch input text
 IsDone Step name input text = AreStepsDone input text
-IsDone Live name input text = IsLiveDone input text
+IsDone (Live json) name input text = IsLiveDoneAs json input text
 IsDone Asm name input text = (frames : List (List ℕ)) × AreTextsOf (lines_of_frames (lines_of input)) frames × (text ≡ flat_map frame_line frames)
 IsDone (Dis meaning) name input text = (first_fault 1 (lines_of input) ≡ None) × (text ≡ flat_map (dis_text meaning) (lines_of input))
+IsDone Lay name input text = (pulls : List Stretch) × AreLinesRead (lines_of input) 1 no_notes (Ok pulls) × (text ≡ flat_map pull_line pulls)
 IsDone (Mon form glitch margin inverted folded report) name input text = IsShown folded (form_of form input) name inverted glitch margin (report_of report (form_of form input)) input text
+IsDone (Follow form margin) name input text = IsReported form margin name input text
 IsDone (Json objects) name input text = (lines : List ℕ) × AreLines objects name input lines × AreObjectsOf objects input lines text
 IsDone (Edid source reading view) name input text = IsMade source reading view input text
+
+-- the choices whose lines are answered as they come
+abbrev pub is_line_by_line : Choice → Bool
+is_line_by_line (Live json) = true
+is_line_by_line (Follow form margin) = true
+is_line_by_line choice = false
 
 -- a choice is done for an input: its text is written, and nothing else
 abbrev pub Writes : Choice → List ℕ → List ℕ → Option (List ℕ) → Option (List ℕ) → Type 0
@@ -174,6 +188,11 @@ Writes choice name input old new = (text : List ℕ) × IsDone choice name input
 abbrev pub WritesLine : Format → Bool → List ℕ → Option (List ℕ) → Option (List ℕ) → Type 0
 WritesLine format strict input old new =
     (text : List ℕ) × ((totals : Totals) × IsLineDone format input text totals × (strict ≡ true → totals.refused ≡ 0)) × Appends old new text
+
+-- the same of its line and who drives it
+abbrev pub WritesDrives : Wires → Bool → List ℕ → Option (List ℕ) → Option (List ℕ) → Type 0
+WritesDrives of_wires strict input old new =
+    (text : List ℕ) × ((totals : Totals) × IsDrivenDone of_wires input text totals × (strict ≡ true → totals.refused ≡ 0)) × Appends old new text
 
 -- what was read is all that there was, where that is known
 abbrev pub IsAllOf : Option (List ℕ) → List ℕ → Type 0

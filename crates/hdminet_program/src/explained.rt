@@ -5,6 +5,7 @@ use cec_dialogue::{ScriptEnd, SessionError};
 use cec_dis::DisError;
 use cec_expect::ExpectFault;
 use cec_formats::{CaptureError, Form};
+use cec_lay::LayError;
 use cec_run::emulate::EmulateError;
 use cec_sweep::{RangeCause, RangeFault};
 use cec_text::FrameLinesError;
@@ -14,7 +15,7 @@ use hdminet_captures::form_of;
 use hdminet_faults::ProgramFault;
 use hdminet_faults::parts::capture_parts;
 use hdminet_marks::{Fault as Explained, Input, RangeSlip};
-use hdminet_words::{Choice, Objects, Source};
+use hdminet_words::{Choice, LineForm, Objects, Source};
 
 /// What the input of a choice is to be.
 pub fn input_of(choice: Choice) -> Input {
@@ -26,10 +27,12 @@ pub fn input_of(choice: Choice) -> Input {
         Choice::Run { .. }
         | Choice::Step
         | Choice::Json(Objects::Trace { .. } | Objects::Room { .. }) => Input::Network,
-        Choice::Live => Input::Session,
+        Choice::Live { .. } => Input::Session,
         Choice::Asm
         | Choice::Dis { .. }
+        | Choice::Lay
         | Choice::Mon { .. }
+        | Choice::Follow { .. }
         | Choice::Json(Objects::Capture { .. }) => { Input::Lines }
         Choice::Edid { source, .. } => match source {
             Source::Bytes | Source::Pair { dumps: false, .. } => Input::EdidBytes,
@@ -45,6 +48,10 @@ pub fn form_in(choice: Choice, input: &[u8]) -> Form {
         Choice::Mon { form, .. } | Choice::Json(Objects::Capture { form, .. }) => {
             form_of(form, input)
         }
+        Choice::Follow {
+            form: LineForm::Pin,
+            ..
+        } => Form::Pin,
         Choice::CheckCapture { form, .. } | Choice::Json(Objects::CaptureTest { form, .. }) => {
             match capture_parts(input) {
                 Ok((_, taken)) => form_of(form, taken),
@@ -159,6 +166,17 @@ fn of_hex(error: &DisError) -> Explained {
     }
 }
 
+fn of_laid(error: &LayError) -> Explained {
+    match error {
+        LayError::Line(fault) => Explained::Lay {
+            line: fault.line,
+            cause: fault.cause,
+            word: fault.word,
+        },
+        LayError::Write(_) => Explained::Write,
+    }
+}
+
 fn of_capture(form: Form, error: &CaptureError) -> Explained {
     match error {
         CaptureError::Fault(fault) => Explained::Capture {
@@ -220,6 +238,7 @@ pub fn explained(form: Form, fault: &ProgramFault) -> Option<Explained> {
         },
         ProgramFault::Frames(error) => of_frames(error),
         ProgramFault::Dis(error) => of_hex(error),
+        ProgramFault::Lay(error) => of_laid(error),
         ProgramFault::Capture(error) => of_capture(form, error),
         ProgramFault::EdidToText(error) => of_edid(error),
         ProgramFault::TextToHex(error) => of_edid_text(error),

@@ -36,9 +36,11 @@ pub fn limit_of(choice: Choice) -> usize {
         | Choice::Run { .. }
         | Choice::Check(_)
         | Choice::Step
-        | Choice::Live
+        | Choice::Live { .. }
+        | Choice::Follow { .. }
         | Choice::Asm
         | Choice::Dis { .. }
+        | Choice::Lay
         | Choice::Edid { .. } => LIMIT,
     }
 }

@@ -1,9 +1,10 @@
 //! A session: the lines of an input, answered as they come.
-ghost use Rattle.std.specs.Prelude.{OnOk};
+ghost use Rattle.std.specs.Prelude.{◌≡◌, None, Ok, OnOk};
 ghost use Rattle.hdmi_core.specs.Buffered.{below};
-ghost use Rattle.hdminet_program.specs.Live.{Lives};
+ghost use Rattle.hdminet_program.specs.Live.{Lives, LivesInObjects};
 
-use cec_dialogue::{Hearer, session_heard};
+use cec_dialogue::{Hearer, SessionError, session_heard};
+use cec_live_json::{Finished, Halt, LiveObjects};
 use cec_session::{Refusal, RefusalCause};
 use hdmi_core::{Buffered, Sink, put_all};
 use hdminet_explain::explain_line;
@@ -79,4 +80,34 @@ pub(crate) fn live<R: Read, W: Sink, E: Sink>(
     };
     session_heard(alloc, input, out, &mut explainer)?;
     Ok(())
+}
+
+/// How a session in objects ended, why no more objects were put, where that is so, and the sink that it wrote to.
+#[derive(Drop)]
+pub(crate) struct LiveEnded<W: Sink> {
+    pub done: Result<(), SessionError>,
+    pub halted: Option<Halt>,
+    pub out: Buffered<W>,
+}
+
+/// [`live`], which writes the object of each line, and hands it on, before it reads the next one.
+#[inline(never)]
+pub(crate) fn live_in_objects<R: Read, W: Sink, E: Sink>(
+    alloc: Global,
+    explains: bool,
+    input: &mut R,
+    out: W,
+    err: &mut E,
+) -> LiveEnded<W>
+    ensures { result.done ≡ Ok tt → result.halted ≡ None → LivesInObjects (R.remaining input.old) (W.contents out) (W.contents (below result.out)) }
+{
+    let mut lines = Buffered::new(LiveObjects::new(alloc, out));
+    let mut explainer = Explainer {
+        alloc,
+        explains,
+        err,
+    };
+    let done = session_heard(alloc, input, &mut lines, &mut explainer);
+    let Finished { halted, out } = lines.into_below().finish();
+    LiveEnded { done, halted, out }
 }

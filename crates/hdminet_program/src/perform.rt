@@ -1,12 +1,14 @@
 //! What the program does for a choice.
-ghost use Rattle.std.specs.Prelude.{◌≢◌, true, false, [], OnOk};
-ghost use Rattle.hdminet_program.specs.Done.{Writes};
+ghost use Rattle.std.specs.Prelude.{◌≡◌, true, false, [], OnOk};
+ghost use Rattle.hdminet_program.specs.Done.{Writes, is_line_by_line};
 
 use crate::check::{test, test_capture};
 use crate::objects::write_json;
 use crate::run::{run, run_to_drives, run_to_line};
 use crate::told::Told;
 use cec_dis::dis_lines;
+use cec_driven::Wires;
+use cec_lay::lay_lines;
 use cec_line::Format;
 use cec_meaning::dis_with_meaning;
 use cec_step::step_run::step_run;
@@ -64,6 +66,14 @@ fn assemble<W: Sink>(input: &[u8], out: &mut W) -> Result<Told, ProgramFault>
     Ok(Told::Nothing)
 }
 
+#[inline(never)]
+fn lay<W: Sink>(input: &[u8], out: &mut W) -> Result<Told, ProgramFault>
+    ensures { OnOk result (Writes Choice.Lay [] input.now (W.contents out.old) (W.contents out.new)) }
+{
+    lay_lines(input, out)?;
+    Ok(Told::Nothing)
+}
+
 /// Does what is asked for. Of a run the result has the counts.
 pub fn perform<W: Sink>(
     alloc: Global,
@@ -72,7 +82,7 @@ pub fn perform<W: Sink>(
     input: &[u8],
     out: &mut W,
 ) -> Result<Told, ProgramFault>
-    requires { choice ≢ Choice.Live }
+    requires { is_line_by_line choice ≡ false }
     ensures { OnOk result (Writes choice signal.now input.now (W.contents out.old) (W.contents out.new)) }
 {
     match choice {
@@ -82,16 +92,18 @@ pub fn perform<W: Sink>(
             Listing::Vcd => run_to_line(alloc, Format::Vcd, strict, input, out),
             Listing::Pin => run_to_line(alloc, Format::Pin, strict, input, out),
             Listing::Csv => run_to_line(alloc, Format::Csv, strict, input, out),
-            Listing::Drives => run_to_drives(alloc, strict, input, out),
+            Listing::Drives => run_to_drives(alloc, Wires::Plain, strict, input, out),
+            Listing::Named => run_to_drives(alloc, Wires::Named, strict, input, out),
         },
         Choice::Check(view) => test(alloc, view, input, out),
         Choice::CheckCapture { form, glitch } => {
             test_capture(alloc, form, signal, glitch, input, out)
         }
         Choice::Step => step(alloc, input, out),
-        Choice::Live => unreachable!(),
+        Choice::Live { .. } | Choice::Follow { .. } => unreachable!(),
         Choice::Asm => assemble(input, out),
         Choice::Dis { meaning } => disassemble(meaning, input, out),
+        Choice::Lay => lay(input, out),
         Choice::Mon {
             form,
             glitch,

@@ -1,21 +1,25 @@
 //! The program over a reader and two sinks.
-ghost use Rattle.std.specs.Prelude.{◌≡◌, ◌≢◌, OnOk, IfOk, Ok, map, string_bytes};
+ghost use Rattle.std.specs.Prelude.{◌≡◌, false, OnOk, IfOk, None, Ok, map, string_bytes};
 ghost use Rattle.std.specs.Io.KnownBytes.{Keeps};
 ghost use Rattle.hdmi_core.specs.Buffered.{below};
 ghost use Rattle.hdminet_captures.specs.Captures.{name_of};
-ghost use Rattle.hdminet_program.specs.Done.{AreServed, IsHelp, IsServed, Writes};
-ghost use Rattle.hdminet_program.specs.Live.{Lives};
+ghost use Rattle.hdminet_captures.specs.Following.{FollowsTo};
+ghost use Rattle.hdminet_program.specs.Done.{AreServed, IsHelp, IsServed, Writes, is_line_by_line};
+ghost use Rattle.hdminet_program.specs.Live.{Lives, LivesAs, LivesInObjects};
 ghost use Rattle.hdminet_words.specs.MonFlags.{signal_in};
 
 use crate::input::{limit_of, read_input};
-use crate::live::live;
+use crate::live::{LiveEnded, live, live_in_objects};
 use crate::perform::perform;
 use crate::said::{remark, report};
 use crate::told::Told;
-use hdmi_core::{Buffered, Sink, put_all};
+use cec_dialogue::SessionError;
+use cec_live_json::Halt;
+use hdmi_core::{Buffered, Sink, WriteFault, put_all};
+use hdminet_captures::follow_capture;
 use hdminet_command::{Refused, choose};
 use hdminet_faults::{ProgramFault, write_fault};
-use hdminet_words::{Asked, Choice, signal_in};
+use hdminet_words::{Asked, Choice, LineForm, signal_in};
 use std::alloc::{AllocError, Global};
 use std::io::Read;
 
@@ -75,7 +79,7 @@ fn answer<W: Sink, E: Sink>(
     out: &mut Buffered<W>,
     err: &mut E,
 ) -> u8
-    requires { asked.choice ≢ Choice.Live }
+    requires { is_line_by_line asked.choice ≡ false }
     ensures { result ≡ 0 → Writes asked.choice signal.now input.now (⟦<Buffered<W> as Sink>⟧.contents out.old) (W.contents (below out.new)) }
 {
     let done = perform(alloc, asked.choice, signal, input, out);
@@ -104,6 +108,126 @@ fn serve_lines<R: Read, W: Sink, E: Sink>(
     }
 }
 
+// Says how a session in objects went. Answers the exit status.
+fn report_objects<E: Sink>(
+    alloc: Global,
+    asked: Asked,
+    done: Result<(), SessionError>,
+    halted: Option<Halt>,
+    err: &mut E,
+) -> u8
+    ensures { result ≡ 0 → (done ≡ Ok tt) × (halted ≡ None) }
+{
+    match halted {
+        Some(Halt::Write(count)) => {
+            report(
+                alloc,
+                asked,
+                &ProgramFault::Write(WriteFault { count }),
+                b"",
+                err,
+            )
+        }
+        Some(Halt::Memory) => report(alloc, asked, &ProgramFault::Memory(AllocError), b"", err),
+        None => match done {
+            Ok(()) => 0,
+            Err(fault) => report(alloc, asked, &ProgramFault::from(fault), b"", err),
+        },
+    }
+}
+
+// Answers the lines of an input as they come.
+fn serve_in_lines<R: Read, W: Sink, E: Sink>(
+    alloc: Global,
+    asked: Asked,
+    input: &mut R,
+    out: W,
+    err: &mut E,
+) -> Ended<W>
+    ensures { result.status ≡ 0 → Lives (R.remaining input.old) (W.contents out) (W.contents result.out) }
+{
+    let mut out = Buffered::new(out);
+    let status = serve_lines(alloc, asked, input, &mut out, err);
+    Ended {
+        status,
+        out: out.into_below(),
+    }
+}
+
+// The same in objects.
+fn serve_in_objects<R: Read, W: Sink, E: Sink>(
+    alloc: Global,
+    asked: Asked,
+    input: &mut R,
+    out: W,
+    err: &mut E,
+) -> Ended<W>
+    ensures { result.status ≡ 0 → LivesInObjects (R.remaining input.old) (W.contents out) (W.contents result.out) }
+{
+    let LiveEnded { done, halted, out } = live_in_objects(alloc, asked.explains, input, out, err);
+    let status = report_objects(alloc, asked, done, halted, err);
+    Ended {
+        status,
+        out: out.into_below(),
+    }
+}
+
+// In objects or in lines.
+fn serve_session<R: Read, W: Sink, E: Sink>(
+    alloc: Global,
+    json: bool,
+    asked: Asked,
+    input: &mut R,
+    out: W,
+    err: &mut E,
+) -> Ended<W>
+    ensures { result.status ≡ 0 → LivesAs json (R.remaining input.old) (W.contents out) (W.contents result.out) }
+{
+    if json {
+        serve_in_objects(alloc, asked, input, out, err)
+    } else {
+        serve_in_lines(alloc, asked, input, out, err)
+    }
+}
+
+// Reports a capture as its lines come, and says how it went. Answers the exit status.
+fn follow_lines<R: Read, W: Sink, E: Sink>(
+    alloc: Global,
+    asked: Asked,
+    form: LineForm,
+    margin: u64,
+    input: &mut R,
+    out: &mut Buffered<W>,
+    err: &mut E,
+) -> u8
+    ensures { result ≡ 0 → FollowsTo form margin (R.remaining input.old) (⟦<Buffered<W> as Sink>⟧.contents out.old) (W.contents (below out.new)) }
+{
+    match follow_capture(form, margin, input, out) {
+        Ok(()) => 0,
+        Err(fault) => report(alloc, asked, &fault, b"", err),
+    }
+}
+
+// Reports a capture as its lines come.
+fn serve_capture<R: Read, W: Sink, E: Sink>(
+    alloc: Global,
+    asked: Asked,
+    form: LineForm,
+    margin: u64,
+    input: &mut R,
+    out: W,
+    err: &mut E,
+) -> Ended<W>
+    ensures { result.status ≡ 0 → FollowsTo form margin (R.remaining input.old) (W.contents out) (W.contents result.out) }
+{
+    let mut out = Buffered::new(out);
+    let status = follow_lines(alloc, asked, form, margin, input, &mut out, err);
+    Ended {
+        status,
+        out: out.into_below(),
+    }
+}
+
 // Does what is asked for with all there is to read. Answers the exit status.
 fn serve_whole<R: Read, W: Sink, E: Sink>(
     alloc: Global,
@@ -113,29 +237,12 @@ fn serve_whole<R: Read, W: Sink, E: Sink>(
     out: &mut Buffered<W>,
     err: &mut E,
 ) -> u8
-    requires { asked.choice ≢ Choice.Live }
+    requires { is_line_by_line asked.choice ≡ false }
     ensures { result ≡ 0 → IsServed (R.remaining input.old) (⟦<Buffered<W> as Sink>⟧.contents out.old) (W.contents (below out.new)) asked.choice signal.now }
 {
     match read_input(alloc, limit_of(asked.choice), input) {
         Ok(input) => answer(alloc, asked, signal, &input, out, err),
         Err(fault) => report(alloc, asked, &fault, b"", err),
-    }
-}
-
-// Does what is asked for. Answers the exit status.
-fn serve<R: Read, W: Sink, E: Sink>(
-    alloc: Global,
-    asked: Asked,
-    signal: &[u8],
-    input: &mut R,
-    out: &mut Buffered<W>,
-    err: &mut E,
-) -> u8
-    ensures { result ≡ 0 → IsServed (R.remaining input.old) (⟦<Buffered<W> as Sink>⟧.contents out.old) (W.contents (below out.new)) asked.choice signal.now }
-{
-    match asked.choice {
-        Choice::Live => serve_lines(alloc, asked, input, out, err),
-        _ => serve_whole(alloc, asked, signal, input, out, err),
     }
 }
 
@@ -158,27 +265,80 @@ fn serve_named<R: Read, W: Sink, E: Sink>(
     out: &mut Buffered<W>,
     err: &mut E,
 ) -> u8
+    requires { is_line_by_line asked.choice ≡ false }
     ensures { result ≡ 0 → IsServed (R.remaining input.old) (⟦<Buffered<W> as Sink>⟧.contents out.old) (W.contents (below out.new)) asked.choice (name_of (signal_in (map string_bytes words.now))) }
 {
     match name_of(alloc, words) {
-        Ok(name) => serve(alloc, asked, &name, input, out, err),
+        Ok(name) => serve_whole(alloc, asked, &name, input, out, err),
         Err(AllocError) => write_fault(&ProgramFault::Memory(AllocError), err),
     }
 }
 
-// Does what the words of a command line ask for. Answers the exit status.
+// The same, and how it ended.
+fn serve_input<R: Read, W: Sink, E: Sink>(
+    alloc: Global,
+    asked: Asked,
+    words: &[String],
+    input: &mut R,
+    out: W,
+    err: &mut E,
+) -> Ended<W>
+    requires { is_line_by_line asked.choice ≡ false }
+    ensures { result.status ≡ 0 → IsServed (R.remaining input.old) (W.contents out) (W.contents result.out) asked.choice (name_of (signal_in (map string_bytes words.now))) }
+{
+    let mut out = Buffered::new(out);
+    let status = serve_named(alloc, asked, words, input, &mut out, err);
+    Ended {
+        status,
+        out: out.into_below(),
+    }
+}
+
+// Does what is asked for.
+fn serve<R: Read, W: Sink, E: Sink>(
+    alloc: Global,
+    asked: Asked,
+    words: &[String],
+    input: &mut R,
+    out: W,
+    err: &mut E,
+) -> Ended<W>
+    ensures { result.status ≡ 0 → IsServed (R.remaining input.old) (W.contents out) (W.contents result.out) asked.choice (name_of (signal_in (map string_bytes words.now))) }
+{
+    match asked.choice {
+        Choice::Live { json } => serve_session(alloc, json, asked, input, out, err),
+        Choice::Follow { form, margin } => {
+            serve_capture(alloc, asked, form, margin, input, out, err)
+        }
+        _ => serve_input(alloc, asked, words, input, out, err),
+    }
+}
+
+// Says why a command line is refused, or shows the help that it asks for.
+fn decline<W: Sink, E: Sink>(refused: &Refused, out: W, err: &mut E) -> Ended<W>
+    ensures { result.status ≡ 0 → IsHelp (W.contents out) (W.contents result.out) }
+{
+    let mut out = Buffered::new(out);
+    let status = refuse(refused, &mut out, err);
+    Ended {
+        status,
+        out: out.into_below(),
+    }
+}
+
+// Does what the words of a command line ask for.
 fn act<R: Read, W: Sink, E: Sink>(
     alloc: Global,
     words: &[String],
     input: &mut R,
-    out: &mut Buffered<W>,
+    out: W,
     err: &mut E,
-) -> u8
-    ensures { result ≡ 0 → AreServed (map string_bytes words.now) (R.remaining input.old) (⟦<Buffered<W> as Sink>⟧.contents out.old) (W.contents (below out.new)) }
+) -> Ended<W>
+    ensures { result.status ≡ 0 → AreServed (map string_bytes words.now) (R.remaining input.old) (W.contents out) (W.contents result.out) }
 {
     match choose(alloc, words) {
-        Ok(asked) => serve_named(alloc, asked, words, input, out, err),
-        Err(refused) => refuse(&refused, out, err),
+        Ok(asked) => serve(alloc, asked, words, input, out, err),
+        Err(refused) => decline(&refused, out, err),
     }
 }
 
@@ -195,10 +355,5 @@ pub fn program<R: Read, W: Sink, E: Sink>(
 ) -> Ended<W>
     ensures { result.status ≡ 0 → AreServed (map string_bytes words.items) (R.remaining input.old) (W.contents out) (W.contents result.out) }
 {
-    let mut out = Buffered::new(out);
-    let status = act(alloc, &words, input, &mut out, err);
-    Ended {
-        status,
-        out: out.into_below(),
-    }
+    act(alloc, &words, input, out, err)
 }

@@ -1,9 +1,9 @@
 //! What is written of a run.
 ghost use Rattle.std.specs.Prelude.{◌≡◌, true, [], OnOk};
-ghost use Rattle.hdminet_program.specs.Done.{Writes, WritesLine};
+ghost use Rattle.hdminet_program.specs.Done.{Writes, WritesDrives, WritesLine};
 
 use crate::told::Told;
-use cec_driven::emulate_drives;
+use cec_driven::{Wires, emulate_drives};
 use cec_json::PlainLines;
 use cec_line::Format;
 use cec_room_json::RoomLines;
@@ -59,18 +59,19 @@ pub fn run_to_line<W: Sink>(
     accepted(totals, strict)
 }
 
-/// Writes the line of a run, and who drives it.
+/// Writes the line of a run and who drives it, with its frames and bits as strings or without.
 #[inline(never)]
 pub fn run_to_drives<W: Sink>(
     alloc: Global,
+    wires: Wires,
     strict: bool,
     input: &[u8],
     out: &mut W,
 ) -> Result<Told, ProgramFault>
-    ensures { OnOk result (Writes (Choice.Run Listing.Drives strict) [] input.now (W.contents out.old) (W.contents out.new)) }
+    ensures { OnOk result (WritesDrives wires strict input.now (W.contents out.old) (W.contents out.new)) }
 {
     let (topology, script) = parts(input)?;
-    let totals = emulate_drives(alloc, topology, script, out)?;
+    let totals = emulate_drives(alloc, topology, script, wires, out)?;
     accepted(totals, strict)
 }
 

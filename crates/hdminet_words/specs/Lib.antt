@@ -7,3 +7,4 @@ pub mod DisFlags
 pub mod MonFlags
 pub mod EdidFlags
 pub mod Line
+pub mod LiveFlags

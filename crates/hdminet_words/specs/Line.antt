@@ -5,13 +5,14 @@ use Rattle.std.specs.Str.{bytes_eq}
 use Rattle.hdminet_words.specs.CheckFlags.{check_asked, check_flags}
 use Rattle.hdminet_words.specs.DisFlags.{dis_asked, dis_flags}
 use Rattle.hdminet_words.specs.EdidFlags.{edid_asked, edid_flags}
+use Rattle.hdminet_words.specs.LiveFlags.{live_asked, live_flags}
 use Rattle.hdminet_words.specs.MonFlags.{mon_asked, mon_flags}
 use Rattle.hdminet_words.specs.RunFlags.{run_asked, run_flags}
 use Rattle.hdminet_words.specs.declared.choice.Asked.{Asked}
 use Rattle.hdminet_words.specs.declared.choice.Choice.{Choice}
 use Rattle.hdminet_words.specs.declared.choice.Choice.TheVariants as choices
 use Rattle.hdminet_words.specs.declared.subcommand.Subcommand.{Subcommand}
-use Rattle.hdminet_words.specs.declared.subcommand.Subcommand.TheVariants.{Run, Check, Step, Live, Asm, Dis, Mon, Edid}
+use Rattle.hdminet_words.specs.declared.subcommand.Subcommand.TheVariants.{Run, Check, Step, Live, Asm, Dis, Lay, Mon, Edid}
 
 -- the subcommand of a word
 abbrev pub subcommand_of : List ℕ → Option Subcommand
@@ -22,6 +23,7 @@ subcommand_of word =
     else if bytes_eq word (codes "live") then Some Live
     else if bytes_eq word (codes "asm") then Some Asm
     else if bytes_eq word (codes "dis") then Some Dis
+    else if bytes_eq word (codes "lay") then Some Lay
     else if bytes_eq word (codes "mon") then Some Mon
     else if bytes_eq word (codes "edid") then Some Edid
     else None
@@ -34,13 +36,14 @@ only_explained choice words = None
 
 -- what a subcommand with these flags asks for
 abbrev pub asked_of : Subcommand → List (List ℕ) → Option Asked
-asked_of Run words = option_and_then run_asked (run_flags (record { edges = false; format = None; drives = false; strict = false; json = false; room = false; explains = false; waits = false }) words)
+asked_of Run words = option_and_then run_asked (run_flags (record { edges = false; format = None; drives = false; named = false; strict = false; json = false; room = false; explains = false; waits = false }) words)
 asked_of Check words = option_and_then check_asked (check_flags (record { plain = false; trace = false; json = false; capture = false; form = None; named = false; glitch = None; explains = false; waits = None }) words)
 asked_of Step words = only_explained choices.Step words
-asked_of Live words = only_explained choices.Live words
+asked_of Live words = option_map live_asked (live_flags (record { json = false; explains = false }) words)
 asked_of Asm words = only_explained choices.Asm words
 asked_of Dis words = option_map dis_asked (dis_flags (record { meaning = false; explains = false }) words)
-asked_of Mon words = option_and_then mon_asked (mon_flags (record { form = None; named = false; glitch = None; margin = None; inverted = false; start = None; audit = false; timing = false; strict = false; folded = false; json = false; explains = false; waits = None }) words)
+asked_of Lay words = only_explained choices.Lay words
+asked_of Mon words = option_and_then mon_asked (mon_flags (record { form = None; named = false; glitch = None; margin = None; inverted = false; start = None; audit = false; timing = false; strict = false; folded = false; json = false; follows = false; explains = false; waits = None }) words)
 asked_of Edid words =
     option_and_then edid_asked (edid_flags (record { source = None; nth = None; reading = None; wanted = None; address = None; port = None; amplified = false; spoken = false; merges = false; rows = None; explains = false; waits = None }) words)
 

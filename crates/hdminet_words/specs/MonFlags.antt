@@ -7,10 +7,12 @@ use Rattle.hdminet_words.specs.Joined.{joined}
 use Rattle.hdminet_words.specs.Micros.{micros_of}
 use Rattle.hdminet_words.specs.declared.choice.Asked.{Asked}
 use Rattle.hdminet_words.specs.declared.choice.Choice.{Choice}
-use Rattle.hdminet_words.specs.declared.choice.Choice.TheVariants.{Mon, Json}
+use Rattle.hdminet_words.specs.declared.choice.Choice.TheVariants.{Mon, Follow, Json}
 use Rattle.hdminet_words.specs.declared.choice.Objects.TheVariants as objects
 use Rattle.hdminet_words.specs.declared.choice.Form.{Form}
 use Rattle.hdminet_words.specs.declared.choice.Form.TheVariants.{Edges, Vcd, Pin, Csv}
+use Rattle.hdminet_words.specs.declared.choice.LineForm.{LineForm}
+use Rattle.hdminet_words.specs.declared.choice.LineForm.TheVariants as line_forms
 use Rattle.hdminet_words.specs.declared.choice.Report.{Report}
 use Rattle.hdminet_words.specs.declared.choice.Report.TheVariants.{Audit, FromIdle, Readings}
 use Rattle.hdminet_words.specs.declared.mon_flags.MonFlags.{MonFlags}
@@ -56,6 +58,7 @@ with_mon_flag flags word =
     else if bytes_eq word (codes "--strict") && not flags.strict then Some (record flags { strict = true })
     else if bytes_eq word (codes "--fold") && not flags.folded then Some (record flags { folded = true })
     else if bytes_eq word (codes "--json") && not flags.json then Some (record flags { json = true })
+    else if bytes_eq word (codes "--follow") && not flags.follows then Some (record flags { follows = true })
     else if bytes_eq word (codes "--explain") && not flags.explains then Some (record flags { explains = true })
     else None
 
@@ -98,6 +101,24 @@ abbrev pub mon_choice : Bool → Option Form → ℕ → ℕ → Bool → Bool �
 mon_choice true form glitch margin inverted folded report = Json (objects.Capture form glitch margin inverted report)
 mon_choice false form glitch margin inverted folded report = Mon form glitch margin inverted folded report
 
+-- the form of a capture that is read line by line, which is not guessed
+abbrev pub line_form : Option Form → Option LineForm
+line_form (Some Edges) = Some line_forms.Edges
+line_form (Some Pin) = Some line_forms.Pin
+line_form form = None
+
+abbrev pub is_from_idle : Option Report → Bool
+is_from_idle (Some FromIdle) = true
+is_from_idle start = false
+
+-- something else than all readings of the edges as they are
+abbrev pub goes_further : MonFlags → Bool
+goes_further flags = flags.named || is_some flags.glitch || flags.inverted || is_from_idle flags.start || flags.audit || flags.timing || flags.strict || flags.folded || flags.json
+
+-- the readings of a capture as they come
+abbrev pub follow_choice : MonFlags → Option Choice
+follow_choice flags = if goes_further flags then None else option_map (λ form. Follow form (unwrap_or flags.margin 0)) (line_form flags.form)
+
 -- a value is missing, a wire has no name, or objects are asked for of lines that are folded
 abbrev pub is_misfit : MonFlags → Bool
 is_misfit flags = is_some flags.waits || (flags.named && not (has_names flags.form)) || (flags.folded && flags.json)
@@ -106,6 +127,7 @@ is_misfit flags = is_some flags.waits || (flags.named && not (has_names flags.fo
 abbrev pub mon_asked : MonFlags → Option Asked
 mon_asked flags =
     if is_misfit flags then None
+    else if flags.follows then option_map (λ choice. record { choice = choice; explains = flags.explains }) (follow_choice flags)
     else option_map (λ report. record {
       choice = mon_choice flags.json flags.form (unwrap_or flags.glitch 0) (unwrap_or flags.margin 0) flags.inverted flags.folded report;
       explains = flags.explains;

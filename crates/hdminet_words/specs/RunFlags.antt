@@ -8,7 +8,7 @@ use Rattle.hdminet_words.specs.declared.choice.Choice.{Choice}
 use Rattle.hdminet_words.specs.declared.choice.Choice.TheVariants.{Run, Json}
 use Rattle.hdminet_words.specs.declared.choice.Objects.TheVariants as objects
 use Rattle.hdminet_words.specs.declared.choice.Listing.{Listing}
-use Rattle.hdminet_words.specs.declared.choice.Listing.TheVariants.{Trace, Edges, Vcd, Pin, Csv, Drives}
+use Rattle.hdminet_words.specs.declared.choice.Listing.TheVariants.{Trace, Edges, Vcd, Pin, Csv, Drives, Named}
 use Rattle.hdminet_words.specs.declared.run_flags.RunFlags.{RunFlags}
 
 -- the format of a line that a word names
@@ -25,6 +25,7 @@ one_run_flag flags word =
     if bytes_eq word (codes "--edges") && not flags.edges then Some (record flags { edges = true })
     else if bytes_eq word (codes "--as") && is_none flags.format then Some (record flags { waits = true })
     else if bytes_eq word (codes "--drives") && not flags.drives then Some (record flags { drives = true })
+    else if bytes_eq word (codes "--named") && not flags.named then Some (record flags { named = true })
     else if bytes_eq word (codes "--strict") && not flags.strict then Some (record flags { strict = true })
     else if bytes_eq word (codes "--json") && not flags.json then Some (record flags { json = true })
     else if bytes_eq word (codes "--room") && not flags.room then Some (record flags { room = true })
@@ -60,11 +61,17 @@ run_listing true None = Some Edges
 run_listing false (Some format) = None
 run_listing false None = Some Trace
 
--- with who drives the line: of a dump of the line alone
-abbrev pub with_drives : Bool → Option Listing → Option Listing
-with_drives true (Some Vcd) = Some Drives
-with_drives true listing = None
-with_drives false listing = listing
+-- who drives the line, with frames and bits as strings or without
+abbrev pub drives_listing : Bool → Listing
+drives_listing true = Named
+drives_listing false = Drives
+
+-- with who drives the line: of a dump of the line alone; frames and bits go with that alone
+abbrev pub with_drives : Bool → Bool → Option Listing → Option Listing
+with_drives true named (Some Vcd) = Some (drives_listing named)
+with_drives true named listing = None
+with_drives false true listing = None
+with_drives false false listing = listing
 
 -- what is done with the run
 abbrev pub run_choice : Bool → Bool → Listing → Bool → Choice
@@ -76,4 +83,4 @@ run_choice false room listing strict = Run listing strict
 abbrev pub run_asked : RunFlags → Option Asked
 run_asked flags =
     if flags.waits || (flags.edges && flags.json) || (flags.room && not flags.json) then None
-    else option_map (λ listing. record { choice = run_choice flags.json flags.room listing flags.strict; explains = flags.explains }) (with_drives flags.drives (run_listing flags.edges flags.format))
+    else option_map (λ listing. record { choice = run_choice flags.json flags.room listing flags.strict; explains = flags.explains }) (with_drives flags.drives flags.named (run_listing flags.edges flags.format))

@@ -8,7 +8,7 @@ use crate::micros::micros_of;
 use crate::mon_flags::{MonValue, form_of, has_names};
 
 /// The flags that `check` was given.
-#[derive(Clone, Copy, Debug)]
+#[derive(Clone, Copy)]
 pub struct CheckFlags {
     pub plain: bool,
     pub trace: bool,

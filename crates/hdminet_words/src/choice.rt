@@ -17,6 +17,8 @@ pub enum Listing {
     Csv,
     /// Its line as a Value Change Dump, and below it who drives it.
     Drives,
+    /// The same, and its frames and bits as strings.
+    Named,
 }
 
 /// The form of a capture.
@@ -30,6 +32,15 @@ pub enum Form {
     Pin,
     /// Comma-separated values.
     Csv,
+}
+
+/// The form of a capture that is read line by line.
+#[derive(Clone, Copy, Debug)]
+pub enum LineForm {
+    /// An edge file.
+    Edges,
+    /// Pin events of cec-ctl.
+    Pin,
 }
 
 /// What is written of a capture.
@@ -180,14 +191,19 @@ pub enum Choice {
     },
     /// Steps of a run, edge by edge and round by round.
     Step,
-    /// A session: a run whose script comes line by line, each answered as it comes.
-    Live,
+    /// A session: a run whose script comes line by line, each answered as it comes, in lines or, where it is wanted, in objects of
+    /// JSON.
+    Live {
+        json: bool,
+    },
     /// The bytes of frames, from their texts.
     Asm,
     /// The texts of frames, from their bytes in hex, and below each, where it is wanted, what it means.
     Dis {
         meaning: bool,
     },
+    /// The pulls that lay frames on the line, whole or with a fault, from their instants and texts.
+    Lay,
     /// What a capture reports. Its first line reports its form where none is given; pulses and gaps shorter than so many
     /// microseconds are passed over; the windows are so many microseconds wider, 300 at most; the levels are read as they stand, or
     /// the other way round; bad starts one after another are a line each, or one; and where no report is given, that is by the form.
@@ -198,6 +214,11 @@ pub enum Choice {
         inverted: bool,
         folded: bool,
         report: Option<Report>,
+    },
+    /// The readings of a capture in this form as they come, line by line; the windows are so many microseconds wider, 300 at most.
+    Follow {
+        form: LineForm,
+        margin: u64,
     },
     /// Lines of a run or of a capture, as objects.
     Json(Objects),

@@ -5,7 +5,7 @@ ghost use Rattle.hdminet_words.specs.DisFlags.{dis_asked, dis_flags, one_dis_fla
 use crate::choice::{Asked, Choice};
 
 /// The flags that `dis` was given.
-#[derive(Clone, Copy, Debug)]
+#[derive(Clone, Copy)]
 pub struct DisFlags {
     pub meaning: bool,
     pub explains: bool,

@@ -30,7 +30,7 @@ pub enum Wanted {
 }
 
 /// The flags that `edid` was given.
-#[derive(Clone, Copy, Debug)]
+#[derive(Clone, Copy)]
 pub struct EdidFlags {
     /// What `--text` or `--hex` says that the input is.
     pub source: Option<Source>,

@@ -7,6 +7,7 @@ mod dis_flags;
 mod edid_flags;
 mod joined;
 mod line;
+mod live_flags;
 mod micros;
 mod mon_flags;
 mod rows;
@@ -14,8 +15,8 @@ mod run_flags;
 mod subcommand;
 
 pub use choice::{
-    Asked, Choice, Form, Listing, Objects, Reading, Recipient, Report, Shape, Sound, Source,
-    TestView, View,
+    Asked, Choice, Form, LineForm, Listing, Objects, Reading, Recipient, Report, Shape, Sound,
+    Source, TestView, View,
 };
 pub use line::asked_by;
 pub use mon_flags::signal_in;

@@ -6,6 +6,7 @@ use crate::check_flags::{CheckFlags, check_asked, check_flags};
 use crate::choice::{Asked, Choice};
 use crate::dis_flags::{DisFlags, dis_asked, dis_flags};
 use crate::edid_flags::{EdidFlags, edid_asked, edid_flags};
+use crate::live_flags::{LiveFlags, live_asked, live_flags};
 use crate::mon_flags::{MonFlags, mon_asked, mon_flags};
 use crate::run_flags::{RunFlags, run_asked, run_flags};
 use crate::subcommand::{Subcommand, subcommand_of};
@@ -35,9 +36,10 @@ fn asked_of(subcommand: Subcommand, words: &[String]) -> Option<Asked>
         Subcommand::Run => run_asked(&run_flags(RunFlags::NONE, words)?),
         Subcommand::Check => check_asked(&check_flags(CheckFlags::NONE, words)?),
         Subcommand::Step => only_explained(Choice::Step, words),
-        Subcommand::Live => only_explained(Choice::Live, words),
+        Subcommand::Live => Some(live_asked(live_flags(LiveFlags::NONE, words)?)),
         Subcommand::Asm => only_explained(Choice::Asm, words),
         Subcommand::Dis => Some(dis_asked(dis_flags(DisFlags::NONE, words)?)),
+        Subcommand::Lay => only_explained(Choice::Lay, words),
         Subcommand::Mon => mon_asked(&mon_flags(MonFlags::NONE, words)?),
         Subcommand::Edid => edid_asked(&edid_flags(EdidFlags::NONE, words)?),
     }

@@ -1,8 +1,8 @@
 //! The flags of `mon`.
 ghost use Rattle.std.specs.Prelude.{◌≡◌, map, string_bytes, Some, None, MatchOption, option_and_then};
-ghost use Rattle.hdminet_words.specs.MonFlags.{form_of, has_names, margin_of, is_misfit, joined_signal, mon_asked, mon_choice, mon_flags, mon_report, signal_in, waited_mon, with_mon_flag, with_mon_value, with_mon_word};
+ghost use Rattle.hdminet_words.specs.MonFlags.{follow_choice, form_of, goes_further, has_names, is_from_idle, line_form, margin_of, is_misfit, joined_signal, mon_asked, mon_choice, mon_flags, mon_report, signal_in, waited_mon, with_mon_flag, with_mon_value, with_mon_word};
 
-use crate::choice::{Asked, Choice, Form, Objects, Report};
+use crate::choice::{Asked, Choice, Form, LineForm, Objects, Report};
 use crate::joined::joined;
 use crate::micros::micros_of;
 use hdmi_core::{after, before, number_in};
@@ -20,7 +20,7 @@ pub enum MonValue {
 }
 
 /// The flags that `mon` was given.
-#[derive(Clone, Copy, Debug)]
+#[derive(Clone, Copy)]
 pub struct MonFlags {
     pub form: Option<Form>,
     /// Whether `--signal` names a wire, which `signal_in` returns.
@@ -35,6 +35,8 @@ pub struct MonFlags {
     pub strict: bool,
     pub folded: bool,
     pub json: bool,
+    /// Whether readings are written as they come.
+    pub follows: bool,
     pub explains: bool,
     /// The flag whose value comes next.
     pub waits: Option<MonValue>,
@@ -54,6 +56,7 @@ impl MonFlags {
         strict: false,
         folded: false,
         json: false,
+        follows: false,
         explains: false,
         waits: None,
     };
@@ -172,6 +175,10 @@ fn with_mon_flag(flags: MonFlags, word: &str) -> Option<MonFlags>
             json: true,
             ..flags
         }),
+        "--follow" if !flags.follows => Some(MonFlags {
+            follows: true,
+            ..flags
+        }),
         "--explain" if !flags.explains => Some(MonFlags {
             explains: true,
             ..flags
@@ -271,6 +278,52 @@ fn mon_choice(
     }
 }
 
+// The form of a capture that is read line by line. It is not guessed.
+fn line_form(form: Option<Form>) -> Option<LineForm>
+    ensures { result ≡ line_form form }
+{
+    match form {
+        Some(Form::Edges) => Some(LineForm::Edges),
+        Some(Form::Pin) => Some(LineForm::Pin),
+        Some(Form::Vcd | Form::Csv) | None => None,
+    }
+}
+
+fn is_from_idle(start: Option<Report>) -> bool
+    ensures { result ≡ is_from_idle start }
+{
+    matches!(start, Some(Report::FromIdle))
+}
+
+// Whether a flag asks for something else than all readings of the edges as they are.
+fn goes_further(flags: &MonFlags) -> bool
+    ensures { result ≡ goes_further flags.now }
+{
+    flags.named
+        || flags.glitch.is_some()
+        || flags.inverted
+        || is_from_idle(flags.start)
+        || flags.audit
+        || flags.timing
+        || flags.strict
+        || flags.folded
+        || flags.json
+}
+
+// The readings of a capture as they come.
+fn follow_choice(flags: &MonFlags) -> Option<Choice>
+    ensures { result ≡ follow_choice flags.now }
+{
+    if goes_further(flags) {
+        return None;
+    }
+    let form = line_form(flags.form)?;
+    Some(Choice::Follow {
+        form,
+        margin: flags.margin.unwrap_or(0),
+    })
+}
+
 // Whether a value is missing, a wire has no name, or objects are asked for of lines that are folded.
 fn is_misfit(flags: &MonFlags) -> bool
     ensures { result ≡ is_misfit flags.now }
@@ -284,6 +337,13 @@ pub fn mon_asked(flags: &MonFlags) -> Option<Asked>
 {
     if is_misfit(flags) {
         return None;
+    }
+    if flags.follows {
+        let choice = follow_choice(flags)?;
+        return Some(Asked {
+            choice,
+            explains: flags.explains,
+        });
     }
     let audited = flags.audit || flags.timing;
     let report = mon_report(flags.start, audited, flags.timing, flags.strict)?;

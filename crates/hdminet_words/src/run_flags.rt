@@ -6,13 +6,15 @@ use crate::choice::{Asked, Choice, Listing, Objects};
 use crate::joined::joined;
 
 /// The flags that `run` was given.
-#[derive(Clone, Copy, Debug)]
+#[derive(Clone, Copy)]
 pub struct RunFlags {
     pub edges: bool,
     /// The format that `--as` names.
     pub format: Option<Listing>,
     /// Whether a dump has who drives the line too.
     pub drives: bool,
+    /// Whether that dump has its frames and bits as strings too.
+    pub named: bool,
     pub strict: bool,
     pub json: bool,
     /// Whether the objects have the room and the script too.
@@ -28,6 +30,7 @@ impl RunFlags {
         edges: false,
         format: None,
         drives: false,
+        named: false,
         strict: false,
         json: false,
         room: false,
@@ -75,6 +78,10 @@ fn with_run_flag(flags: RunFlags, word: &str) -> Option<RunFlags>
         }),
         "--drives" if !flags.drives => Some(RunFlags {
             drives: true,
+            ..flags
+        }),
+        "--named" if !flags.named => Some(RunFlags {
+            named: true,
             ..flags
         }),
         "--strict" if !flags.strict => Some(RunFlags {
@@ -145,16 +152,17 @@ fn run_choice(json: bool, room: bool, listing: Listing, strict: bool) -> Choice
     }
 }
 
-/// What `run` with these flags asks for: `--as` goes with `--edges` alone, `--drives` with `--edges --as vcd`, and `--json`
-/// without `--edges`, `--room` with `--json`.
+/// What `run` with these flags asks for: `--as` goes with `--edges` alone, `--drives` with `--edges --as vcd`, `--named` with
+/// `--drives`, and `--json` without `--edges`, `--room` with `--json`.
 pub fn run_asked(flags: &RunFlags) -> Option<Asked>
     ensures { result ≡ run_asked flags.now }
 {
     let listing = match flags.format {
         _ if flags.waits || (flags.edges && flags.json) || (flags.room && !flags.json) =>
             return None,
+        Some(Listing::Vcd) if flags.edges && flags.drives && flags.named => Listing::Named,
         Some(Listing::Vcd) if flags.edges && flags.drives => Listing::Drives,
-        _ if flags.drives => return None,
+        _ if flags.drives || flags.named => return None,
         Some(format) if flags.edges => format,
         Some(_) => return None,
         None if flags.edges => Listing::Edges,

@@ -11,6 +11,7 @@ pub enum Subcommand {
     Live,
     Asm,
     Dis,
+    Lay,
     Mon,
     Edid,
 }
@@ -26,6 +27,7 @@ pub fn subcommand_of(word: &str) -> Option<Subcommand>
         "live" => Some(Subcommand::Live),
         "asm" => Some(Subcommand::Asm),
         "dis" => Some(Subcommand::Dis),
+        "lay" => Some(Subcommand::Lay),
         "mon" => Some(Subcommand::Mon),
         "edid" => Some(Subcommand::Edid),
         _ => None,

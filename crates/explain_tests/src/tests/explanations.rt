@@ -98,7 +98,7 @@ end 1e6
   line 3 of the input: end 1e6
                            ^^^
   `1e6`: a number has digits alone
-  T is decimal microseconds, 0 to 1000000000000; PORT and WIDTH are decimal numbers; none has a zero before it
+  T is decimal microseconds, 0 to 1000000000000; PORT and WIDTH are decimal numbers; none has a zero before it; LEVEL is 0 or 1
 --
 run --explain
 device tv tv 4
@@ -137,7 +137,7 @@ end 10
   line 5 of the input: at 5 press tv power
                           ^
   the time of line 5 of the input, 5, is before that of line 3, 9
-  times do not go back: each T is that of the line before it or later, and a pulse or a pull begins after the end of the last one
+  times do not go back: each T is that of the line before it or later, and a pulse or a pull begins after the end of the last one, with the pin high
 --
 run --explain
 device tv tv 4
@@ -149,7 +149,7 @@ end 9000
   line 4 of the input: pulse 1400 9
                              ^^^^
   the pulse of line 4 of the input begins at 1400, before that of line 3 ends, at 1500
-  times do not go back: each T is that of the line before it or later, and a pulse or a pull begins after the end of the last one
+  times do not go back: each T is that of the line before it or later, and a pulse or a pull begins after the end of the last one, with the pin high
 --
 run --explain
 device tv tv 4
@@ -161,7 +161,64 @@ end 9000
   line 4 of the input: pull 1500 9
                             ^^^^
   the pull of line 4 of the input begins at 1500, and what line 3 pulls low ends at 1500
-  times do not go back: each T is that of the line before it or later, and a pulse or a pull begins after the end of the last one
+  times do not go back: each T is that of the line before it or later, and a pulse or a pull begins after the end of the last one, with the pin high
+--
+run --explain
+device tv tv 4
+script
+pin 1000 0
+pin 1000 1
+end 9000
+=> script line 2: order
+  line 4 of the input: pin 1000 1
+                           ^^^^
+  the pin of line 4 of the input changes at 1000, and by line 3 it is low from 1000 on
+  times do not go back: each T is that of the line before it or later, and a pulse or a pull begins after the end of the last one, with the pin high
+--
+run --explain
+device tv tv 4
+script
+pull 1000 500
+pin 1500 0
+end 9000
+=> script line 2: order
+  line 4 of the input: pin 1500 0
+                           ^^^^
+  the pin of line 4 of the input changes at 1500, and what line 3 pulls low ends at 1500
+  times do not go back: each T is that of the line before it or later, and a pulse or a pull begins after the end of the last one, with the pin high
+--
+run --explain
+device tv tv 4
+script
+pin 1000 0
+pull 2000 9
+end 9000
+=> script line 2: order
+  line 4 of the input: pull 2000 9
+                            ^^^^
+  by line 3 of the input the pin is low from 1000 on, and a line `pin T 1` lets it go
+  times do not go back: each T is that of the line before it or later, and a pulse or a pull begins after the end of the last one, with the pin high
+--
+run --explain
+device tv tv 4
+script
+pin 1000 low
+end 9000
+=> script line 1: number
+  line 3 of the input: pin 1000 low
+                                ^^^
+  `low`: did you mean `0`?
+  T is decimal microseconds, 0 to 1000000000000; PORT and WIDTH are decimal numbers; none has a zero before it; LEVEL is 0 or 1
+--
+run --explain
+device tv tv 4
+script
+end 9000
+pin 9500 0
+=> script line 2: end
+  line 4 of the input: pin 9500 0
+                       ^^^
+  the last line is `end T`, with T after that of each line `at`; after it only empty lines and comments come
 --
 run --explain
 device tv tv 4
@@ -171,7 +228,7 @@ end 9
 => script line 1: word
   line 3 of the input: expect from 0 to 5 short
                        ^^^^^^
-  a line here reads `at T press NAME KEY`, `at T release NAME KEY`, `at T plug CHILD PARENT PORT`, `at T unplug CHILD`, `at T send NAME FRAME`, `at T hold NAME ADDRS`, `at T drop NAME`, `pulse T WIDTH`, `pull T WIDTH`, `end T`
+  a line here reads `at T press NAME KEY`, `at T release NAME KEY`, `at T plug CHILD PARENT PORT`, `at T unplug CHILD`, `at T send NAME FRAME`, `at T hold NAME ADDRS`, `at T drop NAME`, `pulse T WIDTH`, `pull T WIDTH`, `pin T LEVEL`, `end T`
   labels and expectations are read by `hdminet check`
   words stand one space apart, and nothing follows the last one
 --
@@ -324,7 +381,7 @@ end 9
 => script line 1: word
   line 3 of the input: expct none from 0 to 5 short
                        ^^^^^
-  a line here reads `at T press NAME KEY`, `at T release NAME KEY`, `at T plug CHILD PARENT PORT`, `at T unplug CHILD`, `at T send NAME FRAME`, `at T hold NAME ADDRS`, `at T drop NAME`, `pulse T WIDTH`, `pull T WIDTH`, `end T`, `label NAME LINE`, `expect within D of NAME PATTERN`, `expect from T to U PATTERN`, `expect state T NAME WORD`, `expect refused NAME WORD`
+  a line here reads `at T press NAME KEY`, `at T release NAME KEY`, `at T plug CHILD PARENT PORT`, `at T unplug CHILD`, `at T send NAME FRAME`, `at T hold NAME ADDRS`, `at T drop NAME`, `pulse T WIDTH`, `pull T WIDTH`, `pin T LEVEL`, `end T`, `label NAME LINE`, `expect within D of NAME PATTERN`, `expect from T to U PATTERN`, `expect state T NAME WORD`, `expect refused NAME WORD`
   `expct`: did you mean `expect`?
   words stand one space apart, and nothing follows the last one
 --
@@ -339,7 +396,7 @@ end 9
                                             ^^^^^^
   a line here reads `expect none within D of NAME PATTERN`, `expect none from T to U PATTERN`
   `wihtin`: did you mean `within`?
-  words stand one space apart; PATTERN has 1 to 160 bytes, at most four `*` and no space at an end; a label stands before an event, a pulse, a pull or an expectation
+  words stand one space apart; PATTERN has 1 to 160 bytes, at most four `*` and no space at an end; a label stands before an event, a pulse, a pull, the pin or an expectation
 --
 check --explain
 device tv tv 4
@@ -350,7 +407,7 @@ end 9
   line 3 of the input: expect from 0 to 5 4>0 * * * * *
                                           ^^^^^^^^^^^^^
   a line here reads `expect from T to U PATTERN`
-  words stand one space apart; PATTERN has 1 to 160 bytes, at most four `*` and no space at an end; a label stands before an event, a pulse, a pull or an expectation
+  words stand one space apart; PATTERN has 1 to 160 bytes, at most four `*` and no space at an end; a label stands before an event, a pulse, a pull, the pin or an expectation
 --
 check --explain
 device tv tv 4
@@ -362,7 +419,7 @@ end 9
   line 4 of the input: expect refused film not-for-kind here
                                                         ^^^^
   a line here reads `expect refused NAME WORD`
-  words stand one space apart; PATTERN has 1 to 160 bytes, at most four `*` and no space at an end; a label stands before an event, a pulse, a pull or an expectation
+  words stand one space apart; PATTERN has 1 to 160 bytes, at most four `*` and no space at an end; a label stands before an event, a pulse, a pull, the pin or an expectation
 --
 check --explain
 device tv tv 4
@@ -373,7 +430,7 @@ end 9
   line 3 of the input: label film
   a line here reads `label NAME LINE`
   LINE is missing at the end of the line
-  words stand one space apart; PATTERN has 1 to 160 bytes, at most four `*` and no space at an end; a label stands before an event, a pulse, a pull or an expectation
+  words stand one space apart; PATTERN has 1 to 160 bytes, at most four `*` and no space at an end; a label stands before an event, a pulse, a pull, the pin or an expectation
 --
 check --explain
 device tv tv 4
@@ -452,7 +509,7 @@ end 10
   line 4 of the input: label b at 5 press tv power
                                   ^
   the time of line 4 of the input, 5, is before that of line 3, 9
-  times do not go back: each T is that of the line before it or later, and a pulse or a pull begins after the end of the last one
+  times do not go back: each T is that of the line before it or later, and a pulse or a pull begins after the end of the last one, with the pin high
 --
 check --explain
 device tv tv 4
@@ -538,6 +595,46 @@ asm --explain
                             ^
   a frame here reads `I>D give-osd-name`
   the opcode takes another number of words; words stand one space apart
+--
+lay --explain
+5 eom 1 0
+=> line 1: word
+  line 1: 5 eom 1 0
+  a line here reads `T eom BLOCK BIT FRAME`
+  FRAME is missing at the end of the line
+  a line is `T FRAME`, or `T FAULT FRAME` with a fault and its numbers; `blocks HEX` may stand in the place of FRAME
+--
+lay --explain
+# a poll
+5 lst 2 4>4
+=> line 2: frame address
+  line 2: 5 lst 2 4>4
+            ^^^
+  `lst`: did you mean `last`?
+  after T, or after a fault and its numbers, comes `blocks` or a frame, `I>D` first, the hex digits of initiator and destination in lower case; a fault is eom, bit, start, last, drive or glitch
+--
+lay --explain
+5 eom 1 0 4>0 pley forward
+=> line 1: frame name
+  line 1: 5 eom 1 0 4>0 pley forward
+                        ^^^^
+  `pley`: did you mean `play`?
+  after `I>D` and one space comes an opcode's name, or `op-XX` for an opcode that has none
+--
+lay --explain
+5 last 11 4>4
+=> line 1: slot
+  line 1: 5 last 11 4>4
+                 ^^
+  slots and blocks count from 1; a frame has a block for its header, its opcode and each operand, and ten slots a block
+--
+lay --explain
+5 4>4
+26705 4>4
+=> line 2: order
+  line 2: 26705 4>4
+          ^^^^^
+  a frame begins after the end of the last pull above
 --
 mon --explain
 10 0

@@ -57,7 +57,7 @@ end 9000
   line 5 of the input: at 99999999999999 press tv mute
                           ^^^^^^^^^^^^^^
   `99999999999999` is too large
-  T is decimal microseconds, 0 to 1000000000000; PORT and WIDTH are decimal numbers; none has a zero before it
+  T is decimal microseconds, 0 to 1000000000000; PORT and WIDTH are decimal numbers; none has a zero before it; LEVEL is 0 or 1
 --
 run --explain
 device tv tv 4
@@ -70,7 +70,7 @@ end 9000
   line 5 of the input: at -5 press tv mute
                           ^^
   `-5`: a number has no sign
-  T is decimal microseconds, 0 to 1000000000000; PORT and WIDTH are decimal numbers; none has a zero before it
+  T is decimal microseconds, 0 to 1000000000000; PORT and WIDTH are decimal numbers; none has a zero before it; LEVEL is 0 or 1
 --
 run --explain
 device tv tv 4
@@ -83,7 +83,7 @@ end 9000
   line 5 of the input: at 1.5 press tv mute
                           ^^^
   `1.5`: a number has no point
-  T is decimal microseconds, 0 to 1000000000000; PORT and WIDTH are decimal numbers; none has a zero before it
+  T is decimal microseconds, 0 to 1000000000000; PORT and WIDTH are decimal numbers; none has a zero before it; LEVEL is 0 or 1
 --
 check --explain
 device tv tv 4
@@ -185,6 +185,18 @@ end 9000
 --
 run --explain
 device tv tv 4
+script
+pin at 1000 0
+end 9000
+=> script line 1: word
+  line 3 of the input: pin at 1000 0
+                           ^^
+  the time stands here by itself, without `at`
+  a line here reads `pin T LEVEL`
+  words stand one space apart, and nothing follows the last one
+--
+run --explain
+device tv tv 4
 device p1 player 0
 device dut outside 0
 script
@@ -209,7 +221,7 @@ end 9000
                                     ^^
   T is missing before this word
   a line here reads `expect state T NAME WORD`
-  words stand one space apart; PATTERN has 1 to 160 bytes, at most four `*` and no space at an end; a label stands before an event, a pulse, a pull or an expectation
+  words stand one space apart; PATTERN has 1 to 160 bytes, at most four `*` and no space at an end; a label stands before an event, a pulse, a pull, the pin or an expectation
 --
 check --explain
 device tv tv 4
@@ -236,7 +248,7 @@ end 9000
                                             ^^
   T is missing before this word
   a line here reads `expect state T NAME WORD`
-  words stand one space apart; PATTERN has 1 to 160 bytes, at most four `*` and no space at an end; a label stands before an event, a pulse, a pull or an expectation
+  words stand one space apart; PATTERN has 1 to 160 bytes, at most four `*` and no space at an end; a label stands before an event, a pulse, a pull, the pin or an expectation
 --
 check --explain
 device tv tv 4
@@ -249,7 +261,7 @@ end 9000
   line 5 of the input: expect state 5 tv not
   a line here reads `expect state T NAME WORD`
   WORD is missing at the end of the line
-  words stand one space apart; PATTERN has 1 to 160 bytes, at most four `*` and no space at an end; a label stands before an event, a pulse, a pull or an expectation
+  words stand one space apart; PATTERN has 1 to 160 bytes, at most four `*` and no space at an end; a label stands before an event, a pulse, a pull, the pin or an expectation
 --
 run --explain
 device tv tv 4
@@ -289,7 +301,7 @@ end 9000
 => script line 1: order with line 2
   line 5 of the input: at 5..9001 press tv mute
                           ^^^^^^^
-  each instant of a range keeps the order of the script: events in order of time, pulses and pulls too, `end` after each event, no state after `end`
+  each instant of a range keeps the order of the script: events in order of time, pulses, pulls and the pin too, `end` after each event, no state after `end`
 ";
 
 /// Names that no device has, or another one.

@@ -14,6 +14,10 @@ run => device tv tv 1;script;pulse 1000000 600;end 1200000; =>   rounds 3, compl
 check => device tv tv 1;script;at 5..1000000000001 press tv mute;end 9; => T and U of at most 1000000000000 microseconds, S at least 1;
 check => device tv tv 1;script;expect none short * * * * *;end 9; => PATTERN has 1 to 160 bytes, at most four `*` and no space at an end
 asm => 4>0 op-01 :000102030405060708090a0b0c0d0e; => at most 14 operands, so at most 28 hex digits after `:`
+lay => 5 bit 1 0 5 4>4; => LOW is 1 to 10000000 microseconds, also of lows that a glitch joins, TOTAL more than LOW and at most 10000000, AFTER at most 10000000
+lay => x 4>4; => T is decimal microseconds, 0 to 1000000000000, and BIT 0 or 1;
+lay => 5 blocks 0; => of 1 to 64 bytes
+lay => 1000000000000 4>4; => each pull begins at 1000000000000 microseconds or before
 dis => 00 01 02 03 04 05 06 07 08 09 0a 0b 0c 0d 0e 0f 10; => a frame has 1 to 16 bytes
 mon => 2000000000001 0; => T decimal microseconds, 0 to 2000000000000
 edid => zz; => the input has 3 bytes; an EDID has 128, 256, 384 or 512

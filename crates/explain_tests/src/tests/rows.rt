@@ -90,9 +90,12 @@ expect within 60000 of film 4>0 image-view-on ok|ok|`ok`: did you mean `ack`?
 expect within 60000 of film complete 4>0|complete|`complete` stands in the trace, and not in PATTERN
 expect within 60000 of film 4->0 standby|4->0|`4->0`: did you mean `4>0`?
 expect within 60000 of film 4f821000|4f821000|this is a frame in hex, as `hdminet dis` reads it; its text is `4>f active-source 1.0.0.0`
+expect within 60000 of film @avrr>0 standby|@avrr>0|`avrr`: did you mean `avr`?
+expect within 60000 of film @p1>@dvd standby|@p1>@dvd|the topology has `tv`, `avr`, `p1`, `dut`
+expect within 60000 of film @p1>@tv standbi|standbi|`standbi`: did you mean `standby`?
 expect state 1000000 tv active = 1.2.0.0|active|KEY=VALUE is one word: no spaces stand around `=`
 expect refused film nonsense|nonsense|WORD is one with which an event is refused: `port-range` `port-taken` `not-loose` `loop` `not-plugged` `not-for-kind` `off-wire` `queue-full` `own-address` `no-address`
-expect refused not-for-kind|not-for-kind|NAME is missing before this word
+expect refused not-for-kin|not-for-kin|`not-for-kin`: did you mean `not-for-kind`?
 label film at 2000000 press p1 stop|film|line 7 of the input has the label `film`
 label at 2000000 press p1 stop|at|NAME is missing before this word
 expect within 10 of later 4>0|later|the lines above have the labels `film`";
@@ -104,7 +107,7 @@ run to 1s|1s|`1s`: times are microseconds, and no unit follows them: `1000000`
 wait 5|5|a line here reads `wait`
 watt|watt|`watt`: did you mean `wait`?
 edges maybe|maybe|a line here reads `edges on`, `edges off`
-edge soon|soon|T is decimal microseconds, 0 to 1000000000000; PORT and WIDTH are decimal numbers; none has a zero before it
+edge soon|soon|T is decimal microseconds, 0 to 1000000000000; PORT and WIDTH are decimal numbers; none has a zero before it; LEVEL is 0 or 1
 show p9|p9|the topology has `tv`, `avr`, `p1`, `dut`
 at 5 press p1 plya|plya|`plya`: did you mean `play`?
 at 5 send p1 4>f active-sourc 1.0.0.0|active-sourc|`active-sourc`: did you mean `active-source`?";

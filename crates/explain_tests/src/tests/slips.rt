@@ -80,7 +80,7 @@ end 9
 => script line 1: number
   line 7 of the input: at 5 press s1 port x
                                           ^
-  T is decimal microseconds, 0 to 1000000000000; PORT and WIDTH are decimal numbers; none has a zero before it
+  T is decimal microseconds, 0 to 1000000000000; PORT and WIDTH are decimal numbers; none has a zero before it; LEVEL is 0 or 1
 --
 run --explain
 device tv tv 4
@@ -373,7 +373,7 @@ end 9
   line 7 of the input: at 1000ms press p1 play
                           ^^^^^^
   `1000ms`: times are microseconds, and no unit follows them: `1000000`
-  T is decimal microseconds, 0 to 1000000000000; PORT and WIDTH are decimal numbers; none has a zero before it
+  T is decimal microseconds, 0 to 1000000000000; PORT and WIDTH are decimal numbers; none has a zero before it; LEVEL is 0 or 1
 --
 run --explain
 device tv tv 4
@@ -388,7 +388,7 @@ end 9
   line 7 of the input: at 1_000_000 press p1 play
                           ^^^^^^^^^
   `1_000_000`: a number has digits alone, and no zero before them: `1000000`
-  T is decimal microseconds, 0 to 1000000000000; PORT and WIDTH are decimal numbers; none has a zero before it
+  T is decimal microseconds, 0 to 1000000000000; PORT and WIDTH are decimal numbers; none has a zero before it; LEVEL is 0 or 1
 --
 run --explain
 device tv tv 4
@@ -403,7 +403,7 @@ end 9
   line 7 of the input: at 007 press p1 play
                           ^^^
   `007`: a number has digits alone, and no zero before them: `7`
-  T is decimal microseconds, 0 to 1000000000000; PORT and WIDTH are decimal numbers; none has a zero before it
+  T is decimal microseconds, 0 to 1000000000000; PORT and WIDTH are decimal numbers; none has a zero before it; LEVEL is 0 or 1
 --
 run --explain
 device tv tv 4
@@ -572,7 +572,7 @@ capture
   line 2: expect refused a word x
                  ^^^^^^^
   a line here reads `expect within D of NAME PATTERN`, `expect from T to U PATTERN`, `expect none within D of NAME PATTERN`, `expect none from T to U PATTERN`, `expect once within D of NAME PATTERN`, `expect once from T to U PATTERN`, `expect no-remark`, `expect remark PATTERN`
-  words stand one space apart; PATTERN has 1 to 160 bytes, at most four `*` and no space at an end; a label stands before an event, a pulse, a pull or an expectation
+  words stand one space apart; PATTERN has 1 to 160 bytes, at most four `*` and no space at an end; a label stands before an event, a pulse, a pull, the pin or an expectation
 --
 check --capture --explain
 expect state 5 tv tv
@@ -582,7 +582,7 @@ capture
   line 1: expect state 5 tv tv
                  ^^^^^
   a line here reads `expect within D of NAME PATTERN`, `expect from T to U PATTERN`, `expect none within D of NAME PATTERN`, `expect none from T to U PATTERN`, `expect once within D of NAME PATTERN`, `expect once from T to U PATTERN`, `expect no-remark`, `expect remark PATTERN`
-  words stand one space apart; PATTERN has 1 to 160 bytes, at most four `*` and no space at an end; a label stands before an event, a pulse, a pull or an expectation
+  words stand one space apart; PATTERN has 1 to 160 bytes, at most four `*` and no space at an end; a label stands before an event, a pulse, a pull, the pin or an expectation
 --
 check --capture --explain
 expct within
@@ -593,7 +593,7 @@ capture
           ^^^^^
   a line here reads `expect within D of NAME PATTERN`, `expect from T to U PATTERN`, `expect none within D of NAME PATTERN`, `expect none from T to U PATTERN`, `expect once within D of NAME PATTERN`, `expect once from T to U PATTERN`, `expect no-remark`, `expect remark PATTERN`, `label NAME at T`, `label NAME LINE`
   `expct`: did you mean `expect`?
-  words stand one space apart; PATTERN has 1 to 160 bytes, at most four `*` and no space at an end; a label stands before an event, a pulse, a pull or an expectation
+  words stand one space apart; PATTERN has 1 to 160 bytes, at most four `*` and no space at an end; a label stands before an event, a pulse, a pull, the pin or an expectation
 --
 check --capture --explain
 label a at x
@@ -612,7 +612,7 @@ capture
   line 1: label a at 5 x
                        ^
   a line here reads `label NAME at T`
-  words stand one space apart; PATTERN has 1 to 160 bytes, at most four `*` and no space at an end; a label stands before an event, a pulse, a pull or an expectation
+  words stand one space apart; PATTERN has 1 to 160 bytes, at most four `*` and no space at an end; a label stands before an event, a pulse, a pull, the pin or an expectation
 --
 check --capture --explain
 expect remark fre
@@ -632,7 +632,7 @@ capture
   line 1: expect no-remark 5
                            ^
   a line here reads `expect no-remark`
-  words stand one space apart; PATTERN has 1 to 160 bytes, at most four `*` and no space at an end; a label stands before an event, a pulse, a pull or an expectation
+  words stand one space apart; PATTERN has 1 to 160 bytes, at most four `*` and no space at an end; a label stands before an event, a pulse, a pull, the pin or an expectation
 ";
 
 /// Bytes that are no EDID.

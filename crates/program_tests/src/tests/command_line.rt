@@ -17,6 +17,12 @@ run --help => --strict
 run --help => --json
 run --help => --room
 dis --help => --meaning
+lay --help => 1 to 64 bytes in lower-case hex
+lay --help => a low drive of 3600 from the fall of a slot on
+lay --help => T past 1000000000000, or BIT neither 0 nor 1
+lay --help =>   width      LOW is 0 or past 10000000, 
+lay --help =>   1000000 last 2 4>0 image-view-on     pull 1000000 3700;
+--help =>   lay
 mon --help => --json
 check --help =>   expect refused NAME WORD 
 check --help =>   ok 2 - line 3: expect once within 200000 of on 4>f active-source 1.0.0.0 ok
@@ -29,16 +35,19 @@ run --help =>   watch PA       tv
 asm --help => 4f821000
 run --help => --as
 run --help => --drives
+run --help => --named
 mon --help => --margin
 mon --help => --invert
 mon --help => --from-idle
 mon --help => --fold
+mon --help => --follow
 mon --help => --strict
 mon --help => or a remark with --strict
 mon --help => --signal
 mon --help => 0 T joined -
 edid --help => --meaning
 live --help =>   = H idle
+live --help => --json
 --help =>   ./hdminet live;
 dis --help => 4f:82:10:00      4>f active-source 1.0.0.0
 edid --help =>   made 10 2011 
@@ -145,6 +154,10 @@ run --json --room --room
 dis --meaning --meaning
 dis --json
 asm --meaning
+lay --meaning
+lay --json
+lay --explain --explain
+lay faults.lay
 run --json --edges
 run --edges --as vcd --json
 mon --strict --json
@@ -152,7 +165,8 @@ mon --from-start --strict
 mon --audit --strict --strict
 mon --json --json
 step --json
-live --json
+live --json --json
+live --json --strict
 live room.net
 check --plain --json
 check --json --trace --plain
@@ -242,6 +256,20 @@ mon --from-idle --from-start
 mon --from-idle --audit
 mon --timing --from-start
 mon --audit --audit
+mon --follow
+mon --follow --follow --from pin
+mon --follow --from vcd
+mon --follow --from csv
+mon --follow --from pin --glitch 50
+mon --follow --from pin --invert
+mon --follow --from edges --from-idle
+mon --follow --from edges --audit
+mon --follow --from edges --timing
+mon --follow --from edges --json
+mon --follow --from edges --fold
+mon --follow --from edges --strict
+mon --follow --from edges --signal CEC
+mon --follow=yes --from edges
 mon --fold --json
 mon --audit --json --fold
 mon --fold --fold
@@ -255,6 +283,12 @@ run --drives
 run --edges --drives
 run --edges --as pin --drives
 run --drives --edges --as vcd --drives
+run --named
+run --edges --named
+run --edges --as vcd --named
+run --edges --as pin --drives --named
+run --edges --as vcd --drives --named --named
+run --json --named
 step tv.steps
 ";
 

@@ -18,6 +18,24 @@ expect refused slip not-for-kind
 end 2000000
 ";
 
+const NAMES_TEST: &str = "\
+# Two players behind a switch: which of them takes address 4 does not matter where the devices are named.
+device tv tv 4
+device hub switch 4
+device p1 player 0
+device p2 player 0
+plug hub tv 1
+plug p1 hub 1
+plug p2 hub 2
+script
+label film at 2000000 press p2 play
+label on expect within 60000 of film @p2>@tv image-view-on ack
+expect once within 200000 of on @p2>f active-source 1.2.0.0 ok
+expect none within 400000 of film @p1>f active-source
+expect within 60000 of film @p1>@tv image-view-on
+end 3000000
+";
+
 const TWO_DECKS_TEST: &str = "\
 # Two players on one television, whose play keys are pressed within a frame's time. Both wake the television, and then both say
 # that they are the source to show. The first one hears the second and steps back, and the second has heard the first in
@@ -95,6 +113,17 @@ at 1500000 press tv eject
 end 2000000
 ";
 
+const NAMES_FAILURES: &str = "\
+TAP version 13
+ok 1 - line 2: label on expect within 60000 of film @p2>@tv image-view-on ack
+ok 2 - line 3: expect once within 200000 of on @p2>f active-source 1.2.0.0 ok
+ok 3 - line 4: expect none within 400000 of film @p1>f active-source
+not ok 4 - line 5: expect within 60000 of film @p1>@tv image-view-on
+# seen 0 from 2000000 to 2060000
+# 2000000 2051150 complete 8>0 image-view-on ack by p2 out -
+1..4
+";
+
 const TWO_DECKS_FAILURES: &str = "\
 TAP version 13
 ok 1 - line 3: label one expect once within 500000 of first 4>f active-source 1.0.0.0 ok
@@ -166,6 +195,12 @@ fn each_test_gives_its_report(rt: HostRuntime) {
 }
 
 const FAILURES: &[Case<'static>] = &[
+    Case {
+        name: "names",
+        line: "check",
+        input: NAMES_TEST,
+        want: NAMES_FAILURES,
+    },
     Case {
         name: "two-decks",
         line: "check",

@@ -449,6 +449,76 @@ const CEC_CLIENT_MEANT: &str = "\
   a device asks whether it may be Playback Device 1
 ";
 
+const FAULTS_LAY: &str = "\
+# A poll of address 4, as a player without an address sends it.
+1000000 4>4
+# The same, whose end-of-message bit says that another block follows.
+1100000 eom 1 0 4>4
+# Its sender breaks off after the second slot.
+1200000 last 2 4>4
+# Somebody drives the line low in the third slot.
+1300000 drive 3 4>4
+# The first slot is longer than a bit may be.
+1400000 bit 1 1500 2900 4>4
+# A spike after the rise of the second slot.
+1500000 glitch 2 900 100 4>4
+";
+
+const FAULTS_PULLS: &str = "\
+pull 1000000 3700
+pull 1004500 1500
+pull 1006900 600
+pull 1009300 1500
+pull 1011700 1500
+pull 1014100 1500
+pull 1016500 600
+pull 1018900 1500
+pull 1021300 1500
+pull 1023700 600
+pull 1026100 600
+pull 1100000 3700
+pull 1104500 1500
+pull 1106900 600
+pull 1109300 1500
+pull 1111700 1500
+pull 1114100 1500
+pull 1116500 600
+pull 1118900 1500
+pull 1121300 1500
+pull 1123700 1500
+pull 1126100 600
+pull 1200000 3700
+pull 1204500 1500
+pull 1206900 600
+pull 1300000 3700
+pull 1304500 1500
+pull 1306900 600
+pull 1309300 3600
+pull 1400000 3700
+pull 1404500 1500
+pull 1407400 600
+pull 1409800 1500
+pull 1412200 1500
+pull 1414600 1500
+pull 1417000 600
+pull 1419400 1500
+pull 1421800 1500
+pull 1424200 600
+pull 1426600 600
+pull 1500000 3700
+pull 1504500 1500
+pull 1506900 600
+pull 1507800 100
+pull 1509300 1500
+pull 1511700 1500
+pull 1514100 1500
+pull 1516500 600
+pull 1518900 1500
+pull 1521300 1500
+pull 1523700 600
+pull 1526100 600
+";
+
 const RUNS: &[Case<'static>] = &[
     Case {
         name: "first-path",
@@ -543,6 +613,12 @@ const TEXTS: &[Case<'static>] = &[
         line: "dis",
         input: CEC_CLIENT_LOG,
         want: CEC_CLIENT_FRAMES,
+    },
+    Case {
+        name: "faults",
+        line: "lay",
+        input: FAULTS_LAY,
+        want: FAULTS_PULLS,
     },
     Case {
         name: "meaning of cec-client",

@@ -12,6 +12,7 @@ run --strict --edges => run --edges => hdminet: refused events 1;
 run --edges --strict => run --edges => hdminet: refused events 1;
 run --strict --json => run --json => hdminet: refused events 1;
 run --drives --strict --as vcd --edges => run --edges --as vcd --drives => hdminet: refused events 1;
+run --named --strict --as vcd --edges --drives => run --edges --as vcd --drives --named => hdminet: refused events 1;
 run --explain --strict => run => hdminet: refused events 1;  rounds 2, complete rounds 2, refused events 1;
 --explain run --strict => run => hdminet: refused events 1;  rounds 2, complete rounds 2, refused events 1;
 ";
@@ -55,6 +56,7 @@ run --json => run --json --strict
  => run --strict
 run --edges --as vcd => run --as=vcd --edges
 run --edges --as vcd --drives => run --edges --drives --as=vcd --
+run --edges --as vcd --drives --named => run --named --edges --drives --as=vcd --
  => --
  => run --
 ";

@@ -8,6 +8,8 @@ const PAIR: &str =
 
 const FRAMES: &str = "4>f active-source 1.0.0.0\n4>0 play forward\n4>4\n";
 
+const LAID: &str = "5 last 2 4>4\n20000 drive 1 4>4\n";
+
 /// A start bit and a bit 1, after which the line stays high.
 const EDGES: &str = "1000 0\n4700 1\n5500 0\n6100 1\n20000 end\n";
 
@@ -50,7 +52,9 @@ const WRITTEN: &[(&str, &str)] = &[
     ("asm", FRAMES),
     ("dis", "44\n4f:82:10:00\n"),
     ("dis --meaning", "44\n4f:82:10:00\n"),
+    ("lay", LAID),
     ("mon", EDGES),
+    ("mon --follow --from edges", EDGES),
     ("run --edges", POLL),
     ("run --strict", TELEVISION),
     ("run --json", TELEVISION),

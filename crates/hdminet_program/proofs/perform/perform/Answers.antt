@@ -28,3 +28,8 @@ pub returns-in-Drives : goal.returns-in-Drives
 returns-in-Drives g c =
     let P : Choice → Type 0 = λ x. OnOk c.run_to_drives.result (Writes x c.args.signal.now c.args.input.now (g.W.Sink.contents c.args.out.now) (g.W.Sink.contents c.run_to_drives.new.out)) in
     subst P (sym (c.in-Run.is ∙ ap (λ l. Run l c.in-Run.strict) c.in-Drives.is)) c.run_to_drives.ensures
+
+pub returns-in-Named : goal.returns-in-Named
+returns-in-Named g c =
+    let P : Choice → Type 0 = λ x. OnOk c.run_to_drives-in-Named.result (Writes x c.args.signal.now c.args.input.now (g.W.Sink.contents c.args.out.now) (g.W.Sink.contents c.run_to_drives-in-Named.new.out)) in
+    subst P (sym (c.in-Run.is ∙ ap (λ l. Run l c.in-Run.strict) c.in-Named.is)) c.run_to_drives-in-Named.ensures

@@ -8,8 +8,8 @@ use Rattle.hdminet_program.proofs.program.act.Goals as goal
 pub returns-in-Ok : goal.returns-in-Ok
 returns-in-Ok g c done =
     chosen (asked_by (map string_bytes c.args.words.now)) c.in-Ok.asked (name_of (signal_in (map string_bytes c.args.words.now))) _ _ _ c.in-Ok.ensures
-    (c.serve_named.ensures done)
+    (c.serve.ensures done)
 
 pub returns-in-Err : goal.returns-in-Err
 returns-in-Err g c done = helped (asked_by (map string_bytes c.args.words.now)) (name_of (signal_in (map string_bytes c.args.words.now))) _ _ _ c.in-Err.ensures
-    (c.refuse.ensures done)
+    (c.decline.ensures done)

@@ -1,15 +1,26 @@
-use Rattle.std.proofs.Common.{subst, sym}
-use Rattle.hdmi_core.specs.Buffered.{below}
-use Rattle.cec_dialogue.proofs.Putting.{held}
+use Rattle.std.proofs.Common.{map, string_bytes, subst, sym}
+use Rattle.hdminet_captures.specs.Captures.{name_of}
+use Rattle.hdminet_words.specs.MonFlags.{signal_in}
 use Rattle.hdminet_words.specs.declared.choice.Choice.{Choice}
 use Rattle.hdminet_program.specs.Done.{IsServed}
-use Rattle.hdminet_program.proofs.LiveLemmas.{lived}
+use Rattle.hdminet_program.proofs.LiveLemmas.{lived_as}
+use Rattle.hdminet_program.proofs.ServedLemmas.{followed}
 use Rattle.hdminet_program.proofs.program.serve.Goals as goal
 
 pub returns-in-Live : goal.returns-in-Live
 returns-in-Live g c done =
     let known = g.R.Read.remaining c.args.input.now in
-    let old = held g.W.Sink.contents c.args.out.now in
-    let new = g.W.Sink.contents (below c.serve_lines.new.out) in
-    let P : Choice → Type 0 = λ x. IsServed known old new x c.args.signal.now in
-    subst P (sym c.in-Live.is) (lived known old new c.args.signal.now (c.serve_lines.ensures done))
+    let old = g.W.Sink.contents c.args.out in
+    let new = g.W.Sink.contents c.serve_session.result.out in
+    let name = name_of (signal_in (map string_bytes c.args.words.now)) in
+    let P : Choice → Type 0 = λ x. IsServed known old new x name in
+    subst P (sym c.in-Live.is) (lived_as c.in-Live.json known old new name (c.serve_session.ensures done))
+
+pub returns-in-Follow : goal.returns-in-Follow
+returns-in-Follow g c done =
+    let known = g.R.Read.remaining c.args.input.now in
+    let old = g.W.Sink.contents c.args.out in
+    let new = g.W.Sink.contents c.serve_capture.result.out in
+    let name = name_of (signal_in (map string_bytes c.args.words.now)) in
+    let P : Choice → Type 0 = λ x. IsServed known old new x name in
+    subst P (sym c.in-Follow.is) (followed c.in-Follow.form c.in-Follow.margin known old new name (c.serve_capture.ensures done))
