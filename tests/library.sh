@@ -7,7 +7,7 @@
 #
 # $CC is the C compiler, cc where there is none. $HDMINET_RUN is what stands before a program that it has built, as
 # 'qemu-aarch64 -L /usr/aarch64-linux-gnu' for CC=aarch64-linux-gnu-gcc; nothing is called from Python then.
-# $HDMINET_FRAMES is how many random frames are taken.
+# $HDMINET_FRAMES is how many random frames are taken, $HDMINET_KINDS which kinds of device a pin in Python is tested as.
 set -u
 top=$(cd "$(dirname "${BASH_SOURCE[0]}")/.." && pwd)
 room=$(mktemp -d)
@@ -17,6 +17,7 @@ failed=0
 count=${HDMINET_FRAMES:-200000}
 cc=${CC:-cc}
 run=${HDMINET_RUN:-}
+kinds=${HDMINET_KINDS:-tv switch}
 
 line() {
   local what=$1
@@ -286,6 +287,27 @@ frames_of_the_program() {
   done
 }
 
+# The tests of suite/ over examples/c/pin.c, whose interrupts come so late, by four programs at a time.
+over_pin() { local latency=$1; shift; "$top/tools/suite" --program "$program" --dut "$run $room/pin $latency" --kind player --without deck --without menu --without remote "$@"; }
+all_over_pin() {
+  export -f over_pin
+  export top program run room
+  "$top/tools/suite" --list | cut -f 1 | xargs -P 4 -n 30 bash -c 'over_pin "$@"' over_pin "$1"
+}
+# The reference device by its pin, over the Python module.
+python_pin() {
+  "$top/tools/suite" --list | cut -f 1 | PYTHONDONTWRITEBYTECODE=1 PYTHONPATH="$at/python" HDMINET_LIBRARY="$at/lib/libhdminet.so" \
+    xargs -P 4 -n 30 "$top/tools/suite" --program "$program" --dut "$top/tests/suite/pinned.py 100" --kind "$1"
+}
+acknowledges() { over_pin "$1" "$top/tests/suite/two-players.test"; }
+# A 0 is low for 1,500, and looked at 1,050 after its fall: who looks more than 450 late reads a 1 in its place, and never has an
+# address.
+misreads() {
+  ! over_pin "$1" "$top/tests/suite/two-players.test" poll-acknowledged > "$room/written" && [ "$(grep -c '^not ok' "$room/written")" = 2 ] &&
+    [ "$(grep -c '^# the device under test: it holds no logical address' "$room/written")" = 2 ] &&
+    [ "$(grep -c '^# [0-9 ]* silent 0 by - out -$' "$room/written")" -gt 100 ]
+}
+
 if [ $# -ge 1 ]; then
   at=$(cd "$1" && pwd) || exit 2
   program=${2:-}
@@ -318,9 +340,18 @@ if [ $# -ge 1 ]; then
       python3 "$top/tests/library.py" "$top" "$count" "$program"
     line "watch.py" writes "$top/examples/capture.readings" env PYTHONPATH="$at/python" python3 "$top/examples/python/watch.py" < "$top/examples/capture.edges"
   fi
+  if [ -n "$program" ] && [ -z "$run" ]; then
+    for kind in $kinds; do line "a pin in Python, as a $kind" python_pin "$kind"; done
+  fi
   if [ -n "$program" ]; then
     line "dut.c links" link dut -lhdminet_wire "$top/examples/c/dut.c"
     line "dut.c, a device under test" "$top/tools/suite" --program "$program" --dut "$run $room/dut" --kind player --without deck --without menu --without remote
+    line "pin.c links" link pin -lhdminet_wire "$top/examples/c/pin.c"
+    for latency in 1 100 300; do
+      line "pin.c, whose interrupts are $latency late, a device under test" all_over_pin $latency
+    done
+    for latency in 1 100 300 450; do line "pin.c, whose interrupts are $latency late, and a player" acknowledges $latency; done
+    for latency in 451 500; do line "pin.c, whose interrupts are $latency late, misreads" misreads $latency; done
     line "the random frames, read by the program" frames_of_the_program
     for net in "$top"/examples/*.net; do
       name=$(basename "$net")

@@ -200,6 +200,127 @@ def unplugged_devices(pool):
     return leaves and not stays
 
 
+class Pin(Dut):
+    """A device that pulls the line itself, and notes the edges that it is told."""
+    by_pin = True
+
+    def start(self, kind):
+        self.edges = []
+        self.wake_up(5_000_000)
+
+    def line(self, is_low):
+        self.edges.append("%d %d" % (self.now, not is_low))
+
+
+class Overlaps(Pin):
+    """Pulls while it pulls."""
+
+    def wake(self):
+        for after, width in ((100, 600), (300, 600), (400, 50), (1000, 100)):
+            self.pull(width, after)
+
+
+class Hasty(Pin):
+    """Pulls at once where the line rises first."""
+
+    def line(self, is_low):
+        super().line(is_low)
+        if len(self.edges) == 2:
+            self.pull(400)
+
+
+class Chatters(Pin):
+    """Pulls without an end, a microsecond wide."""
+
+    def wake(self):
+        for number in range(63):
+            self.pull(1, 4 * number)
+        self.wake_up(252)
+
+
+class Blind(Pin):
+    """Lays a poll and its physical address on the line, and hears nothing."""
+
+    def lay(self, data, after):
+        self.pull(3700, after)
+        bits = "".join(format(byte, "08b") + ("11" if at + 1 == len(data) else "01") for at, byte in enumerate(data))
+        for slot, bit in enumerate(bits):
+            self.pull(600 if bit == "1" else 1500, after + 4500 + 2400 * slot)
+
+    def address(self, physical):
+        if physical is not None:
+            self.lay([0x44], 300_000)
+            self.lay([0x4f, 0x84, physical >> 8, physical & 0xff, 0x04], 400_000)
+
+
+PLAIN = SEAT + "%send 7000000\n"
+PIN_CASES = [
+    # What comes under a pull begins a microsecond after it.
+    (Overlaps, PLAIN % "", ["pull 5000100 600", "pull 5000701 199", "pull 5001000 100"], ["5000100 0", "5000700 1", "5000701 0", "5000900 1", "5001000 0", "5001100 1"]),
+    (Overlaps, PLAIN % "pulse 5000200 1000\n", ["pull 5000100 600", "pull 5000701 499"], ["5000100 0", "5000700 1", "5000701 0", "5001200 1"]),
+    (Overlaps, PLAIN % "pull 5000050 2000\n", ["pull 5000050 2000"], ["5000050 0", "5002050 1"]),
+    # An edge is told a microsecond after it. The television polls at 12,000, its start bit rises at 15,700, and it polls again.
+    (Hasty, PLAIN % "", ["pull 15701 400"], []),
+    # While it is unplugged it hears and pulls nothing.
+    (Overlaps, PLAIN % ("at 4900000 unplug dut\nat 5000050 send tv 0>f standby\nat 6000000 plug dut tv {port}\n"), [], []),
+    (Overlaps, PLAIN % ("at 5000050 unplug dut\nat 6000000 plug dut tv {port}\n"), [], []),
+]
+
+
+def run_of(device, text):
+    """A run of a device over a test that is text, and the script with its expectations."""
+    suite = runner.Suite(PROGRAM, "player", 2, 60)
+    suite.frames = FRAMES
+    with tempfile.TemporaryDirectory() as room:
+        run = runner.Run(suite, runner.Test("own", written(room, "own", HEAD + text)), Here(device))
+    run.whole()
+    return run, run.kept()[0]
+
+
+def edges_of(text):
+    """The edges of a script, but for its end."""
+    plain = subprocess.run([PROGRAM, "check", "--plain"], input=text, capture_output=True, text=True).stdout
+    edges = subprocess.run([PROGRAM, "run", "--edges"], input=plain, capture_output=True, text=True).stdout
+    return edges.split("\n")[:-2]
+
+
+def pins_are_exact(pool):
+    """A device by pin pulls at the instants that it names, and is told each edge of the line once."""
+    right = True
+    for kind, text, pulls, late in PIN_CASES:
+        device = kind()
+        run, script = run_of(device, text)
+        got = [line for line in script.split("\n") if line.startswith(("pull ", "pulse "))]
+        of_run = edges_of(script)
+        is_plugged = "unplug" not in text
+        heard = [edge for edge in device.edges if int(edge.split(" ")[0]) >= 5_000_000]
+        if run.fault or got != pulls or heard != late or (is_plugged and device.edges != of_run) or not set(device.edges) <= set(of_run):
+            print("suite: a device by pin: %s %s %s %s" % (kind.__name__, run.fault, got, heard))
+            right = False
+    most, runner.MOST_PULLS = runner.MOST_PULLS, 300
+    run, _ = run_of(Chatters(), PLAIN % "")
+    runner.MOST_PULLS = most
+    return right and most == 16384 and run.fault == "more than 300 pulls in one test"
+
+
+def pins_are_judged(pool):
+    """What a pin lays on the line is a frame of the device: its address is the one of its poll, and its rounds are by nobody."""
+    suite = runner.Suite(PROGRAM, "player", 2, 60)
+    suite.frames = FRAMES
+    want = {
+        "address-first": ["# fails: expect within 200000 of call 0>4 ack"],
+        "osd-name": ["# fails: label asked expect within 500000 of ask 0>4 give-osd-name ack", "# fails: expect once within 3000000 of asked 4>0 set-osd-name"],
+    }
+    right = True
+    for name, fails in want.items():
+        result = suite.test(next(test for test in TESTS if test.name == name), Here(Blind()))
+        got = [line for line in result.below if line.startswith("# fails: ")]
+        if got != fails or not result.is_by_pin or result.is_broken:
+            print("suite: a pin that hears nothing: %s %s" % (name, got))
+            right = False
+    return right
+
+
 def ill_formed_tests(pool):
     """A test that is none is refused with status 2, by its line or by what the program says of it."""
     cases = [
@@ -226,6 +347,7 @@ def ill_formed_tests(pool):
 def broken_devices(pool):
     """A device that breaks the protocol fails with what it did, and nothing waits for ever."""
     answers = "sh -c 'while read line; do printf \"%s\\nidle\\n\"; done'"
+    pins = "sh -c 'read line; printf \"by pin\\n%s\\nidle\\n\"; while read line; do echo idle; done'"
     cases = [
         ("sh -c 'cat > /dev/null'", 1, "no answer in 1 seconds"),
         ("sh -c 'printf half; cat > /dev/null'", 1, "no answer in 1 seconds"),
@@ -243,6 +365,16 @@ def broken_devices(pool):
         (answers % "after 0 wake", 60, "no such line: after 0 wake"),
         (answers % "after 0 pull 100", 60, "no such line: after 0 pull 100"),
         (answers % "after 99999999 wake", 60, "no such line: after 99999999 wake"),
+        (answers % "by pin", 60, "no such line: by pin"),
+        (pins % "after 0 send 44", 60, "no such line: after 0 send 44"),
+        (pins % "after 0 hold 4", 60, "no such line: after 0 hold 4"),
+        (pins % "after 0 drop", 60, "no such line: after 0 drop"),
+        (pins % "after 0 pull 0", 60, "no such line: after 0 pull 0"),
+        (pins % "after 0 pull 0100", 60, "no such line: after 0 pull 0100"),
+        (pins % "after 0 pull 10000001", 60, "no such line: after 0 pull 10000001"),
+        (pins % "after 0 pull", 60, "no such line: after 0 pull"),
+        (pins % "after 0 wake", 60, "no such line: after 0 wake"),
+        (pins % "by pin", 60, "no such line: by pin"),
         ("sh -c 'while read line; do echo idle; done'", 60, "it holds no logical address: send tv 0>{la} give-osd-name"),
     ]
     right = True
@@ -329,9 +461,9 @@ def table_is_whole(pool):
         text = file.read()
     table = [[cell.strip() for cell in line.split("|")[1:-1]] for line in text.splitlines() if line.startswith("| CEC ")]
     rows = [(section, " ".join(tests)) for section, tests in want.items()]
-    is_whole = [(row[0], row[-1]) for row in table] == rows and "Each of %d devices with one slip" % len(SLIPS) in text
+    is_whole = [(row[0].split(",")[0], row[-1]) for row in table] == rows and "Each of %d devices with one slip" % len(SLIPS) in text
     if not is_whole:
-        print("suite: the rows of docs/suite.md are to be:\n" + "".join("| %s | .. | %s |\n" % row for row in rows), end="")
+        print("suite: the rows of docs/suite.md are to be:\n" + "".join("| %s, .. | %s |\n" % row for row in rows), end="")
     return is_whole
 
 
@@ -401,6 +533,8 @@ WHAT = [
     instants_are_kept,
     greedy_devices,
     unplugged_devices,
+    pins_are_exact,
+    pins_are_judged,
     ill_formed_tests,
     broken_devices,
     programs_are_driven,

@@ -5,6 +5,16 @@ A device is a class below `Dut`, which overrides what it acts on, and ends its p
     class Deaf(Dut):
         def address(self, physical):
             self.send([0x44])
+
+One that pulls the line itself sets `by_pin`: it is told each edge of the line, by `line`, and no frames, and has `pull` and
+`wake_up` alone:
+
+    class Stuck(Dut):
+        by_pin = True
+
+        def line(self, is_low):
+            if is_low:
+                self.pull(3600)
 """
 
 import sys
@@ -12,6 +22,8 @@ import sys
 
 class Dut:
     """A device under test. Times are microseconds of emulated time; `now` is the instant of the line that is answered."""
+
+    by_pin = False
 
     def __init__(self):
         self.now, self.kind, self.actions = 0, "", []
@@ -31,8 +43,12 @@ class Dut:
         self.actions.append("after %d drop" % after)
 
     def wake_up(self, after):
-        """Asks for a call of `wake`, a millisecond from now or later."""
+        """Asks for a call of `wake`, a millisecond from now or later; by pin a microsecond."""
         self.actions.append("after %d wake" % after)
+
+    def pull(self, width, after=0):
+        """Pulls the line low by its pin: a microsecond after an edge at the soonest."""
+        self.actions.append("after %d pull %d" % (after, width))
 
     # What comes. Each does nothing here.
 
@@ -51,6 +67,9 @@ class Dut:
     def failed(self):
         """An attempt of the first frame that waits has failed. It is made again by itself, six attempts in all; a poll is made once."""
 
+    def line(self, is_low):
+        """An edge of the line, by pin: the device's own pulls have some too. It is high at first."""
+
     def press(self, key):
         """Somebody presses a key of the device."""
 
@@ -65,12 +84,16 @@ class Dut:
         verb, time, *rest = line.split(" ")
         self.now, self.actions = int(time), []
         if verb == "start":
+            if self.by_pin:
+                self.actions.append("by pin")
             self.kind = rest[0]
             self.start(self.kind)
         elif verb == "address":
             self.address(None if rest[0] == "-" else int(rest[0].replace(".", ""), 16))
         elif verb in ("frame", "sent"):
             (self.frame if verb == "frame" else self.sent)(bytes.fromhex(rest[1]), rest[2] in ("ack", "ok"))
+        elif verb == "line":
+            self.line(rest[0] == "0")
         elif verb in ("press", "release"):
             (self.press if verb == "press" else self.release)(" ".join(rest))
         elif verb in ("failed", "wake"):
