@@ -463,7 +463,7 @@ end 9
   line 4 of the input: expect within 5 of filn short
                                           ^^^^
   `filn`: did you mean `film`?
-  a label is a word that no other line has, on a line above those that name it; `refused` names that of an event
+  a label is a word that no other line has, on a line above those that name it; `refused` names that of an event, or stands on the line below one
 --
 check --explain
 device tv tv 4
@@ -475,7 +475,7 @@ end 9
   line 4 of the input: label film expect from 0 to 5 short
                              ^^^^
   line 3 of the input has the label `film`
-  a label is a word that no other line has, on a line above those that name it; `refused` names that of an event
+  a label is a word that no other line has, on a line above those that name it; `refused` names that of an event, or stands on the line below one
 --
 check --explain
 device tv tv 4
@@ -487,7 +487,7 @@ end 9
   line 4 of the input: expect refused none off-wire
                                       ^^^^
   line 3 of the input has the label `none`
-  a label is a word that no other line has, on a line above those that name it; `refused` names that of an event
+  a label is a word that no other line has, on a line above those that name it; `refused` names that of an event, or stands on the line below one
 --
 check --explain
 device tv tv 4
