@@ -102,9 +102,9 @@ def reads_pins_at_once():
     return right and bus.ended() == (0, '', '')
 
 
-def random_capture(form, seed):
+def random_capture(form, number):
     """The lines of a capture of frames, broken frames and pulses."""
-    r = random.Random(seed)
+    r = random.Random(number)
     at, edges = r.randrange(0, 30000), []
     for _ in range(r.randrange(1, 8)):
         blocks = [(r.randrange(256), 0, r.randrange(2)) for _ in range(r.randrange(0, 4))] + [(r.randrange(256), 1, r.randrange(2))]
@@ -131,9 +131,9 @@ def random_capture(form, seed):
 def is_text_of_the_whole():
     """What is written is the text of the whole, with the same status and the same fault; before a fault it is a front."""
     for form in ('edges', 'pin'):
-        for seed in range(40):
-            lines = random_capture(form, seed)
-            margin = ('--margin', '150') if seed % 3 == 0 else ()
+        for number in range(40):
+            lines = random_capture(form, number)
+            margin = ('--margin', '150') if number % 3 == 0 else ()
             want = watched(form, ''.join(lines), '--from-start', *margin)
             bus = Bus(form, margin)
             for line in lines:
