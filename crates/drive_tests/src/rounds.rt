@@ -1,7 +1,5 @@
 //! Who drives the line of rounds that were worked out by hand.
-ghost use Rattle.std.specs.Prelude.{◌≡◌, ◌==◌, ◌≤◌, length, is_some};
-ghost use Rattle.std.specs.List.{list_any};
-ghost use Rattle.cec_wire.specs.Lasting.{is_begun};
+ghost use Rattle.std.specs.Prelude.{◌≤◌, length};
 
 use arrayvec::ArrayVec;
 use cec_drives::{begun_within, seat_drive};
@@ -79,29 +77,13 @@ fn pulse_of(text: &str) -> Option<Stretch> {
 
 // ---- rounds
 
-fn anybody_sends(seats: &[Seat]) -> bool
-    ensures { result ≡ list_any (λ s. is_some s.sends) seats.now }
-{
-    seats.iter().any(|seat| seat.sends.is_some())
-}
-
-fn any_begins(pulses: &[Stretch], start: u64) -> bool
-    ensures { result ≡ list_any (λ p. p.from == start) pulses.now }
-{
-    pulses.iter().any(|pulse| pulse.from == start)
-}
-
-// Somebody pulls at once.
-fn is_begun(seats: &[Seat], start: u64, pulses: &Pulls) -> bool
-    ensures { result ≡ is_begun seats.now start pulses.now }
-{
-    anybody_sends(seats) || any_begins(pulses.as_slice(), start)
-}
-
 fn round(rt: &impl Abort, seats: &[Seat], start: u64, pulses: &Pulls) -> Outcome
     requires few { length seats.now ≤ 15 }
 {
-    assert!(rt; start <= 2_000_000_000_000 && is_begun(seats, start, pulses));
+    // Somebody pulls at once.
+    let is_begun = seats.iter().any(|seat| seat.sends.is_some())
+        || pulses.as_slice().iter().any(|pulse| pulse.from == start);
+    assert!(rt; start <= 2_000_000_000_000 && is_begun);
     EdgeWire::new().round(seats, start, pulses)
 }
 
