@@ -4,6 +4,14 @@ use cec_feature::Key;
 use cec_frame::Frame;
 use hdmi_topo::{PlugError, UnplugError};
 
+/// The devices whose names stand in the header of a frame that is handed in, each by its number. Where there is none, the frame's
+/// own digit counts.
+#[derive(Clone, Copy, Debug, PartialEq, Eq)]
+pub struct HeaderNames {
+    pub initiator: Option<usize>,
+    pub destination: Option<usize>,
+}
+
 /// An event of a script. Devices go by their numbers.
 #[derive(Drop)]
 pub enum Event {
@@ -26,6 +34,13 @@ pub enum Event {
     /// A device is given a frame to send.
     Send {
         device: usize,
+        frame: Frame,
+    },
+    /// A device is given a frame to send in whose header names stand for addresses: for each the first address that the device of
+    /// that name holds when the event is applied.
+    SendNamed {
+        device: usize,
+        names: HeaderNames,
         frame: Frame,
     },
     /// A device from outside is told what it holds, or to drop what it has to send.
@@ -62,6 +77,15 @@ impl Event {
                 device: *device,
                 frame: frame.copy(),
             },
+            Event::SendNamed {
+                device,
+                names,
+                frame,
+            } => Event::SendNamed {
+                device: *device,
+                names: *names,
+                frame: frame.copy(),
+            },
             Event::Outside { device, act } => Event::Outside {
                 device: *device,
                 act: *act,
@@ -70,7 +94,8 @@ impl Event {
     }
 }
 
-/// Why an event is refused. What a device from outside is told is refused as a key is.
+/// Why an event is refused. What a device from outside is told is refused as a key is. A frame with names is refused as one
+/// without, and with `NoAddress` where a device of a name holds no address.
 #[derive(Clone, Copy, PartialEq, Eq)]
 pub enum EventError {
     Plug(PlugError),

@@ -3,4 +3,4 @@
 
 mod event;
 
-pub use event::{Event, EventError};
+pub use event::{Event, EventError, HeaderNames};
