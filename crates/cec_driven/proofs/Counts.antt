@@ -30,9 +30,6 @@ count_unless None at (Outside device act) s = length-changed device _ s.devices
 pub count_applied : (at : ℕ) (event : Event) (s t : NetState) → t ≡ net_after at event s → length t.devices ≡ length s.devices
 count_applied at event s t e = ap (λ (n : NetState). length n.devices) e ∙ count_unless (event_fault s event) at event s
 
-pub count_round : (begin : ℕ) (o : Outcome) (s t : NetState) → IsNextRound s begin o t → length t.devices ≡ length s.devices
-count_round begin o s t next = ap (λ (n : NetState). length n.devices) next.after_is ∙ length-each_from 0 _ s.devices
-
 length-loose : (tree : List Node) → length (map (λ (node : Node). fresh node.kind node.name node.ports) tree) ≡ length tree
 length-loose [] = refl
 length-loose (node ∷ tree) = ap suc (length-loose tree)

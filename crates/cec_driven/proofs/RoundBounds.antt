@@ -24,10 +24,3 @@ bounds net new begin o soon next progress =
       later = omega (arith, progress.low, rest);
       rest = omega (arith, progress.closed, close, soon);
     }
-
--- those that begin after the rest, a microsecond later or more
-pub since_after : (rest : ℕ) (pulses : List Stretch) → filter (λ (p : Stretch). nat_le (rest + 1) p.from) pulses ≡ filter (λ (p : Stretch). nat_lt rest p.from) pulses
-since_after rest [] = refl
-since_after rest (p ∷ pulses) =
-    let same : nat_le (rest + 1) p.from ≡ nat_lt rest p.from = grind (arith, nat_tests) in
-    ap₂ (λ (b : Bool) (ps : List Stretch). if b then p ∷ ps else ps) same (since_after rest pulses)

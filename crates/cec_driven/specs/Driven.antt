@@ -1,8 +1,7 @@
 -- A run's line, and below it who drives it (own): the dump has a wire for the line, one for each device, and one for the pulses
 -- (IEEE 1364-2005, 18).
-use Rattle.std.specs.Prelude.{◌≡◌, ℕ, zero, suc, ◌+◌, ◌-◌, ◌≤◌, max, List, [], ◌∷◌, ◌++◌, length, map}
+use Rattle.std.specs.Prelude.{◌≡◌, ℕ, zero, suc, ◌+◌, ◌-◌, max, List, [], ◌∷◌, ◌++◌, map}
 use Rattle.cec_wave.specs.declared.Stretch.{Stretch}
-use Rattle.cec_wave.specs.Line.{IsWave}
 use Rattle.cec_wire.specs.declared.Seat.{Seat}
 use Rattle.cec_wire.specs.declared.Outcome.{Outcome}
 use Rattle.cec_wires.specs.Wires.{head, wires_text}
@@ -18,7 +17,6 @@ use Rattle.cec_run.specs.declared.run.Turn.{Turn}
 use Rattle.cec_run.specs.declared.run.Turn.TheVariants.{Stop, Apply, Round}
 use Rattle.cec_run.specs.Run.{Config, turn_at, IsEventTurn, IsRoundTurn}
 use Rattle.cec_run.specs.Happening.{Happening, OfEvent, OfRound}
-use Rattle.cec_driven.specs.declared.round.Kept.{Kept}
 
 -- the names of the devices' wires
 abbrev pub names_of : List State → List (List ℕ)
@@ -70,10 +68,3 @@ pub record IsDriven (end : ℕ) (c : Config) (text : List ℕ) (totals : Totals)
 abbrev pub drives_of_turn : Happening → List ℕ
 drives_of_turn (OfEvent at e before) = []
 drives_of_turn (OfRound begin before o) = round_drives (seats_of before begin) begin before.pulses o
-
--- what is kept beside the network: its pulses, which are in order, and since when its line is high
-pub record IsBeside (kept : Kept) (net : NetState) : Type 0 where
-  pub pulses : kept.pulses.now ≡ net.pulses
-  pub order : IsWave kept.pulses.now
-  pub rest : kept.rest ≡ net.rest
-  pub few : length net.devices ≤ 15

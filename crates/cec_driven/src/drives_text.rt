@@ -1,7 +1,7 @@
 //! Who drives the line, as what hears of a run.
 ghost use Rattle.std.specs.Prelude.{◌≡◌, not};
 
-use crate::round::{Kept, add_drives};
+use crate::round::add_drives;
 use crate::wires::Wires;
 use cec_asm::TimedEvent;
 use cec_event::EventError;
@@ -10,25 +10,21 @@ use cec_run::Reporter;
 use cec_wire::Outcome;
 use hdmi_core::{Counted, Sink};
 
-/// The drives, as far as they are written, and what is kept beside the network.
+/// The drives, as far as they are written.
 #[derive(Drop)]
-pub struct DrivesText<'a, 'b, S: Sink> {
+pub struct DrivesText<'a, S: Sink> {
     pub text: Counted<'a, S>,
     pub wires: Wires,
-    pub kept: Kept<'b>,
 }
 
-impl<'a, 'b, S: Sink> Reporter for DrivesText<'a, 'b, S> {
+impl<'a, S: Sink> Reporter for DrivesText<'a, S> {
     ghost use Rattle.std.specs.Prelude.{◌≡◌, not};
     ghost use Rattle.hdmi_core.specs.Adds.{Adds};
-    ghost use Rattle.cec_driven.specs.Driven.{IsBeside};
     ghost use Rattle.cec_driven.specs.Named.{wires_of_turn};
 
     ghost hears = { λ r x s. Adds r.text s.text (wires_of_turn r.wires x) × (s.wires ≡ r.wires) };
 
     ghost goes_on = { λ r. not r.text.failed };
-
-    ghost keeps = { λ r net. IsBeside r.kept net };
 
     fn event<W>(
         &mut self,
@@ -40,14 +36,7 @@ impl<'a, 'b, S: Sink> Reporter for DrivesText<'a, 'b, S> {
     ) {}
 
     fn round<W>(&mut self, begin: u64, outcome: &Outcome, net: &Net<W>) {
-        add_drives(
-            &mut self.text,
-            self.wires,
-            &mut self.kept,
-            begin,
-            outcome,
-            net,
-        );
+        add_drives(&mut self.text, self.wires, begin, outcome, net);
     }
 
     fn wants_more(&self) -> bool {

@@ -4,7 +4,6 @@ ghost use Rattle.std.specs.Io.KnownBytes.{Appends};
 ghost use Rattle.cec_run.specs.Emulate.{IsReported, is_write};
 ghost use Rattle.cec_driven.specs.Emulate.{IsDumpCut, IsDumpOf};
 
-use crate::round::Kept;
 use crate::run::run;
 use crate::wires::Wires;
 use cec_asm::{parse_script, parse_topology};
@@ -46,11 +45,7 @@ pub fn emulate_drives<S: Sink>(
     let Ok(mut net) = Net::on_heap(alloc, topology.tree, &script.pulses) else {
         return Err(EmulateError::Memory);
     };
-    let kept = Kept {
-        pulses: &script.pulses,
-        rest: 0,
-    };
-    match run(out, wires, &mut net, kept, &script.events, script.end) {
+    match run(out, wires, &mut net, &script.events, script.end) {
         Ok(totals) => Ok(totals),
         Err(fault) => Err(EmulateError::Write(fault.count)),
     }

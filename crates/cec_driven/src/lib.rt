@@ -6,7 +6,6 @@ mod emulate;
 mod head;
 mod round;
 mod run;
-mod seats;
 mod wires;
 
 pub use emulate::emulate_drives;

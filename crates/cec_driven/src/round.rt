@@ -7,13 +7,11 @@ ghost use Rattle.cec_net.specs.Progress.{IsProgress};
 ghost use Rattle.cec_net.specs.Step.{after_round, seats_of};
 ghost use Rattle.hdmi_core.specs.Adds.{Adds};
 ghost use Rattle.cec_drives.specs.Stretches.{drives_of};
-ghost use Rattle.cec_driven.specs.Driven.{IsBeside};
 ghost use Rattle.cec_driven.specs.Named.{round_of};
 
-use crate::seats::seats_of;
 use crate::wires::Wires;
 use arrayvec::ArrayVec;
-use cec_drives::{begun_since, begun_within, put_drives};
+use cec_drives::{begun_within, put_drives};
 use cec_named::add_named_round;
 use cec_net::Net;
 use cec_wave::Stretch;
@@ -68,19 +66,11 @@ fn add_round<S: Sink>(
     add_round_wires(out, wires, &drives, begun, begin, outcome);
 }
 
-/// What a run keeps beside its network: the pulses that no round has taken, and since when the line is high.
-#[derive(Drop)]
-pub struct Kept<'a> {
-    pub pulses: &'a [Stretch],
-    pub rest: u64,
-}
-
 /// Adds these wires of the round that comes next, which begins at `begin`, at most 2,000,000,000,000, and gives this
-/// outcome, and keeps what is left after it. The network is that before the round.
+/// outcome. The network is that before the round.
 pub fn add_drives<S: Sink, W>(
     out: &mut Counted<'_, S>,
     wires: Wires,
-    kept: &mut Kept<'_>,
     begin: u64,
     outcome: &Outcome,
     net: &Net<W>,
@@ -88,13 +78,9 @@ pub fn add_drives<S: Sink, W>(
     requires soon { begin ≤ latest_instant }
     requires round { IsRound (seats_of net.now begin) begin net.now.pulses outcome.now }
     requires progress { IsProgress net.now begin (after_round net.now begin outcome.now) }
-    requires kept { IsBeside kept.old net.now }
-    ensures drives { Adds out.old out.new (round_of wires (drives_of (seats_of net.now begin) begin net.now.pulses outcome.now) begin outcome.now) }
-    ensures kept { IsBeside kept.new (after_round net.now begin outcome.now) }
+    ensures { Adds out.old out.new (round_of wires (drives_of (seats_of net.now begin) begin net.now.pulses outcome.now) begin outcome.now) }
 {
-    let seats = seats_of(net.devices(), kept.rest, begin);
+    let seats = net.seats(begin);
     let _stretches = outcome.wave.as_slice();
-    add_round(out, wires, &seats, begin, kept.pulses, outcome);
-    kept.pulses = begun_since(kept.pulses, outcome.rest + 1);
-    kept.rest = outcome.rest;
+    add_round(out, wires, &seats, begin, net.pulls(), outcome);
 }

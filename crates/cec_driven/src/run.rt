@@ -2,18 +2,15 @@
 ghost use Rattle.std.specs.Prelude.{◌≡◌, ℕ, ◌≤◌, List, length, true, IfOk, IfErr, OnOk, OnErr};
 ghost use Rattle.std.specs.Io.KnownBytes.{Appends};
 ghost use Rattle.cec_wave.specs.Bounds.{latest_event};
-ghost use Rattle.cec_wave.specs.Line.{IsWave};
 ghost use Rattle.cec_asm.specs.Script.{IsSchedule};
 ghost use Rattle.hdmi_core.specs.Cut.{CutOff};
 ghost use Rattle.cec_run.specs.declared.run.Totals.{Totals as TotalsRecord};
 ghost use Rattle.cec_run.specs.Run.{start};
 ghost use Rattle.cec_run.specs.Heard.{IsRunWritten};
-ghost use Rattle.cec_driven.specs.Driven.{IsBeside};
 ghost use Rattle.cec_driven.specs.Named.{IsDump};
 
 use crate::drives_text::DrivesText;
 use crate::head::add_head;
-use crate::round::Kept;
 use crate::wires::Wires;
 use cec_asm::TimedEvent;
 use cec_net::Net;
@@ -27,24 +24,22 @@ fn write_drives<S: Sink, W: Wire>(
     out: &mut S,
     wires: Wires,
     net: &mut Net<W>,
-    kept: Kept<'_>,
     events: &[TimedEvent],
     end: u64,
 ) -> Result<Totals, WriteFault>
     requires early { end ≤ latest_event }
     requires fresh { (net.old.close ≤ latest_event) × (net.old.rest ≤ latest_event) }
-    requires kept { IsBeside kept net.old }
+    requires few { length net.old.devices ≤ 15 }
     requires schedule { IsSchedule (length net.old.tree) end 0 events.now }
     ensures { IsRunWritten (IsDump wires end (start net.old events.now)) (S.contents out.old) (S.contents out.new) (S.is_stuck out.old) (S.is_stuck out.new) result }
 {
     let mut text = Counted::new(out);
     add_head(&mut text, wires, net.devices());
-    let mut drives = DrivesText { text, wires, kept };
+    let mut drives = DrivesText { text, wires };
     let totals = run_turns(net, events, end, &mut drives);
     let DrivesText {
         mut text,
         wires: _wires,
-        kept: _kept,
     } = drives;
     add_last(&mut text, end.max(net.close()));
     let written = text.written();
@@ -54,7 +49,7 @@ fn write_drives<S: Sink, W: Wire>(
 }
 
 /// Runs a network from its start to `end`, at most 1,000,000,000,000 microseconds, and writes the dump of its line and of who
-/// drives it, with these wires. What is kept beside the network is what it begins with: its pulses, which are in order, and that the line is high. The events stand in
+/// drives it, with these wires. The events stand in
 /// the order of their times, all before `end`, and name devices of the tree.
 ///
 /// # Errors
@@ -65,16 +60,12 @@ pub fn run<S: Sink, W: Wire>(
     out: &mut S,
     wires: Wires,
     net: &mut Net<W>,
-    kept: Kept<'_>,
     events: &[TimedEvent],
     end: u64,
 ) -> Result<Totals, WriteFault>
     requires early { end ≤ latest_event }
     requires fresh { (net.old.close ≡ 0) × (net.old.rest ≡ 0) }
     requires few { length net.old.devices ≤ 15 }
-    requires pulses { kept.pulses.now ≡ net.old.pulses }
-    requires order { IsWave kept.pulses.now }
-    requires rest { kept.rest ≡ 0 }
     requires schedule { IsSchedule (length net.old.tree) end 0 events.now }
     ensures ok { IfOk result (λ totals. (text : List ℕ) × IsDump wires end (start net.old events.now) text totals × Appends (S.contents out.old) (S.contents out.new) text) }
     ensures same { OnOk result (S.is_stuck out.new ≡ S.is_stuck out.old) }
@@ -82,5 +73,5 @@ pub fn run<S: Sink, W: Wire>(
         → CutOff (S.contents out.old) (S.contents out.new) text fault) }
     ensures stuck { OnErr result (S.is_stuck out.new ≡ true) }
 {
-    write_drives(out, wires, net, kept, events, end)
+    write_drives(out, wires, net, events, end)
 }

@@ -16,8 +16,8 @@ pub const MOST_DRIVES: usize = 15;
 
 // ---- the pulses
 
-/// Those of pulses in order that begin at an instant or later.
-pub fn begun_since(pulses: &[Stretch], instant: u64) -> &[Stretch]
+// Those of pulses in order that begin at an instant or later.
+fn begun_since(pulses: &[Stretch], instant: u64) -> &[Stretch]
     requires { IsWave pulses.now }
     ensures order { IsWave result.now }
     ensures later { result.now ≡ filter (λ p. nat_le instant p.from) pulses.now }

@@ -5,6 +5,6 @@ mod drives;
 mod laws;
 mod seat;
 
-pub use drives::{MOST_DRIVES, begun_since, begun_within, put_drives};
+pub use drives::{MOST_DRIVES, begun_within, put_drives};
 pub use laws::lines_are_driven;
 pub use seat::seat_drive;

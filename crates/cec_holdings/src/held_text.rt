@@ -57,8 +57,6 @@ impl<'a, 'e, S: Sink> Reporter for HeldText<'a, 'e, S> {
 
     ghost goes_on = { λ r. not r.trace.text.failed };
 
-    ghost keeps = { λ r net. Unit {0} };
-
     fn event<W>(
         &mut self,
         at: u64,

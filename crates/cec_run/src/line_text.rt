@@ -32,8 +32,6 @@ impl<'a, S: Sink> Reporter for LineText<'a, S> {
 
     ghost goes_on = { λ r. not r.text.failed };
 
-    ghost keeps = { λ r net. Unit {0} };
-
     fn event<W>(
         &mut self,
         _at: u64,

@@ -20,9 +20,6 @@ pub trait Reporter {
     /// Whether it is to hear of more.
     ghost goes_on: { Self → Bool };
 
-    /// What it keeps of the network, wherever a run stands.
-    ghost keeps: { Self → NetState → Type 0 };
-
     /// Hears of an event that was applied at `at`, and why it was refused; which devices were on the wire before it; and the network
     /// after it.
     fn event<W>(
@@ -33,8 +30,7 @@ pub trait Reporter {
         was: &[bool],
         net: &Net<W>,
     )
-        ensures { (before : NetState) → IsApplied at event.now before refused was.now net.now → keeps self.old before
-            → hears self.old (OfEvent at event.now before) self.new × keeps self.new net.now };
+        ensures { (before : NetState) → IsApplied at event.now before refused was.now net.now → hears self.old (OfEvent at event.now before) self.new };
 
     /// Hears of a round that begins at `begin`, at most 2,000,000,000,000, and gives this outcome, with the network before it.
     fn round<W>(&mut self, begin: u64, outcome: &Outcome, net: &Net<W>)
@@ -42,9 +38,7 @@ pub trait Reporter {
         requires begins { next_start net.now ≡ Some begin }
         requires round { IsRound (seats_of net.now begin) begin net.now.pulses outcome.now }
         requires progress { IsProgress net.now begin (after_round net.now begin outcome.now) }
-        requires kept { keeps self.old net.now }
-        ensures heard { hears self.old (OfRound begin net.now outcome.now) self.new }
-        ensures kept { keeps self.new (after_round net.now begin outcome.now) };
+        ensures { hears self.old (OfRound begin net.now outcome.now) self.new };
 
     /// Whether it is to hear of more.
     fn wants_more(&self) -> bool

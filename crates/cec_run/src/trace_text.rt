@@ -59,8 +59,6 @@ impl<'a, 'e, S: Sink> Reporter for TraceText<'a, 'e, S> {
 
     ghost goes_on = { λ r. not r.text.failed };
 
-    ghost keeps = { λ r net. Unit {0} };
-
     #[tactic(auto, using(crate::proofs::Addressed::has_address, hdmi_core::proofs::Adding::then))]
     fn event<W>(
         &mut self,

@@ -73,11 +73,9 @@ pub fn take_event<W, R: Reporter>(
     requires early { at ≤ latest_instant }
     requires known { NamesDevices (length net.old.tree) event.now.event }
     requires room { totals.old.refused < 18446744073709551615 }
-    requires kept { R.keeps reporter.old net.old }
     ensures net { net.new ≡ net_after at event.now.event net.old }
     ensures totals { totals.new ≡ counted_event (event_fault net.old event.now.event) totals.old }
     ensures heard { R.hears reporter.old (OfEvent at event.now net.old) reporter.new }
-    ensures kept { R.keeps reporter.new net.new }
 {
     let was = on_wire(net.tree());
     let refused = apply_counted(net, totals, at, event);
@@ -100,12 +98,10 @@ pub fn take_round<W, R: Reporter>(
     requires progress { IsProgress net.old begin (after_round net.old begin outcome.now) }
     requires room { totals.old.rounds < 18446744073709551615 }
     requires less { totals.old.complete ≤ totals.old.rounds }
-    requires kept { R.keeps reporter.old net.old }
     ensures state { net.new ≡ after_round net.old begin outcome.now }
     ensures progress { IsProgress net.old begin net.new }
     ensures totals { totals.new ≡ counted_round (is_complete outcome.now.reading.ending) totals.old }
     ensures heard { R.hears reporter.old (OfRound begin net.old outcome.now) reporter.new }
-    ensures kept { R.keeps reporter.new net.new }
 {
     reporter.round(begin, outcome, net);
     net.end(begin, outcome);

@@ -23,7 +23,6 @@ pub fn run_turns<W: Wire, R: Reporter>(
     requires early { end ≤ latest_event }
     requires fresh { (net.old.close ≤ latest_event) × (net.old.rest ≤ latest_event) }
     requires schedule { IsSchedule (length net.old.tree) end 0 events.now }
-    requires kept { R.keeps reporter.old net.old }
     ensures { IsRunHeard R.hears end (start net.old events.now) net.new result reporter.old reporter.new (R.goes_on reporter.new) }
 {
     let mut rest = events;

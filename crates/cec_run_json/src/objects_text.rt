@@ -47,8 +47,6 @@ impl<'a, 'e, S: Sink, L: LineObjects> Reporter for ObjectsText<'a, 'e, S, L> {
 
     ghost goes_on = { λ r. not r.text.failed && not (is_full r.held) };
 
-    ghost keeps = { λ r net. Unit {0} };
-
     #[tactic(auto, using(cec_run::proofs::Addressed::has_address))]
     fn event<W>(
         &mut self,

@@ -189,11 +189,9 @@ impl Foreseen {
         requires early { at ≤ latest_instant }
         requires known { NamesDevices (length self.old.tree) event.now.event }
         requires room { totals.old.refused < 18446744073709551615 }
-        requires kept { R.keeps reporter.old self.old }
         ensures net { self.new ≡ net_after at event.now.event self.old }
         ensures totals { totals.new ≡ counted_event (event_fault self.old event.now.event) totals.old }
         ensures heard { R.hears reporter.old (OfEvent at event.now self.old) reporter.new }
-        ensures kept { R.keeps reporter.new self.new }
     {
         self.is_known = false;
         take_event(&mut self.net, totals, at, event, reporter);
@@ -283,11 +281,9 @@ impl Foreseen {
         requires begins { next_start self.old ≡ Some begin }
         requires room { totals.old.rounds < 18446744073709551615 }
         requires less { totals.old.complete ≤ totals.old.rounds }
-        requires kept { R.keeps reporter.old self.old }
         ensures heard { (outcome : OutcomeValue) × IsWave outcome.wave × IsNextRound self.old begin outcome self.new
             × (totals.new ≡ counted_round (is_complete outcome.reading.ending) totals.old) × R.hears reporter.old (OfRound begin self.old outcome) reporter.new }
         ensures progress { IsProgress self.old begin self.new }
-        ensures kept { R.keeps reporter.new self.new }
     {
         let _close = foresee(&mut self.net, begin, &mut self.next, &mut self.is_known);
         let Some(outcome) = &self.next else {

@@ -55,8 +55,6 @@ impl<'a, 'e, S: Sink> Reporter for SessionText<'a, 'e, S> {
 
     ghost goes_on = { λ r. not r.trace.text.failed };
 
-    ghost keeps = { λ r net. Unit {0} };
-
     fn event<W>(
         &mut self,
         at: u64,

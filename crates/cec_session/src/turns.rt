@@ -44,7 +44,6 @@ pub(crate) fn take_turns<R: Reporter>(
     requires within { IsWithin (record { net = net.old; events = events.now; totals = totals.old }) }
     requires schedule { (from end : ℕ) × IsSchedule (length net.old.tree) end from events.now }
     requires room { totals.old.refused + length events.now ≤ 18446744073709551615 }
-    requires kept { R.keeps reporter.old net.old }
     ensures heard { AreHeard R.hears ended until (record { net = net.old; events = events.now; totals = totals.old })
         (record { net = net.new; events = drop applied.new events.now; totals = totals.new }) reporter.old reporter.new (R.goes_on reporter.new) result }
     ensures begins { IfSome result (λ begin. next_start net.new ≡ Some begin) }

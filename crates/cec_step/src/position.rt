@@ -66,8 +66,6 @@ impl Reporter for Silent {
 
     ghost goes_on = { λ r. true };
 
-    ghost keeps = { λ r net. Unit {0} };
-
     fn event<W>(
         &mut self,
         _at: u64,
@@ -134,11 +132,9 @@ impl Position {
     fn pass_event<R: Reporter>(&mut self, course: &RunInput, at: u64, reporter: &mut R)
         requires turn { turn_at course.now.end (point_of course.now.events.items self.old) ≡ Apply at }
         requires ready { IsReady course.now.end (point_of course.now.events.items self.old) }
-        requires kept { R.keeps reporter.old self.old.net.value }
         ensures point { Passes at course.now.events.items self.old self.new }
         ensures heard { HearsFirst R.hears at self.old.net.value (drop self.old.applied course.now.events.items) reporter.old reporter.new }
         ensures ready { IsReady course.now.end (point_of course.now.events.items self.new) }
-        ensures kept { R.keeps reporter.new self.new.net.value }
     {
         let Some((event, others)) = course.left(self.applied).split_first() else {
             unreachable!();
@@ -153,7 +149,6 @@ impl Position {
     /// comes.
     pub fn to_round<R: Reporter>(&mut self, course: &RunInput, reporter: &mut R) -> Option<u64>
         requires ready { IsReady course.now.end (point_of course.now.events.items self.old) }
-        requires kept { R.keeps reporter.old self.old.net.value }
         ensures point { point_of course.now.events.items self.new ≡ after_events course.now.end (point_of course.now.events.items self.old) }
         ensures comes { MatchOption result
             (IsOver course.now.end (point_of course.now.events.items self.old))

@@ -1,4 +1,4 @@
-use Rattle.std.proofs.Common.{◌∙◌, arith, sym}
+use Rattle.std.proofs.Common.{arith}
 use Rattle.cec_run.specs.Run.{start}
 use Rattle.cec_run.proofs.Whole.{written_cut}
 use Rattle.cec_driven.specs.Named.{IsDump}
@@ -6,9 +6,6 @@ use Rattle.cec_driven.proofs.run.run.Goals as goal
 
 pub write_drives-requires-clause-fresh : goal.write_drives-requires-clause-fresh
 write_drives-requires-clause-fresh g c = (omega (arith, c.requires.fresh.0), omega (arith, c.requires.fresh.1))
-
-pub write_drives-requires-clause-kept : goal.write_drives-requires-clause-kept
-write_drives-requires-clause-kept g c = record { pulses = c.requires.pulses; order = c.requires.order; rest = c.requires.rest ∙ sym c.requires.fresh.1; few = c.requires.few }
 
 pub returns-clause-cut : goal.returns-clause-cut
 returns-clause-cut g c = written_cut (IsDump c.args.wires c.args.end (start c.args.net.now c.args.events.now)) _ _ _ _ c.write_drives.result c.write_drives.ensures

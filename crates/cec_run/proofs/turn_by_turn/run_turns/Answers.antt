@@ -15,7 +15,6 @@ turns-preserved-in-Apply g c =
       reached = reached_more g.R.Reporter.hears c.args.end (start c.args.net.now c.args.events.now) _ _ _ _ _ _ c.turns.invariant.reached
           (event_happens c.args.end c.in-Apply.at c.turns.net c.take_event.new.net c.in-Some.event.now c.turns.rest.now c.in-Some.others.now c.turns.totals c.take_event.new.totals
           split turn c.take_event.ensures.net c.take_event.ensures.totals) c.take_event.ensures.heard;
-      kept = c.take_event.ensures.kept;
       schedule = (c.in-Some.event.now.at, rw kept.count (next_schedule _ _ _ _ _ _ split c.turns.invariant.schedule.1));
       closed = rw kept.close c.turns.invariant.closed;
       rested = rw kept.rest c.turns.invariant.rested;
@@ -47,7 +46,6 @@ turns-preserved g c =
       reached = reached_more g.R.Reporter.hears c.args.end (start c.args.net.now c.args.events.now) _ _ _ _ _ _ c.turns.invariant.reached
           (round_happens c.args.end c.in-Round.begin c.turns.net c.take_round.new.net c.turns.rest.now c.turns.totals c.take_round.new.totals c.outcome_at-outcome.result
           turn c.outcome_at-outcome.ensures.wave next c.take_round.ensures.totals) (rw same at c.take_round.ensures.heard);
-      kept = c.take_round.ensures.kept;
       schedule = (c.turns.invariant.schedule.0, rw brought.tree c.turns.invariant.schedule.1);
       closed = omega (arith, brought.close, c.requires.early);
       rested = omega (arith, brought.rest, c.requires.early);

@@ -9,7 +9,6 @@ use Rattle.cec_run.proofs.turn_by_turn.run_turns.Given as goal
 abbrev pub invariant-turns : goal.invariant-turns
 invariant-turns g l = record {
   reached : Reached g.R.Reporter.hears l.end (start l.fn.net l.events) (record { net = l.net; events = l.rest; totals = l.totals }) l.fn.reporter l.reporter;
-  kept : g.R.Reporter.keeps l.reporter l.net;
   schedule : (from : ℕ) × IsSchedule (length l.net.tree) l.end from l.rest;
   closed : l.net.close ≤ latest_instant;
   rested : l.net.rest ≤ latest_instant;

@@ -19,7 +19,6 @@ turns-preserved-in-Apply g c =
           (event_happens c.args.until c.in-Apply.at c.turns.net c.take_event.new.self c.in-Some.event.now c.turns.rest.now c.in-Some.others.now c.turns.totals c.take_event.new.totals
           split turn c.take_event.ensures.net c.take_event.ensures.totals)
           (next_event c.args.ended c.args.until c.in-Apply.at c.turns.net c.turns.rest.now _ turn) c.take_event.ensures.heard;
-      kept = c.take_event.ensures.kept;
       rest = left.0;
       few = omega (arith, less);
       schedule = (c.in-Some.event.now.at, c.turns.invariant.schedule.1, rw kept.count (next_schedule _ _ _ _ _ _ split c.turns.invariant.schedule.2));
@@ -52,7 +51,6 @@ turns-preserved g c =
       reached = reached_more g.R.Reporter.hears c.args.ended c.args.until (record { net = c.args.net.now; events = c.args.events.now; totals = c.args.totals.now }) _ _ _ _ _ _ c.turns.invariant.reached
           (round_happens c.args.until c.in-Round.begin c.turns.net c.take_round.new.self c.turns.rest.now c.turns.totals c.take_round.new.totals w.0 turn w.1 w.2 w.3)
           (next_round c.args.ended c.args.until c.in-Round.begin c.turns.net c.take_round.new.self c.turns.rest.now c.take_round.new.totals w.0 turn (subst (λ (b : Bool). IsOn b c.args.ended c.args.until c.in-Round.begin c.turns.net) c.if-is_on.false c.is_on.ensures.on) w.1 w.2) w.4;
-      kept = c.take_round.ensures.kept;
       rest = c.turns.invariant.rest;
       few = c.turns.invariant.few;
       schedule = (c.turns.invariant.schedule.0, c.turns.invariant.schedule.1, rw brought.tree c.turns.invariant.schedule.2);

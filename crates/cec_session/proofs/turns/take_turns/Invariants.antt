@@ -8,7 +8,6 @@ use Rattle.cec_session.proofs.turns.take_turns.Given as goal
 abbrev pub invariant-turns : goal.invariant-turns
 invariant-turns g l = record {
   reached : Reached g.R.Reporter.hears l.ended l.until (record { net = l.fn.net; events = l.events; totals = l.fn.totals }) (record { net = l.net; events = l.rest; totals = l.totals }) l.fn.reporter l.reporter;
-  kept : g.R.Reporter.keeps l.reporter l.net;
   rest : l.rest ≡ drop l.applied l.events;
   few : l.applied ≤ length l.events;
   schedule : (from end : ℕ) × IsSchedule (length l.net.tree) end from l.rest;

@@ -3,4 +3,4 @@ use Rattle.hdmi_core.proofs.Adding.{nothing}
 use Rattle.cec_run.proofs.line_text.LineTextReporter.event.Goals as goal
 
 pub returns : goal.returns
-returns g c = λ before applied kept. ((nothing c.args.self.now.text, refl), tt)
+returns g c = λ before applied. (nothing c.args.self.now.text, refl)

@@ -4,8 +4,8 @@ use Rattle.cec_trace.specs.TraceText.{round_line}
 use Rattle.cec_run_json.proofs.Making.{put_text, turned_as, turned_both}
 use Rattle.cec_run_json.proofs.objects_text.ObjectsTextReporter.round.Goals as goal
 
-pub returns-clause-heard : goal.returns-clause-heard
-returns-clause-heard g c =
+pub returns : goal.returns
+returns g c =
     let is = g.L.LineObjects.is c.args.self.now.lines in
     let line = round_line c.devices.result.now c.args.outcome.now in
     let put = put_text is c.args.self.now.held c.write_round.new.out c.args.self.now.text line c.write_round.result c.write_round.ensures in

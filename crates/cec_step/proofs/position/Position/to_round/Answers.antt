@@ -12,7 +12,6 @@ events-preserved g c =
       point = pass_more c.args.course.now.end c.in-Apply.at es c.events.self c.pass_event.new.self (sym c.in-Apply.ensures) e.point ∙ c.events.invariant.point;
       rest = rest_more c.in-Apply.at es c.events.self c.pass_event.new.self e.point ∙ c.events.invariant.rest;
       ready = e.ready;
-      kept = e.kept;
       heard = heard_more g.R.Reporter.hears c.args.course.now.end c.in-Apply.at es c.events.self c.pass_event.new.self _ _ _ _ (sym c.in-Apply.ensures) e.point e.heard c.events.invariant.heard;
     }
 

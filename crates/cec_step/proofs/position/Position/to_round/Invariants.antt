@@ -10,7 +10,6 @@ invariant-events g l = record {
   point : after_events l.course.end (point_of l.course.events.items l.self) ≡ after_events l.course.end (point_of l.course.events.items l.fn.self);
   rest : l.self.net.value.rest ≡ l.fn.self.net.value.rest;
   ready : IsReady l.course.end (point_of l.course.events.items l.self);
-  kept : g.R.Reporter.keeps l.reporter l.self.net.value;
   heard : HearsOn g.R.Reporter.hears (happened l.course.end (point_of l.course.events.items l.fn.self)) l.fn.reporter l.reporter (happened l.course.end (point_of l.course.events.items l.self));
 }
 
