@@ -15,16 +15,18 @@ use Rattle.hdmi_core.specs.Words.{words_of, one_of, two_of, three_of}
 use Rattle.hdmi_core.specs.Number.{number_of}
 use Rattle.cec_text.specs.declared.assembler.AssembleError.{AssembleError}
 use Rattle.cec_asm.specs.Keys.{key_of}
+use Rattle.cec_asm.specs.Header.{header_names}
 use Rattle.cec_asm.specs.Holding.{hold_of}
 use Rattle.cec_device.specs.declared.outside.Act.{Act}
 use Rattle.cec_device.specs.declared.outside.Act.TheVariants.{Empty}
 use Rattle.cec_event.specs.declared.event.Event.{Event}
-use Rattle.cec_event.specs.declared.event.Event.TheVariants.{Plug, Unplug, Key, Send, Outside}
+use Rattle.cec_event.specs.declared.event.Event.TheVariants.{Plug, Unplug, Key, Outside}
+use Rattle.cec_event.specs.declared.event.HeaderNames.{HeaderNames}
 use Rattle.cec_asm.specs.declared.script.TimedEvent.{TimedEvent}
 use Rattle.cec_asm.specs.Fault.{at_word}
 use Rattle.cec_asm.specs.declared.fault.LineFault.{LineFault}
 use Rattle.cec_asm.specs.declared.script.ScriptCause.TheVariants.{Word, Width, Order, TooMany, End}
-use Rattle.cec_asm.specs.Script.{Notes, time_of, last_time, last_end, notes_with_event, plug_read, plug_words, unplug_read, unplug_words, key_read, key_words, act_read, hold_words, drop_words, send_read, event_words, unless_fault, pulse_refusal, pulse_read, pulse_words, touches, notes_with_pull, pull_read, pull_words, is_before, level_of, pin_falls, pin_rises, pin_stays_high, pin_stays_low, notes_with_level, pin_read, pin_words, pulses_ended, end_read, end_words, other_words, IsSendRead, IsEventRead, IsWordsRead, IsLineRead}
+use Rattle.cec_asm.specs.Script.{Notes, time_of, last_time, last_end, notes_with_event, plug_read, plug_words, unplug_read, unplug_words, key_read, key_words, act_read, hold_words, drop_words, send_read, frame_event, event_words, unless_fault, pulse_refusal, pulse_read, pulse_words, touches, notes_with_pull, pull_read, pull_words, is_before, level_of, pin_falls, pin_rises, pin_stays_high, pin_stays_low, notes_with_level, pin_read, pin_words, pulses_ended, end_read, end_words, other_words, IsSendRead, IsEventRead, IsWordsRead, IsLineRead}
 use Rattle.cec_wave.specs.Bounds.{latest_event, most_pulses, most_pulls, widest_pull}
 
 -- ---- what a line adds
@@ -204,17 +206,19 @@ event_words-adds waiting tree notes line time verb words =
     (adds_if waiting notes (bytes_eq verb (codes "hold")) _ _ (hold_words-adds waiting tree notes line time (length words) (two_of words))
     (adds_if waiting notes (bytes_eq verb (codes "drop")) _ _ (drop_words-adds waiting tree notes line time (length words) (one_of words)) (adds_err waiting notes _ refl))))))
 
-send_read-adds : (waiting : ℕ) (notes : Notes) (line : ℕ) (time device : Option ℕ) (frame : Result (List ℕ) AssembleError) → Adds waiting notes (send_read notes line time device frame)
-send_read-adds waiting notes line None device frame = adds_err waiting notes _ refl
-send_read-adds waiting notes line (Some time) None frame = adds_err waiting notes _ refl
-send_read-adds waiting notes line (Some time) (Some device) (Err cause) = adds_err waiting notes _ refl
-send_read-adds waiting notes line (Some time) (Some device) (Ok frame) = scheduled-adds waiting notes line time (Send device frame)
+send_read-adds : (waiting : ℕ) (notes : Notes) (line : ℕ) (time device : Option ℕ) (names : Option (Option HeaderNames)) (frame : Result (List ℕ) AssembleError) → Adds waiting notes (send_read notes line time device names frame)
+send_read-adds waiting notes line None device names frame = adds_err waiting notes _ refl
+send_read-adds waiting notes line (Some time) None names frame = adds_err waiting notes _ refl
+send_read-adds waiting notes line (Some time) (Some device) None frame = adds_err waiting notes _ refl
+send_read-adds waiting notes line (Some time) (Some device) (Some names) (Err cause) = adds_err waiting notes _ refl
+send_read-adds waiting notes line (Some time) (Some device) (Some names) (Ok frame) = scheduled-adds waiting notes line time (frame_event device names frame)
 
 send-adds : (waiting : ℕ) (tree : List Node) (notes : Notes) (line : ℕ) (time : List ℕ) (words : List (List ℕ)) (next : Notes) → IsSendRead tree notes line time words (Ok next) → IsMore waiting notes next
 send-adds waiting tree notes line time [] next h = cc
 send-adds waiting tree notes line time (name ∷ []) next h = cc
 send-adds waiting tree notes line time (name ∷ word ∷ words) next h =
-    adds_next waiting notes (send_read notes line (time_of time) (device_named tree name) h.0) next (send_read-adds waiting notes line (time_of time) (device_named tree name) h.0) (sym h.2)
+    adds_next waiting notes (send_read notes line (time_of time) (device_named tree name) (header_names tree word) h.0) next
+    (send_read-adds waiting notes line (time_of time) (device_named tree name) (header_names tree word) h.0) (sym h.2)
 
 -- none of two
 neither : (a b : Bool) → (a || b) ≡ false → a ≡ false

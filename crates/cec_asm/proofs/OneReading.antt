@@ -5,7 +5,9 @@ use Rattle.hdmi_topo.specs.Node.{Node}
 use Rattle.hdmi_topo.specs.Tree.{device_named}
 use Rattle.hdmi_core.specs.Lines.{lines_of, is_skipped}
 use Rattle.cec_text.specs.declared.assembler.AssembleError.{AssembleError}
-use Rattle.hdmi_core.specs.Words.{words_of, text_of}
+use Rattle.hdmi_core.specs.Words.{words_of}
+use Rattle.cec_event.specs.declared.event.HeaderNames.{HeaderNames}
+use Rattle.cec_asm.specs.Header.{header_names, digits_text}
 use Rattle.cec_asm.specs.declared.fault.LineFault.{LineFault}
 use Rattle.cec_asm.specs.Script.{Course, Notes, ScriptFault, time_of, send_read, event_words, other_words, no_notes, IsFrameOf, IsSendRead, IsEventRead, IsWordsRead, IsLineRead, Onward, AreLinesRead, OneScript}
 
@@ -15,20 +17,21 @@ one_frame text frame (Ok other) h g = ap Ok (sym (h.1 other g.0))
 one_frame text frame (Err cause) h g = absurd (g.1 frame h.0)
 
 -- what two readings of a text as a frame make of the notes, where the first takes it
-one_send_read : (notes next : Notes) (line : ℕ) (time device : Option ℕ) (text : List ℕ) (r q : Result (List ℕ) AssembleError) → IsFrameOf text r → IsFrameOf text q → Ok next ≡ send_read notes line time device r
-    → send_read notes line time device q ≡ Ok next
-one_send_read notes next line None device text r q h g e = cc
-one_send_read notes next line (Some time) None text r q h g e = cc
-one_send_read notes next line (Some time) (Some device) text (Err cause) q h g e = cc
-one_send_read notes next line (Some time) (Some device) text (Ok frame) q h g e =
-    ap (send_read notes line (Some time) (Some device)) (one_frame text frame q h g) ∙ sym e
+one_send_read : (notes next : Notes) (line : ℕ) (time device : Option ℕ) (names : Option (Option HeaderNames)) (text : List ℕ) (r q : Result (List ℕ) AssembleError) → IsFrameOf text r → IsFrameOf text q
+    → Ok next ≡ send_read notes line time device names r → send_read notes line time device names q ≡ Ok next
+one_send_read notes next line None device names text r q h g e = cc
+one_send_read notes next line (Some time) None names text r q h g e = cc
+one_send_read notes next line (Some time) (Some device) None text r q h g e = cc
+one_send_read notes next line (Some time) (Some device) (Some names) text (Err cause) q h g e = cc
+one_send_read notes next line (Some time) (Some device) (Some names) text (Ok frame) q h g e =
+    ap (send_read notes line (Some time) (Some device) (Some names)) (one_frame text frame q h g) ∙ sym e
 
 one_send : (tree : List Node) (notes next : Notes) (line : ℕ) (time : List ℕ) (words : List (List ℕ)) (read : Result Notes LineFault) → IsSendRead tree notes line time words (Ok next) → IsSendRead tree notes line time words read
     → read ≡ Ok next
 one_send tree notes next line time [] read h g = cc
 one_send tree notes next line time (name ∷ []) read h g = cc
 one_send tree notes next line time (name ∷ word ∷ words) read h g =
-    g.2 ∙ one_send_read notes next line (time_of time) (device_named tree name) (text_of (word ∷ words)) h.0 g.0 h.1 g.1 h.2
+    g.2 ∙ one_send_read notes next line (time_of time) (device_named tree name) (header_names tree word) (digits_text (word ∷ words)) h.0 g.0 h.1 g.1 h.2
 
 same_way : (b : Bool) (P Q P2 Q2 R : Type 0) → (P → P2 → R) → (Q → Q2 → R) → cond {A = Type 0} b P Q → cond {A = Type 0} b P2 Q2 → R
 same_way true P Q P2 Q2 R f g h k = f h k

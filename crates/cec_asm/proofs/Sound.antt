@@ -1,5 +1,5 @@
 -- What holds of every script: the order of times, the limit, devices of the tree, frames and pulses.
-use Rattle.std.proofs.Common.{◌≡◌, ℕ, suc, ◌+◌, ◌-◌, ◌<◌, ◌≤◌, ◌==◌, ◌&&◌, ◌||◌, Bool, true, false, cond, codes, List, [], ◌∷◌, ◌++◌, length, max, min, nat_lt, nat_le, if◌then◌else◌, slice_get, Option, Some, None, is_some, option_map, Result, Ok, Err, refl, sym, ap, subst, ◌∙◌, arith}
+use Rattle.std.proofs.Common.{◌≡◌, ℕ, suc, ◌+◌, ◌-◌, ◌<◌, ◌≤◌, ◌==◌, ◌&&◌, ◌||◌, Bool, true, false, cond, codes, List, [], ◌∷◌, ◌++◌, length, max, min, nat_lt, nat_le, if◌then◌else◌, drop, slice_get, Option, Some, None, IfSome, is_some, option_map, Result, Ok, Err, refl, sym, ap, subst, ◌∙◌, arith}
 use Rattle.std.specs.Str.{bytes_eq}
 use Rattle.std.specs.Option.{option_map_or}
 use Rattle.std.specs.List.{All}
@@ -19,19 +19,21 @@ use Rattle.cec_wave.specs.Bounds.{latest_event, most_pulses, most_pulls, widest_
 use Rattle.hdmi_core.specs.Lines.{lines_of, is_skipped}
 use Rattle.cec_text.specs.FrameReading.{is_frame}
 use Rattle.cec_text.specs.declared.assembler.AssembleError.{AssembleError}
-use Rattle.hdmi_core.specs.Words.{words_of, text_of, one_of, two_of, three_of}
+use Rattle.hdmi_core.specs.Words.{words_of, one_of, two_of, three_of}
 use Rattle.hdmi_core.specs.Number.{number_of}
 use Rattle.cec_asm.specs.Keys.{key_of}
+use Rattle.cec_asm.specs.Header.{is_named, initiator_part, destination_part, has_names, device_of, names_by, header_names, digits_text}
 use Rattle.cec_asm.specs.Holding.{hold_of}
 use Rattle.cec_device.specs.declared.outside.Act.{Act}
 use Rattle.cec_device.specs.declared.outside.Act.TheVariants.{Empty}
-use Rattle.cec_event.specs.Events.{NamesDevices, IsFramedEvent}
+use Rattle.cec_event.specs.Events.{AreNamed, NamesDevices, IsFramedEvent}
 use Rattle.cec_event.specs.declared.event.Event.{Event}
-use Rattle.cec_event.specs.declared.event.Event.TheVariants.{Plug, Unplug, Key, Send, Outside}
+use Rattle.cec_event.specs.declared.event.Event.TheVariants.{Plug, Unplug, Key, Send, SendNamed, Outside}
+use Rattle.cec_event.specs.declared.event.HeaderNames.{HeaderNames}
 use Rattle.cec_asm.specs.declared.script.TimedEvent.{TimedEvent}
 use Rattle.cec_asm.specs.declared.fault.LineFault.{LineFault}
 use Rattle.cec_asm.proofs.Adding.{AreFew, few_pulses, none_while_low}
-use Rattle.cec_asm.specs.Script.{Course, Notes, within_limit, time_of, last_time, last_end, notes_with_event, plug_read, plug_words, unplug_read, unplug_words, key_read, key_words, act_read, hold_words, drop_words, send_read, event_words, unless_fault, pulse_refusal, notes_with_pulse, pulse_read, pulse_words, touches, notes_with_pull, pull_read, pull_words, is_before, level_of, pin_falls, pin_rises, pin_stays_high, pin_stays_low, notes_with_level, pin_read, pin_words, pulses_ended, end_read, end_words, other_words, course_at_end, no_notes, IsFrameOf, IsSendRead, IsEventRead, IsWordsRead, IsLineRead, IsSchedule, AreFramedEvents, IsNoWider, MayFall, IsScript, Onward, AreLinesRead, ScriptsAreSound}
+use Rattle.cec_asm.specs.Script.{Course, Notes, within_limit, time_of, last_time, last_end, notes_with_event, plug_read, plug_words, unplug_read, unplug_words, key_read, key_words, act_read, hold_words, drop_words, send_read, frame_event, event_words, unless_fault, pulse_refusal, notes_with_pulse, pulse_read, pulse_words, touches, notes_with_pull, pull_read, pull_words, is_before, level_of, pin_falls, pin_rises, pin_stays_high, pin_stays_low, notes_with_level, pin_read, pin_words, pulses_ended, end_read, end_words, other_words, course_at_end, no_notes, IsFrameOf, IsSendRead, IsEventRead, IsWordsRead, IsLineRead, IsSchedule, AreFramedEvents, IsNoWider, MayFall, IsScript, Onward, AreLinesRead, ScriptsAreSound}
 
 -- ---- times
 
@@ -299,20 +301,55 @@ frame_some : (frame : List ℕ) → is_frame frame ≡ true → 0 < length frame
 frame_some [] h = cc
 frame_some (block ∷ blocks) h = omega arith
 
-send_read-keeps : (count : ℕ) (notes : Notes) (line : ℕ) (time device : Option ℕ) (text : List ℕ) (frame : Result (List ℕ) AssembleError) → AreSound count notes → ((i : ℕ) → device ≡ Some i → i < count) →
-    IsFrameOf text frame → Keeps count (send_read notes line time device frame)
-send_read-keeps count notes line None device text frame s hd is = keeps_err count _ refl
-send_read-keeps count notes line (Some time) None text frame s hd is = keeps_err count _ refl
-send_read-keeps count notes line (Some time) (Some device) text (Err cause) s hd is = keeps_err count _ refl
-send_read-keeps count notes line (Some time) (Some device) text (Ok frame) s hd is =
-    scheduled-keeps count notes line time (Send device frame) s (hd device refl) (frame_some frame is.0.whole)
+-- a device that a part of a header names is one of the tree
+device_of-below : (tree : List Node) (part : List ℕ) (found : Option ℕ) → device_of tree part ≡ Some found → IfSome found (λ d. d < length tree)
+device_of-below tree part found h = by (is_named part) (device_named tree (drop 1 part)) refl h
+  where
+    by : (named : Bool) (device : Option ℕ) → device_named tree (drop 1 part) ≡ device → (if named then option_map Some device else Some None) ≡ Some found → IfSome found (λ d. d < length tree)
+    by false device e g = let none : None ≡ found = cc in subst (λ (o : Option ℕ). IfSome o (λ d. d < length tree)) none tt
+    by true None e g = cc
+    by true (Some d) e g = let some : Some d ≡ found = cc in subst (λ (o : Option ℕ). IfSome o (λ d. d < length tree)) some (named-below tree (drop 1 part) d e)
+
+-- the names of a header are those of devices of the tree
+abbrev AreBelow : ℕ → Option HeaderNames → Type 0
+AreBelow count names = IfSome names (λ n. AreNamed count n)
+
+names_by-below : (count : ℕ) (initiator destination : Option (Option ℕ)) (names : Option HeaderNames) → ((o : Option ℕ) → initiator ≡ Some o → IfSome o (λ d. d < count))
+    → ((o : Option ℕ) → destination ≡ Some o → IfSome o (λ d. d < count)) → names_by initiator destination ≡ Some names → AreBelow count names
+names_by-below count None destination names hi hd e = cc
+names_by-below count (Some i) None names hi hd e = cc
+names_by-below count (Some i) (Some d) names hi hd e =
+    let some : Some (record { initiator = i; destination = d }) ≡ names = cc in subst (AreBelow count) some (hi i refl, hd d refl)
+
+header-below : (tree : List Node) (word : List ℕ) (names : Option HeaderNames) → header_names tree word ≡ Some names → AreBelow (length tree) names
+header-below tree word names h = by (has_names word) h
+  where
+    by : (b : Bool) → (if b then names_by (device_of tree (initiator_part word)) (device_of tree (destination_part word)) else Some None) ≡ Some names → AreBelow (length tree) names
+    by false e = let none : None ≡ names = cc in subst (AreBelow (length tree)) none tt
+    by true e =
+        names_by-below (length tree) (device_of tree (initiator_part word)) (device_of tree (destination_part word)) names (device_of-below tree (initiator_part word)) (device_of-below tree (destination_part word)) e
+
+-- the event of a frame
+framed-keeps : (count : ℕ) (notes : Notes) (line time device : ℕ) (names : Option HeaderNames) (frame : List ℕ) → AreSound count notes → device < count → AreBelow count names → 0 < length frame
+    → Keeps count (notes_with_event notes line time (frame_event device names frame))
+framed-keeps count notes line time device None frame s below named some = scheduled-keeps count notes line time (Send device frame) s below some
+framed-keeps count notes line time device (Some names) frame s below named some = scheduled-keeps count notes line time (SendNamed device names frame) s (below, named) some
+
+send_read-keeps : (count : ℕ) (notes : Notes) (line : ℕ) (time device : Option ℕ) (names : Option (Option HeaderNames)) (text : List ℕ) (frame : Result (List ℕ) AssembleError) → AreSound count notes
+    → ((i : ℕ) → device ≡ Some i → i < count) → ((n : Option HeaderNames) → names ≡ Some n → AreBelow count n) → IsFrameOf text frame → Keeps count (send_read notes line time device names frame)
+send_read-keeps count notes line None device names text frame s hd hn is = keeps_err count _ refl
+send_read-keeps count notes line (Some time) None names text frame s hd hn is = keeps_err count _ refl
+send_read-keeps count notes line (Some time) (Some device) None text frame s hd hn is = keeps_err count _ refl
+send_read-keeps count notes line (Some time) (Some device) (Some names) text (Err cause) s hd hn is = keeps_err count _ refl
+send_read-keeps count notes line (Some time) (Some device) (Some names) text (Ok frame) s hd hn is =
+    framed-keeps count notes line time device names frame s (hd device refl) (hn names refl) (frame_some frame is.0.whole)
 
 send-keeps : (tree : List Node) (notes : Notes) (line : ℕ) (time : List ℕ) (words : List (List ℕ)) (next : Notes) → AreSound (length tree) notes → IsSendRead tree notes line time words (Ok next) → AreSound (length tree) next
 send-keeps tree notes line time [] next s h = cc
 send-keeps tree notes line time (name ∷ []) next s h = cc
 send-keeps tree notes line time (name ∷ word ∷ words) next s h =
-    keeps_next (length tree) (send_read notes line (time_of time) (device_named tree name) h.0) next
-    (send_read-keeps (length tree) notes line (time_of time) (device_named tree name) (text_of (word ∷ words)) h.0 s (named-below tree name) h.1) (sym h.2)
+    keeps_next (length tree) (send_read notes line (time_of time) (device_named tree name) (header_names tree word) h.0) next
+    (send_read-keeps (length tree) notes line (time_of time) (device_named tree name) (header_names tree word) (digits_text (word ∷ words)) h.0 s (named-below tree name) (header-below tree word) h.1) (sym h.2)
 
 -- either way
 by_cond : (b : Bool) (P Q R : Type 0) → (P → R) → (Q → R) → cond {A = Type 0} b P Q → R

@@ -1,5 +1,6 @@
 pub mod Fault
 pub mod Keys
+pub mod Header
 pub mod Holding
 pub mod Topology
 pub mod Script

@@ -17,16 +17,18 @@ use Rattle.cec_text.specs.FrameLines.{IsTextOf}
 use Rattle.hdmi_core.specs.Lines.{lines_of, is_skipped}
 use Rattle.cec_text.specs.Refusals.{IsRefused}
 use Rattle.cec_text.specs.declared.assembler.AssembleError.{AssembleError}
-use Rattle.hdmi_core.specs.Words.{words_of, text_of, one_of, two_of, three_of}
+use Rattle.hdmi_core.specs.Words.{words_of, one_of, two_of, three_of}
 use Rattle.hdmi_core.specs.Number.{number_of}
 use Rattle.cec_asm.specs.Fault.{at_word, misfit, frame_word}
 use Rattle.cec_asm.specs.Keys.{key_of}
+use Rattle.cec_asm.specs.Header.{digits_text, header_names}
 use Rattle.cec_asm.specs.Holding.{hold_of}
 use Rattle.cec_device.specs.declared.outside.Act.{Act}
 use Rattle.cec_device.specs.declared.outside.Act.TheVariants.{Empty}
 use Rattle.cec_event.specs.Events.{NamesDevices, IsFramedEvent}
 use Rattle.cec_event.specs.declared.event.Event.{Event}
-use Rattle.cec_event.specs.declared.event.Event.TheVariants.{Plug, Unplug, Key, Send, Outside}
+use Rattle.cec_event.specs.declared.event.Event.TheVariants.{Plug, Unplug, Key, Send, SendNamed, Outside}
+use Rattle.cec_event.specs.declared.event.HeaderNames.{HeaderNames}
 use Rattle.cec_asm.specs.declared.script.TimedEvent.{TimedEvent}
 use Rattle.cec_asm.specs.declared.script.ScriptDraft.{ScriptDraft}
 use Rattle.cec_asm.specs.declared.course.Script.{Script}
@@ -159,20 +161,26 @@ abbrev pub IsFrameOf : List ℕ → Result (List ℕ) AssembleError → Type 0
 IsFrameOf text (Ok frame) = IsTextOf text frame × ((other : List ℕ) → IsTextOf text other → frame ≡ other)
 IsFrameOf text (Err cause) = IsRefused text cause × ((frame : List ℕ) → IsTextOf text frame → ⊥)
 
--- `at T send NAME FRAME`; the frame's text is all that stands after the name
-abbrev pub send_read : Notes → ℕ → Option ℕ → Option ℕ → Result (List ℕ) AssembleError → Result Notes LineFault
-send_read notes line None device frame = Err (at_word 1 Number)
-send_read notes line (Some time) None frame = Err (at_word 3 Name)
-send_read notes line (Some time) (Some device) (Err cause) = Err (at_word (4 + frame_word cause) (Frame cause))
-send_read notes line (Some time) (Some device) (Ok frame) = notes_with_event notes line time (Send device frame)
+-- a frame that is handed in, with the names in its header, where there are some
+abbrev pub frame_event : ℕ → Option HeaderNames → List ℕ → Event
+frame_event device None frame = Send device frame
+frame_event device (Some names) frame = SendNamed device names frame
+
+-- `at T send NAME FRAME`; the frame's text is all that stands after the name, and in its header names may stand
+abbrev pub send_read : Notes → ℕ → Option ℕ → Option ℕ → Option (Option HeaderNames) → Result (List ℕ) AssembleError → Result Notes LineFault
+send_read notes line None device names frame = Err (at_word 1 Number)
+send_read notes line (Some time) None names frame = Err (at_word 3 Name)
+send_read notes line (Some time) (Some device) None frame = Err (at_word 4 Name)
+send_read notes line (Some time) (Some device) (Some names) (Err cause) = Err (at_word (4 + frame_word cause) (Frame cause))
+send_read notes line (Some time) (Some device) (Some names) (Ok frame) = notes_with_event notes line time (frame_event device names frame)
 
 abbrev pub IsSendRead : List Node → Notes → ℕ → List ℕ → List (List ℕ) → Result Notes LineFault → Type 0
 IsSendRead tree notes line time [] read = read ≡ Err (at_word 3 Word)
 IsSendRead tree notes line time (name ∷ []) read = read ≡ Err (at_word 4 Word)
 IsSendRead tree notes line time (name ∷ word ∷ words) read =
     (frame : Result (List ℕ) AssembleError)
-    × IsFrameOf (text_of (word ∷ words)) frame
-    × (read ≡ send_read notes line (time_of time) (device_named tree name) frame)
+    × IsFrameOf (digits_text (word ∷ words)) frame
+    × (read ≡ send_read notes line (time_of time) (device_named tree name) (header_names tree word) frame)
 
 -- the words after `at`
 abbrev pub IsEventRead : List Node → Notes → ℕ → List (List ℕ) → Result Notes LineFault → Type 0

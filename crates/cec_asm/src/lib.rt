@@ -4,6 +4,7 @@
 mod counting;
 mod course;
 mod fault;
+mod header;
 mod holding;
 mod keys;
 mod laws;

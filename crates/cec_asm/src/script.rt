@@ -2,17 +2,19 @@
 ghost use Rattle.std.specs.Prelude.{◌≡◌, ◌+◌, ◌<◌, ◌≤◌, length, Result, Ok, Err, Some, None, IfOk, OnErr};
 ghost use Rattle.std.specs.Option.{option_copied};
 ghost use Rattle.cec_wave.specs.Bounds.{latest_event};
-ghost use Rattle.hdmi_core.specs.Words.{words_after, one_of, two_of, three_of};
-ghost use Rattle.cec_asm.specs.Script.{no_notes, notes_of, course_of, time_of, last_time, last_end, notes_with_event, plug_words, unplug_words, key_words, act_read, hold_words, drop_words, event_words, send_read, pulse_fault, pulse_refusal, notes_with_pulse, pulse_words, touches, notes_with_pull, pull_words, end_words, other_words, error_at, IsFrameOf, IsSendRead, IsEventRead, IsLineRead, GivesNotes, Gives, GivesScript, IsScript};
+ghost use Rattle.hdmi_core.specs.Words.{words_of, words_after, one_of, two_of, three_of};
+ghost use Rattle.cec_asm.specs.Header.{digits_text, header_names};
+ghost use Rattle.cec_asm.specs.Script.{no_notes, notes_of, course_of, time_of, last_time, last_end, notes_with_event, plug_words, unplug_words, key_words, act_read, hold_words, drop_words, event_words, send_read, frame_event, pulse_fault, pulse_refusal, notes_with_pulse, pulse_words, touches, notes_with_pull, pull_words, end_words, other_words, error_at, IsFrameOf, IsSendRead, IsEventRead, IsLineRead, GivesNotes, Gives, GivesScript, IsScript};
 
 use crate::course::Script;
 use crate::fault::{LineFault, at_word, frame_word, misfit};
+use crate::header::{has_names, header_names, text_with_digits};
 use crate::holding::hold_in;
 use crate::keys::key_in;
 use crate::pin::{end_pull, take_pin};
 use crate::topology::Topology;
 use cec_device::Act;
-use cec_event::Event;
+use cec_event::{Event, HeaderNames};
 use cec_frame::Frame;
 use cec_text::{AssembleError, assemble, frames_are_whole};
 use cec_wave::{
@@ -20,7 +22,7 @@ use cec_wave::{
 };
 use hdmi_core::{first_line, first_word, is_skipped, number_in, one_word, three_words, two_words};
 use hdmi_topo::Tree;
-use std::alloc::{AllocFailed, Global};
+use std::alloc::{AllocError, AllocFailed, Global};
 use std::fmt::{self, Write};
 use thiserror::Error;
 
@@ -34,7 +36,7 @@ pub enum ScriptCause {
     Word,
     /// An ill-formed number, or a time past 1,000,000,000,000.
     Number,
-    /// No device of the topology.
+    /// No device of the topology, also in the header of a frame.
     Name,
     /// No text of a frame, and why.
     Frame(AssembleError),
@@ -105,6 +107,17 @@ impl<T: Drop> From<AllocFailed<T>> for ScriptLineError {
     }
 }
 
+impl From<AllocError> for ScriptLineError {
+    ghost use Rattle.std.specs.Prelude.{◌≡◌};
+    ghost use Rattle.cec_asm.specs.declared.script.ScriptLineError.TheVariants.{Memory};
+
+    ghost from_gives = { λ _ error. error ≡ Memory };
+
+    fn from(_error: AllocError) -> ScriptLineError {
+        ScriptLineError::Memory
+    }
+}
+
 /// An event, the line of the script that it stands on, and its time in microseconds.
 #[derive(Drop)]
 pub struct TimedEvent {
@@ -121,6 +134,7 @@ pub struct ScriptDraft {
     pub pulses: Vec<Stretch>,
     pub end: Option<u64>,
     pub pin: Option<u64>,
+    alloc: Global,
 }
 
 impl ScriptDraft {
@@ -133,6 +147,7 @@ impl ScriptDraft {
             pulses: Vec::new(alloc),
             end: None,
             pin: None,
+            alloc,
         }
     }
 }
@@ -352,14 +367,41 @@ fn read_frame(text: &[u8]) -> Result<Frame, AssembleError>
     }
 }
 
+/// The frame of a text in whose header names may stand, with 0 in the place of each, or why it is none's.
+fn frame_in(alloc: Global, text: &[u8]) -> Result<Result<Frame, AssembleError>, AllocError>
+    ensures { IfOk result (λ frame. IsFrameOf (digits_text (words_of text.now)) frame) }
+{
+    let (word, others) = first_word(text);
+    if !has_names(word) {
+        return Ok(read_frame(text));
+    }
+    let text = text_with_digits(alloc, word, others)?;
+    Ok(read_frame(&text))
+}
+
+/// The event of a frame that is handed in.
+fn frame_event(device: usize, names: Option<HeaderNames>, frame: Frame) -> Event
+    ensures { result ≡ frame_event device names frame }
+{
+    match names {
+        None => Event::Send { device, frame },
+        Some(names) => Event::SendNamed {
+            device,
+            names,
+            frame,
+        },
+    }
+}
+
 fn schedule_frame(
     draft: &mut ScriptDraft,
     line: u64,
     time: Option<u64>,
     device: Option<usize>,
+    names: Option<Option<HeaderNames>>,
     frame: Result<Frame, AssembleError>,
 ) -> Result<(), ScriptLineError>
-    ensures gives { GivesNotes (notes_of draft.new) result (send_read (notes_of draft.old) line time device frame) }
+    ensures gives { GivesNotes (notes_of draft.new) result (send_read (notes_of draft.old) line time device names frame) }
     ensures kept { OnErr result (notes_of draft.new ≡ notes_of draft.old) }
 {
     let Some(time) = time else {
@@ -368,8 +410,11 @@ fn schedule_frame(
     let Some(device) = device else {
         return Err(ScriptLineError::Fault(at_word(3, ScriptCause::Name)));
     };
+    let Some(names) = names else {
+        return Err(ScriptLineError::Fault(at_word(4, ScriptCause::Name)));
+    };
     match frame {
-        Ok(frame) => schedule(draft, line, time, Event::Send { device, frame }),
+        Ok(frame) => schedule(draft, line, time, frame_event(device, names, frame)),
         Err(cause) => Err(ScriptLineError::Fault(at_word(
             4 + frame_word(cause),
             ScriptCause::Frame(cause),
@@ -377,7 +422,7 @@ fn schedule_frame(
     }
 }
 
-/// Takes the words after `at T send`: a name, and after it a frame's text, spaces and all.
+/// Takes the words after `at T send`: a name, and after it a frame's text, spaces and all, in whose header names may stand.
 fn take_send(
     tree: &Tree<15>,
     draft: &mut ScriptDraft,
@@ -395,12 +440,15 @@ fn take_send(
     let Some(frame) = frame else {
         return Err(ScriptLineError::Fault(at_word(4, ScriptCause::Word)));
     };
+    let (header, _others) = first_word(frame);
+    let read = frame_in(draft.alloc, frame)?;
     schedule_frame(
         draft,
         line,
         time_in(time),
         tree.device_named(name),
-        read_frame(frame),
+        header_names(tree, header),
+        read,
     )
 }
 
@@ -666,7 +714,7 @@ pub fn error_at(line: u64, error: ScriptLineError) -> ScriptError
 
 /// Reads a script for the devices of a topology: lines `at T EVENT`, `pulse T WIDTH`, `pull T WIDTH`, `pin T LEVEL` and last
 /// `end T`, where EVENT is `plug CHILD PARENT PORT`, `unplug CHILD`, `press NAME KEY`, `release NAME KEY`, `send NAME FRAME`, `hold NAME ADDRS`
-/// or `drop NAME`; empty lines and lines that begin with `#` are skipped. Times are microseconds. Those of events do not go back and are before
+/// or `drop NAME`; in the header of a FRAME `@NAME` may stand in the place of an address; empty lines and lines that begin with `#` are skipped. Times are microseconds. Those of events do not go back and are before
 /// the end; pulses and pulls are in order, and none touches another. A device's number is below the count of devices, and no frame
 /// is empty.
 ///
