@@ -14,8 +14,10 @@ use Rattle.cec_text.specs.declared.assembler.AssembleError.{AssembleError}
 use Rattle.hdmi_core.specs.Number.{number_of}
 use Rattle.hdmi_core.specs.Words.{one_of, two_of, three_of}
 use Rattle.cec_event.specs.declared.event.Event.{Event}
-use Rattle.cec_event.specs.declared.event.Event.TheVariants.{Plug, Unplug, Key, Send, Outside}
+use Rattle.cec_event.specs.declared.event.Event.TheVariants.{Plug, Unplug, Key, Outside}
+use Rattle.cec_event.specs.declared.event.HeaderNames.{HeaderNames}
 use Rattle.cec_asm.specs.Keys.{key_of}
+use Rattle.cec_asm.specs.Header.{header_names}
 use Rattle.cec_asm.specs.Holding.{hold_of}
 use Rattle.cec_device.specs.declared.outside.Act.{Act}
 use Rattle.cec_device.specs.declared.outside.Act.TheVariants.{Empty}
@@ -23,7 +25,7 @@ use Rattle.cec_asm.specs.declared.script.TimedEvent.{TimedEvent}
 use Rattle.cec_asm.specs.Fault.{at_word}
 use Rattle.cec_asm.specs.declared.fault.LineFault.{LineFault}
 use Rattle.cec_asm.specs.declared.script.ScriptCause.TheVariants.{Word, Width, Order, TooMany, End}
-use Rattle.cec_asm.specs.Script.{is_before as is_over, Notes, within_limit, time_of, last_time, last_end, notes_with_event, plug_read, plug_words, unplug_read, unplug_words, key_read, key_words, act_read, hold_words, drop_words, send_read, event_words, unless_fault, pulse_refusal, pulse_read, pulse_words, touches, pull_read, pull_words, level_of, pin_falls, pin_stays_high, notes_with_level, pin_read, pin_words, pulses_ended, end_read, end_words, IsSendRead, IsEventRead, IsLineRead}
+use Rattle.cec_asm.specs.Script.{is_before as is_over, Notes, within_limit, time_of, last_time, last_end, notes_with_event, plug_read, plug_words, unplug_read, unplug_words, key_read, key_words, act_read, hold_words, drop_words, send_read, frame_event, event_words, unless_fault, pulse_refusal, pulse_read, pulse_words, touches, pull_read, pull_words, level_of, pin_falls, pin_stays_high, notes_with_level, pin_read, pin_words, pulses_ended, end_read, end_words, IsSendRead, IsEventRead, IsLineRead}
 use Rattle.cec_expect.specs.Line.{is_before, is_sooner}
 use Rattle.cec_check.specs.Cuts.{is_early}
 
@@ -187,19 +189,20 @@ event_words_take tree line time verb words notes next e =
     (drop_words_take tree line time (length words) (one_of words) notes next)
     (no_event t line (at_word 2 Word) notes next)))))) e
 
-send_takes : (line : ℕ) (time device : Option ℕ) (frame : Result (List ℕ) AssembleError) (notes next : Notes) → Ok next ≡ send_read notes line time device frame
-    → Takes time line (By (λ n. send_read n line time device frame)) notes next
-send_takes line None device frame notes next e = cc
-send_takes line (Some t) None frame notes next e = cc
-send_takes line (Some t) (Some d) (Err cause) notes next e = cc
-send_takes line (Some t) (Some d) (Ok frame) notes next e = record { at = t; event = Send d frame; time_is = refl; reads = λ n. refl; now = e }
+send_takes : (line : ℕ) (time device : Option ℕ) (names : Option (Option HeaderNames)) (frame : Result (List ℕ) AssembleError) (notes next : Notes) → Ok next ≡ send_read notes line time device names frame
+    → Takes time line (By (λ n. send_read n line time device names frame)) notes next
+send_takes line None device names frame notes next e = cc
+send_takes line (Some t) None names frame notes next e = cc
+send_takes line (Some t) (Some d) None frame notes next e = cc
+send_takes line (Some t) (Some d) (Some names) (Err cause) notes next e = cc
+send_takes line (Some t) (Some d) (Some names) (Ok frame) notes next e = record { at = t; event = frame_event d names frame; time_is = refl; reads = λ n. refl; now = e }
 
 send_words_take : (tree : List Node) (line : ℕ) (time : List ℕ) (words : List (List ℕ)) (notes next : Notes) → IsSendRead tree notes line time words (Ok next)
     → Takes (time_of time) line (λ n read. IsSendRead tree n line time words read) notes next
 send_words_take tree line time [] notes next h = cc
 send_words_take tree line time (name ∷ []) notes next h = cc
 send_words_take tree line time (name ∷ word ∷ words) notes next h =
-    let s = send_takes line (time_of time) (device_named tree name) h.0 notes next h.2 in
+    let s = send_takes line (time_of time) (device_named tree name) (header_names tree word) h.0 notes next h.2 in
     record { at = s.at; event = s.event; time_is = s.time_is; reads = λ n. (h.0, h.1, s.reads n); now = s.now }
 
 by_cond : (b : Bool) (time : Option ℕ) (line : ℕ) (P Q : Notes → Result Notes LineFault → Type 0) (notes next : Notes) → (P notes (Ok next) → Takes time line P notes next)

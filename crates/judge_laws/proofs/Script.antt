@@ -11,12 +11,14 @@ use Rattle.hdmi_topo.specs.Node.{Node}
 use Rattle.hdmi_topo.specs.Tree.{device_named}
 use Rattle.cec_feature.specs.declared.keys.Key.{Key as KeyValue}
 use Rattle.cec_event.specs.declared.event.Event.{Event}
-use Rattle.cec_event.specs.declared.event.Event.TheVariants.{Plug, Unplug, Key, Send, Outside}
+use Rattle.cec_event.specs.declared.event.Event.TheVariants.{Plug, Unplug, Key, Outside}
+use Rattle.cec_event.specs.declared.event.HeaderNames.{HeaderNames}
 use Rattle.hdmi_core.specs.Lines.{is_skipped, lines_of, without_empty_end}
 use Rattle.hdmi_core.specs.Number.{number_of}
 use Rattle.hdmi_core.specs.Words.{one_of, three_of, two_of, words_of}
 use Rattle.cec_text.specs.declared.assembler.AssembleError.{AssembleError}
 use Rattle.cec_asm.specs.Keys.{key_of}
+use Rattle.cec_asm.specs.Header.{header_names}
 use Rattle.cec_asm.specs.Holding.{hold_of}
 use Rattle.cec_device.specs.declared.outside.Act.{Act}
 use Rattle.cec_device.specs.declared.outside.Act.TheVariants.{Empty}
@@ -24,7 +26,7 @@ use Rattle.cec_asm.specs.Fault.{at_word}
 use Rattle.cec_asm.specs.declared.fault.LineFault.{LineFault}
 use Rattle.cec_asm.specs.declared.script.ScriptCause.TheVariants as causes
 use Rattle.cec_asm.specs.declared.script.TimedEvent.{TimedEvent}
-use Rattle.cec_asm.specs.Script.{AreLinesRead, Course, IsEventRead, IsLineRead, IsScriptRead, IsSendRead, IsWordsRead, Notes, Onward, end_read, end_words, course_at_end, event_words, key_read, key_words, act_read, hold_words, drop_words, last_end, last_time, no_notes, other_words, plug_read, plug_words, pulse_read, pulse_words, pull_read, pull_words, pulse_refusal, touches, is_before, level_of, notes_with_level, pin_read, pin_words, pulses_ended, notes_with_event, send_read, time_of, unless_fault, unplug_read, unplug_words}
+use Rattle.cec_asm.specs.Script.{AreLinesRead, Course, IsEventRead, IsLineRead, IsScriptRead, IsSendRead, IsWordsRead, Notes, Onward, end_read, end_words, course_at_end, event_words, key_read, key_words, act_read, hold_words, drop_words, last_end, last_time, no_notes, other_words, plug_read, plug_words, pulse_read, pulse_words, pull_read, pull_words, pulse_refusal, touches, is_before, level_of, notes_with_level, pin_read, pin_words, pulses_ended, notes_with_event, frame_event, send_read, time_of, unless_fault, unplug_read, unplug_words}
 use Rattle.cec_wave.specs.Bounds.{most_pulses, most_pulls, widest_pull}
 
 -- no event stands below this line
@@ -110,12 +112,13 @@ fits_event_words tree notes line time verb words h =
     (fits_if line (bytes_eq verb (codes "hold")) (hold_words tree notes line time (length words) (two_of words)) _ (fits_hold_words tree notes line time (length words) (two_of words) h)
     (fits_if line (bytes_eq verb (codes "drop")) (drop_words tree notes line time (length words) (one_of words)) (Err (at_word 2 causes.Word)) (fits_drop_words tree notes line time (length words) (one_of words) h) tt)))))
 
-fits_send : (notes : Notes) (line : ℕ) (time device : Option ℕ) (frame : Result (List ℕ) AssembleError) → AreBy line notes.events → Fits line (send_read notes line time device frame)
+fits_send : (notes : Notes) (line : ℕ) (time device : Option ℕ) (names : Option (Option HeaderNames)) (frame : Result (List ℕ) AssembleError) → AreBy line notes.events → Fits line (send_read notes line time device names frame)
 unfolding Fits
-fits_send notes line None device frame h = tt
-fits_send notes line (Some time) None frame h = tt
-fits_send notes line (Some time) (Some device) (Err cause) h = tt
-fits_send notes line (Some time) (Some device) (Ok frame) h = fits_scheduled notes line time (Send device frame) h
+fits_send notes line None device names frame h = tt
+fits_send notes line (Some time) None names frame h = tt
+fits_send notes line (Some time) (Some device) None frame h = tt
+fits_send notes line (Some time) (Some device) (Some names) (Err cause) h = tt
+fits_send notes line (Some time) (Some device) (Some names) (Ok frame) h = fits_scheduled notes line time (frame_event device names frame) h
 
 fits_as : (line : ℕ) (r s : Result Notes LineFault) → r ≡ s → Fits line s → Fits line r
 fits_as line r s e h = subst (Fits line) (sym e) h
@@ -125,7 +128,7 @@ unfolding Fits
 fits_send_words tree notes line time [] read h r = fits_as line read (Err (at_word 3 causes.Word)) r tt
 fits_send_words tree notes line time (name ∷ []) read h r = fits_as line read (Err (at_word 4 causes.Word)) r tt
 fits_send_words tree notes line time (name ∷ word ∷ words) read h r =
-    fits_as line read (send_read notes line (time_of time) (device_named tree name) r.0) r.2 (fits_send notes line (time_of time) (device_named tree name) r.0 h)
+    fits_as line read (send_read notes line (time_of time) (device_named tree name) (header_names tree word) r.0) r.2 (fits_send notes line (time_of time) (device_named tree name) (header_names tree word) r.0 h)
 
 fits_event : (tree : List Node) (notes : Notes) (line : ℕ) (words : List (List ℕ)) (read : Result Notes LineFault) → AreBy line notes.events → IsEventRead tree notes line words read → Fits line read
 unfolding Fits
