@@ -166,6 +166,77 @@ const SENDS: &[Run] = &[
     },
 ];
 
+// Frames with names in their headers: those of a television and two players, the second of which is not plugged in.
+const SPARE: &str = "device tv tv 4\ndevice p1 player 0\ndevice p2 player 0\nplug p1 tv 1\n";
+
+// A television, and a device from outside in its port.
+const SEAT: &str = "device tv tv 1\ndevice dut outside 0\nplug dut tv 1\n";
+
+const NAMED: &[Run] = &[
+    Run {
+        what: "from a name to a name",
+        place: Extent::Within,
+        topology: TWO,
+        script: "at 1000000 send p1 @p1>@tv image-view-on\nend 1300000\n",
+        lines: "1000000 event 1 ok\n1000000 1051150 complete 4>0 image-view-on ack by p1 out -\n",
+    },
+    Run {
+        what: "from a name to all, and from a digit to a name",
+        place: Extent::Within,
+        topology: TWO,
+        script: "at 1000000 send p1 @p1>f active-source 1.0.0.0\n\
+             at 2000000 send tv 0>@p1 set-menu-language eng\nend 2300000\n",
+        lines: "1000000 1099150 complete 4>f active-source 1.0.0.0 ok by p1 out -\n\
+             2000000 event 2 ok\n\
+             2000000 2123150 complete 0>4 set-menu-language eng ack by tv out -\n",
+    },
+    Run {
+        what: "the first of two addresses",
+        place: Extent::Within,
+        topology: BOX,
+        script: "at 1000000 send b @b>@tv image-view-on\nat 2000000 send tv @tv>@b standby\n\
+             end 2300000\n",
+        lines: "1000000 1051150 complete 1>0 image-view-on ack by b out -\n\
+             2000000 event 2 ok\n2000000 2051150 complete 0>1 standby ack by tv out -\n",
+    },
+    Run {
+        what: "what a device from outside holds at that time",
+        place: Extent::Within,
+        topology: SEAT,
+        script: "at 1000000 send dut @dut>0 image-view-on\nat 1000000 hold dut 8+4\n\
+             at 1000000 send dut @dut>0 image-view-on\nat 2000000 hold dut -\n\
+             at 2000000 send dut 4>@dut image-view-on\nend 2300000\n",
+        lines: "1000000 event 1 refused no-address\n1000000 event 2 ok\n1000000 event 3 ok\n\
+             1000000 1051150 complete 8>0 image-view-on ack by dut out -\n\
+             2000000 event 4 ok\n2000000 event 5 refused no-address\n",
+    },
+    Run {
+        what: "before it has an address, and off the wire",
+        place: Extent::Within,
+        topology: SPARE,
+        script: "at 5 send p1 @p1>0 image-view-on\nat 5 send p2 @p2>0 image-view-on\nend 100\n",
+        lines: "5 event 1 refused no-address\n5 event 2 refused off-wire\n",
+    },
+    Run {
+        what: "a name of a device that holds none",
+        place: Extent::Within,
+        topology: SPARE,
+        script: "at 1000000 send p1 @p1>@p2 standby\nat 1000000 send p1 @p2>@tv standby\n\
+             at 1000000 send p2 4>@tv standby\nend 1300000\n",
+        lines: "1000000 event 1 refused no-address\n1000000 event 2 refused no-address\n\
+             1000000 event 3 refused off-wire\n",
+    },
+    Run {
+        what: "from another's name, and to its own",
+        place: Extent::Within,
+        topology: TWO,
+        script: "at 1000000 send tv @p1>@tv standby\nat 1000000 send tv @tv>@tv\n\
+             at 1000000 send p1 @p1>@p1 standby\nend 1300000\n",
+        lines: "1000000 event 1 refused no-address\n1000000 event 2 refused own-address\n\
+             1000000 event 3 refused own-address\n",
+    },
+];
+
 // What a state line reports of a box.
 const STATES: &[Run] = &[
     Run {
@@ -599,6 +670,7 @@ fn compare(rt: &impl Abort, alloc: Global, runs: &[Run]) {
 #[test]
 fn runs_are_reported(rt: HostRuntime) {
     compare(&rt, rt.alloc(), SENDS);
+    compare(&rt, rt.alloc(), NAMED);
     compare(&rt, rt.alloc(), STATES);
     compare(&rt, rt.alloc(), BEGINNINGS);
     compare(&rt, rt.alloc(), QUEUES_AND_BOXES);

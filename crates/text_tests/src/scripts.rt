@@ -80,6 +80,7 @@ at x press p2 port x => line 1: number
 at 5 press p2 port 01 => line 1: number
 at 5 press p2 port  => line 1: number
 at x send p2 4>g => line 1: number
+at x send p1 @p2>0 => line 1: number
 at 1000000000001 send p1 4>4 => line 1: number
 pulse 05 100 => line 1: number
 pulse 5 0x64 => line 1: number
@@ -99,8 +100,29 @@ at 5 press p2 port 1 => line 1: name
 at 5 release P1 play => line 1: name
 at 5 send p2 4>g => line 1: name
 at 5 send  4>4 => line 1: name
+at 5 send p2 @p1>g => line 1: name
+at 5 send p1 @p2>@tv image-view-on => line 1: name
+at 5 send p1 @p1>@p2 frob => line 1: name
+at 5 send p1 @>0 => line 1: name
+at 5 send p1 @P1>0 => line 1: name
+at 5 send p1 4>@ => line 1: name
+at 5 send p1 @p1>@tv>0 => line 1: name
 at 5 send tv  => line 1: frame address
 at 5 send p1 4>g => line 1: frame address
+at 5 send p1 @p1 => line 1: frame address
+at 5 send p1 @p1> => line 1: frame address
+at 5 send p1 @p1>g => line 1: frame address
+at 5 send p1 @p2>>0 => line 1: frame address
+at 5 send p1 40>@tv => line 1: frame address
+at 5 send p1 p1>@tv => line 1: frame address
+at 5 send p1 A>@tv => line 1: frame address
+at 5 send p1 @p1 >@tv => line 1: frame address
+at 5 send p1  @p1>@tv => line 1: frame address
+at 5 send p1 @p1>@tv frob => line 1: frame name
+at 5 send p1 @p1>@tv  => line 1: frame name
+at 5 send p1 @p1>@tv play => line 1: frame count
+at 5 send p1 @p1>@tv play :24 => line 1: frame operand
+at 5 send p1 @p1>f op-e5 :000102030405060708090a0b0c0d0e => line 1: frame too-long
 at 5 send p1 4>0 frob => line 1: frame name
 at 5 send p1 4>0  => line 1: frame name
 at 5 send p1 4>0 play => line 1: frame count
@@ -310,6 +332,12 @@ unplug p1 => unplug 1
 press tv menu => press menu of 0
 release p1 menu => release menu of 1
 send p1 4>0 set-osd-name \"a  b\" => send from 1
+send p1 @p1>@tv set-osd-name \"a  b\" => send from p1 to tv
+send p1 4>@tv set-osd-name \"a  b\" => send from 4 to tv
+send p1 @p1>e set-osd-name \"a  b\" => send from p1 to 14
+send p1 @p1>f set-osd-name \"a  b\" => send from p1 to all
+send p1 @p1>@p1 => poll from p1 to p1
+send p1 f>@tv => poll from 15 to tv
 hold p1 - => hold none at 1
 hold p1 e => hold 14 at 1
 hold p1 1+4 => hold 1 and 4 at 1
@@ -325,6 +353,29 @@ fn hold_name(act: &Act) -> &'static str {
         (14, None) => "hold 14 at 1",
         (1, Some(4)) => "hold 1 and 4 at 1",
         _ => "another hold",
+    }
+}
+
+// The name of each frame with names that is listed: of the player, the television or both, and 0 in the place of each.
+fn named_frame_name(
+    initiator: Option<usize>,
+    destination: Option<usize>,
+    frame: &[u8],
+) -> &'static str {
+    let (header, rest) = frame.split_first().unwrap_or((&0, frame));
+    match (
+        initiator,
+        destination,
+        *header,
+        rest == b"\x47a  b".as_slice(),
+    ) {
+        (Some(1), Some(0), 0x00, true) => "send from p1 to tv",
+        (None, Some(0), 0x40, true) => "send from 4 to tv",
+        (Some(1), None, 0x0E, true) => "send from p1 to 14",
+        (Some(1), None, 0x0F, true) => "send from p1 to all",
+        (Some(1), Some(1), 0x00, false) if rest.is_empty() => "poll from p1 to p1",
+        (None, Some(0), 0xF0, false) if rest.is_empty() => "poll from 15 to tv",
+        _ => "another frame",
     }
 }
 
@@ -350,6 +401,11 @@ fn event_name(event: &Event) -> &'static str {
         Event::Send { device: 1, frame } if frame.bytes() == b"\x40\x47a  b".as_slice() => {
             "send from 1"
         }
+        Event::SendNamed {
+            device: 1,
+            names,
+            frame,
+        } => named_frame_name(names.initiator, names.destination, frame.bytes()),
         Event::Outside { device: 1, act } => hold_name(act),
         Event::Outside {
             device: 0,
