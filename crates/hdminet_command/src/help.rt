@@ -121,7 +121,8 @@ The script says what happens, in the order of its times, and when the run ends:
   at T unplug CHILD
   at T press NAME KEY
   at T release NAME KEY
-  at T send NAME FRAME          a frame as `hdminet asm` takes it
+  at T send NAME FRAME          a frame as `hdminet asm` takes it; @NAME in its header, as @p1>@tv, is the
+                                address that this device holds then
   at T hold NAME ADDRS          of a device from outside: ADDRS is -, or one or two logical addresses
                                 of 0 to e, as 4 or 1+4
   at T drop NAME                of a device from outside: it drops what it has to send

@@ -1,5 +1,5 @@
 //! What the words of an expectation may have been meant for.
-use crate::names::add_expected_name_meant;
+use crate::names::add_header_name_meant;
 use crate::wanted::add_nearest_of;
 use cec_expect::ExpectCause;
 use hdminet_help::Draft;
@@ -226,7 +226,7 @@ pub fn add_expected_meant(
     };
     match cause {
         ExpectCause::Label => of_label(draft, place, word),
-        ExpectCause::Name => add_expected_name_meant(draft, place, word),
+        ExpectCause::Name => add_header_name_meant(draft, place, word),
         ExpectCause::Number => add_number(draft, word),
         ExpectCause::Unmet => of_unmet(draft, line, word, number),
         ExpectCause::Word => of_word(draft, line, word, number),

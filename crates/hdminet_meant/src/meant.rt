@@ -2,7 +2,7 @@
 use crate::expected::add_expected_meant;
 use crate::frames::add_frame_meant;
 use crate::keys::is_of_key;
-use crate::names::add_name_meant;
+use crate::names::{add_header_name_meant, add_name_meant};
 use crate::topology::add_topology_meant;
 use crate::wanted::add_nearest_of;
 use cec_asm::ScriptCause;
@@ -183,6 +183,15 @@ fn of_script_number(draft: &mut Draft, line: &str, word: &str, number: usize) {
     }
 }
 
+// What a name of a script may have been meant for: a word, or one in the header of a frame.
+fn of_script_name(draft: &mut Draft, place: Place<'_>, line: &str, word: &str, number: usize) {
+    if number == 4 && is_word(line, 2, "send") {
+        add_header_name_meant(draft, place, word);
+    } else {
+        add_name_meant(draft, place, word);
+    }
+}
+
 // What a word of a script may have been meant for, by its number in the line without a label.
 fn of_script(
     draft: &mut Draft,
@@ -196,7 +205,7 @@ fn of_script(
         return;
     };
     match cause {
-        ScriptCause::Name => add_name_meant(draft, place, word),
+        ScriptCause::Name => of_script_name(draft, place, line, word, number),
         ScriptCause::Number => of_script_number(draft, line, word, number),
         ScriptCause::Word => of_script_word(draft, what, line, word, number),
         ScriptCause::Frame(cause) => add_frame_meant(draft, cause, line, number),

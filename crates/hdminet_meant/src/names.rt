@@ -78,7 +78,7 @@ fn undeclared_in<'a>(place: Place<'_>, header: &'a str) -> Option<&'a str> {
     None
 }
 
-/// What a name of an expectation, or one in the header of its pattern, may have been meant for.
-pub fn add_expected_name_meant(draft: &mut Draft, place: Place<'_>, word: &str) {
+/// What a name may have been meant for, or the first in a header that no line above declares.
+pub fn add_header_name_meant(draft: &mut Draft, place: Place<'_>, word: &str) {
     add_name_meant(draft, place, undeclared_in(place, word).unwrap_or(word));
 }

@@ -59,6 +59,9 @@ const FRAMES: &str = "\
 4 0 standby|4|`4 0`: did you mean `4>0`?
 4>0image-view-on|4>0image-view-on|a space stands after `4>0`
 image-view-on|image-view-on|`I>D` is missing before `image-view-on`
+@p1>@avrr image-view-on|@p1>@avrr|`avrr`: did you mean `avr`?
+@dvd>@tv image-view-on|@dvd>@tv|the topology has `tv`, `avr`, `p1`, `dut`
+@p1>@tv image-vew-on|image-vew-on|`image-vew-on`: did you mean `image-view-on`?
 4>0 image view on|image|`image view on`: did you mean `image-view-on`?
 4>0 op-4|op-4|`op-4`: an opcode has two digits, as `op-04`
 4>f active-source 1.0|1.0|PA is a physical address, as 1.0.0.0
