@@ -33,6 +33,8 @@ label on expect within 60000 of film @p2>@tv image-view-on ack
 expect once within 200000 of on @p2>f active-source 1.2.0.0 ok
 expect none within 400000 of film @p1>f active-source
 expect within 60000 of film @p1>@tv image-view-on
+label ask at 2500000 send tv @tv>@p1 give-device-power-status
+expect within 150000 of ask @p1>@tv report-power-status
 end 3000000
 ";
 
@@ -121,7 +123,8 @@ ok 3 - line 4: expect none within 400000 of film @p1>f active-source
 not ok 4 - line 5: expect within 60000 of film @p1>@tv image-view-on
 # seen 0 from 2000000 to 2060000
 # 2000000 2051150 complete 8>0 image-view-on ack by p2 out -
-1..4
+ok 5 - line 7: expect within 150000 of ask @p1>@tv report-power-status
+1..5
 ";
 
 const TWO_DECKS_FAILURES: &str = "\
