@@ -15,11 +15,11 @@ use Rattle.cec_wire.specs.declared.Outcome.{Outcome}
 use Rattle.cec_wire.specs.Round.{IsRound, is_within, pulse_pulls, is_pulled, close_in}
 use Rattle.cec_wire.proofs.Alone.{rounds_are_lone}
 use Rattle.cec_event.specs.declared.event.Event.{Event}
-use Rattle.cec_event.specs.declared.event.Event.TheVariants.{Plug, Unplug, Key, Send, Outside}
+use Rattle.cec_event.specs.declared.event.Event.TheVariants.{Plug, Unplug, Key, Send, SendNamed, Outside}
 use Rattle.cec_event.specs.declared.event.EventError.{EventError}
 use Rattle.cec_net.specs.Start.{sooner, least_start, first_onset}
 use Rattle.cec_net.specs.State.{NetState, next_start, first_net}
-use Rattle.cec_net.specs.Apply.{net_after, applied_unless, event_fault}
+use Rattle.cec_net.specs.Apply.{net_after, applied_unless, event_fault, named_frame, after_sent}
 use Rattle.cec_net.specs.Step.{seats_of, devices_after, after_round}
 use Rattle.cec_net.specs.Framed.{AreFramed}
 use Rattle.cec_net.proofs.Framed.{framed-started, framed-applied, framed-round, seats_fit}
@@ -218,7 +218,13 @@ fault_same later s (Plug child parent port) = refl
 fault_same later s (Unplug child) = refl
 fault_same later s (Key device key press) = refl
 fault_same later s (Send device frame) = refl
+fault_same later s (SendNamed device names frame) = refl
 fault_same later s (Outside device act) = refl
+
+sent_same : (later : List Stretch) (at device : ℕ) (frame : Option (List ℕ)) (s : NetState)
+    → record (after_sent at device frame (with_pulses later s)) { heard = None } ≡ with_pulses later (record (after_sent at device frame s) { heard = None })
+sent_same later at device None s = refl
+sent_same later at device (Some frame) s = refl
 
 unless_same : (later : List Stretch) (fault : Option EventError) (at : ℕ) (event : Event) (s : NetState)
     → applied_unless fault at event (with_pulses later s) ≡ with_pulses later (applied_unless fault at event s)
@@ -227,6 +233,7 @@ unless_same later None at (Plug child parent port) s = refl
 unless_same later None at (Unplug child) s = refl
 unless_same later None at (Key device key press) s = refl
 unless_same later None at (Send device frame) s = refl
+unless_same later None at (SendNamed device names frame) s = sent_same later at device (named_frame s.devices names frame) s
 unless_same later None at (Outside device act) s = refl
 
 applied_same : (later : List Stretch) (at : ℕ) (event : Event) (s : NetState) → net_after at event (with_pulses later s) ≡ with_pulses later (net_after at event s)

@@ -3,13 +3,13 @@ use Rattle.std.proofs.Common.{◌≡◌, ℕ, zero, suc, List, [], ◌∷◌, le
 use Rattle.cec_wave.specs.declared.Stretch.{Stretch}
 use Rattle.cec_wire.specs.declared.Outcome.{Outcome}
 use Rattle.cec_event.specs.declared.event.Event.{Event}
-use Rattle.cec_event.specs.declared.event.Event.TheVariants.{Plug, Unplug, Key, Send, Outside}
+use Rattle.cec_event.specs.declared.event.Event.TheVariants.{Plug, Unplug, Key, Send, SendNamed, Outside}
 use Rattle.cec_event.specs.declared.event.EventError.{EventError}
 use Rattle.hdmi_topo.specs.Node.{Node}
 use Rattle.cec_device.specs.State.{State}
 use Rattle.cec_device.specs.Place.{fresh}
 use Rattle.cec_net.specs.State.{NetState, moved_by, first_net}
-use Rattle.cec_net.specs.Apply.{net_after, applied_unless, changed_at, event_fault}
+use Rattle.cec_net.specs.Apply.{net_after, applied_unless, changed_at, event_fault, named_frame, after_sent}
 use Rattle.cec_net.specs.Step.{IsNextRound}
 use Rattle.cec_net.proofs.Each.{length-each_from}
 use Rattle.cec_driven.specs.Driven.{names_of}
@@ -19,12 +19,17 @@ length-changed number change [] = refl
 length-changed zero change (d ∷ devices) = refl
 length-changed (suc number) change (d ∷ devices) = ap suc (length-changed number change devices)
 
+count_sent : (at device : ℕ) (frame : Option (List ℕ)) (s : NetState) → length (after_sent at device frame s).devices ≡ length s.devices
+count_sent at device None s = refl
+count_sent at device (Some frame) s = length-changed device _ s.devices
+
 count_unless : (fault : Option EventError) (at : ℕ) (event : Event) (s : NetState) → length (applied_unless fault at event s).devices ≡ length s.devices
 count_unless (Some error) at event s = refl
 count_unless None at (Plug child parent port) s = length-each_from 0 (moved_by at _) s.devices
 count_unless None at (Unplug child) s = length-each_from 0 (moved_by at _) s.devices
 count_unless None at (Key device key press) s = length-changed device _ s.devices
-count_unless None at (Send device frame) s = length-changed device _ s.devices
+count_unless None at (Send device frame) s = count_sent at device (Some frame) s
+count_unless None at (SendNamed device names frame) s = count_sent at device (named_frame s.devices names frame) s
 count_unless None at (Outside device act) s = length-changed device _ s.devices
 
 pub count_applied : (at : ℕ) (event : Event) (s t : NetState) → t ≡ net_after at event s → length t.devices ≡ length s.devices

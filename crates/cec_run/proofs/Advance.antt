@@ -10,10 +10,10 @@ use Rattle.cec_wire.specs.Round.{close_in}
 use Rattle.cec_asm.specs.declared.script.TimedEvent.{TimedEvent}
 use Rattle.cec_asm.specs.Script.{IsSchedule}
 use Rattle.cec_event.specs.declared.event.Event.{Event}
-use Rattle.cec_event.specs.declared.event.Event.TheVariants.{Plug, Unplug, Key, Send, Outside}
+use Rattle.cec_event.specs.declared.event.Event.TheVariants.{Plug, Unplug, Key, Send, SendNamed, Outside}
 use Rattle.cec_event.specs.declared.event.EventError.{EventError}
 use Rattle.cec_net.specs.State.{NetState, next_start}
-use Rattle.cec_net.specs.Apply.{net_after, applied_unless, event_fault}
+use Rattle.cec_net.specs.Apply.{net_after, applied_unless, event_fault, named_frame, after_sent}
 use Rattle.cec_net.specs.Progress.{IsProgress}
 use Rattle.cec_net.proofs.Soundness.{length-with_plug}
 use Rattle.cec_run.specs.declared.run.Totals.{Totals}
@@ -28,12 +28,17 @@ pub record Kept (s t : NetState) : Type 0 where
   pub rest : t.rest ≡ s.rest
   pub count : length t.tree ≡ length s.tree
 
+kept_sent : (at device : ℕ) (frame : Option (List ℕ)) (s : NetState) → Kept s (record (after_sent at device frame s) { heard = None })
+kept_sent at device None s = record { pulses = refl; close = refl; rest = refl; count = refl }
+kept_sent at device (Some frame) s = record { pulses = refl; close = refl; rest = refl; count = refl }
+
 kept_unless : (fault : Option EventError) (at : ℕ) (event : Event) (s : NetState) → Kept s (applied_unless fault at event s)
 kept_unless (Some error) at event s = record { pulses = refl; close = refl; rest = refl; count = refl }
 kept_unless None at (Plug child parent port) s = record { pulses = refl; close = refl; rest = refl; count = length-with_plug s.tree child _ }
 kept_unless None at (Unplug child) s = record { pulses = refl; close = refl; rest = refl; count = length-with_plug s.tree child _ }
 kept_unless None at (Key device key press) s = record { pulses = refl; close = refl; rest = refl; count = refl }
 kept_unless None at (Send device frame) s = record { pulses = refl; close = refl; rest = refl; count = refl }
+kept_unless None at (SendNamed device names frame) s = kept_sent at device (named_frame s.devices names frame) s
 kept_unless None at (Outside device act) s = record { pulses = refl; close = refl; rest = refl; count = refl }
 
 pub event_keeps : (at : ℕ) (event : Event) (s t : NetState) → t ≡ net_after at event s → Kept s t

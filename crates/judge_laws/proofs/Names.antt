@@ -32,11 +32,11 @@ use Rattle.cec_device.specs.declared.outside.Act.TheVariants.{Hold, Empty}
 use Rattle.cec_device.specs.Outside.{act_fault, after_act, acted_by}
 use Rattle.cec_device.specs.Place.{class_of_poll, after_front, after_failure, frame_sent, front_is_poll, is_on_wire, polled_at, sent_by, place_after_fate, submit_fault, after_submission, submitted_by}
 use Rattle.cec_event.specs.declared.event.Event.{Event}
-use Rattle.cec_event.specs.declared.event.Event.TheVariants.{Plug, Unplug, Key as KeyEvent, Send, Outside}
+use Rattle.cec_event.specs.declared.event.Event.TheVariants.{Plug, Unplug, Key as KeyEvent, Send, SendNamed, Outside}
 use Rattle.cec_event.specs.declared.event.EventError.{EventError}
 use Rattle.cec_net.specs.Start.{contends}
 use Rattle.cec_net.specs.State.{NetState, each_from}
-use Rattle.cec_net.specs.Apply.{net_after, applied_unless, changed_at, event_fault}
+use Rattle.cec_net.specs.Apply.{net_after, applied_unless, changed_at, event_fault, named_frame, after_sent}
 use Rattle.cec_net.specs.Step.{after_round, device_after, followed_in, followed_unless, is_among, is_sent, after_fate}
 use Rattle.cec_driven.specs.Driven.{names_of}
 use Rattle.driven_laws.specs.Dumps.{names_in}
@@ -129,12 +129,17 @@ names-changed number f [] step = refl
 names-changed zero f (x ∷ xs) step = ap (λ a. a ∷ names_of xs) (step x)
 names-changed (suc number) f (x ∷ xs) step = ap (λ bs. x.name ∷ bs) (names-changed number f xs step)
 
+names-sent : (at device : ℕ) (frame : Option (List ℕ)) (s : NetState) → names_of (after_sent at device frame s).devices ≡ names_of s.devices
+names-sent at device None s = refl
+names-sent at device (Some frame) s = names-changed device (λ d. after_submission 16 d frame at) s.devices (λ d. name-submitted_by at frame d (submit_fault 16 d frame))
+
 names-unless : (fault : Option EventError) (at : ℕ) (event : Event) (s : NetState) → names_of (applied_unless fault at event s).devices ≡ names_of s.devices
 names-unless (Some error) at event s = refl
 names-unless None at (Plug child parent port) s = names-each 0 at _ s.devices
 names-unless None at (Unplug child) s = names-each 0 at _ s.devices
 names-unless None at (KeyEvent device key press) s = names-changed device (λ d. after_key 16 d key press at) s.devices (λ d. name-keyed_by 16 at key press d (key_fault d key))
-names-unless None at (Send device frame) s = names-changed device (λ d. after_submission 16 d frame at) s.devices (λ d. name-submitted_by at frame d (submit_fault 16 d frame))
+names-unless None at (Send device frame) s = names-sent at device (Some frame) s
+names-unless None at (SendNamed device names frame) s = names-sent at device (named_frame s.devices names frame) s
 names-unless None at (Outside device act) s = names-changed device (λ d. after_act d act) s.devices (λ d. name-acted_by d (act_fault d) act)
 
 pub names_applied : (at : ℕ) (event : Event) (s : NetState) → names_of (net_after at event s).devices ≡ names_of s.devices
@@ -152,12 +157,17 @@ names-plug [] child plug = refl
 names-plug (node ∷ tree) zero plug = refl
 names-plug (node ∷ tree) (suc child) plug = ap (λ ns. node.name ∷ ns) (names-plug tree child plug)
 
+tree-sent : (at device : ℕ) (frame : Option (List ℕ)) (s : NetState) → names_in (after_sent at device frame s).tree ≡ names_in s.tree
+tree-sent at device None s = refl
+tree-sent at device (Some frame) s = refl
+
 tree-unless : (fault : Option EventError) (at : ℕ) (event : Event) (s : NetState) → names_in (applied_unless fault at event s).tree ≡ names_in s.tree
 tree-unless (Some error) at event s = refl
 tree-unless None at (Plug child parent port) s = names-plug s.tree child _
 tree-unless None at (Unplug child) s = names-plug s.tree child _
 tree-unless None at (KeyEvent device key press) s = refl
 tree-unless None at (Send device frame) s = refl
+tree-unless None at (SendNamed device names frame) s = tree-sent at device (named_frame s.devices names frame) s
 tree-unless None at (Outside device act) s = refl
 
 pub tree_applied : (at : ℕ) (event : Event) (s : NetState) → names_in (net_after at event s).tree ≡ names_in s.tree

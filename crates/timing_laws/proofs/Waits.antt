@@ -41,11 +41,11 @@ use Rattle.cec_device.specs.Place.{after_failure, after_front, after_joining, af
 use Rattle.cec_device.specs.Say.{after_effect, say, say_all}
 use Rattle.cec_device.specs.State.{State, addresses_held, frame_of, holds, one_more, source, speaks, with_queued}
 use Rattle.cec_event.specs.declared.event.Event.{Event}
-use Rattle.cec_event.specs.declared.event.Event.TheVariants.{Plug, Unplug, Key as KeyEvent, Send, Outside}
+use Rattle.cec_event.specs.declared.event.Event.TheVariants.{Plug, Unplug, Key as KeyEvent, Send, SendNamed, Outside}
 use Rattle.cec_event.specs.declared.event.EventError.{EventError}
 use Rattle.cec_wire.specs.declared.Outcome.{Outcome}
 use Rattle.cec_wire.specs.Round.{close_in, fate_in}
-use Rattle.cec_net.specs.Apply.{applied_unless, changed_at, event_fault, net_after}
+use Rattle.cec_net.specs.Apply.{applied_unless, changed_at, event_fault, net_after, named_frame, after_sent}
 use Rattle.cec_net.specs.Start.{contends, is_at, least_start, next_turn, sooner, start_by, start_of}
 use Rattle.cec_net.specs.State.{NetState, after_move, each_from, first_net, loose, moved_by}
 use Rattle.cec_net.specs.Step.{after_fate, device_after, followed_in, followed_unless, is_among}
@@ -274,6 +274,10 @@ kept-loose rest most (node ∷ tree) = (kept-fresh rest most node.kind node.name
 pub kept-started : (rest most : ℕ) (tree : List Node) → AreKept rest most (first_net tree []).devices
 kept-started rest most tree = kept-rewired rest most 0 tree (loose tree) (kept-loose rest most tree)
 
+kept-sent : (rest most at device : ℕ) (frame : Option (List ℕ)) (s : NetState) → AreKept rest most s.devices → AreKept rest most (after_sent at device frame s).devices
+kept-sent rest most at device None s h = h
+kept-sent rest most at device (Some frame) s h = kept-changed rest most device (λ d. after_submission 16 d frame at) s.devices (λ d k. kept-submitted rest most 16 at frame d k) h
+
 pub kept-applied : (rest most at : ℕ) (event : Event) (s : NetState) → AreKept rest most s.devices → AreKept rest most (net_after at event s).devices
 kept-applied rest most at event s h = by (event_fault s event) event
   where
@@ -282,7 +286,8 @@ kept-applied rest most at event s h = by (event_fault s event) event
     by None (Plug child parent port) = kept-rewired rest most at _ s.devices h
     by None (Unplug child) = kept-rewired rest most at _ s.devices h
     by None (KeyEvent device key press) = kept-changed rest most device (λ d. after_key 16 d key press at) s.devices (λ d k. kept-keyed rest most 16 at key press d k) h
-    by None (Send device frame) = kept-changed rest most device (λ d. after_submission 16 d frame at) s.devices (λ d k. kept-submitted rest most 16 at frame d k) h
+    by None (Send device frame) = kept-sent rest most at device (Some frame) s h
+    by None (SendNamed device names frame) = kept-sent rest most at device (named_frame s.devices names frame) s h
     by None (Outside device act) = kept-changed rest most device (λ d. after_act d act) s.devices (λ d k. kept-acted rest most d act k) h
 
 -- ---- who contends
