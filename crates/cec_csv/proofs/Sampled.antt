@@ -1,5 +1,5 @@
 -- A file that is read is its column, sampled.
-use Rattle.std.proofs.Common.{◌≡◌, ℕ, ◌+◌, ◌*◌, ◌/◌, ◌≤◌, not, Bool, true, false, nat_lt, nat_le, if◌then◌else◌, List, [], ◌∷◌, ◌++◌, Option, Some, None, Result, Ok, Err, refl, sym, ap, subst, ◌∙◌, arith}
+use Rattle.std.proofs.Common.{◌≡◌, ℕ, ◌+◌, ◌*◌, ◌/◌, ◌≤◌, not, Bool, true, false, nat_lt, nat_le, if◌then◌else◌, List, [], ◌∷◌, ◌++◌, Option, Some, None, IfSome, Result, Ok, Err, refl, sym, ap, subst, ◌∙◌, arith}
 use Rattle.std.specs.Option.{option_to_list}
 use Rattle.std.proofs.lemmas.Bool.Decides.{nat_tests}
 use Rattle.cec_wave.specs.declared.Edge.{Edge}
@@ -12,7 +12,7 @@ use Rattle.cec_signal.proofs.Recording.{Records, moved_at, records_capture, reco
 use Rattle.cec_signal.specs.Reading.{Step, lines_read}
 use Rattle.cec_signal.proofs.Passing.{Onward, onward, whole, without_word}
 use Rattle.cec_csv.specs.Csv.{Stepped, csv_form, first_reader, column_of, column_read, edges_in, end_of, ends_after, with_row, moved_by, moved_to, named_read, or_first, row_of, since, since_by, took, took_by, word_at_fault}
-use Rattle.cec_csv.specs.Sampling.{CsvFilesAreSampled, Level, end_by, level_of, level_reported, levels_of, rows_by, rows_in, rows_of}
+use Rattle.cec_csv.specs.Sampling.{CsvFilesAreSampled, CsvLinesAreEarly, CsvLinesGoOn, Level, end_by, level_of, level_reported, levels_of, rows_by, rows_in, rows_of}
 use Rattle.cec_csv.specs.declared.row.Row.{Row}
 use Rattle.cec_csv.specs.declared.row.Time.{Time}
 use Rattle.cec_csv.specs.declared.reader.Reader.{Reader}
@@ -186,3 +186,28 @@ csv_files_are_sampled signal text e h =
 
 pub read_is_capture : (signal text : List ℕ) (e : Captured) → edges_in signal text ≡ Ok e → IsCapture e.edges e.end
 read_is_capture signal text e h = let s = csv_files_are_sampled signal text e h in s.capture
+
+-- ---- line by line
+
+rounded_whole : (at : ℕ) → at ≡ rounded (at * 1000)
+rounded_whole at = omega arith
+
+pub csv_lines_go_on : CsvLinesGoOn
+csv_lines_go_on number lines r e early h =
+    let ran = lines_ran number lines r e (r.track.at * 1000) (rounded_whole r.track.at) early h in
+    (ran.records.turn, ran.records.ends, ran.records.late, ran.early)
+
+edge_by : (edge : Option Edge) (edges : List Edge) (end limit : ℕ) → EndBy end (option_to_list edge ++ edges) → end ≤ limit → IfSome edge (λ e. e.at ≤ limit)
+edge_by None edges end limit ends l = tt
+edge_by (Some e) edges end limit ends l = let at = ends.0 in omega arith
+
+pub csv_lines_are_early : CsvLinesAreEarly
+csv_lines_are_early line r step early h = by (row_of r.column line) h
+  where
+    by : (row : Option Row) → took_by row r ≡ Ok step → (step.state.track.at ≤ 2000000000000) × IfSome step.edge (λ e. e.at ≤ 2000000000000)
+    by None h = cc
+    by (Some row) h =
+        let g : GoesOn r step row = subst (λ (st : Stepped). GoesBy r st row) h (row_goes r row) in
+        let last = option_to_list (last_edge step.state.track) in
+        let all = g.goes.more last [] step.state.track.at (records_end step.state.track) in
+        (g.goes.early, edge_by step.edge last step.state.track.at 2000000000000 all.ends g.goes.early)

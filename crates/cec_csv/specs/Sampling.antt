@@ -1,13 +1,16 @@
 -- The line that a file reports: at an instant it has the level of the last row at or before it. Times are nanoseconds here,
 -- counted from the first row, and nothing is said of edges and faults.
-use Rattle.std.specs.Prelude.{◌≡◌, ℕ, ◌+◌, ◌*◌, ◌/◌, not, Bool, true, false, nat_le, if◌then◌else◌, List, [], ◌∷◌, ◌++◌, Option, Some, None, Ok}
+use Rattle.std.specs.Prelude.{◌≡◌, ℕ, ◌+◌, ◌*◌, ◌/◌, ◌≤◌, not, Bool, true, false, nat_le, if◌then◌else◌, List, [], ◌∷◌, ◌++◌, Option, Some, None, IfSome, Ok}
 use Rattle.std.specs.Option.{option_to_list}
 use Rattle.hdmi_core.specs.Lines.{lines_of}
-use Rattle.cec_signal.specs.Edges.{Captured, IsCapture, line_of_edges}
+use Rattle.cec_wave.specs.Bounds.{latest_instant}
+use Rattle.cec_signal.specs.Edges.{AreInTurn, Captured, EndBy, IsCapture, line_of_edges}
+use Rattle.cec_signal.specs.Reading.{Step, lines_read}
 use Rattle.cec_signal.specs.Track.{differ}
-use Rattle.cec_csv.specs.Csv.{column_of, edges_in, ends_after, or_first, row_of, since}
+use Rattle.cec_csv.specs.Csv.{column_of, csv_form, edges_in, ends_after, or_first, row_of, since, took}
 use Rattle.cec_csv.specs.declared.row.Row.{Row}
 use Rattle.cec_csv.specs.declared.row.Time.{Time}
+use Rattle.cec_csv.specs.declared.reader.Reader.{Reader}
 
 -- from a time on, counted from the first row, the line is low or not
 pub record Level : Type 0 where
@@ -55,3 +58,16 @@ pub record IsSampled (signal text : List ℕ) (e : Captured) : Type 0 where
 -- last row, if that reports the level again, or else 10,000 microseconds after it.
 abbrev pub CsvFilesAreSampled : Type 0
 CsvFilesAreSampled = (signal text : List ℕ) (e : Captured) → edges_in signal text ≡ Ok e → IsSampled signal text e
+
+-- ---- a file that is read line by line
+
+-- What is left of a file that is read goes on from where the reader stands: edges in turn, and an end that is not before them,
+-- within the limit.
+abbrev pub CsvLinesGoOn : Type 0
+CsvLinesGoOn = (number : ℕ) (lines : List (List ℕ)) (r : Reader) (e : Captured) → r.track.at ≤ latest_instant → lines_read csv_form number lines r ≡ Ok e
+    → AreInTurn r.track.was_low r.track.at e.edges × EndBy e.end e.edges × (r.track.at ≤ e.end) × (e.end ≤ latest_instant)
+
+-- The reader, and the edge that is known by a row, stay within the limit.
+abbrev pub CsvLinesAreEarly : Type 0
+CsvLinesAreEarly = (line : List ℕ) (r : Reader) (step : Step Reader) → r.track.at ≤ latest_instant → took line r ≡ Ok step
+    → (step.state.track.at ≤ latest_instant) × IfSome step.edge (λ e. e.at ≤ latest_instant)

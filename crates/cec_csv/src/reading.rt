@@ -21,8 +21,8 @@ fn no_signal() -> CaptureError
     })
 }
 
-// The column of a signal, by the first line.
-fn column_of(line: &[u8], signal: &[u8]) -> Option<usize>
+/// The column of a signal, by the first line, which has the names; that of the time is 0. An empty name stands for the first after it.
+pub fn column_of(line: &[u8], signal: &[u8]) -> Option<usize>
     ensures { result ≡ column_of signal.now line.now }
 {
     let (_, fields) = first_field(without_return(line));
