@@ -18,8 +18,7 @@ use Rattle.cec_timing.specs.Misfits.{drive_within, fits, low_misfit, total_misfi
 use Rattle.cec_remarks.specs.declared.attempts.Failure.{Failure}
 use Rattle.cec_remarks.specs.declared.counts.Count.{Count}
 use Rattle.cec_remarks.specs.declared.free.TooSoon.{TooSoon}
-use Rattle.std.proofs.lemmas.Bool.{false≢true}
-use Rattle.cec_dis.specs.Remark.{abort_reasons, audio_rates, deck_states, device_types, first_of, more_names, more_words, operand_remark, place_of, play_modes, powers, record_sources, record_states, remark, timer_cleared, tuner_requests, user_controls, versions}
+use Rattle.cec_dis.specs.Remark.{abort_reasons, audio_rates, deck_states, device_types, first_of, more_names, more_words, operand_remark, place_of, play_modes, powers, record_sources, record_states, timer_cleared, tuner_requests, user_controls, versions}
 use Rattle.cec_opcode.specs.WordSets.{NamedByte, word_of}
 use Rattle.cec_text.specs.FrameText.{opcode_text}
 use Rattle.cec_frame.specs.Blocks.{frame_in}
@@ -34,7 +33,7 @@ use Rattle.cec_remarks.specs.declared.requests.Request.{Request}
 use Rattle.cec_remarks.specs.Messages.{missed_receivers, missing_operands}
 use Rattle.cec_remarks.specs.declared.series.Series.{Series}
 use Rattle.cec_remarks.specs.declared.sources.Mention.{Mention}
-use Rattle.cec_audit.specs.Lines.{answer_text, answered_text, answers_text, claim_text, claims_text, count_text, counts_text, drive_text, drive_word, failure_text, failure_word, head_line, head_text, if_answered, if_given_up, if_late, kind_text, late_text, limit_word, misfit_line, misfit_text, misfits_text, missing_text, moved_text, named_text, receivers_text, receivers_word, request_text, series_text, soon_text, spread_text, timing_text, unfinished_text, unless_reported, widths_text, within_text}
+use Rattle.cec_audit.specs.Lines.{answer_text, answered_text, answers_text, claim_text, claims_text, count_text, counts_text, drive_text, drive_word, failure_text, failure_word, head_line, head_text, if_answered, if_given_up, if_late, kind_text, late_text, limit_word, misfit_line, misfit_text, misfits_text, missing_text, moved_text, named_text, receivers_text, request_text, series_text, soon_text, spread_text, timing_text, unfinished_text, widths_text, within_text}
 use Rattle.cec_remarks.specs.Attempts.{failure_of, tries_again}
 use Rattle.cec_remarks.specs.Frames.{delivered_frame, sender}
 use Rattle.cec_remarks.specs.Free.{free_before, too_soon}

@@ -17,6 +17,7 @@ use Rattle.cec_dis.specs.Remark.{remark}
 use Rattle.cec_mon.specs.Watch.{listed_line, reading_as}
 use Rattle.cec_remarks.specs.declared.attempts.Attempts.{Attempts}
 use Rattle.cec_audit.specs.declared.auditor.Auditor.{Auditor}
+use Rattle.cec_audit.specs.declared.whole.WholeAudit.{WholeAudit}
 use Rattle.cec_remarks.specs.declared.counts.Count.{Count}
 use Rattle.cec_remarks.specs.declared.free.Previous.{Previous}
 use Rattle.cec_remarks.specs.declared.requests.Request.{Request}
@@ -47,8 +48,12 @@ pub record Tape : Type 0 where
   pub counts : List Count
   pub widths : Widths
 
-abbrev pub tape_of : Auditor → Tape
-tape_of a = record { place = place_of a.cursor; previous = a.previous; attempts = a.attempts; series = a.series; waiting = a.waiting.items; places = a.places; sources = a.sources; counts = a.counts; widths = a.widths }
+-- of a capture of which these edges are left
+abbrev pub tape_at : List Edge → Auditor → Tape
+tape_at edges a = record { place = edges; previous = a.previous; attempts = a.attempts; series = a.series; waiting = a.waiting.items; places = a.places; sources = a.sources; counts = a.counts; widths = a.widths }
+
+abbrev pub tape_of : WholeAudit → Tape
+tape_of w = tape_at (place_of w.cursor) w.auditor
 
 -- before all readings of a capture
 abbrev pub first_tape : List Edge → Tape
@@ -120,19 +125,22 @@ abbrev pub remarks_text : Bool → Tape → Listed → List ℕ
 remarks_text timing t x =
     notes_text x ++ times_text t x ++ frame_text t (delivered_frame x) ++ timing_text timing (with_slots x.reported.ending x.reported.bits 0 (lows_of x t.place) no_widths)
 
--- what is kept of it
-abbrev pub tape_after : Listed → Tape → Tape
-tape_after x t = record {
+-- what is kept of it, of these low stretches
+abbrev pub tape_by : List Low → Listed → Tape → Tape
+tape_by lows x t = record {
   place = t.place;
-  previous = previous_with t.previous x (lows_of x t.place);
+  previous = previous_with t.previous x lows;
   attempts = after_attempt t.attempts x (free_before t.previous x.begin);
   series = after_start t.series x.reported.ending x.begin;
   waiting = after_frame x.begin x.reported.at (delivered_frame x) t.waiting;
   places = with_places (delivered_frame x) t.places;
   sources = with_sources (delivered_frame x) x.reported.at t.sources;
   counts = with_reading x.reported.ending x.reported.bits t.counts;
-  widths = with_slots x.reported.ending x.reported.bits 0 (lows_of x t.place) t.widths;
+  widths = with_slots x.reported.ending x.reported.bits 0 lows t.widths;
 }
+
+abbrev pub tape_after : Listed → Tape → Tape
+tape_after x t = tape_by (lows_of x t.place) x t
 
 -- its line, and what there is to remark
 abbrev pub line_and_remarks : Bool → Tape → Listed → List ℕ

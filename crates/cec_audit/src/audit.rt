@@ -4,8 +4,8 @@ ghost use Rattle.cec_mon.specs.Joined.{captured_by};
 ghost use Rattle.cec_audit.specs.Audit.{audit_text, audit_text_of};
 ghost use Rattle.cec_audit.specs.Progress.{WritesText};
 
-use crate::auditor::Auditor;
 use crate::progress::Progress;
+use crate::whole::WholeAudit;
 use cec_bits::{STANDARD, Windows};
 use cec_mon::Monitor;
 use cec_signal::Capture;
@@ -56,7 +56,7 @@ pub fn audit_capture_by<S: Sink>(
 {
     let edges = capture.edges();
     let mut monitor = Monitor::with_windows(windows);
-    let mut auditor = Auditor::new(edges);
+    let mut auditor = WholeAudit::new(edges);
     let mut progress = Progress::new();
     for edge in edges {
         let reading = monitor.edge(*edge);

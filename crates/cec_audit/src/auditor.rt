@@ -1,12 +1,12 @@
 //! What is remarked of one reading after another.
-ghost use Rattle.std.specs.Prelude.{◌≡◌, ◌≤◌, length, option_map};
-ghost use Rattle.std.specs.Option.{option_copied, option_to_list};
+ghost use Rattle.std.specs.Prelude.{◌≡◌, ◌≤◌, [], List, length};
+ghost use Rattle.std.specs.Option.{option_copied};
+ghost use Rattle.cec_wave.specs.declared.Edge.{Edge as EdgeOf};
 ghost use Rattle.cec_bits.specs.Reports.{listed_as};
-ghost use Rattle.cec_audit.specs.Audit.{after, after_all, come_to, drive_of, falls_until, first_tape, frame_text, is_folded, lows_of, named_of, notes_text, tape_after, reading_misfits, remarks_text, summary_text, tape_of, times_text, line_and_remarks, reported_all, unfinished_of, unless_driven};
+ghost use Rattle.cec_audit.specs.Audit.{drive_of, falls_until, first_tape, frame_text, is_folded, lows_of, named_of, notes_text, tape_after, tape_at, tape_by, reading_misfits, remarks_text, summary_text, times_text, unfinished_of, unless_driven};
 ghost use Rattle.cec_remarks.specs.Frames.{delivered_frame};
 ghost use Rattle.cec_audit.specs.Lines.{timing_text};
 ghost use Rattle.cec_audit.specs.Progress.{WritesOn};
-ghost use Rattle.cec_timing.specs.Lows.{place_of};
 ghost use Rattle.cec_timing.specs.Spreads.{no_widths, with_slots};
 ghost use Rattle.cec_wave.specs.Bounds.{most_sent};
 
@@ -28,11 +28,9 @@ use cec_timing::{Cursor, Low, Widths, drive_within, first_low, low_drive, lows_b
 use cec_wave::{Edge, MOST_SENT};
 use hdmi_core::{Piece, Sink};
 
-/// What is kept of the readings so far.
+/// What is kept of the readings so far. It is told the edges of each, and keeps none.
 #[derive(Drop)]
-pub(crate) struct Auditor<'a> {
-    // the capture's edges from the fall of the last reading on
-    cursor: Cursor<'a>,
+pub struct Auditor {
     previous: Previous,
     attempts: Attempts,
     series: Series,
@@ -53,16 +51,16 @@ fn falls_until(ending: Ending, at: u64) -> u64
     }
 }
 
-fn lows_of(reading: &Reading, cursor: &Cursor) -> ArrayVec<Low, MOST_SENT>
-    ensures { result.items ≡ lows_of (listed_as reading.now) (place_of cursor.now) }
+fn lows_of(reading: &Reading, edges: &[Edge]) -> ArrayVec<Low, MOST_SENT>
+    ensures { result.items ≡ lows_of (listed_as reading.now) edges.now }
 {
-    lows_before(cursor.edges(), falls_until(reading.ending, reading.at))
+    lows_before(edges, falls_until(reading.ending, reading.at))
 }
 
-fn drive_of(reading: &Reading, cursor: &Cursor) -> Option<u64>
-    ensures { result ≡ drive_of (listed_as reading.now) (place_of cursor.now) }
+fn drive_of(reading: &Reading, edges: &[Edge]) -> Option<u64>
+    ensures { result ≡ drive_of (listed_as reading.now) edges.now }
 {
-    let mut end = *cursor;
+    let mut end = Cursor::new(edges);
     end.go_to(reading.at);
     match first_low(end.edges()) {
         None => None,
@@ -158,13 +156,12 @@ fn write_reading_widths<S: Sink>(
     write_widths(widths_of(reading, lows), progress, out);
 }
 
-impl<'a> Auditor<'a> {
-    /// Of a capture of these edges, before its readings.
-    pub(crate) fn new(edges: &'a [Edge]) -> Self
-        ensures { tape_of result ≡ first_tape edges.now }
+impl Auditor {
+    /// Before all readings.
+    pub fn new() -> Self
+        ensures { tape_at [] result ≡ first_tape [] }
     {
         Auditor {
-            cursor: Cursor::new(edges),
             previous: Previous::new(),
             attempts: Attempts::new(),
             series: Series::new(),
@@ -176,27 +173,21 @@ impl<'a> Auditor<'a> {
         }
     }
 
-    // The edges up to the fall of a reading are passed over.
-    fn come_to(&mut self, reading: &Reading)
-        ensures { tape_of self.new ≡ come_to (listed_as reading.now) (tape_of self.old) }
-    {
-        self.cursor.go_to(reading.begin);
-    }
-
     // What there is to remark of what was before a reading, of its times and its blocks.
     fn write_times<S: Sink>(
         &self,
         reading: &Reading,
+        edges: &[Edge],
         lows: &[Low],
         frame: &[u8],
         progress: &mut Progress,
         out: &mut S,
     )
-        requires lows { lows.now ≡ lows_of (listed_as reading.now) (tape_of self.now).place }
+        requires lows { lows.now ≡ lows_of (listed_as reading.now) edges.now }
         requires few { length lows.now ≤ most_sent }
         requires frame { frame.now ≡ delivered_frame (listed_as reading.now) }
         ensures { WritesOn (S.contents out.old) (S.contents out.new) (S.is_stuck out.old) (S.is_stuck out.new)
-            (times_text (tape_of self.now) (listed_as reading.now)) progress.old.so_far progress.new.so_far }
+            (times_text (tape_at edges.now self.now) (listed_as reading.now)) progress.old.so_far progress.new.so_far }
     {
         let free = self.previous.free_before(reading.begin);
         let again = self.attempts.tries_again(&reading.bits);
@@ -204,7 +195,7 @@ impl<'a> Auditor<'a> {
         write_answers(reading.begin, frame, &self.waiting, progress, out);
         write_soon(self.previous.too_soon(reading, again), progress, out);
         write_reading_misfits(self.series, reading, lows, progress, out);
-        write_drive(drive_of(reading, &self.cursor), progress, out);
+        write_drive(drive_of(reading, edges), progress, out);
         write_within(drive_within(lows), progress, out);
         write_unfinished(unfinished_of(reading, lows), progress, out);
         write_failure(
@@ -217,7 +208,7 @@ impl<'a> Auditor<'a> {
     // What there is to remark of what a frame says.
     fn write_frame<S: Sink>(&self, frame: &[u8], progress: &mut Progress, out: &mut S)
         ensures { WritesOn (S.contents out.old) (S.contents out.new) (S.is_stuck out.old) (S.is_stuck out.new)
-            (frame_text (tape_of self.now) frame.now) progress.old.so_far progress.new.so_far }
+            (frame_text (tape_at [] self.now) frame.now) progress.old.so_far progress.new.so_far }
     {
         write_moved(
             sender(frame),
@@ -233,30 +224,30 @@ impl<'a> Auditor<'a> {
     fn write_remarks<S: Sink>(
         &self,
         reading: &Reading,
+        edges: &[Edge],
         lows: &[Low],
         frame: &[u8],
         timing: bool,
         progress: &mut Progress,
         out: &mut S,
     )
-        requires lows { lows.now ≡ lows_of (listed_as reading.now) (tape_of self.now).place }
+        requires lows { lows.now ≡ lows_of (listed_as reading.now) edges.now }
         requires few { length lows.now ≤ most_sent }
         requires frame { frame.now ≡ delivered_frame (listed_as reading.now) }
         ensures { WritesOn (S.contents out.old) (S.contents out.new) (S.is_stuck out.old) (S.is_stuck out.new)
-            (remarks_text timing (tape_of self.now) (listed_as reading.now)) progress.old.so_far progress.new.so_far }
+            (remarks_text timing (tape_at edges.now self.now) (listed_as reading.now)) progress.old.so_far progress.new.so_far }
     {
         write_notes(reading, progress, out);
-        self.write_times(reading, lows, frame, progress, out);
+        self.write_times(reading, edges, lows, frame, progress, out);
         self.write_frame(frame, progress, out);
         write_reading_widths(timing, reading, lows, progress, out);
     }
 
     // A reading is kept.
     fn note(&mut self, reading: &Reading, lows: &[Low], frame: &[u8])
-        requires lows { lows.now ≡ lows_of (listed_as reading.now) (tape_of self.old).place }
         requires few { length lows.now ≤ most_sent }
         requires frame { frame.now ≡ delivered_frame (listed_as reading.now) }
-        ensures { tape_of self.new ≡ tape_after (listed_as reading.now) (tape_of self.old) }
+        ensures { (edges : List EdgeOf) → tape_at edges self.new ≡ tape_by lows.now (listed_as reading.now) (tape_at edges self.old) }
     {
         let free = self.previous.free_before(reading.begin);
         self.attempts.note(reading, free);
@@ -269,48 +260,29 @@ impl<'a> Auditor<'a> {
         self.widths.add(reading.ending, &reading.bits, 0, lows);
     }
 
-    // Writes a reading's line, and what there is to remark.
-    fn report<S: Sink>(
+    /// Writes what there is to remark of a reading, and keeps it. `edges` are those of the capture from its fall on.
+    pub fn remark<S: Sink>(
         &mut self,
         reading: &Reading,
+        edges: &[Edge],
         timing: bool,
         progress: &mut Progress,
         out: &mut S,
     )
-        ensures kept { tape_of self.new ≡ after (listed_as reading.now) (tape_of self.old) }
+        ensures kept { tape_at edges.now self.new ≡ tape_after (listed_as reading.now) (tape_at edges.now self.old) }
         ensures written { WritesOn (S.contents out.old) (S.contents out.new) (S.is_stuck out.old) (S.is_stuck out.new)
-            (line_and_remarks timing (tape_of self.old) (listed_as reading.now)) progress.old.so_far progress.new.so_far }
+            (remarks_text timing (tape_at edges.now self.old) (listed_as reading.now)) progress.old.so_far progress.new.so_far }
     {
-        self.come_to(reading);
-        let lows = lows_of(reading, &self.cursor);
+        let lows = lows_of(reading, edges);
         let frame = delivered_frame(reading);
-        progress.reading(out, reading);
-        self.write_remarks(reading, &lows, &frame, timing, progress, out);
+        self.write_remarks(reading, edges, &lows, &frame, timing, progress, out);
         self.note(reading, &lows, &frame);
     }
 
-    /// The same of what a monitor reported.
-    pub(crate) fn hear<S: Sink>(
-        &mut self,
-        reading: &Option<Reading>,
-        timing: bool,
-        progress: &mut Progress,
-        out: &mut S,
-    )
-        ensures kept { tape_of self.new ≡ after_all (tape_of self.old) (option_to_list (option_map listed_as reading.now)) }
-        ensures written { WritesOn (S.contents out.old) (S.contents out.new) (S.is_stuck out.old) (S.is_stuck out.new)
-            (reported_all timing (tape_of self.old) (option_to_list (option_map listed_as reading.now))) progress.old.so_far progress.new.so_far }
-    {
-        let Some(reading) = reading else {
-            return;
-        };
-        self.report(reading, timing, progress, out);
-    }
-
     /// Writes what there is to say of all readings up to an end.
-    pub(crate) fn summarize<S: Sink>(&self, end: u64, progress: &mut Progress, out: &mut S)
+    pub fn summarize<S: Sink>(&self, end: u64, progress: &mut Progress, out: &mut S)
         ensures { WritesOn (S.contents out.old) (S.contents out.new) (S.is_stuck out.old) (S.is_stuck out.new)
-            (summary_text end (tape_of self.now)) progress.old.so_far progress.new.so_far }
+            (summary_text end (tape_at [] self.now)) progress.old.so_far progress.new.so_far }
     {
         progress.line(out, &[Piece::Text("  all readings\n")]);
         write_late(end, &self.waiting, progress, out);

@@ -6,6 +6,9 @@ mod auditor;
 mod laws;
 mod lines;
 mod progress;
+mod whole;
 
 pub use audit::{AuditOptions, audit_capture, audit_capture_by};
+pub use auditor::Auditor;
 pub use laws::audits_keep_readings;
+pub use progress::Progress;

@@ -1,5 +1,4 @@
-use Rattle.std.proofs.Common.{◌++◌, ap₂}
-use Rattle.std.proofs.Common.{refl, ◌∙◌}
+use Rattle.std.proofs.Common.{refl}
 use Rattle.cec_audit.proofs.Writing.{writes_as, writes_two}
 use Rattle.cec_audit.proofs.auditor.write_notes.Goals as goal
 

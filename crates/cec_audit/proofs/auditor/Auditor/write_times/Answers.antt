@@ -1,6 +1,6 @@
 use Rattle.std.proofs.Common.{refl, ◌∙◌}
 use Rattle.cec_bits.specs.Reports.{listed_as}
-use Rattle.cec_audit.specs.Audit.{tape_of}
+use Rattle.cec_audit.specs.Audit.{tape_at}
 use Rattle.cec_audit.proofs.Remarks.{times_are}
 use Rattle.cec_audit.proofs.Writing.{writes_as, writes_two}
 use Rattle.cec_audit.proofs.auditor.Auditor.write_times.Goals as goal
@@ -15,6 +15,6 @@ returns g c =
     let soon = c.too_soon.ensures in
     let failure = c.failure_of.ensures in
     writes_as
-    (times_are (tape_of c.args.self.now) (listed_as c.args.reading.now) c.args.lows.now c.over.result c.args.frame.now c.deref-2.result.now c.too_soon.result c.drive_of.result c.drive_within.result c.unfinished_of.result c.failure_of.result
+    (times_are (tape_at c.args.edges.now c.args.self.now) (listed_as c.args.reading.now) c.args.lows.now c.over.result c.args.frame.now c.deref-2.result.now c.too_soon.result c.drive_of.result c.drive_within.result c.unfinished_of.result c.failure_of.result
     c.over.ensures c.requires.frame waiting (soon ∙ rw (again, bits) refl) c.requires.lows c.drive_of.ensures c.drive_within.ensures c.unfinished_of.ensures (failure ∙ rw (free, same_bits) refl))
     (writes_two (writes_two (writes_two (writes_two (writes_two (writes_two (writes_two c.write_series.ensures c.write_answers.ensures) c.write_soon.ensures) c.write_reading_misfits.ensures) c.write_drive.ensures) c.write_within.ensures) c.write_unfinished.ensures) c.write_failure.ensures)
