@@ -4,6 +4,8 @@
 #[cfg(test)]
 mod crowds;
 #[cfg(test)]
+mod named;
+#[cfg(test)]
 mod network_edges;
 #[cfg(test)]
 mod networks;
