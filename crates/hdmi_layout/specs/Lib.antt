@@ -1,0 +1,2 @@
+pub mod HdmiBlock
+pub mod ForumBlock
