@@ -1,12 +1,16 @@
 -- What the rules ask of data blocks (CTA-861-D, section 7.5) and of HDMI's vendor specific data block (VSDB: HDMI 1.4,
 -- section 8.3.2).
-use Rattle.std.specs.Prelude.{ℕ, ◌+◌, ◌*◌, ◌/◌, ◌%◌, ◌==◌, Bool, true, false, ◌&&◌, ◌||◌, not, nat_lt, nat_le, if◌then◌else◌, List, [], ◌∷◌, length, slice_index, take, drop}
+use Rattle.std.specs.Prelude.{ℕ, ◌/◌, ◌%◌, ◌==◌, Bool, true, false, ◌&&◌, ◌||◌, not, nat_lt, nat_le, Option, Some, None, List, [], ◌∷◌, length, slice_index, drop}
 use Rattle.std.specs.List.{list_any}
 use Rattle.hdmi_cta.specs.Audio.{is_audio}
-use Rattle.hdmi_cta.specs.Hdmi.{is_hdmi, is_vendor}
+use Rattle.hdmi_cta.specs.Hdmi.{is_hdmi, is_vendor, phys_at}
 use Rattle.hdmi_cta.specs.declared.block.DataBlock.{DataBlock}
 use Rattle.hdmi_cta.specs.declared.block.BlockKind.{BlockKind}
 use Rattle.hdmi_cta.specs.declared.block.BlockKind.TheVariants.{Video, Speakers, Extended}
+use Rattle.hdmi_layout.specs.ForumBlock.{identifier}
+use Rattle.hdmi_layout.specs.HdmiBlock.{hdmi_block, listed_codes, video_bytes}
+use Rattle.hdmi_layout.specs.declared.hdmi_block.HdmiBlock.{HdmiBlock}
+use Rattle.hdmi_layout.specs.declared.hdmi_block.HdmiVideo.{HdmiVideo}
 use Rattle.hdmi_parts.specs.declared.block_parts.Sought.{Sought}
 use Rattle.hdmi_parts.specs.declared.block_parts.Sought.TheVariants as sought
 
@@ -72,9 +76,13 @@ has_multichannel_pcm b = is_audio b && lists_multichannel_pcm b.payload.items
 
 -- ---- HDMI
 
--- the seventh byte of an HDMI block, in units of 5 MHz: at most 340 MHz (HDMI 1.4, section 8.3.2)
+-- what an HDMI block says after its identifier and its address, of five bytes
+abbrev pub hdmi_of : DataBlock → HdmiBlock
+hdmi_of b = hdmi_block (drop 5 b.payload.items)
+
+-- in units of 5 MHz: at most 340 MHz (HDMI 1.4, section 8.3.2)
 abbrev pub has_fast_clock : DataBlock → Bool
-has_fast_clock b = is_hdmi b && nat_lt 6 (length b.payload.items) && nat_lt 68 (slice_index b.payload.items 6)
+has_fast_clock b = is_hdmi b && nat_lt 68 (hdmi_of b).max_clock
 
 -- a port after no port
 abbrev pub is_hole : ℕ → ℕ → Bool
@@ -86,34 +94,29 @@ is_off_tree high low =
     ((high == 255) && (low == 255)) || is_hole (high / 16) (high % 16) || is_hole (high % 16) (low / 16) || is_hole (low / 16) (low % 16)
 
 abbrev pub has_wrong_address : DataBlock → Bool
-has_wrong_address b = is_hdmi b && is_off_tree (slice_index b.payload.items 3) (slice_index b.payload.items 4)
+has_wrong_address b = is_hdmi b && is_off_tree (phys_at b.payload.items).high (phys_at b.payload.items).low
 
 -- 0.0.0.0, the address of the root of a tree (HDMI 1.4, section 8.7.2)
 abbrev pub has_root_address : DataBlock → Bool
-has_root_address b = is_hdmi b && (slice_index b.payload.items 3 == 0) && (slice_index b.payload.items 4 == 0)
+has_root_address b = is_hdmi b && ((phys_at b.payload.items).high == 0) && ((phys_at b.payload.items).low == 0)
 
--- the vendor block of the HDMI Forum: its identifier C4-5D-D8, the lowest byte first
+-- the vendor block of the HDMI Forum, by its identifier
 abbrev pub is_forum : DataBlock → Bool
-is_forum b =
-    is_vendor b.kind && nat_le 3 (length b.payload.items) &&
-    (slice_index b.payload.items 0 == 0xd8) && (slice_index b.payload.items 1 == 0x5d) && (slice_index b.payload.items 2 == 0xc4)
+is_forum b = is_vendor b.kind && (identifier b.payload.items == 0xc45dd8)
 
 -- a block of the HDMI Forum has no HDMI block before it (own)
 abbrev pub begins_with_forum : List DataBlock → Bool
 begins_with_forum [] = false
 begins_with_forum (b ∷ bs) = not (is_hdmi b) && (is_forum b || begins_with_forum bs)
 
--- Bit 5 of the eighth byte indicates video formats. They stand after two bytes for each kind of latency that bits 7 and 6 indicate
--- (HDMI 1.4, section 8.3.2).
-abbrev pub video_place : ℕ → ℕ
-video_place presence = 8 + 2 * (presence / 128 % 2) + 2 * (presence / 64 % 2)
+-- the codes of HDMI's own, of the bytes from the video formats on
+abbrev pub codes_from : Option HdmiVideo → List ℕ → List ℕ
+codes_from None p = []
+codes_from (Some v) p = listed_codes v p
 
--- the first three bits of the second byte there count the formats of HDMI's own codes, which follow
-abbrev pub codes_at : ℕ → List ℕ → List ℕ
-codes_at place payload = take (slice_index payload (place + 1) / 32) (drop (place + 2) payload)
-
+-- in the payload of an HDMI block
 abbrev pub hdmi_codes : List ℕ → List ℕ
-hdmi_codes payload = if slice_index payload 7 / 32 % 2 == 1 then codes_at (video_place (slice_index payload 7)) payload else []
+hdmi_codes payload = codes_from (hdmi_block (drop 5 payload)).video (video_bytes (drop 5 payload))
 
 -- ---- all of them
 

@@ -4,6 +4,7 @@ use Rattle.std.specs.List.{list_any}
 use Rattle.hdmi_cta.specs.Hdmi.{is_hdmi, blocks_of}
 use Rattle.hdmi_cta.specs.declared.block.DataBlock.{DataBlock}
 use Rattle.hdmi_cta.specs.declared.raw.Ext.{Ext}
+use Rattle.hdmi_layout.specs.HdmiBlock.{code_of_hdmi}
 use Rattle.hdmi_parts.specs.BlockParts.{is_video_kind, hdmi_codes}
 
 -- 129 to 192 are the codes 1 to 64, marked as native
@@ -28,12 +29,7 @@ abbrev pub repeats : List ℕ → Bool
 repeats [] = false
 repeats (code ∷ codes) = (nat_lt 0 code && has_code codes code) || repeats codes
 
--- the video identification code of the format that a code of HDMI stands for; 0 for a code that stands for none
-abbrev pub code_of_hdmi : ℕ → ℕ
-code_of_hdmi hdmi =
-    if hdmi == 1 then 95 else if hdmi == 2 then 94 else if hdmi == 3 then 93 else if hdmi == 4 then 98 else 0
-
--- it stands for a format whose video identification code is not listed
+-- a code of HDMI's own stands for a format whose video identification code is not listed
 abbrev pub is_lone : List ℕ → ℕ → Bool
 is_lone codes hdmi = nat_lt 0 (code_of_hdmi hdmi) && not (has_code codes (code_of_hdmi hdmi))
 

@@ -1,10 +1,14 @@
 //! What the rules ask of data blocks.
-ghost use Rattle.std.specs.Prelude.{◌≡◌, ◌≤◌, ◌+◌, take};
+ghost use Rattle.std.specs.Prelude.{◌≡◌};
 ghost use Rattle.std.specs.List.{list_any};
-ghost use Rattle.hdmi_parts.specs.BlockParts.{is_vga_code, lists_vga, is_video_capability, fixes_rgb_range, is_speakers, is_ill_speakers, is_extended_audio, is_sound, is_multichannel_pcm, lists_multichannel_pcm, has_multichannel_pcm, has_fast_clock, is_hole, is_off_tree, has_wrong_address, has_root_address, is_forum, begins_with_forum, video_place, codes_at, hdmi_codes, is_sought};
+ghost use Rattle.hdmi_parts.specs.BlockParts.{is_vga_code, lists_vga, is_video_capability, fixes_rgb_range, is_speakers, is_ill_speakers, is_extended_audio, is_sound, is_multichannel_pcm, lists_multichannel_pcm, has_multichannel_pcm, hdmi_of, has_fast_clock, is_hole, is_off_tree, has_wrong_address, has_root_address, is_forum, begins_with_forum, codes_from, hdmi_codes, is_sought};
 
+use hdmi_core::after;
 use hdmi_cta::{BlockKind, DataBlock};
+use hdmi_layout::{HDMI_FORUM, HdmiBlock, HdmiVideo, identifier, video_bytes};
 
+/// The identifier and the physical address of an HDMI block, in bytes.
+const ADDRESS_END: usize = 5;
 /// The greatest clock of HDMI 1.4: 340 MHz, in units of 5 MHz.
 const MAX_TMDS_CLOCK: u8 = 68;
 /// The least extended tag of a block that indicates audio: a vendor's.
@@ -114,11 +118,17 @@ fn has_multichannel_pcm(block: &DataBlock) -> bool
     block.is_audio() && lists_multichannel_pcm(block.payload.as_slice())
 }
 
+/// What an HDMI block says after its physical address.
+pub fn hdmi_of(block: &DataBlock) -> HdmiBlock
+    ensures { result ≡ hdmi_of block.now }
+{
+    HdmiBlock::of(after(block.payload.as_slice(), ADDRESS_END))
+}
+
 fn has_fast_clock(block: &DataBlock) -> bool
     ensures { result ≡ has_fast_clock block.now }
 {
-    let payload = block.payload.as_slice();
-    block.is_hdmi() && 6 < payload.len() && MAX_TMDS_CLOCK < payload[6]
+    block.is_hdmi() && MAX_TMDS_CLOCK < hdmi_of(block).max_clock
 }
 
 fn is_hole(first: u8, second: u8) -> bool
@@ -154,12 +164,7 @@ fn has_root_address(block: &DataBlock) -> bool
 pub fn is_forum(block: &DataBlock) -> bool
     ensures { result ≡ is_forum block.now }
 {
-    let payload = block.payload.as_slice();
-    matches!(block.kind, BlockKind::Vendor)
-        && 3 <= payload.len()
-        && payload[0] == 0xd8
-        && payload[1] == 0x5d
-        && payload[2] == 0xc4
+    matches!(block.kind, BlockKind::Vendor) && identifier(block.payload.as_slice()) == HDMI_FORUM
 }
 
 /// Whether a block of the HDMI Forum has no HDMI block before it.
@@ -172,45 +177,22 @@ pub fn begins_with_forum(blocks: &[DataBlock]) -> bool
     }
 }
 
-/// Where an HDMI block indicates video formats.
-fn video_place(presence: u8) -> usize
-    ensures value { result ≡ video_place presence }
-    ensures small { result ≤ 12 }
+/// The codes of HDMI's own, of the bytes from the video formats on.
+fn codes_from(video: Option<HdmiVideo>, bytes: &[u8]) -> &[u8]
+    ensures { result.now ≡ codes_from video bytes.now }
 {
-    8 + 2 * usize::from(presence / 128 % 2) + 2 * usize::from(presence / 64 % 2)
-}
-
-/// The first bytes, so many of them as there are.
-fn front(bytes: &[u8], count: usize) -> &[u8]
-    ensures { result.now ≡ take count bytes.now }
-{
-    if count <= bytes.len() {
-        &bytes[..count]
-    } else {
-        bytes
+    match video {
+        None => &[],
+        Some(video) => video.codes_in(bytes),
     }
-}
-
-/// The codes after a count at a place.
-fn codes_at(place: usize, payload: &[u8]) -> &[u8]
-    requires { place ≤ 12 }
-    ensures { result.now ≡ codes_at place payload.now }
-{
-    if payload.len() <= place + 2 {
-        return &[];
-    }
-    front(&payload[place + 2..], usize::from(payload[place + 1] / 32))
 }
 
 /// The codes of HDMI's own in the payload of an HDMI block.
 pub fn hdmi_codes(payload: &[u8]) -> &[u8]
     ensures { result.now ≡ hdmi_codes payload.now }
 {
-    if 7 < payload.len() && payload[7] / 32 % 2 == 1 {
-        codes_at(video_place(payload[7]), payload)
-    } else {
-        &[]
-    }
+    let bytes = after(payload, ADDRESS_END);
+    codes_from(HdmiBlock::of(bytes).video, video_bytes(bytes))
 }
 
 /// Whether a data block is what a rule looks for.

@@ -4,12 +4,13 @@ ghost use Rattle.std.specs.List.{list_any};
 ghost use Rattle.arrayvec.specs.ArrayVec.{array_vec_len};
 ghost use Rattle.hdmi_cta.specs.Block.{block_bytes};
 ghost use Rattle.hdmi_cta.specs.Hdmi.{blocks_of};
-ghost use Rattle.hdmi_parts.specs.VideoCodes.{code_of, block_codes, ext_codes, video_codes, has_code, repeats, code_of_hdmi, is_lone, has_lone_code};
+ghost use Rattle.hdmi_parts.specs.VideoCodes.{code_of, block_codes, ext_codes, video_codes, has_code, repeats, is_lone, has_lone_code};
 
 use crate::block_parts::hdmi_codes;
 use crate::ext_parts::blocks_of;
 use arrayvec::ArrayVec;
 use hdmi_cta::{BlockKind, DataBlock, Ext};
+use hdmi_layout::code_of_hdmi;
 
 /// The most codes that three extensions have room for.
 pub const MAX_CODES: usize = 369;
@@ -94,19 +95,6 @@ pub fn repeats(codes: &[u8]) -> bool
     match codes {
         [] => false,
         [code, rest @ ..] => 0 < *code && has_code(rest, *code) || repeats(rest),
-    }
-}
-
-/// The video code of the format that a code of HDMI stands for, or 0.
-fn code_of_hdmi(hdmi: u8) -> u8
-    ensures { result ≡ code_of_hdmi hdmi }
-{
-    match hdmi {
-        1 => 95,
-        2 => 94,
-        3 => 93,
-        4 => 98,
-        _ => 0,
     }
 }
 

@@ -12,7 +12,7 @@ pub use base_parts::{
     is_continuous, is_srgb, is_three, prefers_first, some_empty, some_formula, some_ill_unused,
     some_tagged,
 };
-pub use block_parts::{Sought, hdmi_codes, is_forum, is_speakers};
+pub use block_parts::{Sought, hdmi_codes, hdmi_of, is_forum, is_speakers};
 pub use codes::{MAX_CODES, code_of, repeats, some_lone_code, video_codes};
 pub use ext_parts::{
     begins_with_map, blocks_of, hdmi_count, native_count, some_block, some_cta, some_forum_first,
