@@ -1,27 +1,32 @@
 -- What an HDMI block, the vendor specific data block of HDMI (VSDB), means (HDMI 1.4, section 8.3.2), of the bytes after
 -- its physical address.
-use Rattle.std.specs.Prelude.{ℕ, ◌+◌, ◌-◌, ◌*◌, ◌/◌, ◌%◌, ◌==◌, ◌&&◌, ◌||◌, nat_le, Bool, if◌then◌else◌, List, [], ◌∷◌, ◌++◌, length, map, take, drop, slice_index, codes}
-use Rattle.std.specs.Fmt.{decimal}
-use Rattle.hdmi_meaning.specs.Notes.{Row, row, when, below, text_between, is_set, set_words, spaced_words, rest_words}
+use Rattle.std.specs.Prelude.{ℕ, ◌+◌, ◌*◌, ◌==◌, nat_le, Bool, if◌then◌else◌, Option, Some, None, List, [], ◌∷◌, ◌++◌, length, map, codes}
+use Rattle.hdmi_meaning.specs.Notes.{Row, row, when, below, text_between, set_words, spaced_words, rest_words}
 use Rattle.hex.specs.Hex.{encode_lower}
 use Rattle.hdmi_meaning.specs.Videos.{code_text}
+use Rattle.hdmi_layout.specs.HdmiBlock.{code_of_hdmi, hdmi_block, listed_codes, stereo_bytes, left_bytes, video_bytes}
+use Rattle.hdmi_layout.specs.declared.hdmi_block.Delay.{Delay}
+use Rattle.hdmi_layout.specs.declared.hdmi_block.Delay.TheVariants.{Unknown, Time, Reserved, Absent}
+use Rattle.hdmi_layout.specs.declared.hdmi_block.Latencies.{Latencies}
+use Rattle.hdmi_layout.specs.declared.hdmi_block.HdmiVideo.{HdmiVideo}
+use Rattle.hdmi_layout.specs.declared.hdmi_block.HdmiBlock.{HdmiBlock}
 use Rattle.hdmi_abilities.specs.Stereo.{stereo_meanings}
 
--- ---- capabilities: bytes 6 to 8
+-- ---- capabilities
 
 -- bits a pixel of deep colour
 abbrev pub depth_rows : List Row
 depth_rows =
-    row 64 (codes "48") ∷
-    row 32 (codes "36") ∷
-    row 16 (codes "30") ∷ []
+    row 4 (codes "48") ∷
+    row 2 (codes "36") ∷
+    row 1 (codes "30") ∷ []
 
--- bit 3 says that each is there in YCbCr 4:4:4 too
-abbrev pub also_text : ℕ → List ℕ
-also_text bits = if is_set bits 8 then codes "bits a pixel also in 4:4:4" else codes "bits a pixel"
+-- each may be there in YCbCr 4:4:4 too
+abbrev pub also_text : Bool → List ℕ
+also_text also = if also then codes "bits a pixel also in 4:4:4" else codes "bits a pixel"
 
-abbrev pub depth_text : ℕ → List ℕ
-depth_text bits = if bits / 16 % 8 == 0 then when (is_set bits 8) (codes "deep colour in 4:4:4") else codes ", " ++ (spaced_words depth_rows bits ++ also_text bits)
+abbrev pub depth_text : ℕ → Bool → List ℕ
+depth_text depths also = if depths == 0 then when also (codes "deep colour in 4:4:4") else codes ", " ++ (spaced_words depth_rows depths ++ also_text also)
 
 -- in units of 5 MHz; 0 reports nothing
 abbrev pub tmds_text : ℕ → List ℕ
@@ -35,56 +40,47 @@ content_rows =
     row 8 (codes "game content") ∷
     row 16 (codes "reserved bit 4") ∷ []
 
--- bits 2 and 1 are reserved
+-- reserved bits of a byte of flags
 abbrev pub spare_text : ℕ → List ℕ
-spare_text bits = if bits / 2 % 4 == 0 then [] else codes ", reserved bits " ++ encode_lower (bits / 2 % 4 * 2 ∷ [])
+spare_text bits = if bits == 0 then [] else codes ", reserved bits " ++ encode_lower (bits ∷ [])
 
-abbrev pub capability_words : ℕ → ℕ → ℕ → List ℕ
-capability_words bits clock presence =
-    when (is_set bits 128) (codes "AI") ++ (depth_text bits ++ (when (is_set bits 1) (codes "dual-link DVI") ++ (spare_text bits ++ (tmds_text clock ++ set_words content_rows presence))))
+abbrev pub capability_words : HdmiBlock → List ℕ
+capability_words b =
+    when b.supports_ai (codes "AI") ++ (depth_text b.deep_colours b.has_deep_444 ++ (when b.has_dual_link (codes "dual-link DVI") ++ (spare_text b.reserved ++ (tmds_text b.max_clock ++ set_words content_rows b.contents))))
 
-abbrev pub capability_meanings : List ℕ → List (List ℕ)
-capability_meanings p = below (capability_words (slice_index p 0) (slice_index p 1) (slice_index p 2))
+abbrev pub capability_meanings : HdmiBlock → List (List ℕ)
+capability_meanings b = below (capability_words b)
 
--- ---- latencies: two bytes for each of bits 7 and 6 of byte 8
+-- ---- latencies
 
--- half the milliseconds, and 1
-abbrev pub latency_text : ℕ → List ℕ
-latency_text n =
-    if n == 0 then codes " unknown"
-    else if nat_le n 251 then codes " " ++ (decimal (2 * (n - 1)) ++ codes " ms")
-    else codes " reserved"
+abbrev pub time_text : ℕ → List ℕ
+time_text time = text_between (codes " ") time (codes " ms")
 
--- 255 says that it has no video, or no audio
-unfoldable pub named_latency : List ℕ → List ℕ → ℕ → List ℕ
-named_latency name none n = if n == 255 then none else name ++ latency_text n
+abbrev pub delay_words : List ℕ → List ℕ → Delay → List ℕ
+delay_words name none Unknown = name ++ codes " unknown"
+delay_words name none (Time time) = name ++ time_text time
+delay_words name none Reserved = name ++ codes " reserved"
+delay_words name none Absent = none
 
-abbrev pub latency_words : List ℕ → List ℕ → List ℕ → List ℕ
-latency_words name none p = named_latency name none (slice_index p 0) ++ named_latency (codes ", audio latency") (codes ", no audio") (slice_index p 1)
+abbrev pub latency_words : List ℕ → List ℕ → Latencies → List ℕ
+latency_words name none l = delay_words name none l.video ++ delay_words (codes ", audio latency") (codes ", no audio") l.audio
 
--- two bytes are there where a bit reports so and the block is long enough
-abbrev pub latency_meanings : Bool → List ℕ → List ℕ → List ℕ → List (List ℕ)
-latency_meanings reported name none p = if reported && nat_le 2 (length p) then below (latency_words name none p) else []
+abbrev pub latency_meanings : List ℕ → List ℕ → Option Latencies → List (List ℕ)
+latency_meanings name none None = []
+latency_meanings name none (Some l) = below (latency_words name none l)
 
--- where the latencies of interlaced video are
-abbrev pub interlaced_place : ℕ → ℕ
-interlaced_place presence = 3 + 2 * (presence / 128)
+abbrev pub plain_latencies : Option Latencies → List (List ℕ)
+plain_latencies l = latency_meanings (codes ", video latency") (codes ", no video") l
 
--- where bit 5 of byte 8 indicates video
-abbrev pub video_place : ℕ → ℕ
-video_place presence = interlaced_place presence + 2 * (presence / 64 % 2)
+abbrev pub interlaced_latencies : Option Latencies → List (List ℕ)
+interlaced_latencies l = latency_meanings (codes ", interlaced video latency") (codes ", no interlaced video") l
 
 -- ---- formats of HDMI's own codes, and 3D
 
--- the code of CTA-861 for the same format (HDMI 1.4, section 8.2.3); 0 for a code that stands for none
-abbrev pub same_code : ℕ → ℕ
-same_code hdmi =
-    if hdmi == 1 then 95 else if hdmi == 2 then 94 else if hdmi == 3 then 93 else if hdmi == 4 then 98 else 0
-
 abbrev pub hdmi_text : ℕ → List ℕ
-hdmi_text hdmi = text_between (codes "HDMI ") hdmi (codes ": ") ++ code_text (same_code hdmi)
+hdmi_text hdmi = text_between (codes "HDMI ") hdmi (codes ": ") ++ code_text (code_of_hdmi hdmi)
 
--- bits 4 and 3: what the sizes of the base block are
+-- what the sizes of the base block are
 abbrev pub image_text : ℕ → List ℕ
 image_text size =
     if size == 1 then codes ", size right in its aspect alone"
@@ -92,11 +88,7 @@ image_text size =
     else if size == 3 then codes ", size to 5 cm"
     else []
 
--- bits 2 to 0 are reserved
-abbrev pub low_text : ℕ → List ℕ
-low_text flags = if flags % 8 == 0 then [] else codes ", reserved bits " ++ encode_lower (flags % 8 ∷ [])
-
--- bits 6 and 5: which codes the structures of 3D below are of
+-- which codes the structures of 3D below are of
 abbrev pub multi_text : ℕ → List ℕ
 multi_text form =
     if form == 1 then codes ", 3D of the first 16 codes"
@@ -104,17 +96,13 @@ multi_text form =
     else if form == 3 then codes ", 3D in a reserved form"
     else []
 
-abbrev pub video_words : ℕ → List ℕ
-video_words flags = when (is_set flags 128) (codes "3D") ++ (multi_text (flags / 32 % 4) ++ (image_text (flags / 8 % 4) ++ low_text flags))
+abbrev pub video_words : HdmiVideo → List ℕ
+video_words v = when v.has_stereo (codes "3D") ++ (multi_text v.multi ++ (image_text v.image_size ++ spare_text v.reserved))
 
 abbrev pub left_meanings : List ℕ → List (List ℕ)
 left_meanings p = below (rest_words p)
 
--- flags, a byte whose top three bits count codes, the codes, and 3D
-abbrev pub code_meanings : ℕ → List ℕ → List (List ℕ)
-code_meanings count p = map hdmi_text (take count p)
-
--- the byte of counts, where it counts more than there is
+-- the counts of codes and of bytes of 3D, where they count more than there is
 abbrev pub format_count : ℕ → List ℕ
 format_count formats = text_between (codes ", counts ") formats (codes " codes and ")
 
@@ -124,48 +112,34 @@ stereo_count bytes = text_between [] bytes (codes " bytes of 3D")
 abbrev pub counts_text : ℕ → ℕ → List ℕ
 counts_text formats bytes = format_count formats ++ stereo_count bytes
 
-abbrev pub over_text : ℕ → List ℕ
-over_text counts = counts_text (counts / 32) (counts % 32)
+abbrev pub over_words : HdmiVideo → List ℕ → List ℕ
+over_words v p = if nat_le (2 + v.codes + v.stereo) (length p) then [] else counts_text v.codes v.stereo
 
-abbrev pub over_words : List ℕ → List ℕ
-over_words p = if nat_le (2 + slice_index p 1 / 32 + slice_index p 1 % 32) (length p) then [] else over_text (slice_index p 1)
+abbrev pub flag_part : HdmiVideo → List ℕ → List (List ℕ)
+flag_part v p = below (video_words v ++ over_words v p)
 
-abbrev pub flag_part : List ℕ → List (List ℕ)
-flag_part p = below (video_words (slice_index p 0) ++ over_words p)
+abbrev pub code_part : HdmiVideo → List ℕ → List (List ℕ)
+code_part v p = map hdmi_text (listed_codes v p)
 
-abbrev pub code_part : List ℕ → List (List ℕ)
-code_part p = code_meanings (slice_index p 1 / 32) (drop 2 p)
+abbrev pub stereo_part : List ℕ → HdmiVideo → List ℕ → List (List ℕ)
+stereo_part svds v p = stereo_meanings svds v.multi (stereo_bytes v p)
 
--- the low five bits of that byte count the bytes of 3D, and what stands after those is reserved
-abbrev pub after_codes : List ℕ → List ℕ
-after_codes p = drop (2 + slice_index p 1 / 32) p
+abbrev pub spare_part : HdmiVideo → List ℕ → List (List ℕ)
+spare_part v p = left_meanings (left_bytes v p)
 
-abbrev pub stereo_part : List ℕ → List ℕ → List (List ℕ)
-stereo_part svds p = stereo_meanings svds (slice_index p 0) (take (slice_index p 1 % 32) (after_codes p))
+unfoldable pub video_meanings : List ℕ → HdmiVideo → List ℕ → List (List ℕ)
+video_meanings svds v p = flag_part v p ++ (code_part v p ++ (stereo_part svds v p ++ spare_part v p))
 
-abbrev pub spare_part : List ℕ → List (List ℕ)
-spare_part p = left_meanings (drop (slice_index p 1 % 32) (after_codes p))
-
-unfoldable pub video_meanings : List ℕ → List ℕ → List (List ℕ)
-video_meanings svds p = flag_part p ++ (code_part p ++ (stereo_part svds p ++ spare_part p))
-
-abbrev pub after_meanings : Bool → List ℕ → List ℕ → List (List ℕ)
-after_meanings reported svds p = if reported && nat_le 2 (length p) then video_meanings svds p else left_meanings p
+abbrev pub video_part : List ℕ → Option HdmiVideo → List ℕ → List (List ℕ)
+video_part svds None p = left_meanings p
+video_part svds (Some v) p = video_meanings svds v p
 
 -- ---- all of it
 
-abbrev pub presence_of : List ℕ → ℕ
-presence_of p = slice_index p 2
-
-abbrev pub plain_latencies : List ℕ → List (List ℕ)
-plain_latencies p = latency_meanings (is_set (presence_of p) 128) (codes ", video latency") (codes ", no video") (drop 3 p)
-
-abbrev pub interlaced_latencies : List ℕ → List (List ℕ)
-interlaced_latencies p = latency_meanings (is_set (presence_of p) 64) (codes ", interlaced video latency") (codes ", no interlaced video") (drop (interlaced_place (presence_of p)) p)
-
-abbrev pub video_part : List ℕ → List ℕ → List (List ℕ)
-video_part svds p = after_meanings (is_set (presence_of p) 32) svds (drop (video_place (presence_of p)) p)
+unfoldable pub block_meanings : List ℕ → HdmiBlock → List ℕ → List (List ℕ)
+block_meanings svds b p =
+    capability_meanings b ++ (plain_latencies b.latencies ++ (interlaced_latencies b.interlaced_latencies ++ video_part svds b.video p))
 
 -- of the video codes of the EDID too, by whose places 3D is told
 unfoldable pub hdmi_meanings : List ℕ → List ℕ → List (List ℕ)
-hdmi_meanings svds p = capability_meanings p ++ (plain_latencies p ++ (interlaced_latencies p ++ video_part svds p))
+hdmi_meanings svds p = block_meanings svds (hdmi_block p) (video_bytes p)

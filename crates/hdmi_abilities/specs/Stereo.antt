@@ -67,10 +67,7 @@ entries svds [] = []
 entries svds (b ∷ []) = entry_text svds (b ∷ []) ∷ []
 entries svds (b ∷ d ∷ more) = if nat_lt (b % 16) 8 then entry_text svds (b ∷ []) ∷ entries svds (d ∷ more) else entry_text svds (b ∷ d ∷ []) ∷ entries svds more
 
--- ---- all of it: bits 6 and 5 of the flags say whether structures stand first, and after them a mask
-
-abbrev pub form_of : ℕ → ℕ
-form_of flags = flags / 32 % 4
+-- ---- all of it: 3D_Multi_present says whether structures stand first, and after them a mask
 
 abbrev pub first_meanings : List ℕ → List ℕ → List (List ℕ)
 first_meanings svds p = structure_line p ++ entries svds (drop 2 p)
@@ -89,5 +86,5 @@ abbrev pub some_part : List ℕ → List ℕ → List (List ℕ)
 some_part svds p = if nat_le 4 (length p) then some_meanings svds p else left_line p
 
 unfoldable pub stereo_meanings : List ℕ → ℕ → List ℕ → List (List ℕ)
-stereo_meanings svds flags p =
-    if form_of flags == 1 then first_part svds p else if form_of flags == 2 then some_part svds p else entries svds p
+stereo_meanings svds multi p =
+    if multi == 1 then first_part svds p else if multi == 2 then some_part svds p else entries svds p

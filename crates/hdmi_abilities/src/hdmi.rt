@@ -1,39 +1,26 @@
 //! What an HDMI block, the vendor specific data block of HDMI (VSDB), means (HDMI 1.4, section 8.3.2).
-ghost use Rattle.std.specs.Prelude.{◌≡◌, ◌≤◌, ◌<◌, ◌+◌, ◌*◌, ◌%◌, ◌++◌, length, take, map, flat_map, slice_index};
+ghost use Rattle.std.specs.Prelude.{◌≡◌, ◌≤◌, ◌<◌, ◌+◌, ◌*◌, ◌++◌, length, map, flat_map};
+ghost use Rattle.std.specs.Option.{ForSome};
 ghost use Rattle.arrayvec.specs.ArrayVec.{array_vec_len};
 ghost use Rattle.hdmi_meaning.specs.Notes.{own_line, when, set_words};
-ghost use Rattle.hdmi_abilities.specs.Hdmi.{also_text, depth_text, tmds_text, content_rows, capability_words, capability_meanings, latency_text, named_latency, latency_words, latency_meanings, same_code, hdmi_text, image_text, low_text, multi_text, format_count, stereo_count, counts_text, over_text, over_words, spare_text, video_words, after_codes, left_meanings, code_meanings, flag_part, code_part, stereo_part, spare_part, video_meanings, after_meanings, plain_latencies, interlaced_latencies, video_part, hdmi_meanings};
+ghost use Rattle.hdmi_abilities.specs.Hdmi.{also_text, depth_text, tmds_text, content_rows, capability_words, capability_meanings, time_text, delay_words, latency_words, latency_meanings, hdmi_text, image_text, multi_text, format_count, stereo_count, counts_text, over_words, spare_text, video_words, left_meanings, flag_part, code_part, stereo_part, spare_part, video_meanings, video_part, plain_latencies, interlaced_latencies, block_meanings, hdmi_meanings};
 
 use crate::stereo::append_stereo;
 use arrayvec::ArrayVec;
 use hdmi_edid::append;
+use hdmi_layout::{Delay, HdmiBlock, HdmiVideo, Latencies, code_of_hdmi, video_bytes};
 use hdmi_meaning::{
-    Bit, NOTE, Note, PAGE, Page, after, append_between, append_bits, append_code, append_decimal,
-    append_line, append_named_hex, append_rest, append_spaced, append_word, append_words, before,
-    bit_rows, byte_at, is_set,
+    Bit, NOTE, Note, PAGE, Page, append_between, append_bits, append_code, append_line,
+    append_named_hex, append_rest, append_spaced, append_word, append_words, bit_rows,
 };
 
 /// A unit of the TMDS clock, in MHz.
 const TMDS_CLOCK: u64 = 5;
-/// Supports_AI
-const AI: u32 = 128;
-/// DC_Y444
-const DEEP_COLOUR_444: u32 = 8;
-/// DVI_Dual
-const DUAL_LINK: u32 = 1;
-/// Latency_Fields_Present
-const LATENCIES: u32 = 128;
-/// I_Latency_Fields_Present
-const INTERLACED_LATENCIES: u32 = 64;
-/// HDMI_Video_present
-const VIDEO: u32 = 32;
-/// 3D_present
-const STEREO: u32 = 128;
 
 const DEPTHS: &[Bit] = bit_rows! {
-    64 "48";
-    32 "36";
-    16 "30";
+    4 "48";
+    2 "36";
+    1 "30";
 };
 
 const CONTENTS: &[Bit] = bit_rows! {
@@ -44,30 +31,28 @@ const CONTENTS: &[Bit] = bit_rows! {
     16 "reserved bit 4";
 };
 
-fn also_text(bits: u8) -> &'static str
-    ensures value { result.now ≡ also_text bits }
+fn also_text(also: bool) -> &'static str
+    ensures value { result.now ≡ also_text also }
     ensures short { length result.now ≤ 26 }
 {
-    if is_set(u32::from(bits), DEEP_COLOUR_444) {
+    if also {
         "bits a pixel also in 4:4:4"
     } else {
         "bits a pixel"
     }
 }
 
-fn append_depths(note: &mut Note, bits: u8)
+fn append_depths(note: &mut Note, depths: u8, also: bool)
     requires { array_vec_len note.old + 148 ≤ NOTE }
-    ensures items { note.new.items ≡ note.old.items ++ depth_text bits }
+    ensures items { note.new.items ≡ note.old.items ++ depth_text depths also }
     ensures len { array_vec_len note.new ≤ array_vec_len note.old + 148 }
 {
-    if bits / 16 % 8 == 0 {
-        if is_set(u32::from(bits), DEEP_COLOUR_444) {
-            append_word(note, b"deep colour in 4:4:4");
-        }
+    if depths == 0 {
+        append_when(note, also, b"deep colour in 4:4:4");
     } else {
         append(note, b", ");
-        append_spaced(note, DEPTHS, u32::from(bits));
-        append(note, also_text(bits).as_bytes());
+        append_spaced(note, DEPTHS, u32::from(depths));
+        append(note, also_text(also).as_bytes());
     }
 }
 
@@ -99,14 +84,14 @@ fn append_when(note: &mut Note, is_there: bool, word: &[u8])
     }
 }
 
-// Appends reserved bits of the flags.
+// Appends reserved bits of a byte of flags.
 fn append_spare(note: &mut Note, bits: u8)
     requires { array_vec_len note.old + 60 ≤ NOTE }
     ensures items { note.new.items ≡ note.old.items ++ spare_text bits }
     ensures len { array_vec_len note.new ≤ array_vec_len note.old + 18 }
 {
-    if bits / 2 % 4 != 0 {
-        append_named_hex(note, b", reserved bits ", &[bits / 2 % 4 * 2]);
+    if bits != 0 {
+        append_named_hex(note, b", reserved bits ", &[bits]);
     }
 }
 
@@ -118,103 +103,90 @@ fn append_contents(note: &mut Note, bits: u32)
     append_bits(note, CONTENTS, bits);
 }
 
-fn capability_note(bits: u8, clock: u8, presence: u8) -> Note
-    ensures value { result.items ≡ capability_words bits clock presence }
+fn capability_note(block: HdmiBlock) -> Note
+    ensures value { result.items ≡ capability_words block }
     ensures len { array_vec_len result ≤ 469 }
 {
     let mut words = ArrayVec::new();
-    append_when(&mut words, is_set(u32::from(bits), AI), b"AI");
-    append_depths(&mut words, bits);
-    append_when(
-        &mut words,
-        is_set(u32::from(bits), DUAL_LINK),
-        b"dual-link DVI",
-    );
-    append_spare(&mut words, bits);
-    append_tmds(&mut words, clock);
-    append_contents(&mut words, u32::from(presence));
+    append_when(&mut words, block.supports_ai, b"AI");
+    append_depths(&mut words, block.deep_colours, block.has_deep_444);
+    append_when(&mut words, block.has_dual_link, b"dual-link DVI");
+    append_spare(&mut words, block.reserved);
+    append_tmds(&mut words, block.max_clock);
+    append_contents(&mut words, u32::from(block.contents));
     words
 }
 
-fn append_capabilities(page: &mut Page, bytes: &[u8])
+fn append_capabilities(page: &mut Page, block: HdmiBlock)
     requires { array_vec_len page.old + 470 ≤ PAGE }
-    ensures items { page.new.items ≡ page.old.items ++ flat_map own_line (capability_meanings bytes.now) }
+    ensures items { page.new.items ≡ page.old.items ++ flat_map own_line (capability_meanings block) }
     ensures len { array_vec_len page.new ≤ array_vec_len page.old + 470 }
 {
-    let words = capability_note(byte_at(bytes, 0), byte_at(bytes, 1), byte_at(bytes, 2));
-    append_words(page, words.as_slice());
+    append_words(page, capability_note(block).as_slice());
 }
 
-fn append_latency(note: &mut Note, latency: u8)
-    requires { array_vec_len note.old + 24 ≤ NOTE }
-    ensures items { note.new.items ≡ note.old.items ++ latency_text latency }
-    ensures len { array_vec_len note.new ≤ array_vec_len note.old + 24 }
-{
-    match latency {
-        0 => append(note, b" unknown"),
-        1..=251 => {
-            append(note, b" ");
-            append_decimal(note, 2 * (u64::from(latency) - 1));
-            append(note, b" ms");
-        }
-        _ => append(note, b" reserved"),
-    }
-}
-
-#[tactic(auto, unfolding(crate::specs::Hdmi::named_latency))]
-fn append_named_latency(note: &mut Note, name: &[u8], none: &[u8], latency: u8)
+fn append_both(note: &mut Note, name: &[u8], word: &[u8])
     requires short { length name.now ≤ 30 }
-    requires short_none { length none.now ≤ 30 }
+    requires short_word { length word.now ≤ 24 }
     requires room { array_vec_len note.old + 54 ≤ NOTE }
-    ensures items { note.new.items ≡ note.old.items ++ named_latency name.now none.now latency }
+    ensures items { note.new.items ≡ note.old.items ++ (name.now ++ word.now) }
     ensures len { array_vec_len note.new ≤ array_vec_len note.old + 54 }
 {
-    if latency == 255 {
-        append(note, none);
-    } else {
-        append(note, name);
-        append_latency(note, latency);
+    append(note, name);
+    append(note, word);
+}
+
+fn append_time(note: &mut Note, name: &[u8], time: u16)
+    requires short { length name.now ≤ 30 }
+    requires room { array_vec_len note.old + 154 ≤ NOTE }
+    ensures items { note.new.items ≡ note.old.items ++ (name.now ++ time_text time) }
+    ensures len { array_vec_len note.new ≤ array_vec_len note.old + 54 }
+{
+    append(note, name);
+    append_between(note, b" ", u64::from(time), b" ms");
+}
+
+fn append_delay(note: &mut Note, name: &[u8], none: &[u8], delay: Delay)
+    requires short { length name.now ≤ 30 }
+    requires short_none { length none.now ≤ 30 }
+    requires room { array_vec_len note.old + 154 ≤ NOTE }
+    ensures items { note.new.items ≡ note.old.items ++ delay_words name.now none.now delay }
+    ensures len { array_vec_len note.new ≤ array_vec_len note.old + 54 }
+{
+    match delay {
+        Delay::Unknown => append_both(note, name, b" unknown"),
+        Delay::Time(time) => append_time(note, name, time),
+        Delay::Reserved => append_both(note, name, b" reserved"),
+        Delay::Absent => append(note, none),
     }
 }
 
-fn latency_note(name: &[u8], none: &[u8], bytes: &[u8]) -> Note
+fn latency_note(name: &[u8], none: &[u8], latencies: Latencies) -> Note
     requires short { length name.now ≤ 30 }
     requires short_none { length none.now ≤ 30 }
-    ensures value { result.items ≡ latency_words name.now none.now bytes.now }
+    ensures value { result.items ≡ latency_words name.now none.now latencies }
     ensures len { array_vec_len result ≤ 108 }
 {
     let mut words = ArrayVec::new();
-    append_named_latency(&mut words, name, none, byte_at(bytes, 0));
-    append_named_latency(
+    append_delay(&mut words, name, none, latencies.video);
+    append_delay(
         &mut words,
         b", audio latency",
         b", no audio",
-        byte_at(bytes, 1),
+        latencies.audio,
     );
     words
 }
 
-fn append_latencies(page: &mut Page, reported: bool, name: &[u8], none: &[u8], bytes: &[u8])
+fn append_latencies(page: &mut Page, name: &[u8], none: &[u8], latencies: Option<Latencies>)
     requires short { length name.now ≤ 30 }
     requires short_none { length none.now ≤ 30 }
     requires room { array_vec_len page.old + 109 ≤ PAGE }
-    ensures items { page.new.items ≡ page.old.items ++ flat_map own_line (latency_meanings reported name.now none.now bytes.now) }
+    ensures items { page.new.items ≡ page.old.items ++ flat_map own_line (latency_meanings name.now none.now latencies) }
     ensures len { array_vec_len page.new ≤ array_vec_len page.old + 109 }
 {
-    if reported && 2 <= bytes.len() {
-        append_words(page, latency_note(name, none, bytes).as_slice());
-    }
-}
-
-fn same_code(hdmi: u8) -> u8
-    ensures { result ≡ same_code hdmi }
-{
-    match hdmi {
-        1 => 95,
-        2 => 94,
-        3 => 93,
-        4 => 98,
-        _ => 0,
+    if let Some(latencies) = latencies {
+        append_words(page, latency_note(name, none, latencies).as_slice());
     }
 }
 
@@ -224,7 +196,7 @@ fn hdmi_note(hdmi: u8) -> Note
 {
     let mut note = ArrayVec::new();
     append_between(&mut note, b"HDMI ", u64::from(hdmi), b": ");
-    append_code(&mut note, same_code(hdmi));
+    append_code(&mut note, code_of_hdmi(hdmi));
     note
 }
 
@@ -263,25 +235,15 @@ fn multi_text(form: u8) -> &'static str
     }
 }
 
-fn append_low(note: &mut Note, flags: u8)
-    requires { array_vec_len note.old + 60 ≤ NOTE }
-    ensures items { note.new.items ≡ note.old.items ++ low_text flags }
-    ensures len { array_vec_len note.new ≤ array_vec_len note.old + 18 }
-{
-    if flags % 8 != 0 {
-        append_named_hex(note, b", reserved bits ", &[flags % 8]);
-    }
-}
-
-fn video_note(flags: u8) -> Note
-    ensures value { result.items ≡ video_words flags }
+fn video_note(video: HdmiVideo) -> Note
+    ensures value { result.items ≡ video_words video }
     ensures len { array_vec_len result ≤ 116 }
 {
     let mut words = ArrayVec::new();
-    append_when(&mut words, is_set(u32::from(flags), STEREO), b"3D");
-    append(&mut words, multi_text(flags / 32 % 4).as_bytes());
-    append(&mut words, image_text(flags / 8 % 4).as_bytes());
-    append_low(&mut words, flags);
+    append_when(&mut words, video.has_stereo, b"3D");
+    append(&mut words, multi_text(video.multi).as_bytes());
+    append(&mut words, image_text(video.image_size).as_bytes());
+    append_spare(&mut words, video.reserved);
     words
 }
 
@@ -293,15 +255,6 @@ fn append_left(page: &mut Page, bytes: &[u8])
     let mut words: Note = ArrayVec::new();
     append_rest(&mut words, bytes);
     append_words(page, words.as_slice());
-}
-
-fn append_codes(page: &mut Page, count: u8, bytes: &[u8])
-    requires few { count < 8 }
-    requires room { array_vec_len page.old + 856 ≤ PAGE }
-    ensures items { page.new.items ≡ page.old.items ++ flat_map own_line (code_meanings count bytes.now) }
-    ensures len { array_vec_len page.new ≤ array_vec_len page.old + 856 }
-{
-    append_hdmi_codes(page, before(bytes, usize::from(count)));
 }
 
 fn append_format_count(note: &mut Note, formats: u64)
@@ -329,141 +282,111 @@ fn append_counts(note: &mut Note, formats: u64, bytes: u64)
     append_stereo_count(note, bytes);
 }
 
-fn append_over_text(note: &mut Note, counts: u8)
-    requires { array_vec_len note.old + 200 ≤ NOTE }
-    ensures items { note.new.items ≡ note.old.items ++ over_text counts }
-    ensures len { array_vec_len note.new ≤ array_vec_len note.old + 73 }
-{
-    append_counts(note, u64::from(counts / 32), u64::from(counts % 32));
-}
-
 // Appends the counts of codes and of bytes of 3D, where there are fewer.
-fn append_over(note: &mut Note, bytes: &[u8])
+fn append_over(note: &mut Note, video: HdmiVideo, bytes: &[u8])
     requires { array_vec_len note.old + 200 ≤ NOTE }
-    ensures items { note.new.items ≡ note.old.items ++ over_words bytes.now }
+    ensures items { note.new.items ≡ note.old.items ++ over_words video bytes.now }
     ensures len { array_vec_len note.new ≤ array_vec_len note.old + 73 }
 {
-    let counts = byte_at(bytes, 1);
-    if bytes.len() < 2 + usize::from(counts / 32) + usize::from(counts % 32) {
-        append_over_text(note, counts);
+    if bytes.len() < 2 + usize::from(video.codes) + usize::from(video.stereo) {
+        append_counts(note, u64::from(video.codes), u64::from(video.stereo));
     }
 }
 
-fn append_flag_part(page: &mut Page, bytes: &[u8])
+fn append_flag_part(page: &mut Page, video: HdmiVideo, bytes: &[u8])
     requires { array_vec_len page.old + 190 ≤ PAGE }
-    ensures items { page.new.items ≡ page.old.items ++ flat_map own_line (flag_part bytes.now) }
+    ensures items { page.new.items ≡ page.old.items ++ flat_map own_line (flag_part video bytes.now) }
     ensures len { array_vec_len page.new ≤ array_vec_len page.old + 190 }
 {
-    let mut words = video_note(byte_at(bytes, 0));
-    append_over(&mut words, bytes);
+    let mut words = video_note(video);
+    append_over(&mut words, video, bytes);
     append_words(page, words.as_slice());
 }
 
-fn append_code_part(page: &mut Page, bytes: &[u8])
-    requires { array_vec_len page.old + 856 ≤ PAGE }
-    ensures items { page.new.items ≡ page.old.items ++ flat_map own_line (code_part bytes.now) }
+fn append_code_part(page: &mut Page, video: HdmiVideo, bytes: &[u8])
+    requires few { video.codes < 8 }
+    requires room { array_vec_len page.old + 856 ≤ PAGE }
+    ensures items { page.new.items ≡ page.old.items ++ flat_map own_line (code_part video bytes.now) }
     ensures len { array_vec_len page.new ≤ array_vec_len page.old + 856 }
 {
-    append_codes(page, byte_at(bytes, 1) / 32, after(bytes, 2));
+    append_hdmi_codes(page, video.codes_in(bytes));
 }
 
-fn after_codes(bytes: &[u8]) -> &[u8]
-    ensures value { result.now ≡ after_codes bytes.now }
-    ensures few { length result.now ≤ length bytes.now }
-{
-    after(bytes, 2 + usize::from(byte_at(bytes, 1) / 32))
-}
-
-// The bytes of 3D, as the low bits of the byte of counts have it.
-fn stereo_bytes(bytes: &[u8]) -> &[u8]
-    ensures value { result.now ≡ take (slice_index bytes.now 1 % 32) (after_codes bytes.now) }
-    ensures few { length result.now ≤ 31 }
-{
-    before(after_codes(bytes), usize::from(byte_at(bytes, 1) % 32))
-}
-
-fn append_stereo_part(page: &mut Page, codes: &[u8], bytes: &[u8])
-    requires { array_vec_len page.old + 11100 ≤ PAGE }
-    ensures items { page.new.items ≡ page.old.items ++ flat_map own_line (stereo_part codes.now bytes.now) }
+fn append_stereo_part(page: &mut Page, codes: &[u8], video: HdmiVideo, bytes: &[u8])
+    requires few { video.stereo < 32 }
+    requires room { array_vec_len page.old + 11100 ≤ PAGE }
+    ensures items { page.new.items ≡ page.old.items ++ flat_map own_line (stereo_part codes.now video bytes.now) }
     ensures len { array_vec_len page.new ≤ array_vec_len page.old + 11100 }
 {
-    append_stereo(page, codes, byte_at(bytes, 0), stereo_bytes(bytes));
+    append_stereo(page, codes, video.multi, video.stereo_in(bytes));
 }
 
-fn append_spare_part(page: &mut Page, bytes: &[u8])
+fn append_spare_part(page: &mut Page, video: HdmiVideo, bytes: &[u8])
     requires few { length bytes.now ≤ 128 }
     requires room { array_vec_len page.old + 271 ≤ PAGE }
-    ensures { page.new.items ≡ page.old.items ++ flat_map own_line (spare_part bytes.now) }
+    ensures { page.new.items ≡ page.old.items ++ flat_map own_line (spare_part video bytes.now) }
 {
-    let count = usize::from(byte_at(bytes, 1) % 32);
-    append_left(page, after(after_codes(bytes), count));
+    append_left(page, video.left_in(bytes));
 }
 
 #[tactic(auto, unfolding(crate::specs::Hdmi::video_meanings))]
-fn append_videos(page: &mut Page, codes: &[u8], bytes: &[u8])
+fn append_videos(page: &mut Page, codes: &[u8], video: HdmiVideo, bytes: &[u8])
     requires few { length bytes.now ≤ 128 }
+    requires few_codes { video.codes < 8 }
+    requires few_stereo { video.stereo < 32 }
     requires room { array_vec_len page.old + 12500 ≤ PAGE }
-    ensures { page.new.items ≡ page.old.items ++ flat_map own_line (video_meanings codes.now bytes.now) }
+    ensures { page.new.items ≡ page.old.items ++ flat_map own_line (video_meanings codes.now video bytes.now) }
 {
-    append_flag_part(page, bytes);
-    append_code_part(page, bytes);
-    append_stereo_part(page, codes, bytes);
-    append_spare_part(page, bytes);
+    append_flag_part(page, video, bytes);
+    append_code_part(page, video, bytes);
+    append_stereo_part(page, codes, video, bytes);
+    append_spare_part(page, video, bytes);
 }
 
-fn append_after(page: &mut Page, reported: bool, codes: &[u8], bytes: &[u8])
+fn append_video_part(page: &mut Page, codes: &[u8], video: Option<HdmiVideo>, bytes: &[u8])
     requires few { length bytes.now ≤ 128 }
+    requires counted { ForSome video (λ v. (v.codes < 8) × (v.stereo < 32)) }
     requires room { array_vec_len page.old + 12500 ≤ PAGE }
-    ensures { page.new.items ≡ page.old.items ++ flat_map own_line (after_meanings reported codes.now bytes.now) }
+    ensures { page.new.items ≡ page.old.items ++ flat_map own_line (video_part codes.now video bytes.now) }
 {
-    if reported && 2 <= bytes.len() {
-        append_videos(page, codes, bytes);
-    } else {
-        append_left(page, bytes);
+    match video {
+        None => append_left(page, bytes),
+        Some(video) => append_videos(page, codes, video, bytes),
     }
 }
 
-fn append_plain_latencies(page: &mut Page, bytes: &[u8])
+fn append_plain_latencies(page: &mut Page, latencies: Option<Latencies>)
     requires { array_vec_len page.old + 109 ≤ PAGE }
-    ensures items { page.new.items ≡ page.old.items ++ flat_map own_line (plain_latencies bytes.now) }
+    ensures items { page.new.items ≡ page.old.items ++ flat_map own_line (plain_latencies latencies) }
     ensures len { array_vec_len page.new ≤ array_vec_len page.old + 109 }
 {
-    let reported = is_set(u32::from(byte_at(bytes, 2)), LATENCIES);
-    append_latencies(
-        page,
-        reported,
-        b", video latency",
-        b", no video",
-        after(bytes, 3),
-    );
+    append_latencies(page, b", video latency", b", no video", latencies);
 }
 
-fn append_interlaced_latencies(page: &mut Page, bytes: &[u8])
+fn append_interlaced_latencies(page: &mut Page, latencies: Option<Latencies>)
     requires { array_vec_len page.old + 109 ≤ PAGE }
-    ensures items { page.new.items ≡ page.old.items ++ flat_map own_line (interlaced_latencies bytes.now) }
+    ensures items { page.new.items ≡ page.old.items ++ flat_map own_line (interlaced_latencies latencies) }
     ensures len { array_vec_len page.new ≤ array_vec_len page.old + 109 }
 {
-    let presence = byte_at(bytes, 2);
-    let place = 3 + 2 * usize::from(presence / 128);
-    let reported = is_set(u32::from(presence), INTERLACED_LATENCIES);
     append_latencies(
         page,
-        reported,
         b", interlaced video latency",
         b", no interlaced video",
-        after(bytes, place),
+        latencies,
     );
 }
 
-fn append_video_part(page: &mut Page, codes: &[u8], bytes: &[u8])
+#[tactic(auto, unfolding(crate::specs::Hdmi::block_meanings))]
+fn append_of(page: &mut Page, codes: &[u8], block: HdmiBlock, bytes: &[u8])
     requires few { length bytes.now ≤ 128 }
-    requires room { array_vec_len page.old + 12500 ≤ PAGE }
-    ensures { page.new.items ≡ page.old.items ++ flat_map own_line (video_part codes.now bytes.now) }
+    requires counted { ForSome block.video (λ v. (v.codes < 8) × (v.stereo < 32)) }
+    requires room { array_vec_len page.old + 13200 ≤ PAGE }
+    ensures { page.new.items ≡ page.old.items ++ flat_map own_line (block_meanings codes.now block bytes.now) }
 {
-    let presence = byte_at(bytes, 2);
-    let place = 3 + 2 * usize::from(presence / 128) + 2 * usize::from(presence / 64 % 2);
-    let reported = is_set(u32::from(presence), VIDEO);
-    append_after(page, reported, codes, after(bytes, place));
+    append_capabilities(page, block);
+    append_plain_latencies(page, block.latencies);
+    append_interlaced_latencies(page, block.interlaced_latencies);
+    append_video_part(page, codes, block.video, bytes);
 }
 
 /// Appends what an HDMI block means, of the video codes of its EDID and the bytes after its physical address: capabilities;
@@ -474,8 +397,5 @@ pub fn append_hdmi(page: &mut Page, codes: &[u8], bytes: &[u8])
     requires room { array_vec_len page.old + 13200 ≤ PAGE }
     ensures { page.new.items ≡ page.old.items ++ flat_map own_line (hdmi_meanings codes.now bytes.now) }
 {
-    append_capabilities(page, bytes);
-    append_plain_latencies(page, bytes);
-    append_interlaced_latencies(page, bytes);
-    append_video_part(page, codes, bytes);
+    append_of(page, codes, HdmiBlock::of(bytes), video_bytes(bytes));
 }

@@ -2,7 +2,7 @@
 ghost use Rattle.std.specs.Prelude.{◌≡◌, ◌≤◌, ◌<◌, ◌+◌, ◌*◌, ◌++◌, [], All, length, drop, flat_map};
 ghost use Rattle.arrayvec.specs.ArrayVec.{array_vec_len};
 ghost use Rattle.hdmi_meaning.specs.Notes.{own_line, set_words};
-ghost use Rattle.hdmi_abilities.specs.Stereo.{entries, entry_rows, entry_text, first_meanings, first_part, form_of, high_first, left_line, mask_meanings, masked_line, masked_lines, masked_text, some_meanings, some_part, stereo_meanings, structure_line, structure_rows, weights};
+ghost use Rattle.hdmi_abilities.specs.Stereo.{entries, entry_rows, entry_text, first_meanings, first_part, high_first, left_line, mask_meanings, masked_line, masked_lines, masked_text, some_meanings, some_part, stereo_meanings, structure_line, structure_rows, weights};
 
 use arrayvec::ArrayVec;
 use hdmi_edid::append;
@@ -225,15 +225,15 @@ fn append_some_part(page: &mut Page, codes: &[u8], bytes: &[u8])
     }
 }
 
-/// Appends what the bytes of 3D mean, of the video codes of the EDID and the flags before them.
+/// Appends what the bytes of 3D mean, of the video codes of the EDID and 3D_Multi_present.
 #[tactic(auto, unfolding(crate::specs::Stereo::stereo_meanings))]
-pub(crate) fn append_stereo(page: &mut Page, codes: &[u8], flags: u8, bytes: &[u8])
+pub(crate) fn append_stereo(page: &mut Page, codes: &[u8], multi: u8, bytes: &[u8])
     requires few { length bytes.now ≤ 31 }
     requires room { array_vec_len page.old + 11100 ≤ PAGE }
-    ensures items { page.new.items ≡ page.old.items ++ flat_map own_line (stereo_meanings codes.now flags bytes.now) }
+    ensures items { page.new.items ≡ page.old.items ++ flat_map own_line (stereo_meanings codes.now multi bytes.now) }
     ensures len { array_vec_len page.new ≤ array_vec_len page.old + 11100 }
 {
-    match flags / 32 % 4 {
+    match multi {
         1 => append_first_part(page, codes, bytes),
         2 => append_some_part(page, codes, bytes),
         _ => append_entries(page, codes, bytes),

@@ -9,8 +9,9 @@ append_spare_part-requires-clause-room c = omega (arith, c.requires.room, c.appe
 pub returns : goal.returns
 unfolding video_meanings
 returns c =
+    let v = c.args.video in
     let p = c.args.bytes.now in
     let svds = c.args.codes.now in
-    joined _ _ _ (flag_part p) _ c.append_flag_part.ensures.items
-    (joined _ _ _ (code_part p) _ c.append_code_part.ensures.items
-    (joined _ _ _ (stereo_part svds p) (spare_part p) c.append_stereo_part.ensures.items c.append_spare_part.ensures))
+    joined _ _ _ (flag_part v p) _ c.append_flag_part.ensures.items
+    (joined _ _ _ (code_part v p) _ c.append_code_part.ensures.items
+    (joined _ _ _ (stereo_part svds v p) (spare_part v p) c.append_stereo_part.ensures.items c.append_spare_part.ensures))
