@@ -1,12 +1,17 @@
 -- What the rules ask of what stands in a data block (CTA-861-G, section 7.5, unless another is named).
-use Rattle.std.specs.Prelude.{ℕ, ◌+◌, ◌*◌, ◌/◌, ◌%◌, ◌==◌, Bool, true, false, ◌&&◌, ◌||◌, not, nat_lt, if◌then◌else◌, List, [], ◌∷◌, length, slice_index, drop}
+use Rattle.std.specs.Prelude.{ℕ, ◌+◌, ◌/◌, ◌%◌, ◌==◌, Bool, true, false, ◌&&◌, ◌||◌, not, nat_lt, if◌then◌else◌, Option, Some, None, List, [], ◌∷◌, length, slice_index, drop}
 use Rattle.std.specs.List.{list_any}
 use Rattle.hdmi_cta.specs.Audio.{is_audio}
 use Rattle.hdmi_cta.specs.Hdmi.{is_hdmi}
 use Rattle.hdmi_cta.specs.declared.block.DataBlock.{DataBlock}
 use Rattle.hdmi_cta.specs.declared.block.BlockKind.{BlockKind}
 use Rattle.hdmi_cta.specs.declared.block.BlockKind.TheVariants.{Tag0}
-use Rattle.hdmi_parts.specs.BlockParts.{is_extended_kind, is_video_kind, is_speakers, is_forum, hdmi_codes}
+use Rattle.hdmi_parts.specs.BlockParts.{is_extended_kind, is_video_kind, is_speakers, is_forum, hdmi_of, hdmi_codes}
+use Rattle.hdmi_layout.specs.ForumBlock.{forum_block}
+use Rattle.hdmi_layout.specs.declared.forum_block.ForumBlock.{ForumBlock}
+use Rattle.hdmi_layout.specs.declared.hdmi_block.Delay.{Delay}
+use Rattle.hdmi_layout.specs.declared.hdmi_block.Delay.TheVariants.{Time}
+use Rattle.hdmi_layout.specs.declared.hdmi_block.Latencies.{Latencies}
 use Rattle.hdmi_contents.specs.declared.contents.Sort.{Sort}
 use Rattle.hdmi_contents.specs.declared.contents.Sort.TheVariants.{VideoCapability, Colorimetry, HdrStatic, Map, Speakers, Forum}
 use Rattle.hdmi_contents.specs.declared.contents.Slip.{Slip}
@@ -81,44 +86,50 @@ has_reserved_hdmi b = is_hdmi b && list_any is_reserved_hdmi (hdmi_codes b.paylo
 
 -- ---- the HDMI Forum's capabilities (HDMI 2.1, section 10.3.2)
 
--- a byte from the version on, which stands after three bytes of the vendor's, or of the tag's
-abbrev pub forum_byte : DataBlock → ℕ → ℕ
-forum_byte b place = slice_index b.payload.items (3 + place)
+-- from the version on, which stands after three bytes of the vendor's, or of the tag's
+abbrev pub forum_of : DataBlock → ForumBlock
+forum_of b = forum_block (drop 3 b.payload.items)
 
 -- in units of 5 MHz: 0, where it is at most 340 MHz, else above that and at most 600 MHz
 abbrev pub is_ill_clock : ℕ → Bool
 is_ill_clock clock = (nat_lt 0 clock && nat_lt clock 69) || nat_lt 120 clock
 
 abbrev pub has_ill_clock : DataBlock → Bool
-has_ill_clock b = is_forum_block b && is_ill_clock (forum_byte b 1)
+has_ill_clock b = is_forum_block b && is_ill_clock (forum_of b).max_rate
 
--- a fixed rate link, the high half of byte 3, is set up by SCDC, bit 7 of byte 2
+-- a fixed rate link is set up by SCDC
 abbrev pub lacks_scdc : DataBlock → Bool
-lacks_scdc b = is_forum_block b && nat_lt 15 (forum_byte b 3) && nat_lt (forum_byte b 2) 128
+lacks_scdc b = is_forum_block b && nat_lt 0 (forum_of b).fixed_rate && not (forum_of b).has_scdc
 
 -- the least rate is at most 48 Hz; the greatest is 0, or 100 Hz and more with a least one
 abbrev pub are_ill_rates : ℕ → ℕ → Bool
 are_ill_rates least most = nat_lt 48 least || (nat_lt 0 most && (nat_lt most 100 || (least == 0)))
 
--- bits 5 to 0 of byte 5, and its other two above the eight of byte 6
 abbrev pub has_ill_rates : DataBlock → Bool
-has_ill_rates b = is_forum_block b && are_ill_rates (forum_byte b 5 % 64) (forum_byte b 5 / 64 * 256 + forum_byte b 6)
+has_ill_rates b = is_forum_block b && are_ill_rates (forum_of b).least_refresh (forum_of b).greatest_refresh
 
--- ---- latencies (HDMI 1.4, section 8.3.2): a byte is half the milliseconds, and 1; 0, and 252 and more, tell of none
-
-abbrev pub is_latency : ℕ → Bool
-is_latency byte = nat_lt 0 byte && nat_lt byte 252
+-- ---- latencies (HDMI 1.4, section 8.3.2)
 
 -- sound is late by more than 20 ms
-abbrev pub is_late : ℕ → ℕ → Bool
-is_late video audio = is_latency video && is_latency audio && nat_lt (video + 10) audio
+abbrev pub comes_after : ℕ → Delay → Bool
+comes_after video (Time audio) = nat_lt (video + 20) audio
+comes_after video other = false
 
--- bit 7 of the eighth byte says that two bytes follow it, and bit 6 that two for interlaced video do
+abbrev pub is_late : Delay → Delay → Bool
+is_late (Time video) audio = comes_after video audio
+is_late other audio = false
+
+abbrev pub has_late : Option Latencies → Bool
+has_late None = false
+has_late (Some l) = is_late l.video l.audio
+
+-- latencies of interlaced video come with those of the other
+abbrev pub are_late : Option Latencies → Option Latencies → Bool
+are_late None interlaced = false
+are_late (Some l) interlaced = is_late l.video l.audio || has_late interlaced
+
 abbrev pub has_late_sound : DataBlock → Bool
-has_late_sound b =
-    is_hdmi b && (slice_index b.payload.items 7 / 128 % 2 == 1) &&
-    (is_late (slice_index b.payload.items 8) (slice_index b.payload.items 9) ||
-    ((slice_index b.payload.items 7 / 64 % 2 == 1) && is_late (slice_index b.payload.items 10) (slice_index b.payload.items 11)))
+has_late_sound b = is_hdmi b && are_late (hdmi_of b).latencies (hdmi_of b).interlaced_latencies
 
 -- ---- all of them
 

@@ -1,10 +1,12 @@
 //! What the rules ask of what stands in a data block.
-ghost use Rattle.std.specs.Prelude.{◌≡◌, ◌≤◌, slice_index};
+ghost use Rattle.std.specs.Prelude.{◌≡◌, slice_index};
 ghost use Rattle.std.specs.List.{list_any};
-ghost use Rattle.hdmi_contents.specs.Contents.{has_extended_tag, is_forum_block, is_of_sort, least_length, has_ill_length, lists_format_zero, has_format_zero, has_reserved_hdr, is_reserved_code, has_reserved_code, is_reserved_hdmi, has_reserved_hdmi, forum_byte, is_ill_clock, has_ill_clock, lacks_scdc, are_ill_rates, has_ill_rates, is_latency, is_late, has_late_sound, has_slip};
+ghost use Rattle.hdmi_contents.specs.Contents.{has_extended_tag, is_forum_block, is_of_sort, least_length, has_ill_length, lists_format_zero, has_format_zero, has_reserved_hdr, is_reserved_code, has_reserved_code, is_reserved_hdmi, has_reserved_hdmi, forum_of, is_ill_clock, has_ill_clock, lacks_scdc, are_ill_rates, has_ill_rates, comes_after, is_late, has_late, are_late, has_late_sound, has_slip};
 
+use hdmi_core::after;
 use hdmi_cta::{BlockKind, DataBlock};
-use hdmi_parts::{hdmi_codes, is_forum, is_speakers};
+use hdmi_layout::{Delay, ForumBlock, Latencies};
+use hdmi_parts::{hdmi_codes, hdmi_of, is_forum, is_speakers};
 
 /// The extended tag of a video capability block.
 const VIDEO_CAPABILITY: u8 = 0x00;
@@ -20,6 +22,8 @@ const MAP_420: u8 = 0x0f;
 const OVERRIDE: u8 = 0x78;
 /// That of the HDMI Forum's sink capabilities.
 const SINK_CAPABILITY: u8 = 0x79;
+/// Where the version of the HDMI Forum's capabilities stands.
+const VERSION: usize = 3;
 /// The greatest code of a video format.
 const LAST_CODE: u8 = 219;
 /// The greatest code of HDMI's own.
@@ -33,8 +37,8 @@ const MOST_LEAST_RATE: u16 = 48;
 /// What the greatest rate of variable refresh is at least, in Hz.
 const LEAST_MOST_RATE: u16 = 100;
 
-/// How late sound may be, in units of 2 ms.
-const MOST_LATE: u16 = 10;
+/// How late sound may be, in milliseconds.
+const MOST_LATE: u32 = 20;
 
 /// A sort of data blocks of which an extension has one at most.
 #[derive(Clone, Copy, Debug, PartialEq, Eq)]
@@ -189,12 +193,11 @@ fn has_reserved_hdmi(block: &DataBlock) -> bool
     block.is_hdmi() && some_reserved_hdmi(hdmi_codes(block.payload.as_slice()))
 }
 
-/// A byte of the HDMI Forum's capabilities, from the version on.
-fn forum_byte(block: &DataBlock, place: usize) -> u8
-    requires { place ≤ 6 }
-    ensures { result ≡ forum_byte block.now place }
+/// What the HDMI Forum's capabilities say, from the version on.
+fn forum_of(block: &DataBlock) -> ForumBlock
+    ensures { result ≡ forum_of block.now }
 {
-    byte_at(block, 3 + place)
+    ForumBlock::of(after(block.payload.as_slice(), VERSION))
 }
 
 fn is_ill_clock(clock: u8) -> bool
@@ -206,14 +209,15 @@ fn is_ill_clock(clock: u8) -> bool
 fn has_ill_clock(block: &DataBlock) -> bool
     ensures { result ≡ has_ill_clock block.now }
 {
-    is_forum_block(block) && is_ill_clock(forum_byte(block, 1))
+    is_forum_block(block) && is_ill_clock(forum_of(block).max_rate)
 }
 
 /// Whether there is a fixed rate link without SCDC.
 fn lacks_scdc(block: &DataBlock) -> bool
     ensures { result ≡ lacks_scdc block.now }
 {
-    is_forum_block(block) && 15 < forum_byte(block, 3) && forum_byte(block, 2) < 128
+    let forum = forum_of(block);
+    is_forum_block(block) && 0 < forum.fixed_rate && !forum.has_scdc
 }
 
 fn are_ill_rates(least: u16, most: u16) -> bool
@@ -225,36 +229,53 @@ fn are_ill_rates(least: u16, most: u16) -> bool
 fn has_ill_rates(block: &DataBlock) -> bool
     ensures { result ≡ has_ill_rates block.now }
 {
-    let rates = u16::from(forum_byte(block, 5));
-    is_forum_block(block)
-        && are_ill_rates(
-            rates % 64,
-            rates / 64 * 256 + u16::from(forum_byte(block, 6)),
-        )
+    let forum = forum_of(block);
+    is_forum_block(block) && are_ill_rates(u16::from(forum.least_refresh), forum.greatest_refresh)
 }
 
-fn is_latency(byte: u8) -> bool
-    ensures { result ≡ is_latency byte }
+/// Whether sound is late by more than 20 ms, after so many milliseconds of video.
+fn comes_after(video: u16, audio: Delay) -> bool
+    ensures { result ≡ comes_after video audio }
 {
-    0 < byte && byte < 252
+    match audio {
+        Delay::Time(audio) => u32::from(video) + MOST_LATE < u32::from(audio),
+        Delay::Unknown | Delay::Reserved | Delay::Absent => false,
+    }
 }
 
-/// Whether sound is late by more than 20 ms.
-fn is_late(video: u8, audio: u8) -> bool
+fn is_late(video: Delay, audio: Delay) -> bool
     ensures { result ≡ is_late video audio }
 {
-    is_latency(video) && is_latency(audio) && u16::from(video) + MOST_LATE < u16::from(audio)
+    match video {
+        Delay::Time(video) => comes_after(video, audio),
+        Delay::Unknown | Delay::Reserved | Delay::Absent => false,
+    }
+}
+
+fn has_late(latencies: Option<Latencies>) -> bool
+    ensures { result ≡ has_late latencies }
+{
+    match latencies {
+        None => false,
+        Some(latencies) => is_late(latencies.video, latencies.audio),
+    }
+}
+
+fn are_late(latencies: Option<Latencies>, interlaced: Option<Latencies>) -> bool
+    ensures { result ≡ are_late latencies interlaced }
+{
+    match latencies {
+        None => false,
+        Some(latencies) => is_late(latencies.video, latencies.audio) || has_late(interlaced),
+    }
 }
 
 /// Whether the sound of an HDMI block is late, for plain or for interlaced video.
 fn has_late_sound(block: &DataBlock) -> bool
     ensures { result ≡ has_late_sound block.now }
 {
-    let presence = byte_at(block, 7);
-    block.is_hdmi()
-        && presence / 128 % 2 == 1
-        && (is_late(byte_at(block, 8), byte_at(block, 9))
-            || presence / 64 % 2 == 1 && is_late(byte_at(block, 10), byte_at(block, 11)))
+    let hdmi = hdmi_of(block);
+    block.is_hdmi() && are_late(hdmi.latencies, hdmi.interlaced_latencies)
 }
 
 /// Whether this is wrong in a data block.
