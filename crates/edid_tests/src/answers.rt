@@ -5,6 +5,7 @@ use crate::extensions::{self, address_reported, addressed_reported, heard_report
 use crate::neighbours::{self, neighbours_reported};
 use crate::samples::{comes_out, owned, parted};
 use crate::texts::{self, change_reported, fronts_reported, refusals_reported, text_reported};
+use crate::words::{self as payloads, canonical_reported, words_reported};
 use hdmi_blocks::AudioFrom;
 use std::process::Abort;
 
@@ -34,6 +35,8 @@ fn reported(rt: &(impl Abort + AllocGlobal), asked: &str) -> String {
         "text" => text_reported(rt, words),
         "fronts" => fronts_reported(rt, words),
         "neighbours" => neighbours_reported(rt, words),
+        "words" => words_reported(rt, words),
+        "canonical" => canonical_reported(rt, words),
         _ => blocks_reported(rt, verb, words),
     }
 }
@@ -59,4 +62,5 @@ fn texts_are_read_and_written(rt: HostRuntime) {
     are_reported(&rt, texts::RETURNED);
     are_reported(&rt, texts::FRONTS);
     are_reported(&rt, neighbours::HASHES);
+    are_reported(&rt, payloads::CASES);
 }

@@ -23,3 +23,5 @@ mod sinks;
 mod texts;
 #[cfg(test)]
 mod trees;
+#[cfg(test)]
+mod words;

@@ -1,0 +1,5 @@
+pub mod Rows
+pub mod Video
+pub mod Audio
+pub mod Speakers
+pub mod Canonical

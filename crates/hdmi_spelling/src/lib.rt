@@ -1,0 +1,11 @@
+//! EDIDs' texts with payloads in words, as `video 16* 4 3` for `video 900403`: what the words stand for, and the text with
+//! them in hex.
+#![tactic(auto)]
+
+mod audio;
+mod canonical;
+mod rows;
+mod speakers;
+mod video;
+
+pub use canonical::{canonical_text, in_words};
