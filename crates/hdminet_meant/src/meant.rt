@@ -2,7 +2,7 @@
 use crate::expected::add_expected_meant;
 use crate::frames::add_frame_meant;
 use crate::keys::is_of_key;
-use crate::names::{add_header_name_meant, add_name_meant};
+use crate::names::{add_header_name_meant, add_name_meant, add_named_header};
 use crate::topology::add_topology_meant;
 use crate::wanted::add_nearest_of;
 use cec_asm::ScriptCause;
@@ -192,6 +192,20 @@ fn of_script_name(draft: &mut Draft, place: Place<'_>, line: &str, word: &str, n
     }
 }
 
+// What the frame of a script may have been meant for.
+fn of_script_frame(
+    draft: &mut Draft,
+    place: Place<'_>,
+    cause: AssembleError,
+    line: &str,
+    word: &str,
+    number: usize,
+) {
+    if cause != AssembleError::Address || !add_named_header(draft, place, word) {
+        add_frame_meant(draft, cause, line, number);
+    }
+}
+
 // What a word of a script may have been meant for, by its number in the line without a label.
 fn of_script(
     draft: &mut Draft,
@@ -208,7 +222,7 @@ fn of_script(
         ScriptCause::Name => of_script_name(draft, place, line, word, number),
         ScriptCause::Number => of_script_number(draft, line, word, number),
         ScriptCause::Word => of_script_word(draft, what, line, word, number),
-        ScriptCause::Frame(cause) => add_frame_meant(draft, cause, line, number),
+        ScriptCause::Frame(cause) => of_script_frame(draft, place, cause, line, word, number),
         ScriptCause::Width
         | ScriptCause::Order
         | ScriptCause::Close

@@ -82,3 +82,34 @@ fn undeclared_in<'a>(place: Place<'_>, header: &'a str) -> Option<&'a str> {
 pub fn add_header_name_meant(draft: &mut Draft, place: Place<'_>, word: &str) {
     add_name_meant(draft, place, undeclared_in(place, word).unwrap_or(word));
 }
+
+// A part of a header as it is to stand there, and what is missing before it: a hex digit, or the name of a device after an `@`.
+fn part_meant<'a>(place: Place<'_>, part: &'a str) -> Option<(&'static str, &'a str)> {
+    if matches!(part.as_bytes(), [b'0'..=b'9' | b'a'..=b'f']) {
+        return Some(("", part));
+    }
+    let name = part.strip_prefix("@").unwrap_or(part);
+    if is_declared(place, name) {
+        Some(("@", name))
+    } else {
+        None
+    }
+}
+
+/// A header whose names have no `@`. Returns whether it is one.
+pub fn add_named_header(draft: &mut Draft, place: Place<'_>, word: &str) -> bool {
+    let Some((from, to)) = word.split_once('>') else {
+        return false;
+    };
+    let Some((before_from, from)) = part_meant(place, from) else {
+        return false;
+    };
+    let Some((before_to, to)) = part_meant(place, to) else {
+        return false;
+    };
+    writeln!(
+        draft,
+        "  `{word}`: did you mean `{before_from}{from}>{before_to}{to}`?"
+    );
+    true
+}

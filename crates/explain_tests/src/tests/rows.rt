@@ -61,6 +61,10 @@ const FRAMES: &str = "\
 image-view-on|image-view-on|`I>D` is missing before `image-view-on`
 @p1>@avrr image-view-on|@p1>@avrr|`avrr`: did you mean `avr`?
 @dvd>@tv image-view-on|@dvd>@tv|the topology has `tv`, `avr`, `p1`, `dut`
+p1>tv image-view-on|p1>tv|`p1>tv`: did you mean `@p1>@tv`?
+p1>f active-source 1.0.0.0|p1>f|`p1>f`: did you mean `@p1>f`?
+@p1>tv image-view-on|@p1>tv|`@p1>tv`: did you mean `@p1>@tv`?
+p2>tv image-view-on|p2>tv|a line begins with `I>D`, the hex digits of initiator and destination in lower case, as `4>0`
 @p1>@tv image-vew-on|image-vew-on|`image-vew-on`: did you mean `image-view-on`?
 4>0 image view on|image|`image view on`: did you mean `image-view-on`?
 4>0 op-4|op-4|`op-4`: an opcode has two digits, as `op-04`
