@@ -1,3 +1,4 @@
 pub mod Left
 pub mod Telling
 pub mod Written
+pub mod Long

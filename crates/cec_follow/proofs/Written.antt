@@ -1,5 +1,5 @@
 -- A capture that is followed over a reader and a sink.
-use Rattle.std.proofs.Common.{◌≡◌, ℕ, ◌+◌, Bool, true, false, List, [], ◌∷◌, ◌++◌, take, drop, Option, Some, None, IfSome, Ok, Err, Result, All, refl, sym, ap, subst, ◌∙◌, append_assoc, append-nil, take-append-drop}
+use Rattle.std.proofs.Common.{◌≡◌, ℕ, ◌+◌, Bool, true, false, List, [], ◌∷◌, ◌++◌, length, length-append, take, drop, Option, Some, None, IfSome, Ok, Err, Result, All, refl, sym, ap, subst, ◌∙◌, append_assoc, append-nil, take-append-drop, arith}
 use Rattle.std.specs.Io.KnownBytes.{Appends, IsAtEnd, Keeps, append_known, prepend_known}
 use Rattle.std.proofs.KnownBytes.{Appends-kept, Appends-nil, Appends-trans}
 use Rattle.std.proofs.lemmas.List.Elements.{All-append, All-cons, All-nil}
@@ -13,7 +13,7 @@ use Rattle.cec_signal.specs.declared.fault.CaptureFault.{CaptureFault}
 use Rattle.cec_formats.specs.Captures.{capture_in}
 use Rattle.cec_incoming.specs.Incoming.{IsNext, IsWhole, Leads, text_of_lines}
 use Rattle.cec_incoming.proofs.Coming.{lines_again}
-use Rattle.cec_follow.specs.Follow.{AreLeft, Ends, Follows, HasBegun, HasFollowed, HasHeard, Hears, HearsEnd, HearsLine, IsAtFault, IsCut, IsFaultOf, IsFollowed, IsFront, IsOfWriting, IsReady, Puts, heard_text, text_of}
+use Rattle.cec_follow.specs.Follow.{AreFirst, AreLeft, Ends, Follows, HasFollowed, HasHeard, HaveCome, Hears, HearsEnd, HearsLine, IsAtFault, IsCut, IsCutLast, IsFollowed, IsFront, IsOfWriting, IsOverBy, IsPrompt, IsReady, IsRefused, IsUpToDate, Puts, heard_text, text_of}
 use Rattle.cec_follow.specs.Follow.{IsWhole as IsAll}
 use Rattle.cec_follow.specs.Lines.{form_as, lines_captured}
 use Rattle.cec_follow.specs.declared.error.FollowError.{FollowError}
@@ -46,31 +46,29 @@ puts_all old mid new text error a k = (text, [], sym (append-nil text), Appends-
 
 -- ---- a line
 
-heard_so : (number : ℕ) (line : List ℕ) (old new : Follower) (heard : Heard) (before after : Option (List ℕ)) → HearsLine number line old (Ok heard) new → Puts {F = FollowError} before after (heard_text heard) (Ok tt)
-    → HasHeard number line old new before after
-heard_so number line old new heard before after h put = record { text = heard_text heard; put = put; followed = h }
-
 -- of a text of which all is a front, each front is one
 front_less : (more : Bool) (form : LineForm) (win : Windows) (past : List (List ℕ)) (text front rest : List ℕ) → text ≡ front ++ rest → (so_far : List ℕ) → IsFront more form win past (so_far ++ text) → IsFront more form win past (so_far ++ front)
 front_less more form win past text front rest is so_far h = λ left c all read.
     let f = h left c all read in
     (rest ++ f.0, f.1 ∙ ap (λ t. (so_far ++ t) ++ f.0) is ∙ ap (λ t. t ++ f.0) (sym (append_assoc so_far front rest)) ∙ append_assoc (so_far ++ front) rest f.0)
 
-pub hears : (number : ℕ) (line : List ℕ) (old new : Follower) (heard : Heard) (before after : Option (List ℕ)) (result : Result (Unit {0}) FollowError) → HearsLine number line old (Ok heard) new
+pub hears : (number : ℕ) (line : List ℕ) (old new : Follower) (heard : Heard) (before after : Option (List ℕ)) (result : Result (Unit {0}) FollowError) → HearsLine number line old (Ok heard) new → IsPrompt new
     → Puts before after (heard_text heard) result → IsOfWriting result → Hears number line old new before after result
-hears number line old new heard before after (Ok done) h put writes = heard_so number line old new heard before after h put
-hears number line old new heard before after (Err (Capture fault)) h put writes = absurd writes
-hears number line old new heard before after (Err Read) h put writes = absurd writes
-hears number line old new heard before after (Err TooLong) h put writes = absurd writes
-hears number line old new heard before after (Err (Write count)) h put writes = record {
+hears number line old new heard before after (Ok done) h prompt put writes = record { text = heard_text heard; put = put; followed = h; prompt = prompt }
+hears number line old new heard before after (Err (Capture fault)) h prompt put writes = absurd writes
+hears number line old new heard before after (Err Read) h prompt put writes = absurd writes
+hears number line old new heard before after (Err TooLong) h prompt put writes = absurd writes
+hears number line old new heard before after (Err (Write count)) h prompt put writes = record {
   text = put.0;
+  left = put.1;
   put = put.3;
-  front = λ form win past so_far w.
-      front_less true form win (past ++ line ∷ []) (heard_text heard) put.0 put.1 put.2 so_far (followed_front form win (past ++ line ∷ []) (number + 1) new (so_far ++ heard_text heard) (h form win past so_far w));
+  followed = λ form win past so_far w. subst (λ t. IsFollowed form win (past ++ line ∷ []) (number + 1) new (so_far ++ t)) put.2 (h form win past so_far w);
+  prompt = prompt;
 }
 
-pub fault_heard : (number : ℕ) (line : List ℕ) (old new : Follower) (bytes : Option (List ℕ)) (fault : CaptureFault) → HearsLine number line old (Err fault) new → Hears number line old new bytes bytes (Err (Capture fault))
-fault_heard number line old new bytes fault h = record { put = Appends-nil bytes; refused = h }
+pub fault_heard : (number : ℕ) (line : List ℕ) (old new : Follower) (bytes : Option (List ℕ)) (fault : CaptureFault) → HearsLine number line old (Err fault) new → fault.line ≡ number
+    → Hears number line old new bytes bytes (Err (Capture fault))
+fault_heard number line old new bytes fault h place = record { put = Appends-nil bytes; place = place; refused = h }
 
 -- ---- the end
 
@@ -88,12 +86,13 @@ ends number f heard before after (Err Read) h put writes = absurd writes
 ends number f heard before after (Err TooLong) h put writes = absurd writes
 ends number f heard before after (Err (Write count)) h put writes = record {
   text = put.0;
+  left = put.1;
   put = put.3;
-  front = λ form win past so_far w. front_less false form win past (heard_text heard) put.0 put.1 put.2 so_far (whole_front form win past (so_far ++ heard_text heard) (h form win past so_far w));
+  all = λ form win past so_far w. subst (λ t. IsAll form win past (so_far ++ t)) put.2 (h form win past so_far w);
 }
 
-pub fault_ends : (number : ℕ) (f : Follower) (bytes : Option (List ℕ)) (fault : CaptureFault) → HearsEnd number f (Err fault) → Ends number f bytes bytes (Err (Capture fault))
-fault_ends number f bytes fault h = record { put = Appends-nil bytes; refused = h }
+pub fault_ends : (number : ℕ) (f : Follower) (bytes : Option (List ℕ)) (fault : CaptureFault) → HearsEnd number f (Err fault) → fault.line ≡ number → Ends number f bytes bytes (Err (Capture fault))
+fault_ends number f bytes fault h place = record { put = Appends-nil bytes; place = place; refused = h }
 
 -- ---- an input
 
@@ -118,10 +117,12 @@ Come (Some before) (Some after) lines = lines_of before ≡ lines ++ lines_of af
 
 pub record Going (form : LineForm) (win : Windows) (known now before after : Option (List ℕ)) (f : Follower) (number : ℕ) : Type 0 where
   pub past : List (List ℕ)
+  pub count : number ≡ length past + 1
   pub text : List ℕ
   pub come : Come known now past
   pub whole : All IsWhole past
   pub followed : IsFollowed form win past number f text
+  pub prompt : IsPrompt f
   pub ready : IsReady f
   pub put : Appends before after text
 
@@ -133,13 +134,15 @@ come_none : (known : Option (List ℕ)) → Come known known []
 come_none None = tt
 come_none (Some xs) = refl
 
-pub going_first : (form : LineForm) (win : Windows) (known before : Option (List ℕ)) (left : List ℕ) (f : Follower) → left ≡ [] → IsFollowed form win [] 1 f [] → IsReady f → Going form win known (prepend_known left known) before before f 1
-going_first form win known before left f none w ready = record {
+pub going_first : (form : LineForm) (win : Windows) (known before : Option (List ℕ)) (left : List ℕ) (f : Follower) → left ≡ [] → IsFollowed form win [] 1 f [] → IsPrompt f → IsReady f → Going form win known (prepend_known left known) before before f 1
+going_first form win known before left f none w prompt ready = record {
   past = [];
+  count = refl;
   text = [];
   come = subst (λ (now : Option (List ℕ)). Come known now []) (sym (ap (λ l. prepend_known l known) none ∙ nothing_pending known)) (come_none known);
   whole = All-nil IsWhole;
   followed = w;
+  prompt = prompt;
   ready = ready;
   put = Appends-nil before;
 }
@@ -154,46 +157,38 @@ pub going_more : (form : LineForm) (win : Windows) (known now next before mid af
     → HasHeard number line old new mid after → IsReady new → Going form win known next before after new (number + 1)
 going_more form win known now next before mid after old new number line g whole leads h ready = record {
   past = g.past ++ line ∷ [];
+  count = let more : length (g.past ++ line ∷ []) ≡ length g.past + 1 = length-append g.past (line ∷ []) in let count = g.count in omega (arith, more, count);
   text = g.text ++ h.text;
   come = come_more known now next g.past line g.come leads;
   whole = All-append IsWhole g.past (line ∷ []) g.whole (All-cons IsWhole line [] whole (All-nil IsWhole));
   followed = h.followed form win g.past g.text g.followed;
+  prompt = h.prompt;
   ready = ready;
   put = Appends-trans before mid after g.text h.text g.put h.put;
 }
 
 -- the lines that have come are the first of those of the input
-came_first : (known now : Option (List ℕ)) (past : List (List ℕ)) → Come known now past → IfSome known (λ text. (rest : List (List ℕ)) × (lines_of text ≡ past ++ rest) × AreLeft true rest)
+pub came_first : (known now : Option (List ℕ)) (past : List (List ℕ)) → Come known now past → AreFirst known past
 came_first None now past a = tt
 came_first (Some xs) None past a = absurd a
-came_first (Some xs) (Some ys) past a = (lines_of ys, a, tt)
+came_first (Some xs) (Some ys) past a = (lines_of ys, a)
 
 -- or all of them
-came_all : (known now : Option (List ℕ)) (past : List (List ℕ)) → Come known now past → IsAtEnd now → IfSome known (λ text. (rest : List (List ℕ)) × (lines_of text ≡ past ++ rest) × AreLeft false rest)
+came_all : (known now : Option (List ℕ)) (past : List (List ℕ)) → Come known now past → IsAtEnd now → HaveCome known past None
 came_all None now past a end = tt
 came_all (Some xs) None past a end = absurd a
-came_all (Some xs) (Some ys) past a end = ([], a ∙ ap (λ t. past ++ lines_of t) end, refl)
+came_all (Some xs) (Some ys) past a end = a ∙ ap (λ t. past ++ lines_of t) end ∙ append-nil past
 
-pub begun : (form : LineForm) (win : Windows) (known now before after : Option (List ℕ)) (f : Follower) (number : ℕ) → Going form win known now before after f number → HasBegun form win known before after
-begun form win known now before after f number g = record {
-  past = g.past;
-  more = true;
-  came = came_first known now g.past g.come;
+-- each reading that is over is written
+pub up_to_date : (form : LineForm) (win : Windows) (known now before mid after : Option (List ℕ)) (f : Follower) (number : ℕ) → (g : Going form win known now before mid f number) → Appends mid after []
+    → IsUpToDate form win g.past before after
+up_to_date form win known now before mid after f number g none = record {
+  follower = f;
   text = g.text;
+  followed = subst (λ n. IsFollowed form win g.past n f g.text) g.count g.followed;
+  prompt = g.prompt;
   front = followed_front form win g.past number f g.text g.followed;
-  put = g.put;
-}
-
--- a line of which the write failed
-cut_begun : (form : LineForm) (win : Windows) (known now next before mid after : Option (List ℕ)) (old : Follower) (number : ℕ) (line : List ℕ) → Going form win known now before mid old number → Leads now next line
-    → IsCut number line old mid after → HasBegun form win known before after
-cut_begun form win known now next before mid after old number line g leads h = record {
-  past = g.past ++ line ∷ [];
-  more = true;
-  came = came_first known next (g.past ++ line ∷ []) (come_more known now next g.past line g.come leads);
-  text = g.text ++ h.text;
-  front = h.front form win g.past g.text g.followed;
-  put = Appends-trans before mid after g.text h.text g.put h.put;
+  put = subst (λ t. Appends before after t) (append-nil g.text) (Appends-trans before mid after g.text [] g.put none);
 }
 
 -- an input in a form, by its lines
@@ -201,46 +196,69 @@ by_lines : (form : LineForm) (signal text : List ℕ) → capture_in (form_as fo
 by_lines forms.Edges signal text = refl
 by_lines forms.Pin signal text = refl
 
+-- a fault is that of the input
+abbrev IsFaultOf : LineForm → Option (List ℕ) → CaptureFault → Type 0
+IsFaultOf form known fault = IfSome known (λ text. (signal : List ℕ) → capture_in (form_as form) signal text ≡ Err fault)
+
 refused_line : (form : LineForm) (known now next : Option (List ℕ)) (past : List (List ℕ)) (line : List ℕ) (fault : CaptureFault) → Come known now past → Leads now next line
-    → ((rest : List (List ℕ)) → lines_captured form (past ++ line ∷ rest) ≡ Err fault) → IsFaultOf form known (Capture fault)
+    → ((rest : List (List ℕ)) → lines_captured form (past ++ line ∷ rest) ≡ Err fault) → IsFaultOf form known fault
 refused_line form None now next past line fault a b refused = tt
 refused_line form (Some xs) None next past line fault a b refused = absurd a
 refused_line form (Some xs) (Some ys) None past line fault a b refused = absurd b
 refused_line form (Some xs) (Some ys) (Some zs) past line fault a b refused = λ signal.
     by_lines form signal xs ∙ ap (lines_captured form) (a ∙ ap (λ ls. past ++ ls) b) ∙ refused (lines_of zs)
 
-refused_end : (form : LineForm) (known now : Option (List ℕ)) (past : List (List ℕ)) (fault : CaptureFault) → Come known now past → IsAtEnd now → lines_captured form past ≡ Err fault → IsFaultOf form known (Capture fault)
+refused_end : (form : LineForm) (known now : Option (List ℕ)) (past : List (List ℕ)) (fault : CaptureFault) → Come known now past → IsAtEnd now → lines_captured form past ≡ Err fault → IsFaultOf form known fault
 refused_end form None now past fault a end refused = tt
 refused_end form (Some xs) None past fault a end refused = absurd a
 refused_end form (Some xs) (Some ys) past fault a end refused = λ signal.
     by_lines form signal xs ∙ ap (lines_captured form) (a ∙ ap (λ t. past ++ lines_of t) end ∙ append-nil past) ∙ refused
 
+-- what is over by a line of which the write failed
+cut_over : (form : LineForm) (win : Windows) (known now before mid after : Option (List ℕ)) (old new : Follower) (number : ℕ) (line : List ℕ) → (g : Going form win known now before mid old number)
+    → (h : IsCut number line old new mid after) → IsOverBy form win g.past (Some line) (g.text ++ (h.text ++ h.left)) (g.text ++ h.text)
+cut_over form win known now before mid after old new number line g h =
+    let w : IsFollowed form win (g.past ++ line ∷ []) (number + 1) new (g.text ++ (h.text ++ h.left)) = h.followed form win g.past g.text g.followed in (
+      new,
+      subst (λ n. IsFollowed form win (g.past ++ line ∷ []) (n + 1) new (g.text ++ (h.text ++ h.left))) g.count w,
+      h.prompt,
+      front_less true form win (g.past ++ line ∷ []) (h.text ++ h.left) h.text h.left refl g.text (followed_front form win (g.past ++ line ∷ []) (number + 1) new (g.text ++ (h.text ++ h.left)) w),
+    )
+
+-- or with the end
+cut_last : (form : LineForm) (win : Windows) (known now before mid after : Option (List ℕ)) (f : Follower) (number : ℕ) → (g : Going form win known now before mid f number) → (h : IsCutLast number f mid after)
+    → IsOverBy form win g.past None (g.text ++ (h.text ++ h.left)) (g.text ++ h.text)
+cut_last form win known now before mid after f number g h =
+    let all : IsAll form win g.past (g.text ++ (h.text ++ h.left)) = h.all form win g.past g.text g.followed in
+    (all, front_less false form win g.past (h.text ++ h.left) h.text h.left refl g.text (whole_front form win g.past (g.text ++ (h.text ++ h.left)) all))
+
 -- a line that stops it
 pub line_stops : (form : LineForm) (win : Windows) (known now next before mid after : Option (List ℕ)) (old new : Follower) (number : ℕ) (line : List ℕ) (error : FollowError) → Going form win known now before mid old number
     → Leads now next line → Hears number line old new mid after (Err error) → Follows form win known before after (Err error)
-unfolding begun
-line_stops form win known now next before mid after old new number line (Capture fault) g leads h = (
-  (let b = begun form win known now before mid old number g in
-      record {
-        past = b.past;
-        more = b.more;
-        came = b.came;
-        text = b.text;
-        front = b.front;
-        put = subst (λ t. Appends before after t) (append-nil g.text) (Appends-trans before mid after g.text [] g.put h.put);
-      }),
-  refused_line form known now next g.past line fault g.come leads (h.refused form win g.past g.text g.followed),
-)
-line_stops form win known now next before mid after old new number line (Write count) g leads h = (cut_begun form win known now next before mid after old number line g leads h, tt)
+line_stops form win known now next before mid after old new number line (Capture fault) g leads h = record {
+  past = g.past;
+  next = Some line;
+  came = came_first known next (g.past ++ line ∷ []) (come_more known now next g.past line g.come leads);
+  place = h.place ∙ g.count;
+  refused = h.refused form win g.past g.text g.followed;
+  read = refused_line form known now next g.past line fault g.come leads (h.refused form win g.past g.text g.followed);
+  written = up_to_date form win known now before mid after old number g h.put;
+}
+line_stops form win known now next before mid after old new number line (Write count) g leads h = record {
+  past = g.past;
+  next = Some line;
+  came = came_first known next (g.past ++ line ∷ []) (come_more known now next g.past line g.come leads);
+  follower = old;
+  text = g.text;
+  followed = subst (λ n. IsFollowed form win g.past n old g.text) g.count g.followed;
+  prompt = g.prompt;
+  front = h.text;
+  left = h.left;
+  over = cut_over form win known now before mid after old new number line g h;
+  put = Appends-trans before mid after g.text h.text g.put h.put;
+}
 line_stops form win known now next before mid after old new number line Read g leads h = absurd h
 line_stops form win known now next before mid after old new number line TooLong g leads h = absurd h
-
--- nothing more is read
-pub reading_stops : (form : LineForm) (win : Windows) (known now before after : Option (List ℕ)) (f : Follower) (number : ℕ) → Going form win known now before after f number → Follows form win known before after (Err Read)
-reading_stops form win known now before after f number g = (begun form win known now before after f number g, tt)
-
-pub length_stops : (form : LineForm) (win : Windows) (known now before after : Option (List ℕ)) (f : Follower) (number : ℕ) → Going form win known now before after f number → Follows form win known before after (Err TooLong)
-length_stops form win known now before after f number g = (begun form win known now before after f number g, tt)
 
 -- no line is left
 input_of : (form : LineForm) (known now : Option (List ℕ)) (past : List (List ℕ)) → Come known now past → All IsWhole past → IsAtEnd now
@@ -251,7 +269,6 @@ input_of form (Some xs) (Some ys) past a whole end = (xs, refl, a ∙ ap (λ t. 
 
 pub end_stops : (form : LineForm) (win : Windows) (known now before mid after : Option (List ℕ)) (f : Follower) (number : ℕ) (result : Result (Unit {0}) FollowError) → Going form win known now before mid f number → IsAtEnd now
     → Ends number f mid after result → Follows form win known before after result
-unfolding begun
 end_stops form win known now before mid after f number (Ok done) g end h =
     let all = h.all form win g.past g.text g.followed in
     let input = input_of form known now g.past g.come g.whole end in
@@ -262,28 +279,27 @@ end_stops form win known now before mid after f number (Ok done) g end h =
       read = λ signal. by_lines form signal input.0 ∙ ap (lines_captured form) input.2 ∙ all.read;
       put = subst (λ t. Appends before after t) (sym all.all) (Appends-trans before mid after g.text h.text g.put h.put);
     }
-end_stops form win known now before mid after f number (Err (Capture fault)) g end h = (
-  (let b = begun form win known now before mid f number g in
-      record {
-        past = b.past;
-        more = b.more;
-        came = b.came;
-        text = b.text;
-        front = b.front;
-        put = subst (λ t. Appends before after t) (append-nil g.text) (Appends-trans before mid after g.text [] g.put h.put);
-      }),
-  refused_end form known now g.past fault g.come end (h.refused form win g.past g.text g.followed),
-)
-end_stops form win known now before mid after f number (Err (Write count)) g end h = (
-  record {
-    past = g.past;
-    more = false;
-    came = came_all known now g.past g.come end;
-    text = g.text ++ h.text;
-    front = h.front form win g.past g.text g.followed;
-    put = Appends-trans before mid after g.text h.text g.put h.put;
-  },
-  tt,
-)
+end_stops form win known now before mid after f number (Err (Capture fault)) g end h = record {
+  past = g.past;
+  next = None;
+  came = came_all known now g.past g.come end;
+  place = h.place ∙ g.count;
+  refused = h.refused form win g.past g.text g.followed;
+  read = refused_end form known now g.past fault g.come end (h.refused form win g.past g.text g.followed);
+  written = up_to_date form win known now before mid after f number g h.put;
+}
+end_stops form win known now before mid after f number (Err (Write count)) g end h = record {
+  past = g.past;
+  next = None;
+  came = came_all known now g.past g.come end;
+  follower = f;
+  text = g.text;
+  followed = subst (λ n. IsFollowed form win g.past n f g.text) g.count g.followed;
+  prompt = g.prompt;
+  front = h.text;
+  left = h.left;
+  over = cut_last form win known now before mid after f number g h;
+  put = Appends-trans before mid after g.text h.text g.put h.put;
+}
 end_stops form win known now before mid after f number (Err Read) g end h = absurd h
 end_stops form win known now before mid after f number (Err TooLong) g end h = absurd h

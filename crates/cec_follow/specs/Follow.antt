@@ -1,5 +1,5 @@
 -- What is reported of a capture as its lines come: at each moment the front of the text of the whole, whatever comes later (own).
-use Rattle.std.specs.Prelude.{◌≡◌, ℕ, ◌+◌, ◌≤◌, Bool, true, false, List, [], ◌∷◌, ◌++◌, Option, IfSome, Result, Ok, Err}
+use Rattle.std.specs.Prelude.{◌≡◌, ℕ, ◌+◌, ◌<◌, ◌≤◌, ◌⊎◌, Bool, true, false, List, [], ◌∷◌, ◌++◌, length, Option, Some, None, IfSome, Result, Ok, Err}
 use Rattle.std.specs.Io.KnownBytes.{Appends}
 use Rattle.hdmi_core.specs.Lines.{lines_of}
 use Rattle.cec_wave.specs.declared.Edge.{Edge}
@@ -14,6 +14,9 @@ use Rattle.cec_mon.specs.ReadBy.{ended_before_by}
 use Rattle.cec_mon.specs.Watch.{readings_text, reported_text}
 use Rattle.cec_mon.specs.declared.monitor.Monitor.{Monitor as Watcher}
 use Rattle.cec_formats.specs.Captures.{capture_in}
+use Rattle.cec_incoming.specs.Incoming.{longest_line}
+use Rattle.cec_incoming.specs.declared.incoming.LineFault.{LineFault}
+use Rattle.cec_incoming.specs.declared.incoming.LineFault.TheVariants as line_fault
 use Rattle.cec_bits.specs.Readings.{Listed}
 use Rattle.cec_bits.specs.Reports.{listed_as}
 use Rattle.cec_follow.specs.Lines.{IsEarly, form_as, from_of, lines_captured, lines_left}
@@ -129,24 +132,28 @@ pub record HasHeard (number : ℕ) (line : List ℕ) (old new : Follower) (befor
   pub put : Appends before after text
   pub followed : (form : LineForm) (windows : Windows) (past : List (List ℕ)) (so_far : List ℕ) → IsFollowed form windows past number old so_far
       → IsFollowed form windows (past ++ line ∷ []) (number + 1) new (so_far ++ text)
+  pub prompt : IsPrompt new
 
 -- it is at fault, and nothing is written
 pub record IsAtFault (number : ℕ) (line : List ℕ) (old : Follower) (before after : Option (List ℕ)) (fault : CaptureFault) : Type 0 where
   pub put : Appends before after []
+  pub place : fault.line ≡ number
   pub refused : (form : LineForm) (windows : Windows) (past : List (List ℕ)) (so_far : List ℕ) → IsFollowed form windows past number old so_far
       → (rest : List (List ℕ)) → lines_captured form (past ++ line ∷ rest) ≡ Err fault
 
--- a write failed
-pub record IsCut (number : ℕ) (line : List ℕ) (old : Follower) (before after : Option (List ℕ)) : Type 0 where
+-- a write failed: a front of what has ended by it is written
+pub record IsCut (number : ℕ) (line : List ℕ) (old new : Follower) (before after : Option (List ℕ)) : Type 0 where
   pub text : List ℕ
+  pub left : List ℕ
   pub put : Appends before after text
-  pub front : (form : LineForm) (windows : Windows) (past : List (List ℕ)) (so_far : List ℕ) → IsFollowed form windows past number old so_far
-      → IsFront true form windows (past ++ line ∷ []) (so_far ++ text)
+  pub followed : (form : LineForm) (windows : Windows) (past : List (List ℕ)) (so_far : List ℕ) → IsFollowed form windows past number old so_far
+      → IsFollowed form windows (past ++ line ∷ []) (number + 1) new (so_far ++ (text ++ left))
+  pub prompt : IsPrompt new
 
 abbrev pub Hears : ℕ → List ℕ → Follower → Follower → Option (List ℕ) → Option (List ℕ) → Result (Unit {0}) FollowError → Type 0
 Hears number line old new before after (Ok done) = HasHeard number line old new before after
 Hears number line old new before after (Err (Capture fault)) = IsAtFault number line old before after fault
-Hears number line old new before after (Err (Write count)) = IsCut number line old before after
+Hears number line old new before after (Err (Write count)) = IsCut number line old new before after
 Hears number line old new before after (Err Read) = ⊥
 Hears number line old new before after (Err TooLong) = ⊥
 
@@ -159,13 +166,15 @@ pub record HasWritten (number : ℕ) (f : Follower) (before after : Option (List
 
 pub record LacksEnd (number : ℕ) (f : Follower) (before after : Option (List ℕ)) (fault : CaptureFault) : Type 0 where
   pub put : Appends before after []
+  pub place : fault.line ≡ number
   pub refused : (form : LineForm) (windows : Windows) (past : List (List ℕ)) (so_far : List ℕ) → IsFollowed form windows past number f so_far → lines_captured form past ≡ Err fault
 
 pub record IsCutLast (number : ℕ) (f : Follower) (before after : Option (List ℕ)) : Type 0 where
   pub text : List ℕ
+  pub left : List ℕ
   pub put : Appends before after text
-  pub front : (form : LineForm) (windows : Windows) (past : List (List ℕ)) (so_far : List ℕ) → IsFollowed form windows past number f so_far
-      → IsFront false form windows past (so_far ++ text)
+  pub all : (form : LineForm) (windows : Windows) (past : List (List ℕ)) (so_far : List ℕ) → IsFollowed form windows past number f so_far
+      → IsWhole form windows past (so_far ++ (text ++ left))
 
 abbrev pub Ends : ℕ → Follower → Option (List ℕ) → Option (List ℕ) → Result (Unit {0}) FollowError → Type 0
 Ends number f before after (Ok done) = HasWritten number f before after
@@ -184,22 +193,86 @@ pub record HasFollowed (form : LineForm) (windows : Windows) (known old new : Op
   pub read : (signal : List ℕ) → capture_in (form_as form) signal input ≡ Ok capture
   pub put : Appends old new (text_of windows capture)
 
--- lines of it have come, all of them or not, and a front of that is written
-pub record HasBegun (form : LineForm) (windows : Windows) (known old new : Option (List ℕ)) : Type 0 where
-  pub past : List (List ℕ)
-  pub more : Bool
-  pub came : IfSome known (λ text. (rest : List (List ℕ)) × (lines_of text ≡ past ++ rest) × AreLeft more rest)
+-- its first lines are these
+abbrev pub AreFirst : Option (List ℕ) → List (List ℕ) → Type 0
+AreFirst known past = IfSome known (λ text. (rest : List (List ℕ)) × (lines_of text ≡ past ++ rest))
+
+-- and the next one is this, or there is none
+abbrev pub HaveCome : Option (List ℕ) → List (List ℕ) → Option (List ℕ) → Type 0
+HaveCome known past (Some line) = AreFirst known (past ++ line ∷ [])
+HaveCome known past None = IfSome known (λ text. lines_of text ≡ past)
+
+-- Each reading that is over by these lines is written, and nothing else: the front of the text of each capture that begins so.
+pub record IsUpToDate (form : LineForm) (windows : Windows) (past : List (List ℕ)) (old new : Option (List ℕ)) : Type 0 where
+  pub follower : Follower
   pub text : List ℕ
-  pub front : IsFront more form windows past text
+  pub followed : IsFollowed form windows past (length past + 1) follower text
+  pub prompt : IsPrompt follower
+  pub front : IsFront true form windows past text
   pub put : Appends old new text
 
--- a fault is that of the input
-abbrev pub IsFaultOf : LineForm → Option (List ℕ) → FollowError → Type 0
-IsFaultOf form known (Capture fault) = IfSome known (λ text. (signal : List ℕ) → capture_in (form_as form) signal text ≡ Err fault)
-IsFaultOf form known Read = Unit {0}
-IsFaultOf form known TooLong = Unit {0}
-IsFaultOf form known (Write count) = Unit {0}
+-- a line is at fault whatever comes after it, or the end is missing
+abbrev pub IsRefused : LineForm → List (List ℕ) → Option (List ℕ) → CaptureFault → Type 0
+IsRefused form past (Some line) fault = (rest : List (List ℕ)) → lines_captured form (past ++ line ∷ rest) ≡ Err fault
+IsRefused form past None fault = lines_captured form past ≡ Err fault
+
+-- the fault is that of the input, and at the line after these
+pub record StopsAtFault (form : LineForm) (windows : Windows) (known old new : Option (List ℕ)) (fault : CaptureFault) : Type 0 where
+  pub past : List (List ℕ)
+  pub next : Option (List ℕ)
+  pub came : HaveCome known past next
+  pub place : fault.line ≡ length past + 1
+  pub refused : IsRefused form past next fault
+  pub read : IfSome known (λ text. (signal : List ℕ) → capture_in (form_as form) signal text ≡ Err fault)
+  pub written : IsUpToDate form windows past old new
+
+-- a read failed after these lines
+pub record StopsAtRead (form : LineForm) (windows : Windows) (known old new : Option (List ℕ)) : Type 0 where
+  pub past : List (List ℕ)
+  pub came : AreFirst known past
+  pub written : IsUpToDate form windows past old new
+
+-- the line after these has more bytes than a line may have, or these are as many as are counted
+abbrev pub IsTooMuch : Option (List ℕ) → List (List ℕ) → Type 0
+IsTooMuch known past = ((line : List ℕ) × (longest_line < length line) × HaveCome known past (Some line)) ⊎ ((length past ≡ 18446744073709551615) × AreFirst known past)
+
+pub record StopsAtLength (form : LineForm) (windows : Windows) (known old new : Option (List ℕ)) : Type 0 where
+  pub past : List (List ℕ)
+  pub over : IsTooMuch known past
+  pub written : IsUpToDate form windows past old new
+
+-- this text is all that is over by these lines and the next one, or by all of them where there is none; and this is a front of that of
+-- each capture that begins so
+abbrev pub IsOverBy : LineForm → Windows → List (List ℕ) → Option (List ℕ) → List ℕ → List ℕ → Type 0
+IsOverBy form windows past (Some line) text front =
+    (f : Follower) × IsFollowed form windows (past ++ line ∷ []) (length past + 1 + 1) f text × IsPrompt f × IsFront true form windows (past ++ line ∷ []) front
+IsOverBy form windows past None text front = IsWhole form windows past text × IsFront false form windows past front
+
+-- a write failed: what was over by these lines is written, and a front of what is over by the next one, or with the end
+pub record StopsAtWrite (form : LineForm) (windows : Windows) (known old new : Option (List ℕ)) : Type 0 where
+  pub past : List (List ℕ)
+  pub next : Option (List ℕ)
+  pub came : HaveCome known past next
+  pub follower : Follower
+  pub text : List ℕ
+  pub followed : IsFollowed form windows past (length past + 1) follower text
+  pub prompt : IsPrompt follower
+  pub front : List ℕ
+  pub left : List ℕ
+  pub over : IsOverBy form windows past next (text ++ (front ++ left)) (text ++ front)
+  pub put : Appends old new (text ++ front)
+
+-- why no line was read
+abbrev pub line_error : LineFault → FollowError
+line_error line_fault.Read = Read
+line_error line_fault.TooLong = TooLong
+
+abbrev pub Stops : LineForm → Windows → Option (List ℕ) → Option (List ℕ) → Option (List ℕ) → FollowError → Type 0
+Stops form windows known old new (Capture fault) = StopsAtFault form windows known old new fault
+Stops form windows known old new Read = StopsAtRead form windows known old new
+Stops form windows known old new TooLong = StopsAtLength form windows known old new
+Stops form windows known old new (Write count) = StopsAtWrite form windows known old new
 
 abbrev pub Follows : LineForm → Windows → Option (List ℕ) → Option (List ℕ) → Option (List ℕ) → Result (Unit {0}) FollowError → Type 0
 Follows form windows known old new (Ok done) = HasFollowed form windows known old new
-Follows form windows known old new (Err error) = HasBegun form windows known old new × IsFaultOf form known error
+Follows form windows known old new (Err error) = Stops form windows known old new error

@@ -1,5 +1,5 @@
 //! A reader of the lines of an edge file, as they come.
-ghost use Rattle.std.specs.Prelude.{◌≡◌, ◌+◌, ◌≤◌, IfOk, IfSome, OnOk};
+ghost use Rattle.std.specs.Prelude.{◌≡◌, ◌+◌, ◌≤◌, IfErr, IfOk, IfSome, OnOk};
 ghost use Rattle.cec_wave.specs.Bounds.{latest_instant};
 ghost use Rattle.cec_mon.specs.EdgeFile.{edge_line_of, is_in_turn, turns, word_out_of_turn, word_past};
 
@@ -88,6 +88,7 @@ impl EdgeReader {
         requires open { self.old.end ≡ None }
         requires early { IsEarlyFile self.old }
         ensures takes { Takes (after_said number (edge_line_of line.now) self.old) result self.new }
+        ensures place { IfErr result (λ fault. fault.line ≡ number) }
         ensures early { OnOk result (IsEarlyFile self.new) }
         ensures edge { IfOk result (λ edge. IfSome edge (λ e. e.at ≤ latest_instant)) }
     {
@@ -121,6 +122,7 @@ impl EdgeReader {
     pub fn take(&mut self, number: u64, line: &[u8]) -> Result<Option<Edge>, CaptureFault>
         requires early { IsEarlyFile self.old }
         ensures takes { Takes (took_line number line.now self.old) result self.new }
+        ensures place { IfErr result (λ fault. fault.line ≡ number) }
         ensures early { OnOk result (IsEarlyFile self.new) }
         ensures edge { IfOk result (λ edge. IfSome edge (λ e. e.at ≤ latest_instant)) }
     {
@@ -141,6 +143,7 @@ impl EdgeReader {
     pub fn end(&self, number: u64) -> Result<u64, CaptureFault>
         requires early { IsEarlyFile self.now }
         ensures end { result ≡ end_of self.now.end number }
+        ensures place { IfErr result (λ fault. fault.line ≡ number) }
         ensures early { IfOk result (λ end. end ≤ latest_instant) }
     {
         match self.end {

@@ -1,5 +1,5 @@
 //! A capture that is followed line by line.
-ghost use Rattle.std.specs.Prelude.{◌≡◌, ◌≤◌, ◌+◌, ◌⊎◌, [], IfSome, OnOk, option_map};
+ghost use Rattle.std.specs.Prelude.{◌≡◌, ◌≤◌, ◌+◌, ◌⊎◌, [], IfErr, IfSome, OnOk, option_map};
 ghost use Rattle.cec_wave.specs.Bounds.{latest_instant};
 ghost use Rattle.cec_bits.specs.Reports.{listed_as};
 ghost use Rattle.cec_bits.specs.Windows.{AreWindows};
@@ -41,6 +41,7 @@ impl Follower {
     pub fn new(form: LineForm, windows: Windows) -> Self
         requires { AreWindows windows }
         ensures followed { IsFollowed form windows [] 1 result [] }
+        ensures prompt { IsPrompt result }
         ensures ready { IsReady result }
     {
         // No effect at run time. The proof reads from them how the lines of a form go on.
@@ -87,6 +88,7 @@ impl Follower {
     pub fn line(&mut self, number: u64, line: &[u8]) -> Result<Heard, CaptureFault>
         requires ready { IsReady self.old }
         ensures hears { HearsLine number line.now self.old result self.new }
+        ensures place { IfErr result (λ fault. fault.line ≡ number) }
         ensures prompt { OnOk result (IsPrompt self.new) }
         ensures ready { OnOk result (IsReady self.new) }
     {
@@ -109,6 +111,7 @@ impl Follower {
     pub fn end(self, number: u64) -> Result<Heard, CaptureFault>
         requires ready { IsReady self }
         ensures hears { HearsEnd number self result }
+        ensures place { IfErr result (λ fault. fault.line ≡ number) }
     {
         let mut follower = self;
         let last = follower.lines.end(number)?;

@@ -6,7 +6,7 @@ ghost use Rattle.hdmi_core.specs.Buffered.{pending};
 ghost use Rattle.cec_bits.specs.Reports.{listed_as};
 ghost use Rattle.cec_bits.specs.Windows.{AreWindows};
 ghost use Rattle.cec_mon.specs.Watch.{reported_text};
-ghost use Rattle.cec_follow.specs.Follow.{Ends, Follows, Hears, IsOfWriting, IsReady, Puts, heard_text};
+ghost use Rattle.cec_follow.specs.Follow.{Ends, Follows, Hears, IsOfWriting, IsReady, Puts, heard_text, line_error};
 
 use crate::error::FollowError;
 use crate::follower::{Follower, Heard};
@@ -71,6 +71,16 @@ fn write_heard<S: Sink>(heard: &Heard, out: &mut Buffered<S>) -> Result<(), Foll
     }
 }
 
+// Why no line could be read.
+fn line_error(fault: LineFault) -> FollowError
+    ensures { result ≡ line_error fault }
+{
+    match fault {
+        LineFault::Read => FollowError::Read,
+        LineFault::TooLong => FollowError::TooLong,
+    }
+}
+
 // Takes a line, writes what has ended by it, and hands that on.
 fn hear<S: Sink>(
     follower: &mut Follower,
@@ -111,8 +121,8 @@ fn finish<S: Sink>(
 ///
 /// # Errors
 ///
-/// The first line at fault, counted from 1; a line has more than 4,096 bytes; a read or a write failed. What was written before
-/// stays written: the front of the text of each capture that begins with the lines before.
+/// The first line at fault, counted from 1; a line has more than 4,096 bytes; a read or a write failed. What is over by the lines
+/// before is written, each reading of it, and stays: the front of the text of each capture that begins with them.
 pub fn follow<R: Read, S: Sink>(
     form: LineForm,
     windows: Windows,
@@ -128,8 +138,7 @@ pub fn follow<R: Read, S: Sink>(
     let mut follower = Follower::new(form, windows);
     for read in 0..MOST_LINES {
         match lines.next(input, &mut line) {
-            Err(LineFault::Read) => return Err(FollowError::Read),
-            Err(LineFault::TooLong) => return Err(FollowError::TooLong),
+            Err(fault) => return Err(line_error(fault)),
             Ok(more) => {
                 if !more {
                     return finish(follower, read + 1, out);

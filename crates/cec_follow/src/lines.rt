@@ -1,5 +1,5 @@
 //! The lines of a capture, taken as they come.
-ghost use Rattle.std.specs.Prelude.{◌≡◌, ◌≤◌, List, IfOk, IfSome, OnOk, ℕ};
+ghost use Rattle.std.specs.Prelude.{◌≡◌, ◌≤◌, List, IfErr, IfOk, IfSome, OnOk, ℕ};
 ghost use Rattle.cec_wave.specs.Bounds.{latest_instant};
 ghost use Rattle.cec_signal.specs.Reading.{fault_at};
 ghost use Rattle.cec_follow.specs.Lines.{TakesLine};
@@ -49,6 +49,7 @@ fn fault_at(line: u64, slip: Slip) -> CaptureFault
 fn take_pin(reader: &mut PinReader, number: u64, line: &[u8]) -> Result<Option<Edge>, CaptureFault>
     requires early { reader.old.track.at ≤ latest_instant }
     ensures takes { TakesLine (Pin reader.old) number line.now result (Pin reader.new) }
+    ensures place { IfErr result (λ fault. fault.line ≡ number) }
     ensures early { OnOk result (reader.new.track.at ≤ latest_instant) }
     ensures edge { IfOk result (λ edge. IfSome edge (λ e. e.at ≤ latest_instant)) }
 {
@@ -66,6 +67,7 @@ impl CaptureLines {
     /// A reader at the front of a capture.
     pub fn new(form: LineForm) -> Self
         ensures first { (lines : List (List ℕ)) → lines_left result 1 lines ≡ lines_captured form lines }
+        ensures from { from_of result ≡ 0 }
         ensures early { IsEarly result }
     {
         match form {
@@ -82,6 +84,7 @@ impl CaptureLines {
     pub fn take(&mut self, number: u64, line: &[u8]) -> Result<Option<Edge>, CaptureFault>
         requires early { IsEarly self.old }
         ensures takes { TakesLine self.old number line.now result self.new }
+        ensures place { IfErr result (λ fault. fault.line ≡ number) }
         ensures early { OnOk result (IsEarly self.new) }
         ensures edge { IfOk result (λ edge. IfSome edge (λ e. e.at ≤ latest_instant)) }
     {
@@ -110,6 +113,7 @@ impl CaptureLines {
     pub fn end(&self, number: u64) -> Result<Last, CaptureFault>
         requires early { IsEarly self.now }
         ensures ends { EndsLines self.now number result }
+        ensures place { IfErr result (λ fault. fault.line ≡ number) }
         ensures early { IfOk result (λ last. last.end ≤ latest_instant) }
         ensures edge { IfOk result (λ last. IfSome last.edge (λ e. e.at ≤ latest_instant)) }
     {

@@ -5,4 +5,4 @@ pub returns-in-Ok-clause-ends : goal.returns-in-Ok-clause-ends
 returns-in-Ok-clause-ends g c = ends c.args.number c.args.follower c.in-Ok.heard _ _ c.write_heard.result c.in-Ok.ensures.hears c.write_heard.ensures.put c.write_heard.ensures.writing
 
 pub returns-in-Err-clause-ends : goal.returns-in-Err-clause-ends
-returns-in-Err-clause-ends g c = fault_ends c.args.number c.args.follower _ c.in-Err.fault c.in-Err.ensures.hears
+returns-in-Err-clause-ends g c = fault_ends c.args.number c.args.follower _ c.in-Err.fault c.in-Err.ensures.hears c.in-Err.ensures.place

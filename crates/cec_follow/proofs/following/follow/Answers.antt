@@ -1,24 +1,22 @@
-use Rattle.std.proofs.Common.{◌+◌, ℕ, List, sym, subst}
+use Rattle.std.proofs.Common.{◌≡◌, ◌+◌, ℕ, List, Result, Err, ap, arith, sym, subst, ◌∙◌}
 use Rattle.cec_incoming.specs.Incoming.{IsWhole, Leads, bytes_left, to_come}
-use Rattle.cec_follow.proofs.Written.{end_stops, going_first, going_more, held, length_stops, line_stops, next_end, next_line, reading_stops}
+use Rattle.cec_follow.specs.Follow.{Follows}
+use Rattle.cec_follow.specs.declared.error.FollowError.{FollowError}
+use Rattle.cec_follow.proofs.Long.{line_fails, lines_run_out}
+use Rattle.cec_follow.proofs.Written.{end_stops, going_first, going_more, held, line_stops, next_end, next_line}
 use Rattle.cec_follow.proofs.following.follow.Goals as goal
 
 pub loop-read-init : goal.loop-read-init
 loop-read-init g c =
     going_first c.args.form c.args.windows (g.R.Read.remaining c.args.input.now) (held g.S.Sink.contents c.args.out.now) (bytes_left c.new-lines.result) c.new-follower.result c.new-lines.ensures
-    c.new-follower.ensures.followed c.new-follower.ensures.ready
+    c.new-follower.ensures.followed c.new-follower.ensures.prompt c.new-follower.ensures.ready
 
-pub returns-in-Err-Read-clause-follows : goal.returns-in-Err-Read-clause-follows
-returns-in-Err-Read-clause-follows g c =
+pub returns-in-Err-clause-follows : goal.returns-in-Err-clause-follows
+returns-in-Err-clause-follows g c =
     let at = c.loop-read in
-    reading_stops c.args.form c.args.windows (g.R.Read.remaining c.args.input.now) (to_come at.lines (g.R.Read.remaining at.input)) (held g.S.Sink.contents c.args.out.now) (held g.S.Sink.contents at.out)
-    at.follower (at.read + 1) at.invariant
-
-pub returns-in-Err-TooLong-clause-follows : goal.returns-in-Err-TooLong-clause-follows
-returns-in-Err-TooLong-clause-follows g c =
-    let at = c.loop-read in
-    length_stops c.args.form c.args.windows (g.R.Read.remaining c.args.input.now) (to_come at.lines (g.R.Read.remaining at.input)) (held g.S.Sink.contents c.args.out.now) (held g.S.Sink.contents at.out)
-    at.follower (at.read + 1) at.invariant
+    subst (λ (e : FollowError). Follows c.args.form c.args.windows (g.R.Read.remaining c.args.input.now) (held g.S.Sink.contents c.args.out.now) (held g.S.Sink.contents at.out) (Err e)) (sym c.line_error.ensures)
+    (line_fails c.args.form c.args.windows (g.R.Read.remaining c.args.input.now) (to_come at.lines (g.R.Read.remaining at.input)) (to_come c.next.new.self (g.R.Read.remaining c.next.new.input)) (held g.S.Sink.contents c.args.out.now)
+    (held g.S.Sink.contents at.out) at.follower (at.read + 1) c.next.new.line.items c.in-Err.fault at.invariant c.in-Err.ensures.next)
 
 pub finish-requires : goal.finish-requires
 finish-requires g c = record { ready = c.loop-read.invariant.ready }
@@ -33,14 +31,14 @@ returns-then-not-more-clause-follows g c =
 pub hear-requires : goal.hear-requires
 hear-requires g c = record { ready = c.loop-read.invariant.ready }
 
-pub returns-in-Err-clause-follows : goal.returns-in-Err-clause-follows
-returns-in-Err-clause-follows g c =
+pub returns-in-Err-hear-clause-follows : goal.returns-in-Err-hear-clause-follows
+returns-in-Err-hear-clause-follows g c =
     let at = c.loop-read in
     let now = to_come at.lines (g.R.Read.remaining at.input) in
     let next = to_come c.next.new.self (g.R.Read.remaining c.next.new.input) in
     line_stops c.args.form c.args.windows (g.R.Read.remaining c.args.input.now) now next (held g.S.Sink.contents c.args.out.now) (held g.S.Sink.contents at.out) (held g.S.Sink.contents c.hear.new.out)
-    at.follower c.hear.new.follower (at.read + 1) c.as_slice.result.now c.in-Err.error at.invariant
-    (subst (λ (line : List ℕ). Leads now next line) (sym c.as_slice.ensures.value) (next_line now next c.next.new.line.items c.in-Ok.more c.if-not-more.false c.in-Ok.ensures.next)) c.in-Err.ensures.hears
+    at.follower c.hear.new.follower (at.read + 1) c.as_slice.result.now c.in-Err-hear.error at.invariant
+    (subst (λ (line : List ℕ). Leads now next line) (sym c.as_slice.ensures.value) (next_line now next c.next.new.line.items c.in-Ok.more c.if-not-more.false c.in-Ok.ensures.next)) c.in-Err-hear.ensures.hears
 
 pub loop-read-preserved : goal.loop-read-preserved
 loop-read-preserved g c =
@@ -56,5 +54,7 @@ loop-read-preserved g c =
 pub returns-clause-follows : goal.returns-clause-follows
 returns-clause-follows g c =
     let at = c.loop-read in
-    length_stops c.args.form c.args.windows (g.R.Read.remaining c.args.input.now) (to_come at.lines (g.R.Read.remaining at.input)) (held g.S.Sink.contents c.args.out.now) (held g.S.Sink.contents at.out)
-    at.follower (at.read + 1) at.invariant
+    let done = c.loop-read-test.false in
+    let least = c.loop-read.auto.read-end in
+    lines_run_out c.args.form c.args.windows (g.R.Read.remaining c.args.input.now) (to_come at.lines (g.R.Read.remaining at.input)) (held g.S.Sink.contents c.args.out.now) (held g.S.Sink.contents at.out)
+    at.follower (at.read + 1) at.invariant (omega arith)
