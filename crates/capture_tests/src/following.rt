@@ -6,7 +6,7 @@ use std::cell::RefCell;
 use std::io::{self, ErrorKind, Read, Write};
 use std::process::Abort;
 
-/// `FORM:MARGIN TEXT => SAID END`. In a text `|` ends a line, and `START` is a comment that starts pin events at 100 s; `POLL` has
+/// `FORM:MARGIN TEXT => SAID END`; `csv-NAME` is the form with a name of the wire. In a text `|` ends a line, and `START` is a comment that starts pin events at 100 s; `POLL` has
 /// the lines of the television's own poll from 12,000 on up to its last bit, whose fall is at 38,100. `SAID` has `>` for each line
 /// that was read, and each reading where it was written, with `|` after it; `END` is `.` or the fault.
 const ROWS: &str = "\
@@ -36,6 +36,26 @@ pin:0 START|100.012000000 0|100.012300000 1|100.013000000 1|100.012900000 0 => >
 pin:0 START|99.999999999 0 => >> line 2: order
 pin:0 START|100.012000000 6 => >> line 2: word
 pin:0 => .
+# Rows of comma-separated values: an edge is known with the next row, a level that is told again ends the last of them.
+csv:0 Time [s],CEC|0.000000000,1|0.012000000,0|0.012300000,1|0.012300001,1 => >>>>>12000 12300 bad-start -| .
+csv:0 Time [s],CEC|0.000000000,1|0.012000000,0|0.012300000,1|0.040000000,1 => >>>>>12000 12300 bad-start -| .
+csv:0 Time [s],CEC|0.000000000,1|0.012000000,0|0.015901000,0|0.015902000,0 => >>>>>12000 15901 bad-start -| .
+# Where the last row changes the level, the capture goes on for 10,000.
+csv:0 Time [s],CEC|5.000000000,1|5.012000000,0 => >>>12000 15901 bad-start -| .
+# Times below zero and of the day, a carriage return, more decimals.
+csv:0 Time [s],CEC|-1.000000000,1|-0.988,0|-0.9877,1|-0.9,1 => >>>>>12000 12300 bad-start -| .
+csv:0 Time,CEC|2026-11-27T10:00:00.000000000+00:00,1|2026-11-27T10:00:00.012+00:00,0|2026-11-27T11:00:00.0123+01:00,1|2026-11-27T10:00:01Z,1 => >>>>>12000 12300 bad-start -| .
+# A wire by its name, the second of two.
+csv-CEC:0 Time [s],HPD, CEC|0.0,1,1|0.012,0,0|0.0123,1,1|0.02,1,1 => >>>>>12000 12300 bad-start -| .
+csv:0 Time [s],HPD, CEC|0.0,1,1|0.012,1,0|0.0123,1,1|0.02,1,1 => >>>>> .
+# No such wire, or no names; rows at fault.
+csv-SDA:0 Time [s],CEC|0.0,1 => > line 1: signal
+csv:0 Time [s]|0.0 => > line 1: signal
+csv:0  => line 1: signal
+csv:0 Time [s],CEC|0.0,1|0.012,0|0.0123,1|0.02,2 => >>>>> line 5: word
+csv:0 Time [s],CEC|0.0,1|0.012,0|0.0123,1|0.02,1|0.01,1 => >>>>>12000 12300 bad-start -|> line 6: order
+csv:0 Time [s],CEC|0.0,1|2000000.000001,0 => >>> line 3: late
+csv:0 Time [s],CEC => > .
 # A reader that fails.
 edges:0 12000 0|12300 1|#fault => >>12000 12300 bad-start -| read fault
 # By wider windows a start bit that is low for 3,950 is one.
@@ -124,6 +144,7 @@ fn end_text(rt: &(impl Abort + AllocGlobal), end: &Result<(), FollowError>) -> S
 fn said_of(
     rt: &(impl Abort + AllocGlobal),
     form: LineForm,
+    signal: &[u8],
     margin: u64,
     text: &[u8],
     room: usize,
@@ -134,7 +155,13 @@ fn said_of(
         said: &said,
     };
     let mut out = Buffered::new(Writes::new(Told { said: &said, room }));
-    let end = follow(form, Windows::wider(margin.min(300)), &mut driver, &mut out);
+    let end = follow(
+        form,
+        signal,
+        Windows::wider(margin.min(300)),
+        &mut driver,
+        &mut out,
+    );
     drop(out);
     drop(driver);
     let reported = String::from_utf8(said.into_inner()).expect(rt, "a text");
@@ -159,14 +186,22 @@ fn check(rt: &(impl Abort + AllocGlobal), row: &str) {
     let (asked, want) = row.split_once(" => ").expect(rt, "a row");
     let (words, text) = asked.split_once(' ').unwrap_or((asked, ""));
     let (form, margin) = words.split_once(':').expect(rt, "a form");
-    let form = if form == "pin" {
-        LineForm::Pin
-    } else {
-        LineForm::Edges
+    let (form, signal) = form.split_once('-').unwrap_or((form, ""));
+    let form = match form {
+        "pin" => LineForm::Pin,
+        "csv" => LineForm::Csv,
+        _ => LineForm::Edges,
     };
     let margin = margin.parse::<u64>().expect(rt, "a margin");
     let text = spelled(rt, text);
-    let said = said_of(rt, form, margin, text.as_bytes(), usize::MAX);
+    let said = said_of(
+        rt,
+        form,
+        signal.as_bytes(),
+        margin,
+        text.as_bytes(),
+        usize::MAX,
+    );
     assert!(rt; said.as_str() == want, "{row}: {said}");
 }
 
@@ -182,12 +217,12 @@ fn readings_are_written_when_they_are_over(rt: HostRuntime) {
 #[test]
 fn a_writer_that_is_full_ends_it(rt: HostRuntime) {
     let text = b"12000 0\n12300 1\n40000 0\n40300 1\n50000 end\n";
-    let said = said_of(&rt, LineForm::Edges, 0, text, 10);
+    let said = said_of(&rt, LineForm::Edges, b"", 0, text, 10);
     assert!(&rt;
         said.as_str() == ">>12000 1230 write fault after 10 bytes",
         "{said}"
     );
-    let said = said_of(&rt, LineForm::Edges, 0, text, 30);
+    let said = said_of(&rt, LineForm::Edges, b"", 0, text, 30);
     assert!(&rt;
         said.as_str() == ">>12000 12300 bad-start -|>>40000  write fault after 30 bytes",
         "{said}"

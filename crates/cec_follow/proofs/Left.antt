@@ -6,6 +6,9 @@ use Rattle.cec_wave.specs.declared.Edge.{Edge as EdgeOf}
 use Rattle.cec_wave.specs.Bounds.{latest_instant}
 use Rattle.hdmi_core.specs.Lines.{is_skipped}
 use Rattle.cec_signal.specs.Edges.{AreInTurn, Captured, EndBy}
+use Rattle.cec_signal.specs.Track.{last_edge}
+use Rattle.cec_signal.specs.Reading.{end_read as end_of_lines}
+use Rattle.cec_signal.specs.declared.fault.Cause.{Cause}
 use Rattle.cec_signal.specs.Reading.{Step, Takes, fault_at, lines_read, read_on, with_edges, word_read, words_read}
 use Rattle.cec_signal.specs.declared.fault.CaptureFault.{CaptureFault}
 use Rattle.cec_signal.specs.declared.fault.Slip.{Slip}
@@ -19,10 +22,14 @@ use Rattle.cec_mon.specs.declared.edge_file.EdgeFault.TheVariants as fault
 use Rattle.cec_mon.specs.declared.edge_file.EdgeLine.{EdgeLine}
 use Rattle.cec_mon.specs.declared.edge_file.EdgeLine.TheVariants.{Edge, End}
 use Rattle.cec_formats.specs.Captures.{of_edges}
-use Rattle.cec_follow.specs.Lines.{IsEarly, TakesLine, after_line, after_said, file_left, from_by, from_of, lines_left, took_line}
+use Rattle.cec_csv.specs.Csv.{column_of, column_read, csv_form, named_read}
+use Rattle.cec_csv.specs.Csv.{first_reader as first_rows, took as row_took, word_at_fault as row_at_fault}
+use Rattle.cec_csv.specs.Sampling.{CsvLinesAreEarly, CsvLinesGoOn}
+use Rattle.cec_csv.specs.declared.reader.Reader.{Reader as CsvReader}
+use Rattle.cec_follow.specs.Lines.{EndsLines, IsEarly, TakesLine, after_line, after_said, file_left, from_by, from_of, lines_left, names_left, rows_by, rows_left, took_line}
 use Rattle.cec_follow.specs.declared.edge_lines.EdgeReader.{EdgeReader}
 use Rattle.cec_follow.specs.declared.lines.CaptureLines.{CaptureLines}
-use Rattle.cec_follow.specs.declared.lines.CaptureLines.TheVariants.{File, Pin}
+use Rattle.cec_follow.specs.declared.lines.CaptureLines.TheVariants.{File, Pin, Names, Rows}
 
 -- ---- edges before what is left
 
@@ -42,15 +49,15 @@ one_more x (Err f) = refl
 
 -- what a step leads to, before what is left
 abbrev Leads : EdgeReader → ℕ → List ℕ → Result (Step EdgeReader) CaptureFault → Type 0
-Leads e number line (Ok step) = (rest : List (List ℕ)) → lines_left (File e) number (line ∷ rest) ≡ with_edges (option_to_list step.edge) (lines_left (File step.state) (number + 1) rest)
-Leads e number line (Err f) = (rest : List (List ℕ)) → lines_left (File e) number (line ∷ rest) ≡ Err f
+Leads e number line (Ok step) = (rest : List (List ℕ)) → lines_left [] (File e) number (line ∷ rest) ≡ with_edges (option_to_list step.edge) (lines_left [] (File step.state) (number + 1) rest)
+Leads e number line (Err f) = (rest : List (List ℕ)) → lines_left [] (File e) number (line ∷ rest) ≡ Err f
 
 -- a line that is not skipped
 said_left : (e : EdgeReader) (number : ℕ) (line : List ℕ) (said : Result EdgeLine ℕ) → is_skipped line ≡ false → e.end ≡ None → edge_line_of line ≡ said → Leads e number line (after_said number said e)
 said_left e number line said other still is = by said is
   where
     reads : (rest : List (List ℕ)) (o : Result EdgeLine ℕ) → edge_line_of line ≡ o
-        → lines_left (File e) number (line ∷ rest) ≡ of_edges (read_line number e.is_low e.from o (λ x. edges_read rest (number + 1) x.low (x.at + 1)) (λ t. end_read rest (number + 1) t))
+        → lines_left [] (File e) number (line ∷ rest) ≡ of_edges (read_line number e.is_low e.from o (λ x. edges_read rest (number + 1) x.low (x.at + 1)) (λ t. end_read rest (number + 1) t))
     reads rest o says =
         ap (λ end. of_edges (file_left end e number (line ∷ rest))) still
         ∙ ap (λ b. of_edges (if b then edges_read rest (number + 1) e.is_low e.from
@@ -95,19 +102,19 @@ line_left e number line = by (is_skipped line) refl
     by true h = rw h (skipped_left e number line h)
     by false h = rw h (end_or e.end refl h)
 
-pub file_takes : (old new : EdgeReader) (number : ℕ) (line : List ℕ) (result : Result (Option EdgeOf) CaptureFault) → Takes (took_line number line old) result new → TakesLine (File old) number line result (File new)
-file_takes old new number line (Ok edge) h = subst (Leads old number line) h (line_left old number line)
-file_takes old new number line (Err f) h = subst (Leads old number line) h (line_left old number line)
+pub file_takes : (signal : List ℕ) (old new : EdgeReader) (number : ℕ) (line : List ℕ) (result : Result (Option EdgeOf) CaptureFault) → Takes (took_line number line old) result new → TakesLine signal (File old) number line result (File new)
+file_takes signal old new number line (Ok edge) h = subst (Leads old number line) h (line_left old number line)
+file_takes signal old new number line (Err f) h = subst (Leads old number line) h (line_left old number line)
 
 -- ---- a file of pin events
 
-pub pin_takes : (old new : PinReader) (number : ℕ) (line : List ℕ) (edge : Option EdgeOf) → pin_form.took 0 line old ≡ Ok (record { state = new; edge = edge })
-    → TakesLine (Pin old) number line (Ok edge) (Pin new)
-pin_takes old new number line edge h = λ rest. alone pin_form number line rest old (record { state = new; edge = edge }) (whole line) h
+pub pin_takes : (signal : List ℕ) (old new : PinReader) (number : ℕ) (line : List ℕ) (edge : Option EdgeOf) → pin_form.took 0 line old ≡ Ok (record { state = new; edge = edge })
+    → TakesLine signal (Pin old) number line (Ok edge) (Pin new)
+pin_takes signal old new number line edge h = λ rest. alone pin_form number line rest old (record { state = new; edge = edge }) (whole line) h
 
-pub pin_refuses : (old new : PinReader) (number : ℕ) (line : List ℕ) (slip : Slip) (f : CaptureFault) → pin_form.took 0 line old ≡ Err slip → fault_at number slip ≡ f
-    → TakesLine (Pin old) number line (Err f) (Pin new)
-pin_refuses old new number line slip f h is = λ rest. refused rest ∙ ap Err is
+pub pin_refuses : (signal : List ℕ) (old new : PinReader) (number : ℕ) (line : List ℕ) (slip : Slip) (f : CaptureFault) → pin_form.took 0 line old ≡ Err slip → fault_at number slip ≡ f
+    → TakesLine signal (Pin old) number line (Err f) (Pin new)
+pin_refuses signal old new number line slip f h is = λ rest. refused rest ∙ ap Err is
   where
     refused : (rest : List (List ℕ)) → lines_read pin_form number (line ∷ rest) old ≡ Err (fault_at number slip)
     refused rest =
@@ -118,7 +125,59 @@ pub pin_early : (early : PinLinesAreEarly) (old new : PinReader) (line : List �
     → (new.track.at ≤ latest_instant) × IfSome edge (λ e. e.at ≤ latest_instant)
 pin_early early old new line edge l h = early line old (record { state = new; edge = edge }) l (without_word (word_at_fault line) (took line old) (record { state = new; edge = edge }) h)
 
+-- ---- comma-separated values
+
+pub names_take : (signal : List ℕ) (number : ℕ) (line : List ℕ) (rows : CsvReader) → rows_by number (column_of signal line) ≡ Ok rows → TakesLine signal Names number line (Ok None) (Rows rows)
+names_take signal number line rows h = λ rest. ap (rows_left (number + 1) rest) h ∙ with_none (lines_read csv_form (number + 1) rest rows)
+
+pub names_refuse : (signal : List ℕ) (number : ℕ) (line : List ℕ) (new : CaptureLines) (f : CaptureFault) → rows_by number (column_of signal line) ≡ Err f → TakesLine signal Names number line (Err f) new
+names_refuse signal number line new f h = λ rest. ap (rows_left (number + 1) rest) h
+
+pub row_takes : (signal : List ℕ) (old new : CsvReader) (number : ℕ) (line : List ℕ) (edge : Option EdgeOf) → csv_form.took 0 line old ≡ Ok (record { state = new; edge = edge })
+    → TakesLine signal (Rows old) number line (Ok edge) (Rows new)
+row_takes signal old new number line edge h = λ rest. alone csv_form number line rest old (record { state = new; edge = edge }) (whole line) h
+
+pub row_refuses : (signal : List ℕ) (old new : CsvReader) (number : ℕ) (line : List ℕ) (slip : Slip) (f : CaptureFault) → csv_form.took 0 line old ≡ Err slip → fault_at number slip ≡ f
+    → TakesLine signal (Rows old) number line (Err f) (Rows new)
+row_refuses signal old new number line slip f h is = λ rest. refused rest ∙ ap Err is
+  where
+    refused : (rest : List (List ℕ)) → lines_read csv_form number (line ∷ rest) old ≡ Err (fault_at number slip)
+    refused rest =
+        ap (λ ws. read_on (words_read csv_form number 0 ws old) (lines_read csv_form (number + 1) rest)) (whole line)
+        ∙ ap (λ o. read_on (word_read number o (words_read csv_form number 1 [])) (lines_read csv_form (number + 1) rest)) h
+
+pub row_early : (early : CsvLinesAreEarly) (old new : CsvReader) (line : List ℕ) (edge : Option EdgeOf) → old.track.at ≤ latest_instant → csv_form.took 0 line old ≡ Ok (record { state = new; edge = edge })
+    → (new.track.at ≤ latest_instant) × IfSome edge (λ e. e.at ≤ latest_instant)
+row_early early old new line edge l h =
+    early line old (record { state = new; edge = edge }) l (without_word (row_at_fault old.column line) (row_took line old) (record { state = new; edge = edge }) h)
+
+pub rows_end : (r : CsvReader) (number end : ℕ) (edge : Option EdgeOf) → csv_form.ended r ≡ Ok end → edge ≡ last_edge r.track → EndsLines (Rows r) number (Ok (record { edge = edge; end = end }))
+rows_end r number end edge h last = ap (end_of_lines number r.track) h ∙ ap (λ (o : Option EdgeOf). Ok (record { edges = option_to_list o; end = end })) (sym last)
+
+pub rows_end_not : (r : CsvReader) (number : ℕ) (f : CaptureFault) (cause : Cause) → csv_form.ended r ≡ Err cause → EndsLines (Rows r) number (Err f)
+rows_end_not r number f cause h = cc
+
+pub rows_end_early : (csv : CsvLinesGoOn) (r : CsvReader) (end : ℕ) → r.track.at ≤ latest_instant → csv_form.ended r ≡ Ok end → end ≤ latest_instant
+rows_end_early csv r end early h = let g = csv 1 [] r (record { edges = option_to_list (last_edge r.track); end = end }) early (ap (end_of_lines 1 r.track) h) in g.3
+
+-- ---- the front of a capture
+
+pub names_first : (signal : List ℕ) (lines : List (List ℕ)) → names_left signal 1 lines ≡ named_read signal lines
+names_first signal [] = refl
+names_first signal (line ∷ lines) = by (column_of signal line)
+  where
+    by : (o : Option ℕ) → rows_left 2 lines (rows_by 1 o) ≡ column_read o lines
+    by None = refl
+    by (Some column) = refl
+
 -- ---- how what is left goes on
+
+-- at the end the name says nothing
+pub end_same : (signal : List ℕ) (lines : CaptureLines) (number : ℕ) → lines_left signal lines number [] ≡ lines_left [] lines number []
+end_same signal (File e) number = refl
+end_same signal (Pin r) number = refl
+end_same signal Names number = refl
+end_same signal (Rows r) number = refl
 
 pub record IsRest (lines : CaptureLines) (c : Captured) : Type 0 where
   pub is_low : Bool
@@ -154,11 +213,26 @@ file_rest go e number lines c (Some t) early h =
     let is = end_alone lines number t f.0 f.1 in
     subst (λ (c : Captured). FileRest (Some t) e.from c) (sym (f.2 ∙ ap (λ (x : EdgeFile). record { edges = x.edges; end = x.end }) is)) (e.is_low, tt, tt, omega arith)
 
-pub rest_of : (file : EdgeLinesGoOn) (pin : PinLinesGoOn) (lines : CaptureLines) (number : ℕ) (rest : List (List ℕ)) (c : Captured) → IsEarly lines → lines_left lines number rest ≡ Ok c → IsRest lines c
-rest_of file pin (File e) number rest c early h =
+pub rest_of : (file : EdgeLinesGoOn) (pin : PinLinesGoOn) (csv : CsvLinesGoOn) (signal : List ℕ) (lines : CaptureLines) (number : ℕ) (rest : List (List ℕ)) (c : Captured) → IsEarly lines → lines_left signal lines number rest ≡ Ok c → IsRest lines c
+rest_of file pin csv signal (File e) number rest c early h =
     let r = file_rest file e number rest c e.end early.1 h in
     record { is_low = r.0; turn = r.1; ends = r.2; reach = r.3 }
-rest_of file pin (Pin r) number rest c early h =
+rest_of file pin csv signal (Pin r) number rest c early h =
     let g = pin number rest r c early h in
+    let at = g.2 in
+    record { is_low = r.track.was_low; turn = g.0; ends = g.1; reach = omega (arith, at) }
+rest_of file pin csv signal Names number rest c early h = names_rest rest h
+  where
+    column_rest : (lines : List (List ℕ)) (column : Option ℕ) → rows_left (number + 1) lines (rows_by number column) ≡ Ok c → IsRest Names c
+    column_rest lines None k = cc
+    column_rest lines (Some column) k =
+        let g = csv (number + 1) lines (first_rows column) c (omega arith) k in
+        record { is_low = false; turn = g.0; ends = g.1; reach = omega arith }
+
+    names_rest : (rest : List (List ℕ)) → names_left signal number rest ≡ Ok c → IsRest Names c
+    names_rest [] k = cc
+    names_rest (line ∷ lines) k = column_rest lines (column_of signal line) k
+rest_of file pin csv signal (Rows r) number rest c early h =
+    let g = csv number rest r c early h in
     let at = g.2 in
     record { is_low = r.track.was_low; turn = g.0; ends = g.1; reach = omega (arith, at) }

@@ -67,24 +67,24 @@ long_line (Some xs) (Some ys) (Some zs) past front come whole long takes =
 
 -- ---- no line was read
 
-pub line_fails : (form : LineForm) (win : Windows) (known now next before after : Option (List ℕ)) (f : Follower) (number : ℕ) (line : List ℕ) (fault : LineFault) → Going form win known now before after f number
-    → IsNext now next line (Err fault) → Follows form win known before after (Err (line_error fault))
-line_fails form win known now next before after f number line line_fault.Read g h = record {
+pub line_fails : (form : LineForm) (signal : List ℕ) (win : Windows) (known now next before after : Option (List ℕ)) (f : Follower) (number : ℕ) (line : List ℕ) (fault : LineFault) → Going form signal win known now before after f number
+    → IsNext now next line (Err fault) → Follows form signal win known before after (Err (line_error fault))
+line_fails form signal win known now next before after f number line line_fault.Read g h = record {
   past = g.past;
   came = came_first known now g.past g.come;
-  written = up_to_date form win known now before after after f number g (Appends-nil after);
+  written = up_to_date form signal win known now before after after f number g (Appends-nil after);
 }
-line_fails form win known now next before after f number line line_fault.TooLong g h = record {
+line_fails form signal win known now next before after f number line line_fault.TooLong g h = record {
   past = g.past;
   over = inl (long_line known now next g.past h.0 g.come h.1 h.2 h.3);
-  written = up_to_date form win known now before after after f number g (Appends-nil after);
+  written = up_to_date form signal win known now before after after f number g (Appends-nil after);
 }
 
 -- as many lines as are counted
-pub lines_run_out : (form : LineForm) (win : Windows) (known now before after : Option (List ℕ)) (f : Follower) (number : ℕ) → Going form win known now before after f number → number ≡ 18446744073709551615 + 1
-    → Follows form win known before after (Err TooLong)
-lines_run_out form win known now before after f number g last = record {
+pub lines_run_out : (form : LineForm) (signal : List ℕ) (win : Windows) (known now before after : Option (List ℕ)) (f : Follower) (number : ℕ) → Going form signal win known now before after f number → number ≡ 18446744073709551615 + 1
+    → Follows form signal win known before after (Err TooLong)
+lines_run_out form signal win known now before after f number g last = record {
   past = g.past;
   over = inr (let count = g.count in omega (arith, count, last), came_first known now g.past g.come);
-  written = up_to_date form win known now before after after f number g (Appends-nil after);
+  written = up_to_date form signal win known now before after after f number g (Appends-nil after);
 }

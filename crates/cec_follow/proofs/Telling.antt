@@ -27,8 +27,11 @@ use Rattle.cec_follow.specs.declared.lines.LineForm.{LineForm}
 use Rattle.cec_follow.specs.declared.lines.LineForm.TheVariants as forms
 use Rattle.cec_pin.specs.Pin.{first_reader}
 use Rattle.cec_pin.specs.Sampling.{PinLinesGoOn}
+use Rattle.cec_csv.specs.Csv.{column_of, column_read, named_read}
+use Rattle.cec_csv.specs.Csv.{first_reader as first_rows}
+use Rattle.cec_csv.specs.Sampling.{CsvLinesGoOn}
 use Rattle.cec_mon.specs.EdgeFile.{EdgeLinesGoOn, edges_read}
-use Rattle.cec_follow.proofs.Left.{both, file_of_captured, rest_of, with_none}
+use Rattle.cec_follow.proofs.Left.{both, end_same, file_of_captured, rest_of, with_none}
 
 -- ---- texts of readings
 
@@ -40,13 +43,23 @@ grown xs ys o text is more = ap (λ t. t ++ reported_text o) is ∙ sym (text_mo
 
 -- ---- the begin
 
+-- rows are in turn from a fall on
+column_turn : (csv : CsvLinesGoOn) (column : Option ℕ) (lines : List (List ℕ)) (c : Captured) → column_read column lines ≡ Ok c → AreInTurn false 0 c.edges × EndBy c.end c.edges
+column_turn csv None lines c h = cc
+column_turn csv (Some column) lines c h = let g = csv 2 lines (first_rows column) c (omega arith) h in (g.0, g.1)
+
+named_turn : (csv : CsvLinesGoOn) (signal : List ℕ) (lines : List (List ℕ)) (c : Captured) → named_read signal lines ≡ Ok c → AreInTurn false 0 c.edges × EndBy c.end c.edges
+named_turn csv signal [] c h = cc
+named_turn csv signal (line ∷ lines) c h = column_turn csv (column_of signal line) lines c h
+
 -- the edges of a capture are in turn from a fall on
-captured_turn : (file : EdgeLinesGoOn) (pin : PinLinesGoOn) (form : LineForm) (lines : List (List ℕ)) (c : Captured) → lines_captured form lines ≡ Ok c → AreInTurn false 0 c.edges × EndBy c.end c.edges
-captured_turn file pin forms.Edges lines c h =
+captured_turn : (file : EdgeLinesGoOn) (pin : PinLinesGoOn) (csv : CsvLinesGoOn) (form : LineForm) (signal : List ℕ) (lines : List (List ℕ)) (c : Captured) → lines_captured form signal lines ≡ Ok c → AreInTurn false 0 c.edges × EndBy c.end c.edges
+captured_turn file pin csv forms.Edges signal lines c h =
     let f = file_of_captured (edges_read lines 1 false 0) c h in
     let g = file lines 1 false 0 f.0 f.1 in
     subst (λ (c : Captured). AreInTurn false 0 c.edges × EndBy c.end c.edges) (sym f.2) (g.0, g.1)
-captured_turn file pin forms.Pin lines c h = let g = pin 1 lines first_reader c (omega arith) h in (g.0, g.1)
+captured_turn file pin csv forms.Pin signal lines c h = let g = pin 1 lines first_reader c (omega arith) h in (g.0, g.1)
+captured_turn file pin csv forms.Csv signal lines c h = named_turn csv signal lines c h
 
 told_first : (win : Windows) (m : Watcher) (c : Captured) → ((low : Line) → HeardBeforeBy win m low 0) → AreInTurn false 0 c.edges → EndBy c.end c.edges → HasTold win m 0 (line_of_edges c.edges) c.edges c.end []
 unfolding ended_before_by
@@ -61,13 +74,13 @@ told_first win m c heard turn ends = record {
   reported = refl;
 }
 
-pub followed_first : (file : EdgeLinesGoOn) (pin : PinLinesGoOn) (form : LineForm) (win : Windows) (f : Follower) → ((lines : List (List ℕ)) → lines_left f.lines 1 lines ≡ lines_captured form lines)
-    → ((low : Line) → HeardBeforeBy win f.monitor low 0) → f.known ≡ 0 → IsFollowed form win [] 1 f []
-followed_first file pin form win f first heard known = record {
+pub followed_first : (file : EdgeLinesGoOn) (pin : PinLinesGoOn) (csv : CsvLinesGoOn) (form : LineForm) (signal : List ℕ) (win : Windows) (f : Follower) → ((lines : List (List ℕ)) → lines_left signal f.lines 1 lines ≡ lines_captured form signal lines)
+    → ((low : Line) → HeardBeforeBy win f.monitor low 0) → f.known ≡ 0 → IsFollowed form signal win [] 1 f []
+followed_first file pin csv form signal win f first heard known = record {
   edges = [];
-  read = λ rest. sym (first rest) ∙ with_none (lines_left f.lines 1 rest);
+  read = λ rest. sym (first rest) ∙ with_none (lines_left signal f.lines 1 rest);
   told = λ rest c h.
-      let t = captured_turn file pin form rest c (sym (first rest) ∙ h) in
+      let t = captured_turn file pin csv form signal rest c (sym (first rest) ∙ h) in
       subst (λ n. HasTold win f.monitor n (line_of_edges c.edges) c.edges c.end []) (sym known) (told_first win f.monitor c heard t.0 t.1);
 }
 
@@ -204,30 +217,30 @@ split_read : (edges : List Edge) (r : Result Captured CaptureFault) (c : Capture
 split_read edges (Ok d) c h = (d, refl, (let x : record { edges = edges ++ d.edges; end = d.end } ≡ c = cc in sym x))
 split_read edges (Err f) c h = cc
 
-pub followed_front : (form : LineForm) (win : Windows) (past : List (List ℕ)) (number : ℕ) (f : Follower) (text : List ℕ) → IsFollowed form win past number f text → IsFront true form win past text
-followed_front form win past number f text w = λ rest c left h.
-    let d = split_read w.edges (lines_left f.lines number rest) c (sym (w.read rest) ∙ h) in
+pub followed_front : (form : LineForm) (signal : List ℕ) (win : Windows) (past : List (List ℕ)) (number : ℕ) (f : Follower) (text : List ℕ) → IsFollowed form signal win past number f text → IsFront true form signal win past text
+followed_front form signal win past number f text w = λ rest c left h.
+    let d = split_read w.edges (lines_left signal f.lines number rest) c (sym (w.read rest) ∙ h) in
     let front = told_front win f.monitor f.known (line_of_edges (w.edges ++ d.0.edges)) d.0.edges d.0.end text (w.told rest d.0 d.1) in
     (front.0, ap (text_of win) d.2 ∙ front.1)
 
 -- of what is left after a line
-pub line_followed : (form : LineForm) (win : Windows) (past : List (List ℕ)) (number : ℕ) (line : List ℕ) (old mid new taken : Follower) (edge : Option Edge) (heard : Heard) (one two : Option Listed) (from : ℕ) (text : List ℕ)
-    → IsFollowed form win past number old text → taken.monitor ≡ old.monitor → taken.known ≡ old.known → TakesLine old.lines number line (Ok edge) taken.lines
-    → ((rest : List (List ℕ)) (c : Captured) → lines_left taken.lines (number + 1) rest ≡ Ok c → NoneBefore from c.edges × (from ≤ c.end + 1))
+pub line_followed : (form : LineForm) (signal : List ℕ) (win : Windows) (past : List (List ℕ)) (number : ℕ) (line : List ℕ) (old mid new taken : Follower) (edge : Option Edge) (heard : Heard) (one two : Option Listed) (from : ℕ) (text : List ℕ)
+    → IsFollowed form signal win past number old text → taken.monitor ≡ old.monitor → taken.known ≡ old.known → TakesLine signal old.lines number line (Ok edge) taken.lines
+    → ((rest : List (List ℕ)) (c : Captured) → lines_left signal taken.lines (number + 1) rest ≡ Ok c → NoneBefore from c.edges × (from ≤ c.end + 1))
     → TellsEdge taken edge one mid → TellsCalm mid from two new → heard_text heard ≡ reported_text one ++ reported_text two
-    → IsFollowed form win (past ++ line ∷ []) (number + 1) new (text ++ heard_text heard)
-line_followed form win past number line old mid new taken edge heard one two from text w monitor known takes goes edges calm is = record {
+    → IsFollowed form signal win (past ++ line ∷ []) (number + 1) new (text ++ heard_text heard)
+line_followed form signal win past number line old mid new taken edge heard one two from text w monitor known takes goes edges calm is = record {
   edges = w.edges ++ option_to_list edge;
   read = λ rest.
-      ap (lines_captured form) (append_assoc past (line ∷ []) rest) ∙ w.read (line ∷ rest) ∙ ap (with_edges w.edges) (takes rest)
-      ∙ both w.edges (option_to_list edge) (lines_left taken.lines (number + 1) rest) ∙ ap (λ ls. with_edges (w.edges ++ option_to_list edge) (lines_left ls (number + 1) rest)) (sym same);
-  told = λ rest c h. after rest c (sym (ap (λ ls. lines_left ls (number + 1) rest) same) ∙ h);
+      ap (lines_captured form signal) (append_assoc past (line ∷ []) rest) ∙ w.read (line ∷ rest) ∙ ap (with_edges w.edges) (takes rest)
+      ∙ both w.edges (option_to_list edge) (lines_left signal taken.lines (number + 1) rest) ∙ ap (λ ls. with_edges (w.edges ++ option_to_list edge) (lines_left signal ls (number + 1) rest)) (sym same);
+  told = λ rest c h. after rest c (sym (ap (λ ls. lines_left signal ls (number + 1) rest) same) ∙ h);
 }
   where
     same : new.lines ≡ taken.lines
     same = calm.lines ∙ edges.lines
 
-    after : (rest : List (List ℕ)) (c : Captured) → lines_left taken.lines (number + 1) rest ≡ Ok c
+    after : (rest : List (List ℕ)) (c : Captured) → lines_left signal taken.lines (number + 1) rest ≡ Ok c
         → HasTold win new.monitor new.known (line_of_edges ((w.edges ++ option_to_list edge) ++ c.edges)) c.edges c.end (text ++ heard_text heard)
     after rest c h =
         let d : Captured = record { edges = option_to_list edge ++ c.edges; end = c.end } in
@@ -243,26 +256,26 @@ line_followed form win past number line old mid new taken edge heard one two fro
         subst (λ t. HasTold win new.monitor new.known low c.edges c.end t) (append_assoc text (reported_text one) (reported_text two) ∙ ap (λ t. text ++ t) (sym is)) last
 
 -- no edge of what is left comes before where the reader stands
-pub goes_on : (file : EdgeLinesGoOn) (pin : PinLinesGoOn) (lines : CaptureLines) (number from : ℕ) → from ≡ from_of lines → IsEarly lines
-    → (rest : List (List ℕ)) (c : Captured) → lines_left lines number rest ≡ Ok c → NoneBefore from c.edges × (from ≤ c.end + 1)
-goes_on file pin lines number from is early rest c h =
-    let r = rest_of file pin lines number rest c early h in
+pub goes_on : (file : EdgeLinesGoOn) (pin : PinLinesGoOn) (csv : CsvLinesGoOn) (signal : List ℕ) (lines : CaptureLines) (number from : ℕ) → from ≡ from_of lines → IsEarly lines
+    → (rest : List (List ℕ)) (c : Captured) → lines_left signal lines number rest ≡ Ok c → NoneBefore from c.edges × (from ≤ c.end + 1)
+goes_on file pin csv signal lines number from is early rest c h =
+    let r = rest_of file pin csv signal lines number rest c early h in
     let reach = r.reach in
     ((r.is_low, subst (λ n. AreInTurn r.is_low n c.edges) (sym is) r.turn), omega (arith, is, reach))
 
 -- a line at fault
-pub line_refused : (form : LineForm) (win : Windows) (past : List (List ℕ)) (number : ℕ) (line : List ℕ) (old : Follower) (lines : CaptureLines) (fault : CaptureFault) (text : List ℕ) → IsFollowed form win past number old text
-    → TakesLine old.lines number line (Err fault) lines → (rest : List (List ℕ)) → lines_captured form (past ++ line ∷ rest) ≡ Err fault
-line_refused form win past number line old lines fault text w takes rest = w.read (line ∷ rest) ∙ ap (with_edges w.edges) (takes rest)
+pub line_refused : (form : LineForm) (signal : List ℕ) (win : Windows) (past : List (List ℕ)) (number : ℕ) (line : List ℕ) (old : Follower) (lines : CaptureLines) (fault : CaptureFault) (text : List ℕ) → IsFollowed form signal win past number old text
+    → TakesLine signal old.lines number line (Err fault) lines → (rest : List (List ℕ)) → lines_captured form signal (past ++ line ∷ rest) ≡ Err fault
+line_refused form signal win past number line old lines fault text w takes rest = w.read (line ∷ rest) ∙ ap (with_edges w.edges) (takes rest)
 
 -- ---- the end
 
-pub end_followed : (form : LineForm) (win : Windows) (past : List (List ℕ)) (number : ℕ) (f mid : Follower) (last : Last) (heard : Heard) (one two : Option Listed) (text : List ℕ) → IsFollowed form win past number f text
+pub end_followed : (form : LineForm) (signal : List ℕ) (win : Windows) (past : List (List ℕ)) (number : ℕ) (f mid : Follower) (last : Last) (heard : Heard) (one two : Option Listed) (text : List ℕ) → IsFollowed form signal win past number f text
     → EndsLines f.lines number (Ok last) → TellsEdge f last.edge one mid → FollowsEndBy win mid.monitor last.end two → heard_text heard ≡ reported_text one ++ reported_text two
-    → IsWhole form win past (text ++ heard_text heard)
-end_followed form win past number f mid last heard one two text w ends edge follows is = record {
+    → IsWhole form signal win past (text ++ heard_text heard)
+end_followed form signal win past number f mid last heard one two text w ends edge follows is = record {
   capture = record { edges = w.edges ++ option_to_list last.edge; end = last.end };
-  read = ap (lines_captured form) (sym (append-nil past)) ∙ w.read [] ∙ ap (with_edges w.edges) ends;
+  read = ap (lines_captured form signal) (sym (append-nil past)) ∙ w.read [] ∙ ap (with_edges w.edges) (end_same signal f.lines number ∙ ends);
   all = told_end win mid.monitor mid.known low last.end (text ++ reported_text one) two next follows ∙ append_assoc text (reported_text one) (reported_text two) ∙ ap (λ t. text ++ t) (sym is);
 }
   where
@@ -272,11 +285,11 @@ end_followed form win past number f mid last heard one two text w ends edge foll
     first : HasTold win f.monitor f.known low (option_to_list last.edge ++ []) last.end text
     first =
         subst (λ (es : List Edge). HasTold win f.monitor f.known low es last.end text) (sym (append-nil (option_to_list last.edge)))
-        (w.told [] (record { edges = option_to_list last.edge; end = last.end }) ends)
+        (w.told [] (record { edges = option_to_list last.edge; end = last.end }) (end_same signal f.lines number ∙ ends))
 
     next : HasTold win mid.monitor mid.known low [] last.end (text ++ reported_text one)
     next = edge.told win low [] last.end text first
 
-pub end_refused : (form : LineForm) (win : Windows) (past : List (List ℕ)) (number : ℕ) (f : Follower) (fault : CaptureFault) (text : List ℕ) → IsFollowed form win past number f text → EndsLines f.lines number (Err fault)
-    → lines_captured form past ≡ Err fault
-end_refused form win past number f fault text w ends = ap (lines_captured form) (sym (append-nil past)) ∙ w.read [] ∙ ap (with_edges w.edges) ends
+pub end_refused : (form : LineForm) (signal : List ℕ) (win : Windows) (past : List (List ℕ)) (number : ℕ) (f : Follower) (fault : CaptureFault) (text : List ℕ) → IsFollowed form signal win past number f text → EndsLines f.lines number (Err fault)
+    → lines_captured form signal past ≡ Err fault
+end_refused form signal win past number f fault text w ends = ap (lines_captured form signal) (sym (append-nil past)) ∙ w.read [] ∙ ap (with_edges w.edges) (end_same signal f.lines number ∙ ends)

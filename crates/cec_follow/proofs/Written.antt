@@ -47,34 +47,34 @@ puts_all old mid new text error a k = (text, [], sym (append-nil text), Appends-
 -- ---- a line
 
 -- of a text of which all is a front, each front is one
-front_less : (more : Bool) (form : LineForm) (win : Windows) (past : List (List ℕ)) (text front rest : List ℕ) → text ≡ front ++ rest → (so_far : List ℕ) → IsFront more form win past (so_far ++ text) → IsFront more form win past (so_far ++ front)
-front_less more form win past text front rest is so_far h = λ left c all read.
+front_less : (more : Bool) (form : LineForm) (signal : List ℕ) (win : Windows) (past : List (List ℕ)) (text front rest : List ℕ) → text ≡ front ++ rest → (so_far : List ℕ) → IsFront more form signal win past (so_far ++ text) → IsFront more form signal win past (so_far ++ front)
+front_less more form signal win past text front rest is so_far h = λ left c all read.
     let f = h left c all read in
     (rest ++ f.0, f.1 ∙ ap (λ t. (so_far ++ t) ++ f.0) is ∙ ap (λ t. t ++ f.0) (sym (append_assoc so_far front rest)) ∙ append_assoc (so_far ++ front) rest f.0)
 
-pub hears : (number : ℕ) (line : List ℕ) (old new : Follower) (heard : Heard) (before after : Option (List ℕ)) (result : Result (Unit {0}) FollowError) → HearsLine number line old (Ok heard) new → IsPrompt new
-    → Puts before after (heard_text heard) result → IsOfWriting result → Hears number line old new before after result
-hears number line old new heard before after (Ok done) h prompt put writes = record { text = heard_text heard; put = put; followed = h; prompt = prompt }
-hears number line old new heard before after (Err (Capture fault)) h prompt put writes = absurd writes
-hears number line old new heard before after (Err Read) h prompt put writes = absurd writes
-hears number line old new heard before after (Err TooLong) h prompt put writes = absurd writes
-hears number line old new heard before after (Err (Write count)) h prompt put writes = record {
+pub hears : (signal : List ℕ) (number : ℕ) (line : List ℕ) (old new : Follower) (heard : Heard) (before after : Option (List ℕ)) (result : Result (Unit {0}) FollowError) → HearsLine signal number line old (Ok heard) new → IsPrompt new
+    → Puts before after (heard_text heard) result → IsOfWriting result → Hears signal number line old new before after result
+hears signal number line old new heard before after (Ok done) h prompt put writes = record { text = heard_text heard; put = put; followed = h; prompt = prompt }
+hears signal number line old new heard before after (Err (Capture fault)) h prompt put writes = absurd writes
+hears signal number line old new heard before after (Err Read) h prompt put writes = absurd writes
+hears signal number line old new heard before after (Err TooLong) h prompt put writes = absurd writes
+hears signal number line old new heard before after (Err (Write count)) h prompt put writes = record {
   text = put.0;
   left = put.1;
   put = put.3;
-  followed = λ form win past so_far w. subst (λ t. IsFollowed form win (past ++ line ∷ []) (number + 1) new (so_far ++ t)) put.2 (h form win past so_far w);
+  followed = λ form win past so_far w. subst (λ t. IsFollowed form signal win (past ++ line ∷ []) (number + 1) new (so_far ++ t)) put.2 (h form win past so_far w);
   prompt = prompt;
 }
 
-pub fault_heard : (number : ℕ) (line : List ℕ) (old new : Follower) (bytes : Option (List ℕ)) (fault : CaptureFault) → HearsLine number line old (Err fault) new → fault.line ≡ number
-    → Hears number line old new bytes bytes (Err (Capture fault))
-fault_heard number line old new bytes fault h place = record { put = Appends-nil bytes; place = place; refused = h }
+pub fault_heard : (signal : List ℕ) (number : ℕ) (line : List ℕ) (old new : Follower) (bytes : Option (List ℕ)) (fault : CaptureFault) → HearsLine signal number line old (Err fault) new → fault.line ≡ number
+    → Hears signal number line old new bytes bytes (Err (Capture fault))
+fault_heard signal number line old new bytes fault h place = record { put = Appends-nil bytes; place = place; refused = h }
 
 -- ---- the end
 
-whole_front : (form : LineForm) (win : Windows) (past : List (List ℕ)) (text : List ℕ) → IsAll form win past text → IsFront false form win past text
-whole_front form win past text w = λ rest c none read.
-    let same : Ok w.capture ≡ Ok c = sym w.read ∙ ap (lines_captured form) (sym (append-nil past) ∙ ap (λ ls. past ++ ls) (sym none)) ∙ read in
+whole_front : (form : LineForm) (signal : List ℕ) (win : Windows) (past : List (List ℕ)) (text : List ℕ) → IsAll form signal win past text → IsFront false form signal win past text
+whole_front form signal win past text w = λ rest c none read.
+    let same : Ok w.capture ≡ Ok c = sym w.read ∙ ap (lines_captured form signal) (sym (append-nil past) ∙ ap (λ ls. past ++ ls) (sym none)) ∙ read in
     let is : w.capture ≡ c = cc in
     ([], ap (text_of win) (sym is) ∙ w.all ∙ sym (append-nil text))
 
@@ -88,7 +88,7 @@ ends number f heard before after (Err (Write count)) h put writes = record {
   text = put.0;
   left = put.1;
   put = put.3;
-  all = λ form win past so_far w. subst (λ t. IsAll form win past (so_far ++ t)) put.2 (h form win past so_far w);
+  all = λ form signal win past so_far w. subst (λ t. IsAll form signal win past (so_far ++ t)) put.2 (h form signal win past so_far w);
 }
 
 pub fault_ends : (number : ℕ) (f : Follower) (bytes : Option (List ℕ)) (fault : CaptureFault) → HearsEnd number f (Err fault) → fault.line ≡ number → Ends number f bytes bytes (Err (Capture fault))
@@ -115,13 +115,13 @@ Come None after lines = Unit {0}
 Come (Some before) None lines = ⊥
 Come (Some before) (Some after) lines = lines_of before ≡ lines ++ lines_of after
 
-pub record Going (form : LineForm) (win : Windows) (known now before after : Option (List ℕ)) (f : Follower) (number : ℕ) : Type 0 where
+pub record Going (form : LineForm) (signal : List ℕ) (win : Windows) (known now before after : Option (List ℕ)) (f : Follower) (number : ℕ) : Type 0 where
   pub past : List (List ℕ)
   pub count : number ≡ length past + 1
   pub text : List ℕ
   pub come : Come known now past
   pub whole : All IsWhole past
-  pub followed : IsFollowed form win past number f text
+  pub followed : IsFollowed form signal win past number f text
   pub prompt : IsPrompt f
   pub ready : IsReady f
   pub put : Appends before after text
@@ -134,8 +134,8 @@ come_none : (known : Option (List ℕ)) → Come known known []
 come_none None = tt
 come_none (Some xs) = refl
 
-pub going_first : (form : LineForm) (win : Windows) (known before : Option (List ℕ)) (left : List ℕ) (f : Follower) → left ≡ [] → IsFollowed form win [] 1 f [] → IsPrompt f → IsReady f → Going form win known (prepend_known left known) before before f 1
-going_first form win known before left f none w prompt ready = record {
+pub going_first : (form : LineForm) (signal : List ℕ) (win : Windows) (known before : Option (List ℕ)) (left : List ℕ) (f : Follower) → left ≡ [] → IsFollowed form signal win [] 1 f [] → IsPrompt f → IsReady f → Going form signal win known (prepend_known left known) before before f 1
+going_first form signal win known before left f none w prompt ready = record {
   past = [];
   count = refl;
   text = [];
@@ -153,9 +153,9 @@ come_more (Some xs) None next past line a b = absurd a
 come_more (Some xs) (Some ys) None past line a b = absurd b
 come_more (Some xs) (Some ys) (Some zs) past line a b = a ∙ ap (λ ls. past ++ ls) b ∙ sym (append_assoc past (line ∷ []) (lines_of zs))
 
-pub going_more : (form : LineForm) (win : Windows) (known now next before mid after : Option (List ℕ)) (old new : Follower) (number : ℕ) (line : List ℕ) → Going form win known now before mid old number → IsWhole line → Leads now next line
-    → HasHeard number line old new mid after → IsReady new → Going form win known next before after new (number + 1)
-going_more form win known now next before mid after old new number line g whole leads h ready = record {
+pub going_more : (form : LineForm) (signal : List ℕ) (win : Windows) (known now next before mid after : Option (List ℕ)) (old new : Follower) (number : ℕ) (line : List ℕ) → Going form signal win known now before mid old number → IsWhole line → Leads now next line
+    → HasHeard signal number line old new mid after → IsReady new → Going form signal win known next before after new (number + 1)
+going_more form signal win known now next before mid after old new number line g whole leads h ready = record {
   past = g.past ++ line ∷ [];
   count = let more : length (g.past ++ line ∷ []) ≡ length g.past + 1 = length-append g.past (line ∷ []) in let count = g.count in omega (arith, more, count);
   text = g.text ++ h.text;
@@ -180,85 +180,86 @@ came_all (Some xs) None past a end = absurd a
 came_all (Some xs) (Some ys) past a end = a ∙ ap (λ t. past ++ lines_of t) end ∙ append-nil past
 
 -- each reading that is over is written
-pub up_to_date : (form : LineForm) (win : Windows) (known now before mid after : Option (List ℕ)) (f : Follower) (number : ℕ) → (g : Going form win known now before mid f number) → Appends mid after []
-    → IsUpToDate form win g.past before after
-up_to_date form win known now before mid after f number g none = record {
+pub up_to_date : (form : LineForm) (signal : List ℕ) (win : Windows) (known now before mid after : Option (List ℕ)) (f : Follower) (number : ℕ) → (g : Going form signal win known now before mid f number) → Appends mid after []
+    → IsUpToDate form signal win g.past before after
+up_to_date form signal win known now before mid after f number g none = record {
   follower = f;
   text = g.text;
-  followed = subst (λ n. IsFollowed form win g.past n f g.text) g.count g.followed;
+  followed = subst (λ n. IsFollowed form signal win g.past n f g.text) g.count g.followed;
   prompt = g.prompt;
-  front = followed_front form win g.past number f g.text g.followed;
+  front = followed_front form signal win g.past number f g.text g.followed;
   put = subst (λ t. Appends before after t) (append-nil g.text) (Appends-trans before mid after g.text [] g.put none);
 }
 
 -- an input in a form, by its lines
-by_lines : (form : LineForm) (signal text : List ℕ) → capture_in (form_as form) signal text ≡ lines_captured form (lines_of text)
+by_lines : (form : LineForm) (signal text : List ℕ) → capture_in (form_as form) signal text ≡ lines_captured form signal (lines_of text)
 by_lines forms.Edges signal text = refl
 by_lines forms.Pin signal text = refl
+by_lines forms.Csv signal text = refl
 
 -- a fault is that of the input
-abbrev IsFaultOf : LineForm → Option (List ℕ) → CaptureFault → Type 0
-IsFaultOf form known fault = IfSome known (λ text. (signal : List ℕ) → capture_in (form_as form) signal text ≡ Err fault)
+abbrev IsFaultOf : LineForm → List ℕ → Option (List ℕ) → CaptureFault → Type 0
+IsFaultOf form signal known fault = IfSome known (λ text. capture_in (form_as form) signal text ≡ Err fault)
 
-refused_line : (form : LineForm) (known now next : Option (List ℕ)) (past : List (List ℕ)) (line : List ℕ) (fault : CaptureFault) → Come known now past → Leads now next line
-    → ((rest : List (List ℕ)) → lines_captured form (past ++ line ∷ rest) ≡ Err fault) → IsFaultOf form known fault
-refused_line form None now next past line fault a b refused = tt
-refused_line form (Some xs) None next past line fault a b refused = absurd a
-refused_line form (Some xs) (Some ys) None past line fault a b refused = absurd b
-refused_line form (Some xs) (Some ys) (Some zs) past line fault a b refused = λ signal.
-    by_lines form signal xs ∙ ap (lines_captured form) (a ∙ ap (λ ls. past ++ ls) b) ∙ refused (lines_of zs)
+refused_line : (form : LineForm) (signal : List ℕ) (known now next : Option (List ℕ)) (past : List (List ℕ)) (line : List ℕ) (fault : CaptureFault) → Come known now past → Leads now next line
+    → ((rest : List (List ℕ)) → lines_captured form signal (past ++ line ∷ rest) ≡ Err fault) → IsFaultOf form signal known fault
+refused_line form signal None now next past line fault a b refused = tt
+refused_line form signal (Some xs) None next past line fault a b refused = absurd a
+refused_line form signal (Some xs) (Some ys) None past line fault a b refused = absurd b
+refused_line form signal (Some xs) (Some ys) (Some zs) past line fault a b refused =
+    by_lines form signal xs ∙ ap (lines_captured form signal) (a ∙ ap (λ ls. past ++ ls) b) ∙ refused (lines_of zs)
 
-refused_end : (form : LineForm) (known now : Option (List ℕ)) (past : List (List ℕ)) (fault : CaptureFault) → Come known now past → IsAtEnd now → lines_captured form past ≡ Err fault → IsFaultOf form known fault
-refused_end form None now past fault a end refused = tt
-refused_end form (Some xs) None past fault a end refused = absurd a
-refused_end form (Some xs) (Some ys) past fault a end refused = λ signal.
-    by_lines form signal xs ∙ ap (lines_captured form) (a ∙ ap (λ t. past ++ lines_of t) end ∙ append-nil past) ∙ refused
+refused_end : (form : LineForm) (signal : List ℕ) (known now : Option (List ℕ)) (past : List (List ℕ)) (fault : CaptureFault) → Come known now past → IsAtEnd now → lines_captured form signal past ≡ Err fault → IsFaultOf form signal known fault
+refused_end form signal None now past fault a end refused = tt
+refused_end form signal (Some xs) None past fault a end refused = absurd a
+refused_end form signal (Some xs) (Some ys) past fault a end refused =
+    by_lines form signal xs ∙ ap (lines_captured form signal) (a ∙ ap (λ t. past ++ lines_of t) end ∙ append-nil past) ∙ refused
 
 -- what is over by a line of which the write failed
-cut_over : (form : LineForm) (win : Windows) (known now before mid after : Option (List ℕ)) (old new : Follower) (number : ℕ) (line : List ℕ) → (g : Going form win known now before mid old number)
-    → (h : IsCut number line old new mid after) → IsOverBy form win g.past (Some line) (g.text ++ (h.text ++ h.left)) (g.text ++ h.text)
-cut_over form win known now before mid after old new number line g h =
-    let w : IsFollowed form win (g.past ++ line ∷ []) (number + 1) new (g.text ++ (h.text ++ h.left)) = h.followed form win g.past g.text g.followed in (
+cut_over : (form : LineForm) (signal : List ℕ) (win : Windows) (known now before mid after : Option (List ℕ)) (old new : Follower) (number : ℕ) (line : List ℕ) → (g : Going form signal win known now before mid old number)
+    → (h : IsCut signal number line old new mid after) → IsOverBy form signal win g.past (Some line) (g.text ++ (h.text ++ h.left)) (g.text ++ h.text)
+cut_over form signal win known now before mid after old new number line g h =
+    let w : IsFollowed form signal win (g.past ++ line ∷ []) (number + 1) new (g.text ++ (h.text ++ h.left)) = h.followed form win g.past g.text g.followed in (
       new,
-      subst (λ n. IsFollowed form win (g.past ++ line ∷ []) (n + 1) new (g.text ++ (h.text ++ h.left))) g.count w,
+      subst (λ n. IsFollowed form signal win (g.past ++ line ∷ []) (n + 1) new (g.text ++ (h.text ++ h.left))) g.count w,
       h.prompt,
-      front_less true form win (g.past ++ line ∷ []) (h.text ++ h.left) h.text h.left refl g.text (followed_front form win (g.past ++ line ∷ []) (number + 1) new (g.text ++ (h.text ++ h.left)) w),
+      front_less true form signal win (g.past ++ line ∷ []) (h.text ++ h.left) h.text h.left refl g.text (followed_front form signal win (g.past ++ line ∷ []) (number + 1) new (g.text ++ (h.text ++ h.left)) w),
     )
 
 -- or with the end
-cut_last : (form : LineForm) (win : Windows) (known now before mid after : Option (List ℕ)) (f : Follower) (number : ℕ) → (g : Going form win known now before mid f number) → (h : IsCutLast number f mid after)
-    → IsOverBy form win g.past None (g.text ++ (h.text ++ h.left)) (g.text ++ h.text)
-cut_last form win known now before mid after f number g h =
-    let all : IsAll form win g.past (g.text ++ (h.text ++ h.left)) = h.all form win g.past g.text g.followed in
-    (all, front_less false form win g.past (h.text ++ h.left) h.text h.left refl g.text (whole_front form win g.past (g.text ++ (h.text ++ h.left)) all))
+cut_last : (form : LineForm) (signal : List ℕ) (win : Windows) (known now before mid after : Option (List ℕ)) (f : Follower) (number : ℕ) → (g : Going form signal win known now before mid f number) → (h : IsCutLast number f mid after)
+    → IsOverBy form signal win g.past None (g.text ++ (h.text ++ h.left)) (g.text ++ h.text)
+cut_last form signal win known now before mid after f number g h =
+    let all : IsAll form signal win g.past (g.text ++ (h.text ++ h.left)) = h.all form signal win g.past g.text g.followed in
+    (all, front_less false form signal win g.past (h.text ++ h.left) h.text h.left refl g.text (whole_front form signal win g.past (g.text ++ (h.text ++ h.left)) all))
 
 -- a line that stops it
-pub line_stops : (form : LineForm) (win : Windows) (known now next before mid after : Option (List ℕ)) (old new : Follower) (number : ℕ) (line : List ℕ) (error : FollowError) → Going form win known now before mid old number
-    → Leads now next line → Hears number line old new mid after (Err error) → Follows form win known before after (Err error)
-line_stops form win known now next before mid after old new number line (Capture fault) g leads h = record {
+pub line_stops : (form : LineForm) (signal : List ℕ) (win : Windows) (known now next before mid after : Option (List ℕ)) (old new : Follower) (number : ℕ) (line : List ℕ) (error : FollowError) → Going form signal win known now before mid old number
+    → Leads now next line → Hears signal number line old new mid after (Err error) → Follows form signal win known before after (Err error)
+line_stops form signal win known now next before mid after old new number line (Capture fault) g leads h = record {
   past = g.past;
   next = Some line;
   came = came_first known next (g.past ++ line ∷ []) (come_more known now next g.past line g.come leads);
   place = h.place ∙ g.count;
   refused = h.refused form win g.past g.text g.followed;
-  read = refused_line form known now next g.past line fault g.come leads (h.refused form win g.past g.text g.followed);
-  written = up_to_date form win known now before mid after old number g h.put;
+  read = refused_line form signal known now next g.past line fault g.come leads (h.refused form win g.past g.text g.followed);
+  written = up_to_date form signal win known now before mid after old number g h.put;
 }
-line_stops form win known now next before mid after old new number line (Write count) g leads h = record {
+line_stops form signal win known now next before mid after old new number line (Write count) g leads h = record {
   past = g.past;
   next = Some line;
   came = came_first known next (g.past ++ line ∷ []) (come_more known now next g.past line g.come leads);
   follower = old;
   text = g.text;
-  followed = subst (λ n. IsFollowed form win g.past n old g.text) g.count g.followed;
+  followed = subst (λ n. IsFollowed form signal win g.past n old g.text) g.count g.followed;
   prompt = g.prompt;
   front = h.text;
   left = h.left;
-  over = cut_over form win known now before mid after old new number line g h;
+  over = cut_over form signal win known now before mid after old new number line g h;
   put = Appends-trans before mid after g.text h.text g.put h.put;
 }
-line_stops form win known now next before mid after old new number line Read g leads h = absurd h
-line_stops form win known now next before mid after old new number line TooLong g leads h = absurd h
+line_stops form signal win known now next before mid after old new number line Read g leads h = absurd h
+line_stops form signal win known now next before mid after old new number line TooLong g leads h = absurd h
 
 -- no line is left
 input_of : (form : LineForm) (known now : Option (List ℕ)) (past : List (List ℕ)) → Come known now past → All IsWhole past → IsAtEnd now
@@ -267,39 +268,39 @@ input_of form None now past a whole end = (text_of_lines past, tt, lines_again p
 input_of form (Some xs) None past a whole end = absurd a
 input_of form (Some xs) (Some ys) past a whole end = (xs, refl, a ∙ ap (λ t. past ++ lines_of t) end ∙ append-nil past)
 
-pub end_stops : (form : LineForm) (win : Windows) (known now before mid after : Option (List ℕ)) (f : Follower) (number : ℕ) (result : Result (Unit {0}) FollowError) → Going form win known now before mid f number → IsAtEnd now
-    → Ends number f mid after result → Follows form win known before after result
-end_stops form win known now before mid after f number (Ok done) g end h =
-    let all = h.all form win g.past g.text g.followed in
+pub end_stops : (form : LineForm) (signal : List ℕ) (win : Windows) (known now before mid after : Option (List ℕ)) (f : Follower) (number : ℕ) (result : Result (Unit {0}) FollowError) → Going form signal win known now before mid f number → IsAtEnd now
+    → Ends number f mid after result → Follows form signal win known before after result
+end_stops form signal win known now before mid after f number (Ok done) g end h =
+    let all = h.all form signal win g.past g.text g.followed in
     let input = input_of form known now g.past g.come g.whole end in
     record {
       input = input.0;
       all = input.1;
       capture = all.capture;
-      read = λ signal. by_lines form signal input.0 ∙ ap (lines_captured form) input.2 ∙ all.read;
+      read = by_lines form signal input.0 ∙ ap (lines_captured form signal) input.2 ∙ all.read;
       put = subst (λ t. Appends before after t) (sym all.all) (Appends-trans before mid after g.text h.text g.put h.put);
     }
-end_stops form win known now before mid after f number (Err (Capture fault)) g end h = record {
+end_stops form signal win known now before mid after f number (Err (Capture fault)) g end h = record {
   past = g.past;
   next = None;
   came = came_all known now g.past g.come end;
   place = h.place ∙ g.count;
-  refused = h.refused form win g.past g.text g.followed;
-  read = refused_end form known now g.past fault g.come end (h.refused form win g.past g.text g.followed);
-  written = up_to_date form win known now before mid after f number g h.put;
+  refused = h.refused form signal win g.past g.text g.followed;
+  read = refused_end form signal known now g.past fault g.come end (h.refused form signal win g.past g.text g.followed);
+  written = up_to_date form signal win known now before mid after f number g h.put;
 }
-end_stops form win known now before mid after f number (Err (Write count)) g end h = record {
+end_stops form signal win known now before mid after f number (Err (Write count)) g end h = record {
   past = g.past;
   next = None;
   came = came_all known now g.past g.come end;
   follower = f;
   text = g.text;
-  followed = subst (λ n. IsFollowed form win g.past n f g.text) g.count g.followed;
+  followed = subst (λ n. IsFollowed form signal win g.past n f g.text) g.count g.followed;
   prompt = g.prompt;
   front = h.text;
   left = h.left;
-  over = cut_last form win known now before mid after f number g h;
+  over = cut_last form signal win known now before mid after f number g h;
   put = Appends-trans before mid after g.text h.text g.put h.put;
 }
-end_stops form win known now before mid after f number (Err Read) g end h = absurd h
-end_stops form win known now before mid after f number (Err TooLong) g end h = absurd h
+end_stops form signal win known now before mid after f number (Err Read) g end h = absurd h
+end_stops form signal win known now before mid after f number (Err TooLong) g end h = absurd h

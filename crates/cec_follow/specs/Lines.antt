@@ -8,6 +8,9 @@ use Rattle.cec_signal.specs.Edges.{Captured}
 use Rattle.cec_signal.specs.Reading.{Step, lines_read, with_edges}
 use Rattle.cec_signal.specs.declared.fault.Cause.TheVariants as cause
 use Rattle.cec_signal.specs.declared.fault.CaptureFault.{CaptureFault}
+use Rattle.cec_csv.specs.Csv.{column_of, csv_form, named_read}
+use Rattle.cec_csv.specs.Csv.{first_reader as first_rows}
+use Rattle.cec_csv.specs.declared.reader.Reader.{Reader as CsvReader}
 use Rattle.cec_pin.specs.Pin.{first_reader, pin_form}
 use Rattle.cec_mon.specs.EdgeFile.{EdgeFile, edge_line_of, edges_read, end_read, is_in_turn, word_out_of_turn, word_past}
 use Rattle.cec_mon.specs.declared.edge_file.EdgeLine.{EdgeLine}
@@ -18,7 +21,7 @@ use Rattle.cec_formats.specs.declared.form.Form.{Form}
 use Rattle.cec_formats.specs.declared.form.Form.TheVariants as form
 use Rattle.cec_follow.specs.declared.edge_lines.EdgeReader.{EdgeReader}
 use Rattle.cec_follow.specs.declared.lines.CaptureLines.{CaptureLines}
-use Rattle.cec_follow.specs.declared.lines.CaptureLines.TheVariants.{File, Pin}
+use Rattle.cec_follow.specs.declared.lines.CaptureLines.TheVariants.{File, Pin, Names, Rows}
 use Rattle.cec_follow.specs.declared.lines.LineForm.{LineForm}
 use Rattle.cec_follow.specs.declared.lines.LineForm.TheVariants as forms
 use Rattle.cec_follow.specs.declared.lines.Last.{Last}
@@ -59,20 +62,44 @@ abbrev pub file_left : Option ℕ → EdgeReader → ℕ → List (List ℕ) →
 file_left None e number lines = edges_read lines number e.is_low e.from
 file_left (Some end) e number lines = end_read lines number end
 
+-- ---- comma-separated values
+
+-- where no name of the first line is the signal's, those after that of the time are at fault
+abbrev pub no_signal : ℕ → CaptureFault
+no_signal number = record { line = number; cause = cause.Signal; word = 1 }
+
+-- a reader of the rows, by the column of the signal
+abbrev pub rows_by : ℕ → Option ℕ → Result CsvReader CaptureFault
+rows_by number None = Err (no_signal number)
+rows_by number (Some column) = Ok (first_rows column)
+
+-- what is read of the lines that are left, with the names on the first
+abbrev pub rows_left : ℕ → List (List ℕ) → Result CsvReader CaptureFault → Result Captured CaptureFault
+rows_left number lines (Err fault) = Err fault
+rows_left number lines (Ok rows) = lines_read csv_form number lines rows
+
+abbrev pub names_left : List ℕ → ℕ → List (List ℕ) → Result Captured CaptureFault
+names_left signal number [] = Err (no_signal number)
+names_left signal number (line ∷ lines) = rows_left (number + 1) lines (rows_by number (column_of signal line))
+
 -- ---- a capture in one of the forms
 
 abbrev pub form_as : LineForm → Form
 form_as forms.Edges = form.Edges
 form_as forms.Pin = form.Pin
+form_as forms.Csv = form.Csv
 
--- what its lines are read as, and what those of them are that are left, of which the first has this number
-abbrev pub lines_captured : LineForm → List (List ℕ) → Result Captured CaptureFault
-lines_captured forms.Edges lines = of_edges (edges_read lines 1 false 0)
-lines_captured forms.Pin lines = lines_read pin_form 1 lines first_reader
+-- what its lines are read as, of the wire of a name, and what those of them are that are left, of which the first has this number
+abbrev pub lines_captured : LineForm → List ℕ → List (List ℕ) → Result Captured CaptureFault
+lines_captured forms.Edges signal lines = of_edges (edges_read lines 1 false 0)
+lines_captured forms.Pin signal lines = lines_read pin_form 1 lines first_reader
+lines_captured forms.Csv signal lines = named_read signal lines
 
-abbrev pub lines_left : CaptureLines → ℕ → List (List ℕ) → Result Captured CaptureFault
-lines_left (File e) number lines = of_edges (file_left e.end e number lines)
-lines_left (Pin r) number lines = lines_read pin_form number lines r
+abbrev pub lines_left : List ℕ → CaptureLines → ℕ → List (List ℕ) → Result Captured CaptureFault
+lines_left signal (File e) number lines = of_edges (file_left e.end e number lines)
+lines_left signal (Pin r) number lines = lines_read pin_form number lines r
+lines_left signal Names number lines = names_left signal number lines
+lines_left signal (Rows r) number lines = lines_read csv_form number lines r
 
 -- no edge that is still to come is before this instant; after the end none comes
 abbrev pub from_by : Option ℕ → ℕ → ℕ
@@ -82,6 +109,8 @@ from_by (Some end) from = end + 1
 abbrev pub from_of : CaptureLines → ℕ
 from_of (File e) = from_by e.end e.from
 from_of (Pin r) = r.track.at
+from_of Names = 0
+from_of (Rows r) = r.track.at
 
 -- within the limit of a capture
 abbrev pub IsEarlyFile : EdgeReader → Type 0
@@ -90,15 +119,18 @@ IsEarlyFile e = (e.from ≤ latest_instant + 1) × IfSome e.end (λ t. (e.from �
 abbrev pub IsEarly : CaptureLines → Type 0
 IsEarly (File e) = IsEarlyFile e
 IsEarly (Pin r) = r.track.at ≤ latest_instant
+IsEarly Names = Unit {0}
+IsEarly (Rows r) = r.track.at ≤ latest_instant
 
 -- ---- what is returned
 
 -- a line is taken: the edge that is known by it comes before what is left, or it is at fault
-abbrev pub TakesLine : CaptureLines → ℕ → List ℕ → Result (Option EdgeOf) CaptureFault → CaptureLines → Type 0
-TakesLine old number line (Ok edge) new = (rest : List (List ℕ)) → lines_left old number (line ∷ rest) ≡ with_edges (option_to_list edge) (lines_left new (number + 1) rest)
-TakesLine old number line (Err fault) new = (rest : List (List ℕ)) → lines_left old number (line ∷ rest) ≡ Err fault
+abbrev pub TakesLine : List ℕ → CaptureLines → ℕ → List ℕ → Result (Option EdgeOf) CaptureFault → CaptureLines → Type 0
+TakesLine signal old number line (Ok edge) new =
+    (rest : List (List ℕ)) → lines_left signal old number (line ∷ rest) ≡ with_edges (option_to_list edge) (lines_left signal new (number + 1) rest)
+TakesLine signal old number line (Err fault) new = (rest : List (List ℕ)) → lines_left signal old number (line ∷ rest) ≡ Err fault
 
--- no line is left: the last edge and the end are known
+-- no line is left: the last edge and the end are known, whatever the name
 abbrev pub EndsLines : CaptureLines → ℕ → Result Last CaptureFault → Type 0
-EndsLines lines number (Ok last) = lines_left lines number [] ≡ Ok (record { edges = option_to_list last.edge; end = last.end })
-EndsLines lines number (Err fault) = lines_left lines number [] ≡ Err fault
+EndsLines lines number (Ok last) = lines_left [] lines number [] ≡ Ok (record { edges = option_to_list last.edge; end = last.end })
+EndsLines lines number (Err fault) = lines_left [] lines number [] ≡ Err fault

@@ -1,5 +1,5 @@
 //! A capture that is followed line by line.
-ghost use Rattle.std.specs.Prelude.{◌≡◌, ◌≤◌, ◌+◌, ◌⊎◌, [], IfErr, IfSome, OnOk, option_map};
+ghost use Rattle.std.specs.Prelude.{◌≡◌, ◌≤◌, ◌+◌, ◌⊎◌, [], ℕ, List, IfErr, IfSome, OnOk, option_map};
 ghost use Rattle.cec_wave.specs.Bounds.{latest_instant};
 ghost use Rattle.cec_bits.specs.Reports.{listed_as};
 ghost use Rattle.cec_bits.specs.Windows.{AreWindows};
@@ -7,6 +7,7 @@ ghost use Rattle.cec_follow.specs.Follow.{HearsEnd, HearsLine, IsFollowed, IsPro
 
 use crate::lines::{CaptureLines, LineForm};
 use cec_bits::Windows;
+use cec_csv::csv_lines_go_on;
 use cec_frame::Reading;
 use cec_mon::{Monitor, edge_lines_go_on};
 use cec_pin::pin_lines_go_on;
@@ -40,13 +41,14 @@ impl Follower {
     /// A follower by these windows of a capture in this form, of which no line has come.
     pub fn new(form: LineForm, windows: Windows) -> Self
         requires { AreWindows windows }
-        ensures followed { IsFollowed form windows [] 1 result [] }
+        ensures followed { (signal : List ℕ) → IsFollowed form signal windows [] 1 result [] }
         ensures prompt { IsPrompt result }
         ensures ready { IsReady result }
     {
         // No effect at run time. The proof reads from them how the lines of a form go on.
         edge_lines_go_on();
         pin_lines_go_on();
+        csv_lines_go_on();
         Follower {
             lines: CaptureLines::new(form),
             monitor: Monitor::with_windows(windows),
@@ -80,14 +82,14 @@ impl Follower {
         self.monitor.calm(until)
     }
 
-    /// Takes the line of this number, and answers what has ended by it.
+    /// Takes the line of this number, and answers what has ended by it on the wire of this name; an empty one stands for the first.
     ///
     /// # Errors
     ///
     /// The line is at fault.
-    pub fn line(&mut self, number: u64, line: &[u8]) -> Result<Heard, CaptureFault>
+    pub fn line(&mut self, signal: &[u8], number: u64, line: &[u8]) -> Result<Heard, CaptureFault>
         requires ready { IsReady self.old }
-        ensures hears { HearsLine number line.now self.old result self.new }
+        ensures hears { HearsLine signal.now number line.now self.old result self.new }
         ensures place { IfErr result (λ fault. fault.line ≡ number) }
         ensures prompt { OnOk result (IsPrompt self.new) }
         ensures ready { OnOk result (IsReady self.new) }
@@ -95,7 +97,8 @@ impl Follower {
         // No effect at run time. The proof reads from them how the lines of a form go on.
         edge_lines_go_on();
         pin_lines_go_on();
-        let edge = self.lines.take(number, line)?;
+        csv_lines_go_on();
+        let edge = self.lines.take(signal, number, line)?;
         let first = self.edge(edge);
         let lines = self.lines;
         let second = self.calm(lines.from());
@@ -114,9 +117,13 @@ impl Follower {
         ensures place { IfErr result (λ fault. fault.line ≡ number) }
     {
         let mut follower = self;
-        let last = follower.lines.end(number)?;
-        let first = follower.edge(last.edge);
-        let second = follower.monitor.finish(last.end);
-        Ok(Heard { first, second })
+        match follower.lines.end(number) {
+            Err(fault) => Err(fault),
+            Ok(last) => {
+                let first = follower.edge(last.edge);
+                let second = follower.monitor.finish(last.end);
+                Ok(Heard { first, second })
+            }
+        }
     }
 }

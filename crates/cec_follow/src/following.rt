@@ -84,16 +84,17 @@ fn line_error(fault: LineFault) -> FollowError
 // Takes a line, writes what has ended by it, and hands that on.
 fn hear<S: Sink>(
     follower: &mut Follower,
+    signal: &[u8],
     number: u64,
     line: &[u8],
     out: &mut Buffered<S>,
 ) -> Result<(), FollowError>
     requires ready { IsReady follower.old }
-    ensures hears { Hears number line.now follower.old follower.new (⟦<Buffered<S> as Sink>⟧.contents out.old) (⟦<Buffered<S> as Sink>⟧.contents out.new) result }
+    ensures hears { Hears signal.now number line.now follower.old follower.new (⟦<Buffered<S> as Sink>⟧.contents out.old) (⟦<Buffered<S> as Sink>⟧.contents out.new) result }
     ensures ready { OnOk result (IsReady follower.new) }
     ensures handed { OnOk result (pending out.new ≡ []) }
 {
-    match follower.line(number, line) {
+    match follower.line(signal, number, line) {
         Err(fault) => Err(FollowError::Capture(fault)),
         Ok(heard) => write_heard(&heard, out),
     }
@@ -115,8 +116,8 @@ fn finish<S: Sink>(
     }
 }
 
-/// Follows a capture: reads it line by line, and writes each reading as soon as it is over by what has come, as these windows
-/// read it. What was written is handed on before the next line is read. At the end it has written what `watch_capture_by` writes
+/// Follows a capture: reads it line by line, and writes each reading of the wire of a name, or of the first where that is empty, as
+/// soon as it is over by what has come, as these windows read it. What was written is handed on before the next line is read. At the end it has written what `watch_capture_by` writes
 /// of the whole.
 ///
 /// # Errors
@@ -125,12 +126,13 @@ fn finish<S: Sink>(
 /// before is written, each reading of it, and stays: the front of the text of each capture that begins with them.
 pub fn follow<R: Read, S: Sink>(
     form: LineForm,
+    signal: &[u8],
     windows: Windows,
     input: &mut R,
     out: &mut Buffered<S>,
 ) -> Result<(), FollowError>
     requires { AreWindows windows }
-    ensures follows { Follows form windows (R.remaining input.old) (⟦<Buffered<S> as Sink>⟧.contents out.old) (⟦<Buffered<S> as Sink>⟧.contents out.new) result }
+    ensures follows { Follows form signal.now windows (R.remaining input.old) (⟦<Buffered<S> as Sink>⟧.contents out.old) (⟦<Buffered<S> as Sink>⟧.contents out.new) result }
     ensures handed { OnOk result (pending out.new ≡ []) }
 {
     let mut lines = Lines::new();
@@ -143,7 +145,7 @@ pub fn follow<R: Read, S: Sink>(
                 if !more {
                     return finish(follower, read + 1, out);
                 }
-                match hear(&mut follower, read + 1, line.as_slice(), out) {
+                match hear(&mut follower, signal, read + 1, line.as_slice(), out) {
                     Ok(()) => {}
                     Err(error) => return Err(error),
                 }

@@ -6,4 +6,4 @@ use Rattle.cec_follow.proofs.following.follow.Given as goal
 -- the lines so far were heard, and what had ended by each was written
 abbrev pub invariant-loop-read : goal.invariant-loop-read
 invariant-loop-read g l =
-    Going l.fn.form l.fn.windows (g.R.Read.remaining l.fn.input) (to_come l.lines (g.R.Read.remaining l.input)) (held g.S.Sink.contents l.fn.out) (held g.S.Sink.contents l.out) l.follower (l.read + 1)
+    Going l.fn.form l.fn.signal l.fn.windows (g.R.Read.remaining l.fn.input) (to_come l.lines (g.R.Read.remaining l.input)) (held g.S.Sink.contents l.fn.out) (held g.S.Sink.contents l.out) l.follower (l.read + 1)

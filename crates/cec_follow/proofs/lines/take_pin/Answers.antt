@@ -3,7 +3,7 @@ use Rattle.cec_follow.proofs.Left.{pin_early, pin_refuses, pin_takes}
 use Rattle.cec_follow.proofs.lines.take_pin.Goals as goal
 
 pub returns-in-Ok-clause-takes : goal.returns-in-Ok-clause-takes
-returns-in-Ok-clause-takes c = pin_takes c.args.reader.now c.take.new.self c.args.number c.args.line.now c.in-Ok.edge c.in-Ok.ensures
+returns-in-Ok-clause-takes c = λ signal. pin_takes signal c.args.reader.now c.take.new.self c.args.number c.args.line.now c.in-Ok.edge c.in-Ok.ensures
 
 pub returns-in-Ok-clause-early : goal.returns-in-Ok-clause-early
 returns-in-Ok-clause-early c =
@@ -16,4 +16,4 @@ returns-in-Ok-clause-edge c =
     e.1
 
 pub returns-in-Err-clause-takes : goal.returns-in-Err-clause-takes
-returns-in-Err-clause-takes c = pin_refuses c.args.reader.now c.take.new.self c.args.number c.args.line.now c.in-Err.slip c.fault_at.result c.in-Err.ensures (sym c.fault_at.ensures)
+returns-in-Err-clause-takes c = λ signal. pin_refuses signal c.args.reader.now c.take.new.self c.args.number c.args.line.now c.in-Err.slip c.fault_at.result c.in-Err.ensures (sym c.fault_at.ensures)
