@@ -10,6 +10,7 @@ import sys
 
 TOP = os.path.dirname(os.path.dirname(os.path.realpath(__file__)))
 PROGRAM = os.path.realpath(sys.argv[1]) if len(sys.argv) > 1 else os.path.join(TOP, 'crates/hdminet/out/hdminet')
+NAMES = 'Time [s],CEC\n' + '5.000000,1\n'
 HEAD = '# cec-ctl --store-pin\n# version 1\n# start_monotonic 100.000000000\n# start_timeofday 0.000000\n# log_addr_mask 0x0000\n# phys_addr f.f.f.f\n'
 BITS = {0: 1500, 1: 600}
 MEGABYTE = 1024
@@ -29,6 +30,10 @@ def edges_of(blocks, begin):
 
 def pin_line(at, level):
     return '%d.%06d000 %d\n' % (100 + at // 1000000, at % 1000000, level)
+
+
+def csv_line(at, level):
+    return '%d.%06d,%d\n' % (5 + at // 1000000, at % 1000000, level)
 
 
 def edge_line(at, level):
@@ -102,6 +107,23 @@ def reads_pins_at_once():
     return right and bus.ended() == (0, '', '')
 
 
+def reads_rows_at_once():
+    """The same of rows, of the wire of a name: the reading comes with the row after the last rise."""
+    bus = Bus('csv', ('--signal', 'CEC'))
+    row = lambda at, level: csv_line(at, level).replace(',', ',1,')
+    bus.send('Time [s],HPD, CEC\n5.000000,1,1\n')
+    right = True
+    for begin in (20000, 200000):
+        for at, level in edges_of([(0x4F, 0, 1), (0x82, 0, 1), (0x10, 0, 1), (0x00, 1, 1)], begin):
+            bus.send(row(at, level))
+        right = right and bus.is_quiet()
+        bus.send(row(begin + 110000, 1))
+        right = right and bus.line() == '%d %d complete 4>f active-source 1.0.0.0 ok\n' % (begin, begin + 4500 + 39 * 2400 + 1050)
+    bus.mon.stdin.close()
+    bus.mon.stdin = None
+    return right and bus.ended() == (0, '', '')
+
+
 def random_capture(form, number):
     """The lines of a capture of frames, broken frames and pulses."""
     r = random.Random(number)
@@ -119,10 +141,11 @@ def random_capture(form, number):
             frame.append((frame[-1][0] + r.randrange(1, 9000), 1))
         edges += frame
         at = edges[-1][0] + r.choice([700, 2000, 5000, 12000, 17000, 60000])
-    line = pin_line if form == 'pin' else edge_line
+    line = {'pin': pin_line, 'csv': csv_line, 'edges': edge_line}[form]
     text = [line(*edge) for edge in edges]
-    if form == 'pin':
-        return [HEAD] + text + ([pin_line(edges[-1][0] + r.randrange(1, 20000), 1)] if r.randrange(2) else [])
+    if form != 'edges':
+        last = [line(edges[-1][0] + r.randrange(1, 20000), 1)] if r.randrange(2) else []
+        return [HEAD if form == 'pin' else NAMES] + text + last
     if r.randrange(3) == 0:
         text.insert(r.randrange(len(text)), '# a remark\n')
     return text + ['%d end\n' % (edges[-1][0] + r.randrange(0, 20000))]
@@ -130,7 +153,7 @@ def random_capture(form, number):
 
 def is_text_of_the_whole():
     """What is written is the text of the whole, with the same status and the same fault; before a fault it is a front."""
-    for form in ('edges', 'pin'):
+    for form in ('edges', 'pin', 'csv'):
         for number in range(40):
             lines = random_capture(form, number)
             margin = ('--margin', '150') if number % 3 == 0 else ()
@@ -156,7 +179,7 @@ def followed(form, text, *flags):
 def has_faults():
     """The faults are those of `mon`, of a missing end too; a line of more than 4,096 bytes is too long."""
     right = True
-    for form, text in (('edges', ''), ('edges', '5 0\n4 1\n'), ('edges', '5 0\n9 1\n'), ('edges', '5 0\n9 end\n10 1\n'), ('pin', HEAD + '99.000000000 1\n'), ('pin', HEAD + '100.5 1\n')):
+    for form, text in (('edges', ''), ('edges', '5 0\n4 1\n'), ('edges', '5 0\n9 1\n'), ('edges', '5 0\n9 end\n10 1\n'), ('pin', HEAD + '99.000000000 1\n'), ('pin', HEAD + '100.5 1\n'), ('csv', ''), ('csv', 'Time [s]\n'), ('csv', NAMES + '5.1,2\n'), ('csv', NAMES + '4.9,0\n')):
         old, new = watched(form, text, '--from-start'), followed(form, text)
         right = right and old[0] == new[0] == 1 and old[2] == new[2]
     right = right and followed('edges', '#' * 4097 + '\n5 end\n')[::2] == (3, 'hdminet: input too long\n')
@@ -189,7 +212,7 @@ def takes_no_memory():
 
 def main():
     failed = 0
-    tests = [reads_edges_at_once, reads_pins_at_once, is_text_of_the_whole, has_faults, fails_to_write, takes_no_memory]
+    tests = [reads_edges_at_once, reads_pins_at_once, reads_rows_at_once, is_text_of_the_whole, has_faults, fails_to_write, takes_no_memory]
     for test in tests:
         right = test()
         failed += not right

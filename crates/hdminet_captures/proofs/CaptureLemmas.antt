@@ -5,8 +5,11 @@ use Rattle.cec_bits.specs.declared.times.Windows.{Windows}
 use Rattle.cec_mon.proofs.FollowedEdges.{captured_standard}
 use Rattle.cec_mon.specs.Joined.{captured_by}
 use Rattle.cec_mon.specs.Watch.{readings_text}
-use Rattle.cec_follow.specs.Follow.{HasFollowed, text_of}
-use Rattle.hdminet_captures.specs.Following.{FollowsTo, form_followed}
+use Rattle.cec_follow.specs.Follow.{HasFollowed, Stops, text_of}
+use Rattle.hdminet_captures.specs.Following.{FollowsTo, StopsSo, fault_of, form_followed}
+use Rattle.cec_follow.specs.declared.error.FollowError.{FollowError}
+use Rattle.cec_follow.specs.declared.lines.LineForm.{LineForm as FollowedForm}
+use Rattle.hdminet_faults.specs.declared.fault.ProgramFault.{ProgramFault}
 use Rattle.hdminet_words.specs.declared.choice.LineForm.{LineForm}
 use Rattle.std.specs.Io.KnownBytes.{Appends, append_known}
 use Rattle.hdminet_captures.specs.Captures.{readings_at}
@@ -33,12 +36,21 @@ nothing_more None = refl
 nothing_more (Some xs) = ap Some (append-nil xs)
 
 -- all that was put is handed on
-pub follows_to : (form : LineForm) (margin : ℕ) (windows : Windows) (known old below : Option (List ℕ)) (pending : List ℕ) → windows ≡ wider (min margin most_margin) → pending ≡ []
-    → HasFollowed (form_followed form) windows known old (append_known below pending) → FollowsTo form margin known old below
-follows_to form margin windows known old below pending e none f = record {
+pub follows_to : (form : LineForm) (name : List ℕ) (margin : ℕ) (windows : Windows) (known old below : Option (List ℕ)) (pending : List ℕ) → windows ≡ wider (min margin most_margin) → pending ≡ []
+    → HasFollowed (form_followed form) name windows known old (append_known below pending) → FollowsTo form name margin known old below
+follows_to form name margin windows known old below pending e none f = record {
   input = f.input;
   all = f.all;
   text = text_of windows f.capture;
-  reported = λ name. (f.capture, f.read name, ap readings_text (readings_are margin windows f.capture e));
+  reported = (f.capture, f.read, ap readings_text (readings_are margin windows f.capture e));
   put = subst (λ (new : Option (List ℕ)). Appends old new (text_of windows f.capture)) (ap (append_known below) none ∙ nothing_more below) f.put;
+}
+
+-- or why it ends before
+pub stops_so : (form : LineForm) (name : List ℕ) (margin : ℕ) (followed : FollowedForm) (windows : Windows) (known old new : Option (List ℕ)) (error : FollowError) (fault : ProgramFault) → windows ≡ wider (min margin most_margin)
+    → followed ≡ form_followed form → fault ≡ fault_of error → Stops followed name windows known old new error → StopsSo form name margin known old new fault
+stops_so form name margin followed windows known old new error fault e is cause stops = record {
+  error = error;
+  cause = cause;
+  stops = subst (λ (f : FollowedForm). Stops f name (wider (min margin most_margin)) known old new error) is (subst (λ (w : Windows). Stops followed name w known old new error) e stops);
 }

@@ -1,26 +1,47 @@
 -- What is written of a capture as its lines come (own).
-use Rattle.std.specs.Prelude.{◌≡◌, ℕ, false, List, Option, IfSome}
+use Rattle.std.specs.Prelude.{◌≡◌, ℕ, min, false, List, Option, IfSome}
 use Rattle.std.specs.Io.KnownBytes.{Appends}
+use Rattle.cec_bits.specs.Windows.{most_margin, wider}
+use Rattle.cec_follow.specs.Follow.{Stops}
 use Rattle.cec_follow.specs.Lines.{form_as}
+use Rattle.cec_follow.specs.declared.error.FollowError.{FollowError}
+use Rattle.cec_follow.specs.declared.error.FollowError.TheVariants as error
+use Rattle.cec_signal.specs.declared.fault.CaptureError.TheVariants.{Fault}
+use Rattle.hdminet_faults.specs.declared.fault.ProgramFault.{ProgramFault}
+use Rattle.hdminet_faults.specs.declared.fault.ProgramFault.TheVariants as faults
 use Rattle.cec_follow.specs.declared.lines.LineForm.{LineForm as FollowedForm}
 use Rattle.cec_follow.specs.declared.lines.LineForm.TheVariants as forms
 use Rattle.hdminet_captures.specs.Captures.{IsHeard}
 use Rattle.hdminet_words.specs.declared.choice.LineForm.{LineForm}
-use Rattle.hdminet_words.specs.declared.choice.LineForm.TheVariants.{Edges, Pin}
+use Rattle.hdminet_words.specs.declared.choice.LineForm.TheVariants.{Edges, Pin, Csv}
 use Rattle.hdminet_words.specs.declared.choice.Report.TheVariants.{Readings}
 
 abbrev pub form_followed : LineForm → FollowedForm
 form_followed Edges = forms.Edges
 form_followed Pin = forms.Pin
+form_followed Csv = forms.Csv
 
 -- this text has the readings of the capture that an input gives, each of them, as of the whole
 abbrev pub IsReported : LineForm → ℕ → List ℕ → List ℕ → List ℕ → Type 0
 IsReported form margin name input text = IsHeard (form_as (form_followed form)) name false 0 margin Readings input text
 
--- that of all that there was to read is written, and nothing else; its wire has no name, so that any stands for it
-pub record FollowsTo (form : LineForm) (margin : ℕ) (known old new : Option (List ℕ)) : Type 0 where
+-- that of all that there was to read is written, and nothing else
+pub record FollowsTo (form : LineForm) (name : List ℕ) (margin : ℕ) (known old new : Option (List ℕ)) : Type 0 where
   pub input : List ℕ
   pub all : IfSome known (λ text. input ≡ text)
   pub text : List ℕ
-  pub reported : (name : List ℕ) → IsReported form margin name input text
+  pub reported : IsReported form margin name input text
   pub put : Appends old new text
+
+-- why it ends before
+abbrev pub fault_of : FollowError → ProgramFault
+fault_of error.Read = faults.Read
+fault_of error.TooLong = faults.TooLong
+fault_of (error.Capture fault) = faults.Capture (Fault fault)
+fault_of (error.Write count) = faults.Write (record { count = count })
+
+-- What is over by the lines that came is written, and nothing else; where a write failed, a front of what the last of them ends.
+pub record StopsSo (form : LineForm) (name : List ℕ) (margin : ℕ) (known old new : Option (List ℕ)) (fault : ProgramFault) : Type 0 where
+  pub error : FollowError
+  pub cause : fault ≡ fault_of error
+  pub stops : Stops (form_followed form) name (wider (min margin most_margin)) known old new error

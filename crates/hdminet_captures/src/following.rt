@@ -1,7 +1,7 @@
 //! What is reported of a capture as its lines come.
-ghost use Rattle.std.specs.Prelude.{◌≡◌, OnOk};
+ghost use Rattle.std.specs.Prelude.{◌≡◌, IfErr, OnOk};
 ghost use Rattle.hdmi_core.specs.Buffered.{below};
-ghost use Rattle.hdminet_captures.specs.Following.{FollowsTo, form_followed};
+ghost use Rattle.hdminet_captures.specs.Following.{FollowsTo, StopsSo, form_followed, fault_of};
 
 use crate::capture::within_most;
 use cec_bits::Windows;
@@ -18,10 +18,13 @@ fn form_followed(form: LineForm) -> FollowedForm
     match form {
         LineForm::Edges => FollowedForm::Edges,
         LineForm::Pin => FollowedForm::Pin,
+        LineForm::Csv => FollowedForm::Csv,
     }
 }
 
-fn fault_of(error: FollowError) -> ProgramFault {
+fn fault_of(error: FollowError) -> ProgramFault
+    ensures { result ≡ fault_of error }
+{
     match error {
         FollowError::Read => ProgramFault::Read,
         FollowError::TooLong => ProgramFault::TooLong,
@@ -30,19 +33,21 @@ fn fault_of(error: FollowError) -> ProgramFault {
     }
 }
 
-/// Writes each reading of a capture as soon as it is over by the lines that have come, as windows read it that are `margin` wider
-/// at either side, 300 at most, and hands it on before the next line is read. Where a line is at fault, what was written before
-/// stays.
+/// Writes each reading of a capture as soon as it is over by the lines that have come, of the wire of a name, or of the first where
+/// that is empty, as windows read it that are `margin` wider at either side, 300 at most, and hands it on before the next line is
+/// read. Where a line is at fault, what is over by the lines before it is written, and stays.
 pub fn follow_capture<R: Read, W: Sink>(
     form: LineForm,
+    signal: &[u8],
     margin: u64,
     input: &mut R,
     out: &mut Buffered<W>,
 ) -> Result<(), ProgramFault>
-    ensures { OnOk result (FollowsTo form margin (R.remaining input.old) (⟦<Buffered<W> as Sink>⟧.contents out.old) (W.contents (below out.new))) }
+    ensures done { OnOk result (FollowsTo form signal.now margin (R.remaining input.old) (⟦<Buffered<W> as Sink>⟧.contents out.old) (W.contents (below out.new))) }
+    ensures stops { IfErr result (StopsSo form signal.now margin (R.remaining input.old) (⟦<Buffered<W> as Sink>⟧.contents out.old) (⟦<Buffered<W> as Sink>⟧.contents out.new)) }
 {
     let windows = Windows::wider(within_most(margin));
-    match follow(form_followed(form), windows, input, out) {
+    match follow(form_followed(form), signal, windows, input, out) {
         Ok(()) => Ok(()),
         Err(error) => Err(fault_of(error)),
     }

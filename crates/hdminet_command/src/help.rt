@@ -450,7 +450,7 @@ pub const MON_FLAGS: &[(&str, &str)] = &[
     ),
     (
         "follow",
-        "With --from edges or pin, prints each reading as soon as the lines so far say that it is over",
+        "With --from edges, pin or csv, prints each reading as soon as the lines so far say that it is over",
     ),
 ];
 
@@ -482,7 +482,7 @@ pub const MON_RULES: &str = "
   --from takes edges, vcd, pin or csv; --glitch a number of microseconds, --margin one up to 300
   --signal goes with vcd and csv alone; of --from-start and --from-idle one is given at most, and neither
   with --audit and --timing; --strict goes with one of these two; --fold does not go with --json
-  --follow goes with --from edges or pin, and of the others with --margin and --from-start alone
+  --follow goes with --from edges, pin or csv, and else with --signal, --margin and --from-start alone
 ";
 
 pub const MON_HELP: &str = "\
@@ -537,9 +537,9 @@ With --fold bad starts one after another are one line, from the first fall to th
 An audit remarks the widths of the first one alone; with --fold those after it are one line there too, as
 far as none has a line below it.
 
-With --follow each line of an edge file or of pin events is read as it comes, at most 4096 bytes long, and a
-reading is printed as soon as it is over, all of them as with --from-start; what was printed before a fault
-stays:
+With --follow each line of an edge file, of pin events or of comma-separated values is read as it comes, at
+most 4096 bytes long, and a reading is printed as soon as it is over, all of them as with --from-start; what
+was printed before a fault stays:
   pin-events | ./hdminet mon --follow --from pin
 
 With --json each line of the output is an object of JSON, whose first field is that line. Of an audit its

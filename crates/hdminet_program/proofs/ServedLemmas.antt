@@ -16,10 +16,10 @@ pub helped : (o : Option Asked) (name : List ℕ) (known old new : Option (List 
 helped o name known old new is help = subst (λ x. AreServedAs x name known old new) (sym is) help
 
 -- a capture that is reported as its lines come
-pub followed : (form : LineForm) (margin : ℕ) (known old new : Option (List ℕ)) (name : List ℕ) → FollowsTo form margin known old new
+pub followed : (form : LineForm) (margin : ℕ) (known old new : Option (List ℕ)) (name : List ℕ) → FollowsTo form name margin known old new
     → IsServed known old new (Follow form margin) name
 followed form margin known old new name f = record {
   input = f.input;
   all = f.all;
-  written = (f.text, f.reported name, f.put);
+  written = (f.text, f.reported, f.put);
 }

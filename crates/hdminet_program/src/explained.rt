@@ -52,6 +52,10 @@ pub fn form_in(choice: Choice, input: &[u8]) -> Form {
             form: LineForm::Pin,
             ..
         } => Form::Pin,
+        Choice::Follow {
+            form: LineForm::Csv,
+            ..
+        } => Form::Csv,
         Choice::CheckCapture { form, .. } | Choice::Json(Objects::CaptureTest { form, .. }) => {
             match capture_parts(input) {
                 Ok((_, taken)) => form_of(form, taken),

@@ -195,14 +195,15 @@ fn follow_lines<R: Read, W: Sink, E: Sink>(
     alloc: Global,
     asked: Asked,
     form: LineForm,
+    signal: &[u8],
     margin: u64,
     input: &mut R,
     out: &mut Buffered<W>,
     err: &mut E,
 ) -> u8
-    ensures { result ≡ 0 → FollowsTo form margin (R.remaining input.old) (⟦<Buffered<W> as Sink>⟧.contents out.old) (W.contents (below out.new)) }
+    ensures { result ≡ 0 → FollowsTo form signal.now margin (R.remaining input.old) (⟦<Buffered<W> as Sink>⟧.contents out.old) (W.contents (below out.new)) }
 {
-    match follow_capture(form, margin, input, out) {
+    match follow_capture(form, signal, margin, input, out) {
         Ok(()) => 0,
         Err(fault) => report(alloc, asked, &fault, b"", err),
     }
@@ -213,15 +214,16 @@ fn serve_capture<R: Read, W: Sink, E: Sink>(
     alloc: Global,
     asked: Asked,
     form: LineForm,
+    signal: &[u8],
     margin: u64,
     input: &mut R,
     out: W,
     err: &mut E,
 ) -> Ended<W>
-    ensures { result.status ≡ 0 → FollowsTo form margin (R.remaining input.old) (W.contents out) (W.contents result.out) }
+    ensures { result.status ≡ 0 → FollowsTo form signal.now margin (R.remaining input.old) (W.contents out) (W.contents result.out) }
 {
     let mut out = Buffered::new(out);
-    let status = follow_lines(alloc, asked, form, margin, input, &mut out, err);
+    let status = follow_lines(alloc, asked, form, signal, margin, input, &mut out, err);
     Ended {
         status,
         out: out.into_below(),
@@ -246,7 +248,17 @@ fn serve_whole<R: Read, W: Sink, E: Sink>(
     }
 }
 
-// The name of the wire that some words name, or nothing.
+// The name of the wire that some words name, or an empty one.
+fn signal_of(words: &[String]) -> &[u8]
+    ensures { result.now ≡ name_of (signal_in (map string_bytes words.now)) }
+{
+    match signal_in(words) {
+        Some(name) => name,
+        None => &[],
+    }
+}
+
+// A copy of it.
 fn name_of(alloc: Global, words: &[String]) -> Result<Vec<u8>, AllocError>
     ensures { IfOk result (λ name. name.items ≡ name_of (signal_in (map string_bytes words.now))) }
 {
@@ -308,7 +320,16 @@ fn serve<R: Read, W: Sink, E: Sink>(
     match asked.choice {
         Choice::Live { json } => serve_session(alloc, json, asked, input, out, err),
         Choice::Follow { form, margin } => {
-            serve_capture(alloc, asked, form, margin, input, out, err)
+            serve_capture(
+                alloc,
+                asked,
+                form,
+                signal_of(words),
+                margin,
+                input,
+                out,
+                err,
+            )
         }
         _ => serve_input(alloc, asked, words, input, out, err),
     }

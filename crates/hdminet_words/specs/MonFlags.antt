@@ -105,6 +105,7 @@ mon_choice false form glitch margin inverted folded report = Mon form glitch mar
 abbrev pub line_form : Option Form → Option LineForm
 line_form (Some Edges) = Some line_forms.Edges
 line_form (Some Pin) = Some line_forms.Pin
+line_form (Some Csv) = Some line_forms.Csv
 line_form form = None
 
 abbrev pub is_from_idle : Option Report → Bool
@@ -113,7 +114,7 @@ is_from_idle start = false
 
 -- something else than all readings of the edges as they are
 abbrev pub goes_further : MonFlags → Bool
-goes_further flags = flags.named || is_some flags.glitch || flags.inverted || is_from_idle flags.start || flags.audit || flags.timing || flags.strict || flags.folded || flags.json
+goes_further flags = is_some flags.glitch || flags.inverted || is_from_idle flags.start || flags.audit || flags.timing || flags.strict || flags.folded || flags.json
 
 -- the readings of a capture as they come
 abbrev pub follow_choice : MonFlags → Option Choice

@@ -41,6 +41,8 @@ pub enum LineForm {
     Edges,
     /// Pin events of cec-ctl.
     Pin,
+    /// Comma-separated values.
+    Csv,
 }
 
 /// What is written of a capture.

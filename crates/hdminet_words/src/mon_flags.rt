@@ -285,7 +285,8 @@ fn line_form(form: Option<Form>) -> Option<LineForm>
     match form {
         Some(Form::Edges) => Some(LineForm::Edges),
         Some(Form::Pin) => Some(LineForm::Pin),
-        Some(Form::Vcd | Form::Csv) | None => None,
+        Some(Form::Csv) => Some(LineForm::Csv),
+        Some(Form::Vcd) | None => None,
     }
 }
 
@@ -299,8 +300,7 @@ fn is_from_idle(start: Option<Report>) -> bool
 fn goes_further(flags: &MonFlags) -> bool
     ensures { result ≡ goes_further flags.now }
 {
-    flags.named
-        || flags.glitch.is_some()
+    flags.glitch.is_some()
         || flags.inverted
         || is_from_idle(flags.start)
         || flags.audit

@@ -259,7 +259,8 @@ mon --audit --audit
 mon --follow
 mon --follow --follow --from pin
 mon --follow --from vcd
-mon --follow --from csv
+mon --follow --from csv --glitch 50
+mon --follow --from pin --signal CEC
 mon --follow --from pin --glitch 50
 mon --follow --from pin --invert
 mon --follow --from edges --from-idle

@@ -1,5 +1,6 @@
-use Rattle.std.proofs.Common.{map, string_bytes, subst, sym}
+use Rattle.std.proofs.Common.{ℕ, List, map, string_bytes, subst, sym}
 use Rattle.hdminet_captures.specs.Captures.{name_of}
+use Rattle.hdminet_captures.specs.Following.{FollowsTo}
 use Rattle.hdminet_words.specs.MonFlags.{signal_in}
 use Rattle.hdminet_words.specs.declared.choice.Choice.{Choice}
 use Rattle.hdminet_program.specs.Done.{IsServed}
@@ -23,4 +24,6 @@ returns-in-Follow g c done =
     let new = g.W.Sink.contents c.serve_capture.result.out in
     let name = name_of (signal_in (map string_bytes c.args.words.now)) in
     let P : Choice → Type 0 = λ x. IsServed known old new x name in
-    subst P (sym c.in-Follow.is) (followed c.in-Follow.form c.in-Follow.margin known old new name (c.serve_capture.ensures done))
+    subst P (sym c.in-Follow.is)
+    (followed c.in-Follow.form c.in-Follow.margin known old new name
+    (subst (λ (n : List ℕ). FollowsTo c.in-Follow.form n c.in-Follow.margin known old new) c.signal_of.ensures (c.serve_capture.ensures done)))
