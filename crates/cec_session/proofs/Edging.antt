@@ -3,11 +3,9 @@ use Rattle.std.proofs.Common.{◌≡◌, ℕ, ◌<◌, ◌≤◌, ◌∙◌, ◌
 use Rattle.std.proofs.lemmas.Bool.Decides.{nat_tests}
 use Rattle.cec_wave.specs.Line.{IsWave}
 use Rattle.cec_wire.specs.declared.Outcome.{Outcome}
-use Rattle.cec_wire.proofs.OneOutcome.{one_outcome}
 use Rattle.cec_net.specs.Progress.{IsProgress}
 use Rattle.cec_net.specs.State.{NetState}
 use Rattle.cec_net.specs.Step.{IsNextRound, after_round, seats_of}
-use Rattle.cec_run.proofs.Turns.{same_outcome}
 use Rattle.cec_wave.specs.declared.Stretch.{Stretch}
 use Rattle.cec_session.specs.declared.edges.Span.{Span}
 use Rattle.cec_session.specs.Edges.{edge_line, edge_reported, edges_reported, first_edge, is_in, pinned_by}
@@ -15,6 +13,7 @@ use Rattle.cec_session.specs.declared.answer.RefusalCause.TheVariants.{Past}
 use Rattle.cec_session.specs.declared.live.Step.{Step}
 use Rattle.cec_session.specs.declared.live.Step.TheVariants.{Edge}
 use Rattle.cec_session.specs.Session.{Session, edge_horizon, pin_by, refuse, IsEdge, IsEdgeStep, IsEdgeStepBy}
+use Rattle.cec_session.proofs.Below.{one_outcome, same_outcome}
 
 pub edge_past : (s t : Session) (until : ℕ) (step : Step) → until < s.horizon → step ≡ refuse 1 Past → t ≡ s → IsEdgeStep s (Some until) step t
 edge_past s t until step l asks stands = let e : nat_lt until s.horizon ≡ true = grind (arith, nat_tests) in subst (λ (b : Bool). IsEdgeStepBy b s until step t) (sym e) (asks, stands)

@@ -5,12 +5,11 @@ use Rattle.std.proofs.lemmas.Bool.Decides.{nat_tests}
 use Rattle.cec_wave.specs.Line.{IsWave}
 use Rattle.cec_wire.specs.Round.{IsRound, close_in}
 use Rattle.cec_wire.specs.declared.Outcome.{Outcome}
-use Rattle.cec_wire.proofs.OneOutcome.{one_outcome}
 use Rattle.cec_net.specs.Progress.{IsProgress}
 use Rattle.cec_net.specs.State.{NetState, next_start}
 use Rattle.cec_net.specs.Step.{IsNextRound, after_round, seats_of}
-use Rattle.cec_run.proofs.Turns.{same_outcome}
 use Rattle.cec_session.specs.Turns.{IsForeseen, IsOn, IsSoon}
+use Rattle.cec_session.proofs.Below.{one_outcome, same_outcome}
 
 same_start : (x : Option ℕ) (a b : ℕ) → x ≡ Some a → x ≡ Some b → a ≡ b
 same_start x a b e f = cc

@@ -10,7 +10,6 @@ use Rattle.cec_net.specs.State.{NetState}
 use Rattle.cec_net.specs.Step.{IsNextRound, seats_of}
 use Rattle.cec_wave.specs.Line.{IsWave}
 use Rattle.cec_wire.specs.declared.Outcome.{Outcome}
-use Rattle.cec_wire.proofs.OneOutcome.{one_outcome}
 use Rattle.cec_run.specs.declared.run.Reporting.TheVariants.{Trace}
 use Rattle.cec_run.specs.declared.run.Totals.{Totals}
 use Rattle.cec_run.specs.declared.run.Turn.{Turn}
@@ -19,15 +18,14 @@ use Rattle.cec_run.specs.Run.{Config, turn_at, turn_of, first_time}
 use Rattle.cec_run.specs.Happening.{Happening, Happens, HappensBy, text_of}
 use Rattle.cec_run.specs.Heard.{Hears}
 use Rattle.cec_run.proofs.Running.{hears_more}
-use Rattle.cec_run.proofs.Turns.{no_turn, same_outcome}
 use Rattle.cec_run.proofs.Whole.{heard_text, trace_by}
 use Rattle.cec_certain.specs.Certain.{LeadsIf, IsHeldBy}
-use Rattle.cec_certain.proofs.Before.{NoTurn, held_ends, one_turn}
 use Rattle.cec_session.specs.declared.edges.Span.{Span}
 use Rattle.cec_session.specs.Edges.{edges_reported, pinned_by}
 use Rattle.cec_session.specs.Session.{Session, span_of}
 use Rattle.cec_session.specs.Taken.{IsGone}
 use Rattle.cec_session.specs.Turns.{AreEdgesOf, AreEdgesOn, AreHeard, ComesLast, Goes, GoesIf, GoesWith, IsLast, IsOn, IsReported, IsSoon, LeadsWith, certain_until, edges_of, text_with}
+use Rattle.cec_session.proofs.Below.{NoTurn, held_ends, no_turn, one_outcome, one_turn, same_outcome}
 
 -- ---- no turn is reported after the last
 

@@ -6,7 +6,6 @@ use Rattle.std.proofs.lemmas.List.Elements.{All-append, All-cons, All-nil, filte
 use Rattle.cec_wave.specs.declared.Stretch.{Stretch}
 use Rattle.cec_wave.specs.Line.{IsWave}
 use Rattle.cec_wave.specs.Pulls.{are_timely}
-use Rattle.cec_wave.proofs.Kept.{timely_tested, wave_filter}
 use Rattle.cec_wire.specs.declared.Outcome.{Outcome}
 use Rattle.cec_wire.proofs.HasOutcome.{rounds_have_outcomes}
 use Rattle.cec_event.specs.declared.event.Event.{Event}
@@ -24,11 +23,11 @@ use Rattle.cec_run.specs.declared.run.Reporting.TheVariants.{Trace}
 use Rattle.cec_run.specs.declared.run.Turn.{Turn}
 use Rattle.cec_run.specs.declared.run.Turn.TheVariants.{Stop, Apply, Round}
 use Rattle.cec_run.specs.Run.{Config, turn_at, turn_of, first_time, round_turn, counted_event, counted_round, event_text, round_reported, IsEventTurn, IsTurnBy}
-use Rattle.cec_run.proofs.Advance.{event_keeps, round_begins}
 use Rattle.cec_certain.specs.Certain.{IsHeldBy}
 use Rattle.cec_session.specs.declared.edges.Span.{Span}
 use Rattle.cec_session.specs.Edges.{edges_reported, pinned_by}
 use Rattle.cec_session.specs.Turns.{AreAhead, AreEdgesOf, GoesWith, HasEdges, IsReported}
+use Rattle.cec_session.proofs.Below.{event_keeps, round_begins, timely_tested, wave_filter}
 use Rattle.cec_session.proofs.Going.{last_stop, reported_event}
 
 -- ---- what a network keeps of its pulses

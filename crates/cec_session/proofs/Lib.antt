@@ -1,3 +1,4 @@
+pub mod Below
 pub mod Edging
 pub mod Extends
 pub mod Foreseeing
@@ -7,6 +8,11 @@ pub mod Noting
 mod SameEdges
 pub mod EdgesStay
 mod PinnedEdges
+mod LaterStarts
+mod Moving
+mod EdgesOf
+mod Coming
+pub mod Telling
 pub mod Wholly
 pub mod Answering
 pub mod NoteCalls

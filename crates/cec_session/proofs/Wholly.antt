@@ -8,7 +8,6 @@ use Rattle.cec_wave.specs.declared.Stretch.{Stretch}
 use Rattle.hdmi_topo.specs.Node.{Node}
 use Rattle.hdmi_blocks.specs.declared.edid.Edid.{Edid}
 use Rattle.cec_net.specs.State.{first_net}
-use Rattle.cec_net.proofs.Framed.{framed-started}
 use Rattle.cec_asm.specs.Script.{Notes, IsLineRead}
 use Rattle.cec_asm.specs.declared.script.TimedEvent.{TimedEvent}
 use Rattle.cec_asm.specs.declared.fault.LineFault.{LineFault}
@@ -17,8 +16,6 @@ use Rattle.cec_run.specs.declared.run.Reporting.TheVariants.{Trace}
 use Rattle.cec_run.specs.declared.run.Turn.{Turn}
 use Rattle.cec_run.specs.Run.{Config, start, start_reported, end_reported, Leads, IsRunText, IsRunTextFrom}
 use Rattle.cec_certain.specs.Certain.{ComesFrom, LeadsIf, LeadsBy, with_more}
-use Rattle.cec_certain.proofs.Certainty.{turns_stay_certain, reported_is_front}
-use Rattle.cec_certain.proofs.Before.{all_on}
 use Rattle.cec_asm.specs.declared.script.ScriptCause.TheVariants.{Number}
 use Rattle.cec_session.specs.declared.answer.RefusalCause.TheVariants.{Script, Past}
 use Rattle.cec_session.specs.declared.command.Command.{Command}
@@ -29,17 +26,18 @@ use Rattle.cec_session.specs.Turns.{IsReported, Goes, GoesWith, MayCome, certain
 use Rattle.cec_session.specs.Command.{command_of}
 use Rattle.cec_session.specs.Session.{Session, Standing, first_session, refuse, with_line_counted, standing, with_standing, standing_with, step_noted, step_by, step_to, after_to, step_wait, after_wait, step_show, span_of, is_late, is_past, refuses_pulse, rises_before, is_given_before, horizon_by, new_events, new_pulses, IsEdgeStep, IsEdgeStepBy, IsStepBy, IsDue, SessionGoes}
 use Rattle.cec_session.specs.Whole.{reported_of, AreLines, SessionsReportFronts, SessionsReportTraces}
+use Rattle.cec_session.proofs.Below.{all_on, framed-started, reported_is_front, turns_stay_certain}
 use Rattle.cec_session.proofs.Extends.{line_extends}
 use Rattle.cec_session.proofs.Going.{goes_of}
 use Rattle.cec_session.proofs.Noting.{taken, drop_all}
 
 -- ---- while a session goes on
 
-record SoFar (edid : Option Edid) (tree : List Node) (s : Session) (reported : List ℕ) : Type 0 where
-  edid_is : s.edid ≡ edid
-  turns : ℕ
-  leads : LeadsBy (Trace edid) (certain_until s.notes.pin s.horizon) turns (start (first_net tree s.notes.pulses) s.notes.events) reported s.place
-  sound : AreSound (length s.tree) s.notes
+pub record SoFar (edid : Option Edid) (tree : List Node) (s : Session) (reported : List ℕ) : Type 0 where
+  pub edid_is : s.edid ≡ edid
+  pub turns : ℕ
+  pub leads : LeadsBy (Trace edid) (certain_until s.notes.pin s.horizon) turns (start (first_net tree s.notes.pulses) s.notes.events) reported s.place
+  pub sound : AreSound (length s.tree) s.notes
 
 so_far_start : (edid : Option Edid) (tree : List Node) → SoFar edid tree (first_session edid tree) []
 so_far_start edid tree = record { edid_is = refl; turns = zero; leads = (refl, refl); sound = sound_start (length tree) }
@@ -52,16 +50,16 @@ stay_on edid tree until on turns count notes place reported events later sound l
     turns_stay_certain (Trace edid) until on turns (start (first_net tree notes.pulses) notes.events) place reported events later
     sound.order (framed-started tree notes.pulses) sound.framed comes l
 
-same_place : (place : Config) → with_more [] [] place ≡ place
+pub same_place : (place : Config) → with_more [] [] place ≡ place
 same_place place =
     ap₂ (λ (ps : List Stretch) (es : List TimedEvent). let c : Config = record { net = record place.net { pulses = ps }; events = es; totals = place.totals } in c)
     (append-nil place.net.pulses) (append-nil place.events)
 
-certain_by : (pin : Option ℕ) (horizon : ℕ) → certain_until pin horizon ≤ horizon
+pub certain_by : (pin : Option ℕ) (horizon : ℕ) → certain_until pin horizon ≤ horizon
 certain_by None horizon = omega arith
 certain_by (Some low) horizon = omega arith
 
-certain_on : (pin : Option ℕ) (horizon on : ℕ) → horizon ≤ on → certain_until pin horizon ≤ certain_until pin on
+pub certain_on : (pin : Option ℕ) (horizon on : ℕ) → horizon ≤ on → certain_until pin horizon ≤ certain_until pin on
 certain_on None horizon on le = le
 certain_on (Some low) horizon on le = omega (arith, le)
 
@@ -82,7 +80,7 @@ raised edid tree s reported horizon r le =
 
 -- ---- a line of the script
 
-neither : (a b : Bool) → (a || b) ≡ false → (a ≡ false) × (b ≡ false)
+pub neither : (a b : Bool) → (a || b) ≡ false → (a ≡ false) × (b ≡ false)
 neither true b e = cc
 neither false b e = (refl, e)
 
@@ -98,7 +96,7 @@ from_pulses horizon (pulse ∷ pulses) e =
     let parts = neither (nat_lt pulse.from horizon) (list_any (λ p. nat_lt p.from horizon) pulses) e in
     All-cons (λ p. horizon ≤ p.from) pulse pulses (let no = parts.0 in grind (arith, nat_tests)) (from_pulses horizon pulses parts.1)
 
-from_end : (horizon : ℕ) (end : Option ℕ) → is_given_before horizon end ≡ false → horizon ≤ horizon_by horizon end
+pub from_end : (horizon : ℕ) (end : Option ℕ) → is_given_before horizon end ≡ false → horizon ≤ horizon_by horizon end
 from_end horizon None e = omega arith
 from_end horizon (Some end) e = grind (arith, nat_tests)
 
@@ -107,7 +105,7 @@ from_fall : (until on : ℕ) (pin : Option ℕ) → until ≤ on → is_given_be
 from_fall until on None le e = le
 from_fall until on (Some low) le e = (let later : until ≤ low = grind (arith, nat_tests) in omega (arith, le, later))
 
-comes : (s : Standing) (new : Notes) → is_late s new ≡ false
+pub comes : (s : Standing) (new : Notes) → is_late s new ≡ false
     → ComesFrom (certain_until s.notes.pin s.horizon) (new_events s.notes new) (new_pulses s.notes new) (certain_until new.pin (horizon_by s.horizon new.end))
 comes s new e =
     let until = certain_until s.notes.pin s.horizon in
@@ -129,7 +127,7 @@ comes s new e =
     }
 
 -- a step that ends the script, or does not
-abbrev EndBy : Step → Session → Type 0
+abbrev pub EndBy : Step → Session → Type 0
 EndBy Finish s = s.notes.end ≡ Some s.horizon
 EndBy (Refuse refusal) s = s.notes.end ≡ None
 EndBy Idle s = s.notes.end ≡ None
@@ -137,11 +135,11 @@ EndBy (Show device) s = s.notes.end ≡ None
 EndBy Go s = s.notes.end ≡ None
 EndBy Edge s = s.notes.end ≡ None
 
-record Asked (edid : Option Edid) (tree : List Node) (step : Step) (s : Session) (reported : List ℕ) : Type 0 where
-  so_far : SoFar edid tree s reported
-  ended : EndBy step s
+pub record Asked (edid : Option Edid) (tree : List Node) (step : Step) (s : Session) (reported : List ℕ) : Type 0 where
+  pub so_far : SoFar edid tree s reported
+  pub ended : EndBy step s
 
-same_standing : (s : Session) → with_standing s (standing s) ≡ s
+pub same_standing : (s : Session) → with_standing s (standing s) ≡ s
 same_standing s =
     ap (λ (es : List TimedEvent). let t : Session = record s { place = record s.place { events = es } } in t)
     (ap (λ (es : List TimedEvent). s.place.events ++ es) (drop_all s.notes.events) ∙ append-nil s.place.events)
@@ -224,7 +222,7 @@ asked_edge edid tree s reported (Some until) step t r going is = by_test (nat_lt
 asked_edges : (edid : Option Edid) (tree : List Node) (s : Session) (reported : List ℕ) (edges : Bool) → SoFar edid tree s reported → s.notes.end ≡ None → Asked edid tree Go (record s { edges = edges }) reported
 asked_edges edid tree s reported edges r going = record { so_far = record { edid_is = r.edid_is; turns = r.turns; leads = r.leads; sound = r.sound }; ended = going }
 
-asked_by : (edid : Option Edid) (tree : List Node) (s : Session) (reported line : List ℕ) (command : Command) (step : Step) (t : Session) → SoFar edid tree s reported → s.notes.end ≡ None
+pub asked_by : (edid : Option Edid) (tree : List Node) (s : Session) (reported line : List ℕ) (command : Command) (step : Step) (t : Session) → SoFar edid tree s reported → s.notes.end ≡ None
     → IsStepBy s command line step t → Asked edid tree step t reported
 asked_by edid tree s reported line commands.Script step t r going (read, is, asks, stands) =
     subst (λ (step : Step). Asked edid tree step t reported) (sym asks)
@@ -243,17 +241,17 @@ asked_by edid tree s reported line (commands.Edges edges) step t r going (asks, 
     subst (λ (step : Step). Asked edid tree step t reported) (sym asks)
     (subst (λ (t : Session). Asked edid tree Go t reported) (sym stands) (asked_edges edid tree s reported edges r going))
 
-counted : (edid : Option Edid) (tree : List Node) (s : Session) (reported : List ℕ) → SoFar edid tree s reported → SoFar edid tree (with_line_counted s) reported
+pub counted : (edid : Option Edid) (tree : List Node) (s : Session) (reported : List ℕ) → SoFar edid tree s reported → SoFar edid tree (with_line_counted s) reported
 counted edid tree s reported r = record { edid_is = r.edid_is; turns = r.turns; leads = r.leads; sound = r.sound }
 
 -- ---- what is due of a step
 
 -- the whole trace was told
-record Over (edid : Option Edid) (tree : List Node) (s : Session) (reported : List ℕ) : Type 0 where
-  run : IsRunTextFrom (Trace edid) s.horizon (start (first_net tree s.notes.pulses) s.notes.events) reported s.place.totals
-  ended : s.notes.end ≡ Some s.horizon
+pub record Over (edid : Option Edid) (tree : List Node) (s : Session) (reported : List ℕ) : Type 0 where
+  pub run : IsRunTextFrom (Trace edid) s.horizon (start (first_net tree s.notes.pulses) s.notes.events) reported s.place.totals
+  pub ended : s.notes.end ≡ Some s.horizon
 
-abbrev Reached : Option Edid → List Node → Session → List ℕ → Type 0
+abbrev pub Reached : Option Edid → List Node → Session → List ℕ → Type 0
 Reached edid tree s reported = (SoFar edid tree s reported × (s.notes.end ≡ None)) ⊎ Over edid tree s reported
 
 -- whatever the turns are
@@ -278,7 +276,7 @@ gone_reached edid tree s t reported edges first own place r going goes stands =
     let all = all_on (IsReported false until) (Trace edid) until r.turns here.turns (start (first_net tree s.notes.pulses) s.notes.events) s.place place reported first r.leads here.leads in
     subst (λ (t : Session). Reached edid tree t (reported ++ first)) (sym stands) (inl (record { edid_is = r.edid_is; turns = all.0; leads = all.1; sound = r.sound }, going))
 
-due_reached : (edid : Option Edid) (tree : List Node) (s t : Session) (reported text : List ℕ) (step : Step) → Asked edid tree step s reported → (due : IsDue step s text t) → Reached edid tree t (reported ++ reported_of step s text t due)
+pub due_reached : (edid : Option Edid) (tree : List Node) (s t : Session) (reported text : List ℕ) (step : Step) → Asked edid tree step s reported → (due : IsDue step s text t) → Reached edid tree t (reported ++ reported_of step s text t due)
 due_reached edid tree s t reported text (Refuse refusal) a due = still edid tree s t reported a.so_far a.ended due.1
 due_reached edid tree s t reported text Idle a due = still edid tree s t reported a.so_far a.ended due.1
 due_reached edid tree s t reported text (Show device) a due = still edid tree s t reported a.so_far a.ended due.3
@@ -309,13 +307,13 @@ due_reached edid tree s t reported text Finish a (first, own, place, goes, is, s
 
 -- ---- all lines
 
-not_both : (end : Option ℕ) (at : ℕ) → end ≡ None → end ≡ Some at → ⊥
+pub not_both : (end : Option ℕ) (at : ℕ) → end ≡ None → end ≡ Some at → ⊥
 not_both end at e f = cc
 
 some_same : (end : Option ℕ) (a b : ℕ) → end ≡ Some a → end ≡ Some b → a ≡ b
 some_same end a b e f = cc
 
-all_lines : (edid : Option Edid) (tree : List Node) (lines kept : List (List ℕ)) (s t : Session) (before reported text : List ℕ) → Reached edid tree s before → AreLines lines s kept reported text t
+pub all_lines : (edid : Option Edid) (tree : List Node) (lines kept : List (List ℕ)) (s t : Session) (before reported text : List ℕ) → Reached edid tree s before → AreLines lines s kept reported text t
     → Reached edid tree t (before ++ reported)
 all_lines edid tree [] kept s t before reported text r (nothing, none, empty, same) =
     subst (λ (t : Session). Reached edid tree t (before ++ reported)) (sym same)
@@ -328,7 +326,7 @@ all_lines edid tree (line ∷ lines) kept s t before reported text (inl (so_far,
     let there = all_lines edid tree lines others mid t (before ++ first) more rest here after in
     subst (λ (text : List ℕ). Reached edid tree t text) (append_assoc before first more ∙ ap (λ (text : List ℕ). before ++ text) (sym reported_is)) there
 
-reached : (edid : Option Edid) (tree : List Node) (lines kept : List (List ℕ)) (reported text : List ℕ) (t : Session) → AreLines lines (first_session edid tree) kept reported text t → Reached edid tree t reported
+pub reached : (edid : Option Edid) (tree : List Node) (lines kept : List (List ℕ)) (reported text : List ℕ) (t : Session) → AreLines lines (first_session edid tree) kept reported text t → Reached edid tree t reported
 reached edid tree lines kept reported text t l = all_lines edid tree lines kept (first_session edid tree) t [] reported text (inl (so_far_start edid tree, refl)) l
 
 -- whatever may still come comes when nothing is certain yet

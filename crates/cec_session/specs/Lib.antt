@@ -6,3 +6,4 @@ pub mod Note
 pub mod Taken
 pub mod Whole
 pub mod EdgesStay
+pub mod Told

@@ -1,7 +1,12 @@
 //! Laws of whole sessions.
 ghost use Rattle.cec_session.specs.EdgesStay.{EdgesStay, PinnedEdgesStay};
 ghost use Rattle.cec_session.specs.Session.{StepsHaveOneText};
+ghost use Rattle.cec_session.specs.Told.{EdgesAreCertain};
 ghost use Rattle.cec_session.specs.Whole.{SessionsReportFronts, SessionsReportTraces, SessionsReportTracesOf};
+
+use cec_net::{runs_are_in_order, runs_are_waves};
+use cec_run::{edges_are_the_line, one_run, runs_have_texts};
+use cec_wire::rounds_are_lone;
 
 /// A step that a line asks for has one text that is due, and leads to one session.
 pub fn steps_have_one_text()
@@ -35,3 +40,17 @@ pub fn pinned_edges_stay()
 pub fn sessions_report_traces_of()
     ensures { SessionsReportTracesOf }
 {}
+
+/// The edges that a session has told, where edges are on and the pin is high after each of its lines, are the first of the edge file of
+/// every run that may still come of the lines that were taken: all that lie before the horizon, and no other. So it is from any line
+/// on, of the edges from the horizon before it.
+pub fn edges_are_certain()
+    ensures { EdgesAreCertain }
+{
+    rounds_are_lone();
+    runs_are_waves();
+    runs_are_in_order();
+    one_run();
+    runs_have_texts();
+    edges_are_the_line();
+}

@@ -137,7 +137,8 @@ end 3000000
 --
 a line that is held from within a frame on
 at 1000000 send p1 4>0 image-view-on
-pull 1020000 1000000
+pin 1020000 0
+pin 2020000 1
 end 3000000
 =>
 1000000 event 1 ok
@@ -255,6 +256,21 @@ end 3000000
 1000000 1011700 silent 010 by p1 out -
 1018000 1069150 complete 4>0 image-view-on ack by p1 out -
 --
+a frame that another pull breaks, 1600 after the fall of its slot 2: the television and the player pull low
+pull 1000000 3700
+pull 1004500 600
+pull 1006900 1500
+pull 1008500 100
+end 3000000
+=>
+1000000 1008500 short 10 by - out -
+--
+two pins, of which one sends and the other acknowledges: what they pull together
+lay 1000000 1000100100.0100011010
+end 3000000
+=>
+1000000 1051150 complete 8>9 give-osd-name ack by - out -
+--
 alone: a device from outside that holds nothing does not pull low after short
 at 1000000 send tv 0>4 standby
 pull 1006150 50
@@ -288,6 +304,12 @@ lay 1000000 1000100101.0100011011
 end 1060000
 =>
 1000000 1051150 complete 8>9 give-osd-name nack by - out -
+--
+a start that stays low for 3600, as under two pulls that touch, and no slot
+pull 1000000 3600
+end 1060000
+=>
+1000000 1004701 bad-start - by - out -
 --
 a glitch after the rise of a slot
 pull 1000000 3700

@@ -224,6 +224,9 @@ pin 100399 1 => line 2: order
 pull 100000 400
 pin 100400 0 => line 2: order
 --
+pull 1000000 600
+pin 1000599 0 => line 2: order
+--
 pin 10 0
 pulse 100000 400 => line 2: order
 --
