@@ -13,6 +13,7 @@ mod Moving
 mod EdgesOf
 mod Coming
 pub mod Telling
+pub mod Ending
 pub mod Wholly
 pub mod Answering
 pub mod NoteCalls

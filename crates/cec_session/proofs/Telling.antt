@@ -56,16 +56,16 @@ use Rattle.cec_session.proofs.Wholly.{Asked, Reached, SoFar, asked_by, certain_b
 -- ---- what a line brings
 
 -- from a session to the one that a line asks for
-record Came (s t : Session) : Type 0 where
-  events : List TimedEvent
-  pulses : List Stretch
-  events_are : t.notes.events ≡ s.notes.events ++ events
-  pulses_are : t.notes.pulses ≡ s.notes.pulses ++ pulses
-  place_is : t.place ≡ with_more events pulses s.place
-  edid_is : t.edid ≡ s.edid
-  since_is : t.since ≡ s.since
-  later : s.horizon ≤ t.horizon
-  comes : ComesFrom (certain_until s.notes.pin s.horizon) events pulses (certain_until t.notes.pin t.horizon)
+pub record Came (s t : Session) : Type 0 where
+  pub events : List TimedEvent
+  pub pulses : List Stretch
+  pub events_are : t.notes.events ≡ s.notes.events ++ events
+  pub pulses_are : t.notes.pulses ≡ s.notes.pulses ++ pulses
+  pub place_is : t.place ≡ with_more events pulses s.place
+  pub edid_is : t.edid ≡ s.edid
+  pub since_is : t.since ≡ s.since
+  pub later : s.horizon ≤ t.horizon
+  pub comes : ComesFrom (certain_until s.notes.pin s.horizon) events pulses (certain_until t.notes.pin t.horizon)
 
 -- where nothing goes on the horizon stays
 abbrev IsStill : Step → Session → Session → Type 0
@@ -76,11 +76,11 @@ IsStill Go s t = Unit {0}
 IsStill Edge s t = Unit {0}
 IsStill Finish s t = Unit {0}
 
-record HasCome (step : Step) (s t : Session) : Type 0 where
-  came : Came s t
-  still : IsStill step s t
+pub record HasCome (step : Step) (s t : Session) : Type 0 where
+  pub came : Came s t
+  pub still : IsStill step s t
 
-nothing : (until on : ℕ) → until ≤ on → ComesFrom until [] [] on
+pub nothing : (until on : ℕ) → until ≤ on → ComesFrom until [] [] on
 nothing until on l = record { scheduled = All-nil (λ e. until ≤ e.at); begun = All-nil (λ p. until ≤ p.from); over = l }
 
 came_on : (s : Session) (horizon : ℕ) (edges : Bool) → s.horizon ≤ horizon → Came s (record s { horizon = horizon; edges = edges })
@@ -172,7 +172,7 @@ come_edge s (Some until) step t is = by (nat_lt until s.horizon) is
     by false (asks, to, edge, stands) =
         subst (λ (step : Step). HasCome step s t) (sym asks) (subst (λ (t : Session). HasCome Edge s t) (sym stands) (record { came = came_on s (max s.horizon to) s.edges (omega arith); still = tt }))
 
-has_come : (s : Session) (command : Command) (line : List ℕ) (step : Step) (t : Session) → IsStepBy s command line step t → HasCome step s t
+pub has_come : (s : Session) (command : Command) (line : List ℕ) (step : Step) (t : Session) → IsStepBy s command line step t → HasCome step s t
 has_come s commands.Script line step t (read, is, asks, stands) =
     subst (λ (step : Step). HasCome step s t) (sym asks) (subst (λ (t : Session). HasCome (step_noted (standing s) read) s t) (sym stands) (come_read s line read is))
 has_come s commands.Wait line step t (soon, is, asks, stands) =
@@ -187,10 +187,10 @@ has_come s (commands.Edges edges) line step t (asks, stands) =
 
 -- ---- what is due leaves
 
-record Keeps (s t : Session) : Type 0 where
-  notes : t.notes ≡ s.notes
-  horizon : t.horizon ≡ s.horizon
-  edges : t.edges ≡ s.edges
+pub record Keeps (s t : Session) : Type 0 where
+  pub notes : t.notes ≡ s.notes
+  pub horizon : t.horizon ≡ s.horizon
+  pub edges : t.edges ≡ s.edges
 
 keeps_same : (s t : Session) → t ≡ s → Keeps s t
 keeps_same s t e = subst (λ (t : Session). Keeps s t) (sym e) (record { notes = refl; horizon = refl; edges = refl })
@@ -198,7 +198,7 @@ keeps_same s t e = subst (λ (t : Session). Keeps s t) (sym e) (record { notes =
 keeps_placed : (s t : Session) (place : Config) → t ≡ record s { place = place } → Keeps s t
 keeps_placed s t place e = subst (λ (t : Session). Keeps s t) (sym e) (record { notes = refl; horizon = refl; edges = refl })
 
-due_keeps : (step : Step) (s t : Session) (text : List ℕ) → IsDue step s text t → Keeps s t
+pub due_keeps : (step : Step) (s t : Session) (text : List ℕ) → IsDue step s text t → Keeps s t
 due_keeps (Refuse refusal) s t text due = keeps_same s t due.1
 due_keeps Idle s t text due = keeps_same s t due.1
 due_keeps (Show device) s t text due = keeps_same s t due.3
@@ -208,12 +208,12 @@ due_keeps Finish s t text due = keeps_placed s t due.2 due.5
 
 -- ---- what is still to come of a script
 
-record Future (events : List TimedEvent) (pulses : List Stretch) (end : ℕ) (notes : Notes) (horizon : ℕ) : Type 0 where
-  more : List TimedEvent
-  later : List Stretch
-  events_are : events ≡ notes.events ++ more
-  pulses_are : pulses ≡ notes.pulses ++ later
-  comes : ComesFrom (certain_until notes.pin horizon) more later end
+pub record Future (events : List TimedEvent) (pulses : List Stretch) (end : ℕ) (notes : Notes) (horizon : ℕ) : Type 0 where
+  pub more : List TimedEvent
+  pub later : List Stretch
+  pub events_are : events ≡ notes.events ++ more
+  pub pulses_are : pulses ≡ notes.pulses ++ later
+  pub comes : ComesFrom (certain_until notes.pin horizon) more later end
 
 comes_both : (until on end : ℕ) (events more : List TimedEvent) (pulses later : List Stretch) → ComesFrom until events pulses on → ComesFrom on more later end → ComesFrom until (events ++ more) (pulses ++ later) end
 comes_both until on end events more pulses later f g = record {
@@ -234,11 +234,11 @@ future_before events pulses end s t c f = record {
 future_same : (events : List TimedEvent) (pulses : List Stretch) (end : ℕ) (s t : Session) → t.notes ≡ s.notes → t.horizon ≡ s.horizon → Future events pulses end t.notes t.horizon → Future events pulses end s.notes s.horizon
 future_same events pulses end s t e g f = subst (λ (h : ℕ). Future events pulses end s.notes h) g (subst (λ (n : Notes). Future events pulses end n t.horizon) e f)
 
-future_asked : (events : List TimedEvent) (pulses : List Stretch) (end : ℕ) (s t : Session) (line kept reported text : List ℕ) → (is : IsLine s line kept reported text t) → Future events pulses end t.notes t.horizon
+pub future_asked : (events : List TimedEvent) (pulses : List Stretch) (end : ℕ) (s t : Session) (line kept reported text : List ℕ) → (is : IsLine s line kept reported text t) → Future events pulses end t.notes t.horizon
     → Future events pulses end is.asked.notes is.asked.horizon
 future_asked events pulses end s t line kept reported text is f = (let k = due_keeps is.step is.asked t text is.due in future_same events pulses end is.asked t k.notes k.horizon f)
 
-future_of : (events : List TimedEvent) (pulses : List Stretch) (end : ℕ) (lines : List (List ℕ)) (s : Session) (kept : List (List ℕ)) (reported text : List ℕ) (t : Session) → AreLines lines s kept reported text t
+pub future_of : (events : List TimedEvent) (pulses : List Stretch) (end : ℕ) (lines : List (List ℕ)) (s : Session) (kept : List (List ℕ)) (reported text : List ℕ) (t : Session) → AreLines lines s kept reported text t
     → Future events pulses end t.notes t.horizon → Future events pulses end s.notes s.horizon
 future_of events pulses end [] s kept reported text t (nothing, none, empty, same) f = subst (λ (x : Session). Future events pulses end x.notes x.horizon) same f
 future_of events pulses end (line ∷ lines) s kept reported text t (mid, own, others, first, second, more, rest, is, after, kept_is, reported_is, text_is) f =
@@ -246,7 +246,7 @@ future_of events pulses end (line ∷ lines) s kept reported text t (mid, own, o
     future_before events pulses end (with_line_counted s) is.asked (has_come (with_line_counted s) (command_of s.tree line) line is.step is.asked is.asks).came
     (future_asked events pulses end s mid line own first second is there)
 
-ends_none : (lines : List (List ℕ)) (s : Session) (kept : List (List ℕ)) (reported text : List ℕ) (t : Session) → AreLines lines s kept reported text t → t.notes.end ≡ None → s.notes.end ≡ None
+pub ends_none : (lines : List (List ℕ)) (s : Session) (kept : List (List ℕ)) (reported text : List ℕ) (t : Session) → AreLines lines s kept reported text t → t.notes.end ≡ None → s.notes.end ≡ None
 ends_none [] s kept reported text t (nothing, none, empty, same) going = ap (λ (x : Session). x.notes.end) (sym same) ∙ going
 ends_none (line ∷ lines) s kept reported text t (mid, own, others, first, second, more, rest, is, after, kept_is, reported_is, text_is) going = is.goes_on
 
@@ -273,7 +273,7 @@ all_later a b c from (s ∷ ss) w l m =
 parts : (x y z : List ℕ) → ((x ++ []) ++ []) ++ (([] ++ y) ++ z) ≡ (x ++ y) ++ z
 parts x y z = ap (λ w. w ++ (y ++ z)) (append-nil (x ++ []) ∙ append-nil x) ∙ sym (append_assoc x y z)
 
-spans : (a b c from : ℕ) (ss : List Stretch) → IsWaveFrom from ss → a ≤ b → b ≤ c
+pub spans : (a b c from : ℕ) (ss : List Stretch) → IsWaveFrom from ss → a ≤ b → b ≤ c
     → edges_reported (record { from = a; until = b }) ss ++ edges_reported (record { from = b; until = c }) ss ≡ edges_reported (record { from = a; until = c }) ss
 spans a b c from [] w l m = refl
 spans a b c from (s ∷ ss) w l m = by (spans a b c (s.to + 1) ss w.2 l m)
@@ -316,13 +316,13 @@ spans a b c from (s ∷ ss) w l m = by (spans a b c (s.to + 1) ss w.2 l m)
 
 -- ---- rounds that were over
 
-none_past : (span : Span) (until : ℕ) (os : List Outcome) → until ≤ span.from → AreOver until os → AreLone os → edges_reported span (run_wave os) ≡ []
+pub none_past : (span : Span) (until : ℕ) (os : List Outcome) → until ≤ span.from → AreOver until os → AreLone os → edges_reported span (run_wave os) ≡ []
 none_past span until [] l over lone = refl
 none_past span until (o ∷ os) l over lone =
     edges_append span o.wave (run_wave os)
     ∙ ap₂ (λ x y. x ++ y) (all_before span 0 o.rest o.wave lone.1 lone.0.after (let x = over.0 in omega (arith, x, l))) (none_past span until os l over.1 lone.2)
 
-lone_front : (xs ys : List Outcome) → AreLone (xs ++ ys) → AreLone xs
+pub lone_front : (xs ys : List Outcome) → AreLone (xs ++ ys) → AreLone xs
 lone_front [] ys lone = tt
 lone_front (x ∷ xs) ys lone = (lone.0, lone.1, lone_front xs ys lone.2)
 
@@ -343,21 +343,21 @@ known_start edid tree s reported r = record {
   rising = rising_of (length s.tree) (last_time s.notes.events + 1) 0 s.notes.events r.sound.schedule;
 }
 
-known_place : (edid : Option Edid) (tree : List Node) (s : Session) (reported : List ℕ) → SoFar edid tree s reported → IsKnown s.place
+pub known_place : (edid : Option Edid) (tree : List Node) (s : Session) (reported : List ℕ) → SoFar edid tree s reported → IsKnown s.place
 known_place edid tree s reported r =
     known_leads (IsOverBy (certain_until s.notes.pin s.horizon)) edid (certain_until s.notes.pin s.horizon) r.turns (start (first_net tree s.notes.pulses) s.notes.events) s.place reported r.leads
     (known_start edid tree s reported r)
 
 -- ---- one run
 
-record IsWhole (edid : Option Edid) (tree : List Node) (events : List TimedEvent) (pulses : List Stretch) (end : ℕ) (os : List Outcome) : Type 0 where
-  turns : ℕ
-  last : Config
-  runs : RunsTo edid end turns (start (first_net tree pulses) events) os last
-  stops : turn_at end last ≡ Stop
-  running : IsRunning (start (first_net tree pulses) events)
-  lone : AreLone os
-  wave : IsWave (run_wave os)
+pub record IsWhole (edid : Option Edid) (tree : List Node) (events : List TimedEvent) (pulses : List Stretch) (end : ℕ) (os : List Outcome) : Type 0 where
+  pub turns : ℕ
+  pub last : Config
+  pub runs : RunsTo edid end turns (start (first_net tree pulses) events) os last
+  pub stops : turn_at end last ≡ Stop
+  pub running : IsRunning (start (first_net tree pulses) events)
+  pub lone : AreLone os
+  pub wave : IsWave (run_wave os)
 
 same_more : (more events : List TimedEvent) (pulses later : List Stretch) (place : Config) → with_more (more ++ events) (pulses ++ later) place ≡ with_more events later (with_more more pulses place)
 same_more more events pulses later place =
@@ -365,16 +365,16 @@ same_more more events pulses later place =
     (sym (append_assoc place.net.pulses pulses later)) (sym (append_assoc place.events more events))
 
 -- the run from where the session stood, as the line that came has it
-record IsLeft (edid : Option Edid) (end : ℕ) (s asked : Session) (more : List TimedEvent) (later : List Stretch) (last : Config) (os : List Outcome) : Type 0 where
-  turns : ℕ
-  past : List Outcome
-  rest : List Outcome
-  runs : RunsTo asked.edid end turns (with_more more later asked.place) rest last
-  whole : os ≡ past ++ rest
-  there : IsRunning (with_more more later asked.place)
-  over : AreOver (certain_until s.notes.pin s.horizon) past
+pub record IsLeft (edid : Option Edid) (end : ℕ) (s asked : Session) (more : List TimedEvent) (later : List Stretch) (last : Config) (os : List Outcome) : Type 0 where
+  pub turns : ℕ
+  pub past : List Outcome
+  pub rest : List Outcome
+  pub runs : RunsTo asked.edid end turns (with_more more later asked.place) rest last
+  pub whole : os ≡ past ++ rest
+  pub there : IsRunning (with_more more later asked.place)
+  pub over : AreOver (certain_until s.notes.pin s.horizon) past
 
-left : Laws → (edid : Option Edid) (tree : List Node) (events : List TimedEvent) (pulses : List Stretch) (end : ℕ) (os : List Outcome) (s asked : Session) (reported : List ℕ) → (run : IsWhole edid tree events pulses end os)
+pub left : Laws → (edid : Option Edid) (tree : List Node) (events : List TimedEvent) (pulses : List Stretch) (end : ℕ) (os : List Outcome) (s asked : Session) (reported : List ℕ) → (run : IsWhole edid tree events pulses end os)
     → SoFar edid tree s reported → Came s asked → (f : Future events pulses end asked.notes asked.horizon) → IsLeft edid end s asked f.more f.later run.last os
 unfolding future_before
 left laws edid tree events pulses end os s asked reported run r c f =
@@ -443,9 +443,37 @@ step_told laws edid tree end os Finish s asked mid reported text more later last
 
 -- ---- all lines
 
-still_going : (edid : Option Edid) (tree : List Node) (s : Session) (reported : List ℕ) → s.notes.end ≡ None → Reached edid tree s reported → SoFar edid tree s reported
+pub still_going : (edid : Option Edid) (tree : List Node) (s : Session) (reported : List ℕ) → s.notes.end ≡ None → Reached edid tree s reported → SoFar edid tree s reported
 still_going edid tree s reported none (inl (r, going)) = r
 still_going edid tree s reported none (inr over) = absurd (not_both s.notes.end s.horizon none over.ended)
+
+-- what one of them tells
+pub line_told : Laws → (edid : Option Edid) (tree : List Node) (events : List TimedEvent) (pulses : List Stretch) (end : ℕ) (os : List Outcome) → IsWhole edid tree events pulses end os
+    → (s mid : Session) (line kept reported text before : List ℕ) → SoFar edid tree s before → s.notes.end ≡ None → (is : IsLine s line kept reported text mid) → mid.edges ≡ true → mid.notes.pin ≡ None
+    → mid.notes.end ≡ None → Future events pulses end mid.notes mid.horizon
+    → (told_of is.step is.asked text mid is.due ≡ edges_reported (record { from = s.horizon; until = mid.horizon }) (run_wave os)) × (s.horizon ≤ mid.horizon)
+line_told laws edid tree events pulses end os run s mid line kept reported text before r going is on high none there =
+    let counted_s = with_line_counted s in
+    let so = counted edid tree s before r in
+    let come = has_come counted_s (command_of s.tree line) line is.step is.asked is.asks in
+    let asked = asked_by edid tree counted_s before line (command_of s.tree line) is.step is.asked so going is.asks in
+    let keep = due_keeps is.step is.asked mid text is.due in
+    let future = future_asked events pulses end s mid line kept reported text is there in
+    let w = left laws edid tree events pulses end os counted_s is.asked before run so come.came future in
+    let here : told_of is.step is.asked text mid is.due ≡ edges_reported (record { from = s.horizon; until = is.asked.horizon }) (run_wave os) =
+    step_told laws edid tree end os is.step counted_s is.asked mid before text future.more future.later run.last w run.stops run.lone asked come.still future.comes come.came.since_is
+    (ap (λ (n : Notes). n.pin) (sym keep.notes) ∙ high) (sym keep.edges ∙ on) (ap (λ (n : Notes). n.end) (sym keep.notes) ∙ none) is.due in (
+      here ∙ ap (λ (h : ℕ). edges_reported (record { from = s.horizon; until = h }) (run_wave os)) (sym keep.horizon),
+      (let x = come.came.later in let y = keep.horizon in omega (arith, x, y)),
+    )
+
+-- and where the session goes on it stands after that line as before
+pub line_reached : (edid : Option Edid) (tree : List Node) (s mid : Session) (line kept reported text before : List ℕ) → SoFar edid tree s before → s.notes.end ≡ None → IsLine s line kept reported text mid → mid.notes.end ≡ None
+    → (now : List ℕ) × SoFar edid tree mid now
+line_reached edid tree s mid line kept reported text before r going is none =
+    let asked = asked_by edid tree (with_line_counted s) before line (command_of s.tree line) is.step is.asked (counted edid tree s before r) going is.asks in
+    let now = before ++ reported_of is.step is.asked text mid is.due in
+    (now, still_going edid tree mid now none (due_reached edid tree is.asked mid before text is.step asked is.due))
 
 lines_told : Laws → (edid : Option Edid) (tree : List Node) (events : List TimedEvent) (pulses : List Stretch) (end : ℕ) (os : List Outcome) → IsWhole edid tree events pulses end os
     → (lines : List (List ℕ)) (s : Session) (kept : List (List ℕ)) (reported text : List ℕ) (t : Session) (before : List ℕ) → SoFar edid tree s before → s.notes.end ≡ None
@@ -455,28 +483,50 @@ lines_told laws edid tree events pulses end os run [] s kept reported text t bef
     let stays : t.horizon ≡ s.horizon = ap (λ (x : Session). x.horizon) same in
     (sym (no_edges (record { from = s.horizon; until = t.horizon }) (run_wave os) (omega (arith, stays))), omega (arith, stays))
 lines_told laws edid tree events pulses end os run (line ∷ lines) s kept reported text t before r going (mid, own, others, first, second, more, rest, is, after, kept_is, reported_is, text_is) on over f =
-    let counted_s = with_line_counted s in
-    let so = counted edid tree s before r in
-    let come = has_come counted_s (command_of s.tree line) line is.step is.asked is.asks in
-    let asked = asked_by edid tree counted_s before line (command_of s.tree line) is.step is.asked so going is.asks in
-    let keep = due_keeps is.step is.asked mid second is.due in
-    let future = future_asked events pulses end s mid line own first second is (future_of events pulses end lines mid others more rest t after f) in
     let none : mid.notes.end ≡ None = ends_none lines mid others more rest t after over in
-    let w = left laws edid tree events pulses end os counted_s is.asked before run so come.came future in
-    let here : told_of is.step is.asked second mid is.due ≡ edges_reported (record { from = s.horizon; until = is.asked.horizon }) (run_wave os) =
-    step_told laws edid tree end os is.step counted_s is.asked mid before second future.more future.later run.last w run.stops run.lone asked come.still future.comes come.came.since_is
-    (ap (λ (n : Notes). n.pin) (sym keep.notes) ∙ on.1) (sym keep.edges ∙ on.0) (ap (λ (n : Notes). n.end) (sym keep.notes) ∙ none) is.due in
-    let next = due_reached edid tree is.asked mid before second is.step asked is.due in
-    let there = lines_told laws edid tree events pulses end os run lines mid others more rest t (before ++ reported_of is.step is.asked second mid is.due) (still_going edid tree mid _ none next) none after on.2 over f in
-    let low : s.horizon ≤ mid.horizon = (let x = come.came.later in let y = keep.horizon in omega (arith, x, y)) in (
-      ap₂ (λ x y. x ++ y) (here ∙ ap (λ (h : ℕ). edges_reported (record { from = s.horizon; until = h }) (run_wave os)) (sym keep.horizon)) there.0
-          ∙ spans s.horizon mid.horizon t.horizon 0 (run_wave os) run.wave low there.1,
-      (let x = there.1 in omega (arith, low, x)),
+    let here = line_told laws edid tree events pulses end os run s mid line own first second before r going is on.0 on.1 none (future_of events pulses end lines mid others more rest t after f) in
+    let now = line_reached edid tree s mid line own first second before r going is none in
+    let there = lines_told laws edid tree events pulses end os run lines mid others more rest t now.0 now.1 none after on.2 over f in (
+      ap₂ (λ x y. x ++ y) here.0 there.0 ∙ spans s.horizon mid.horizon t.horizon 0 (run_wave os) run.wave here.1 there.1,
+      (let x = here.1 in let y = there.1 in omega (arith, x, y)),
     )
 
 framed_both : (es fs : List TimedEvent) → AreFramedEvents es → AreFramedEvents fs → AreFramedEvents (es ++ fs)
 framed_both [] fs h k = k
 framed_both (e ∷ es) fs h k = (h.0, framed_both es fs h.1 k)
+
+-- a run has its rounds, and the edges of their lines are its edge file
+pub record IsFiled (edid : Option Edid) (tree : List Node) (events : List TimedEvent) (pulses : List Stretch) (end : ℕ) (file : List ℕ) : Type 0 where
+  pub rounds : List Outcome
+  pub whole : IsWhole edid tree events pulses end rounds
+  pub last : ℕ
+  pub file_is : file ≡ edge_lines (run_wave rounds) ++ end_line last
+
+pub filed : Laws → OneRun → RunsHaveTexts → EdgesAreTheLine → (edid : Option Edid) (tree : List Node) (events : List TimedEvent) (pulses : List Stretch) (end : ℕ) (file : List ℕ) (totals : Totals) → IsWave pulses → AreFramedEvents events
+    → IsRunText (Line Edges) end (start (first_net tree pulses) events) file totals → IsFiled edid tree events pulses end file
+filed laws one has line edid tree events pulses end file totals order framed run =
+    let from = start (first_net tree pulses) events in
+    let trace = has (Trace edid) tree pulses events end order in
+    let p = trace.2 in
+    let os = rounds_in (Trace edid) end p.run.turns from p.run.body p.run.last p.run.leads in
+    let same = (one (Trace edid) (Line Edges) end from trace.0 file trace.1 totals p run).rounds in
+    let edges = line tree pulses events end file totals order framed run in
+    let running : IsRunning from = record { order = order; framed = framed-started tree pulses; events = framed; settled = settled_started tree pulses } in
+    let runs = of_leads edid end p.run.turns from p.run.last p.run.body p.run.leads in
+    record {
+      rounds = os;
+      whole = record {
+        turns = p.run.turns;
+        last = p.run.last;
+        runs = runs;
+        stops = p.run.stops;
+        running = running;
+        lone = (moved laws.lone edid end p.run.turns from p.run.last os runs running).lone;
+        wave = subst (λ (xs : List Outcome). IsWave (run_wave xs)) (sym same) edges.read.wave;
+      };
+      last = max end run.run.last.net.close;
+      file_is = edges.whole ∙ ap (λ (xs : List Outcome). edge_lines (run_wave xs) ++ end_line (max end run.run.last.net.close)) (sym same);
+    }
 
 pub edges_are_certain : Laws → OneRun → RunsHaveTexts → EdgesAreTheLine → EdgesAreCertain
 edges_are_certain laws one has line edid tree before lines kept more x y text told s t b l on going events later end file totals comes order framed run =
@@ -485,29 +535,12 @@ edges_are_certain laws one has line edid tree before lines kept more x y text to
     let last = still_going edid tree t (x ++ y) going (all_lines edid tree lines more s t x y told (inl (r, none)) l) in
     let known = t.notes.events ++ events in
     let pulses = t.notes.pulses ++ later in
-    let all : AreFramedEvents known = framed_both t.notes.events events last.sound.framed framed in
-    let trace = has (Trace edid) tree pulses known end order in
-    let p = trace.2 in
-    let os = rounds_in (Trace edid) end p.run.turns (start (first_net tree pulses) known) p.run.body p.run.last p.run.leads in
-    let same = (one (Trace edid) (Line Edges) end (start (first_net tree pulses) known) trace.0 file trace.1 totals p run).rounds in
-    let edges = line tree pulses known end file totals order all run in
-    let running : IsRunning (start (first_net tree pulses) known) = record { order = order; framed = framed-started tree pulses; events = all; settled = settled_started tree pulses } in
-    let runs = of_leads edid end p.run.turns (start (first_net tree pulses) known) p.run.last p.run.body p.run.leads in
-    let wave : IsWave (run_wave os) = subst (λ (xs : List Outcome). IsWave (run_wave xs)) (sym same) edges.read.wave in
-    let whole : IsWhole edid tree known pulses end os = record {
-      turns = p.run.turns;
-      last = p.run.last;
-      runs = runs;
-      stops = p.run.stops;
-      running = running;
-      lone = (moved laws.lone edid end p.run.turns (start (first_net tree pulses) known) p.run.last os runs running).lone;
-      wave = wave;
-    } in
+    let is = filed laws one has line edid tree known pulses end file totals order (framed_both t.notes.events events last.sound.framed framed) run in
     let future : Future known pulses end t.notes t.horizon = record { more = events; later = later; events_are = refl; pulses_are = refl; comes = comes_from t.notes.pin t.horizon end events later comes } in
     record {
-      wave = run_wave os;
-      order = wave;
-      end = max end run.run.last.net.close;
-      file_is = edges.whole ∙ ap (λ (xs : List Outcome). edge_lines (run_wave xs) ++ end_line (max end run.run.last.net.close)) (sym same);
-      told_is = (lines_told laws edid tree known pulses end os whole lines s more y told t x r none l on going future).0;
+      wave = run_wave is.rounds;
+      order = is.whole.wave;
+      end = is.last;
+      file_is = is.file_is;
+      told_is = (lines_told laws edid tree known pulses end is.rounds is.whole lines s more y told t x r none l on going future).0;
     }

@@ -1,5 +1,5 @@
 -- The edges that a session has told, and what is certain of them (this profile's own).
-use Rattle.std.specs.Prelude.{◌≡◌, ℕ, zero, suc, Bool, true, false, List, [], ◌∷◌, ◌++◌, Option, None}
+use Rattle.std.specs.Prelude.{◌≡◌, ℕ, zero, suc, Bool, true, false, List, [], ◌∷◌, ◌++◌, Option, Some, None}
 use Rattle.cec_wave.specs.declared.Stretch.{Stretch}
 use Rattle.cec_wave.specs.Line.{IsWave}
 use Rattle.hdmi_topo.specs.Node.{Node}
@@ -68,3 +68,10 @@ EdgesAreCertain = (edid : Option Edid) (tree : List Node) (before lines kept mor
     → IsWave (t.notes.pulses ++ later) → AreFramedEvents events
     → IsRunText (Line Edges) end (start (first_net tree (t.notes.pulses ++ later)) (t.notes.events ++ events)) file totals
     → AreOfFile (record { from = s.horizon; until = t.horizon }) (told_in lines s more y told t l) file
+
+-- And once the script has ended, what is told from any line on is all that is left of the edge file of the run that the lines are.
+abbrev pub EdgesAreTold : Type 0
+EdgesAreTold = (edid : Option Edid) (tree : List Node) (before lines kept more : List (List ℕ)) (x y text told : List ℕ) (s t : Session) (end : ℕ) → AreLines before (first_session edid tree) kept x text s
+    → (l : AreLines lines s more y told t) → AreOn lines s more y told t l → s.notes.end ≡ None → t.notes.end ≡ Some end
+    → (file : List ℕ) (totals : Totals) → IsRunText (Line Edges) end (start (first_net tree t.notes.pulses) t.notes.events) file totals
+    → AreOfFile (record { from = s.horizon; until = 18446744073709551615 }) (told_in lines s more y told t l) file

@@ -1,7 +1,7 @@
 //! Laws of whole sessions.
 ghost use Rattle.cec_session.specs.EdgesStay.{EdgesStay, PinnedEdgesStay};
 ghost use Rattle.cec_session.specs.Session.{StepsHaveOneText};
-ghost use Rattle.cec_session.specs.Told.{EdgesAreCertain};
+ghost use Rattle.cec_session.specs.Told.{EdgesAreCertain, EdgesAreTold};
 ghost use Rattle.cec_session.specs.Whole.{SessionsReportFronts, SessionsReportTraces, SessionsReportTracesOf};
 
 use cec_net::{runs_are_in_order, runs_are_waves};
@@ -46,6 +46,18 @@ pub fn sessions_report_traces_of()
 /// on, of the edges from the horizon before it.
 pub fn edges_are_certain()
     ensures { EdgesAreCertain }
+{
+    rounds_are_lone();
+    runs_are_waves();
+    runs_are_in_order();
+    one_run();
+    runs_have_texts();
+    edges_are_the_line();
+}
+
+/// Once the script has ended they are all that the edge file of its run has from there on.
+pub fn edges_are_told()
+    ensures { EdgesAreTold }
 {
     rounds_are_lone();
     runs_are_waves();
