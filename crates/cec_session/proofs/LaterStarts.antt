@@ -1,5 +1,5 @@
 -- An event makes no round begin before its own instant, where none did.
-use Rattle.std.proofs.Common.{◌≡◌, ℕ, zero, suc, ◌+◌, ◌%◌, ◌==◌, ◌<◌, ◌≤◌, Bool, true, false, not, ◌&&◌, ◌||◌, nat_lt, if◌then◌else◌, max, min, List, [], ◌∷◌, ◌++◌, length, Option, Some, None, is_some, refl, sym, ap, ◌∙◌, subst, arith}
+use Rattle.std.proofs.Common.{◌≡◌, ℕ, zero, suc, ◌+◌, ◌%◌, ◌==◌, ◌≤◌, Bool, true, false, not, ◌&&◌, ◌||◌, nat_lt, if◌then◌else◌, max, min, List, [], ◌∷◌, ◌++◌, length, Option, Some, None, is_some, refl, sym, ap, subst, arith}
 use Rattle.std.specs.List.{All}
 use Rattle.std.proofs.lemmas.List.Elements.{All-nil, All-cons, All-head, All-tail}
 use Rattle.hdmi_core.specs.declared.kind.Kind.{Kind}
@@ -40,7 +40,7 @@ use Rattle.cec_device.specs.Say.{after_effect, say, say_all}
 use Rattle.cec_device.specs.Effects.{after_frame, by_decoded, is_for}
 use Rattle.cec_device.specs.Keys.{after_key, key_fault, keyed_by, own_doing}
 use Rattle.cec_device.specs.Outside.{act_fault, acted_by, after_act}
-use Rattle.cec_device.specs.Place.{after_failure, after_front, after_joining, after_leaving, after_sending, after_submission, class_of_poll, frame_sent, fresh, front_is_poll, is_allocating, is_off, is_on_wire, place_after_fate, polled_at, ready_by, ready_of, reported_by, reported_from, sent_by, start_place, submit_fault, submitted_by, tries, unregistered, with_reports}
+use Rattle.cec_device.specs.Place.{after_failure, after_front, after_joining, after_sending, after_submission, class_of_poll, frame_sent, fresh, front_is_poll, is_allocating, is_off, is_on_wire, place_after_fate, polled_at, ready_by, ready_of, reported_by, reported_from, sent_by, start_place, submit_fault, submitted_by, tries, unregistered, with_reports}
 use Rattle.cec_event.specs.declared.event.Event.{Event}
 use Rattle.cec_event.specs.declared.event.Event.TheVariants.{Plug, Unplug, Key as Press, Send, Outside}
 use Rattle.cec_event.specs.declared.event.EventError.{EventError}
