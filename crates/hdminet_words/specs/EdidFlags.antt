@@ -63,6 +63,7 @@ with_edid_value flags values.Nth word = option_map (λ nth. record flags { nth =
 abbrev pub with_edid_flag : EdidFlags → List ℕ → Option EdidFlags
 with_edid_flag flags word =
     if bytes_eq word (codes "--text") && is_none flags.source then Some (record flags { source = Some sources.Text })
+    else if bytes_eq word (codes "--words") && is_none flags.source then Some (record flags { source = Some sources.Words })
     else if bytes_eq word (codes "--hex") && is_none flags.source then Some (record flags { source = Some (sources.Dump 1) })
     else if bytes_eq word (codes "--eeodb") && is_none flags.reading then Some (record flags { reading = Some readings.Overridden })
     else if bytes_eq word (codes "--as-source") && is_none flags.reading then Some (record flags { reading = Some readings.AsSource })
@@ -120,6 +121,7 @@ edid_place flags = option_and_then (λ sound. place_by flags.address flags.port 
 -- how an EDID is written where no flag says it: that of a text as hex, and else as its text
 abbrev pub own_shape : Source → Shape
 own_shape sources.Text = shapes.Hex
+own_shape sources.Words = shapes.Hex
 own_shape sources.Bytes = shapes.Text
 own_shape (sources.Dump nth) = shapes.Text
 own_shape (sources.Pair dumps table) = shapes.Text

@@ -111,6 +111,8 @@ pub enum Source {
     Dump { nth: u64 },
     /// Its text.
     Text,
+    /// Its text, in which payloads may stand in words.
+    Words,
     /// The EDIDs of a display and of a receiver, of which that is made that the receiver answers with by a table: their bytes one
     /// after the other, or the first two hex dumps of a text.
     Pair { dumps: bool, table: Table },

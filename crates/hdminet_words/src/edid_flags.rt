@@ -32,7 +32,7 @@ pub enum Wanted {
 /// The flags that `edid` was given.
 #[derive(Clone, Copy)]
 pub struct EdidFlags {
-    /// What `--text` or `--hex` says that the input is.
+    /// What `--text`, `--words` or `--hex` says that the input is.
     pub source: Option<Source>,
     /// Which of the EDIDs of a dump is read.
     pub nth: Option<u64>,
@@ -164,6 +164,10 @@ fn with_edid_flag(flags: EdidFlags, word: &str) -> Option<EdidFlags>
     match word {
         "--text" if flags.source.is_none() => Some(EdidFlags {
             source: Some(Source::Text),
+            ..flags
+        }),
+        "--words" if flags.source.is_none() => Some(EdidFlags {
+            source: Some(Source::Words),
             ..flags
         }),
         "--hex" if flags.source.is_none() => Some(EdidFlags {
@@ -306,7 +310,7 @@ fn own_shape(source: Source) -> Shape
     ensures { result ≡ own_shape source }
 {
     match source {
-        Source::Text => Shape::Hex,
+        Source::Text | Source::Words => Shape::Hex,
         Source::Bytes | Source::Dump { .. } | Source::Pair { .. } => Shape::Text,
     }
 }
