@@ -3,7 +3,8 @@ use Rattle.std.specs.Prelude.{ℕ, ◌==◌, if◌then◌else◌, List, [], drop
 use Rattle.hdmi_meaning.specs.Videos.{video_meanings}
 use Rattle.hdmi_extended.specs.Colours.{capability_meanings, colour_meanings, hdr_meanings}
 use Rattle.hdmi_extended.specs.Videos.{preference_meanings, map_meanings}
-use Rattle.hdmi_extended.specs.Makers.{identifier, maker_name, named_meanings, tag_name, labelled_meanings}
+use Rattle.hdmi_layout.specs.ForumBlock.{identifier}
+use Rattle.hdmi_extended.specs.Makers.{maker_name, named_meanings, tag_name, labelled_meanings}
 use Rattle.hdmi_extended.specs.Forum.{forum_meanings, sink_meanings}
 use Rattle.hdmi_extended.specs.Counts.{count_meanings}
 use Rattle.hdmi_vendor.specs.Dolby.{dolby_meanings}

@@ -1,10 +1,12 @@
 -- What a block of the HDMI Forum means (HDMI 2.1, sections 10.3.2 and 10.3.6), of the bytes from its version on.
-use Rattle.std.specs.Prelude.{ℕ, ◌+◌, ◌*◌, ◌/◌, ◌%◌, ◌==◌, if◌then◌else◌, List, [], ◌∷◌, ◌++◌, take, drop, slice_index, codes}
-use Rattle.hdmi_meaning.specs.Notes.{Row, row, below, text_between, set_words}
+use Rattle.std.specs.Prelude.{ℕ, ◌*◌, ◌==◌, if◌then◌else◌, List, [], ◌∷◌, ◌++◌, take, drop, codes}
+use Rattle.hdmi_meaning.specs.Notes.{Row, row, when, below, text_between, set_words}
+use Rattle.hdmi_layout.specs.ForumBlock.{forum_block}
+use Rattle.hdmi_layout.specs.declared.forum_block.ForumBlock.{ForumBlock}
 use Rattle.hdmi_fields.specs.Fields.{words, number, hex, block_meanings}
 use Rattle.hdmi_fields.specs.Fields.{Row as FieldRow, row as field}
 
--- ---- the link: bytes 2 to 4
+-- ---- the link
 
 -- in units of 5 MHz; 0 reports nothing
 abbrev pub clock_words : ℕ → List ℕ
@@ -12,7 +14,6 @@ clock_words clock = if clock == 0 then [] else text_between (codes ", TMDS up to
 
 abbrev pub link_rows : List Row
 link_rows =
-    row 128 (codes "SCDC") ∷
     row 64 (codes "read request") ∷
     row 32 (codes "cable status") ∷
     row 16 (codes "CCBPCI") ∷
@@ -40,16 +41,16 @@ depth_rows =
     row 2 (codes "4:2:0 at 36 bits a pixel") ∷
     row 1 (codes "4:2:0 at 30 bits a pixel") ∷ []
 
--- byte 4: its high half, and bits of the other
-abbrev pub fixed_words : ℕ → List ℕ
-fixed_words b = rate_words (b / 16) ++ set_words depth_rows b
+abbrev pub fixed_words : ForumBlock → List ℕ
+fixed_words b = rate_words b.fixed_rate ++ set_words depth_rows b.depths
 
-abbrev pub link_words : List ℕ → List ℕ
-link_words p =
-    text_between (codes ", HDMI Forum version ") (slice_index p 0) [] ++
-    (clock_words (slice_index p 1) ++ (set_words link_rows (slice_index p 2) ++ fixed_words (slice_index p 3)))
+abbrev pub flag_words : ForumBlock → List ℕ
+flag_words b = when b.has_scdc (codes "SCDC") ++ set_words link_rows b.link
 
--- ---- what pictures may do: bytes 5 to 8
+abbrev pub link_words : ForumBlock → List ℕ
+link_words b = text_between (codes ", HDMI Forum version ") b.version [] ++ (clock_words b.max_rate ++ (flag_words b ++ fixed_words b))
+
+-- ---- what pictures may do
 
 abbrev pub picture_rows : List Row
 picture_rows =
@@ -62,7 +63,7 @@ picture_rows =
     row 1 (codes "FAPA in blanking") ∷
     row 128 (codes "FAPA end extended") ∷ []
 
--- the least rate in six bits, and the greatest in ten; 0 stands for none
+-- 0 stands for no rate
 abbrev pub greatest_words : ℕ → List ℕ
 greatest_words most = if most == 0 then codes " Hz on" else text_between (codes " to ") most (codes " Hz")
 
@@ -88,10 +89,8 @@ stream_rows =
     row 2 (codes "DSC at 12 bits") ∷
     row 1 (codes "DSC at 10 bits") ∷ []
 
-abbrev pub picture_words : List ℕ → List ℕ
-picture_words p =
-    set_words picture_rows (slice_index p 4) ++
-    (vrr_words (slice_index p 5 % 64) (slice_index p 5 / 64 * 256 + slice_index p 6) ++ set_words stream_rows (slice_index p 7))
+abbrev pub picture_words : ForumBlock → List ℕ
+picture_words b = set_words picture_rows b.pictures ++ (vrr_words b.least_refresh b.greatest_refresh ++ set_words stream_rows b.streams)
 
 -- ---- compressed streams: bytes 9 and 10
 
@@ -105,17 +104,20 @@ compression_rows =
 
 -- ---- all of it
 
-abbrev pub link_meanings : List ℕ → List (List ℕ)
-link_meanings p = below (link_words p)
+abbrev pub link_meanings : ForumBlock → List (List ℕ)
+link_meanings b = below (link_words b)
 
-abbrev pub picture_meanings : List ℕ → List (List ℕ)
-picture_meanings p = below (picture_words p)
+abbrev pub picture_meanings : ForumBlock → List (List ℕ)
+picture_meanings b = below (picture_words b)
 
 abbrev pub compression_meanings : List ℕ → List (List ℕ)
 compression_meanings p = block_meanings [] compression_rows 10 p
 
+unfoldable pub lines_of : ForumBlock → List ℕ → List (List ℕ)
+lines_of b p = link_meanings b ++ (picture_meanings b ++ compression_meanings p)
+
 abbrev pub forum_meanings : List ℕ → List (List ℕ)
-forum_meanings p = link_meanings p ++ (picture_meanings p ++ compression_meanings p)
+forum_meanings p = lines_of (forum_block p) p
 
 -- ---- sink capabilities as an extended block: two reserved bytes, and the same from the version on (HDMI 2.1, section 10.3.6)
 

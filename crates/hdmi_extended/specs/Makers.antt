@@ -1,9 +1,6 @@
 -- Makers by the three bytes of their identifier, the lowest first (IEEE RA, MA-L; the names that the blocks go by: own).
-use Rattle.std.specs.Prelude.{ℕ, ◌+◌, ◌*◌, ◌==◌, if◌then◌else◌, List, [], ◌∷◌, ◌++◌, drop, slice_index, codes}
+use Rattle.std.specs.Prelude.{ℕ, ◌==◌, if◌then◌else◌, List, [], ◌∷◌, ◌++◌, drop, codes}
 use Rattle.hdmi_meaning.specs.Notes.{below, rest_words}
-
-abbrev pub identifier : List ℕ → ℕ
-identifier p = slice_index p 0 + slice_index p 1 * 256 + slice_index p 2 * 65536
 
 -- a vendor block of a maker
 abbrev pub maker_name : ℕ → List ℕ

@@ -8,10 +8,10 @@ use crate::colours::{append_capability, append_colours, append_hdr};
 use crate::counts::append_count;
 use crate::forum::{append_forum, append_sink};
 use crate::makers::{
-    AMD, DOLBY, HDR10_PLUS, MICROSOFT, append_labelled, append_named, identifier, maker_name,
-    tag_name,
+    AMD, DOLBY, HDR10_PLUS, MICROSOFT, append_labelled, append_named, maker_name, tag_name,
 };
 use crate::videos::{append_map, append_preferences};
+use hdmi_layout::{HDMI_FORUM, identifier};
 use hdmi_meaning::{PAGE, Page, after, append_video, byte_at};
 use hdmi_vendor::{append_dolby, append_plus, append_soft, append_sound, append_sync};
 
@@ -36,9 +36,6 @@ const SINK_CAPABILITY: u8 = 0x79;
 
 /// The extended tag of the HDMI Forum's count of extensions (HDMI 2.1, section 10.3.7).
 const EXTENSION_COUNT: u8 = 0x78;
-
-/// The identifier of the HDMI Forum.
-const HDMI_FORUM: u32 = 0xc45dd8;
 
 fn append_vendor_video(page: &mut Page, payload: &[u8])
     requires few { length payload.now ≤ 128 }

@@ -1,22 +1,22 @@
 //! What a block of the HDMI Forum means.
-ghost use Rattle.std.specs.Prelude.{◌≡◌, ◌≤◌, ◌+◌, ◌*◌, ◌++◌, length, drop, flat_map};
+ghost use Rattle.std.specs.Prelude.{◌≡◌, ◌≤◌, ◌+◌, ◌*◌, ◌++◌, codes, length, drop, flat_map};
 ghost use Rattle.arrayvec.specs.ArrayVec.{array_vec_len};
-ghost use Rattle.hdmi_meaning.specs.Notes.{own_line, set_words};
-ghost use Rattle.hdmi_extended.specs.Forum.{alone_words, clock_words, compression_meanings, compression_rows, depth_rows, fixed_words, forum_meanings, from_words, greatest_words, link_meanings, link_rows, link_words, picture_meanings, picture_rows, picture_words, rate_words, sink_meanings, spare_lines, spare_meanings, spare_rows, stream_rows, vrr_words};
+ghost use Rattle.hdmi_meaning.specs.Notes.{own_line, set_words, when};
+ghost use Rattle.hdmi_extended.specs.Forum.{alone_words, clock_words, compression_meanings, compression_rows, depth_rows, fixed_words, flag_words, forum_meanings, from_words, greatest_words, lines_of, link_meanings, link_rows, link_words, picture_meanings, picture_rows, picture_words, rate_words, sink_meanings, spare_lines, spare_meanings, spare_rows, stream_rows, vrr_words};
 
 use arrayvec::ArrayVec;
 use hdmi_edid::append;
 use hdmi_fields::{Field, Says, append_block, choices, field_rows};
+use hdmi_layout::ForumBlock;
 use hdmi_meaning::{
-    Bit, NOTE, Note, PAGE, Page, after, append_between, append_bits, append_words, before,
-    bit_rows, byte_at,
+    Bit, NOTE, Note, PAGE, Page, after, append_between, append_bits, append_word, append_words,
+    before, bit_rows,
 };
 
 /// A unit of the TMDS clock, in MHz.
 const TMDS_CLOCK: u64 = 5;
 
 const LINK: &[Bit] = bit_rows! {
-    128 "SCDC";
     64 "read request";
     32 "cable status";
     16 "CCBPCI";
@@ -129,29 +129,48 @@ fn rate_words(rate: u8) -> &'static str
     }
 }
 
-fn append_fixed(note: &mut Note, bits: u8)
+fn append_fixed(note: &mut Note, block: ForumBlock)
     requires { array_vec_len note.old + 200 ≤ NOTE }
-    ensures items { note.new.items ≡ note.old.items ++ fixed_words bits }
+    ensures items { note.new.items ≡ note.old.items ++ fixed_words block }
     ensures len { array_vec_len note.new ≤ array_vec_len note.old + 200 }
 {
-    append(note, rate_words(bits / 16).as_bytes());
-    append_depth_bits(note, bits);
+    append(note, rate_words(block.fixed_rate).as_bytes());
+    append_depth_bits(note, block.depths);
 }
 
-fn link_note(payload: &[u8]) -> Note
-    ensures value { result.items ≡ link_words payload.now }
+fn append_scdc(note: &mut Note, has_scdc: bool)
+    requires { array_vec_len note.old + 6 ≤ NOTE }
+    ensures items { note.new.items ≡ note.old.items ++ when has_scdc (codes "SCDC") }
+    ensures len { array_vec_len note.new ≤ array_vec_len note.old + 6 }
+{
+    if has_scdc {
+        append_word(note, b"SCDC");
+    }
+}
+
+fn append_link_flags(note: &mut Note, block: ForumBlock)
+    requires { array_vec_len note.old + 326 ≤ NOTE }
+    ensures items { note.new.items ≡ note.old.items ++ flag_words block }
+    ensures len { array_vec_len note.new ≤ array_vec_len note.old + 326 }
+{
+    append_scdc(note, block.has_scdc);
+    append_link_bits(note, block.link);
+}
+
+fn link_note(block: ForumBlock) -> Note
+    ensures value { result.items ≡ link_words block }
     ensures len { array_vec_len result ≤ 800 }
 {
     let mut words = ArrayVec::new();
     append_between(
         &mut words,
         b", HDMI Forum version ",
-        u64::from(byte_at(payload, 0)),
+        u64::from(block.version),
         b"",
     );
-    append_clock(&mut words, byte_at(payload, 1));
-    append_link_bits(&mut words, byte_at(payload, 2));
-    append_fixed(&mut words, byte_at(payload, 3));
+    append_clock(&mut words, block.max_rate);
+    append_link_flags(&mut words, block);
+    append_fixed(&mut words, block);
     words
 }
 
@@ -200,33 +219,31 @@ fn append_vrr(note: &mut Note, least: u8, most: u16)
     }
 }
 
-fn picture_note(payload: &[u8]) -> Note
-    ensures value { result.items ≡ picture_words payload.now }
+fn picture_note(block: ForumBlock) -> Note
+    ensures value { result.items ≡ picture_words block }
     ensures len { array_vec_len result ≤ 800 }
 {
     let mut words = ArrayVec::new();
-    append_picture_bits(&mut words, byte_at(payload, 4));
-    let rates = byte_at(payload, 5);
-    let most = u16::from(rates / 64) * 256 + u16::from(byte_at(payload, 6));
-    append_vrr(&mut words, rates % 64, most);
-    append_stream_bits(&mut words, byte_at(payload, 7));
+    append_picture_bits(&mut words, block.pictures);
+    append_vrr(&mut words, block.least_refresh, block.greatest_refresh);
+    append_stream_bits(&mut words, block.streams);
     words
 }
 
-fn append_link(page: &mut Page, payload: &[u8])
+fn append_link(page: &mut Page, block: ForumBlock)
     requires { array_vec_len page.old + 1536 ≤ PAGE }
-    ensures items { page.new.items ≡ page.old.items ++ flat_map own_line (link_meanings payload.now) }
+    ensures items { page.new.items ≡ page.old.items ++ flat_map own_line (link_meanings block) }
     ensures len { array_vec_len page.new ≤ array_vec_len page.old + 1000 }
 {
-    append_words(page, link_note(payload).as_slice());
+    append_words(page, link_note(block).as_slice());
 }
 
-fn append_pictures(page: &mut Page, payload: &[u8])
+fn append_pictures(page: &mut Page, block: ForumBlock)
     requires { array_vec_len page.old + 1536 ≤ PAGE }
-    ensures items { page.new.items ≡ page.old.items ++ flat_map own_line (picture_meanings payload.now) }
+    ensures items { page.new.items ≡ page.old.items ++ flat_map own_line (picture_meanings block) }
     ensures len { array_vec_len page.new ≤ array_vec_len page.old + 1000 }
 {
-    append_words(page, picture_note(payload).as_slice());
+    append_words(page, picture_note(block).as_slice());
 }
 
 // Appends how streams are compressed, and what is left.
@@ -238,6 +255,17 @@ fn append_compression(page: &mut Page, payload: &[u8])
     append_block(page, b"", COMPRESSION, 10, payload);
 }
 
+#[tactic(auto, unfolding(crate::specs::Forum::lines_of))]
+fn append_of(page: &mut Page, block: ForumBlock, payload: &[u8])
+    requires few { length payload.now ≤ 128 }
+    requires room { array_vec_len page.old + 4000 ≤ PAGE }
+    ensures { page.new.items ≡ page.old.items ++ flat_map own_line (lines_of block payload.now) }
+{
+    append_link(page, block);
+    append_pictures(page, block);
+    append_compression(page, payload);
+}
+
 /// Appends what a block of the HDMI Forum means, of its bytes from the version on (HDMI 2.1, sections 10.3.2 and 10.3.6): a
 /// line of the link, one of what pictures may do, and one of how streams are compressed.
 pub fn append_forum(page: &mut Page, payload: &[u8])
@@ -245,9 +273,7 @@ pub fn append_forum(page: &mut Page, payload: &[u8])
     requires room { array_vec_len page.old + 4000 ≤ PAGE }
     ensures { page.new.items ≡ page.old.items ++ flat_map own_line (forum_meanings payload.now) }
 {
-    append_link(page, payload);
-    append_pictures(page, payload);
-    append_compression(page, payload);
+    append_of(page, ForumBlock::of(payload), payload);
 }
 
 /// Two reserved bytes before sink capabilities.

@@ -2,11 +2,11 @@
 ghost use Rattle.std.specs.Prelude.{◌≡◌, ◌≤◌, ◌+◌, ◌++◌, length, flat_map};
 ghost use Rattle.arrayvec.specs.ArrayVec.{array_vec_len};
 ghost use Rattle.hdmi_meaning.specs.Notes.{own_line};
-ghost use Rattle.hdmi_extended.specs.Makers.{identifier, labelled_meanings, maker_name, named_meanings, tag_name};
+ghost use Rattle.hdmi_extended.specs.Makers.{labelled_meanings, maker_name, named_meanings, tag_name};
 
 use arrayvec::ArrayVec;
 use hdmi_edid::append;
-use hdmi_meaning::{Note, PAGE, Page, after, append_rest, append_words, byte_at};
+use hdmi_meaning::{Note, PAGE, Page, after, append_rest, append_words};
 
 pub(crate) const AMD: u32 = 0x00001a;
 
@@ -25,15 +25,6 @@ const IN_FOCUS: u32 = 0x00e047;
 pub(crate) const HDR10_PLUS: u32 = 0x90848b;
 
 pub(crate) const MICROSOFT: u32 = 0xca125c;
-
-/// The identifier of a maker, whose lowest byte stands first.
-pub fn identifier(bytes: &[u8]) -> u32
-    ensures { result ≡ identifier bytes.now }
-{
-    u32::from(byte_at(bytes, 0))
-        + u32::from(byte_at(bytes, 1)) * 256
-        + u32::from(byte_at(bytes, 2)) * 65536
-}
 
 /// The name of the maker of a vendor block, with a comma before it; nothing where it is not known.
 pub fn maker_name(identifier: u32) -> &'static str
