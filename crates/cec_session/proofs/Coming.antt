@@ -1,5 +1,5 @@
 -- The known turns of a session, and the round that is on, in a run that may still come.
-use Rattle.std.proofs.Common.{◌≡◌, ℕ, zero, suc, ◌<◌, ◌≤◌, Bool, true, false, ◌||◌, nat_lt, if◌then◌else◌, max, List, [], ◌∷◌, ◌++◌, length, slice_index_or, inl, inr, Option, Some, None, refl, sym, ap, ap₂, ◌∙◌, subst, arith, append-nil, append_assoc}
+use Rattle.std.proofs.Common.{◌≡◌, ℕ, zero, suc, ◌+◌, ◌<◌, ◌≤◌, Bool, true, false, ◌||◌, nat_lt, nat_le, if◌then◌else◌, max, List, [], ◌∷◌, ◌++◌, ◌⊎◌, filter, length, slice_index_or, inl, inr, Option, Some, None, refl, sym, ap, ap₂, ◌∙◌, subst, arith, append-nil, append_assoc}
 use Rattle.std.specs.List.{All, list_any}
 use Rattle.std.proofs.lemmas.Bool.{cases_lt}
 use Rattle.std.proofs.lemmas.Bool.Decides.{nat_tests}
@@ -7,7 +7,8 @@ use Rattle.std.proofs.lemmas.Grind.{flat_map-append}
 use Rattle.std.proofs.lemmas.List.Elements.{All-head, All-tail}
 use Rattle.std.proofs.lemmas.List.Folds.{list_any-append, list_any_none}
 use Rattle.cec_wave.specs.declared.Stretch.{Stretch}
-use Rattle.cec_wave.specs.Line.{IsWave, line_of, was_low}
+use Rattle.cec_wave.specs.Line.{IsWave, IsWaveFrom, covers, line_of, was_low}
+use Rattle.cec_wave.specs.Bounds.{latest_event, latest_instant}
 use Rattle.cec_bits.specs.Reading.{known_at, reading_of}
 use Rattle.cec_wire.specs.declared.Outcome.{Outcome}
 use Rattle.cec_wire.specs.declared.Seat.{Seat}
@@ -16,11 +17,12 @@ use Rattle.cec_wire.specs.Alone.{RoundsAreLone}
 use Rattle.hdmi_blocks.specs.declared.edid.Edid.{Edid}
 use Rattle.cec_asm.specs.declared.script.TimedEvent.{TimedEvent}
 use Rattle.cec_net.specs.Framed.{AreFramed}
-use Rattle.cec_net.specs.Start.{first_onset}
+use Rattle.cec_net.specs.Start.{first_onset, least_start}
+use Rattle.cec_net.specs.Taken.{IsOn, RoundsTakePulses}
 use Rattle.cec_net.specs.State.{NetState, next_start}
-use Rattle.cec_net.specs.Step.{seats_of, IsNextRound}
+use Rattle.cec_net.specs.Step.{after_round, seats_of, IsNextRound}
 use Rattle.cec_net.specs.Apply.{net_after}
-use Rattle.cec_net.specs.Line.{run_wave, AreFollowing, ComesAfter, RunsAreInOrder, RunsAreWaves}
+use Rattle.cec_net.specs.Line.{run_wave, rounds_of, AreFollowing, ComesAfter, GoesFrom, RunsAreInOrder, RunsAreWaves}
 use Rattle.cec_run.specs.declared.run.Reporting.TheVariants.{Trace}
 use Rattle.cec_run.specs.declared.run.Turn.{Turn}
 use Rattle.cec_run.specs.declared.run.Turn.TheVariants.{Stop, Apply, Round}
@@ -28,14 +30,16 @@ use Rattle.cec_run.specs.Run.{Config, event_turn, first_time, is_by, round_turn,
 use Rattle.cec_run.specs.RunLine.{rounds_by}
 use Rattle.cec_certain.specs.Certain.{ComesFrom, IsHeld, IsHeldBy, IsOverBy, LeadsBy, with_more, with_pulses}
 use Rattle.cec_session.specs.declared.edges.Span.{Span}
-use Rattle.cec_session.specs.Edges.{edges_reported}
-use Rattle.cec_session.specs.Turns.{AreEdgesOf, LeadsWith}
+use Rattle.cec_session.specs.Edges.{edges_reported, pinned, pinned_by}
+use Rattle.cec_session.specs.Turns.{AreEdgesOf, HasEdges, LeadsWith, MayCome, certain_until}
 use Rattle.cec_session.specs.Told.{edges_in}
-use Rattle.cec_session.proofs.Below.{begun, event_keeps, is_late, no_turn, one_outcome, one_turn, round_begins, round_same, same_outcome, seats_fit, turns_are_certain, until_by}
-use Rattle.cec_session.proofs.EdgesStay.{edges_stay}
-use Rattle.cec_session.proofs.EdgesOf.{edges_append, quiet_from, FirstFrom}
-use Rattle.cec_session.proofs.LaterStarts.{AreLate, From, from_none, from_some, late_event, late_next, late_of}
-use Rattle.cec_session.proofs.Moving.{AreRising, AreRisingFrom, IsKnown, IsRunning, RunsTo, moved, running_turn}
+use Rattle.cec_session.proofs.Below.{begun, event_keeps, is_late, later_pulses, no_turn, one_outcome, one_turn, round_begins, round_more, round_same, same_outcome, seats_fit, turns_are_certain, until_by}
+use Rattle.cec_session.proofs.EdgesOf.{edges_append, wave_from, FirstFrom}
+use Rattle.cec_session.proofs.PinnedEdges.{pinned_after, pinned_before, pinned_wave}
+use Rattle.cec_session.proofs.SameEdges.{Agree, quiet, same_edges}
+use Rattle.cec_session.proofs.Wholly.{comes_from}
+use Rattle.cec_session.proofs.LaterStarts.{AreLate, From, from_none, from_right, from_some, late_event, late_next, late_of}
+use Rattle.cec_session.proofs.Moving.{AreLone, AreRising, AreRisingFrom, IsKnown, IsMoved, IsRunning, RunsTo, moved, running_turn}
 
 -- ---- rounds that have closed before an instant
 
@@ -68,7 +72,7 @@ not_stop turn b e f = cc
 
 pub record IsFirst (until : ℕ) (net : NetState) (turn : Turn) (first : List Outcome) : Type 0 where
   pub over : AreOver until first
-  pub edges : (span : Span) (told : List ℕ) → span.until ≤ until → AreEdgesOf span None net turn told → told ≡ edges_reported span (run_wave first)
+  pub edges : (span : Span) (told : List ℕ) → AreEdgesOf span None net turn told → told ≡ edges_reported span (run_wave first)
 
 -- an event is none of the rounds
 not_both : (edid : Option Edid) (until at : ℕ) (xs : List TimedEvent) (c mid there : Config) (line : List ℕ) (events : List TimedEvent) (later : List Stretch) → c.events ≡ xs → turn_at until c ≡ Apply at
@@ -81,25 +85,33 @@ not_both edid until at (x ∷ xs) c mid there line events later same turn t plac
     let long : length (xs ++ events) ≡ suc (length (xs ++ events)) = ap length here in
     absurd (omega (arith, long))
 
-first_is : (edid : Option Edid) (until end : ℕ) (c mid there : Config) (line text : List ℕ) (events : List TimedEvent) (later : List Stretch) (known turn : Turn) → ComesFrom until events later end
+first_is : RoundsAreLone → (edid : Option Edid) (until end : ℕ) (c mid there : Config) (line text : List ℕ) (events : List TimedEvent) (later : List Stretch) (known turn : Turn) → IsRunning c → ComesFrom until events later end
     → turn_at until c ≡ known → turn_at end (with_more events later c) ≡ turn → IsTurnBy (Trace edid) known c line mid → IsOverBy until known mid → there ≡ with_more events later mid
     → (t : IsTurnBy (Trace edid) turn (with_more events later c) text there) → IsFirst until c.net known (rounds_by (Trace edid) turn (with_more events later c) text there t)
-first_is edid until end c mid there line text events later Stop turn comes k h is over place t = absurd is
-first_is edid until end c mid there line text events later (Apply at) Stop comes k h is over place t = absurd t
-first_is edid until end c mid there line text events later (Apply at) (Apply on) comes k h is over place t = record { over = tt; edges = λ span told l e. e }
-first_is edid until end c mid there line text events later (Apply at) (Round b) comes k h is over place t = absurd (not_both edid until at c.events c mid there line events later refl k is place t.1)
-first_is edid until end c mid there line text events later (Round a) Stop comes k h is over place t = absurd t
-first_is edid until end c mid there line text events later (Round a) (Apply on) comes k h is over place t =
+first_is lone edid until end c mid there line text events later Stop turn r comes k h is over place t = absurd is
+first_is lone edid until end c mid there line text events later (Apply at) Stop r comes k h is over place t = absurd t
+first_is lone edid until end c mid there line text events later (Apply at) (Apply on) r comes k h is over place t = record { over = tt; edges = λ span told e. e }
+first_is lone edid until end c mid there line text events later (Apply at) (Round b) r comes k h is over place t = absurd (not_both edid until at c.events c mid there line events later refl k is place t.1)
+first_is lone edid until end c mid there line text events later (Round a) Stop r comes k h is over place t = absurd t
+first_is lone edid until end c mid there line text events later (Round a) (Apply on) r comes k h is over place t =
     absurd (not_apply (turn_at end (with_more events later c)) on a h (round_same until end a c.net c.events events later k comes))
-first_is edid until end c mid there line text events later (Round a) (Round b) comes k h is over place t =
+first_is lone edid until end c mid there line text events later (Round a) (Round b) r comes k h is over place t =
     let same : b ≡ a = same_begin (turn_at end (with_more events later c)) b a h (round_same until end a c.net c.events events later k comes) in
     let close : there.net.close ≡ close_in t.0.outcome = ap (λ (n : NetState). n.close) t.0.next.after_is in
     let early : there.net.close ≡ mid.net.close = ap (λ (d : Config). d.net.close) place in
+    let own : mid.net.close ≡ close_in is.0.outcome = ap (λ (n : NetState). n.close) is.0.next.after_is in
     let next : IsNextRound (with_pulses later c.net) a t.0.outcome there.net = subst (λ (x : ℕ). IsNextRound (with_pulses later c.net) x t.0.outcome there.net) same t.0.next in
+    let begins : next_start c.net ≡ Some a = (round_begins until c.net (first_time c.events) a k).0 in
+    let high = (lone.lone (seats_of c.net a) a c.net.pulses is.0.outcome (seats_fit c.net a r.framed) r.order is.0.wave is.0.next.round (begun c.net a begins)).after in
+    let more = round_more (seats_of c.net a) a until c.net.pulses later is.0.outcome high (omega (arith, own, over)) comes.begun is.0.next.round in
+    let one : is.0.outcome ≡ t.0.outcome =
+    same_outcome is.0.outcome t.0.outcome (one_outcome (seats_of c.net a) a (c.net.pulses ++ later) is.0.outcome t.0.outcome is.0.wave t.0.wave more next.round) in
     record {
       over = (omega (arith, close, early, over), tt);
-      edges = λ span told l has.
-          (edges_stay span until end a c told events later comes l k has).1 t.0.outcome there.net t.0.wave next ∙ ap (λ (w : List Stretch). edges_reported span w) (sym (append-nil t.0.outcome.wave));
+      edges = λ span told has. (
+          let that : has.0 ≡ is.0.outcome = same_outcome has.0 is.0.outcome (one_outcome (seats_of c.net a) a c.net.pulses has.0 is.0.outcome has.2 is.0.wave has.3.round is.0.next.round) in
+          has.4 ∙ ap (λ (o : Outcome). edges_reported span o.wave) (that ∙ one) ∙ ap (λ (w : List Stretch). edges_reported span w) (sym (append-nil t.0.outcome.wave))
+          );
     }
 
 pub record IsStepped (edid : Option Edid) (until end : ℕ) (c mid : Config) (events : List TimedEvent) (later : List Stretch) (os : List Outcome) (last : Config) : Type 0 where
@@ -111,9 +123,9 @@ pub record IsStepped (edid : Option Edid) (until end : ℕ) (c mid : Config) (ev
   pub there : IsRunning (with_more events later mid)
   pub is : IsFirst until c.net (turn_at until c) first
 
-stepped : (edid : Option Edid) (until end m : ℕ) (c mid last : Config) (line : List ℕ) (events : List TimedEvent) (later : List Stretch) (os : List Outcome) → IsRunning c → IsRunning (with_more events later c) → ComesFrom until events later end
+stepped : RoundsAreLone → (edid : Option Edid) (until end m : ℕ) (c mid last : Config) (line : List ℕ) (events : List TimedEvent) (later : List Stretch) (os : List Outcome) → IsRunning c → IsRunning (with_more events later c) → ComesFrom until events later end
     → IsTurn (Trace edid) until c line mid → IsOverBy until (turn_at until c) mid → RunsTo edid end m (with_more events later c) os last → turn_at end last ≡ Stop → IsStepped edid until end c mid events later os last
-stepped edid until end m c mid last line events later os r all comes turn over runs stops = by m runs
+stepped lone edid until end m c mid last line events later os r all comes turn over runs stops = by m runs
   where
     single : (text : List ℕ) × IsTurn (Trace edid) end (with_more events later c) text (with_more events later mid)
     single =
@@ -131,7 +143,7 @@ stepped edid until end m c mid last line events later os r all comes turn over r
           runs = subst (λ (d : Config). RunsTo edid end m d rest last) one.1 after;
           whole = e;
           there = subst IsRunning one.1 (running_turn edid (turn_at end (with_more events later c)) (with_more events later c) there text next all);
-          is = first_is edid until end c mid there line text events later (turn_at until c) (turn_at end (with_more events later c)) comes refl refl turn over one.1 next;
+          is = first_is lone edid until end c mid there line text events later (turn_at until c) (turn_at end (with_more events later c)) r comes refl refl turn over one.1 next;
         }
 
 -- ---- all known turns
@@ -146,9 +158,9 @@ pub record IsParted (edid : Option Edid) (until end : ℕ) (from last : Config) 
   pub there : IsRunning from
   pub over : AreOver until past
 
-pub parted : (edid : Option Edid) (until end n m : ℕ) (c d last : Config) (text : List ℕ) (events : List TimedEvent) (later : List Stretch) (os : List Outcome) → IsRunning c → IsRunning (with_more events later c) → ComesFrom until events later end
+pub parted : RoundsAreLone → (edid : Option Edid) (until end n m : ℕ) (c d last : Config) (text : List ℕ) (events : List TimedEvent) (later : List Stretch) (os : List Outcome) → IsRunning c → IsRunning (with_more events later c) → ComesFrom until events later end
     → LeadsBy (Trace edid) until n c text d → RunsTo edid end m (with_more events later c) os last → turn_at end last ≡ Stop → IsParted edid until end (with_more events later d) last os
-parted edid until end zero m c d last text events later os r all comes l runs stops = record {
+parted lone edid until end zero m c d last text events later os r all comes l runs stops = record {
   turns = m;
   past = [];
   rest = os;
@@ -157,9 +169,9 @@ parted edid until end zero m c d last text events later os r all comes l runs st
   there = subst (λ (x : Config). IsRunning (with_more events later x)) (sym l.1) all;
   over = tt;
 }
-parted edid until end (suc n) m c d last text events later os r all comes (mid, line, others, turn, over, after, e) runs stops =
-    let one = stepped edid until end m c mid last line events later os r all comes turn over runs stops in
-    let go = parted edid until end n one.turns mid d last others events later one.rest (running_turn edid (turn_at until c) c mid line turn r) one.there comes after one.runs stops in
+parted lone edid until end (suc n) m c d last text events later os r all comes (mid, line, others, turn, over, after, e) runs stops =
+    let one = stepped lone edid until end m c mid last line events later os r all comes turn over runs stops in
+    let go = parted lone edid until end n one.turns mid d last others events later one.rest (running_turn edid (turn_at until c) c mid line turn r) one.there comes after one.runs stops in
     record {
       turns = go.turns;
       past = one.first ++ go.past;
@@ -184,10 +196,10 @@ pub record IsToldOf (edid : Option Edid) (until end : ℕ) (from last : Config) 
 pub waves_append : (span : Span) (xs ys : List Outcome) → edges_reported span (run_wave (xs ++ ys)) ≡ edges_reported span (run_wave xs) ++ edges_reported span (run_wave ys)
 waves_append span xs ys = ap (λ w. edges_reported span w) (flat_map-append (λ (o : Outcome). o.wave) xs ys) ∙ edges_append span (run_wave xs) (run_wave ys)
 
-pub told_of_turns : (edid : Option Edid) (span : Span) (until end n m : ℕ) (c d last : Config) (reported text : List ℕ) (events : List TimedEvent) (later : List Stretch) (os : List Outcome) → IsRunning c
-    → IsRunning (with_more events later c) → ComesFrom until events later end → span.until ≤ until → (l : LeadsWith edid false span until n c reported text d) → RunsTo edid end m (with_more events later c) os last → turn_at end last ≡ Stop
+pub told_of_turns : RoundsAreLone → (edid : Option Edid) (span : Span) (until end n m : ℕ) (c d last : Config) (reported text : List ℕ) (events : List TimedEvent) (later : List Stretch) (os : List Outcome) → IsRunning c
+    → IsRunning (with_more events later c) → ComesFrom until events later end → (l : LeadsWith edid false span until n c reported text d) → RunsTo edid end m (with_more events later c) os last → turn_at end last ≡ Stop
     → IsToldOf edid until end (with_more events later d) last os span (edges_in edid false span until n c reported text d l)
-told_of_turns edid span until end zero m c d last reported text events later os r all comes within l runs stops = record {
+told_of_turns lone edid span until end zero m c d last reported text events later os r all comes l runs stops = record {
   turns = m;
   past = [];
   rest = os;
@@ -196,9 +208,9 @@ told_of_turns edid span until end zero m c d last reported text events later os 
   there = subst (λ (x : Config). IsRunning (with_more events later x)) (sym l.2) all;
   edges = refl;
 }
-told_of_turns edid span until end (suc n) m c d last reported text events later os r all comes within (mid, line, edges, others, rest, turn, over, own, after, e, f) runs stops =
-    let one = stepped edid until end m c mid last line events later os r all comes turn over runs stops in
-    let go = told_of_turns edid span until end n one.turns mid d last others rest events later one.rest (running_turn edid (turn_at until c) c mid line turn r) one.there comes within after one.runs stops in
+told_of_turns lone edid span until end (suc n) m c d last reported text events later os r all comes (mid, line, edges, others, rest, turn, over, own, after, e, f) runs stops =
+    let one = stepped lone edid until end m c mid last line events later os r all comes turn over runs stops in
+    let go = told_of_turns lone edid span until end n one.turns mid d last others rest events later one.rest (running_turn edid (turn_at until c) c mid line turn r) one.there comes after one.runs stops in
     record {
       turns = go.turns;
       past = one.first ++ go.past;
@@ -206,7 +218,7 @@ told_of_turns edid span until end (suc n) m c d last reported text events later 
       runs = go.runs;
       whole = one.whole ∙ ap (λ xs. one.first ++ xs) go.whole ∙ sym (append_assoc one.first go.past go.rest);
       there = go.there;
-      edges = ap₂ (λ x y. x ++ y) (one.is.edges span edges within own) go.edges ∙ sym (waves_append span one.first go.past);
+      edges = ap₂ (λ x y. x ++ y) (one.is.edges span edges own) go.edges ∙ sym (waves_append span one.first go.past);
     }
 
 -- ---- where nothing comes before an instant
@@ -274,7 +286,7 @@ onset_from until (p ∷ ps) later f late = f
 late_more : (until : ℕ) (later : List Stretch) (s : NetState) → AreLate until s → All (λ p. until ≤ p.from) later → AreLate until (with_pulses later s)
 late_more until later s l late = record { devices = l.devices; pulls = onset_from until s.pulses later l.pulls late }
 
--- ---- no edge before it
+-- ---- no round before it
 
 at_event : (end at t : ℕ) (s : NetState) → turn_of end s (Some t) ≡ Apply at → at ≡ max s.close t
 at_event end at t s e = by (is_by (max s.close t) (next_start s)) e
@@ -301,23 +313,22 @@ pub record Laws : Type 0 where
   pub lone : RoundsAreLone
   pub waves : RunsAreWaves
   pub order : RunsAreInOrder
+  pub takes : RoundsTakePulses
 
--- some rounds that begin at an instant or later have no edge before it
-none_from : Laws → (edid : Option Edid) (span : Span) (h end n : ℕ) (c last : Config) (os : List Outcome) → span.until ≤ h → IsRunning c → RunsTo edid end n c os last → FirstFrom h os
-    → edges_reported span (run_wave os) ≡ []
-none_from laws edid span h end n c last os within r runs first =
+-- the line of rounds that begin at an instant or later is high before it
+from_first : Laws → (edid : Option Edid) (h end n : ℕ) (c last : Config) (os : List Outcome) → IsRunning c → RunsTo edid end n c os last → FirstFrom h os → IsWaveFrom h (run_wave os)
+from_first laws edid h end n c last os r runs first =
     let m = moved laws.lone edid end n c last os runs r in
     let wave : IsWave (run_wave os) = subst (λ (xs : List Outcome). IsWave (run_wave xs)) m.rounds (laws.waves c.net last.net m.moves r.order r.framed m.goes) in
-    quiet_from span h os within wave m.lone first
+    wave_from h os wave m.lone first
 
-pub quiet : Laws → (edid : Option Edid) (span : Span) (h end n : ℕ) (c last : Config) (os : List Outcome) → span.until ≤ h → IsRunning c → AreLate h c.net → EventsFrom h c.net.close c.events
-    → RunsTo edid end n c os last → edges_reported span (run_wave os) ≡ []
-quiet laws edid span h end zero c last os within r late events (none, same) = ap (λ (xs : List Outcome). edges_reported span (run_wave xs)) none
-quiet laws edid span h end (suc n) c last os within r late events (mid, line, rest, turn, after, e) =
-    by (turn_at end c) refl turn e (λ here there. quiet laws edid span h end n mid last rest within (running_turn edid (turn_at end c) c mid line turn r) here there after)
+quiet_until : Laws → (edid : Option Edid) (h end n : ℕ) (c last : Config) (os : List Outcome) → IsRunning c → AreLate h c.net → EventsFrom h c.net.close c.events → RunsTo edid end n c os last → IsWaveFrom h (run_wave os)
+quiet_until laws edid h end zero c last os r late events (none, same) = subst (λ (xs : List Outcome). IsWaveFrom h (run_wave xs)) (sym none) tt
+quiet_until laws edid h end (suc n) c last os r late events (mid, line, rest, turn, after, e) =
+    by (turn_at end c) refl turn e (λ here there. quiet_until laws edid h end n mid last rest (running_turn edid (turn_at end c) c mid line turn r) here there after)
   where
     applied : (at : ℕ) (xs : List TimedEvent) → c.events ≡ xs → turn_of end c.net (first_time xs) ≡ Apply at → IsEventTurn (Trace edid) at xs c line mid → os ≡ rest
-        → (AreLate h mid.net → EventsFrom h mid.net.close mid.events → edges_reported span (run_wave rest) ≡ []) → edges_reported span (run_wave os) ≡ []
+        → (AreLate h mid.net → EventsFrom h mid.net.close mid.events → IsWaveFrom h (run_wave rest)) → IsWaveFrom h (run_wave os)
     applied at [] same k t whole go = absurd (no_event end at (next_start c.net) k)
     applied at (x ∷ xs) same k t whole go =
         let left : EventsFrom h c.net.close (x ∷ xs) = subst (EventsFrom h c.net.close) same events in
@@ -327,16 +338,90 @@ quiet laws edid span h end (suc n) c last os within r late events (mid, line, re
         let here : AreLate h mid.net = subst (AreLate h) (sym net) (late_event h at x.event c.net (let y = left.0 in omega (arith, on, y)) late) in
         let there : EventsFrom h mid.net.close mid.events =
         subst (λ (es : List TimedEvent). EventsFrom h mid.net.close es) (sym (ap (λ (d : Config). d.events) t.1)) (subst (λ (k : ℕ). EventsFrom h k xs) (sym close) left.1) in
-        ap (λ (ys : List Outcome). edges_reported span (run_wave ys)) whole ∙ go here there
+        subst (λ (ys : List Outcome). IsWaveFrom h (run_wave ys)) (sym whole) (go here there)
 
     by : (kind : Turn) → turn_at end c ≡ kind → (t : IsTurnBy (Trace edid) kind c line mid) → os ≡ rounds_by (Trace edid) kind c line mid t ++ rest
-        → (AreLate h mid.net → EventsFrom h mid.net.close mid.events → edges_reported span (run_wave rest) ≡ []) → edges_reported span (run_wave os) ≡ []
+        → (AreLate h mid.net → EventsFrom h mid.net.close mid.events → IsWaveFrom h (run_wave rest)) → IsWaveFrom h (run_wave os)
     by Stop k t whole go = absurd t
     by (Apply at) k t whole go = applied at c.events refl k t whole go
     by (Round b) k t whole go =
         let begins : next_start c.net ≡ Some b = (round_begins end c.net (first_time c.events) b k).0 in
         let first : FirstFrom h os = subst (FirstFrom h) (sym whole) (begins_at edid (Round b) b c mid line t h rest refl (late_next h c.net late b begins)) in
-        none_from laws edid span h end (suc n) c last os within r (mid, line, rest, turn, after, e) first
+        from_first laws edid h end (suc n) c last os r (mid, line, rest, turn, after, e) first
+
+-- ---- a pull that begins before the end is on the line, whole
+
+abbrev pub Has : Stretch → List Stretch → Type 0
+Has p [] = ⊥
+Has p (q ∷ qs) = (p ≡ q) ⊎ Has p qs
+
+pub has_later : (p : Stretch) (ps qs : List Stretch) → Has p (ps ++ p ∷ qs)
+has_later p [] qs = inl refl
+has_later p (q ∷ ps) qs = inr (has_later p ps qs)
+
+has_all : (P : Stretch → Type 0) (p : Stretch) (ps : List Stretch) → All P ps → Has p ps → P p
+has_all P p [] all has = absurd has
+has_all P p (q ∷ ps) all (inl e) = subst P (sym e) (All-head P q ps all)
+has_all P p (q ∷ ps) all (inr has) = has_all P p ps (All-tail P q ps all) has
+
+has_left : (rest : ℕ) (p : Stretch) (ps : List Stretch) → rest < p.from → Has p ps → Has p (filter (λ q. nat_lt rest q.from) ps)
+has_left rest p [] l has = has
+has_left rest p (q ∷ ps) l (inl e) =
+    let t : nat_lt rest q.from ≡ true = (let x : rest < q.from = (let f : p.from ≡ q.from = ap (λ (y : Stretch). y.from) e in omega (arith, f, l)) in grind (arith, nat_tests)) in
+    subst (λ (b : Bool). Has p (if b then q ∷ filter (λ q. nat_lt rest q.from) ps else filter (λ q. nat_lt rest q.from) ps)) (sym t) (inl e)
+has_left rest p (q ∷ ps) l (inr has) = by (nat_lt rest q.from) (has_left rest p ps l has)
+  where
+    by : (b : Bool) → Has p (filter (λ q. nat_lt rest q.from) ps) → Has p (if b then q ∷ filter (λ q. nat_lt rest q.from) ps else filter (λ q. nat_lt rest q.from) ps)
+    by true k = inr k
+    by false k = k
+
+-- none begins before the first
+onset_first : (h from : ℕ) (p : Stretch) (ps : List Stretch) → IsWaveFrom from ps → Has p ps → From h (first_onset ps) → h ≤ p.from
+onset_first h from p [] w has f = absurd has
+onset_first h from p (q ∷ ps) w has f = (let x = f q.from refl in let y = after q.from (q ∷ ps) (omega arith, w.1, w.2) has in omega (arith, x, y))
+  where
+    after : (a : ℕ) (qs : List Stretch) → IsWaveFrom a qs → Has p qs → a ≤ p.from
+    after a [] v k = absurd k
+    after a (r ∷ qs) v (inl e) = (let g : p.from ≡ r.from = ap (λ (y : Stretch). y.from) e in let x = v.0 in omega (arith, g, x))
+    after a (r ∷ qs) v (inr k) = (let x = after (r.to + 1) qs v.2 k in let y = v.0 in let z = v.1 in omega (arith, x, y, z))
+
+or_left : (a b : Bool) → a ≡ true → (a || b) ≡ true
+or_left true b e = refl
+or_left false b e = cc
+
+or_right : (a b : Bool) → b ≡ true → (a || b) ≡ true
+or_right true b e = refl
+or_right false b e = e
+
+pub pull_is_on : Laws → (edid : Option Edid) (end n : ℕ) (c last : Config) (os : List Outcome) (p : Stretch) → IsRunning c → RunsTo edid end n c os last → turn_at end last ≡ Stop → Has p c.net.pulses → p.from < end
+    → (t : ℕ) → p.from ≤ t → t < p.to → line_of (run_wave os) t ≡ true
+pull_is_on laws edid end zero c last os p r (none, same) stops has early t a b =
+    let from : From end (first_onset c.net.pulses) = from_right end (least_start c.net.rest c.net.devices) (first_onset c.net.pulses) (stop_start end c.net (first_time c.events) (ap (turn_at end) (sym same) ∙ stops)) in
+    absurd (let x = onset_first end 0 p c.net.pulses r.order has from in omega (arith, x, early))
+pull_is_on laws edid end (suc n) c last os p r (mid, line, rest, turn, after, e) stops has early t a b =
+    by (turn_at end c) refl turn e (λ k. pull_is_on laws edid end n mid last rest p (running_turn edid (turn_at end c) c mid line turn r) after stops k early t a b)
+  where
+    low : (o : Outcome) → line_of (o.wave ++ run_wave rest) t ≡ (line_of o.wave t || line_of (run_wave rest) t)
+    low o = list_any-append (λ s. covers s t) o.wave (run_wave rest)
+
+    applied : (at : ℕ) (xs : List TimedEvent) → IsEventTurn (Trace edid) at xs c line mid → Has p mid.net.pulses
+    applied at [] t = subst (λ (d : Config). Has p d.net.pulses) (sym t.1) has
+    applied at (x ∷ xs) t = subst (λ (ps : List Stretch). Has p ps) (sym (event_keeps at x.event c.net mid.net (ap (λ (d : Config). d.net) t.1)).pulses) has
+
+    by : (kind : Turn) → turn_at end c ≡ kind → (k : IsTurnBy (Trace edid) kind c line mid) → os ≡ rounds_by (Trace edid) kind c line mid k ++ rest → (Has p mid.net.pulses → line_of (run_wave rest) t ≡ true)
+        → line_of (run_wave os) t ≡ true
+    by Stop h k whole go = absurd k
+    by (Apply at) h k whole go = ap (λ (xs : List Outcome). line_of (run_wave xs) t) whole ∙ go (applied at c.events k)
+    by (Round begin) h k whole go =
+        let begins : next_start c.net ≡ Some begin = (round_begins end c.net (first_time c.events) begin h).0 in
+        let goes : GoesFrom c.net begin k.0.outcome = record { begins = begins; wave = k.0.wave; round = k.0.next.round } in
+        ap (λ (xs : List Outcome). line_of (run_wave xs) t) whole ∙ low k.0.outcome
+        ∙ elim (cases_lt k.0.outcome.rest p.from) [
+          | inl lt ↦ or_right (line_of k.0.outcome.wave t) (line_of (run_wave rest) t)
+              (go (subst (λ (s : NetState). Has p s.pulses) (sym k.0.next.after_is) (has_left k.0.outcome.rest p c.net.pulses lt has)))
+          | inr ge ↦ or_left (line_of k.0.outcome.wave t) (line_of (run_wave rest) t)
+              (has_all (λ q. q.from ≤ k.0.outcome.rest → IsOn (line_of k.0.outcome.wave) q) p c.net.pulses (laws.takes.taken c.net begin k.0.outcome r.order goes) has ge t a b)
+        ]
 
 -- ---- the round that is on
 
@@ -434,34 +519,88 @@ comes_after h o (p ∷ os) l c = (let x = c.0 in omega (arith, l, x))
 
 -- ---- what is told of the turn that is not over
 
-pub told_on : Laws → (edid : Option Edid) (span : Span) (until end m : ℕ) (d last : Config) (on : List ℕ) (events : List TimedEvent) (later : List Stretch) (rest : List Outcome) → IsKnown d
-    → IsRunning (with_more events later d) → ComesFrom until events later end → IsHeld until d
-    → AreEdgesOf span None d.net (turn_at until d) on → span.until ≤ until → RunsTo edid end m (with_more events later d) rest last → turn_at end last ≡ Stop → on ≡ edges_reported span (run_wave rest)
-told_on laws edid span until end m d last on events later rest known there comes held own within runs stops = by (turn_at until d) refl held own
+-- the round that is on, or none, has before an instant the line that the run has
+record IsOnLine (span : Span) (pin : Option ℕ) (until : ℕ) (on : List ℕ) (rest : List Outcome) : Type 0 where
+  wave : List Stretch
+  order : IsWave wave
+  on_is : on ≡ edges_reported span (pinned_by pin wave)
+  whole : IsWave (run_wave rest)
+  agree : Agree until wave (run_wave rest)
+
+on_line : Laws → (edid : Option Edid) (span : Span) (pin : Option ℕ) (until end m : ℕ) (d last : Config) (on : List ℕ) (events : List TimedEvent) (later : List Stretch) (rest : List Outcome) → IsKnown d
+    → IsRunning (with_more events later d) → ComesFrom until events later end → IsHeld until d → AreEdgesOf span pin d.net (turn_at until d) on → RunsTo edid end m (with_more events later d) rest last → turn_at end last ≡ Stop
+    → IsOnLine span pin until on rest
+on_line laws edid span pin until end m d last on events later rest known there comes held own runs stops = by (turn_at until d) refl held own
   where
+    all : IsMoved (with_pulses later d.net) last.net rest
+    all = moved laws.lone edid end m (with_more events later d) last rest runs there
+
+    whole : IsWave (run_wave rest)
+    whole = subst (λ (xs : List Outcome). IsWave (run_wave xs)) all.rounds (laws.waves (with_pulses later d.net) last.net all.moves there.order there.framed all.goes)
+
     stop_events : (es : List TimedEvent) → d.events ≡ es → turn_of until d.net (first_time es) ≡ Stop → EventsFrom until d.net.close es
     stop_events [] same k = tt
     stop_events (e ∷ es) same k =
         let first : until ≤ max d.net.close e.at = stop_event until e.at d.net k in
         (first, in_order until d.net.close e.at es (subst AreRising same known.rising) first)
 
-    by : (turn : Turn) → turn_at until d ≡ turn → IsHeldBy until d.net turn → AreEdgesOf span None d.net turn on → on ≡ edges_reported span (run_wave rest)
+    by : (turn : Turn) → turn_at until d ≡ turn → IsHeldBy until d.net turn → AreEdgesOf span pin d.net turn on → IsOnLine span pin until on rest
     by Stop k h e =
         let late : AreLate until d.net = late_of until d.net known.running.settled (stop_start until d.net (first_time d.events) k) in
         let left : EventsFrom until d.net.close (d.events ++ events) = events_append until d.net.close d.events events (stop_events d.events refl k) comes.scheduled in
-        e ∙ sym (quiet laws edid span until end m (with_more events later d) last rest within there (late_more until later d.net late comes.begun) left runs)
+        let from = quiet_until laws edid until end m (with_more events later d) last rest there (late_more until later d.net late comes.begun) left runs in
+        record { wave = []; order = tt; on_is = e; whole = whole; agree = λ t l. sym (quiet (run_wave rest) until t from l) }
     by (Apply at) k h e = absurd h
-    by (Round b) k (o, after, wave, next, late) has =
-        let stay = edges_stay span until end b d on events later comes within k has in
-        let one = first_round edid end b m (with_more events later d) last rest there stay.0 runs stops in
-        let begins : next_start (with_pulses later d.net) ≡ Some b = (round_begins end (with_pulses later d.net) (first_time (d.events ++ events)) b stay.0).0 in
+    by (Round b) k (o, after, wave, next, late) (p, other, wave', next', e) =
+        let same : turn_at end (with_more events later d) ≡ Round b = round_same until end b d.net d.events events later k comes in
+        let one = first_round edid end b m (with_more events later d) last rest there same runs stops in
+        let begins : next_start (with_pulses later d.net) ≡ Some b = (round_begins end (with_pulses later d.net) (first_time (d.events ++ events)) b same).0 in
         let close = closes_late laws.lone until b d.net after one.mid.net later o one.outcome known.running.framed there.order begins comes.begun wave one.wave next late one.next in
-        let all = moved laws.lone edid end m (with_more events later d) last rest runs there in
         let follows : AreFollowing rest = subst AreFollowing all.rounds (laws.order (with_pulses later d.net) last.net all.moves there.order there.framed all.goes) in
         let first : ComesAfter one.outcome one.rest = (subst AreFollowing one.whole follows).0 in
-        let tail : edges_reported span (run_wave one.rest) ≡ [] = none_from laws edid span until end one.turns one.mid last one.rest within one.running one.runs (comes_after until one.outcome one.rest close first) in
-        stay.1 one.outcome one.mid.net one.wave one.next
-        ∙ sym (append-nil (edges_reported span one.outcome.wave))
-        ∙ ap (λ (t : List ℕ). edges_reported span one.outcome.wave ++ t) (sym tail)
-        ∙ sym (edges_append span one.outcome.wave (run_wave one.rest))
-        ∙ ap (λ (xs : List Outcome). edges_reported span (run_wave xs)) (sym one.whole)
+        let tail : IsWaveFrom until (run_wave one.rest) = from_first laws edid until end one.turns one.mid last one.rest one.running one.runs (comes_after until one.outcome one.rest close first) in
+        record {
+          wave = p.wave;
+          order = wave';
+          on_is = e;
+          whole = whole;
+          agree = λ t l.
+              later_pulses (seats_of d.net b) b d.net.pulses later until (line_of p.wave) (line_of one.outcome.wave) comes.begun next'.round.line one.next.round.line t l
+              ∙ sym (or_false (line_of one.outcome.wave t))
+              ∙ ap (λ (x : Bool). line_of one.outcome.wave t || x) (sym (quiet (run_wave one.rest) until t tail l))
+              ∙ sym (list_any-append (λ s. covers s t) one.outcome.wave (run_wave one.rest))
+              ∙ ap (λ (xs : List Outcome). line_of (run_wave xs) t) (sym one.whole);
+        }
+
+-- a pin that is low is so within the times of a session
+abbrev pub AreEarly : Option ℕ → ℕ → Type 0
+AreEarly None horizon = Unit {0}
+AreEarly (Some low) horizon = (low ≤ latest_event) × (horizon ≤ latest_event)
+
+pub told_on : Laws → (edid : Option Edid) (pin : Option ℕ) (span : Span) (horizon end m : ℕ) (d last : Config) (on : List ℕ) (events : List TimedEvent) (later : List Stretch) (rest : List Outcome) → IsKnown d
+    → IsRunning (with_more events later d) → MayCome pin horizon events later end → AreEarly pin horizon → IsHeld (certain_until pin horizon) d → AreEdgesOf span pin d.net (turn_at (certain_until pin horizon) d) on
+    → span.until ≤ horizon → RunsTo edid end m (with_more events later d) rest last → turn_at end last ≡ Stop → on ≡ edges_reported span (run_wave rest)
+told_on laws edid None span horizon end m d last on events later rest known there comes early held own within runs stops =
+    let w = on_line laws edid span None horizon end m d last on events later rest known there comes held own runs stops in
+    w.on_is ∙ same_edges span horizon 0 0 w.wave (run_wave rest) within w.order w.whole w.agree
+told_on laws edid (Some low) span horizon end m d last on events [] rest known there comes early held own within runs stops = absurd comes
+told_on laws edid (Some low) span horizon end m d last on events (pull ∷ later) rest known there comes early held own within runs stops =
+    w.on_is ∙ same_edges span horizon 0 0 (pinned low w.wave) (run_wave rest) within (pinned_wave 0 low w.wave w.order (omega arith) before) w.whole agree
+  where
+    until : ℕ
+    until = certain_until (Some low) horizon
+
+    w : IsOnLine span (Some low) until on rest
+    w = on_line laws edid span (Some low) until end m d last on events (pull ∷ later) rest known there (comes_from (Some low) horizon end events (pull ∷ later) comes) held own runs stops
+
+    before : low < latest_instant
+    before = (let x = early.0 in omega (arith, x))
+
+    agree : Agree horizon (pinned low w.wave) (run_wave rest)
+    agree t l =
+        elim (cases_lt t low) [
+          | inl lt ↦ pinned_before 0 low t w.wave w.order before lt ∙ w.agree t (omega (arith, l, lt))
+          | inr ge ↦ pinned_after low t w.wave ge (let x = early.1 in omega (arith, l, x))
+              ∙ sym (pull_is_on laws edid end m (with_more events (pull ∷ later) d) last rest pull there runs stops (has_later pull d.net.pulses later)
+              (let x = comes.0 in let y = comes.2.over in omega (arith, x, y, ge, l)) t (let x = comes.0 in omega (arith, x, ge)) (let x = comes.1 in omega (arith, x, l)))
+        ]

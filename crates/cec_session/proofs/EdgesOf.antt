@@ -1,5 +1,5 @@
 -- The edges of the lines of rounds that lie in a span.
-use Rattle.std.proofs.Common.{◌≡◌, ℕ, ◌+◌, ◌-◌, ◌<◌, ◌≤◌, Bool, true, false, ◌&&◌, ◌||◌, nat_lt, nat_le, if◌then◌else◌, List, [], ◌∷◌, ◌++◌, inl, inr, refl, sym, ap, ap₂, ◌∙◌, arith}
+use Rattle.std.proofs.Common.{◌≡◌, ℕ, zero, suc, ◌+◌, ◌-◌, ◌<◌, ◌≤◌, Bool, true, false, ◌&&◌, ◌||◌, nat_lt, nat_le, if◌then◌else◌, List, [], ◌∷◌, ◌++◌, inl, inr, refl, sym, ap, ap₂, ◌∙◌, subst, arith, append_assoc, append-nil}
 use Rattle.std.proofs.lemmas.Bool.{cases_lt}
 use Rattle.std.proofs.lemmas.Bool.Decides.{nat_tests}
 use Rattle.std.proofs.lemmas.Grind.{flat_map-append}
@@ -8,7 +8,7 @@ use Rattle.cec_wave.specs.Line.{IsWave, IsWaveFrom, covers, line_of}
 use Rattle.cec_wire.specs.declared.Outcome.{Outcome}
 use Rattle.cec_net.specs.Line.{run_wave}
 use Rattle.cec_session.specs.declared.edges.Span.{Span}
-use Rattle.cec_session.specs.Edges.{edge_line, edge_reported, edges_reported, stretch_reported}
+use Rattle.cec_session.specs.Edges.{edge_line, edge_reported, edges_reported, is_in, stretch_reported}
 use Rattle.cec_session.proofs.Moving.{AreLone}
 
 pub edges_append : (span : Span) (xs ys : List Stretch) → edges_reported span (xs ++ ys) ≡ edges_reported span xs ++ edges_reported span ys
@@ -67,15 +67,17 @@ abbrev pub FirstFrom : ℕ → List Outcome → Type 0
 FirstFrom h [] = Unit {0}
 FirstFrom h (o ∷ os) = h ≤ o.reading.begin
 
-pub quiet_from : (span : Span) (h : ℕ) (os : List Outcome) → span.until ≤ h → IsWave (run_wave os) → AreLone os → FirstFrom h os → edges_reported span (run_wave os) ≡ []
-quiet_from span h [] l wave lone first = refl
-quiet_from span h (o ∷ os) l wave lone first = by o.wave refl wave
+pub wave_from : (h : ℕ) (os : List Outcome) → IsWave (run_wave os) → AreLone os → FirstFrom h os → IsWaveFrom h (run_wave os)
+wave_from h [] wave lone first = tt
+wave_from h (o ∷ os) wave lone first = by o.wave refl wave
   where
-    by : (w : List Stretch) → o.wave ≡ w → IsWave (w ++ run_wave os) → edges_reported span (w ++ run_wave os) ≡ []
+    by : (w : List Stretch) → o.wave ≡ w → IsWave (w ++ run_wave os) → IsWaveFrom h (w ++ run_wave os)
     by [] e v = absurd (not_low (line_of [] o.reading.begin) (ap (λ (w : List Stretch). line_of w o.reading.begin) (sym e) ∙ lone.0.first) refl)
-    by (s ∷ ss) e v =
-        let from : h ≤ s.from = elim (cases_lt s.from h) [
-          | inl lt ↦ absurd (not_low (line_of (s ∷ ss) s.from) (low_in s ss s.from (omega arith) v.1) (ap (λ (w : List Stretch). line_of w s.from) (sym e) ∙ lone.0.before s.from (omega (arith, lt, first))))
-          | inr ge ↦ ge
-        ] in
-        all_past span h (s ∷ (ss ++ run_wave os)) (from, v.1, v.2) l
+    by (s ∷ ss) e v = (
+      elim (cases_lt s.from h) [
+        | inl lt ↦ absurd (not_low (line_of (s ∷ ss) s.from) (low_in s ss s.from (omega arith) v.1) (ap (λ (w : List Stretch). line_of w s.from) (sym e) ∙ lone.0.before s.from (omega (arith, lt, first))))
+        | inr ge ↦ ge
+      ],
+      v.1,
+      v.2,
+    )

@@ -5,13 +5,12 @@ use Rattle.cec_wave.specs.declared.Stretch.{Stretch}
 use Rattle.cec_wave.specs.Line.{line_of}
 use Rattle.cec_bits.specs.Reading.{reading_of}
 use Rattle.cec_wire.specs.Round.{IsRoundLine}
-use Rattle.cec_wire.proofs.Exists.{later_pulses}
 use Rattle.cec_net.specs.Step.{seats_of}
 use Rattle.cec_certain.specs.Certain.{ComesFrom}
 use Rattle.cec_session.specs.Edges.{pinned}
 use Rattle.cec_session.specs.Turns.{certain_until}
 use Rattle.cec_session.specs.EdgesStay.{EdgesStay, PinnedEdgesStay}
-use Rattle.cec_session.proofs.Below.{round_same}
+use Rattle.cec_session.proofs.Below.{later_pulses, round_same}
 use Rattle.cec_session.proofs.HasText.{begins_before}
 use Rattle.cec_session.proofs.PinnedEdges.{held_low, pinned_after, pinned_before, pinned_wave}
 use Rattle.cec_session.proofs.SameEdges.{Agree, same_edges}

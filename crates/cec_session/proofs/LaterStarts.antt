@@ -71,7 +71,7 @@ from_left h None c f = from_none h
 from_left h (Some t) None f = f
 from_left h (Some t) (Some u) f = from_some h t (let x = f (min t u) refl in omega (arith, x))
 
-from_right : (h : ℕ) (a c : Option ℕ) → From h (sooner a c) → From h c
+pub from_right : (h : ℕ) (a c : Option ℕ) → From h (sooner a c) → From h c
 from_right h None c f = f
 from_right h (Some t) None f = from_none h
 from_right h (Some t) (Some u) f = from_some h u (let x = f (min t u) refl in omega (arith, x))

@@ -1,17 +1,20 @@
 -- What the lines of a session tell of edges is in every run that may still come.
 use Rattle.std.proofs.Common.{◌≡◌, ℕ, zero, suc, ◌+◌, ◌<◌, ◌≤◌, ◌&&◌, ◌||◌, max, Bool, true, false, nat_lt, nat_le, if◌then◌else◌, List, [], ◌∷◌, ◌++◌, length, inl, inr, Option, Some, None, Result, Ok, Err, refl, sym, ap, ap₂, subst, ◌∙◌, arith, append-nil, append_assoc}
-use Rattle.std.specs.List.{list_any}
+use Rattle.std.specs.List.{All, list_any}
 use Rattle.std.proofs.lemmas.Bool.{cases_lt}
 use Rattle.std.proofs.lemmas.Bool.Decides.{nat_tests}
 use Rattle.std.proofs.lemmas.List.Elements.{All-append, All-nil}
 use Rattle.std.proofs.lemmas.List.Prefix.{front_rest}
 use Rattle.cec_wave.specs.declared.Stretch.{Stretch}
 use Rattle.cec_wave.specs.Line.{IsWave, IsWaveFrom}
+use Rattle.cec_wave.specs.Bounds.{latest_event}
 use Rattle.cec_wire.specs.declared.Outcome.{Outcome}
+use Rattle.cec_wire.specs.Round.{close_in}
+use Rattle.cec_wire.specs.Alone.{RoundsAreLone}
 use Rattle.hdmi_topo.specs.Node.{Node}
 use Rattle.hdmi_blocks.specs.declared.edid.Edid.{Edid}
 use Rattle.cec_net.specs.State.{first_net}
-use Rattle.cec_net.specs.Line.{run_wave}
+use Rattle.cec_net.specs.Line.{run_wave, RunsAreInOrder, RunsAreWaves}
 use Rattle.cec_asm.specs.Script.{Notes, AreFramedEvents, IsLineRead, last_time}
 use Rattle.cec_asm.specs.declared.script.ScriptCause.TheVariants.{Name, Number}
 use Rattle.cec_asm.specs.declared.script.TimedEvent.{TimedEvent}
@@ -36,13 +39,13 @@ use Rattle.cec_session.specs.declared.edges.Span.{Span}
 use Rattle.cec_session.specs.declared.live.Step.{Step}
 use Rattle.cec_session.specs.declared.live.Step.TheVariants.{Refuse, Idle, Show, Go, Edge, Finish}
 use Rattle.cec_session.specs.Command.{command_of}
-use Rattle.cec_session.specs.Edges.{edge_line, edge_reported, edges_reported}
-use Rattle.cec_session.specs.Turns.{AreEdgesOf, LeadsWith, certain_until}
-use Rattle.cec_session.specs.Session.{Session, SessionGoes, is_given_before, is_late, is_past, new_events, new_pulses, refuse, refuses_pulse, rises_before, standing, standing_with, step_by, step_noted, step_show, step_to, step_wait, after_to, after_wait, with_line_counted, with_standing, IsDue, IsEdgeStep, IsEdgeStepBy, IsStepBy}
+use Rattle.cec_session.specs.Edges.{edge_line, edge_reported, edges_reported, stretch_reported}
+use Rattle.cec_session.specs.Turns.{AreEdgesOf, GoesWith, LeadsWith, MayCome, certain_until}
+use Rattle.cec_session.specs.Session.{Session, SessionGoes, first_session, horizon_by, is_given_before, is_late, is_past, new_events, new_pulses, refuse, refuses_pulse, rises_before, span_of, standing, standing_with, step_by, step_noted, step_show, step_to, step_wait, after_to, after_wait, with_line_counted, with_standing, IsDue, IsEdgeStep, IsEdgeStepBy, IsStepBy}
 use Rattle.cec_session.specs.Whole.{IsLine, AreLines, reported_of}
-use Rattle.cec_session.specs.Told.{AreOn, EdgesAreCertain, edges_gone, told_in, told_of}
+use Rattle.cec_session.specs.Told.{AreOfFile, AreOn, EdgesAreCertain, LineEdgesAreCertain, edges_gone, edges_in, told_in, told_of}
 use Rattle.cec_session.proofs.Below.{framed-started}
-use Rattle.cec_session.proofs.Coming.{AreOver, Laws, parted, told_of_turns, told_on, waves_append}
+use Rattle.cec_session.proofs.Coming.{AreEarly, AreOver, IsParted, Laws, parted, told_of_turns, told_on, waves_append}
 use Rattle.cec_session.proofs.Edging.{no_edges}
 use Rattle.cec_session.proofs.EdgesOf.{all_before, all_past, before, edges_append, past}
 use Rattle.cec_session.proofs.Extends.{line_extends}
@@ -384,7 +387,7 @@ left laws edid tree events pulses end os s asked reported run r c f =
     let running : IsRunning (with_more g.more g.later from) =
     subst (λ (es : List TimedEvent). IsRunning (start (first_net tree (s.notes.pulses ++ g.later)) es)) g.events_are
     (subst (λ (ps : List Stretch). IsRunning (start (first_net tree ps) events)) g.pulses_are run.running) in
-    let p = parted edid (certain_until s.notes.pin s.horizon) end r.turns run.turns from s.place run.last reported g.more g.later os (known_start edid tree s reported r).running running g.comes r.leads here run.stops in
+    let p = parted laws.lone edid (certain_until s.notes.pin s.horizon) end r.turns run.turns from s.place run.last reported g.more g.later os (known_start edid tree s reported r).running running g.comes r.leads here run.stops in
     let place : with_more g.more g.later s.place ≡ with_more f.more f.later asked.place = same_more c.events f.more c.pulses f.later s.place ∙ ap (with_more f.more f.later) (sym c.place_is) in
     let own : edid ≡ asked.edid = sym (c.edid_is ∙ r.edid_is) in
     record {
@@ -400,19 +403,17 @@ left laws edid tree events pulses end os s asked reported run r c f =
 -- ---- one line
 
 gone_told : Laws → (edid : Option Edid) (end : ℕ) (os : List Outcome) (s asked : Session) (more : List TimedEvent) (later : List Stretch) (last : Config) (edges : Bool) (first own : List ℕ) (place : Config)
-    → IsLeft edid end s asked more later last os → turn_at end last ≡ Stop → AreLone os → IsKnown asked.place → ComesFrom (certain_until asked.notes.pin asked.horizon) more later end → asked.since ≡ s.horizon
-    → asked.notes.pin ≡ None → edges ≡ true → (goes : SessionGoes edges false asked first own place)
+    → IsLeft edid end s asked more later last os → turn_at end last ≡ Stop → AreLone os → IsKnown asked.place → MayCome asked.notes.pin asked.horizon more later end → AreEarly asked.notes.pin asked.horizon
+    → asked.since ≡ s.horizon → edges ≡ true → (goes : SessionGoes edges false asked first own place)
     → edges_gone edges false asked first own place goes ≡ edges_reported (record { from = s.horizon; until = asked.horizon }) (run_wave os)
-gone_told laws edid end os s asked more later last false first own place w stops lone known comes since pin on goes = cc
-gone_told laws edid end os s asked more later last true first own place w stops lone known comes since pin on goes =
+gone_told laws edid end os s asked more later last false first own place w stops lone known may early since on goes = cc
+gone_told laws edid end os s asked more later last true first own place w stops lone known may early since on goes =
     let span : Span = record { from = asked.since; until = asked.horizon } in
     let until = certain_until asked.notes.pin asked.horizon in
-    let certain : until ≡ asked.horizon = ap (λ (p : Option ℕ). certain_until p asked.horizon) pin in
-    let within : asked.horizon ≤ until = omega (arith, certain) in
-    let t = told_of_turns asked.edid span until end goes.turns w.turns asked.place place last first goes.over more later w.rest known.running w.there comes within goes.leads w.runs stops in
+    let comes = comes_from asked.notes.pin asked.horizon end more later may in
+    let t = told_of_turns laws.lone asked.edid span until end goes.turns w.turns asked.place place last first goes.over more later w.rest known.running w.there comes goes.leads w.runs stops in
     let after = known_with asked.edid false span until goes.turns asked.place place first goes.over goes.leads known in
-    let on = told_on laws asked.edid span until end t.turns place last goes.on more later t.rest after t.there comes goes.last
-    (subst (λ (p : Option ℕ). AreEdgesOf span p place.net (turn_at until place) goes.on) pin goes.on_is) within t.runs stops in
+    let on = told_on laws asked.edid asked.notes.pin span asked.horizon end t.turns place last goes.on more later t.rest after t.there may early goes.last goes.on_is (omega arith) t.runs stops in
     let past : edges_reported span (run_wave w.past) ≡ [] =
     none_past span (certain_until s.notes.pin s.horizon) w.past (let x = certain_by s.notes.pin s.horizon in omega (arith, x, since)) w.over (lone_front w.past w.rest (subst AreLone w.whole lone)) in
     ap₂ (λ x y. x ++ y) t.edges on
@@ -427,17 +428,17 @@ some_none : (end : Option ℕ) (at : ℕ) → end ≡ None → end ≡ Some at �
 some_none end at e f = cc
 
 step_told : Laws → (edid : Option Edid) (tree : List Node) (end : ℕ) (os : List Outcome) (step : Step) (s asked mid : Session) (reported text : List ℕ) (more : List TimedEvent) (later : List Stretch) (last : Config)
-    → IsLeft edid end s asked more later last os → turn_at end last ≡ Stop → AreLone os → Asked edid tree step asked reported → IsStill step s asked → ComesFrom (certain_until asked.notes.pin asked.horizon) more later end
-    → asked.since ≡ s.horizon → asked.notes.pin ≡ None → asked.edges ≡ true → asked.notes.end ≡ None → (due : IsDue step asked text mid)
+    → IsLeft edid end s asked more later last os → turn_at end last ≡ Stop → AreLone os → Asked edid tree step asked reported → IsStill step s asked → MayCome asked.notes.pin asked.horizon more later end
+    → AreEarly asked.notes.pin asked.horizon → asked.since ≡ s.horizon → asked.edges ≡ true → asked.notes.end ≡ None → (due : IsDue step asked text mid)
     → told_of step asked text mid due ≡ edges_reported (record { from = s.horizon; until = asked.horizon }) (run_wave os)
-step_told laws edid tree end os (Refuse refusal) s asked mid reported text more later last w stops lone a still comes since pin on going due = sym (no_edges (record { from = s.horizon; until = asked.horizon }) (run_wave os) (omega (arith, still)))
-step_told laws edid tree end os Idle s asked mid reported text more later last w stops lone a still comes since pin on going due = sym (no_edges (record { from = s.horizon; until = asked.horizon }) (run_wave os) (omega (arith, still)))
-step_told laws edid tree end os (Show device) s asked mid reported text more later last w stops lone a still comes since pin on going due = sym (no_edges (record { from = s.horizon; until = asked.horizon }) (run_wave os) (omega (arith, still)))
-step_told laws edid tree end os Go s asked mid reported text more later last w stops lone a still comes since pin on going due =
-    gone_told laws edid end os s asked more later last asked.edges due.0 due.1 due.2 w stops lone (known_place edid tree asked reported a.so_far) comes since pin on due.3
-step_told laws edid tree end os Edge s asked mid reported text more later last w stops lone a still comes since pin on going due =
-    gone_told laws edid end os s asked more later last true due.0 due.1 due.2 w stops lone (known_place edid tree asked reported a.so_far) comes since pin refl due.3
-step_told laws edid tree end os Finish s asked mid reported text more later last w stops lone a still comes since pin on going due = absurd (some_none asked.notes.end asked.horizon going a.ended)
+step_told laws edid tree end os (Refuse refusal) s asked mid reported text more later last w stops lone a still may early since on going due = sym (no_edges (record { from = s.horizon; until = asked.horizon }) (run_wave os) (omega (arith, still)))
+step_told laws edid tree end os Idle s asked mid reported text more later last w stops lone a still may early since on going due = sym (no_edges (record { from = s.horizon; until = asked.horizon }) (run_wave os) (omega (arith, still)))
+step_told laws edid tree end os (Show device) s asked mid reported text more later last w stops lone a still may early since on going due = sym (no_edges (record { from = s.horizon; until = asked.horizon }) (run_wave os) (omega (arith, still)))
+step_told laws edid tree end os Go s asked mid reported text more later last w stops lone a still may early since on going due =
+    gone_told laws edid end os s asked more later last asked.edges due.0 due.1 due.2 w stops lone (known_place edid tree asked reported a.so_far) may early since on due.3
+step_told laws edid tree end os Edge s asked mid reported text more later last w stops lone a still may early since on going due =
+    gone_told laws edid end os s asked more later last true due.0 due.1 due.2 w stops lone (known_place edid tree asked reported a.so_far) may early since refl due.3
+step_told laws edid tree end os Finish s asked mid reported text more later last w stops lone a still may early since on going due = absurd (some_none asked.notes.end asked.horizon going a.ended)
 
 -- ---- all lines
 
@@ -446,24 +447,38 @@ still_going edid tree s reported none (inl (r, going)) = r
 still_going edid tree s reported none (inr over) = absurd (not_both s.notes.end s.horizon none over.ended)
 
 -- what one of them tells
-pub line_told : Laws → (edid : Option Edid) (tree : List Node) (events : List TimedEvent) (pulses : List Stretch) (end : ℕ) (os : List Outcome) → IsWhole edid tree events pulses end os
-    → (s mid : Session) (line kept reported text before : List ℕ) → SoFar edid tree s before → s.notes.end ≡ None → (is : IsLine s line kept reported text mid) → mid.edges ≡ true → mid.notes.pin ≡ None
-    → mid.notes.end ≡ None → Future events pulses end mid.notes mid.horizon
+line_by : Laws → (edid : Option Edid) (tree : List Node) (events : List TimedEvent) (pulses : List Stretch) (end : ℕ) (os : List Outcome) → IsWhole edid tree events pulses end os → (s mid : Session)
+    (line kept reported text before : List ℕ) → SoFar edid tree s before → s.notes.end ≡ None → (is : IsLine s line kept reported text mid) → mid.edges ≡ true → mid.notes.end ≡ None
+    → (f : Future events pulses end is.asked.notes is.asked.horizon) → MayCome is.asked.notes.pin is.asked.horizon f.more f.later end → AreEarly is.asked.notes.pin is.asked.horizon
     → (told_of is.step is.asked text mid is.due ≡ edges_reported (record { from = s.horizon; until = mid.horizon }) (run_wave os)) × (s.horizon ≤ mid.horizon)
-line_told laws edid tree events pulses end os run s mid line kept reported text before r going is on high none there =
+line_by laws edid tree events pulses end os run s mid line kept reported text before r going is on none future may early =
     let counted_s = with_line_counted s in
     let so = counted edid tree s before r in
     let come = has_come counted_s (command_of s.tree line) line is.step is.asked is.asks in
     let asked = asked_by edid tree counted_s before line (command_of s.tree line) is.step is.asked so going is.asks in
     let keep = due_keeps is.step is.asked mid text is.due in
-    let future = future_asked events pulses end s mid line kept reported text is there in
     let w = left laws edid tree events pulses end os counted_s is.asked before run so come.came future in
     let here : told_of is.step is.asked text mid is.due ≡ edges_reported (record { from = s.horizon; until = is.asked.horizon }) (run_wave os) =
-    step_told laws edid tree end os is.step counted_s is.asked mid before text future.more future.later run.last w run.stops run.lone asked come.still future.comes come.came.since_is
-    (ap (λ (n : Notes). n.pin) (sym keep.notes) ∙ high) (sym keep.edges ∙ on) (ap (λ (n : Notes). n.end) (sym keep.notes) ∙ none) is.due in (
+    step_told laws edid tree end os is.step counted_s is.asked mid before text future.more future.later run.last w run.stops run.lone asked come.still may early come.came.since_is
+    (sym keep.edges ∙ on) (ap (λ (n : Notes). n.end) (sym keep.notes) ∙ none) is.due in (
       here ∙ ap (λ (h : ℕ). edges_reported (record { from = s.horizon; until = h }) (run_wave os)) (sym keep.horizon),
       (let x = come.came.later in let y = keep.horizon in omega (arith, x, y)),
     )
+
+-- with a pin that is high
+high_may : (pin : Option ℕ) (horizon end : ℕ) (more : List TimedEvent) (later : List Stretch) → pin ≡ None → ComesFrom (certain_until pin horizon) more later end → MayCome pin horizon more later end × AreEarly pin horizon
+high_may None horizon end more later high comes = (comes, tt)
+high_may (Some low) horizon end more later high comes = cc
+
+pub line_told : Laws → (edid : Option Edid) (tree : List Node) (events : List TimedEvent) (pulses : List Stretch) (end : ℕ) (os : List Outcome) → IsWhole edid tree events pulses end os
+    → (s mid : Session) (line kept reported text before : List ℕ) → SoFar edid tree s before → s.notes.end ≡ None → (is : IsLine s line kept reported text mid) → mid.edges ≡ true → mid.notes.pin ≡ None
+    → mid.notes.end ≡ None → Future events pulses end mid.notes mid.horizon
+    → (told_of is.step is.asked text mid is.due ≡ edges_reported (record { from = s.horizon; until = mid.horizon }) (run_wave os)) × (s.horizon ≤ mid.horizon)
+line_told laws edid tree events pulses end os run s mid line kept reported text before r going is on high none there =
+    let keep = due_keeps is.step is.asked mid text is.due in
+    let future = future_asked events pulses end s mid line kept reported text is there in
+    let may = high_may is.asked.notes.pin is.asked.horizon end future.more future.later (ap (λ (n : Notes). n.pin) (sym keep.notes) ∙ high) future.comes in
+    line_by laws edid tree events pulses end os run s mid line kept reported text before r going is on none future may.0 may.1
 
 -- and where the session goes on it stands after that line as before
 pub line_reached : (edid : Option Edid) (tree : List Node) (s mid : Session) (line kept reported text before : List ℕ) → SoFar edid tree s before → s.notes.end ≡ None → IsLine s line kept reported text mid → mid.notes.end ≡ None
@@ -541,4 +556,38 @@ edges_are_certain laws one has line edid tree before lines kept more x y text to
       end = is.last;
       file_is = is.file_is;
       told_is = (lines_told laws edid tree known pulses end is.rounds is.whole lines s more y told t x r none l on going future).0;
+    }
+
+-- ---- a line by itself, whether the pin is high or low
+
+early_by : (pin : Option ℕ) (horizon end : ℕ) (more : List TimedEvent) (later : List Stretch) → MayCome pin horizon more later end → end ≤ latest_event → ((from : ℕ) → pin ≡ Some from → from ≤ latest_event) → AreEarly pin horizon
+early_by None horizon end more later may limit low = tt
+early_by (Some from) horizon end more [] may limit low = absurd may
+early_by (Some from) horizon end more (pull ∷ later) may limit low = (low from refl, (let x = may.2.over in omega (arith, x, limit)))
+
+pub line_edges_are_certain : Laws → OneRun → RunsHaveTexts → EdgesAreTheLine → LineEdgesAreCertain
+line_edges_are_certain laws one has line edid tree before kept x text s t words own y told b is on going events later end file totals comes limit order framed run =
+    let r = still_going edid tree s x is.goes_on (reached edid tree before kept x text s b) in
+    let now = line_reached edid tree s t words own y told x r is.goes_on is going in
+    let known = t.notes.events ++ events in
+    let pulses = t.notes.pulses ++ later in
+    let whole = filed laws one has line edid tree known pulses end file totals order (framed_both t.notes.events events now.1.sound.framed framed) run in
+    let keep = due_keeps is.step is.asked t told is.due in
+    let asked = asked_by edid tree (with_line_counted s) x words (command_of s.tree words) is.step is.asked (counted edid tree s x r) is.goes_on is.asks in
+    let may : MayCome is.asked.notes.pin is.asked.horizon events later end =
+    subst (λ (h : ℕ). MayCome is.asked.notes.pin h events later end) keep.horizon (subst (λ (n : Notes). MayCome n.pin t.horizon events later end) keep.notes comes) in
+    let future : Future known pulses end is.asked.notes is.asked.horizon = record {
+      more = events;
+      later = later;
+      events_are = ap (λ (n : Notes). n.events ++ events) keep.notes;
+      pulses_are = ap (λ (n : Notes). n.pulses ++ later) keep.notes;
+      comes = comes_from is.asked.notes.pin is.asked.horizon end events later may;
+    } in
+    let early = early_by is.asked.notes.pin is.asked.horizon end events later may limit (λ from e. (asked.so_far.sound.held from e).1) in
+    record {
+      wave = run_wave whole.rounds;
+      order = whole.whole.wave;
+      end = whole.last;
+      file_is = whole.file_is;
+      told_is = (line_by laws edid tree known pulses end whole.rounds whole.whole s t words own y told x r is.goes_on is on going future may early).0;
     }

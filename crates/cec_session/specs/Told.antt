@@ -1,7 +1,8 @@
 -- The edges that a session has told, and what is certain of them (this profile's own).
-use Rattle.std.specs.Prelude.{◌≡◌, ℕ, zero, suc, Bool, true, false, List, [], ◌∷◌, ◌++◌, Option, Some, None}
+use Rattle.std.specs.Prelude.{◌≡◌, ℕ, zero, suc, ◌≤◌, Bool, true, false, List, [], ◌∷◌, ◌++◌, Option, Some, None}
 use Rattle.cec_wave.specs.declared.Stretch.{Stretch}
 use Rattle.cec_wave.specs.Line.{IsWave}
+use Rattle.cec_wave.specs.Bounds.{latest_event}
 use Rattle.hdmi_topo.specs.Node.{Node}
 use Rattle.hdmi_blocks.specs.declared.edid.Edid.{Edid}
 use Rattle.cec_net.specs.State.{first_net}
@@ -19,7 +20,7 @@ use Rattle.cec_session.specs.declared.live.Step.TheVariants.{Refuse, Idle, Show,
 use Rattle.cec_session.specs.Edges.{edges_reported}
 use Rattle.cec_session.specs.Turns.{LeadsWith, MayCome, certain_until}
 use Rattle.cec_session.specs.Session.{Session, SessionGoes, first_session, span_of, IsDue}
-use Rattle.cec_session.specs.Whole.{AreLines}
+use Rattle.cec_session.specs.Whole.{IsLine, AreLines}
 
 -- the edges that stand before the lines of turns, one after another
 abbrev pub edges_in : (edid : Option Edid) (ended : Bool) (span : Span) (until turns : ℕ) (c : Config) (reported text : List ℕ) (d : Config) → LeadsWith edid ended span until turns c reported text d → List ℕ
@@ -75,3 +76,13 @@ EdgesAreTold = (edid : Option Edid) (tree : List Node) (before lines kept more :
     → (l : AreLines lines s more y told t) → AreOn lines s more y told t l → s.notes.end ≡ None → t.notes.end ≡ Some end
     → (file : List ℕ) (totals : Totals) → IsRunText (Line Edges) end (start (first_net tree t.notes.pulses) t.notes.events) file totals
     → AreOfFile (record { from = s.horizon; until = 18446744073709551615 }) (told_in lines s more y told t l) file
+
+-- A line by itself, whether the pin is high or low after it: what it tells of edges, where these are on, is what the edge file of every run
+-- that may still come has from the horizon before the line to the one after it. A run ends by the latest time of a script.
+abbrev pub LineEdgesAreCertain : Type 0
+LineEdgesAreCertain = (edid : Option Edid) (tree : List Node) (before kept : List (List ℕ)) (x text : List ℕ) (s t : Session) (line own y told : List ℕ) → AreLines before (first_session edid tree) kept x text s
+    → (is : IsLine s line own y told t) → t.edges ≡ true → t.notes.end ≡ None
+    → (events : List TimedEvent) (later : List Stretch) (end : ℕ) (file : List ℕ) (totals : Totals) → MayCome t.notes.pin t.horizon events later end → end ≤ latest_event
+    → IsWave (t.notes.pulses ++ later) → AreFramedEvents events
+    → IsRunText (Line Edges) end (start (first_net tree (t.notes.pulses ++ later)) (t.notes.events ++ events)) file totals
+    → AreOfFile (record { from = s.horizon; until = t.horizon }) (told_of is.step is.asked told t is.due) file

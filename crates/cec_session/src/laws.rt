@@ -1,10 +1,10 @@
 //! Laws of whole sessions.
 ghost use Rattle.cec_session.specs.EdgesStay.{EdgesStay, PinnedEdgesStay};
 ghost use Rattle.cec_session.specs.Session.{StepsHaveOneText};
-ghost use Rattle.cec_session.specs.Told.{EdgesAreCertain, EdgesAreTold};
+ghost use Rattle.cec_session.specs.Told.{EdgesAreCertain, EdgesAreTold, LineEdgesAreCertain};
 ghost use Rattle.cec_session.specs.Whole.{SessionsReportFronts, SessionsReportTraces, SessionsReportTracesOf};
 
-use cec_net::{runs_are_in_order, runs_are_waves};
+use cec_net::{rounds_take_pulses, runs_are_in_order, runs_are_waves};
 use cec_run::{edges_are_the_line, one_run, runs_have_texts};
 use cec_wire::rounds_are_lone;
 
@@ -50,6 +50,7 @@ pub fn edges_are_certain()
     rounds_are_lone();
     runs_are_waves();
     runs_are_in_order();
+    rounds_take_pulses();
     one_run();
     runs_have_texts();
     edges_are_the_line();
@@ -62,6 +63,21 @@ pub fn edges_are_told()
     rounds_are_lone();
     runs_are_waves();
     runs_are_in_order();
+    rounds_take_pulses();
+    one_run();
+    runs_have_texts();
+    edges_are_the_line();
+}
+
+/// The edges that a line tells, whether the pin is high or low after it, are those of the edge file of every run that may still come
+/// from the horizon before the line to the one after it.
+pub fn line_edges_are_certain()
+    ensures { LineEdgesAreCertain }
+{
+    rounds_are_lone();
+    runs_are_waves();
+    runs_are_in_order();
+    rounds_take_pulses();
     one_run();
     runs_have_texts();
     edges_are_the_line();
