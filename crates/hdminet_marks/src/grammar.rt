@@ -27,19 +27,17 @@ const OF_SCRIPT: &[&str] = &[
 // The line between them.
 const PARTING: &[&str] = &["script"];
 
-// What a script of a test has besides, in few lines.
-const OF_TEST: &[&str] = &[
-    "label NAME LINE",
-    "expect within D of NAME PATTERN",
-    "expect from T to U PATTERN",
-    "expect state T NAME WORD",
-    "expect refused NAME WORD",
-];
+// A label before a line.
+const LABEL: &[&str] = &["label NAME LINE"];
 
-// The expectations of rounds.
+// The expectations of rounds: at least one of them.
 const OF_ROUNDS: &[&str] = &[
     "expect within D of NAME PATTERN",
     "expect from T to U PATTERN",
+];
+
+// No such round, or exactly one.
+const OF_COUNTS: &[&str] = &[
     "expect none within D of NAME PATTERN",
     "expect none from T to U PATTERN",
     "expect once within D of NAME PATTERN",
@@ -50,7 +48,7 @@ const OF_ROUNDS: &[&str] = &[
 const BESIDE_ROUNDS: &[&str] = &[
     "expect state T NAME WORD",
     "expect refused NAME WORD",
-    "label NAME LINE",
+    "expect refused WORD",
 ];
 
 /// The words with which events are refused.
@@ -89,7 +87,6 @@ const BESIDE_READINGS: &[&str] = &[
     "expect no-remark",
     "expect remark PATTERN",
     "label NAME at T",
-    "label NAME LINE",
 ];
 
 // The lines that a session has besides those of a script.
@@ -139,13 +136,13 @@ pub const SESSION_ALONE: &[&[&str]] = &[OF_SESSION];
 pub const NETWORK: &[&[&str]] = &[OF_TOPOLOGY, PARTING, OF_SCRIPT];
 
 /// The lines of the script of a test: those of a script, with a label before them or not, and expectations.
-pub const TEST: &[&[&str]] = &[OF_SCRIPT, OF_TEST];
+pub const TEST: &[&[&str]] = &[OF_SCRIPT, LABEL, OF_ROUNDS, BESIDE_ROUNDS];
 
 /// The lines of expectations, and the line of a label.
-pub const EXPECTATIONS: &[&[&str]] = &[OF_ROUNDS, BESIDE_ROUNDS];
+pub const EXPECTATIONS: &[&[&str]] = &[OF_ROUNDS, OF_COUNTS, BESIDE_ROUNDS, LABEL];
 
 /// The lines of the expectations of a capture.
-pub const CAPTURE_EXPECTATIONS: &[&[&str]] = &[OF_ROUNDS, BESIDE_READINGS];
+pub const CAPTURE_EXPECTATIONS: &[&[&str]] = &[OF_ROUNDS, OF_COUNTS, BESIDE_READINGS, LABEL];
 
 /// The lines of frames to lay.
 pub const LAID: &[&[&str]] = &[OF_LAID];

@@ -115,7 +115,7 @@ fn in_window(line: &str, within: usize) -> Option<Slipped> {
     }
 }
 
-// Of `expect refused NAME WORD` without NAME.
+// Of `expect refused NAME WORD` without NAME, below no event.
 fn in_refusal(line: &str) -> Option<Slipped> {
     let word = word_at(line, 2)?;
     if REFUSALS.contains(&word) && word_count(line) == 3 {

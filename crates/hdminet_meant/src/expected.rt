@@ -5,7 +5,7 @@ use cec_expect::ExpectCause;
 use hdminet_help::Draft;
 use hdminet_marks::{
     EXPECTATIONS, Place, REFUSALS, REMARKS, is_line_end, is_word, labelled_by, wanted_at,
-    without_label, word_at,
+    without_label, word_at, word_count,
 };
 use hdminet_near::{
     add_header_meant, add_near, add_nearest, add_nearest_opcode, add_nearest_operand, add_number,
@@ -125,8 +125,8 @@ fn before_label(is_first: bool) -> &'static str {
     }
 }
 
-// The labels of the lines above.
-fn add_labels(draft: &mut Draft, place: Place<'_>) {
+// The labels of the lines above. Returns whether there are some.
+fn add_labels(draft: &mut Draft, place: Place<'_>) -> bool {
     let above = place.number.saturating_sub(1);
     let mut is_first = true;
     for line in place.input.split(is_line_end).take(above) {
@@ -139,13 +139,22 @@ fn add_labels(draft: &mut Draft, place: Place<'_>) {
     if !is_first {
         draft.add("`\n");
     }
+    !is_first
+}
+
+// The word with which an event is refused that the word of `expect refused WORD` may have been meant for, below no event. Returns
+// whether there is one.
+fn add_nearest_refusal(draft: &mut Draft, line: &str, word: &str) -> bool {
+    let own = without_label(line).line;
+    own.starts_with("expect refused ") && word_count(own) == 3 && add_nearest(draft, REFUSALS, word)
 }
 
 // What a label may have been meant for.
-fn of_label(draft: &mut Draft, place: Place<'_>, word: &str) {
-    if !add_labelled(draft, place, word) && !add_nearest_label(draft, place, word) {
-        add_labels(draft, place);
-    }
+fn of_label(draft: &mut Draft, place: Place<'_>, line: &str, word: &str) {
+    let _ = add_labelled(draft, place, word)
+        || add_nearest_label(draft, place, word)
+        || add_nearest_refusal(draft, line, word)
+        || add_labels(draft, place);
 }
 
 // A key of a state line that another one is near, with the value that stands after it. Returns whether there is one.
@@ -225,7 +234,7 @@ pub fn add_expected_meant(
         return;
     };
     match cause {
-        ExpectCause::Label => of_label(draft, place, word),
+        ExpectCause::Label => of_label(draft, place, line, word),
         ExpectCause::Name => add_header_name_meant(draft, place, word),
         ExpectCause::Number => add_number(draft, word),
         ExpectCause::Unmet => of_unmet(draft, line, word, number),

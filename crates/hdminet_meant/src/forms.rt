@@ -153,7 +153,8 @@ fn add_expectation_forms(draft: &mut Draft, what: Input, fault: Fault, line: &st
         Some(_) => add_fitting(draft, forms_of(what), own),
         None => add_forms(draft, forms_of(what), own),
     }
-    if own.starts_with("expect state ") && own.ends_with(" not") {
+    let lacks_word = own.starts_with("expect state ") && own.ends_with(" not");
+    if lacks_word || own == "expect refused" {
         add_missing(draft, Some("WORD"));
     }
 }

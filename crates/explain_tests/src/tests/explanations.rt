@@ -381,7 +381,7 @@ end 9
 => script line 1: word
   line 3 of the input: expct none from 0 to 5 short
                        ^^^^^
-  a line here reads `at T press NAME KEY`, `at T release NAME KEY`, `at T plug CHILD PARENT PORT`, `at T unplug CHILD`, `at T send NAME FRAME`, `at T hold NAME ADDRS`, `at T drop NAME`, `pulse T WIDTH`, `pull T WIDTH`, `pin T LEVEL`, `end T`, `label NAME LINE`, `expect within D of NAME PATTERN`, `expect from T to U PATTERN`, `expect state T NAME WORD`, `expect refused NAME WORD`
+  a line here reads `at T press NAME KEY`, `at T release NAME KEY`, `at T plug CHILD PARENT PORT`, `at T unplug CHILD`, `at T send NAME FRAME`, `at T hold NAME ADDRS`, `at T drop NAME`, `pulse T WIDTH`, `pull T WIDTH`, `pin T LEVEL`, `end T`, `label NAME LINE`, `expect within D of NAME PATTERN`, `expect from T to U PATTERN`, `expect state T NAME WORD`, `expect refused NAME WORD`, `expect refused WORD`
   `expct`: did you mean `expect`?
   words stand one space apart, and nothing follows the last one
 --
@@ -420,6 +420,57 @@ end 9
                                                         ^^^^
   a line here reads `expect refused NAME WORD`
   words stand one space apart; PATTERN has 1 to 160 bytes, at most four `*` and no space at an end; a label stands before an event, a pulse, a pull, the pin or an expectation
+--
+check --explain
+device tv tv 4
+script
+at 5 press tv eject
+expect refused
+end 9
+=> script line 2: word
+  line 4 of the input: expect refused
+  a line here reads `expect refused NAME WORD`, `expect refused WORD`
+  WORD is missing at the end of the line
+  words stand one space apart; PATTERN has 1 to 160 bytes, at most four `*` and no space at an end; a label stands before an event, a pulse, a pull, the pin or an expectation
+--
+check --explain
+device tv tv 4
+script
+at 5 press tv eject
+expect refusd not-for-kind
+end 9
+=> script line 2: word
+  line 4 of the input: expect refusd not-for-kind
+                              ^^^^^^
+  a line here reads `expect within D of NAME PATTERN`, `expect from T to U PATTERN`, `expect none within D of NAME PATTERN`, `expect none from T to U PATTERN`, `expect once within D of NAME PATTERN`, `expect once from T to U PATTERN`, `expect state T NAME WORD`, `expect refused NAME WORD`, `expect refused WORD`
+  `refusd`: did you mean `refused`?
+  words stand one space apart; PATTERN has 1 to 160 bytes, at most four `*` and no space at an end; a label stands before an event, a pulse, a pull, the pin or an expectation
+--
+check --explain
+device tv tv 4
+script
+label film at 5 press tv eject
+pulse 6 600
+expect refused not-for-kind
+end 9
+=> script line 3: label
+  line 5 of the input: expect refused not-for-kind
+                                      ^^^^^^^^^^^^
+  NAME is missing before this word
+  a label is a word that no other line has, on a line above those that name it; `refused` names that of an event, or stands on the line below one
+--
+check --explain
+device tv tv 4
+script
+label film at 5 press tv eject
+# no event
+expect refused not-for-kin
+end 9
+=> script line 3: label
+  line 5 of the input: expect refused not-for-kin
+                                      ^^^^^^^^^^^
+  `not-for-kin`: did you mean `not-for-kind`?
+  a label is a word that no other line has, on a line above those that name it; `refused` names that of an event, or stands on the line below one
 --
 check --explain
 device tv tv 4

@@ -103,6 +103,10 @@ expect within 60000 of film @p1>@tv standbi|standbi|`standbi`: did you mean `sta
 expect state 1000000 tv active = 1.2.0.0|active|KEY=VALUE is one word: no spaces stand around `=`
 expect refused film nonsense|nonsense|WORD is one with which an event is refused: `port-range` `port-taken` `not-loose` `loop` `not-plugged` `not-for-kind` `off-wire` `queue-full` `own-address` `no-address`
 expect refused not-for-kin|not-for-kin|`not-for-kin`: did you mean `not-for-kind`?
+expect refuse not-for-kind|refuse|`refuse`: did you mean `refused`?
+expect refused film not-for-kind now|now|a line here reads `expect refused NAME WORD`
+expect refused filn not-for-kind|filn|`filn`: did you mean `film`?
+label slip expect refused not-for-kin|not-for-kin|`not-for-kin`: did you mean `not-for-kind`?
 label film at 2000000 press p1 stop|film|line 7 of the input has the label `film`
 label at 2000000 press p1 stop|at|NAME is missing before this word
 expect within 10 of later 4>0|later|the lines above have the labels `film`";
