@@ -1,5 +1,5 @@
 -- The instants of a series.
-use Rattle.std.proofs.Common.{◌≡◌, ℕ, zero, suc, ◌+◌, ◌-◌, ◌*◌, ◌/◌, ◌<◌, ◌≤◌, [], ◌∷◌, ◌++◌, ap, sym, ◌∙◌, arith}
+use Rattle.std.proofs.Common.{◌≡◌, ℕ, zero, suc, ◌+◌, ◌-◌, ◌*◌, ◌/◌, ◌<◌, ◌≤◌, [], ◌∷◌, ◌++◌, length, refl, ap, sym, ◌∙◌, arith}
 use Rattle.std.proofs.lemmas.Nat.{div-mul-add}
 use Rattle.std.proofs.Math.Nat.{add-div_right}
 use Rattle.cec_sweep.specs.Series.{instants_from, instants}
@@ -48,3 +48,8 @@ counted_none step at to moves last =
     let d : to - at ≡ 0 * step + (to - at) = omega arith in
     let q : (to - at) / step ≡ 0 = ap (λ n. n / step) d ∙ div-mul-add 0 step (to - at) last in
     ap (instants_from (at + step) step) q
+
+-- how many there are
+pub counted : (from step n : ℕ) → length (instants_from from step n) ≡ n
+counted from step zero = refl
+counted from step (suc n) = ap (λ m. suc m) (counted (from + step) step n)

@@ -3,3 +3,4 @@ pub mod Stretching
 pub mod Refused
 pub mod Words
 pub mod Ordered
+pub mod Telling

@@ -1,5 +1,5 @@
 -- Stretches, one instant more at a time.
-use Rattle.std.proofs.Common.{◌≡◌, ◌≢◌, ℕ, suc, ◌+◌, ◌-◌, ◌*◌, ◌/◌, ◌<◌, ◌≤◌, ◌&&◌, Bool, true, false, List, [], ◌∷◌, ◌++◌, map, cond, ap, sym, refl, ◌∙◌, subst, arith, append_assoc, append-nil, true≢false}
+use Rattle.std.proofs.Common.{◌≡◌, ◌≢◌, ℕ, suc, ◌+◌, ◌-◌, ◌*◌, ◌/◌, ◌<◌, ◌≤◌, ◌&&◌, Bool, true, false, List, [], ◌∷◌, ◌++◌, length, map, cond, ap, sym, refl, ◌∙◌, subst, arith, append_assoc, append-nil, true≢false}
 use Rattle.std.specs.Bool.{beq}
 use Rattle.std.specs.List.{All, flat_map}
 use Rattle.std.proofs.lemmas.List.Elements.{All-append, All-cons, All-head, All-nil, All-push, All-same, All-tail, All-weaker}
@@ -22,10 +22,17 @@ pub record IsDraft (Found : ℕ → List Bool → Type 0) (s : Series) (d : Stre
   pub longest : DifferInTurn (map (λ x. x.verdicts) before ++ d.last.verdicts ∷ [])
   pub text : d.text ≡ stretches_text before
   pub holds : d.holds ≡ (all_hold before && are_all_ok d.last.verdicts)
+  pub passed : ℕ
+  pub done : d.done ≡ suc passed
+  pub reach : d.last.last ≡ s.from + passed * s.step
+  pub front : flat_map (instants_in s.step) before ++ instants_in s.step d.last ≡ instants s.step s.from d.last.last
+  pub counted : d.stretches ≡ suc (length before)
+  pub few : d.stretches ≤ d.done
+  pub early : d.done ≤ suc d.last.last
 
 -- ---- lists
 
-flat_map_push : {A B : Type 0} (f : A → List B) (xs : List A) (x : A) → flat_map f (xs ++ x ∷ []) ≡ flat_map f xs ++ f x
+pub flat_map_push : {A B : Type 0} (f : A → List B) (xs : List A) (x : A) → flat_map f (xs ++ x ∷ []) ≡ flat_map f xs ++ f x
 flat_map_push f xs x = flat_map-append f xs (x ∷ []) ∙ ap (λ l. flat_map f xs ++ l) (append-nil (f x))
 
 differ_push : (xs : List (List Bool)) (v w : List Bool) → DifferInTurn (xs ++ v ∷ []) → v ≢ w → DifferInTurn ((xs ++ v ∷ []) ++ w ∷ [])
@@ -39,7 +46,7 @@ all_hold_push xs x = list_all-append (λ s. are_all_ok s.verdicts) xs (x ∷ [])
   and_true true = refl
   and_true false = refl
 
-verdicts_push : (xs : List Stretch) (x : Stretch) → map (λ y. y.verdicts) (xs ++ x ∷ []) ≡ map (λ y. y.verdicts) xs ++ x.verdicts ∷ []
+pub verdicts_push : (xs : List Stretch) (x : Stretch) → map (λ y. y.verdicts) (xs ++ x ∷ []) ≡ map (λ y. y.verdicts) xs ++ x.verdicts ∷ []
 verdicts_push xs x = map-append (λ y. y.verdicts) xs (x ∷ [])
 
 booleans : (x y : Bool) → (beq x y ≡ true → x ≡ y) × (x ≡ y → beq x y ≡ true)
@@ -61,6 +68,13 @@ begun_is Found s vs moves found = record {
   longest = tt;
   text = refl;
   holds = refl;
+  passed = 0;
+  done = refl;
+  reach = omega arith;
+  front = refl;
+  counted = refl;
+  few = omega arith;
+  early = omega arith;
 } where
   alone : instants s.step s.from s.from ≡ s.from ∷ []
   alone = one_instant s.step s.from moves
@@ -72,6 +86,17 @@ begun_is Found s vs moves found = record {
   first_is = ap (λ ts. ts ++ instants_from (s.from + s.step) s.step ((s.to - s.from) / s.step)) alone ∙ one_more ((s.to - s.from) / s.step)
 
 -- ---- one more
+
+pub length-push : (xs : List Stretch) (x : Stretch) → length (xs ++ x ∷ []) ≡ suc (length xs)
+length-push [] x = refl
+length-push (y ∷ xs) x = ap (λ n. suc n) (length-push xs x)
+
+-- the instants so far, and the next one
+further : (Found : ℕ → List Bool → Type 0) (s : Series) (d : StretchesDraft) → 0 < s.step → (is : IsDraft Found s d)
+    → flat_map (instants_in s.step) is.before ++ (instants_in s.step d.last ++ (d.last.last + s.step) ∷ []) ≡ instants s.step s.from (d.last.last + s.step)
+further Found s d moves is =
+    sym (append_assoc (flat_map (instants_in s.step) is.before) (instants_in s.step d.last) ((d.last.last + s.step) ∷ [])) ∙ ap (λ ts. ts ++ (d.last.last + s.step) ∷ []) is.front
+    ∙ sym (instants_more s.step s.from is.passed d.last.last moves is.reach)
 
 longer_is : (Found : ℕ → List Bool → Type 0) (s : Series) (d : StretchesDraft) → 0 < s.step → d.last.last ≤ s.to → s.step ≤ s.to - d.last.last → Found (d.last.last + s.step) d.last.verdicts
     → IsDraft Found s d → IsDraft Found s (longer d (d.last.last + s.step))
@@ -86,6 +111,13 @@ longer_is Found s d moves within room found is = record {
   longest = is.longest;
   text = is.text;
   holds = is.holds;
+  passed = suc is.passed;
+  done = omega (arith, is.done);
+  reach = omega (arith, is.reach);
+  front = ap (λ ts. flat_map (instants_in s.step) is.before ++ ts) more ∙ further Found s d moves is;
+  counted = is.counted;
+  few = omega (arith, is.few);
+  early = omega (arith, is.early, moves);
 } where
   more : instants s.step d.last.first (d.last.last + s.step) ≡ instants_in s.step d.last ++ (d.last.last + s.step) ∷ []
   more = instants_more s.step d.last.first is.count d.last.last moves is.grid
@@ -109,6 +141,14 @@ next_is Found s d vs moves within room found differs is = record {
   longest = subst (λ vss. DifferInTurn (vss ++ vs ∷ [])) (sym (verdicts_push is.before d.last)) (differ_push (map (λ x. x.verdicts) is.before) d.last.verdicts vs is.longest differs);
   text = ap (λ t. t ++ stretch_line d.last) is.text ∙ sym (flat_map_push stretch_line is.before d.last);
   holds = ap (λ b. b && are_all_ok vs) (is.holds ∙ sym (all_hold_push is.before d.last));
+  passed = suc is.passed;
+  done = omega (arith, is.done);
+  reach = omega (arith, is.reach);
+  front = ap (λ ts. flat_map (instants_in s.step) (is.before ++ d.last ∷ []) ++ ts) alone ∙ ap (λ ts. ts ++ (d.last.last + s.step) ∷ []) (flat_map_push (instants_in s.step) is.before d.last)
+      ∙ append_assoc (flat_map (instants_in s.step) is.before) (instants_in s.step d.last) ((d.last.last + s.step) ∷ []) ∙ further Found s d moves is;
+  counted = omega (arith, is.counted, length-push is.before d.last);
+  few = omega (arith, is.few);
+  early = omega (arith, is.early, moves);
 } where
   alone : instants s.step (d.last.last + s.step) (d.last.last + s.step) ≡ (d.last.last + s.step) ∷ []
   alone = one_instant s.step (d.last.last + s.step) moves

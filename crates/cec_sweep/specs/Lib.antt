@@ -4,3 +4,4 @@ pub mod Script
 pub mod Order
 pub mod Stretches
 pub mod Sweep
+pub mod Progress

@@ -1,5 +1,5 @@
 -- Stretches of a series (own): instants in a row at which the same is found.
-use Rattle.std.specs.Prelude.{◌≡◌, ◌≢◌, ℕ, ◌&&◌, Bool, true, false, if◌then◌else◌, codes, map, List, [], ◌∷◌, ◌++◌}
+use Rattle.std.specs.Prelude.{◌≡◌, ◌≢◌, ℕ, ◌+◌, ◌&&◌, Bool, true, false, if◌then◌else◌, codes, map, List, [], ◌∷◌, ◌++◌}
 use Rattle.std.specs.Bool.{beq}
 use Rattle.std.specs.Cmp.Lexicographic.{pointwise}
 use Rattle.std.specs.Fmt.{decimal}
@@ -54,29 +54,32 @@ all_hold stretches = list_all (λ s. are_all_ok s.verdicts) stretches
 
 -- ---- as they are made
 
--- the lines of the stretches that have ended, the one that has not, and whether all held so far
+-- the lines of the stretches that have ended, the one that has not, whether all held so far, and how many instants and stretches
+-- there are
 pub record StretchesDraft : Type 0 where
   pub text : List ℕ
   pub last : Stretch
   pub holds : Bool
+  pub done : ℕ
+  pub stretches : ℕ
 
 abbrev pub draft_as : DraftMade → StretchesDraft
-draft_as d = record { text = d.text.items; last = record { first = d.first; last = d.last; verdicts = d.verdicts.items }; holds = d.holds }
+draft_as d = record { text = d.text.items; last = record { first = d.first; last = d.last; verdicts = d.verdicts.items }; holds = d.holds; done = d.done; stretches = d.stretches }
 
 abbrev pub are_same : List Bool → List Bool → Bool
 are_same vs ws = pointwise beq vs ws
 
 abbrev pub first_draft : ℕ → List Bool → StretchesDraft
-first_draft t vs = record { text = []; last = record { first = t; last = t; verdicts = vs }; holds = are_all_ok vs }
+first_draft t vs = record { text = []; last = record { first = t; last = t; verdicts = vs }; holds = are_all_ok vs; done = 1; stretches = 1 }
 
 abbrev pub longer : StretchesDraft → ℕ → StretchesDraft
-longer d t = record { text = d.text; last = record { first = d.last.first; last = t; verdicts = d.last.verdicts }; holds = d.holds }
+longer d t = record { text = d.text; last = record { first = d.last.first; last = t; verdicts = d.last.verdicts }; holds = d.holds; done = d.done + 1; stretches = d.stretches }
 
 abbrev pub draft_at_end : StretchesDraft → StretchesDraft
-draft_at_end d = record { text = d.text ++ stretch_line d.last; last = d.last; holds = d.holds }
+draft_at_end d = record { text = d.text ++ stretch_line d.last; last = d.last; holds = d.holds; done = d.done; stretches = d.stretches }
 
 abbrev pub next : StretchesDraft → ℕ → List Bool → StretchesDraft
-next d t vs = record { text = (draft_at_end d).text; last = record { first = t; last = t; verdicts = vs }; holds = d.holds && are_all_ok vs }
+next d t vs = record { text = (draft_at_end d).text; last = record { first = t; last = t; verdicts = vs }; holds = d.holds && are_all_ok vs; done = d.done + 1; stretches = d.stretches + 1 }
 
 -- with one more instant
 abbrev pub with_instant : StretchesDraft → ℕ → List Bool → StretchesDraft

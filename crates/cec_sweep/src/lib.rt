@@ -3,11 +3,13 @@
 
 mod order;
 mod places;
+mod progress;
 mod script;
 mod series;
 mod stretches;
 mod sweeping;
 
+pub use progress::{Hearer, Progress, Silent};
 pub use script::RangeFault;
 pub use series::RangeCause;
 pub use sweeping::{SweepError, sweep};

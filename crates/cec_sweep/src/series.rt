@@ -1,5 +1,5 @@
 //! Series of instants, in the place of a time of a script.
-ghost use Rattle.std.specs.Prelude.{◌≡◌, ◌≤◌, ◌<◌, IfSome};
+ghost use Rattle.std.specs.Prelude.{◌≡◌, ◌≤◌, ◌<◌, IfSome, length};
 ghost use Rattle.cec_wave.specs.Bounds.{latest_event};
 ghost use Rattle.cec_sweep.specs.Series.{is_range, positive, series_in, series_to, series_until, step_at, steps_between, time_in_range};
 
@@ -48,7 +48,7 @@ impl Model for Series {
 
 impl Series {
     ghost use Rattle.cec_sweep.specs.Order.{last_of};
-    ghost use Rattle.cec_sweep.specs.Series.{IsSeries};
+    ghost use Rattle.cec_sweep.specs.Series.{IsSeries, instants_of};
 
     /// The first instant.
     pub(crate) fn from(&self) -> u64
@@ -73,6 +73,14 @@ impl Series {
     {
         let (from, to, step) = (self.from(), self.to(), self.step());
         to - (to - from) % step
+    }
+
+    /// How many instants there are.
+    #[tactic(auto, using(crate::proofs::Instants::counted))]
+    pub(crate) fn count(&self) -> u64
+        ensures { result ≡ length (instants_of self.now) }
+    {
+        steps_between(self.from(), self.to(), self.step()) + 1
     }
 
     /// How many microseconds lie between two instants.

@@ -1,7 +1,8 @@
 //! Stretches of instants at which the same is found, as they are made, and their lines.
-ghost use Rattle.std.specs.Prelude.{◌≡◌, ◌++◌, ◌&&◌, OnOk};
+ghost use Rattle.std.specs.Prelude.{◌≡◌, ◌≤◌, ◌++◌, ◌&&◌, OnOk};
 ghost use Rattle.std.specs.Fmt.{decimal};
 ghost use Rattle.std.specs.List.{flat_map};
+ghost use Rattle.cec_wave.specs.Bounds.{latest_event};
 ghost use Rattle.cec_sweep.specs.Stretches.{are_all_ok, are_same, first_draft, draft_as, draft_at_end, verdict_text, with_instant};
 
 use std::alloc::{AllocError, Global};
@@ -15,6 +16,10 @@ pub(crate) struct StretchesDraft {
     verdicts: Vec<bool>,
     /// Whether each verdict of each instant is ok.
     pub(crate) holds: bool,
+    /// How many instants there are.
+    pub(crate) done: u64,
+    /// How many stretches these make.
+    pub(crate) stretches: u64,
 }
 
 fn are_all_ok(verdicts: &[bool]) -> bool
@@ -69,6 +74,8 @@ impl StretchesDraft {
             last: at,
             verdicts,
             holds,
+            done: 1,
+            stretches: 1,
         }
     }
 
@@ -85,10 +92,15 @@ impl StretchesDraft {
 
     /// One more instant.
     pub(crate) fn add(&mut self, at: u64, verdicts: Vec<bool>) -> Result<(), AllocError>
+        requires few { self.old.stretches ≤ self.old.done }
+        requires early { self.old.done ≤ latest_event }
         ensures { OnOk result (draft_as self.new ≡ with_instant (draft_as self.old) at verdicts.items) }
     {
+        let done = self.done + 1;
+        let stretches = self.stretches + 1;
         if are_same(&self.verdicts, &verdicts) {
             self.last = at;
+            self.done = done;
             return Ok(());
         }
         self.end()?;
@@ -96,6 +108,8 @@ impl StretchesDraft {
         self.first = at;
         self.last = at;
         self.verdicts = verdicts;
+        self.done = done;
+        self.stretches = stretches;
         Ok(())
     }
 }

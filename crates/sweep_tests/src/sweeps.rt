@@ -1,6 +1,6 @@
 //! Sweeps of scripts.
 use crate::rows::{ALONE, DECKS, RACE, RACES, SWEEPS};
-use cec_sweep::{SweepError, sweep};
+use cec_sweep::{Hearer, Progress, Silent, SweepError, sweep};
 use hdmi_core::Writes;
 use std::io::{self, ErrorKind, Write};
 use std::process::Abort;
@@ -35,6 +35,7 @@ fn swept(rt: &(impl Abort + AllocGlobal), topology: &str, script: &str) -> Strin
         topology.as_bytes(),
         script.as_bytes(),
         &mut Writes::new(&mut out),
+        &mut Silent,
     );
     let row = in_a_row(rt, out);
     match done {
@@ -101,6 +102,7 @@ fn is_cut_off(rt: &(impl Abort + AllocGlobal), room: usize) -> bool {
         b"device tv tv 4\n",
         b"expect from 0 to 39149..39151 0>0\nend 50000\n",
         &mut Writes::new(&mut out),
+        &mut Silent,
     );
     let count = match done {
         Ok(_) => LINES.len() as u128,
@@ -115,4 +117,65 @@ fn a_writer_that_fails_has_the_front(rt: HostRuntime) {
     for room in 0..=LINES.len() {
         holds(&rt, is_cut_off(&rt, room), LINES);
     }
+}
+
+/// How often a sweep said how far it is, and what it said last.
+struct Heard {
+    times: u64,
+    last: Option<Progress>,
+}
+
+impl Hearer for Heard {
+    ghost hears = { λ r p s. Unit {0} };
+
+    fn hear(&mut self, progress: Progress) {
+        self.times = self.times.saturating_add(1);
+        self.last = Some(progress);
+    }
+}
+
+/// What is heard of a sweep of the time at which the television's own poll, from 0 to 39150, is to be over.
+fn heard_of(rt: &(impl Abort + AllocGlobal), range: &str) -> Heard {
+    let script = format!(in rt.alloc(); "expect from 0 to {range} 0>0\nend 50000\n");
+    let script = script.expect(rt, "a script");
+    let mut out = Vec::new(rt.alloc());
+    let mut heard = Heard {
+        times: 0,
+        last: None,
+    };
+    let _ = sweep(
+        rt.alloc(),
+        b"device tv tv 4\n",
+        script.as_bytes(),
+        &mut Writes::new(&mut out),
+        &mut heard,
+    );
+    heard
+}
+
+/// After 1,000 instants of 1,002 there are two stretches: one up to 39149, and one from 39150 on.
+#[test]
+fn how_far_a_sweep_is_is_told(rt: HostRuntime) {
+    let heard = heard_of(&rt, "39000..40001");
+    let due = Progress {
+        done: 1000,
+        count: 1002,
+        stretches: 2,
+    };
+    holds(
+        &rt,
+        heard.times == 1 && heard.last == Some(due),
+        "1002 instants",
+    );
+}
+
+/// The last instant is over when the stretches are written, so that of a thousand nothing is told.
+#[test]
+fn of_a_thousand_instants_nothing_is_told(rt: HostRuntime) {
+    let heard = heard_of(&rt, "39000..39999");
+    holds(
+        &rt,
+        heard.times == 0 && heard.last.is_none(),
+        "1000 instants",
+    );
 }
