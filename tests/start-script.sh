@@ -178,6 +178,14 @@ start "$room/checkout/hdminet" again
 check "the second start builds nothing" wrote "one again"
 check "and says nothing" lines_of_err 0
 check "and calls no rt" [ "$(calls)" = 1 ]
+start "$room/checkout/hdminet" check --explain
+check "what is on no terminal has no progress" wrote "one check --explain"
+if command -v script > /dev/null; then
+  start script -qec "$room/checkout/hdminet check" /dev/null
+  check "a test on a terminal says how far it is" wrote $'one check --progress\r'
+  start script -qec "$room/checkout/hdminet check --trace" /dev/null
+  check "one with a trace does not" wrote $'one check --trace\r'
+fi
 
 source_is two
 start "$room/checkout/hdminet"

@@ -203,6 +203,10 @@ pub const CHECK_FLAGS: &[(&str, &str)] = &[
         "json",
         "Prints each line of the report as an object of JSON; not with --plain",
     ),
+    (
+        "progress",
+        "Says on standard error after each 1000 instants of a range how far the sweep is",
+    ),
     ("capture", "Tests a capture in place of a run"),
 ];
 
@@ -226,8 +230,8 @@ pub const CHECK_VALUES: &[(&str, &str, &str)] = &[
 ];
 
 pub const CHECK_RULES: &str = "
-  of --trace, --plain and --capture one is given at most; --json goes with --trace or --capture, and not
-  with --plain
+  of --trace, --plain, --progress and --capture one is given at most; --json goes with --trace or --capture,
+  and not with --plain or --progress
   --from, --signal and --glitch go with --capture alone; --from takes edges, vcd, pin or csv; --glitch a
   number of microseconds; --signal goes with vcd and csv alone
 ";
@@ -283,6 +287,8 @@ gives of examples/race.sweep
   4945300..4999950 not-ok not-ok
   5000000..5000000 ok not-ok
 Where a test fails at any of them, the status is 1 and standard error has `failed tests in the range`.
+With --progress standard error has after each 1000 instants, as long as there are more
+  hdminet: instants 1000 of 3201, stretches 1
 With --trace and --plain no time is a range. A range has at most 1000000 instants, and each keeps the order
 of the script: events in order of time, pulses, pulls and the pin too, `end` after each event, no state
 after `end`.

@@ -51,6 +51,7 @@ IsPlain topology script text = (first_fault topology script ≡ None) × (text �
 -- this text is what is asked for of a test
 abbrev pub IsTestOf : TestView → List ℕ → List ℕ → List ℕ → Type 0
 IsTestOf views.Report topology script text = IsReported topology script text
+IsTestOf views.Progress topology script text = IsReported topology script text
 IsTestOf views.Traced topology script text = IsTraced topology script text
 IsTestOf views.Plain topology script text = IsPlain topology script text
 

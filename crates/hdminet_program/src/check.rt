@@ -5,6 +5,7 @@ ghost use Rattle.hdminet_program.specs.Done.{Writes};
 
 use crate::expectations::write_test;
 use crate::told::Told;
+use cec_sweep::Hearer;
 use hdmi_core::Sink;
 use hdminet_captures::write_capture_test;
 use hdminet_faults::ProgramFault;
@@ -13,16 +14,17 @@ use hdminet_words::{Choice, Form, TestView};
 use std::alloc::Global;
 
 #[inline(never)]
-pub fn test<W: Sink>(
+pub fn test<W: Sink, H: Hearer>(
     alloc: Global,
     view: TestView,
     input: &[u8],
     out: &mut W,
+    hearer: &mut H,
 ) -> Result<Told, ProgramFault>
     ensures { OnOk result (Writes (Choice.Check view) [] input.now (W.contents out.old) (W.contents out.new)) }
 {
     let (topology, script) = parts(input)?;
-    write_test(alloc, view, topology, script, out)?;
+    write_test(alloc, view, topology, script, out, hearer)?;
     Ok(Told::Nothing)
 }
 

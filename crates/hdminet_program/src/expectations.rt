@@ -6,7 +6,7 @@ use cec_check::{CheckError, check};
 use cec_expect::{first_fault, plain_script};
 use cec_json::Held;
 use cec_run::emulate::{EmulateError, emulate};
-use cec_sweep::{SweepError, sweep};
+use cec_sweep::{Hearer, Silent, SweepError, sweep};
 use hdmi_core::{Piece, Sink, first_line, put_all, write_pieces};
 use hdminet_faults::{ProgramFault, passed};
 use hdminet_words::TestView;
@@ -39,15 +39,16 @@ fn write_report<W: Sink>(
 
 // Writes the stretches of the script's range, or the report where it has none.
 #[inline(never)]
-fn write_tests<W: Sink>(
+fn write_tests<W: Sink, H: Hearer>(
     alloc: Global,
     topology: &[u8],
     script: &[u8],
     out: &mut W,
+    hearer: &mut H,
 ) -> Result<(), ProgramFault>
     ensures { OnOk result (WritesTest TestView.Report topology.now script.now (W.contents out.old) (W.contents out.new)) }
 {
-    match sweep(alloc, topology, script, out) {
+    match sweep(alloc, topology, script, out, hearer) {
         Ok(holds) => held_throughout(holds),
         Err(error) => match error {
             SweepError::NoRange => write_report(alloc, topology, script, out),
@@ -137,18 +138,21 @@ fn write_plain<W: Sink>(
     Ok(())
 }
 
-/// Writes what is asked for of a test. A report with a test that failed is written, and then a fault.
-pub fn write_test<W: Sink>(
+/// Writes what is asked for of a test. A report with a test that failed is written, and then a fault. Where it is asked for, the
+/// hearer hears how far a sweep is.
+pub fn write_test<W: Sink, H: Hearer>(
     alloc: Global,
     view: TestView,
     topology: &[u8],
     script: &[u8],
     out: &mut W,
+    hearer: &mut H,
 ) -> Result<(), ProgramFault>
     ensures { OnOk result (WritesTest view topology.now script.now (W.contents out.old) (W.contents out.new)) }
 {
     match view {
-        TestView::Report => write_tests(alloc, topology, script, out),
+        TestView::Report => write_tests(alloc, topology, script, out, &mut Silent),
+        TestView::Progress => write_tests(alloc, topology, script, out, hearer),
         TestView::Traced => write_traced(alloc, topology, script, out),
         TestView::Plain => write_plain(alloc, topology, script, out),
     }

@@ -9,6 +9,7 @@ mod live;
 mod objects;
 mod perform;
 pub mod program;
+mod progress;
 mod run;
 mod said;
 mod told;

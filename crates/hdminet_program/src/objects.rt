@@ -8,6 +8,7 @@ use crate::told::Told;
 use cec_audit_json::write_audit_objects;
 use cec_json::{Held, write_objects};
 use cec_report_json::{Report as ReportKind, write_report_objects};
+use cec_sweep::Silent;
 use hdmi_core::{Sink, before};
 use hdminet_captures::monitor;
 use hdminet_faults::ProgramFault;
@@ -40,7 +41,7 @@ fn write_lines<W: Sink>(
             )?;
             Ok(Told::Capture(signs))
         }
-        Objects::Test { traced } => test(alloc, report_view(traced), input, out),
+        Objects::Test { traced } => test(alloc, report_view(traced), input, out, &mut Silent),
         Objects::CaptureTest { form, glitch } => {
             test_capture(alloc, form, signal, glitch, input, out)
         }

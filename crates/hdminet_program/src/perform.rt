@@ -12,6 +12,7 @@ use cec_lay::lay_lines;
 use cec_line::Format;
 use cec_meaning::dis_with_meaning;
 use cec_step::step_run::step_run;
+use cec_sweep::Hearer;
 use cec_text::asm_lines;
 use hdmi_core::Sink;
 use hdminet_captures::show;
@@ -74,13 +75,14 @@ fn lay<W: Sink>(input: &[u8], out: &mut W) -> Result<Told, ProgramFault>
     Ok(Told::Nothing)
 }
 
-/// Does what is asked for. Of a run the result has the counts.
-pub fn perform<W: Sink>(
+/// Does what is asked for. Of a run the result has the counts. Of a sweep the hearer hears how far it is, where that is asked for.
+pub fn perform<W: Sink, H: Hearer>(
     alloc: Global,
     choice: Choice,
     signal: &[u8],
     input: &[u8],
     out: &mut W,
+    hearer: &mut H,
 ) -> Result<Told, ProgramFault>
     requires { is_line_by_line choice ≡ false }
     ensures { OnOk result (Writes choice signal.now input.now (W.contents out.old) (W.contents out.new)) }
@@ -95,7 +97,7 @@ pub fn perform<W: Sink>(
             Listing::Drives => run_to_drives(alloc, Wires::Plain, strict, input, out),
             Listing::Named => run_to_drives(alloc, Wires::Named, strict, input, out),
         },
-        Choice::Check(view) => test(alloc, view, input, out),
+        Choice::Check(view) => test(alloc, view, input, out, hearer),
         Choice::CheckCapture { form, glitch } => {
             test_capture(alloc, form, signal, glitch, input, out)
         }

@@ -11,6 +11,7 @@ ghost use Rattle.hdminet_words.specs.MonFlags.{signal_in};
 use crate::input::{limit_of, read_input};
 use crate::live::{LiveEnded, live, live_in_objects};
 use crate::perform::perform;
+use crate::progress::ProgressLines;
 use crate::said::{remark, report};
 use crate::told::Told;
 use cec_dialogue::SessionError;
@@ -82,7 +83,8 @@ fn answer<W: Sink, E: Sink>(
     requires { is_line_by_line asked.choice ≡ false }
     ensures { result ≡ 0 → Writes asked.choice signal.now input.now (⟦<Buffered<W> as Sink>⟧.contents out.old) (W.contents (below out.new)) }
 {
-    let done = perform(alloc, asked.choice, signal, input, out);
+    let mut progress = ProgressLines { alloc, err };
+    let done = perform(alloc, asked.choice, signal, input, out, &mut progress);
     match handed_on(done, out) {
         Ok(told) => {
             remark(alloc, asked, told, input, err);

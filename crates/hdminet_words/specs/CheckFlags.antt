@@ -12,7 +12,7 @@ use Rattle.hdminet_words.specs.declared.choice.Choice.TheVariants.{Check, CheckC
 use Rattle.hdminet_words.specs.declared.choice.Form.{Form}
 use Rattle.hdminet_words.specs.declared.choice.Objects.TheVariants as objects
 use Rattle.hdminet_words.specs.declared.choice.TestView.{TestView}
-use Rattle.hdminet_words.specs.declared.choice.TestView.TheVariants.{Report, Traced, Plain}
+use Rattle.hdminet_words.specs.declared.choice.TestView.TheVariants.{Report, Progress, Traced, Plain}
 use Rattle.hdminet_words.specs.declared.mon_flags.MonValue.{MonValue}
 use Rattle.hdminet_words.specs.declared.mon_flags.MonValue.TheVariants.{From, Signal, Glitch, Margin}
 
@@ -29,6 +29,7 @@ with_check_flag flags word =
     if bytes_eq word (codes "--plain") && not flags.plain then Some (record flags { plain = true })
     else if bytes_eq word (codes "--trace") && not flags.trace then Some (record flags { trace = true })
     else if bytes_eq word (codes "--json") && not flags.json then Some (record flags { json = true })
+    else if bytes_eq word (codes "--progress") && not flags.progress then Some (record flags { progress = true })
     else if bytes_eq word (codes "--capture") && not flags.capture then Some (record flags { capture = true })
     else if bytes_eq word (codes "--from") && is_none flags.form then Some (record flags { waits = Some From })
     else if bytes_eq word (codes "--signal") && not flags.named then Some (record flags { waits = Some Signal })
@@ -62,6 +63,14 @@ test_view false true = Some Traced
 test_view true false = Some Plain
 test_view true true = None
 
+-- the same, and how far a sweep is; what is no report has no sweep
+abbrev pub with_progress : Bool → TestView → Option TestView
+with_progress false view = Some view
+with_progress true Report = Some Progress
+with_progress true Progress = None
+with_progress true Traced = None
+with_progress true Plain = None
+
 -- a flag that speaks of a capture
 abbrev pub has_capture_flag : CheckFlags → Bool
 has_capture_flag flags = is_some flags.form || flags.named || is_some flags.glitch
@@ -74,18 +83,19 @@ capture_choice false form glitch = CheckCapture form glitch
 -- a report of a capture alone is written, and wires of some forms have no names
 abbrev pub of_capture : CheckFlags → Option Choice
 of_capture flags =
-    if flags.plain || flags.trace || (flags.named && not (has_names flags.form)) then None
+    if flags.plain || flags.trace || flags.progress || (flags.named && not (has_names flags.form)) then None
     else Some (capture_choice flags.json flags.form (unwrap_or flags.glitch 0))
 
 -- what is written of a test of a run; objects are those of its report, with its trace or without
 abbrev pub run_choice : Bool → TestView → Option Choice
 run_choice true Report = Some (Json (objects.Test false))
+run_choice true Progress = None
 run_choice true Traced = Some (Json (objects.Test true))
 run_choice true Plain = None
 run_choice false view = Some (Check view)
 
 abbrev pub of_run : CheckFlags → Option Choice
-of_run flags = if has_capture_flag flags then None else option_and_then (run_choice flags.json) (test_view flags.plain flags.trace)
+of_run flags = if has_capture_flag flags then None else option_and_then (run_choice flags.json) (option_and_then (with_progress flags.progress) (test_view flags.plain flags.trace))
 
 abbrev pub check_choice : CheckFlags → Option Choice
 check_choice flags = if flags.capture then of_capture flags else of_run flags

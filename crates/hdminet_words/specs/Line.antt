@@ -37,7 +37,7 @@ only_explained choice words = None
 -- what a subcommand with these flags asks for
 abbrev pub asked_of : Subcommand → List (List ℕ) → Option Asked
 asked_of Run words = option_and_then run_asked (run_flags (record { edges = false; format = None; drives = false; named = false; strict = false; json = false; room = false; explains = false; waits = false }) words)
-asked_of Check words = option_and_then check_asked (check_flags (record { plain = false; trace = false; json = false; capture = false; form = None; named = false; glitch = None; explains = false; waits = None }) words)
+asked_of Check words = option_and_then check_asked (check_flags (record { plain = false; trace = false; json = false; progress = false; capture = false; form = None; named = false; glitch = None; explains = false; waits = None }) words)
 asked_of Step words = only_explained choices.Step words
 asked_of Live words = option_map live_asked (live_flags (record { json = false; explains = false }) words)
 asked_of Asm words = only_explained choices.Asm words

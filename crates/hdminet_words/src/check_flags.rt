@@ -1,6 +1,6 @@
 //! The flags of `check`.
 ghost use Rattle.std.specs.Prelude.{◌≡◌, map, string_bytes, option_and_then};
-ghost use Rattle.hdminet_words.specs.CheckFlags.{capture_choice, check_asked, check_choice, check_flags, has_capture_flag, of_capture, of_run, run_choice, test_view, waited_check, with_check_flag, with_check_value, with_check_word};
+ghost use Rattle.hdminet_words.specs.CheckFlags.{capture_choice, check_asked, check_choice, check_flags, has_capture_flag, of_capture, of_run, run_choice, test_view, waited_check, with_check_flag, with_check_value, with_check_word, with_progress};
 
 use crate::choice::{Asked, Choice, Form, Objects, TestView};
 use crate::joined::joined;
@@ -13,6 +13,7 @@ pub struct CheckFlags {
     pub plain: bool,
     pub trace: bool,
     pub json: bool,
+    pub progress: bool,
     pub capture: bool,
     pub form: Option<Form>,
     /// Whether `--signal` names a wire, which `signal_in` returns.
@@ -29,6 +30,7 @@ impl CheckFlags {
         plain: false,
         trace: false,
         json: false,
+        progress: false,
         capture: false,
         form: None,
         named: false,
@@ -83,6 +85,10 @@ fn with_check_flag(flags: CheckFlags, word: &str) -> Option<CheckFlags>
         }),
         "--json" if !flags.json => Some(CheckFlags {
             json: true,
+            ..flags
+        }),
+        "--progress" if !flags.progress => Some(CheckFlags {
+            progress: true,
             ..flags
         }),
         "--capture" if !flags.capture => Some(CheckFlags {
@@ -152,6 +158,17 @@ fn test_view(plain: bool, trace: bool) -> Option<TestView>
     }
 }
 
+// The same, and how far a sweep is. What is no report has no sweep.
+fn with_progress(progress: bool, view: TestView) -> Option<TestView>
+    ensures { result ≡ with_progress progress view }
+{
+    match view {
+        TestView::Report if progress => Some(TestView::Progress),
+        _ if progress => None,
+        view => Some(view),
+    }
+}
+
 // Whether a flag speaks of a capture.
 fn has_capture_flag(flags: &CheckFlags) -> bool
     ensures { result ≡ has_capture_flag flags.now }
@@ -174,7 +191,7 @@ fn capture_choice(json: bool, form: Option<Form>, glitch: u64) -> Choice
 fn of_capture(flags: &CheckFlags) -> Option<Choice>
     ensures { result ≡ of_capture flags.now }
 {
-    if flags.plain || flags.trace || (flags.named && !has_names(flags.form)) {
+    if flags.plain || flags.trace || flags.progress || (flags.named && !has_names(flags.form)) {
         return None;
     }
     Some(capture_choice(flags.json, flags.form, flags.glitch.unwrap_or(0)))
@@ -199,6 +216,7 @@ fn of_run(flags: &CheckFlags) -> Option<Choice>
         return None;
     }
     let view = test_view(flags.plain, flags.trace)?;
+    let view = with_progress(flags.progress, view)?;
     run_choice(flags.json, view)
 }
 

@@ -66,6 +66,8 @@ pub enum Report {
 pub enum TestView {
     /// The report of whether its run is as they have it.
     Report,
+    /// The same, and on standard error how far a sweep is.
+    Progress,
     /// The report, and after it the trace of its run.
     Traced,
     /// The input of its run, without labels and expectations.

@@ -29,6 +29,7 @@ check --help =>   ok 2 - line 3: expect once within 200000 of on 4>f active-sour
 check --help => --trace
 check --help => --plain
 check --help => --capture
+check --help => --progress
 check --help =>   4931600..4945250 ok not-ok
 --help =>   check
 run --help =>   watch PA       tv
@@ -186,6 +187,12 @@ check --capture --glitch 18446744073709551616
 check --edges
 check --strict
 check --trace --plain
+check --trace --progress
+check --plain --progress
+check --json --progress
+check --progress --json
+check --capture --progress
+check --progress --progress
 check --plain --plain
 check --trace --explain --trace
 check film.test
