@@ -179,16 +179,24 @@ fn add_nearest_key_of_state(draft: &mut Draft, key: &str, value: &str) -> bool {
     false
 }
 
+// The word that a state line has for `power=VALUE`. Returns whether there is one.
+fn add_power(draft: &mut Draft, value: &str, word: &str) -> bool {
+    for known in STATE_WORDS {
+        if *known == value || is_near(draft, known, value) {
+            add_suggestion(draft, known, word);
+            return true;
+        }
+    }
+    false
+}
+
 // What a word of a state that no state line has may have been meant for.
 fn of_state_word(draft: &mut Draft, line: &str, word: &str, number: usize) {
     if is_word(line, number.saturating_add(1), "=") {
         return draft.add_line("KEY=VALUE is one word: no spaces stand around `=`");
     }
     let is_said = match word.split_once("=") {
-        Some(("power", value)) => {
-            add_suggestion(draft, value, word);
-            true
-        }
+        Some(("power", value)) => add_power(draft, value, word),
         Some((key, value)) => add_nearest_key_of_state(draft, key, value),
         None => add_nearest(draft, STATE_WORDS, word),
     };

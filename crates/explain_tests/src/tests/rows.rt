@@ -101,6 +101,9 @@ expect within 60000 of film @avrr>0 standby|@avrr>0|`avrr`: did you mean `avr`?
 expect within 60000 of film @p1>@dvd standby|@p1>@dvd|the topology has `tv`, `avr`, `p1`, `dut`
 expect within 60000 of film @p1>@tv standbi|standbi|`standbi`: did you mean `standby`?
 expect state 1000000 tv active = 1.2.0.0|active|KEY=VALUE is one word: no spaces stand around `=`
+expect state 1000000 tv power=on|power=on|`power=on`: did you mean `on`?
+expect state 1000000 tv power=Standby|power=Standby|`power=Standby`: did you mean `standby`?
+expect state 1000000 tv power=off|power=off|no state line has the word `power=off`
 expect refused film nonsense|nonsense|WORD is one with which an event is refused: `port-range` `port-taken` `not-loose` `loop` `not-plugged` `not-for-kind` `off-wire` `queue-full` `own-address` `no-address`
 expect refused not-for-kin|not-for-kin|`not-for-kin`: did you mean `not-for-kind`?
 expect refuse not-for-kind|refuse|`refuse`: did you mean `refused`?
