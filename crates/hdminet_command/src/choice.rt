@@ -239,10 +239,15 @@ fn explanation(words: &[String]) -> &'static str {
     }
 }
 
-// The word that is refused where no more words are taken, as an error quotes it: a file's name, and no flag.
+// The word that an error quotes after a text.
+fn quoted_after<'a>(error: &'a str, before: &str) -> Option<&'a str> {
+    let (word, _) = error.strip_prefix(before)?.split_once("'")?;
+    Some(word)
+}
+
+// A word where no more words are taken: a file's name, and no flag.
 fn refused_word(error: &str) -> Option<&str> {
-    let quoted = error.strip_prefix("error: unexpected argument '")?;
-    let (word, _) = quoted.split_once("' found")?;
+    let word = quoted_after(error, "error: unexpected argument '")?;
     if word.starts_with("-") {
         None
     } else {
@@ -250,10 +255,32 @@ fn refused_word(error: &str) -> Option<&str> {
     }
 }
 
-// Adds the words of a command line after the program's name, each after a space, but for a file's name.
+// A word in the place of a subcommand that is a file's name.
+fn refused_file(error: &str) -> Option<&str> {
+    let word = quoted_after(error, "error: unrecognized subcommand '")?;
+    if word.contains(".") || word.contains("/") {
+        Some(word)
+    } else {
+        None
+    }
+}
+
+// A file's name among the words of a command line, by the error.
+fn file_in(error: &str) -> Option<&str> {
+    match refused_word(error) {
+        Some(word) => Some(word),
+        None => refused_file(error),
+    }
+}
+
+// Adds the words of a command line after the program's name, each after a space, but for a file's name and what follows it up to
+// the next flag.
 fn add_words_but(words: &[String], file: &str, text: &mut String) -> Result<(), AllocError> {
+    let mut is_left_out = false;
     for word in words.iter().skip(1) {
-        if word.as_str() != file {
+        let follows = is_left_out && !word.as_str().starts_with("-");
+        is_left_out = follows || word.as_str() == file;
+        if !is_left_out {
             text.push_str(" ")?;
             text.push_str(word.as_str())?;
         }
@@ -271,7 +298,7 @@ fn with_input(alloc: Global, words: &[String], file: &str) -> Result<String, All
 
 // What is often meant by words that are refused so: a file's name, of which the input is, and `help`.
 fn meant(alloc: Global, error: &str, words: &[String]) -> Result<String, AllocError> {
-    match refused_word(error) {
+    match file_in(error) {
         Some(file) => with_input(alloc, words, file),
         None if error.starts_with("error: unrecognized subcommand 'help'") => {
             String::from_str(alloc, help::HELP_WORD)
