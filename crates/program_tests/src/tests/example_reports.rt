@@ -32,9 +32,9 @@ label film at 2000000 press p2 play
 label on expect within 60000 of film @p2>@tv image-view-on ack
 expect once within 200000 of on @p2>f active-source 1.2.0.0 ok
 expect none within 400000 of film @p1>f active-source
-expect within 60000 of film @p1>@tv image-view-on
 label ask at 2500000 send tv @tv>@p1 give-device-power-status
 expect within 150000 of ask @p1>@tv report-power-status
+expect within 60000 of film @p1>@tv image-view-on
 end 3000000
 ";
 
@@ -120,10 +120,10 @@ TAP version 13
 ok 1 - line 2: label on expect within 60000 of film @p2>@tv image-view-on ack
 ok 2 - line 3: expect once within 200000 of on @p2>f active-source 1.2.0.0 ok
 ok 3 - line 4: expect none within 400000 of film @p1>f active-source
-not ok 4 - line 5: expect within 60000 of film @p1>@tv image-view-on
+ok 4 - line 6: expect within 150000 of ask @p1>@tv report-power-status
+not ok 5 - line 7: expect within 60000 of film @p1>@tv image-view-on
 # seen 0 from 2000000 to 2060000
 # 2000000 2051150 complete 8>0 image-view-on ack by p2 out -
-ok 5 - line 7: expect within 150000 of ask @p1>@tv report-power-status
 1..5
 ";
 
