@@ -250,7 +250,7 @@ def addresses(topo):
     return res
 
 
-def with_names(r, line, names):
+def send_named(r, line, names):
     """a script's line; of a `send`, names now and then in the place of addresses"""
     w = line.split(' ')
     if len(w) < 5 or w[2] != 'send' or r.random() < .7 or not re.fullmatch('[0-9a-f]>[0-9a-f]', w[4]): return line
@@ -313,7 +313,7 @@ def gen_script(r, topo, names, ports, kinds, feat=False):
             ls.append('at %d send %s %s' % (t, names[j], gen_frame(r, adr.get(names[j], (None, '-'))[0], la, near, r.choice([0x46, 0x8F, 0x9F, 0x83]))))
         t += r.choice([1, 4000000])
     end = t + r.choice([1, 1000, 100000, 1000000, 2000000])
-    return [with_names(r, l, names) for l in ls], start, end
+    return [send_named(r, l, names) for l in ls], start, end
 
 
 def gen_pulses(r, end, n=None):
