@@ -3,7 +3,7 @@ use Rattle.std.proofs.Common.{◌≡◌, ℕ, zero, suc, ◌+◌, ◌-◌, ◌*�
 use Rattle.std.specs.List.{flat_map}
 use Rattle.std.proofs.lemmas.Bool.Decides.{nat_tests}
 use Rattle.std.proofs.lemmas.List.Elements.{All-push}
-use Rattle.cec_sweep.specs.Progress.{IsHeardAll, IsHeardTo, IsProgress, IsTold, first_instants, told_each}
+use Rattle.cec_sweep.specs.Progress.{IsHeardAll, IsHeardSome, IsHeardTo, IsProgress, IsTold, first_instants, told_each}
 use Rattle.cec_sweep.specs.Series.{Series, instants, instants_from, instants_of}
 use Rattle.cec_sweep.specs.Stretches.{AreStretches, DifferInTurn, IsFound, Stretch, StretchesDraft, are_same, first_draft, instants_in, longer, next, with_instant}
 use Rattle.cec_sweep.specs.declared.progress.Progress.{Progress}
@@ -68,6 +68,14 @@ told_more {H} hears Found s d e count old mid new all is one heard told =
     let n : d.done ≡ e.done - 1 = omega (arith, one) in
     subst (λ m. IsHeardTo hears Found s (m / told_each) old new) n
     (told_by hears Found s d.done (record { done = d.done; count = count; stretches = d.stretches }) (d.done % told_each == 0) old mid new refl least (progress_is Found s d count all is) heard told)
+
+-- where the next instant is refused, or memory runs out
+pub heard_some : {H : Type 0} (hears : H → Progress → H → Type 0) (Found : ℕ → List Bool → Type 0) (s : Series) (d : StretchesDraft) (count : ℕ) (old mid new : H)
+    → count ≡ length (instants_of s) → IsDraft Found s d → IsHeardTo hears Found s ((d.done - 1) / told_each) old mid
+    → IsTold hears (d.done % told_each == 0) mid (record { done = d.done; count = count; stretches = d.stretches }) new → IsHeardSome hears Found s old new
+heard_some {H} hears Found s d count old mid new all is heard told =
+    let least : 1 ≤ d.done = omega (arith, is.done) in
+    (d.done / told_each, told_by hears Found s d.done (record { done = d.done; count = count; stretches = d.stretches }) (d.done % told_each == 0) old mid new refl least (progress_is Found s d count all is) heard told)
 
 -- ---- after the last
 

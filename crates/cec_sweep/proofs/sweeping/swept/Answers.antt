@@ -3,7 +3,7 @@ use Rattle.cec_sweep.specs.Stretches.{StretchesDraft, draft_as}
 use Rattle.cec_sweep.specs.Sweep.{AreVerdictsAt}
 use Rattle.cec_sweep.proofs.Refused.{refused_first, refused_later}
 use Rattle.cec_sweep.proofs.Stretching.{draft_begun, draft_ended, draft_more, last_is}
-use Rattle.cec_sweep.proofs.Telling.{begun_heard, heard_all, one_more, told_more}
+use Rattle.cec_sweep.proofs.Telling.{begun_heard, heard_all, heard_some, one_more, told_more}
 use Rattle.cec_sweep.proofs.sweeping.swept.Goals as goal
 
 pub returns-in-Err-clause-reported : goal.returns-in-Err-clause-reported
@@ -49,3 +49,13 @@ pub returns-in-Ok-end-clause-heard : goal.returns-in-Ok-end-clause-heard
 returns-in-Ok-end-clause-heard g c =
     heard_all g.H.Hearer.hears (AreVerdictsAt c.args.topology.now c.args.script.now) c.args.series.now (draft_as c.instants.draft) c.instants.at c.step-step.result c.to-to.result c.args.hearer.now c.instants.hearer
     c.step-step.ensures.step c.to-to.ensures.to c.instants.invariant.last c.step-step.ensures.series.moves c.instants-test.false c.instants.invariant.is c.instants.invariant.heard
+
+pub returns-in-Err-verdicts_at-clause-heard_some : goal.returns-in-Err-verdicts_at-clause-heard_some
+returns-in-Err-verdicts_at-clause-heard_some g c =
+    heard_some g.H.Hearer.hears (AreVerdictsAt c.args.topology.now c.args.script.now) c.args.series.now (draft_as c.instants.draft) c.count-count.result c.args.hearer.now c.instants.hearer c.tell.new.hearer
+    c.count-count.ensures c.instants.invariant.is c.instants.invariant.heard c.tell.ensures
+
+pub returns-in-Err-add-clause-heard_some : goal.returns-in-Err-add-clause-heard_some
+returns-in-Err-add-clause-heard_some g c =
+    heard_some g.H.Hearer.hears (AreVerdictsAt c.args.topology.now c.args.script.now) c.args.series.now (draft_as c.instants.draft) c.count-count.result c.args.hearer.now c.instants.hearer c.tell.new.hearer
+    c.count-count.ensures c.instants.invariant.is c.instants.invariant.heard c.tell.ensures
