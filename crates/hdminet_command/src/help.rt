@@ -569,6 +569,10 @@ pub const EDID_FLAGS: &[(&str, &str)] = &[
         "Reads an EDID's text, and prints its bytes as one line of hex",
     ),
     (
+        "words",
+        "Reads an EDID's text with payloads in words, as `video 16* 4 3`",
+    ),
+    (
         "hex",
         "Reads a hex dump of the EDID, as xxd, hexdump, od or edid-decode print it",
     ),
@@ -635,13 +639,13 @@ pub const EDID_VALUES: &[(&str, &str, &str)] = &[
 ];
 
 pub const EDID_RULES: &str = "
-  of --text and --hex one is given at most, of --raw, --check, --meaning,
+  of --text, --words and --hex one is given at most, of --raw, --check, --meaning,
   --only-address and --ddc, of --address and --port, and of --eeodb and --as-source
   --address takes an address as 1.0.0.0, --port 1 to 15, --below amp,
   --speakers own, --nth a number from 1, --rows KIND=ROW, a comma apart
   --below goes with --port alone, --speakers with --below alone, --nth with
-  --hex alone, --rows with --merge alone, which goes with none of --text, --nth,
-  --eeodb and --as-source
+  --hex alone, --rows with --merge alone, which goes with none of --text, --words,
+  --nth, --eeodb and --as-source
 ";
 
 pub const EDID_HELP: &str = "\
@@ -676,6 +680,13 @@ The remarks to the right are no part of the text.
 To see an EDID, and to make the bytes again:
   ./hdminet edid < tv.edid > tv.txt
   ./hdminet edid --text --raw < tv.txt > tv.edid
+
+With --words it is a text in which these lines may have words in place of hex, which they stand for:
+  video 16* 4 3                        video codes, `*` after a native one
+  audio pcm 2 32,44.1,48 16,20,24      format, channels, kHz, and sizes, kbit/s, or a byte in hex
+  speakers FL/FR LFE FC                in this order
+One word of hex digits, two for each byte, is hex: `video 16` is code 22. The same text, in hex:
+  ./hdminet edid --words --raw < tv.txt | ./hdminet edid
 
 With --hex the input is a hex dump: plain digits, or as `xxd`, `hexdump`, `od`, `i2cdump` and `edid-decode`
 print it, or a list of bytes, as programs and registries have it, or with other text around, as
@@ -740,8 +751,8 @@ Faults: `edid: CAUSE` with length, count (byte 126 does not tell the extensions)
 checksum, base revision, base maker or ext N checksum, and no-hdmi-block where there is no place for an
 address; `dump: none`, `dump: cut N` or `dump: long N` with --hex, where no line begins an EDID, or line N
 does not go on with it, or goes past 512 bytes; `merge: CAUSE` with display or receiver and the cause of that
-EDID, or one-cta (not one extension has data blocks), or long (they have no room); `edid: a rule fails` after the rules of --check; with --text `text: syntax N` or
-`text: field N`, for the first line that no EDID's text has there. Nothing is written then.
+EDID, or one-cta (not one extension has data blocks), or long (they have no room); `edid: a rule fails` after the rules of --check; with --text or
+--words `text: syntax N` or `text: field N`, for the first line that no EDID's text has there. Nothing is written then.
 
 Exit status: 0 done; 1 input refused; 2 command line refused; 3 a read or write fault, or input
 past 1048576 bytes; 4 no memory; 5 a rule fails.";

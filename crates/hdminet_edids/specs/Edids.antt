@@ -29,6 +29,7 @@ use Rattle.hdmi_merge.specs.Merge.{IsAnswer}
 use Rattle.hdmi_merge.specs.Speakers.{IsSpoken}
 use Rattle.hdmi_source.specs.Count.{counted, first_count, with_count}
 use Rattle.hdmi_source.specs.Source.{as_source}
+use Rattle.hdmi_spelling.specs.Canonical.{canonical_text}
 use Rattle.hdminet_words.specs.declared.choice.Reading.{Reading}
 use Rattle.hdminet_words.specs.declared.choice.Reading.TheVariants.{Strict, Overridden, AsSource}
 use Rattle.hdminet_words.specs.declared.choice.Recipient.{Recipient}
@@ -166,6 +167,7 @@ abbrev pub IsRead : Source → List ℕ → List ℕ → Type 0
 IsRead sources.Bytes input given = given ≡ input
 IsRead (sources.Dump nth) input given = nth_in_dump nth input ≡ Ok given
 IsRead sources.Text input given = (e : Edid) × (edid_text e ≡ plain_text input) × (given ≡ edid_bytes e)
+IsRead sources.Words input given = (e : Edid) × (edid_text e ≡ canonical_text (plain_text input)) × (given ≡ edid_bytes e)
 IsRead (sources.Pair true table) input given =
     (display : List ℕ) × (own : List ℕ) × (nth_in_dump 1 input ≡ Ok display) × (nth_in_dump 2 input ≡ Ok own) × IsAnswer table display own given
 IsRead (sources.Pair false table) input given = IsAnswer table (display_half input) (own_half input) given
@@ -176,6 +178,7 @@ kept_count sources.Bytes given = slice_index given 126
 kept_count (sources.Dump nth) given = slice_index given 126
 kept_count (sources.Pair dumps table) given = slice_index given 126
 kept_count sources.Text given = first_count given
+kept_count sources.Words given = first_count given
 
 -- a view is written, and nothing else
 abbrev pub Shows : View → List ℕ → Option (List ℕ) → Option (List ℕ) → Type 0

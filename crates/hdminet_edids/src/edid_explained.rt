@@ -145,7 +145,7 @@ pub fn name_read<E: Sink>(alloc: Global, choice: Choice, input: &[u8], err: &mut
     match source {
         Source::Dump { nth } => name_one(nth, input, err),
         Source::Pair { dumps: true, .. } => name_two(input, err),
-        Source::Bytes | Source::Text | Source::Pair { .. } => {}
+        Source::Bytes | Source::Text | Source::Words | Source::Pair { .. } => {}
     }
     if let Reading::AsSource = reading {
         name_mended(alloc, source, input, err);

@@ -14,6 +14,7 @@ use hdmi_dumps::nth_dump_bytes;
 use hdmi_edtext::{TextError, parse_text};
 use hdmi_merge::{Table, merge_bytes};
 use hdmi_source::first_count;
+use hdmi_spelling::{canonical_text, in_words};
 use hdminet_faults::ProgramFault;
 use hdminet_words::Source;
 use std::alloc::Global;
@@ -80,6 +81,65 @@ fn given_of_text(alloc: Global, text: &[u8]) -> Result<Vec<u8>, ProgramFault>
 {
     let plain = plain_text(alloc, text)?;
     bytes_of_plain(alloc, text, plain.as_slice())
+}
+
+// The word at fault of a line that is in words.
+fn word_in(line: &[u8]) -> Option<usize> {
+    match &in_words(line) {
+        Err(word) if *word > 0 => Some(*word),
+        _ => None,
+    }
+}
+
+// The word at fault of the line with this number, from 1, where it is in words.
+fn word_of_line(text: &[u8], number: usize) -> Option<usize> {
+    let mut passed = 0usize;
+    for line in text.split(|byte| *byte == b'\n') {
+        passed = passed.saturating_add(1);
+        if passed == number {
+            return word_in(line);
+        }
+    }
+    None
+}
+
+// A fault of a text with payloads in hex, with the word at fault of the text in which they may stand in words.
+fn in_words_of(plain: &[u8], error: TextError) -> TextError {
+    match error {
+        TextError::Field { line, word } => TextError::Field {
+            line,
+            word: word_of_line(plain, line).unwrap_or(word),
+        },
+        TextError::Syntax(_) | TextError::Memory => error,
+    }
+}
+
+// The bytes of the EDID of a text's plain lines, of which this is the text with payloads in hex.
+fn bytes_of_words(
+    alloc: Global,
+    text: &[u8],
+    plain: &[u8],
+    canonical: &[u8],
+) -> Result<Vec<u8>, ProgramFault>
+    ensures { IfOk result (λ given. (e : EdidValue) × (edid_text e ≡ canonical.now) × (given.items ≡ edid_bytes e)) }
+{
+    match &parse_text(alloc, canonical) {
+        Ok(edid) => Ok(edid_to_bytes(edid).as_slice().to_vec(alloc)?),
+        Err(error) => Err(ProgramFault::TextToHex(TextToHexError::from(among_all(
+            text,
+            in_words_of(plain, *error),
+        )))),
+    }
+}
+
+// The bytes of the EDID of a text in which payloads may stand in words.
+#[inline(never)]
+fn given_of_words(alloc: Global, text: &[u8]) -> Result<Vec<u8>, ProgramFault>
+    ensures { IfOk result (λ given. IsRead Source.Words text.now given.items) }
+{
+    let plain = plain_text(alloc, text)?;
+    let canonical = canonical_text(alloc, plain.as_slice())?;
+    bytes_of_words(alloc, text, plain.as_slice(), canonical.as_slice())
 }
 
 // The bytes of the EDID that a receiver answers with, of those of a display's and of its own.
@@ -152,6 +212,7 @@ pub fn given_of(alloc: Global, source: Source, input: &[u8]) -> Result<Vec<u8>, 
         Source::Bytes => Ok(input.to_vec(alloc)?),
         Source::Dump { nth } => given_of_dump(alloc, nth, input),
         Source::Text => given_of_text(alloc, input),
+        Source::Words => given_of_words(alloc, input),
         Source::Pair { dumps, table } => given_of_pair(alloc, dumps, table, input),
     }
 }
@@ -162,6 +223,6 @@ pub fn kept_count(source: Source, given: &[u8]) -> u8
 {
     match source {
         Source::Bytes | Source::Dump { .. } | Source::Pair { .. } => byte_at(given, COUNT),
-        Source::Text => first_count(given),
+        Source::Text | Source::Words => first_count(given),
     }
 }

@@ -37,7 +37,7 @@ pub fn input_of(choice: Choice) -> Input {
         Choice::Edid { source, .. } => match source {
             Source::Bytes | Source::Pair { dumps: false, .. } => Input::EdidBytes,
             Source::Dump { .. } | Source::Pair { dumps: true, .. } => Input::Lines,
-            Source::Text => Input::EdidText,
+            Source::Text | Source::Words => Input::EdidText,
         },
     }
 }

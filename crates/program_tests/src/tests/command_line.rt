@@ -214,6 +214,8 @@ edid --below=tv --port=1
 run tv.net
 asm --text
 edid --hex --text
+edid --words --text
+edid --words --nth 1
 edid --address
 edid --address 1.0.0
 edid --port 0
@@ -236,6 +238,7 @@ edid --merge --rows=video
 edid --merge --rows sound=own
 edid --merge --rows video=own,
 edid --merge --text
+edid --merge --words
 edid --merge --hex --nth 2
 edid --merge --eeodb
 edid --ddc --raw

@@ -253,19 +253,33 @@ edid 1.3 => # an EDID;edid 1.3 => syntax 1
 name \"LOUNGE TV 001\" => raw 000000fc004c4f554e474520545620303031 => field 21
 ";
 
+/// The same where payloads may stand in words: the line of words at fault, and one that may not stand there.
+const CHANGED_WORDS: &str = "\
+video 900403 => video 65* 4 => field 25
+video 900403 => video 16* 4 3 x => field 25
+audio 090707 => audio pcm 9 48 16 => field 26
+speakers 010000 => speakers LFE FL/FR => field 27
+made 10 2011 => made 10 2300 => field 5
+cta f1 => video 16* x => syntax 24
+tail -; =>  => syntax 29
+";
+
 /// The text of both blocks with this change is refused so.
-fn is_no_text(rt: &(impl Abort + AllocGlobal), name: &str) {
+fn is_no_text(rt: &(impl Abort + AllocGlobal), line: &str, name: &str) {
     let (from, to, cause) = three_parts(rt, name);
     let (from, to) = (with_lines(rt, from), with_lines(rt, to));
     let text = changed_text(rt, from.as_str(), to.as_str());
     let fault = format!(in rt.alloc(); "text: {cause}").expect(rt, "a fault");
-    refuses(rt, "edid --text", name, text.as_bytes(), fault.as_str());
+    refuses(rt, line, name, text.as_bytes(), fault.as_str());
 }
 
 #[test]
 fn names_the_line_of_a_text(rt: HostRuntime) {
     for case in CHANGED_TEXTS.lines() {
-        is_no_text(&rt, case);
+        is_no_text(&rt, "edid --text", case);
+    }
+    for case in CHANGED_WORDS.lines() {
+        is_no_text(&rt, "edid --words", case);
     }
     refuses(&rt, "edid --text", "no text", b"", "text: syntax 1");
 }

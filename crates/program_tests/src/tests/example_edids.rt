@@ -194,6 +194,39 @@ extended 00cf
 tail -
 ";
 
+const LIVING_ROOM_WORDS: &str = "\
+edid 1.3
+maker SAM
+product 258
+serial 1
+made 10 2011
+input 80
+size 52 29
+gamma 120
+features 0e
+chroma 655 338 307 614 154 61 320 337
+established 200000
+standard unused
+standard unused
+standard unused
+standard unused
+standard unused
+standard unused
+standard unused
+standard unused
+timing 14850 1920 280 1080 45 88 44 4 5 520 290 0 0 1e
+timing 7425 1280 370 720 30 110 40 5 5 520 290 0 0 1e
+name \"LOUNGE TV\"
+range 00173d0f440f000a202020202020
+cta f1
+video 16* 4 3 1
+audio pcm 2 32,44.1,48 16,20,24
+speakers FL/FR
+hdmi 0.0.0.0 -
+extended 004f
+tail -
+";
+
 const DENON_AVR_X2300W_MEANING: &str = "\
 edid 1.3
 maker DON
@@ -450,6 +483,12 @@ const TEXTS: &[Case<'static>] = &[
         line: "edid --text",
         input: OVERSCAN_EDID_TXT,
         want: OVERSCAN_EDID,
+    },
+    Case {
+        name: "living-room in words",
+        line: "edid --words",
+        input: LIVING_ROOM_WORDS,
+        want: LIVING_ROOM_EDID,
     },
 ];
 
