@@ -1,5 +1,5 @@
 -- The known turns of a session, and the round that is on, in a run that may still come.
-use Rattle.std.proofs.Common.{◌≡◌, ℕ, zero, suc, ◌+◌, ◌<◌, ◌≤◌, Bool, true, false, ◌||◌, nat_lt, nat_le, if◌then◌else◌, max, List, [], ◌∷◌, ◌++◌, ◌⊎◌, filter, length, slice_index_or, inl, inr, Option, Some, None, refl, sym, ap, ap₂, ◌∙◌, subst, arith, append-nil, append_assoc}
+use Rattle.std.proofs.Common.{◌≡◌, ℕ, zero, suc, ◌+◌, ◌<◌, ◌≤◌, Bool, true, false, ◌||◌, nat_lt, if◌then◌else◌, max, List, [], ◌∷◌, ◌++◌, ◌⊎◌, filter, length, slice_index_or, inl, inr, Option, Some, None, refl, sym, ap, ap₂, ◌∙◌, subst, arith, append-nil, append_assoc}
 use Rattle.std.specs.List.{All, list_any}
 use Rattle.std.proofs.lemmas.Bool.{cases_lt}
 use Rattle.std.proofs.lemmas.Bool.Decides.{nat_tests}
@@ -20,9 +20,9 @@ use Rattle.cec_net.specs.Framed.{AreFramed}
 use Rattle.cec_net.specs.Start.{first_onset, least_start}
 use Rattle.cec_net.specs.Taken.{IsOn, RoundsTakePulses}
 use Rattle.cec_net.specs.State.{NetState, next_start}
-use Rattle.cec_net.specs.Step.{after_round, seats_of, IsNextRound}
+use Rattle.cec_net.specs.Step.{seats_of, IsNextRound}
 use Rattle.cec_net.specs.Apply.{net_after}
-use Rattle.cec_net.specs.Line.{run_wave, rounds_of, AreFollowing, ComesAfter, GoesFrom, RunsAreInOrder, RunsAreWaves}
+use Rattle.cec_net.specs.Line.{run_wave, AreFollowing, ComesAfter, GoesFrom, RunsAreInOrder, RunsAreWaves}
 use Rattle.cec_run.specs.declared.run.Reporting.TheVariants.{Trace}
 use Rattle.cec_run.specs.declared.run.Turn.{Turn}
 use Rattle.cec_run.specs.declared.run.Turn.TheVariants.{Stop, Apply, Round}
@@ -31,7 +31,7 @@ use Rattle.cec_run.specs.RunLine.{rounds_by}
 use Rattle.cec_certain.specs.Certain.{ComesFrom, IsHeld, IsHeldBy, IsOverBy, LeadsBy, with_more, with_pulses}
 use Rattle.cec_session.specs.declared.edges.Span.{Span}
 use Rattle.cec_session.specs.Edges.{edges_reported, pinned, pinned_by}
-use Rattle.cec_session.specs.Turns.{AreEdgesOf, HasEdges, LeadsWith, MayCome, certain_until}
+use Rattle.cec_session.specs.Turns.{AreEdgesOf, LeadsWith, MayCome, certain_until}
 use Rattle.cec_session.specs.Told.{edges_in}
 use Rattle.cec_session.proofs.Below.{begun, event_keeps, is_late, later_pulses, no_turn, one_outcome, one_turn, round_begins, round_more, round_same, same_outcome, seats_fit, turns_are_certain, until_by}
 use Rattle.cec_session.proofs.EdgesOf.{edges_append, wave_from, FirstFrom}
@@ -39,7 +39,7 @@ use Rattle.cec_session.proofs.PinnedEdges.{pinned_after, pinned_before, pinned_w
 use Rattle.cec_session.proofs.SameEdges.{Agree, quiet, same_edges}
 use Rattle.cec_session.proofs.Wholly.{comes_from}
 use Rattle.cec_session.proofs.LaterStarts.{AreLate, From, from_none, from_right, from_some, late_event, late_next, late_of}
-use Rattle.cec_session.proofs.Moving.{AreLone, AreRising, AreRisingFrom, IsKnown, IsMoved, IsRunning, RunsTo, moved, running_turn}
+use Rattle.cec_session.proofs.Moving.{AreRising, AreRisingFrom, IsKnown, IsMoved, IsRunning, RunsTo, moved, running_turn}
 
 -- ---- rounds that have closed before an instant
 

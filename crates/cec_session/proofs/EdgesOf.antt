@@ -1,5 +1,5 @@
 -- The edges of the lines of rounds that lie in a span.
-use Rattle.std.proofs.Common.{◌≡◌, ℕ, zero, suc, ◌+◌, ◌-◌, ◌<◌, ◌≤◌, Bool, true, false, ◌&&◌, ◌||◌, nat_lt, nat_le, if◌then◌else◌, List, [], ◌∷◌, ◌++◌, inl, inr, refl, sym, ap, ap₂, ◌∙◌, subst, arith, append_assoc, append-nil}
+use Rattle.std.proofs.Common.{◌≡◌, ℕ, ◌+◌, ◌-◌, ◌<◌, ◌≤◌, Bool, true, false, ◌&&◌, ◌||◌, nat_lt, nat_le, if◌then◌else◌, List, [], ◌∷◌, ◌++◌, inl, inr, refl, sym, ap, ap₂, ◌∙◌, arith}
 use Rattle.std.proofs.lemmas.Bool.{cases_lt}
 use Rattle.std.proofs.lemmas.Bool.Decides.{nat_tests}
 use Rattle.std.proofs.lemmas.Grind.{flat_map-append}
@@ -8,7 +8,7 @@ use Rattle.cec_wave.specs.Line.{IsWave, IsWaveFrom, covers, line_of}
 use Rattle.cec_wire.specs.declared.Outcome.{Outcome}
 use Rattle.cec_net.specs.Line.{run_wave}
 use Rattle.cec_session.specs.declared.edges.Span.{Span}
-use Rattle.cec_session.specs.Edges.{edge_line, edge_reported, edges_reported, is_in, stretch_reported}
+use Rattle.cec_session.specs.Edges.{edge_line, edge_reported, edges_reported, stretch_reported}
 use Rattle.cec_session.proofs.Moving.{AreLone}
 
 pub edges_append : (span : Span) (xs ys : List Stretch) → edges_reported span (xs ++ ys) ≡ edges_reported span xs ++ edges_reported span ys

@@ -25,11 +25,11 @@ use Rattle.cec_session.specs.Edges.{edges_reported}
 use Rattle.cec_session.specs.Turns.{AreEdgesOf, LeadsWith, certain_until}
 use Rattle.cec_session.specs.Session.{Session, SessionGoes, with_line_counted, IsDue}
 use Rattle.cec_session.specs.Told.{AreOn, EdgesAreTold, edges_gone, edges_in, told_in, told_of}
-use Rattle.cec_session.specs.Whole.{IsLine, AreLines}
+use Rattle.cec_session.specs.Whole.{AreLines}
 use Rattle.cec_session.proofs.Below.{no_turn, one_outcome, one_turn, same_outcome}
 use Rattle.cec_session.proofs.Coming.{Laws, waves_append}
 use Rattle.cec_session.proofs.Moving.{AreLone, RunsTo}
-use Rattle.cec_session.proofs.Telling.{Future, IsLeft, IsWhole, due_keeps, filed, future_asked, future_of, has_come, left, line_reached, line_told, lone_front, none_past, nothing, spans, still_going}
+use Rattle.cec_session.proofs.Telling.{Future, IsLeft, IsWhole, due_keeps, filed, future_of, has_come, left, line_reached, line_told, lone_front, none_past, nothing, spans, still_going}
 use Rattle.cec_session.proofs.Wholly.{AreSound, Asked, Reached, SoFar, all_lines, asked_by, certain_by, counted, reached, same_place}
 
 -- ---- all turns that are left

@@ -1,6 +1,6 @@
 -- What the lines of a session tell of edges is in every run that may still come.
 use Rattle.std.proofs.Common.{◌≡◌, ℕ, zero, suc, ◌+◌, ◌<◌, ◌≤◌, ◌&&◌, ◌||◌, max, Bool, true, false, nat_lt, nat_le, if◌then◌else◌, List, [], ◌∷◌, ◌++◌, length, inl, inr, Option, Some, None, Result, Ok, Err, refl, sym, ap, ap₂, subst, ◌∙◌, arith, append-nil, append_assoc}
-use Rattle.std.specs.List.{All, list_any}
+use Rattle.std.specs.List.{list_any}
 use Rattle.std.proofs.lemmas.Bool.{cases_lt}
 use Rattle.std.proofs.lemmas.Bool.Decides.{nat_tests}
 use Rattle.std.proofs.lemmas.List.Elements.{All-append, All-nil}
@@ -9,12 +9,10 @@ use Rattle.cec_wave.specs.declared.Stretch.{Stretch}
 use Rattle.cec_wave.specs.Line.{IsWave, IsWaveFrom}
 use Rattle.cec_wave.specs.Bounds.{latest_event}
 use Rattle.cec_wire.specs.declared.Outcome.{Outcome}
-use Rattle.cec_wire.specs.Round.{close_in}
-use Rattle.cec_wire.specs.Alone.{RoundsAreLone}
 use Rattle.hdmi_topo.specs.Node.{Node}
 use Rattle.hdmi_blocks.specs.declared.edid.Edid.{Edid}
 use Rattle.cec_net.specs.State.{first_net}
-use Rattle.cec_net.specs.Line.{run_wave, RunsAreInOrder, RunsAreWaves}
+use Rattle.cec_net.specs.Line.{run_wave}
 use Rattle.cec_asm.specs.Script.{Notes, AreFramedEvents, IsLineRead, last_time}
 use Rattle.cec_asm.specs.declared.script.ScriptCause.TheVariants.{Name, Number}
 use Rattle.cec_asm.specs.declared.script.TimedEvent.{TimedEvent}
@@ -39,13 +37,13 @@ use Rattle.cec_session.specs.declared.edges.Span.{Span}
 use Rattle.cec_session.specs.declared.live.Step.{Step}
 use Rattle.cec_session.specs.declared.live.Step.TheVariants.{Refuse, Idle, Show, Go, Edge, Finish}
 use Rattle.cec_session.specs.Command.{command_of}
-use Rattle.cec_session.specs.Edges.{edge_line, edge_reported, edges_reported, stretch_reported}
-use Rattle.cec_session.specs.Turns.{AreEdgesOf, GoesWith, LeadsWith, MayCome, certain_until}
-use Rattle.cec_session.specs.Session.{Session, SessionGoes, first_session, horizon_by, is_given_before, is_late, is_past, new_events, new_pulses, refuse, refuses_pulse, rises_before, span_of, standing, standing_with, step_by, step_noted, step_show, step_to, step_wait, after_to, after_wait, with_line_counted, with_standing, IsDue, IsEdgeStep, IsEdgeStepBy, IsStepBy}
+use Rattle.cec_session.specs.Edges.{edge_line, edge_reported, edges_reported}
+use Rattle.cec_session.specs.Turns.{LeadsWith, MayCome, certain_until}
+use Rattle.cec_session.specs.Session.{Session, SessionGoes, is_given_before, is_late, is_past, new_events, new_pulses, refuse, refuses_pulse, rises_before, standing, standing_with, step_by, step_noted, step_show, step_to, step_wait, after_to, after_wait, with_line_counted, with_standing, IsDue, IsEdgeStep, IsEdgeStepBy, IsStepBy}
 use Rattle.cec_session.specs.Whole.{IsLine, AreLines, reported_of}
-use Rattle.cec_session.specs.Told.{AreOfFile, AreOn, EdgesAreCertain, LineEdgesAreCertain, edges_gone, edges_in, told_in, told_of}
+use Rattle.cec_session.specs.Told.{AreOn, EdgesAreCertain, LineEdgesAreCertain, edges_gone, told_in, told_of}
 use Rattle.cec_session.proofs.Below.{framed-started}
-use Rattle.cec_session.proofs.Coming.{AreEarly, AreOver, IsParted, Laws, parted, told_of_turns, told_on, waves_append}
+use Rattle.cec_session.proofs.Coming.{AreEarly, AreOver, Laws, parted, told_of_turns, told_on, waves_append}
 use Rattle.cec_session.proofs.Edging.{no_edges}
 use Rattle.cec_session.proofs.EdgesOf.{all_before, all_past, before, edges_append, past}
 use Rattle.cec_session.proofs.Extends.{line_extends}
