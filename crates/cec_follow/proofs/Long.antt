@@ -1,5 +1,5 @@
 -- Where no line could be read: a read failed, or too much came.
-use Rattle.std.proofs.Common.{◌≡◌, ◌≢◌, ℕ, suc, ◌+◌, ◌<◌, ◌==◌, ◌⊎◌, inl, inr, false, cond, if◌then◌else◌, List, [], ◌∷◌, ◌++◌, length, length-append, Option, Some, None, Err, refl, sym, ap, ◌∙◌, append_assoc, arith}
+use Rattle.std.proofs.Common.{◌≡◌, ◌≢◌, ℕ, suc, ◌+◌, ◌<◌, ◌==◌, ◌⊎◌, inl, inr, false, cond, if◌then◌else◌, List, [], ◌∷◌, ◌++◌, length, length-append, Option, Some, None, Result, Ok, Err, refl, sym, ap, subst, ◌∙◌, append_assoc, arith}
 use Rattle.std.specs.List.{slice_split, onto_first}
 use Rattle.std.specs.Io.KnownBytes.{Consumes}
 use Rattle.std.proofs.KnownBytes.{Appends-nil}
@@ -11,8 +11,9 @@ use Rattle.cec_bits.specs.declared.times.Windows.{Windows}
 use Rattle.cec_incoming.specs.Incoming.{IsNext, IsWhole, longest_line}
 use Rattle.cec_incoming.specs.declared.incoming.LineFault.{LineFault}
 use Rattle.cec_incoming.specs.declared.incoming.LineFault.TheVariants as line_fault
-use Rattle.cec_follow.specs.Follow.{Follows, HaveCome, line_error}
-use Rattle.cec_follow.specs.declared.error.FollowError.TheVariants.{TooLong}
+use Rattle.cec_follow.specs.Follow.{Follows, HoldsNothing, HaveCome, IsHandedOn, IsOfWriting, line_error}
+use Rattle.cec_follow.specs.declared.error.FollowError.{FollowError}
+use Rattle.cec_follow.specs.declared.error.FollowError.TheVariants.{Capture, Read, TooLong, Write}
 use Rattle.cec_follow.specs.declared.follower.Follower.{Follower}
 use Rattle.cec_follow.specs.declared.lines.LineForm.{LineForm}
 use Rattle.cec_follow.proofs.Written.{Come, Going, came_first, up_to_date}
@@ -88,3 +89,20 @@ lines_run_out form signal win known now before after f number g last = record {
   over = inr (let count = g.count in omega (arith, count, last), came_first known now g.past g.come);
   written = up_to_date form signal win known now before after after f number g (Appends-nil after);
 }
+
+-- ---- nothing is held back
+
+pub line_handed : (fault : LineFault) (error : FollowError) (pending : List ℕ) → error ≡ line_error fault → pending ≡ [] → IsHandedOn error pending
+line_handed line_fault.Read error pending is none = subst (λ (e : FollowError). IsHandedOn e pending) (sym is) none
+line_handed line_fault.TooLong error pending is none = subst (λ (e : FollowError). IsHandedOn e pending) (sym is) none
+
+pub writing_handed : (result : Result (Unit {0}) FollowError) (old new : List ℕ) → IsOfWriting result → HoldsNothing result old new
+writing_handed (Ok done) old new writes = tt
+writing_handed (Err (Write count)) old new writes = λ none. tt
+writing_handed (Err (Capture fault)) old new writes = absurd writes
+writing_handed (Err Read) old new writes = absurd writes
+writing_handed (Err TooLong) old new writes = absurd writes
+
+pub handed_after : (result : Result (Unit {0}) FollowError) (old mid new : List ℕ) → (old ≡ [] → mid ≡ []) → HoldsNothing result mid new → HoldsNothing result old new
+handed_after (Ok done) old mid new before h = tt
+handed_after (Err error) old mid new before h = λ none. h (before none)

@@ -1,5 +1,5 @@
 -- What is reported of a capture as its lines come: at each moment the front of the text of the whole, whatever comes later (own).
-use Rattle.std.specs.Prelude.{◌≡◌, ℕ, ◌+◌, ◌<◌, ◌≤◌, ◌⊎◌, Bool, true, false, List, [], ◌∷◌, ◌++◌, length, Option, Some, None, IfSome, Result, Ok, Err}
+use Rattle.std.specs.Prelude.{◌≡◌, ℕ, ◌+◌, ◌<◌, ◌≤◌, ◌⊎◌, Bool, true, false, List, [], ◌∷◌, ◌++◌, length, Option, Some, None, IfErr, IfSome, Result, Ok, Err}
 use Rattle.std.specs.Io.KnownBytes.{Appends}
 use Rattle.hdmi_core.specs.Lines.{lines_of}
 use Rattle.cec_wave.specs.declared.Edge.{Edge}
@@ -261,6 +261,17 @@ pub record StopsAtWrite (form : LineForm) (signal : List ℕ) (windows : Windows
   pub left : List ℕ
   pub over : IsOverBy form signal windows past next (text ++ (front ++ left)) (text ++ front)
   pub put : Appends old new (text ++ front)
+
+-- nothing is held back, but where a write failed
+abbrev pub IsHandedOn : FollowError → List ℕ → Type 0
+IsHandedOn (Capture fault) pending = pending ≡ []
+IsHandedOn Read pending = pending ≡ []
+IsHandedOn TooLong pending = pending ≡ []
+IsHandedOn (Write count) pending = Unit {0}
+
+-- where nothing was held back before
+abbrev pub HoldsNothing : Result (Unit {0}) FollowError → List ℕ → List ℕ → Type 0
+HoldsNothing result old new = IfErr result (λ error. old ≡ [] → IsHandedOn error new)
 
 -- why no line was read
 abbrev pub line_error : LineFault → FollowError

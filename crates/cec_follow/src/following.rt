@@ -6,7 +6,7 @@ ghost use Rattle.hdmi_core.specs.Buffered.{pending};
 ghost use Rattle.cec_bits.specs.Reports.{listed_as};
 ghost use Rattle.cec_bits.specs.Windows.{AreWindows};
 ghost use Rattle.cec_mon.specs.Watch.{reported_text};
-ghost use Rattle.cec_follow.specs.Follow.{Ends, Follows, Hears, IsOfWriting, IsReady, Puts, heard_text, line_error};
+ghost use Rattle.cec_follow.specs.Follow.{Ends, Follows, HoldsNothing, Hears, IsOfWriting, IsReady, Puts, heard_text, line_error};
 
 use crate::error::FollowError;
 use crate::follower::{Follower, Heard};
@@ -93,6 +93,7 @@ fn hear<S: Sink>(
     ensures hears { Hears signal.now number line.now follower.old follower.new (⟦<Buffered<S> as Sink>⟧.contents out.old) (⟦<Buffered<S> as Sink>⟧.contents out.new) result }
     ensures ready { OnOk result (IsReady follower.new) }
     ensures handed { OnOk result (pending out.new ≡ []) }
+    ensures kept { HoldsNothing result (pending out.old) (pending out.new) }
 {
     match follower.line(signal, number, line) {
         Err(fault) => Err(FollowError::Capture(fault)),
@@ -109,6 +110,7 @@ fn finish<S: Sink>(
     requires ready { IsReady follower }
     ensures ends { Ends number follower (⟦<Buffered<S> as Sink>⟧.contents out.old) (⟦<Buffered<S> as Sink>⟧.contents out.new) result }
     ensures handed { OnOk result (pending out.new ≡ []) }
+    ensures kept { HoldsNothing result (pending out.old) (pending out.new) }
 {
     match follower.end(number) {
         Err(fault) => Err(FollowError::Capture(fault)),
@@ -134,6 +136,7 @@ pub fn follow<R: Read, S: Sink>(
     requires { AreWindows windows }
     ensures follows { Follows form signal.now windows (R.remaining input.old) (⟦<Buffered<S> as Sink>⟧.contents out.old) (⟦<Buffered<S> as Sink>⟧.contents out.new) result }
     ensures handed { OnOk result (pending out.new ≡ []) }
+    ensures kept { HoldsNothing result (pending out.old) (pending out.new) }
 {
     let mut lines = Lines::new();
     let mut line = ArrayVec::new();

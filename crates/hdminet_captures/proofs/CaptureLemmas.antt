@@ -5,7 +5,7 @@ use Rattle.cec_bits.specs.declared.times.Windows.{Windows}
 use Rattle.cec_mon.proofs.FollowedEdges.{captured_standard}
 use Rattle.cec_mon.specs.Joined.{captured_by}
 use Rattle.cec_mon.specs.Watch.{readings_text}
-use Rattle.cec_follow.specs.Follow.{HasFollowed, Stops, text_of}
+use Rattle.cec_follow.specs.Follow.{HasFollowed, IsHandedOn, Stops, text_of}
 use Rattle.hdminet_captures.specs.Following.{FollowsTo, StopsSo, fault_of, form_followed}
 use Rattle.cec_follow.specs.declared.error.FollowError.{FollowError}
 use Rattle.cec_follow.specs.declared.lines.LineForm.{LineForm as FollowedForm}
@@ -47,10 +47,12 @@ follows_to form name margin windows known old below pending e none f = record {
 }
 
 -- or why it ends before
-pub stops_so : (form : LineForm) (name : List ℕ) (margin : ℕ) (followed : FollowedForm) (windows : Windows) (known old new : Option (List ℕ)) (error : FollowError) (fault : ProgramFault) → windows ≡ wider (min margin most_margin)
-    → followed ≡ form_followed form → fault ≡ fault_of error → Stops followed name windows known old new error → StopsSo form name margin known old new fault
-stops_so form name margin followed windows known old new error fault e is cause stops = record {
+pub stops_so : (form : LineForm) (name : List ℕ) (margin : ℕ) (followed : FollowedForm) (windows : Windows) (known old new : Option (List ℕ)) (before pending : List ℕ) (error : FollowError) (fault : ProgramFault) → windows ≡ wider (min margin most_margin)
+    → followed ≡ form_followed form → fault ≡ fault_of error → Stops followed name windows known old new error → (before ≡ [] → IsHandedOn error pending)
+    → StopsSo form name margin known old new before pending fault
+stops_so form name margin followed windows known old new before pending error fault e is cause stops handed = record {
   error = error;
   cause = cause;
   stops = subst (λ (f : FollowedForm). Stops f name (wider (min margin most_margin)) known old new error) is (subst (λ (w : Windows). Stops followed name w known old new error) e stops);
+  handed = handed;
 }

@@ -1,8 +1,8 @@
 -- What is written of a capture as its lines come (own).
-use Rattle.std.specs.Prelude.{◌≡◌, ℕ, min, false, List, Option, IfSome}
+use Rattle.std.specs.Prelude.{◌≡◌, ℕ, min, false, List, [], Option, IfSome}
 use Rattle.std.specs.Io.KnownBytes.{Appends}
 use Rattle.cec_bits.specs.Windows.{most_margin, wider}
-use Rattle.cec_follow.specs.Follow.{Stops}
+use Rattle.cec_follow.specs.Follow.{IsHandedOn, Stops}
 use Rattle.cec_follow.specs.Lines.{form_as}
 use Rattle.cec_follow.specs.declared.error.FollowError.{FollowError}
 use Rattle.cec_follow.specs.declared.error.FollowError.TheVariants as error
@@ -40,8 +40,10 @@ fault_of error.TooLong = faults.TooLong
 fault_of (error.Capture fault) = faults.Capture (Fault fault)
 fault_of (error.Write count) = faults.Write (record { count = count })
 
--- What is over by the lines that came is written, and nothing else; where a write failed, a front of what the last of them ends.
-pub record StopsSo (form : LineForm) (name : List ℕ) (margin : ℕ) (known old new : Option (List ℕ)) (fault : ProgramFault) : Type 0 where
+-- What is over by the lines that came is written and handed on, and nothing else; where a write failed, a front of what the last of
+-- them ends is written.
+pub record StopsSo (form : LineForm) (name : List ℕ) (margin : ℕ) (known old new : Option (List ℕ)) (before pending : List ℕ) (fault : ProgramFault) : Type 0 where
   pub error : FollowError
   pub cause : fault ≡ fault_of error
   pub stops : Stops (form_followed form) name (wider (min margin most_margin)) known old new error
+  pub handed : before ≡ [] → IsHandedOn error pending

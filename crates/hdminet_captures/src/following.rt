@@ -1,6 +1,6 @@
 //! What is reported of a capture as its lines come.
 ghost use Rattle.std.specs.Prelude.{◌≡◌, IfErr, OnOk};
-ghost use Rattle.hdmi_core.specs.Buffered.{below};
+ghost use Rattle.hdmi_core.specs.Buffered.{below, pending};
 ghost use Rattle.hdminet_captures.specs.Following.{FollowsTo, StopsSo, form_followed, fault_of};
 
 use crate::capture::within_most;
@@ -35,7 +35,7 @@ fn fault_of(error: FollowError) -> ProgramFault
 
 /// Writes each reading of a capture as soon as it is over by the lines that have come, of the wire of a name, or of the first where
 /// that is empty, as windows read it that are `margin` wider at either side, 300 at most, and hands it on before the next line is
-/// read. Where a line is at fault, what is over by the lines before it is written, and stays.
+/// read. Where a line is at fault, what is over by the lines before it is written and handed on.
 pub fn follow_capture<R: Read, W: Sink>(
     form: LineForm,
     signal: &[u8],
@@ -44,7 +44,7 @@ pub fn follow_capture<R: Read, W: Sink>(
     out: &mut Buffered<W>,
 ) -> Result<(), ProgramFault>
     ensures done { OnOk result (FollowsTo form signal.now margin (R.remaining input.old) (⟦<Buffered<W> as Sink>⟧.contents out.old) (W.contents (below out.new))) }
-    ensures stops { IfErr result (StopsSo form signal.now margin (R.remaining input.old) (⟦<Buffered<W> as Sink>⟧.contents out.old) (⟦<Buffered<W> as Sink>⟧.contents out.new)) }
+    ensures stops { IfErr result (StopsSo form signal.now margin (R.remaining input.old) (⟦<Buffered<W> as Sink>⟧.contents out.old) (⟦<Buffered<W> as Sink>⟧.contents out.new) (pending out.old) (pending out.new)) }
 {
     let windows = Windows::wider(within_most(margin));
     match follow(form_followed(form), signal, windows, input, out) {

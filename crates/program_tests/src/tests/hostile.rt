@@ -13,6 +13,10 @@ const LAID: &str = "5 last 2 4>4\n20000 drive 1 4>4\n";
 /// A start bit and a bit 1, after which the line stays high.
 const EDGES: &str = "1000 0\n4700 1\n5500 0\n6100 1\n20000 end\n";
 
+/// The same as rows, of two wires.
+const LEVELS: &str =
+    "Time [s],HPD,CEC\n0.0,1,1\n0.001,1,0\n0.0047,1,1\n0.0055,1,0\n0.0061,1,1\n0.02,1,1\n";
+
 const STILL_PAIR: &str = "device tv tv 4\ndevice p1 player 0\nplug p1 tv 1\nscript\nend 400000\n";
 
 const STEPS: &str =
@@ -55,6 +59,7 @@ const WRITTEN: &[(&str, &str)] = &[
     ("lay", LAID),
     ("mon", EDGES),
     ("mon --follow --from edges", EDGES),
+    ("mon --follow --from csv --signal CEC", LEVELS),
     ("run --edges", POLL),
     ("run --strict", TELEVISION),
     ("run --json", TELEVISION),

@@ -1,4 +1,5 @@
 use Rattle.cec_follow.proofs.Written.{ends, fault_ends}
+use Rattle.cec_follow.proofs.Long.{writing_handed}
 use Rattle.cec_follow.proofs.following.finish.Goals as goal
 
 pub returns-in-Ok-clause-ends : goal.returns-in-Ok-clause-ends
@@ -6,3 +7,6 @@ returns-in-Ok-clause-ends g c = ends c.args.number c.args.follower c.in-Ok.heard
 
 pub returns-in-Err-clause-ends : goal.returns-in-Err-clause-ends
 returns-in-Err-clause-ends g c = fault_ends c.args.number c.args.follower _ c.in-Err.fault c.in-Err.ensures.hears c.in-Err.ensures.place
+
+pub returns-in-Ok-clause-kept : goal.returns-in-Ok-clause-kept
+returns-in-Ok-clause-kept g c = writing_handed c.write_heard.result c.args.out.now.pending.items c.write_heard.new.out.pending.items c.write_heard.ensures.writing

@@ -1,4 +1,5 @@
 use Rattle.cec_follow.proofs.Written.{fault_heard, hears}
+use Rattle.cec_follow.proofs.Long.{writing_handed}
 use Rattle.cec_follow.proofs.following.hear.Goals as goal
 
 pub returns-in-Ok-clause-hears : goal.returns-in-Ok-clause-hears
@@ -7,3 +8,6 @@ returns-in-Ok-clause-hears g c =
 
 pub returns-in-Err-clause-hears : goal.returns-in-Err-clause-hears
 returns-in-Err-clause-hears g c = fault_heard c.args.signal.now c.args.number c.args.line.now c.args.follower.now c.line.new.self _ c.in-Err.fault c.in-Err.ensures.hears c.in-Err.ensures.place
+
+pub returns-in-Ok-clause-kept : goal.returns-in-Ok-clause-kept
+returns-in-Ok-clause-kept g c = writing_handed c.write_heard.result c.args.out.now.pending.items c.write_heard.new.out.pending.items c.write_heard.ensures.writing

@@ -19,5 +19,5 @@ returns-in-Err-clause-stops g c =
     let known = g.R.Read.remaining c.args.input.now in
     let old = append_known (g.W.Sink.contents c.args.out.now.sink) c.args.out.now.pending.items in
     let new = append_known (g.W.Sink.contents c.follow.new.out.sink) c.follow.new.out.pending.items in
-    stops_so c.args.form c.args.signal.now c.args.margin c.form_followed.result c.wider-windows.result known old new c.in-Err.error c.fault_of.result (c.wider-windows.ensures.wider ∙ ap wider c.within_most.ensures.same)
-    c.form_followed.ensures c.fault_of.ensures c.in-Err.ensures.follows
+    stops_so c.args.form c.args.signal.now c.args.margin c.form_followed.result c.wider-windows.result known old new c.args.out.now.pending.items c.follow.new.out.pending.items c.in-Err.error c.fault_of.result (c.wider-windows.ensures.wider ∙ ap wider c.within_most.ensures.same)
+    c.form_followed.ensures c.fault_of.ensures c.in-Err.ensures.follows c.in-Err.ensures.kept
