@@ -1,5 +1,5 @@
 -- What a monitor that follows a capture was told of its line, and what it has reported.
-use Rattle.std.proofs.Common.{◌≡◌, ℕ, zero, suc, ◌+◌, ◌-◌, ◌<◌, ◌≤◌, ◌&&◌, ◌⊎◌, inl, inr, Bool, true, false, nat_lt, if◌then◌else◌, List, [], ◌∷◌, ◌++◌, Option, Some, None, Ok, Err, Result, refl, sym, ap, subst, ◌∙◌, append_assoc, append-nil, arith}
+use Rattle.std.proofs.Common.{◌≡◌, ℕ, suc, ◌+◌, ◌-◌, ◌<◌, ◌≤◌, ◌&&◌, ◌⊎◌, inl, inr, Bool, true, false, nat_lt, if◌then◌else◌, List, [], ◌∷◌, ◌++◌, Option, Some, None, Ok, Err, Result, refl, sym, ap, subst, ◌∙◌, append_assoc, append-nil, arith}
 use Rattle.std.specs.Option.{option_to_list}
 use Rattle.std.proofs.lemmas.Bool.Decides.{nat_tests}
 use Rattle.std.proofs.lemmas.Grind.{flat_map-append}
@@ -11,7 +11,6 @@ use Rattle.cec_bits.specs.Readings.{Listed}
 use Rattle.cec_signal.specs.Edges.{AreInTurn, Captured, EndBy, level_at, line_of_edges}
 use Rattle.cec_signal.specs.Reading.{with_edges}
 use Rattle.cec_signal.specs.declared.fault.CaptureFault.{CaptureFault}
-use Rattle.cec_mon.specs.Joined.{captured_by}
 use Rattle.cec_mon.specs.Monitor.{FollowsCalmBy, FollowsEdgeBy, FollowsEndBy, HeardBeforeBy}
 use Rattle.cec_mon.specs.ReadBy.{ended_before_by, readings_by}
 use Rattle.cec_mon.specs.Watch.{listed_line, readings_text, reported_text}

@@ -8,12 +8,11 @@ use Rattle.hdmi_core.specs.Lines.{lines_of}
 use Rattle.hdmi_core.specs.Written.{WrittenLine}
 use Rattle.hdmi_core.specs.declared.sink.WriteFault.{WriteFault}
 use Rattle.cec_bits.specs.declared.times.Windows.{Windows}
-use Rattle.cec_signal.specs.Edges.{Captured}
 use Rattle.cec_signal.specs.declared.fault.CaptureFault.{CaptureFault}
 use Rattle.cec_formats.specs.Captures.{capture_in}
 use Rattle.cec_incoming.specs.Incoming.{IsNext, IsWhole, Leads, text_of_lines}
 use Rattle.cec_incoming.proofs.Coming.{lines_again}
-use Rattle.cec_follow.specs.Follow.{AreFirst, AreLeft, Ends, Follows, HasFollowed, HasHeard, HaveCome, Hears, HearsEnd, HearsLine, IsAtFault, IsCut, IsCutLast, IsFollowed, IsFront, IsOfWriting, IsOverBy, IsPrompt, IsReady, IsRefused, IsUpToDate, Puts, heard_text, text_of}
+use Rattle.cec_follow.specs.Follow.{AreFirst, Ends, Follows, HasHeard, HaveCome, Hears, HearsEnd, HearsLine, IsCut, IsCutLast, IsFollowed, IsFront, IsOfWriting, IsOverBy, IsPrompt, IsReady, IsUpToDate, Puts, heard_text, text_of}
 use Rattle.cec_follow.specs.Follow.{IsWhole as IsAll}
 use Rattle.cec_follow.specs.Lines.{form_as, lines_captured}
 use Rattle.cec_follow.specs.declared.error.FollowError.{FollowError}

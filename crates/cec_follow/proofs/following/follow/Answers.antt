@@ -1,4 +1,4 @@
-use Rattle.std.proofs.Common.{◌≡◌, ◌+◌, ℕ, List, Result, Err, ap, arith, sym, subst, ◌∙◌}
+use Rattle.std.proofs.Common.{◌+◌, ℕ, List, Err, arith, sym, subst}
 use Rattle.cec_incoming.specs.Incoming.{IsWhole, Leads, bytes_left, to_come}
 use Rattle.cec_follow.specs.Follow.{Follows}
 use Rattle.cec_follow.specs.declared.error.FollowError.{FollowError}

@@ -1,7 +1,7 @@
 use Rattle.std.proofs.Common.{None, Ok, Err, subst, sym}
 use Rattle.cec_follow.specs.Lines.{TakesLine}
 use Rattle.cec_follow.specs.declared.lines.CaptureLines.{CaptureLines}
-use Rattle.cec_follow.specs.declared.lines.CaptureLines.TheVariants.{File, Pin, Names, Rows}
+use Rattle.cec_follow.specs.declared.lines.CaptureLines.TheVariants.{File, Pin, Rows}
 use Rattle.cec_follow.proofs.Left.{file_takes, names_refuse, names_take}
 use Rattle.cec_follow.proofs.lines.CaptureLines.take.Goals as goal
 
