@@ -12,6 +12,10 @@ const ROOM: &str =
 /// Without the player.
 const ALONE: &str = "device tv tv 4\ndevice dut outside 0\nplug dut tv 1\n";
 
+/// A television and two devices from outside.
+const TWO: &str =
+    "device tv tv 4\ndevice a outside 0\ndevice b outside 0\nplug a tv 1\nplug b tv 2\n";
+
 /// The times of a frame (CEC 5.2): how long the start bit is low and all of it, and each bit.
 const START_LOW: u64 = 3_700;
 
@@ -271,6 +275,26 @@ end 3000000
 =>
 1000000 1051150 complete 8>9 give-osd-name ack by - out -
 --
+two: pulls make the slots fall before the senders do: who is out pulls no more, and the other one's fall in slot 11 is too early
+at 1000000 send a 4>0 deck-status stop
+at 1000000 send b 4>0 abort
+pull 1004400 120
+pull 1006450 470
+pull 1008500 820
+pull 1010801 919
+pull 1013201 919
+pull 1015601 919
+pull 1018001 919
+pull 1020401 919
+pull 1022801 919
+pull 1025201 919
+pull 1027251 600
+end 1039000
+=>
+1000000 event 1 ok
+1000000 event 2 ok
+1000000 1028500 short 01000000001 by b out a@11
+--
 alone: a device from outside that holds nothing does not pull low after short
 at 1000000 send tv 0>4 standby
 pull 1006150 50
@@ -452,6 +476,8 @@ fn scene_holds(rt: &(impl Abort + AllocGlobal), scene: &str) {
     }
     let topology = if title.starts_with("alone: ") {
         ALONE
+    } else if title.starts_with("two: ") {
+        TWO
     } else {
         ROOM
     };
