@@ -42,11 +42,11 @@ use Rattle.cec_device.specs.Keys.{after_key, key_fault, keyed_by, own_doing}
 use Rattle.cec_device.specs.Outside.{act_fault, acted_by, after_act}
 use Rattle.cec_device.specs.Place.{after_failure, after_front, after_joining, after_sending, after_submission, class_of_poll, frame_sent, fresh, front_is_poll, is_allocating, is_off, is_on_wire, place_after_fate, polled_at, ready_by, ready_of, reported_by, reported_from, sent_by, start_place, submit_fault, submitted_by, tries, unregistered, with_reports}
 use Rattle.cec_event.specs.declared.event.Event.{Event}
-use Rattle.cec_event.specs.declared.event.Event.TheVariants.{Plug, Unplug, Key as Press, Send, Outside}
+use Rattle.cec_event.specs.declared.event.Event.TheVariants.{Plug, Unplug, Key as Press, Send, SendNamed, Outside}
 use Rattle.cec_event.specs.declared.event.EventError.{EventError}
 use Rattle.cec_net.specs.Start.{contends, first_onset, least_start, next_turn, sooner, start_by, start_from, start_of}
 use Rattle.cec_net.specs.State.{NetState, after_move, each_from, first_net, loose, moved_by, next_start}
-use Rattle.cec_net.specs.Apply.{applied_unless, changed_at, event_fault, net_after}
+use Rattle.cec_net.specs.Apply.{after_sent, applied_unless, changed_at, event_fault, named_frame, net_after}
 use Rattle.cec_net.specs.Step.{after_fate, after_round, device_after, followed_in, followed_unless, is_among, is_sent}
 
 -- ---- an instant that is not before another
@@ -315,6 +315,14 @@ late_of h s settled f = record {
 pub late_next : (h : ℕ) (s : NetState) → AreLate h s → From h (next_start s)
 late_next h s late = from_both h (least_start s.rest s.devices) (first_onset s.pulses) (least_late h s.rest s.devices late.devices) late.pulls
 
+-- a frame is handed in, or there is none
+late_sent : (h at device : ℕ) (frame : Option (List ℕ)) (s : NetState) → h ≤ at → AreLate h s → AreLate h (record (after_sent at device frame s) { heard = None })
+late_sent h at device None s l late = record { devices = late.devices; pulls = late.pulls }
+late_sent h at device (Some frame) s l late = record {
+  devices = changed_keeps (IsLate h s.rest) device (λ d. after_submission 16 d frame at) s.devices (λ d p. late_submitted h s.rest at frame d (submit_fault 16 d frame) l p) late.devices;
+  pulls = late.pulls;
+}
+
 late_unless : (h at : ℕ) (event : Event) (s : NetState) (fault : Option EventError) → h ≤ at → AreLate h s → AreLate h (applied_unless fault at event s)
 late_unless h at event s (Some error) l late = late
 late_unless h at (Plug child parent port) s None l late =
@@ -325,10 +333,8 @@ late_unless h at (Press device key press) s None l late = record {
   devices = changed_keeps (IsLate h s.rest) device (λ d. after_key 16 d key press at) s.devices (λ d p. key_stays h at (IsLate h s.rest) (late_stays h s.rest) key press d (key_fault d key) l p) late.devices;
   pulls = late.pulls;
 }
-late_unless h at (Send device frame) s None l late = record {
-  devices = changed_keeps (IsLate h s.rest) device (λ d. after_submission 16 d frame at) s.devices (λ d p. late_submitted h s.rest at frame d (submit_fault 16 d frame) l p) late.devices;
-  pulls = late.pulls;
-}
+late_unless h at (Send device frame) s None l late = late_sent h at device (Some frame) s l late
+late_unless h at (SendNamed device names frame) s None l late = late_sent h at device (named_frame s.devices names frame) s l late
 late_unless h at (Outside device act) s None l late =
     record { devices = changed_keeps (IsLate h s.rest) device (λ d. after_act d act) s.devices (λ d p. late_acted h s.rest d act p) late.devices; pulls = late.pulls }
 
@@ -338,17 +344,22 @@ late_event h at event s l late = late_unless h at event s (event_fault s event) 
 
 -- ---- devices from outside stay settled
 
+settled_handed : (at device : ℕ) (frame : Option (List ℕ)) (s : NetState) → AreSettled s → AreSettled (after_sent at device frame s)
+settled_handed at device None s h = h
+settled_handed at device (Some frame) s h = changed_keeps Settles device (λ d. after_submission 16 d frame at) s.devices (λ d p. submitted d (submit_fault 16 d frame) p) h
+  where
+    submitted : (d : State) (fault : Option SubmitError) → Settles d → Settles (submitted_by d frame at fault)
+    submitted d None p = p
+    submitted d (Some error) p = p
+
 settled_unless : (at : ℕ) (event : Event) (s : NetState) (fault : Option EventError) → AreSettled s → AreSettled (applied_unless fault at event s)
 settled_unless at event s (Some error) h = h
 settled_unless at (Plug child parent port) s None h = each_keeps Settles 0 (moved_by at _) s.devices (λ m d p. settled_moved at m (is_on_wire d) (address_of _ m) d p) h
 settled_unless at (Unplug child) s None h = each_keeps Settles 0 (moved_by at _) s.devices (λ m d p. settled_moved at m (is_on_wire d) (address_of _ m) d p) h
 settled_unless at (Press device key press) s None h =
     changed_keeps Settles device (λ d. after_key 16 d key press at) s.devices (λ d p. key_stays 0 at Settles (queue_settles 0) key press d (key_fault d key) (omega arith) p) h
-settled_unless at (Send device frame) s None h = changed_keeps Settles device (λ d. after_submission 16 d frame at) s.devices (λ d p. submitted d (submit_fault 16 d frame) p) h
-  where
-    submitted : (d : State) (fault : Option SubmitError) → Settles d → Settles (submitted_by d frame at fault)
-    submitted d None p = p
-    submitted d (Some error) p = p
+settled_unless at (Send device frame) s None h = settled_handed at device (Some frame) s h
+settled_unless at (SendNamed device names frame) s None h = settled_handed at device (named_frame s.devices names frame) s h
 settled_unless at (Outside device act) s None h = changed_keeps Settles device (λ d. after_act d act) s.devices (λ d p. acted d (act_fault d) act p) h
   where
     acted : (d : State) (fault : Option KeyError) (act : Act) → Settles d → Settles (acted_by d fault act)
