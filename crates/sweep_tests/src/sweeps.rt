@@ -120,6 +120,7 @@ fn a_writer_that_fails_has_the_front(rt: HostRuntime) {
 }
 
 /// How often a sweep said how far it is, and what it said last.
+#[derive(Drop)]
 struct Heard {
     times: u64,
     last: Option<Progress>,
