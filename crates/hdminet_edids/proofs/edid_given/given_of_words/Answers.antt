@@ -9,4 +9,4 @@ pub returns : goal.returns
 returns c =
     let P : List ℕ → Type 0 = λ p. IfOk c.bytes_of_words.result (λ given. (e : Edid) × (edid_text e ≡ p) × (given.items ≡ edid_bytes e)) in
     let plain = c.as_slice.ensures.value ∙ c.in_ok-plain.ensures in
-    subst P (c.as_slice-2.ensures.value ∙ (c.in_ok-canonical.ensures ∙ ap canonical_text plain)) c.bytes_of_words.ensures
+    subst P (c.as_slice-3.ensures.value ∙ (c.in_ok-canonical.ensures ∙ ap canonical_text plain)) c.bytes_of_words.ensures
