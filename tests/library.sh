@@ -39,14 +39,14 @@ done
 # A checkout with the two crates of exports, and one below them.
 make_checkout() {
   local here=$room/checkout crate
-  mkdir -p "$here/tools" "$here/crates/low_tests/src" "$here/crates/hdminet_command/src"
+  mkdir -p "$here/tools" "$here/crates/low_tests/src" "$here/crates/cli_command/src"
   cp "$top/tools/library" "$top"/tools/*.bash "$here/tools" && cp -R "$top/include" "$top/python" "$here" || return 1
   # (a line of its own compares the headers with the crates)
   printf '#!/bin/sh\n' > "$here/tools/library-matches"
   chmod +x "$here/tools/library-matches"
   echo 'Handles allowed: none.' > "$here/HANDLES"
   printf 'low: arrayvec\nlow_tests: low\nhdminet_wire staticlib: low\nhdminet_c staticlib: hdminet_wire low\nhdminet_command: low\n' > "$here/crates.txt"
-  echo '    .version("1.0.0")' > "$here/crates/hdminet_command/src/choice.rt"
+  echo '    .version("1.0.0")' > "$here/crates/cli_command/src/choice.rt"
   for crate in low hdminet_wire hdminet_c; do
     mkdir -p "$here/crates/$crate/src" "$here/crates/$crate/must-fail"
     echo law > "$here/crates/$crate/src/lib.rt"
@@ -73,7 +73,7 @@ esac || { cat "$USAGE" >&2; exit 2; }
 [ -d .git ] && [ -f HANDLES ] && ! ls -d crates/*/{out,must-fail,wrong-bodies} 2> /dev/null &&
   [ "$(ls crates | tr '\n' ' ')" = "hdminet_c hdminet_wire low " ] && [ "$(sed 's/[ :].*//' crates.txt | sort)" = "$(ls crates)" ] || exit 2
 if [ -f "$BROKEN" ]; then
-  printf 'rt: cec_wave NOT PROVED\n0 passed, 1 failed\n'
+  printf 'rt: line_wave NOT PROVED\n0 passed, 1 failed\n'
   exit 1
 fi
 [ "$KIT" = 13b ] || kept='; done in this run: 1 of the proofs'
@@ -131,7 +131,7 @@ for KIT in 13b 13f; do
   touch "$BROKEN"
   for flag in "" --anew; do
     line "tools/library $flag where a crate is not proved, with the words of kit $KIT" \
-      stops $'rt: cec_wave NOT PROVED\n0 passed, 1 failed\nlibrary: the crates were not proved' $flag
+      stops $'rt: line_wave NOT PROVED\n0 passed, 1 failed\nlibrary: the crates were not proved' $flag
   done
   rm "$BROKEN"
   touch "$REFUSING"

@@ -1,9 +1,9 @@
 //! What is remarked of captures, worked out by hand from the standard's times.
 use crate::captures::{capture, edge_file};
-use cec_audit::{AuditOptions, audit_capture};
-use cec_mon::watch;
-use hdmi_core::Writes;
+use audit_core::{AuditOptions, audit_capture};
+use capture_monitor::watch;
 use std::process::Abort;
+use text_core::Writes;
 
 /// A capture, slot by slot, and what is written of it before the summary.
 type Case = (&'static str, &'static str);

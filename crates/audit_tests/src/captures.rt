@@ -1,6 +1,6 @@
 //! Captures, spelled slot by slot.
-use cec_signal::Capture;
-use cec_vcd::read_vcd;
+use capture_core::Capture;
+use capture_vcd::read_vcd;
 use std::process::Abort;
 
 /// What a dump begins with.

@@ -1,5 +1,5 @@
 //! Of which kind each line of an audit is.
-use cec_audit_lines::{has_remark, kind_of};
+use audit_lines::{has_remark, kind_of};
 
 /// A line, what it is called, the section that it goes by, and whether the standard has it otherwise.
 const KINDS: &[(&str, &str, &str, bool)] = &[

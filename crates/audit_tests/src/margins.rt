@@ -1,9 +1,9 @@
 //! Frames that are nearly right, with one width out of its window, by windows that are wider.
 use crate::captures::capture;
-use cec_audit::{AuditOptions, audit_capture_by};
-use cec_bits::Windows;
-use hdmi_core::Writes;
+use audit_core::{AuditOptions, audit_capture_by};
+use line_reading::Windows;
 use std::process::Abort;
+use text_core::Writes;
 
 /// A capture of `4>0` slot by slot, the least margin with which the frame is read, and what is written of it then.
 const MARGINS: &[(&str, u64, &str)] = &[

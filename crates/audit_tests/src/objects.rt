@@ -1,7 +1,7 @@
 //! The object of each kind of line of an audit.
-use cec_audit_json::write_audit_objects;
-use hdmi_core::Writes;
+use audit_json::write_audit_objects;
 use std::process::Abort;
+use text_core::Writes;
 
 /// A line, and what its object has after the line.
 const OBJECTS: &str =

@@ -3,33 +3,33 @@ use Rattle.std.proofs.Common.{◌≡◌, ℕ, ◌+◌, ◌≤◌, max, false, Li
 use Rattle.std.proofs.Math.Path.{fun_ext}
 use Rattle.std.proofs.lemmas.Grind.{flat_map-append}
 use Rattle.std.specs.List.{flat_map}
-use Rattle.cec_wave.specs.declared.Stretch.{Stretch}
-use Rattle.cec_wave.specs.Line.{line_of, IsWave, IsWaveFrom}
-use Rattle.cec_wave.specs.Bounds.{latest_instant}
-use Rattle.cec_bits.specs.Readings.{readings_of}
-use Rattle.cec_wire.specs.declared.Outcome.{Outcome}
-use Rattle.cec_net.specs.Line.{run_wave}
-use Rattle.cec_net.specs.State.{first_net}
-use Rattle.cec_asm.proofs.Sound.{scripts_are_sound}
-use Rattle.cec_signal.specs.Edges.{AreInTurn, EndBy, IsCapture, edges_of}
-use Rattle.cec_vcd.specs.Dump as vcd_in
-use Rattle.cec_vcd.specs.Text as vcd
-use Rattle.cec_vcd.proofs.ReadBack.{dumps_are_read_back}
-use Rattle.cec_pin.proofs.ReadBack.{pin_files_are_read_back}
-use Rattle.cec_csv.specs.Csv as csv_in
-use Rattle.cec_csv.specs.Text as csv
-use Rattle.cec_csv.proofs.ReadBack.{csv_files_are_read_back}
-use Rattle.cec_trace.specs.EdgeText.{stretch_lines}
-use Rattle.cec_trace.specs.TraceText.{end_line}
-use Rattle.cec_text.specs.ReadingText.{reading_line}
-use Rattle.cec_mon.specs.EdgeFile.{file_of}
-use Rattle.cec_mon.specs.Watch.{readings_text}
-use Rattle.cec_line.specs.declared.format.Format.TheVariants.{Edges, Vcd, Pin, Csv}
-use Rattle.cec_run.specs.declared.run.Reporting.TheVariants.{Line}
-use Rattle.cec_run.specs.Run.{start}
-use Rattle.cec_run.specs.OneRun.{rounds_of_line, rounds_reported}
-use Rattle.cec_run.proofs.WholeLine as runs
-use Rattle.cec_run.proofs.OneRun.{runs_close_soon, texts_have_one_run, traces_have_parts}
+use Rattle.line_wave.specs.declared.Stretch.{Stretch}
+use Rattle.line_wave.specs.Line.{line_of, IsWave, IsWaveFrom}
+use Rattle.line_wave.specs.Bounds.{latest_instant}
+use Rattle.line_reading.specs.Readings.{readings_of}
+use Rattle.line_rounds.specs.declared.Outcome.{Outcome}
+use Rattle.room_net.specs.Line.{run_wave}
+use Rattle.room_net.specs.State.{first_net}
+use Rattle.room_script.proofs.Sound.{scripts_are_sound}
+use Rattle.capture_core.specs.Edges.{AreInTurn, EndBy, IsCapture, edges_of}
+use Rattle.capture_vcd.specs.Dump as vcd_in
+use Rattle.capture_vcd.specs.Text as vcd
+use Rattle.capture_vcd.proofs.ReadBack.{dumps_are_read_back}
+use Rattle.capture_pin.proofs.ReadBack.{pin_files_are_read_back}
+use Rattle.capture_csv.specs.Csv as csv_in
+use Rattle.capture_csv.specs.Text as csv
+use Rattle.capture_csv.proofs.ReadBack.{csv_files_are_read_back}
+use Rattle.room_trace.specs.EdgeText.{stretch_lines}
+use Rattle.room_trace.specs.TraceText.{end_line}
+use Rattle.message_text.specs.ReadingText.{reading_line}
+use Rattle.capture_monitor.specs.EdgeFile.{file_of}
+use Rattle.capture_monitor.specs.Watch.{readings_text}
+use Rattle.room_line.specs.declared.format.Format.TheVariants.{Edges, Vcd, Pin, Csv}
+use Rattle.room_run.specs.declared.run.Reporting.TheVariants.{Line}
+use Rattle.room_run.specs.Run.{start}
+use Rattle.room_run.specs.OneRun.{rounds_of_line, rounds_reported}
+use Rattle.room_run.proofs.WholeLine as runs
+use Rattle.room_run.proofs.OneRun.{runs_close_soon, texts_have_one_run, traces_have_parts}
 use Rattle.capture_laws.specs.Formats.{IsReadAs, LinesAreReadBack, LinesOfRunsHaveTheirReadings, MonitorsReportTracesInAll}
 use Rattle.capture_laws.proofs.ReadBack.{EndsBy, edge_files_are_read_back, ends_by, lines_of_parts, lines_of_rounds, over_by_script, same_line}
 

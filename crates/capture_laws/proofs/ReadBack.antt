@@ -4,34 +4,34 @@ use Rattle.std.proofs.Math.Path.{fun_ext}
 use Rattle.std.proofs.lemmas.Bool.{false≢true}
 use Rattle.std.proofs.lemmas.Bool.Decides.{nat_tests}
 use Rattle.std.specs.Fmt.{decimal}
-use Rattle.cec_wave.specs.declared.Stretch.{Stretch}
-use Rattle.cec_wave.specs.Line.{covers, line_of, IsWaveFrom}
-use Rattle.cec_wave.specs.Bounds.{latest_instant}
-use Rattle.cec_bits.specs.Readings.{readings_of}
-use Rattle.hdmi_core.specs.Lines.{lines_of}
-use Rattle.cec_trace.specs.EdgeText.{edge_lines}
-use Rattle.cec_trace.specs.TraceText.{end_line}
-use Rattle.cec_run.proofs.WholeLine as runs
-use Rattle.cec_run.proofs.OneRun.{runs_close_soon, texts_have_one_run, traces_have_parts}
-use Rattle.cec_run.specs.OneRun.{AreOverBy, rounds_of_line, Part, OfEvent, OfRound, part_rounds}
-use Rattle.cec_run.specs.Run.{start}
-use Rattle.cec_net.specs.State.{first_net}
+use Rattle.line_wave.specs.declared.Stretch.{Stretch}
+use Rattle.line_wave.specs.Line.{covers, line_of, IsWaveFrom}
+use Rattle.line_wave.specs.Bounds.{latest_instant}
+use Rattle.line_reading.specs.Readings.{readings_of}
+use Rattle.text_core.specs.Lines.{lines_of}
+use Rattle.room_trace.specs.EdgeText.{edge_lines}
+use Rattle.room_trace.specs.TraceText.{end_line}
+use Rattle.room_run.proofs.WholeLine as runs
+use Rattle.room_run.proofs.OneRun.{runs_close_soon, texts_have_one_run, traces_have_parts}
+use Rattle.room_run.specs.OneRun.{AreOverBy, rounds_of_line, Part, OfEvent, OfRound, part_rounds}
+use Rattle.room_run.specs.Run.{start}
+use Rattle.room_net.specs.State.{first_net}
 use Rattle.std.specs.List.{flat_map}
-use Rattle.cec_signal.specs.Edges.{edges_of}
-use Rattle.cec_line.specs.declared.format.Format.TheVariants.{Edges}
-use Rattle.cec_run.specs.declared.run.Reporting.TheVariants.{Line}
-use Rattle.cec_asm.specs.Script.{Course, IsScript}
-use Rattle.cec_asm.proofs.Sound.{scripts_are_sound}
-use Rattle.cec_wire.specs.declared.Outcome.{Outcome}
-use Rattle.cec_wire.specs.Alone.{outcome_listed}
-use Rattle.cec_text.specs.ReadingText.{reading_line}
-use Rattle.cec_mon.specs.Watch.{readings_text}
-use Rattle.cec_mon.specs.EdgeFile.{edge_line_of, edges_read, end_read, file_of, read_line, with_edge}
-use Rattle.cec_signal.specs.Edges.{level_at}
-use Rattle.cec_mon.specs.declared.edge_file.EdgeLine.{EdgeLine}
-use Rattle.cec_mon.specs.declared.edge_file.EdgeLine.TheVariants.{Edge as EdgeLineOf, End}
+use Rattle.capture_core.specs.Edges.{edges_of}
+use Rattle.room_line.specs.declared.format.Format.TheVariants.{Edges}
+use Rattle.room_run.specs.declared.run.Reporting.TheVariants.{Line}
+use Rattle.room_script.specs.Script.{Course, IsScript}
+use Rattle.room_script.proofs.Sound.{scripts_are_sound}
+use Rattle.line_rounds.specs.declared.Outcome.{Outcome}
+use Rattle.line_rounds.specs.Alone.{outcome_listed}
+use Rattle.message_text.specs.ReadingText.{reading_line}
+use Rattle.capture_monitor.specs.Watch.{readings_text}
+use Rattle.capture_monitor.specs.EdgeFile.{edge_line_of, edges_read, end_read, file_of, read_line, with_edge}
+use Rattle.capture_core.specs.Edges.{level_at}
+use Rattle.capture_monitor.specs.declared.edge_file.EdgeLine.{EdgeLine}
+use Rattle.capture_monitor.specs.declared.edge_file.EdgeLine.TheVariants.{Edge as EdgeLineOf, End}
 use Rattle.capture_laws.specs.Capture.{part_monitored, EdgeFilesAreReadBack, FilesOfRunsHaveTheirReadings, MonitorsReportTraces}
-use Rattle.cec_signal.proofs.Texts.{line_before}
+use Rattle.capture_core.proofs.Texts.{line_before}
 use Rattle.capture_laws.proofs.Texts.{IsWithout, more_without, one_without, timed, timed_line, timed_plain, timed_reported}
 
 -- ---- the text

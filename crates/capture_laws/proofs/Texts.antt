@@ -7,12 +7,12 @@ use Rattle.std.proofs.lemmas.Fmt.{decimal_is_IsNumeral, decimal_nonempty}
 use Rattle.std.proofs.lemmas.Bool.Decides.{nat_tests}
 use Rattle.std.proofs.lemmas.List.Splits.{slice_split_at, slice_split_none}
 use Rattle.std.proofs.lemmas.List.Elements.{All-append}
-use Rattle.cec_wave.specs.Bounds.{latest_instant}
-use Rattle.hdmi_core.specs.Lines.{is_skipped}
-use Rattle.hdmi_core.specs.Words.{words_of}
-use Rattle.cec_signal.proofs.Numbers.{number_again, some_length}
-use Rattle.cec_signal.proofs.Texts.{Lacks, more_lack, none_lack, number_lacks}
-use Rattle.cec_mon.specs.EdgeFile.{edge_line_of, edge_line_at, line_alone}
+use Rattle.line_wave.specs.Bounds.{latest_instant}
+use Rattle.text_core.specs.Lines.{is_skipped}
+use Rattle.text_core.specs.Words.{words_of}
+use Rattle.capture_core.proofs.Numbers.{number_again, some_length}
+use Rattle.capture_core.proofs.Texts.{Lacks, more_lack, none_lack, number_lacks}
+use Rattle.capture_monitor.specs.EdgeFile.{edge_line_of, edge_line_at, line_alone}
 
 no_byte : (b c : ℕ) → digit_value c < 10 → b < 48 → (c == b) ≡ false
 no_byte b c h low = grind (arith, nat_tests)

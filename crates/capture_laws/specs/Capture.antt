@@ -1,28 +1,28 @@
 -- The edge file of a run, as a monitor reads it (own).
 use Rattle.std.specs.Prelude.{◌≡◌, ℕ, ◌≤◌, false, List, [], ◌++◌, map, Option, Ok, codes}
 use Rattle.std.specs.List.{flat_map}
-use Rattle.cec_wave.specs.declared.Stretch.{Stretch}
-use Rattle.cec_wave.specs.Line.{line_of, IsWave}
-use Rattle.cec_wave.specs.Bounds.{latest_event, latest_instant}
-use Rattle.cec_wire.specs.Alone.{outcome_listed}
-use Rattle.hdmi_blocks.specs.declared.edid.Edid.{Edid}
-use Rattle.hdmi_topo.specs.Node.{Node}
-use Rattle.cec_net.specs.State.{NetState, first_net}
-use Rattle.cec_asm.specs.Script.{AreFramedEvents}
-use Rattle.cec_asm.specs.declared.script.TimedEvent.{TimedEvent}
-use Rattle.cec_signal.specs.Edges.{edges_of}
-use Rattle.cec_line.specs.declared.format.Format.TheVariants.{Edges}
-use Rattle.cec_run.specs.declared.run.Reporting.TheVariants.{Trace, Line}
-use Rattle.cec_run.specs.declared.run.Totals.{Totals}
-use Rattle.cec_trace.specs.EdgeText.{edge_lines}
-use Rattle.cec_trace.specs.TraceText.{end_line}
-use Rattle.cec_run.specs.Run.{start, start_reported, end_reported, IsRunText}
-use Rattle.cec_run.specs.Emulate.{IsTraceOf, IsEdgeTraceOf}
-use Rattle.cec_run.specs.OneRun.{AreOverBy, rounds_reported, Part, OfEvent, OfRound, part_text}
-use Rattle.cec_signal.specs.Edges.{line_of_edges}
-use Rattle.cec_mon.specs.EdgeFile.{EdgeFile, file_of}
-use Rattle.cec_text.specs.ReadingText.{reading_text}
-use Rattle.cec_mon.specs.Watch.{file_readings, readings_text}
+use Rattle.line_wave.specs.declared.Stretch.{Stretch}
+use Rattle.line_wave.specs.Line.{line_of, IsWave}
+use Rattle.line_wave.specs.Bounds.{latest_event, latest_instant}
+use Rattle.line_rounds.specs.Alone.{outcome_listed}
+use Rattle.edid_core.specs.declared.edid.Edid.{Edid}
+use Rattle.edid_tree.specs.Node.{Node}
+use Rattle.room_net.specs.State.{NetState, first_net}
+use Rattle.room_script.specs.Script.{AreFramedEvents}
+use Rattle.room_script.specs.declared.script.TimedEvent.{TimedEvent}
+use Rattle.capture_core.specs.Edges.{edges_of}
+use Rattle.room_line.specs.declared.format.Format.TheVariants.{Edges}
+use Rattle.room_run.specs.declared.run.Reporting.TheVariants.{Trace, Line}
+use Rattle.room_run.specs.declared.run.Totals.{Totals}
+use Rattle.room_trace.specs.EdgeText.{edge_lines}
+use Rattle.room_trace.specs.TraceText.{end_line}
+use Rattle.room_run.specs.Run.{start, start_reported, end_reported, IsRunText}
+use Rattle.room_run.specs.Emulate.{IsTraceOf, IsEdgeTraceOf}
+use Rattle.room_run.specs.OneRun.{AreOverBy, rounds_reported, Part, OfEvent, OfRound, part_text}
+use Rattle.capture_core.specs.Edges.{line_of_edges}
+use Rattle.capture_monitor.specs.EdgeFile.{EdgeFile, file_of}
+use Rattle.message_text.specs.ReadingText.{reading_text}
+use Rattle.capture_monitor.specs.Watch.{file_readings, readings_text}
 
 -- what is written of these stretches and this end is read as their edges, which tell their line
 pub record IsReadBack (ss : List Stretch) (end : ℕ) : Type 0 where

@@ -1,28 +1,28 @@
 -- The line of a run, in each format, as it is read and monitored (own).
 use Rattle.std.specs.Prelude.{◌≡◌, ℕ, ◌≤◌, false, List, [], map, Ok}
 use Rattle.std.specs.List.{flat_map}
-use Rattle.cec_wave.specs.declared.Stretch.{Stretch}
-use Rattle.cec_wave.specs.Line.{line_of, IsWave}
-use Rattle.cec_wave.specs.Bounds.{latest_event, latest_instant}
-use Rattle.cec_wire.specs.Alone.{outcome_listed}
-use Rattle.hdmi_topo.specs.Node.{Node}
-use Rattle.cec_net.specs.State.{first_net}
-use Rattle.cec_asm.specs.Script.{AreFramedEvents}
-use Rattle.cec_asm.specs.declared.script.TimedEvent.{TimedEvent}
-use Rattle.cec_signal.specs.Edges.{Captured, IsCapture, edges_of}
-use Rattle.cec_vcd.specs.Dump as vcd
-use Rattle.cec_pin.specs.Pin as pin
-use Rattle.cec_csv.specs.Csv as csv
-use Rattle.cec_mon.specs.EdgeFile.{file_of}
-use Rattle.cec_mon.specs.Watch.{as_file, file_readings, readings_text}
-use Rattle.cec_line.specs.Format.{line_text}
-use Rattle.cec_line.specs.declared.format.Format.{Format}
-use Rattle.cec_line.specs.declared.format.Format.TheVariants.{Edges, Vcd, Pin, Csv}
-use Rattle.cec_run.specs.declared.run.Reporting.TheVariants.{Line}
-use Rattle.cec_run.specs.declared.run.Totals.{Totals}
-use Rattle.cec_run.specs.Run.{start, IsRunText}
-use Rattle.cec_run.specs.Emulate.{IsTraceOf, IsLineOf}
-use Rattle.cec_run.specs.OneRun.{AreOverBy, rounds_reported}
+use Rattle.line_wave.specs.declared.Stretch.{Stretch}
+use Rattle.line_wave.specs.Line.{line_of, IsWave}
+use Rattle.line_wave.specs.Bounds.{latest_event, latest_instant}
+use Rattle.line_rounds.specs.Alone.{outcome_listed}
+use Rattle.edid_tree.specs.Node.{Node}
+use Rattle.room_net.specs.State.{first_net}
+use Rattle.room_script.specs.Script.{AreFramedEvents}
+use Rattle.room_script.specs.declared.script.TimedEvent.{TimedEvent}
+use Rattle.capture_core.specs.Edges.{Captured, IsCapture, edges_of}
+use Rattle.capture_vcd.specs.Dump as vcd
+use Rattle.capture_pin.specs.Pin as pin
+use Rattle.capture_csv.specs.Csv as csv
+use Rattle.capture_monitor.specs.EdgeFile.{file_of}
+use Rattle.capture_monitor.specs.Watch.{as_file, file_readings, readings_text}
+use Rattle.room_line.specs.Format.{line_text}
+use Rattle.room_line.specs.declared.format.Format.{Format}
+use Rattle.room_line.specs.declared.format.Format.TheVariants.{Edges, Vcd, Pin, Csv}
+use Rattle.room_run.specs.declared.run.Reporting.TheVariants.{Line}
+use Rattle.room_run.specs.declared.run.Totals.{Totals}
+use Rattle.room_run.specs.Run.{start, IsRunText}
+use Rattle.room_run.specs.Emulate.{IsTraceOf, IsLineOf}
+use Rattle.room_run.specs.OneRun.{AreOverBy, rounds_reported}
 use Rattle.capture_laws.specs.Capture.{AreBeside}
 
 -- a text in a format is read as this capture

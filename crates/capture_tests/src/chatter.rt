@@ -1,10 +1,10 @@
 //! A capture whose slow rises chatter.
-use cec_formats::{Form, read_capture};
-use cec_mon::watch_capture;
-use cec_signal::Capture;
-use cec_smooth::smooth_edges;
-use hdmi_core::Writes;
+use capture_core::Capture;
+use capture_forms::{Form, read_capture};
+use capture_monitor::watch_capture;
+use capture_smooth::smooth_edges;
 use std::process::Abort;
+use text_core::Writes;
 
 /// The low time of each slot of a poll from 4 to 4 that nobody acknowledges (HDMI 1.4 CEC, 5.2.1): a 0 is low for 1,500
 /// microseconds, a 1 for 600.

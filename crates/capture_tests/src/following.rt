@@ -1,10 +1,10 @@
 //! Captures that are followed, over a reader that gives one line at each read and a writer that notes when it was written to.
-use cec_bits::Windows;
-use cec_follow::{FollowError, LineForm, follow};
-use hdmi_core::{Buffered, Writes};
+use follow_core::{FollowError, LineForm, follow};
+use line_reading::Windows;
 use std::cell::RefCell;
 use std::io::{self, ErrorKind, Read, Write};
 use std::process::Abort;
+use text_core::{Buffered, Writes};
 
 /// `FORM:MARGIN TEXT => SAID END`; `csv-NAME` is the form with a name of the wire. In a text `|` ends a line, and `START` is a comment that starts pin events at 100 s; `POLL` has
 /// the lines of the television's own poll from 12,000 on up to its last bit, whose fall is at 38,100. `SAID` has `>` for each line

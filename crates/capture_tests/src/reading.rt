@@ -1,12 +1,12 @@
 //! What captures are read as.
 use crate::rows::ROWS;
-use cec_formats::{CaptureError, Form, read_capture};
-use cec_mon::watch_from_idle;
-use cec_pin::lost_lines;
-use cec_signal::Capture;
-use cec_smooth::smooth_edges;
-use hdmi_core::Writes;
+use capture_core::Capture;
+use capture_forms::{CaptureError, Form, read_capture};
+use capture_monitor::watch_from_idle;
+use capture_pin::lost_lines;
+use capture_smooth::smooth_edges;
 use std::process::Abort;
+use text_core::Writes;
 
 const HEAD: &str = "$timescale 1 us $end|$var wire 1 ! CEC $end|$enddefinitions $end";
 

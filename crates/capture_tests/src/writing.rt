@@ -1,10 +1,10 @@
 //! What is written, over writers that take one byte a call and that fail at each byte.
-use cec_formats::{Form, read_capture};
-use cec_mon::watch_capture;
-use cec_wave::Stretch;
-use hdmi_core::{Counted, WriteFault, Writes};
+use capture_forms::{Form, read_capture};
+use capture_monitor::watch_capture;
+use line_wave::Stretch;
 use std::io::{self, ErrorKind, Write};
 use std::process::Abort;
+use text_core::{Counted, WriteFault, Writes};
 
 /// A writer that takes at most so many bytes a call. It fails once, where it has no room left, and takes bytes again after that.
 #[derive(Drop)]
@@ -85,25 +85,25 @@ fn watch(rt: &(impl Abort + AllocGlobal), out: &mut Out<'_>) -> Result<(), Write
 
 fn dump(name: &str, text: &mut Counted<'_, Out<'_>>) {
     match name {
-        "vcd head" => cec_vcd::add_head(text),
-        "vcd changes" => cec_vcd::add_changes(text, STRETCHES),
-        _ => cec_vcd::add_last(text, 2_030_000),
+        "vcd head" => capture_vcd::add_head(text),
+        "vcd changes" => capture_vcd::add_changes(text, STRETCHES),
+        _ => capture_vcd::add_last(text, 2_030_000),
     }
 }
 
 fn pins(name: &str, text: &mut Counted<'_, Out<'_>>) {
     match name {
-        "pin head" => cec_pin::add_head(text),
-        "pin fall" => cec_pin::add_fall(text, 1_016_500),
-        _ => cec_pin::add_rise(text, 2_030_000),
+        "pin head" => capture_pin::add_head(text),
+        "pin fall" => capture_pin::add_fall(text, 1_016_500),
+        _ => capture_pin::add_rise(text, 2_030_000),
     }
 }
 
 fn rows(name: &str, text: &mut Counted<'_, Out<'_>>) {
     match name {
-        "csv head" => cec_csv::add_head(text),
-        "csv changes" => cec_csv::add_changes(text, STRETCHES),
-        _ => cec_csv::add_last(text, 2_030_000),
+        "csv head" => capture_csv::add_head(text),
+        "csv changes" => capture_csv::add_changes(text, STRETCHES),
+        _ => capture_csv::add_last(text, 2_030_000),
     }
 }
 

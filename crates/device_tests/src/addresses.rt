@@ -1,6 +1,6 @@
 //! The logical addresses that each kind tries, in order, written by hand.
-use cec_feature::{addresses, second_addresses};
-use hdmi_core::Kind;
+use device_features::{addresses, second_addresses};
+use text_core::Kind;
 
 // A kind, the addresses of its unit, and those of its second unit.
 const ROWS: &[(Kind, &[u8], &[u8])] = &[

@@ -1,11 +1,11 @@
 //! Cases of the tables as texts. A line has five columns: kinds, what the record has before, a frame or a key, what
 //! of the record has changed after it, and the frames that it queues. `@` stands for the device's own address.
 use arrayvec::ArrayVec;
-use cec_device::{Device, Fate, Key, KeyError, Note, Port, Record, Volume, VolumeKey};
-use cec_frame::{Addr, Frame};
-use cec_opcode::{DeckInfo, Triple, UserControl};
-use hdmi_core::{Kind, Phys};
+use device_core::{Device, Fate, Key, KeyError, Note, Port, Record, Volume, VolumeKey};
+use line_frames::{Addr, Frame};
+use message_table::{DeckInfo, Triple, UserControl};
 use std::process::Abort;
+use text_core::{Kind, Phys};
 
 pub(crate) fn kind_of(word: &str) -> Option<Kind> {
     match word {

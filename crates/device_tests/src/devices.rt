@@ -2,11 +2,11 @@
 use crate::cases::{bytes_of, check, follow, key_of, phys_of, settled};
 use crate::effect_rows::{BOX, BROADCAST, DIRECT, IGNORED, PRESSED, UNKNOWN};
 use crate::key_rows::{PRESSES, REFUSED, RELEASES};
-use cec_device::{Act, Device, Fate, Port, Record};
-use cec_frame::{Addr, Frame};
-use hdmi_core::Kind;
+use device_core::{Act, Device, Fate, Port, Record};
+use line_frames::{Addr, Frame};
 use std::alloc::Global;
 use std::process::Abort;
+use text_core::Kind;
 
 #[test]
 fn a_new_record_is_on(rt: HostRuntime) {

@@ -5,12 +5,12 @@ use crate::cases::{
     Case, bytes_of, case_of, key_of, kind_of, own_address, phys_at, record_bytes, set_all,
     wanted_bytes,
 };
-use cec_device::{Port, Record};
-use cec_feature::{Heard, Identity, Say, Says, has_key};
-use cec_frame::Frame;
-use cec_opcode::{Decoded, decode};
-use hdmi_core::Kind;
+use device_core::{Port, Record};
+use device_features::{Heard, Identity, Say, Says, has_key};
+use line_frames::Frame;
+use message_table::{Decoded, decode};
 use std::process::Abort;
+use text_core::Kind;
 
 const UNREACHED: &str = "\
 amp+player+recorder+combo | osd=68_69 | 3@ 0d | - | refuse 00

@@ -2,16 +2,16 @@
 use Rattle.std.proofs.Common.{◌≡◌, ℕ, ◌+◌, ◌/◌, ◌%◌, ◌==◌, Bool, true, false, nat_lt, if◌then◌else◌, Option, None, Some, Result, Ok, Err, List, [], ◌∷◌, ◌++◌, append-nil, append_assoc, codes, refl, sym, ap, ◌∙◌, arith}
 use Rattle.std.specs.List.{flat_map}
 use Rattle.std.proofs.lemmas.Bool.Decides.{nat_tests}
-use Rattle.cec_text.specs.FrameText.{frame_text, header_text}
-use Rattle.cec_audit.specs.Kept.{IsPlain, is_remark, without_remarks}
-use Rattle.cec_audit.proofs.KeptLines.{by_line, remark_gone}
-use Rattle.cec_audit.proofs.OneLine.{PlainIf, plain_frame}
-use Rattle.cec_audit.proofs.Plain.{plain_codes, plain_more}
-use Rattle.cec_dis.specs.Lines.{frame_line, line_frame, line_text, remark_text, reported_line}
-use Rattle.cec_dis.specs.Remark.{remark}
-use Rattle.cec_dis.specs.declared.bytes.DisCause.{DisCause}
-use Rattle.cec_meaning.specs.Lines.{meant_frame, meant_read, meant_text}
-use Rattle.cec_meaning.specs.Meaning.{meaning_line}
+use Rattle.message_text.specs.FrameText.{frame_text, header_text}
+use Rattle.audit_core.specs.Kept.{IsPlain, is_remark, without_remarks}
+use Rattle.audit_core.proofs.KeptLines.{by_line, remark_gone}
+use Rattle.audit_core.proofs.OneLine.{PlainIf, plain_frame}
+use Rattle.audit_core.proofs.Plain.{plain_codes, plain_more}
+use Rattle.message_hex.specs.Lines.{frame_line, line_frame, line_text, remark_text, reported_line}
+use Rattle.message_hex.specs.Remark.{remark}
+use Rattle.message_hex.specs.declared.bytes.DisCause.{DisCause}
+use Rattle.message_meaning.specs.Lines.{meant_frame, meant_read, meant_text}
+use Rattle.message_meaning.specs.Meaning.{meaning_line}
 use Rattle.dis_laws.specs.Kept.{MeaningsKeepTheTexts}
 use Rattle.dis_laws.proofs.Meanings.{meaning_remark}
 use Rattle.dis_laws.proofs.Words.{plain_remark}

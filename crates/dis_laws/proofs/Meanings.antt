@@ -1,15 +1,15 @@
 -- The line of a meaning is one line, and begins with two spaces.
 use Rattle.std.proofs.Common.{◌≡◌, ℕ, zero, suc, ◌==◌, Bool, true, false, if◌then◌else◌, Option, None, Some, List, [], ◌∷◌, ◌++◌, length, take, drop, slice_get, codes, option_and_then, unwrap_or, append_assoc, refl, sym, ap, ◌∙◌}
 use Rattle.std.specs.List.{position_or_len}
-use Rattle.cec_opcode.specs.Table.{name_of, rows}
-use Rattle.cec_text.specs.FrameText.{frame_text}
-use Rattle.cec_audit.specs.Kept.{IsClosed, IsPlain, IsRemark}
-use Rattle.cec_audit.proofs.OneLine.{PlainIf, named, or_else, plain_frame}
-use Rattle.cec_audit.proofs.Plain.{plain_codes, plain_more}
-use Rattle.cec_dis.specs.Remark.{remark}
-use Rattle.cec_meaning.specs.Addresses.{receiver, sender}
-use Rattle.cec_meaning.specs.Meaning.{after_word, clause, closing, is_own_poll, joint_of, meaning_line, message_line, opening, other_poll_line, own_poll_line, plain_tail, poll_line, refused_name, remark_lead, remark_word, some_words, statement, tail, told, unread, word, worded}
-use Rattle.cec_meaning.specs.Sentences.{Sentence, sentence_for}
+use Rattle.message_table.specs.Table.{name_of, rows}
+use Rattle.message_text.specs.FrameText.{frame_text}
+use Rattle.audit_core.specs.Kept.{IsClosed, IsPlain, IsRemark}
+use Rattle.audit_core.proofs.OneLine.{PlainIf, named, or_else, plain_frame}
+use Rattle.audit_core.proofs.Plain.{plain_codes, plain_more}
+use Rattle.message_hex.specs.Remark.{remark}
+use Rattle.message_meaning.specs.Addresses.{receiver, sender}
+use Rattle.message_meaning.specs.Meaning.{after_word, clause, closing, is_own_poll, joint_of, meaning_line, message_line, opening, other_poll_line, own_poll_line, plain_tail, poll_line, refused_name, remark_lead, remark_word, some_words, statement, tail, told, unread, word, worded}
+use Rattle.message_meaning.specs.Sentences.{Sentence, sentence_for}
 use Rattle.dis_laws.proofs.Words.{IsPlainSentence, PlainSentence, plain_choice, plain_receiver, plain_remark, plain_sender, plain_sentence}
 
 -- ---- parts of a plain text

@@ -2,13 +2,13 @@
 use Rattle.std.proofs.Common.{◌≡◌, ℕ, zero, suc, ◌/◌, ◌%◌, ◌==◌, Bool, true, false, ◌&&◌, if◌then◌else◌, Option, None, Some, List, [], ◌∷◌, ◌++◌, take, drop, slice_get, find, codes, option_and_then, refl}
 use Rattle.std.specs.List.{list_all}
 use Rattle.std.proofs.lemmas.Bool.{false≢true}
-use Rattle.cec_opcode.specs.WordSets.{NamedByte, word_of}
-use Rattle.cec_audit.specs.Kept.{IsPlain}
-use Rattle.cec_audit.proofs.OneLine.{PlainIf, shown, worded}
-use Rattle.cec_audit.proofs.Plain.{plain_codes}
-use Rattle.cec_dis.specs.Remark.{abort_reasons, audio_rates, deck_states, device_types, first_of, more_names, more_words, operand_remark, place_of, play_modes, powers, record_sources, record_states, remark, timer_cleared, tuner_requests, user_controls, versions}
-use Rattle.cec_meaning.specs.Addresses.{address_name, receiver, sender}
-use Rattle.cec_meaning.specs.Sentences.{Sentence, gives_back, sentence_for, sentence_in, sentences}
+use Rattle.message_table.specs.WordSets.{NamedByte, word_of}
+use Rattle.audit_core.specs.Kept.{IsPlain}
+use Rattle.audit_core.proofs.OneLine.{PlainIf, shown, worded}
+use Rattle.audit_core.proofs.Plain.{plain_codes}
+use Rattle.message_hex.specs.Remark.{abort_reasons, audio_rates, deck_states, device_types, first_of, more_names, more_words, operand_remark, place_of, play_modes, powers, record_sources, record_states, remark, timer_cleared, tuner_requests, user_controls, versions}
+use Rattle.message_meaning.specs.Addresses.{address_name, receiver, sender}
+use Rattle.message_meaning.specs.Sentences.{Sentence, gives_back, sentence_for, sentence_in, sentences}
 
 -- ---- choices
 

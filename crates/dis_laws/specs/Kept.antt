@@ -1,9 +1,9 @@
 -- The meanings of frames stand below their texts, and change none (own).
 use Rattle.std.specs.Prelude.{◌≡◌, ℕ, List}
 use Rattle.std.specs.List.{flat_map}
-use Rattle.cec_audit.specs.Kept.{without_remarks}
-use Rattle.cec_dis.specs.Lines.{line_text}
-use Rattle.cec_meaning.specs.Lines.{meant_text}
+use Rattle.audit_core.specs.Kept.{without_remarks}
+use Rattle.message_hex.specs.Lines.{line_text}
+use Rattle.message_meaning.specs.Lines.{meant_text}
 
 -- The lines that do not begin with a space are those that are written without meanings.
 abbrev pub MeaningsKeepTheTexts : Type 0

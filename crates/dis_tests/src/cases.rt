@@ -1,10 +1,10 @@
 //! Each row through the call that the program makes.
 use crate::rows::{MEANINGS, REFUSED, REMARKS, SPELLINGS, USER_CONTROLS};
-use cec_dis::{DisError, dis_lines};
-use cec_meaning::dis_with_meaning;
-use hdmi_core::Writes;
+use message_hex::{DisError, dis_lines};
+use message_meaning::dis_with_meaning;
 use std::io::{self, ErrorKind, Write};
 use std::process::Abort;
+use text_core::Writes;
 
 /// What is written of a text, or why nothing is.
 fn reported(rt: &(impl Abort + AllocGlobal), text: &str) -> String {

@@ -5,19 +5,19 @@ use Rattle.std.specs.Option.{option_to_list}
 use mathlib.Core.Bool.{beq}
 use Rattle.std.proofs.lemmas.Bool.{cases_lt}
 use Rattle.std.proofs.lemmas.Bool.Decides.{nat_tests}
-use Rattle.cec_wave.specs.Line.{Line, covers, line_of}
-use Rattle.cec_frame.specs.Bits.{frame_bits}
-use Rattle.cec_bits.specs.Windows.{sample_at}
-use Rattle.cec_bits.specs.Reading.After.{Next, Ends}
-use Rattle.cec_bits.specs.Reading.{Known, Slot, known_at, known_slot, known_slots, reading_of, read_start, read_slots, read_on, after_slot, last_ending, bit_sampled_at, start_of, After}
-use Rattle.cec_bits.specs.Sending.{bit_read, destination, known_bits, is_whole, is_out_by}
-use Rattle.cec_wire.specs.declared.Seat.{Seat}
-use Rattle.cec_wire.specs.declared.Outcome.{Outcome}
-use Rattle.cec_wire.specs.Round.{acknowledges, all_known, is_acknowledged, is_held, out_of, sends_in}
-use Rattle.cec_wire.specs.Contend.{leaves}
-use Rattle.cec_wire.proofs.Early.{destination_more, leaves_more, and_left, and_right}
-use Rattle.cec_wire.proofs.Spans.{AreSpaced, bits_more, reading_spans}
-use Rattle.cec_drives.specs.Stretches.{ack_by, ack_in, ack_stretches, acknowledges_in, goes_to, slot_fall, stretch}
+use Rattle.line_wave.specs.Line.{Line, covers, line_of}
+use Rattle.line_frames.specs.Bits.{frame_bits}
+use Rattle.line_reading.specs.Windows.{sample_at}
+use Rattle.line_reading.specs.Reading.After.{Next, Ends}
+use Rattle.line_reading.specs.Reading.{Known, Slot, known_at, known_slot, known_slots, reading_of, read_start, read_slots, read_on, after_slot, last_ending, bit_sampled_at, start_of, After}
+use Rattle.line_reading.specs.Sending.{bit_read, destination, known_bits, is_whole, is_out_by}
+use Rattle.line_rounds.specs.declared.Seat.{Seat}
+use Rattle.line_rounds.specs.declared.Outcome.{Outcome}
+use Rattle.line_rounds.specs.Round.{acknowledges, all_known, is_acknowledged, is_held, out_of, sends_in}
+use Rattle.line_rounds.specs.Contend.{leaves}
+use Rattle.line_rounds.proofs.Early.{destination_more, leaves_more, and_left, and_right}
+use Rattle.line_rounds.proofs.Spans.{AreSpaced, bits_more, reading_spans}
+use Rattle.room_drives.specs.Stretches.{ack_by, ack_in, ack_stretches, acknowledges_in, goes_to, slot_fall, stretch}
 use Rattle.drive_laws.proofs.Sent.{FrontReported, all_bits, bits_at, found_before, front_reported, known_after, one_known, spaced_get}
 use Rattle.drive_laws.proofs.Slots.{falls_at}
 use Rattle.drive_laws.proofs.Seats.{Reports}

@@ -3,22 +3,22 @@ use Rattle.std.proofs.Common.{◌≡◌, ℕ, zero, suc, ◌+◌, ◌-◌, ◌<�
 use Rattle.std.specs.List.{list_any}
 use Rattle.std.proofs.lemmas.Bool.{cases_lt}
 use Rattle.std.proofs.lemmas.Bool.Decides.{nat_tests}
-use Rattle.cec_wave.specs.declared.Stretch.{Stretch}
-use Rattle.cec_wave.specs.Line.{Line, covers, line_of, was_low, IsWave, IsWaveFrom}
-use Rattle.cec_bits.specs.Reading.{End, known_at, reading_of}
-use Rattle.cec_wire.specs.declared.Seat.{Seat}
-use Rattle.cec_wire.specs.declared.Outcome.{Outcome}
-use Rattle.cec_wire.specs.Bounds.{begun_within}
-use Rattle.cec_wire.specs.Round.{is_within, pulse_pulls, frames_of, is_acknowledged, is_broken, IsRound}
-use Rattle.cec_bits.specs.Sending.{sender_pulls}
-use Rattle.cec_wire.proofs.Bounds.{rounds_are_short}
-use Rattle.cec_wire.proofs.Differ.{In, any_agree_in, any_in}
-use Rattle.cec_wire.proofs.Early.{or_cases, and_left, and_right}
-use Rattle.cec_wire.proofs.Lasting.{rest_past, rest_rises}
-use Rattle.cec_wire.proofs.Law.{all_in}
-use Rattle.cec_wire.proofs.Lows.{wave_wide}
-use Rattle.cec_wire.proofs.OneOutcome.{covers_own}
-use Rattle.cec_drives.specs.Drives.{pulse_line}
+use Rattle.line_wave.specs.declared.Stretch.{Stretch}
+use Rattle.line_wave.specs.Line.{Line, covers, line_of, was_low, IsWave, IsWaveFrom}
+use Rattle.line_reading.specs.Reading.{End, known_at, reading_of}
+use Rattle.line_rounds.specs.declared.Seat.{Seat}
+use Rattle.line_rounds.specs.declared.Outcome.{Outcome}
+use Rattle.line_rounds.specs.Bounds.{begun_within}
+use Rattle.line_rounds.specs.Round.{is_within, pulse_pulls, frames_of, is_acknowledged, is_broken, IsRound}
+use Rattle.line_reading.specs.Sending.{sender_pulls}
+use Rattle.line_rounds.proofs.Bounds.{rounds_are_short}
+use Rattle.line_rounds.proofs.Differ.{In, any_agree_in, any_in}
+use Rattle.line_rounds.proofs.Early.{or_cases, and_left, and_right}
+use Rattle.line_rounds.proofs.Lasting.{rest_past, rest_rises}
+use Rattle.line_rounds.proofs.Law.{all_in}
+use Rattle.line_rounds.proofs.Lows.{wave_wide}
+use Rattle.line_rounds.proofs.OneOutcome.{covers_own}
+use Rattle.room_drives.specs.Drives.{pulse_line}
 use Rattle.drive_laws.proofs.Acks.{both_ways}
 
 any_filter : {X : Type 0} (p test : X → Bool) (xs : List X) → list_any p (filter test xs) ≡ list_any (λ x. test x && p x) xs

@@ -3,20 +3,20 @@ use Rattle.std.proofs.Common.{◌≡◌, ℕ, ◌+◌, ◌-◌, ◌<◌, ◌≤�
 use Rattle.std.specs.List.{list_any, cons_option}
 use Rattle.std.proofs.lemmas.Bool.{cases_lt}
 use Rattle.std.proofs.lemmas.Bool.Decides.{nat_tests}
-use Rattle.cec_wave.specs.declared.Stretch.{Stretch}
-use Rattle.cec_wave.specs.Line.{Line, covers, line_of, was_low}
-use Rattle.cec_wave.specs.Sender.{sender_stretches}
-use Rattle.cec_frame.specs.Bits.{frame_bits}
-use Rattle.cec_frame.specs.declared.Ending.{Ending}
-use Rattle.cec_frame.specs.declared.Ending.TheVariants.{Complete, Short, Silent, BadStart, Long, Open}
-use Rattle.cec_bits.specs.Reading.{End, Known, known_at, reading_of, bits_of}
-use Rattle.cec_bits.proofs.Ends.{at_by}
-use Rattle.cec_bits.specs.Sending.{known_bits, out_slot, sender_pulls}
-use Rattle.cec_wire.specs.declared.Seat.{Seat}
-use Rattle.cec_wire.specs.declared.Outcome.{Outcome}
-use Rattle.cec_wire.specs.Round.{all_known, is_broken, is_within, out_of, sends_in}
-use Rattle.cec_wire.proofs.Spans.{reading_spans}
-use Rattle.cec_drives.specs.Stretches.{break_stretches, breaks_off, cut_after, goes_to, is_short, last_pull, sample_by, sent_stretches, slot_fall, stretch}
+use Rattle.line_wave.specs.declared.Stretch.{Stretch}
+use Rattle.line_wave.specs.Line.{Line, covers, line_of, was_low}
+use Rattle.line_wave.specs.Sender.{sender_stretches}
+use Rattle.line_frames.specs.Bits.{frame_bits}
+use Rattle.line_frames.specs.declared.Ending.{Ending}
+use Rattle.line_frames.specs.declared.Ending.TheVariants.{Complete, Short, Silent, BadStart, Long, Open}
+use Rattle.line_reading.specs.Reading.{End, Known, known_at, reading_of, bits_of}
+use Rattle.line_reading.proofs.Ends.{at_by}
+use Rattle.line_reading.specs.Sending.{known_bits, out_slot, sender_pulls}
+use Rattle.line_rounds.specs.declared.Seat.{Seat}
+use Rattle.line_rounds.specs.declared.Outcome.{Outcome}
+use Rattle.line_rounds.specs.Round.{all_known, is_broken, is_within, out_of, sends_in}
+use Rattle.line_rounds.proofs.Spans.{reading_spans}
+use Rattle.room_drives.specs.Stretches.{break_stretches, breaks_off, cut_after, goes_to, is_short, last_pull, sample_by, sent_stretches, slot_fall, stretch}
 use Rattle.drive_laws.proofs.Sent.{all_bits, known_after, last_by, out_by_then, out_slot_of, stops}
 use Rattle.drive_laws.proofs.Slots.{falls_at}
 

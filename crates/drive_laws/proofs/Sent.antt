@@ -5,21 +5,21 @@ use Rattle.std.specs.Option.{option_to_list}
 use mathlib.Core.Bool.{beq}
 use Rattle.std.proofs.lemmas.Bool.{cases_lt}
 use Rattle.std.proofs.lemmas.Bool.Decides.{nat_tests}
-use Rattle.cec_wave.specs.Line.{Line}
-use Rattle.cec_bits.specs.Windows.{standard, sample_at}
-use Rattle.cec_bits.specs.Reading.After.{Next, Ends}
-use Rattle.cec_frame.specs.declared.Ending.{Ending}
-use Rattle.cec_frame.specs.declared.Ending.TheVariants.{Complete, Short, Silent, BadStart, Long, Open}
-use Rattle.cec_bits.specs.Reading.{after_fall, after_last, last_heard, next_fall, sample, Read, Known, Slot, known_at, known_slots, reading_of, read_start, read_slots, read_on, after_slot, last_ending, bit_sampled_at, start_of, bits_of, After}
-use Rattle.cec_bits.specs.Sending.{bit_read, destination, known_bits, is_whole, has_all, is_out_by, out_by, out_slot, goes_on}
-use Rattle.cec_bits.proofs.Ends.{until_by}
-use Rattle.cec_wire.specs.Round.{all_known, is_not_before}
-use Rattle.cec_wire.specs.Contend.{leaves}
-use Rattle.cec_wire.proofs.Early.{leaves_more}
-use Rattle.cec_wire.proofs.Polled.{reported_bits}
-use Rattle.cec_wire.proofs.Spans.{AreSpaced, AreReported, IsReported, MoreBits, bits_more, reading_spans, reported_all}
-use Rattle.cec_wire.proofs.Walk.{next_falls, quiet_sample}
-use Rattle.cec_drives.specs.Stretches.{sample_by}
+use Rattle.line_wave.specs.Line.{Line}
+use Rattle.line_reading.specs.Windows.{standard, sample_at}
+use Rattle.line_reading.specs.Reading.After.{Next, Ends}
+use Rattle.line_frames.specs.declared.Ending.{Ending}
+use Rattle.line_frames.specs.declared.Ending.TheVariants.{Complete, Short, Silent, BadStart, Long, Open}
+use Rattle.line_reading.specs.Reading.{after_fall, after_last, last_heard, next_fall, sample, Read, Known, Slot, known_at, known_slots, reading_of, read_start, read_slots, read_on, after_slot, last_ending, bit_sampled_at, start_of, bits_of, After}
+use Rattle.line_reading.specs.Sending.{bit_read, destination, known_bits, is_whole, has_all, is_out_by, out_by, out_slot, goes_on}
+use Rattle.line_reading.proofs.Ends.{until_by}
+use Rattle.line_rounds.specs.Round.{all_known, is_not_before}
+use Rattle.line_rounds.specs.Contend.{leaves}
+use Rattle.line_rounds.proofs.Early.{leaves_more}
+use Rattle.line_rounds.proofs.Polled.{reported_bits}
+use Rattle.line_rounds.proofs.Spans.{AreSpaced, AreReported, IsReported, MoreBits, bits_more, reading_spans, reported_all}
+use Rattle.line_rounds.proofs.Walk.{next_falls, quiet_sample}
+use Rattle.room_drives.specs.Stretches.{sample_by}
 
 -- ---- every slot but the last was sampled
 

@@ -4,19 +4,19 @@ use Rattle.std.specs.List.{list_any}
 use Rattle.std.specs.Option.{option_to_list}
 use Rattle.std.proofs.lemmas.Bool.{cases_lt}
 use Rattle.std.proofs.lemmas.Bool.Decides.{nat_tests}
-use Rattle.cec_wave.specs.declared.Stretch.{Stretch}
-use Rattle.cec_wave.specs.Line.{Line, is_fall, is_rise, line_of, IsWaveFrom}
-use Rattle.cec_frame.specs.declared.Ending.{Ending}
-use Rattle.cec_frame.specs.declared.Ending.TheVariants.{Short}
-use Rattle.cec_bits.specs.Windows.{standard, sample_at}
-use Rattle.cec_bits.specs.Reading.After.{Next, Ends}
-use Rattle.cec_bits.specs.Reading.{Slot, reading_of, read_start, read_slots, read_on, start_of, start_rise, start_fall, next_rise, next_fall, after_slot, after_fall, after_last, last_ending, bit_sampled_at, After}
-use Rattle.cec_bits.proofs.Causes.{not_over}
-use Rattle.cec_bits.proofs.Ends.{slots_until}
-use Rattle.cec_bits.proofs.Search.{Found, found_first, found_none}
-use Rattle.cec_bits.proofs.Waves.{falls_of_wave, no_begin, rises_of_wave}
-use Rattle.cec_wire.proofs.Walk.{next_falls}
-use Rattle.cec_drives.specs.Stretches.{fall_by}
+use Rattle.line_wave.specs.declared.Stretch.{Stretch}
+use Rattle.line_wave.specs.Line.{Line, is_fall, is_rise, line_of, IsWaveFrom}
+use Rattle.line_frames.specs.declared.Ending.{Ending}
+use Rattle.line_frames.specs.declared.Ending.TheVariants.{Short}
+use Rattle.line_reading.specs.Windows.{standard, sample_at}
+use Rattle.line_reading.specs.Reading.After.{Next, Ends}
+use Rattle.line_reading.specs.Reading.{Slot, reading_of, read_start, read_slots, read_on, start_of, start_rise, start_fall, next_rise, next_fall, after_slot, after_fall, after_last, last_ending, bit_sampled_at, After}
+use Rattle.line_reading.proofs.Causes.{not_over}
+use Rattle.line_reading.proofs.Ends.{slots_until}
+use Rattle.line_reading.proofs.Search.{Found, found_first, found_none}
+use Rattle.line_reading.proofs.Waves.{falls_of_wave, no_begin, rises_of_wave}
+use Rattle.line_rounds.proofs.Walk.{next_falls}
+use Rattle.room_drives.specs.Stretches.{fall_by}
 
 -- ---- the falls after one
 

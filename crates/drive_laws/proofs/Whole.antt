@@ -3,23 +3,23 @@ use Rattle.std.proofs.Common.{◌≡◌, ℕ, zero, suc, ◌+◌, ◌-◌, ◌==
 use Rattle.std.specs.List.{list_any, cons_option}
 use Rattle.std.proofs.lemmas.Bool.{cases_lt}
 use Rattle.std.proofs.lemmas.Bool.Decides.{nat_tests}
-use Rattle.cec_wave.specs.declared.Stretch.{Stretch}
-use Rattle.cec_wave.specs.Line.{Line, covers, line_of, was_low, IsWave}
-use Rattle.cec_bits.specs.Reading.{End, Read, known_at, reading_of, start_of}
-use Rattle.cec_bits.proofs.Waves.{quiet}
-use Rattle.cec_wire.specs.declared.Loser.{Loser}
-use Rattle.cec_wire.specs.declared.Seat.{Seat}
-use Rattle.cec_wire.specs.declared.Outcome.{Outcome}
-use Rattle.cec_wire.specs.Bounds.{begun_within}
-use Rattle.cec_bits.specs.Sending.{sender_pulls}
-use Rattle.cec_wire.specs.Round.{frames_of, is_acknowledged, is_broken, is_within, lost_at, losers_from, out_in, out_of, pulse_pulls, IsRoundLine}
-use Rattle.cec_wire.proofs.Afterwards.{no_fall_after}
-use Rattle.cec_wire.proofs.Lasting.{begun_by, contended, low_at_begin}
-use Rattle.cec_wire.proofs.OneOutcome.{covers_own}
-use Rattle.cec_wire.proofs.Still.{high_before}
-use Rattle.cec_drives.specs.Drives.{pulse_line, seat_line}
-use Rattle.cec_drives.specs.Stretches.{ack_stretches, break_stretches, drives_from, drives_of, fall_by, seat_stretches_by, sent_stretches, slot_fall}
-use Rattle.cec_drives.proofs.Driven.{lines_are_driven}
+use Rattle.line_wave.specs.declared.Stretch.{Stretch}
+use Rattle.line_wave.specs.Line.{Line, covers, line_of, was_low, IsWave}
+use Rattle.line_reading.specs.Reading.{End, Read, known_at, reading_of, start_of}
+use Rattle.line_reading.proofs.Waves.{quiet}
+use Rattle.line_rounds.specs.declared.Loser.{Loser}
+use Rattle.line_rounds.specs.declared.Seat.{Seat}
+use Rattle.line_rounds.specs.declared.Outcome.{Outcome}
+use Rattle.line_rounds.specs.Bounds.{begun_within}
+use Rattle.line_reading.specs.Sending.{sender_pulls}
+use Rattle.line_rounds.specs.Round.{frames_of, is_acknowledged, is_broken, is_within, lost_at, losers_from, out_in, out_of, pulse_pulls, IsRoundLine}
+use Rattle.line_rounds.proofs.Afterwards.{no_fall_after}
+use Rattle.line_rounds.proofs.Lasting.{begun_by, contended, low_at_begin}
+use Rattle.line_rounds.proofs.OneOutcome.{covers_own}
+use Rattle.line_rounds.proofs.Still.{high_before}
+use Rattle.room_drives.specs.Drives.{pulse_line, seat_line}
+use Rattle.room_drives.specs.Stretches.{ack_stretches, break_stretches, drives_from, drives_of, fall_by, seat_stretches_by, sent_stretches, slot_fall}
+use Rattle.room_drives.proofs.Driven.{lines_are_driven}
 use Rattle.drive_laws.specs.DriveLaws.{DrivesAreRuled, DrivesAreTheLine}
 use Rattle.drive_laws.proofs.Acks.{ack_line, any_append}
 use Rattle.drive_laws.proofs.Pulses.{pulses_line}

@@ -1,14 +1,14 @@
 -- The line of a round is low exactly where one of its drives is (own).
 use Rattle.std.specs.Prelude.{◌≡◌, ℕ, true, List, [], ◌∷◌, ◌++◌, map}
 use Rattle.std.specs.List.{list_any}
-use Rattle.cec_wave.specs.declared.Stretch.{Stretch}
-use Rattle.cec_wave.specs.Line.{line_of, IsWave}
-use Rattle.cec_wire.specs.declared.Seat.{Seat}
-use Rattle.cec_wire.specs.declared.Outcome.{Outcome}
-use Rattle.cec_wire.specs.Lasting.{is_begun}
-use Rattle.cec_wire.specs.Round.{IsRound}
-use Rattle.cec_drives.specs.Drives.{pulse_line, seat_line}
-use Rattle.cec_drives.specs.Stretches.{drives_of}
+use Rattle.line_wave.specs.declared.Stretch.{Stretch}
+use Rattle.line_wave.specs.Line.{line_of, IsWave}
+use Rattle.line_rounds.specs.declared.Seat.{Seat}
+use Rattle.line_rounds.specs.declared.Outcome.{Outcome}
+use Rattle.line_rounds.specs.Lasting.{is_begun}
+use Rattle.line_rounds.specs.Round.{IsRound}
+use Rattle.room_drives.specs.Drives.{pulse_line, seat_line}
+use Rattle.room_drives.specs.Stretches.{drives_of}
 
 -- In a round in which somebody pulls at once, whatever pulls in order there are, the line is low in a microsecond if and only if one of the seats, or a pulse
 -- that begins in the round, pulls then.

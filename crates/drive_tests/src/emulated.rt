@@ -1,9 +1,9 @@
 //! Dumps of runs.
 use crate::rows::{DUMP, POLL, SCRIPT, TOPOLOGY};
-use cec_driven::{Wires, emulate_drives};
-use hdmi_core::Writes;
+use room_driven::{Wires, emulate_drives};
 use std::io::{self, ErrorKind, Write};
 use std::process::Abort;
+use text_core::Writes;
 
 /// A writer that takes at most so many bytes a call. It fails once, where it has no room left, and takes bytes again after that.
 #[derive(Drop)]

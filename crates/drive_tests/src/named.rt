@@ -1,7 +1,7 @@
 //! Dumps of runs with the two wires of text, worked out by hand as those without them.
 use crate::emulated::{dumped, is_written};
 use crate::rows::TOPOLOGY;
-use cec_driven::Wires;
+use room_driven::Wires;
 use std::process::Abort;
 
 const HEAD: &str = "\

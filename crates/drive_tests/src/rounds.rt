@@ -2,11 +2,11 @@
 ghost use Rattle.std.specs.Prelude.{◌≤◌, length};
 
 use arrayvec::ArrayVec;
-use cec_drives::{begun_within, seat_drive};
-use cec_frame::{Addr, Frame};
-use cec_one_wire::EdgeWire;
-use cec_wave::{Pulls, Stretch};
-use cec_wire::{Outcome, Seat, Wire};
+use line_frames::{Addr, Frame};
+use line_rounds::{Outcome, Seat, Wire};
+use line_wave::{Pulls, Stretch};
+use line_wire::EdgeWire;
+use room_drives::{begun_within, seat_drive};
 use std::alloc::Global;
 use std::process::Abort;
 

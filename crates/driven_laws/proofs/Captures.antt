@@ -2,9 +2,9 @@
 use Rattle.std.proofs.Common.{◌≡◌, ℕ, ◌+◌, ◌<◌, ◌≤◌, Bool, true, false, not, nat_lt, if◌then◌else◌, List, [], ◌∷◌, inl, inr, refl, sym, ap, ap₂, ◌∙◌, subst, arith}
 use Rattle.std.proofs.lemmas.Bool.{cases_lt}
 use Rattle.std.proofs.lemmas.Bool.Decides.{nat_tests}
-use Rattle.cec_wave.specs.declared.Edge.{Edge}
-use Rattle.cec_signal.specs.Edges.{AreInTurn, Captured, IsCapture, level_at, line_of_edges}
-use Rattle.cec_signal.proofs.Recording.{before_turn}
+use Rattle.line_wave.specs.declared.Edge.{Edge}
+use Rattle.capture_core.specs.Edges.{AreInTurn, Captured, IsCapture, level_at, line_of_edges}
+use Rattle.capture_core.proofs.Recording.{before_turn}
 
 -- at an edge the level is the edge's
 at_edge : (b : Bool) (from : ℕ) (e : Edge) (es : List Edge) → AreInTurn b from (e ∷ es) → level_at b (e ∷ es) e.at ≡ not b

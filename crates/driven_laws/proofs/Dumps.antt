@@ -3,43 +3,43 @@ use Rattle.std.proofs.Common.{◌≡◌, ℕ, zero, suc, ◌+◌, ◌≤◌, Boo
 use Rattle.std.proofs.lemmas.List.{map-append}
 use Rattle.std.specs.List.{All, flat_map, list_any}
 use Rattle.std.proofs.lemmas.List.Folds.{list_any-append}
-use Rattle.cec_wave.specs.declared.Stretch.{Stretch}
-use Rattle.cec_wave.specs.Line.{IsWave, covers, line_of}
-use Rattle.cec_wave.specs.Bounds.{latest_instant}
-use Rattle.cec_wire.specs.declared.Seat.{Seat}
-use Rattle.cec_wire.specs.declared.Outcome.{Outcome}
-use Rattle.cec_signal.specs.Edges.{Captured, IsCapture, edges_of, line_of_edges}
-use Rattle.hdmi_topo.specs.Node.{Node}
-use Rattle.cec_net.specs.Line.{run_wave}
-use Rattle.cec_net.specs.State.{first_net}
-use Rattle.cec_net.proofs.Framed.{framed-started}
-use Rattle.cec_asm.proofs.Sound.{scripts_are_sound}
-use Rattle.cec_vcd.specs.Dump.{edges_in}
-use Rattle.cec_vcd.specs.Text.{last}
-use Rattle.cec_vcd.specs.Wire.{wire_line}
-use Rattle.cec_wires.specs.Wires.{head, id_of}
-use Rattle.cec_drives.specs.Stretches.{drives_from}
-use Rattle.cec_line.specs.Format.{line_text}
-use Rattle.cec_line.specs.declared.format.Format.TheVariants.{Vcd}
-use Rattle.cec_run.specs.declared.run.Reporting.TheVariants.{Line}
-use Rattle.cec_run.specs.declared.run.Totals.{Totals}
-use Rattle.cec_run.specs.declared.run.Turn.{Turn}
-use Rattle.cec_run.specs.declared.run.Turn.TheVariants.{Stop, Apply, Round}
-use Rattle.cec_run.specs.Run.{Config, IsTurnBy, Leads, end_reported, start, start_reported, turn_at}
-use Rattle.cec_run.specs.RunLine as run_line
-use Rattle.cec_run.specs.Emulate.{IsLineOf}
-use Rattle.cec_run.proofs.Accepted.{texts_have_one_line}
-use Rattle.cec_run.proofs.OneRun.{runs_close_soon, texts_have_one_run}
-use Rattle.cec_run.proofs.WholeLine.{lines_are_of_the_rounds}
-use Rattle.cec_driven.specs.Driven.{Drives, IsDrivenBy}
-use Rattle.cec_driven.specs.Emulate.{IsDrivesOf}
-use Rattle.cec_driven.proofs.Counts.{count_started}
-use Rattle.cec_driven.proofs.HasDrives.{runs_have_drives}
+use Rattle.line_wave.specs.declared.Stretch.{Stretch}
+use Rattle.line_wave.specs.Line.{IsWave, covers, line_of}
+use Rattle.line_wave.specs.Bounds.{latest_instant}
+use Rattle.line_rounds.specs.declared.Seat.{Seat}
+use Rattle.line_rounds.specs.declared.Outcome.{Outcome}
+use Rattle.capture_core.specs.Edges.{Captured, IsCapture, edges_of, line_of_edges}
+use Rattle.edid_tree.specs.Node.{Node}
+use Rattle.room_net.specs.Line.{run_wave}
+use Rattle.room_net.specs.State.{first_net}
+use Rattle.room_net.proofs.Framed.{framed-started}
+use Rattle.room_script.proofs.Sound.{scripts_are_sound}
+use Rattle.capture_vcd.specs.Dump.{edges_in}
+use Rattle.capture_vcd.specs.Text.{last}
+use Rattle.capture_vcd.specs.Wire.{wire_line}
+use Rattle.capture_wires.specs.Wires.{head, id_of}
+use Rattle.room_drives.specs.Stretches.{drives_from}
+use Rattle.room_line.specs.Format.{line_text}
+use Rattle.room_line.specs.declared.format.Format.TheVariants.{Vcd}
+use Rattle.room_run.specs.declared.run.Reporting.TheVariants.{Line}
+use Rattle.room_run.specs.declared.run.Totals.{Totals}
+use Rattle.room_run.specs.declared.run.Turn.{Turn}
+use Rattle.room_run.specs.declared.run.Turn.TheVariants.{Stop, Apply, Round}
+use Rattle.room_run.specs.Run.{Config, IsTurnBy, Leads, end_reported, start, start_reported, turn_at}
+use Rattle.room_run.specs.RunLine as run_line
+use Rattle.room_run.specs.Emulate.{IsLineOf}
+use Rattle.room_run.proofs.Accepted.{texts_have_one_line}
+use Rattle.room_run.proofs.OneRun.{runs_close_soon, texts_have_one_run}
+use Rattle.room_run.proofs.WholeLine.{lines_are_of_the_rounds}
+use Rattle.room_driven.specs.Driven.{Drives, IsDrivenBy}
+use Rattle.room_driven.specs.Emulate.{IsDrivesOf}
+use Rattle.room_driven.proofs.Counts.{count_started}
+use Rattle.room_driven.proofs.HasDrives.{runs_have_drives}
 use Rattle.capture_laws.proofs.Formats.{is_capture, lines_are_read_back}
 use Rattle.capture_laws.proofs.ReadBack.{over_by_script, same_line}
-use Rattle.dump_laws.specs.Dumps.{Declared, Span, ReportsLine, ReportsWires, dump_of, level_at, numbered_names, wire_at}
-use Rattle.dump_laws.proofs.ReadHead.{dumps_are_read_as_the_line}
-use Rattle.dump_laws.proofs.Whole.{dumps_report_their_wires}
+use Rattle.wires_laws.specs.Dumps.{Declared, Span, ReportsLine, ReportsWires, dump_of, level_at, numbered_names, wire_at}
+use Rattle.wires_laws.proofs.ReadHead.{dumps_are_read_as_the_line}
+use Rattle.wires_laws.proofs.Whole.{dumps_report_their_wires}
 use Rattle.driven_laws.specs.Rounds.{IsRuled, Laid, RoundsAreRuled, RoundsAreTheTraces, drives, pulls, rounds_by, rounds_in, rounds_of}
 use Rattle.driven_laws.specs.Dumps.{DumpsAreReadAsLines, DumpsReportDrives, ReportsDrives, TextsHaveDrives, names_in}
 use Rattle.driven_laws.proofs.Captures.{same_captures}

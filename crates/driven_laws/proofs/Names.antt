@@ -6,29 +6,29 @@ use Rattle.std.specs.Str.{bytes_eq}
 use Rattle.std.proofs.lemmas.Bool.Decides.{nat_tests}
 use Rattle.std.proofs.lemmas.List.Elements.{All-append, All-cons, All-nil}
 use Rattle.std.proofs.lemmas.Slice.Eq.{bytes_eq-Decides}
-use Rattle.hdmi_core.specs.declared.kind.Kind.{Kind}
-use Rattle.hdmi_core.specs.declared.phys.Phys.{Phys}
-use Rattle.hdmi_topo.specs.Name.{is_name, is_name_byte}
-use Rattle.hdmi_topo.specs.Node.{Node}
-use Rattle.hdmi_topo.specs.Path.{address_of}
-use Rattle.hdmi_topo.specs.Tree.{add_fault, tree_with_device, device_named, has_root, plug_fault, tree_with_plug, with_plug}
-use Rattle.hdmi_topo.specs.declared.plug.Plug.{Plug}
-use Rattle.hdmi_topo.specs.declared.plug.AddError.{AddError}
-use Rattle.hdmi_topo.specs.declared.plug.PlugError.{PlugError}
-use Rattle.cec_wave.specs.declared.Stretch.{Stretch}
-use Rattle.hdmi_core.specs.Lines.{is_skipped, lines_of}
-use Rattle.hdmi_core.specs.Number.{number_of}
-use Rattle.hdmi_core.specs.Words.{one_of, three_of, words_of}
-use Rattle.cec_vcd.specs.Dump.{is_end, is_space}
-use Rattle.hdmi_core.specs.Kind.{kind_named}
-use Rattle.cec_asm.specs.Topology.{Plan, TopologyFault, at_line, at_word, fault_at, bytes_of, device_line, device_read, edid_line, edid_read, line_read, lines_read, plug_line, plug_read, topology_of, unless_add, unless_plug, plan_with_words}
-use Rattle.cec_asm.specs.declared.topology.TopologyCause.TheVariants as causes
-use Rattle.cec_device.specs.State.{State, frame_of, addresses_held, holds, one_more, with_queued, speaks}
-use Rattle.cec_device.specs.Place.{fresh, is_on_wire, after_joining, reported_by, reported_from, start_place}
-use Rattle.cec_feature.specs.Kinds.{is_switch, type_of}
-use Rattle.cec_net.specs.State.{each_from, loose, after_move, moved_by, first_net}
-use Rattle.cec_driven.specs.Driven.{names_of}
-use Rattle.dump_laws.specs.Dumps.{is_word}
+use Rattle.text_core.specs.declared.kind.Kind.{Kind}
+use Rattle.text_core.specs.declared.phys.Phys.{Phys}
+use Rattle.edid_tree.specs.Name.{is_name, is_name_byte}
+use Rattle.edid_tree.specs.Node.{Node}
+use Rattle.edid_tree.specs.Path.{address_of}
+use Rattle.edid_tree.specs.Tree.{add_fault, tree_with_device, device_named, has_root, plug_fault, tree_with_plug, with_plug}
+use Rattle.edid_tree.specs.declared.plug.Plug.{Plug}
+use Rattle.edid_tree.specs.declared.plug.AddError.{AddError}
+use Rattle.edid_tree.specs.declared.plug.PlugError.{PlugError}
+use Rattle.line_wave.specs.declared.Stretch.{Stretch}
+use Rattle.text_core.specs.Lines.{is_skipped, lines_of}
+use Rattle.text_core.specs.Number.{number_of}
+use Rattle.text_core.specs.Words.{one_of, three_of, words_of}
+use Rattle.capture_vcd.specs.Dump.{is_end, is_space}
+use Rattle.text_core.specs.Kind.{kind_named}
+use Rattle.room_script.specs.Topology.{Plan, TopologyFault, at_line, at_word, fault_at, bytes_of, device_line, device_read, edid_line, edid_read, line_read, lines_read, plug_line, plug_read, topology_of, unless_add, unless_plug, plan_with_words}
+use Rattle.room_script.specs.declared.topology.TopologyCause.TheVariants as causes
+use Rattle.device_core.specs.State.{State, frame_of, addresses_held, holds, one_more, with_queued, speaks}
+use Rattle.device_core.specs.Place.{fresh, is_on_wire, after_joining, reported_by, reported_from, start_place}
+use Rattle.device_features.specs.Kinds.{is_switch, type_of}
+use Rattle.room_net.specs.State.{each_from, loose, after_move, moved_by, first_net}
+use Rattle.room_driven.specs.Driven.{names_of}
+use Rattle.wires_laws.specs.Dumps.{is_word}
 use Rattle.driven_laws.specs.Dumps.{names_in}
 
 -- ---- a device keeps its name

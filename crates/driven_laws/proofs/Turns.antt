@@ -3,38 +3,38 @@ use Rattle.std.proofs.Common.{◌≡◌, ℕ, zero, suc, ◌+◌, ◌-◌, ◌<�
 use Rattle.std.specs.List.{All, filter, list_any}
 use Rattle.std.proofs.lemmas.Bool.Decides.{nat_tests}
 use Rattle.std.proofs.lemmas.List.Elements.{All-cons, All-nil, filter_passes}
-use Rattle.cec_wave.specs.declared.Stretch.{Stretch}
-use Rattle.cec_wave.specs.Line.{IsWave, line_of}
-use Rattle.cec_wave.proofs.Kept.{wave_filter}
-use Rattle.cec_bits.specs.Readings.{IsLone}
-use Rattle.cec_wire.specs.declared.Outcome.{Outcome}
-use Rattle.cec_wire.specs.Alone.{part_of}
-use Rattle.cec_wire.specs.Round.{close_in}
-use Rattle.cec_wire.proofs.Alone.{rounds_are_lone}
-use Rattle.cec_wire.proofs.Lasting.{rounds_last}
+use Rattle.line_wave.specs.declared.Stretch.{Stretch}
+use Rattle.line_wave.specs.Line.{IsWave, line_of}
+use Rattle.line_wave.proofs.Kept.{wave_filter}
+use Rattle.line_reading.specs.Readings.{IsLone}
+use Rattle.line_rounds.specs.declared.Outcome.{Outcome}
+use Rattle.line_rounds.specs.Alone.{part_of}
+use Rattle.line_rounds.specs.Round.{close_in}
+use Rattle.line_rounds.proofs.Alone.{rounds_are_lone}
+use Rattle.line_rounds.proofs.Lasting.{rounds_last}
 use Rattle.drive_laws.proofs.Whole.{drives_are_ruled, drives_are_the_line}
-use Rattle.dump_laws.specs.Dumps.{AreSpans, IsWithin, Span, wire_at}
-use Rattle.dump_laws.proofs.Changes.{spans_text}
-use Rattle.cec_net.specs.Start.{first_onset, least_start, sooner}
-use Rattle.cec_net.specs.State.{NetState, next_start}
-use Rattle.cec_net.specs.Apply.{net_after}
-use Rattle.cec_net.specs.Step.{after_round, seats_of}
-use Rattle.cec_net.specs.Framed.{AreFramed}
-use Rattle.cec_net.proofs.Each.{length-each_from}
-use Rattle.cec_net.proofs.Framed.{framed-applied, framed-round, seats_fit}
-use Rattle.cec_net.proofs.Lines.{begun, kept}
-use Rattle.cec_net.proofs.Progress.{led}
-use Rattle.cec_asm.specs.Script.{AreFramedEvents}
-use Rattle.cec_asm.specs.declared.script.TimedEvent.{TimedEvent}
-use Rattle.cec_line.specs.declared.format.Format.TheVariants.{Vcd}
-use Rattle.cec_run.specs.declared.run.Reporting.TheVariants.{Line}
-use Rattle.cec_run.specs.declared.run.Turn.{Turn}
-use Rattle.cec_run.specs.declared.run.Turn.TheVariants.{Stop, Apply, Round}
-use Rattle.cec_run.specs.declared.run.Totals.{Totals}
-use Rattle.cec_run.specs.Run.{Config, turn_at, first_time, IsEventTurn, IsRoundTurn}
-use Rattle.cec_run.proofs.Advance.{round_begins}
-use Rattle.cec_driven.specs.Driven.{Drives, IsDrivenBy}
-use Rattle.cec_driven.proofs.Counts.{count_applied}
+use Rattle.wires_laws.specs.Dumps.{AreSpans, IsWithin, Span, wire_at}
+use Rattle.wires_laws.proofs.Changes.{spans_text}
+use Rattle.room_net.specs.Start.{first_onset, least_start, sooner}
+use Rattle.room_net.specs.State.{NetState, next_start}
+use Rattle.room_net.specs.Apply.{net_after}
+use Rattle.room_net.specs.Step.{after_round, seats_of}
+use Rattle.room_net.specs.Framed.{AreFramed}
+use Rattle.room_net.proofs.Each.{length-each_from}
+use Rattle.room_net.proofs.Framed.{framed-applied, framed-round, seats_fit}
+use Rattle.room_net.proofs.Lines.{begun, kept}
+use Rattle.room_net.proofs.Progress.{led}
+use Rattle.room_script.specs.Script.{AreFramedEvents}
+use Rattle.room_script.specs.declared.script.TimedEvent.{TimedEvent}
+use Rattle.room_line.specs.declared.format.Format.TheVariants.{Vcd}
+use Rattle.room_run.specs.declared.run.Reporting.TheVariants.{Line}
+use Rattle.room_run.specs.declared.run.Turn.{Turn}
+use Rattle.room_run.specs.declared.run.Turn.TheVariants.{Stop, Apply, Round}
+use Rattle.room_run.specs.declared.run.Totals.{Totals}
+use Rattle.room_run.specs.Run.{Config, turn_at, first_time, IsEventTurn, IsRoundTurn}
+use Rattle.room_run.proofs.Advance.{round_begins}
+use Rattle.room_driven.specs.Driven.{Drives, IsDrivenBy}
+use Rattle.room_driven.proofs.Counts.{count_applied}
 use Rattle.driven_laws.specs.Rounds.{IsRuled, Laid, drives, pulls, rounds_by, rounds_in}
 
 -- ---- where a run stands

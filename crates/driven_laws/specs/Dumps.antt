@@ -1,22 +1,22 @@
 -- The dump of a run and of who drives its line says that the line is low exactly where somebody pulls it (own).
 use Rattle.std.specs.Prelude.{◌≡◌, ℕ, ◌+◌, false, List, [], ◌∷◌, ◌++◌, drop, get_or, map, codes, Option, Some, Ok}
 use Rattle.std.specs.List.{list_any}
-use Rattle.cec_wave.specs.Line.{line_of}
-use Rattle.hdmi_blocks.specs.declared.edid.Edid.{Edid}
-use Rattle.hdmi_topo.specs.Node.{Node}
-use Rattle.cec_signal.specs.Edges.{Captured}
-use Rattle.cec_asm.specs.Script.{Course}
-use Rattle.cec_asm.specs.Topology.{Plan}
-use Rattle.cec_net.specs.Line.{run_wave}
-use Rattle.hdmi_blocks.specs.Root.{IsRoot}
-use Rattle.cec_vcd.specs.Dump.{edges_in}
-use Rattle.cec_vcd.specs.Wire.{Wire, wire_in, wire_line, words_in}
-use Rattle.cec_wires.specs.Wires.{id_of}
-use Rattle.cec_line.specs.declared.format.Format.TheVariants.{Vcd}
-use Rattle.cec_run.specs.declared.run.Totals.{Totals}
-use Rattle.cec_run.specs.Emulate.{IsAccepted, IsLineOf}
-use Rattle.cec_driven.specs.Emulate.{IsDrivesOf}
-use Rattle.dump_laws.specs.Dumps.{Declared, declared_in, numbered_names, wire_at}
+use Rattle.line_wave.specs.Line.{line_of}
+use Rattle.edid_core.specs.declared.edid.Edid.{Edid}
+use Rattle.edid_tree.specs.Node.{Node}
+use Rattle.capture_core.specs.Edges.{Captured}
+use Rattle.room_script.specs.Script.{Course}
+use Rattle.room_script.specs.Topology.{Plan}
+use Rattle.room_net.specs.Line.{run_wave}
+use Rattle.edid_core.specs.Root.{IsRoot}
+use Rattle.capture_vcd.specs.Dump.{edges_in}
+use Rattle.capture_vcd.specs.Wire.{Wire, wire_in, wire_line, words_in}
+use Rattle.capture_wires.specs.Wires.{id_of}
+use Rattle.room_line.specs.declared.format.Format.TheVariants.{Vcd}
+use Rattle.room_run.specs.declared.run.Totals.{Totals}
+use Rattle.room_run.specs.Emulate.{IsAccepted, IsLineOf}
+use Rattle.room_driven.specs.Emulate.{IsDrivesOf}
+use Rattle.wires_laws.specs.Dumps.{Declared, declared_in, numbered_names, wire_at}
 use Rattle.driven_laws.specs.Rounds.{Laid, drives, pulls, rounds_of}
 
 -- the wires that a dump declares below its first one

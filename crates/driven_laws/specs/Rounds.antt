@@ -1,24 +1,24 @@
 -- The rounds of a run of which a dump reports who drives the line (own).
 use Rattle.std.specs.Prelude.{◌≡◌, ℕ, zero, suc, Bool, true, List, [], ◌∷◌, ◌++◌, map, All}
-use Rattle.cec_wave.specs.declared.Stretch.{Stretch}
-use Rattle.cec_wave.specs.Line.{IsWave, line_of}
-use Rattle.cec_wire.specs.declared.Seat.{Seat}
-use Rattle.cec_wire.specs.declared.Outcome.{Outcome}
-use Rattle.cec_wire.specs.Contend.{AreFrames}
-use Rattle.cec_wire.specs.Lasting.{is_begun}
-use Rattle.cec_wire.specs.Round.{IsRound}
-use Rattle.cec_drives.specs.Drives.{pulse_line, seat_line}
-use Rattle.cec_drives.specs.Stretches.{drives_of}
-use Rattle.cec_net.specs.State.{first_net}
-use Rattle.cec_net.specs.Step.{seats_of}
-use Rattle.cec_run.specs.declared.run.Totals.{Totals}
-use Rattle.cec_run.specs.declared.run.Turn.{Turn}
-use Rattle.cec_run.specs.declared.run.Turn.TheVariants.{Stop, Apply, Round}
-use Rattle.cec_run.specs.Run.{Config, start, turn_at}
-use Rattle.cec_run.specs.Emulate.{IsTraceOf}
-use Rattle.cec_run.specs.OneRun.{rounds_of_trace}
-use Rattle.cec_driven.specs.Driven.{Drives, IsDrivenBy}
-use Rattle.cec_driven.specs.Emulate.{IsDrivesOf}
+use Rattle.line_wave.specs.declared.Stretch.{Stretch}
+use Rattle.line_wave.specs.Line.{IsWave, line_of}
+use Rattle.line_rounds.specs.declared.Seat.{Seat}
+use Rattle.line_rounds.specs.declared.Outcome.{Outcome}
+use Rattle.line_rounds.specs.Contend.{AreFrames}
+use Rattle.line_rounds.specs.Lasting.{is_begun}
+use Rattle.line_rounds.specs.Round.{IsRound}
+use Rattle.room_drives.specs.Drives.{pulse_line, seat_line}
+use Rattle.room_drives.specs.Stretches.{drives_of}
+use Rattle.room_net.specs.State.{first_net}
+use Rattle.room_net.specs.Step.{seats_of}
+use Rattle.room_run.specs.declared.run.Totals.{Totals}
+use Rattle.room_run.specs.declared.run.Turn.{Turn}
+use Rattle.room_run.specs.declared.run.Turn.TheVariants.{Stop, Apply, Round}
+use Rattle.room_run.specs.Run.{Config, start, turn_at}
+use Rattle.room_run.specs.Emulate.{IsTraceOf}
+use Rattle.room_run.specs.OneRun.{rounds_of_trace}
+use Rattle.room_driven.specs.Driven.{Drives, IsDrivenBy}
+use Rattle.room_driven.specs.Emulate.{IsDrivesOf}
 
 -- a round: who sits at the line and sends as it begins, the pulses that no round before it has taken, and what it gives
 pub record Laid : Type 0 where

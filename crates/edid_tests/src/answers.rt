@@ -6,7 +6,7 @@ use crate::neighbours::{self, neighbours_reported};
 use crate::samples::{comes_out, owned, parted};
 use crate::texts::{self, change_reported, fronts_reported, refusals_reported, text_reported};
 use crate::words::{self as payloads, canonical_reported, words_reported};
-use hdmi_blocks::AudioFrom;
+use edid_core::AudioFrom;
 use std::process::Abort;
 
 /// What is reported of blocks that are read, or passed on.

@@ -1,6 +1,6 @@
 //! A display's base block, and what may be wrong with one.
 use crate::samples::{block_of, owned};
-use hdmi_edid::{Base, Descriptor, Text, Timing, read_base, write_base};
+use edid_base::{Base, Descriptor, Text, Timing, read_base, write_base};
 use std::process::Abort;
 
 /// Base blocks, and what is reported of them: why they are refused; or the maker, the product, the serial number, the year, a part

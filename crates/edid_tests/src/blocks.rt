@@ -1,11 +1,11 @@
 //! EDIDs of several blocks: which bytes are refused and why, and what is passed on.
 use crate::samples::{edid_of, first_bytes_of, hex_of, owned};
 use arrayvec::ArrayVec;
-use hdmi_blocks::{AudioFrom, Edid, edid_from_bytes, edid_to_bytes, read_parts};
-use hdmi_core::Phys;
-use hdmi_cta::{Ext, write_ext};
-use hdmi_edid::{Base, write_base};
+use edid_base::{Base, write_base};
+use edid_core::{AudioFrom, Edid, edid_from_bytes, edid_to_bytes, read_parts};
+use edid_cta::{Ext, write_ext};
 use std::process::Abort;
+use text_core::Phys;
 
 /// How many bytes of which blocks, and what is reported of them: why they are refused, or the address of an EDID that returns them.
 /// Then what is reported of their parts: how many bytes the parts have, which are the same, or why they are refused and how many

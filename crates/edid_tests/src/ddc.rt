@@ -1,6 +1,6 @@
 //! A television's blocks, read over DDC.
 use crate::samples::{bytes_of, comes_out, edid_of, first_bytes_of, number, owned, parted};
-use hdmi_ddc::{Ddc, learn_address};
+use edid_ddc::{Ddc, learn_address};
 use std::process::Abort;
 
 /// Segments are acknowledged that have a block, and reading goes on at the begin of the segment.

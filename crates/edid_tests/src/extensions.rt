@@ -1,8 +1,8 @@
 //! An amplifier's audio in place of the television's.
 use crate::samples::block_of;
-use hdmi_core::Phys;
-use hdmi_cta::{Ext, hdmi_address, read_ext, with_address, with_audio, write_ext};
+use edid_cta::{Ext, hdmi_address, read_ext, with_address, with_audio, write_ext};
 use std::process::Abort;
+use text_core::Phys;
 
 /// An extension, and what an amplifier passes on for a device with the address 1.1.0.0; extensions, and what an amplifier
 /// passes on: one whose end is not zeros as it is; and the address of an extension's first HDMI block. That is a vendor's

@@ -1,7 +1,7 @@
 //! Each bit of an EDID at its own place.
 use crate::samples::bytes_of;
 use crate::texts::text_of;
-use hdmi_blocks::edid_from_bytes;
+use edid_core::edid_from_bytes;
 use std::process::Abort;
 
 /// EDIDs, and the hashes of the texts of all that differ from them in one bit. The hashes are those of the texts that a

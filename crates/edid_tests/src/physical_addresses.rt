@@ -1,6 +1,6 @@
 //! Physical addresses and their texts, written by hand.
-use hdmi_core::Phys;
 use std::process::Abort;
+use text_core::Phys;
 
 // The address and the text are each read from the other.
 fn is_spelled(rt: &impl Abort, high: u8, low: u8, text: &str) {

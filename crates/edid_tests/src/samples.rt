@@ -1,5 +1,5 @@
 //! EDIDs as words of a text: their blocks, and what is changed in them.
-use hdmi_blocks::{Edid, edid_from_bytes, edid_to_bytes};
+use edid_core::{Edid, edid_from_bytes, edid_to_bytes};
 use std::process::Abort;
 
 /// The base block of a television of Samsung, of revision 3, up to its count of extensions and its checksum.

@@ -1,8 +1,8 @@
 //! How lines reach a writer: how often it is called, and what a failed write leaves.
 use crate::samples::holds;
-use hdmi_core::{Piece, Sink, WriteFault, Writes, write_line};
 use std::io::{self, ErrorKind, Write};
 use std::process::Abort;
+use text_core::{Piece, Sink, WriteFault, Writes, write_line};
 
 /// Counts its calls, takes at most so many bytes at each, and fails from one call on.
 #[derive(Drop)]

@@ -1,10 +1,10 @@
 //! The texts of EDIDs: each form there and back, and the line at fault.
 use crate::samples::{bytes_of, edid_of, number, owned};
 use arrayvec::ArrayVec;
-use hdmi_blocks::{Edid, edid_from_bytes, edid_to_bytes, read_parts};
-use hdmi_core::Writes;
-use hdmi_edtext::{TextError, parse_text, write_parts, write_text};
+use edid_core::{Edid, edid_from_bytes, edid_to_bytes, read_parts};
+use edid_texts::{TextError, parse_text, write_parts, write_text};
 use std::process::Abort;
+use text_core::Writes;
 
 /// The text of the television's base block.
 const BASE_TEXT: &str =

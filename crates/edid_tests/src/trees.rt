@@ -1,12 +1,12 @@
 //! Trees: what is refused and in which order, addresses, what ports pass on.
 use crate::ddc::learnt;
 use crate::samples::{comes_out, edid_of, hex_of, number, owned, parted, two_numbers};
-use hdmi_blocks::Edid;
-use hdmi_core::Kind;
-use hdmi_ddc::Ddc;
-use hdmi_topo::{PortEdidError, Tree};
+use edid_core::Edid;
+use edid_ddc::Ddc;
+use edid_tree::{PortEdidError, Tree};
 use std::fmt::Debug;
 use std::process::Abort;
+use text_core::Kind;
 
 /// What is done with a tree or asked of it, a line each, and what comes of it; `-` where it is done.
 const REFUSALS: &str = "\

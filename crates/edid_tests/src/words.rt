@@ -1,7 +1,7 @@
 //! Payloads in words: the line in hex that each stands for, by hand from CTA-861-G, sections 7.5.1 to 7.5.3, and the word at
 //! fault, or 0 where a line is not in words.
 use crate::samples::owned;
-use hdmi_spelling::{canonical_text, in_words};
+use edid_spelling::{canonical_text, in_words};
 use std::process::Abort;
 
 /// Native codes have bit 7. Of audio the first byte is eight times the format and the channels less one. Speakers are a bit each.

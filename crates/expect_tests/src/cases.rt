@@ -4,11 +4,11 @@ use crate::rows::{
     PULSES_REPORT, REFUSALS, REPORT, SCRIPT, STATES, STATES_REPORT, TOPOLOGY, WINDOWS,
     WINDOWS_REPORT,
 };
-use cec_check::{CheckError, Tally, check, verdicts};
-use cec_expect::{cut_script, first_fault, fits, plain_script};
-use hdmi_core::Writes;
+use expect_run::{CheckError, Tally, check, verdicts};
+use expect_text::{cut_script, first_fault, fits, plain_script};
 use std::io::{self, ErrorKind, Write};
 use std::process::Abort;
+use text_core::Writes;
 
 pub(crate) fn holds(rt: &impl Abort, holds: bool, case: &str) {
     assert!(rt; holds, "{case}");

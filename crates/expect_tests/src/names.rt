@@ -1,6 +1,6 @@
 //! Names of devices in patterns, worked out by hand.
 use crate::cases::{fault_of, holds, report_of, spelled};
-use cec_expect::{has_names, is_meetable, meets, named_in};
+use expect_text::{has_names, is_meetable, meets, named_in};
 
 /// A pattern, what a line says with who holds which address, and whether it is met.
 const NAMED: &str = "\

@@ -1,5 +1,5 @@
 //! Patterns that no round's line can meet, and words that no state line has.
-use cec_expect::{is_said, is_state_word};
+use expect_text::{is_said, is_state_word};
 
 #[test]
 fn patterns_that_lines_meet(rt: HostRuntime) {

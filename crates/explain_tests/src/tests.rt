@@ -1,7 +1,7 @@
 //! What the program says of faults with `--explain`, and of command lines that are refused.
-use hdmi_core::Writes;
-use hdminet_program::program::program;
+use program_calls::program::program;
 use std::process::Abort;
+use text_core::Writes;
 
 mod captures;
 mod explained;

@@ -1,9 +1,9 @@
 //! Blocks and the lines below them.
 use arrayvec::ArrayVec;
-use hdmi_displayid::append_displayid;
-use hdmi_extended::{append_extended, append_vendor};
-use hdmi_fields::luminance;
-use hdmi_meaning::Page;
+use meaning_displayid::append_displayid;
+use meaning_extended::{append_extended, append_vendor};
+use meaning_fields::luminance;
+use meaning_words::Page;
 use std::process::Abort;
 
 /// The video codes of the EDID that a map is of.

@@ -2,11 +2,11 @@
 //! wire; writes frames and EDIDs as texts and bytes.
 #![tactic(auto)]
 
-use hdmi_core::Writes;
-use hdminet_faults::{ProgramFault, write_fault};
-use hdminet_program::program::program;
+use program_calls::program::program;
+use program_faults::{ProgramFault, write_fault};
 use std::env;
 use std::process::ExitCode;
+use text_core::Writes;
 
 fn words(rt: &HostRuntime) -> Result<Vec<String>, ProgramFault> {
     let words = env::args(rt).map_err(ProgramFault::of_words)?;

@@ -1,9 +1,9 @@
 //! Whether a run is as the expectations of its script have it.
 ghost use Rattle.std.specs.Prelude.{◌≤◌, ◌<◌};
-ghost use Rattle.run_calls.specs.Checking.{IsCheckRefused, IsReportPut};
+ghost use Rattle.library_run.specs.Checking.{IsCheckRefused, IsReportPut};
 
-use hdminet_room::Answer;
-use run_calls::{Counts, put_report};
+use library_answers::Answer;
+use library_run::{Counts, put_report};
 use std::alloc::Global;
 
 /// Runs a script without its labels and expectations on a topology, and puts the report into the room whether the run is as

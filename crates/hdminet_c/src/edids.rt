@@ -1,9 +1,9 @@
 //! EDIDs of their texts, what is wrong with them, and what they mean.
 ghost use Rattle.std.specs.Prelude.{◌≤◌, ◌<◌};
-ghost use Rattle.edid_calls.specs.Edids.{AreFindingsPut, AreFindingsRefused, IsEdidPut, IsMeaningPut, IsMeaningRefused, IsTextRefused};
+ghost use Rattle.library_edid.specs.Edids.{AreFindingsPut, AreFindingsRefused, IsEdidPut, IsMeaningPut, IsMeaningRefused, IsTextRefused};
 
-use edid_calls::{put_edid_bytes, put_edid_findings, put_edid_meaning};
-use hdminet_room::Answer;
+use library_answers::Answer;
+use library_edid::{put_edid_bytes, put_edid_findings, put_edid_meaning};
 use std::alloc::Global;
 
 /// Puts the bytes of the EDID into the room that has exactly this text.

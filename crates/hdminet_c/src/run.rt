@@ -1,9 +1,9 @@
 //! The emulator.
 ghost use Rattle.std.specs.Prelude.{◌≤◌, ◌<◌};
-ghost use Rattle.run_calls.specs.Run.{IsEdgesPut, IsRunRefused, IsTracePut};
+ghost use Rattle.library_run.specs.Run.{IsEdgesPut, IsRunRefused, IsTracePut};
 
-use hdminet_room::Answer;
-use run_calls::{put_edges, put_trace};
+use library_answers::Answer;
+use library_run::{put_edges, put_trace};
 use std::alloc::Global;
 
 /// Runs a script on a topology, and puts the trace of the run into the room.

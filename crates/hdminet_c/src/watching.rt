@@ -1,9 +1,9 @@
 //! What was read on a line.
 ghost use Rattle.std.specs.Prelude.{◌≤◌, ◌<◌};
-ghost use Rattle.run_calls.specs.Watching.{AreReadingsPut, IsWatchRefused};
+ghost use Rattle.library_run.specs.Watching.{AreReadingsPut, IsWatchRefused};
 
-use hdminet_room::Answer;
-use run_calls::put_readings;
+use library_answers::Answer;
+use library_run::put_readings;
 use std::alloc::Global;
 
 /// Puts the lines of the readings of an edge file into the room.

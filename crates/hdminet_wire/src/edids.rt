@@ -1,19 +1,19 @@
 //! EDIDs: what is wrong with them, their texts, what a port passes on, and what is read of them over DDC.
 ghost use Rattle.std.specs.Prelude.{◌≡◌, ◌≢◌, ◌≤◌, ◌<◌, Some, None, true, false};
-ghost use Rattle.hdmi_blocks.specs.Address.{edid_address};
-ghost use Rattle.hdmi_blocks.specs.Bytes.{edid_bytes, has_length};
-ghost use Rattle.hdmi_blocks.specs.Passing.{passed_on_bytes};
-ghost use Rattle.hdmi_blocks.specs.declared.edid.Edid.{Edid as EdidValue};
-ghost use Rattle.hdmi_core.specs.declared.phys.Phys.{Phys as PhysValue};
-ghost use Rattle.hdmi_ddc.specs.Bus.{has_segment};
-ghost use Rattle.hdmi_edtext.specs.Lines.{edid_text};
-ghost use Rattle.hdminet_room.specs.Codes.{number_of};
-ghost use Rattle.hdminet_room.specs.Room.{IsPut, IsRefused};
-ghost use Rattle.hdminet_room.specs.declared.code.Code.TheVariants.{Absent, EdidLength, EdidNoHdmiBlock};
-ghost use Rattle.wire_calls.specs.Edids.{IsEdidFound, IsEdidRefused, IsReadOver, audio_of, phys_of};
+ghost use Rattle.edid_core.specs.Address.{edid_address};
+ghost use Rattle.edid_core.specs.Bytes.{edid_bytes, has_length};
+ghost use Rattle.edid_core.specs.Passing.{passed_on_bytes};
+ghost use Rattle.edid_core.specs.declared.edid.Edid.{Edid as EdidValue};
+ghost use Rattle.text_core.specs.declared.phys.Phys.{Phys as PhysValue};
+ghost use Rattle.edid_ddc.specs.Bus.{has_segment};
+ghost use Rattle.edid_texts.specs.Lines.{edid_text};
+ghost use Rattle.library_answers.specs.Codes.{number_of};
+ghost use Rattle.library_answers.specs.Room.{IsPut, IsRefused};
+ghost use Rattle.library_answers.specs.declared.code.Code.TheVariants.{Absent, EdidLength, EdidNoHdmiBlock};
+ghost use Rattle.library_wire.specs.Edids.{IsEdidFound, IsEdidRefused, IsReadOver, audio_of, phys_of};
 
-use hdminet_room::Answer;
-use wire_calls::{edid_fault, put_edid_port, put_edid_text, read_edid};
+use library_answers::Answer;
+use library_wire::{edid_fault, put_edid_port, put_edid_text, read_edid};
 
 /// Why bytes are no EDID, as the number of a `Code`: 0 where they are one, of one block to four.
 #[unsafe(no_mangle)]

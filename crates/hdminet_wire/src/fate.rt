@@ -1,15 +1,15 @@
 //! What became of a frame that was sent.
 ghost use Rattle.std.specs.Prelude.{◌≡◌, Some, None};
-ghost use Rattle.cec_bits.specs.Parts.{ArePartsOfSender};
-ghost use Rattle.cec_bits.specs.declared.sender.Sender.{Sender as SenderValue};
-ghost use Rattle.cec_frame.specs.declared.Reading.{Reading as ReadingValue};
-ghost use Rattle.hdminet_room.specs.declared.code.Code.TheVariants.{State};
-ghost use Rattle.wire_calls.specs.Fate.{fate_code, fate_reported};
-ghost use Rattle.wire_calls.specs.Readings.{reading_in};
-ghost use Rattle.wire_calls.specs.Sender.{IsNoSender};
+ghost use Rattle.line_reading.specs.Parts.{ArePartsOfSender};
+ghost use Rattle.line_reading.specs.declared.sender.Sender.{Sender as SenderValue};
+ghost use Rattle.line_frames.specs.declared.Reading.{Reading as ReadingValue};
+ghost use Rattle.library_answers.specs.declared.code.Code.TheVariants.{State};
+ghost use Rattle.library_wire.specs.Fate.{fate_code, fate_reported};
+ghost use Rattle.library_wire.specs.Readings.{reading_in};
+ghost use Rattle.library_wire.specs.Sender.{IsNoSender};
 
-use cec_bits::SenderParts;
-use wire_calls::{ReadingParts, SentFate, sender_fate};
+use library_wire::{ReadingParts, SentFate, sender_fate};
+use line_reading::SenderParts;
 
 /// What became of the frame of a sender that has stopped, by the reading that it began (CEC 9).
 ///

@@ -1,13 +1,13 @@
 //! Frames and their texts.
 ghost use Rattle.std.specs.Prelude.{◌≡◌, ℕ, ◌<◌, ◌≤◌, List, length, IsTrue};
-ghost use Rattle.cec_text.specs.FrameReading.{is_frame};
-ghost use Rattle.cec_text.specs.FrameText.{frame_text};
-ghost use Rattle.hdminet_room.specs.Room.{IsPut, IsRefused};
-ghost use Rattle.hdminet_room.specs.declared.code.Code.TheVariants.{FrameEmpty, FrameTooLong};
-ghost use Rattle.wire_calls.specs.Frames.{IsFramePut, IsNoFrameText};
+ghost use Rattle.message_text.specs.FrameReading.{is_frame};
+ghost use Rattle.message_text.specs.FrameText.{frame_text};
+ghost use Rattle.library_answers.specs.Room.{IsPut, IsRefused};
+ghost use Rattle.library_answers.specs.declared.code.Code.TheVariants.{FrameEmpty, FrameTooLong};
+ghost use Rattle.library_wire.specs.Frames.{IsFramePut, IsNoFrameText};
 
-use hdminet_room::Answer;
-use wire_calls::{put_frame_bytes, put_frame_text};
+use library_answers::Answer;
+use library_wire::{put_frame_bytes, put_frame_text};
 
 /// Puts the one text of the frame of some bytes into the room: at most 96 bytes, with no 0 after them.
 ///

@@ -1,8 +1,8 @@
 //! Readings of the line.
-ghost use Rattle.wire_calls.specs.Readings.{IsReadingFrame, reading_in};
+ghost use Rattle.library_wire.specs.Readings.{IsReadingFrame, reading_in};
 
-use hdminet_room::Answer;
-use wire_calls::{ReadingParts, put_reading_frame};
+use library_answers::Answer;
+use library_wire::{ReadingParts, put_reading_frame};
 
 /// Puts the bytes of the frame into the room that a complete reading has read: 1 to 16. Its last bit says whether it was
 /// acknowledged: 0 takes a frame to one device, and refuses one to all (CEC 6.1).

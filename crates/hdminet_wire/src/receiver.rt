@@ -1,19 +1,19 @@
 //! A receiver of the CEC line. The caller keeps what it keeps.
 ghost use Rattle.std.specs.Prelude.{◌≡◌, ◌≤◌, ◌<◌};
-ghost use Rattle.cec_wave.specs.Bounds.{latest_heard};
-ghost use Rattle.cec_bits.specs.Hears.{heard_by, wake_of};
-ghost use Rattle.cec_bits.specs.Reports.{running_by};
-ghost use Rattle.cec_bits.specs.Parts.{ArePartsOf};
-ghost use Rattle.cec_bits.specs.declared.receiver.Receiver.{Receiver as ReceiverValue};
-ghost use Rattle.hdminet_room.specs.Codes.{number_of};
-ghost use Rattle.hdminet_room.specs.declared.code.Code.TheVariants.{Late, State};
-ghost use Rattle.wire_calls.specs.Heard.{heard_code, instant_of, instant_refused};
-ghost use Rattle.wire_calls.specs.Receiver.{HasHeard, IsNoReceiver, IsRunning, IsStart};
+ghost use Rattle.line_wave.specs.Bounds.{latest_heard};
+ghost use Rattle.line_reading.specs.Hears.{heard_by, wake_of};
+ghost use Rattle.line_reading.specs.Reports.{running_by};
+ghost use Rattle.line_reading.specs.Parts.{ArePartsOf};
+ghost use Rattle.line_reading.specs.declared.receiver.Receiver.{Receiver as ReceiverValue};
+ghost use Rattle.library_answers.specs.Codes.{number_of};
+ghost use Rattle.library_answers.specs.declared.code.Code.TheVariants.{Late, State};
+ghost use Rattle.library_wire.specs.Heard.{heard_code, instant_of, instant_refused};
+ghost use Rattle.library_wire.specs.Receiver.{HasHeard, IsNoReceiver, IsRunning, IsStart};
 
-use cec_bits::ReceiverParts;
-use wire_calls::{
+use library_wire::{
     Heard, Instant, ReadingParts, receiver_hear, receiver_new, receiver_running, receiver_wakes_at,
 };
+use line_reading::ReceiverParts;
 
 /// A receiver of a line of which nothing is reported yet: it is high, and no reading runs.
 #[unsafe(no_mangle)]

@@ -1,19 +1,19 @@
 //! A sender of a frame on the CEC line. The caller keeps what it keeps.
 ghost use Rattle.std.specs.Prelude.{◌≡◌, ◌≤◌, ◌<◌, Some, None, length};
-ghost use Rattle.cec_wave.specs.Bounds.{latest_heard};
-ghost use Rattle.cec_bits.specs.Parts.{ArePartsOfSender};
-ghost use Rattle.cec_bits.specs.Sending.{pull_of};
-ghost use Rattle.cec_bits.specs.declared.receiver.Told.{Told as ReportedValue};
-ghost use Rattle.cec_bits.specs.declared.sender.Sender.{Sender as SenderValue};
-ghost use Rattle.hdminet_room.specs.Codes.{number_of};
-ghost use Rattle.hdminet_room.specs.declared.code.Code.TheVariants.{Done, FrameEmpty, FrameTooLong, Heard as NothingHeard, Late, State};
-ghost use Rattle.wire_calls.specs.Heard.{instant_refused, reported_in};
-ghost use Rattle.wire_calls.specs.Sender.{HasBegun, IsChange, IsLeft, IsNoSender, IsReported, pull_code, pull_reported};
+ghost use Rattle.line_wave.specs.Bounds.{latest_heard};
+ghost use Rattle.line_reading.specs.Parts.{ArePartsOfSender};
+ghost use Rattle.line_reading.specs.Sending.{pull_of};
+ghost use Rattle.line_reading.specs.declared.receiver.Told.{Told as ReportedValue};
+ghost use Rattle.line_reading.specs.declared.sender.Sender.{Sender as SenderValue};
+ghost use Rattle.library_answers.specs.Codes.{number_of};
+ghost use Rattle.library_answers.specs.declared.code.Code.TheVariants.{Done, FrameEmpty, FrameTooLong, Heard as NothingHeard, Late, State};
+ghost use Rattle.library_wire.specs.Heard.{instant_refused, reported_in};
+ghost use Rattle.library_wire.specs.Sender.{HasBegun, IsChange, IsLeft, IsNoSender, IsReported, pull_code, pull_reported};
 
-use cec_bits::SenderParts;
-use wire_calls::{
+use library_wire::{
     Heard, Instant, Pull, sender_begin, sender_heard, sender_next_change, sender_pulls,
 };
+use line_reading::SenderParts;
 
 /// Begins to send a frame at `t`, in microseconds: the line falls then. Answers the number of a `Code`.
 ///

@@ -1,9 +1,9 @@
 //! Each row of a report through the call that the program makes.
 use crate::objects::{Narrow, holds};
 use crate::report_rows::{ESCAPED, OBJECTS, REPORT, STRETCHES, TESTS};
-use cec_report_json::{Report, write_report_objects};
-use hdmi_core::Writes;
+use json_report::{Report, write_report_objects};
 use std::process::Abort;
+use text_core::Writes;
 
 /// The objects of a report.
 fn objects(rt: &(impl Abort + AllocGlobal), report: Report, text: &str) -> String {

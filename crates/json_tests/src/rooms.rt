@@ -1,8 +1,8 @@
 //! A room, its script and its trace through the call that the program makes.
 use crate::objects::holds;
-use cec_room_json::write_room_objects;
-use hdmi_core::Writes;
+use json_room::write_room_objects;
 use std::process::Abort;
+use text_core::Writes;
 
 const TOPOLOGY: &str = "\
 # a room

@@ -1,11 +1,11 @@
 //! The objects of a run, which are written while it runs, beside those of its trace once it is there.
 use crate::objects::{Narrow, holds};
-use cec_json::{LineObjects, PlainLines, write_objects};
-use cec_room_json::{RoomLines, write_room_objects};
-use cec_run::emulate::{EmulateError, emulate};
-use cec_run_json::emulate_objects;
-use hdmi_core::Writes;
+use json_room::{RoomLines, write_room_objects};
+use json_run::emulate_objects;
+use json_trace::{LineObjects, PlainLines, write_objects};
+use room_run::emulate::{EmulateError, emulate};
 use std::process::Abort;
+use text_core::Writes;
 
 const TOPOLOGY: &str = "\
 device tv tv 4

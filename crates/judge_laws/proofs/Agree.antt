@@ -3,21 +3,21 @@ use Rattle.std.proofs.Common.{◌≡◌, ℕ, ◌+◌, ◌≤◌, Bool, true, fa
 use Rattle.std.proofs.lemmas.Bool.Decides.{nat_tests}
 use Rattle.std.proofs.lemmas.List.Elements.{All-cons, All-nil, All-weaker, filter_passes}
 use Rattle.std.specs.List.{All}
-use Rattle.cec_wave.specs.declared.Stretch.{Stretch}
-use Rattle.cec_wave.specs.Bounds.{latest_event}
-use Rattle.cec_asm.specs.Topology.{Plan}
-use Rattle.cec_asm.specs.Script.{Course, IsSchedule, IsScriptRead, ScriptFault, pulses_ended}
-use Rattle.cec_asm.specs.declared.script.TimedEvent.{TimedEvent}
-use Rattle.cec_asm.proofs.OneReading.{one_script}
-use Rattle.cec_asm.proofs.Sound.{scripts_are_sound}
-use Rattle.cec_run.specs.declared.run.Totals.{Totals}
-use Rattle.cec_run.specs.Emulate.{IsTraceOf}
-use Rattle.cec_run.proofs.Accepted.{one_plan}
-use Rattle.cec_certain.specs.Causal.{AgreeBefore}
-use Rattle.cec_certain.proofs.Causality.{traces_are_causal}
-use Rattle.cec_expect.specs.Line.{cut_script}
-use Rattle.cec_check.specs.Cuts.{IsCut, is_early}
-use Rattle.cec_check.proofs.Cuts.{cuts_are_read}
+use Rattle.line_wave.specs.declared.Stretch.{Stretch}
+use Rattle.line_wave.specs.Bounds.{latest_event}
+use Rattle.room_script.specs.Topology.{Plan}
+use Rattle.room_script.specs.Script.{Course, IsSchedule, IsScriptRead, ScriptFault, pulses_ended}
+use Rattle.room_script.specs.declared.script.TimedEvent.{TimedEvent}
+use Rattle.room_script.proofs.OneReading.{one_script}
+use Rattle.room_script.proofs.Sound.{scripts_are_sound}
+use Rattle.room_run.specs.declared.run.Totals.{Totals}
+use Rattle.room_run.specs.Emulate.{IsTraceOf}
+use Rattle.room_run.proofs.Accepted.{one_plan}
+use Rattle.live_certain.specs.Causal.{AgreeBefore}
+use Rattle.live_certain.proofs.Causality.{traces_are_causal}
+use Rattle.expect_text.specs.Line.{cut_script}
+use Rattle.expect_run.specs.Cuts.{IsCut, is_early}
+use Rattle.expect_run.proofs.Cuts.{cuts_are_read}
 use Rattle.judge_laws.specs.States.{agree_until, CutTracesAgree, IsStateLine, StatesAreOfRuns, device_of}
 use Rattle.judge_laws.proofs.States.{state_lines_are_read}
 

@@ -6,12 +6,12 @@ use Rattle.std.specs.List.{cons_option, filter_map, flat_map}
 use Rattle.std.specs.Option.{option_to_list}
 use Rattle.std.proofs.lemmas.Bool.Decides.{nat_tests}
 use Rattle.std.proofs.lemmas.List.Splits.{slice_split_at}
-use Rattle.hdmi_core.specs.Lines.{lines_of}
-use Rattle.hdmi_core.specs.Words.{words_of}
-use Rattle.cec_signal.proofs.Texts.{Lacks, line_before, more_lack, none_lack, number_lacks}
-use Rattle.cec_audit.specs.Kept.{IsPlain}
-use Rattle.cec_audit.proofs.Plain.{plain_more}
-use Rattle.cec_judge.specs.Told.{EventLine, RoundLine, event_in, events_of, round_in, rounds_of}
+use Rattle.text_core.specs.Lines.{lines_of}
+use Rattle.text_core.specs.Words.{words_of}
+use Rattle.capture_core.proofs.Texts.{Lacks, line_before, more_lack, none_lack, number_lacks}
+use Rattle.audit_core.specs.Kept.{IsPlain}
+use Rattle.audit_core.proofs.Plain.{plain_more}
+use Rattle.expect_judge.specs.Told.{EventLine, RoundLine, event_in, events_of, round_in, rounds_of}
 
 -- a text whose lines add these rounds and events to those of any text after it
 pub record Adds (text : List ℕ) (rs : List RoundLine) (es : List EventLine) : Type 0 where

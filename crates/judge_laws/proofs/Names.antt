@@ -1,44 +1,44 @@
 -- The names of devices stay, whatever they meet.
 use Rattle.std.proofs.Common.{◌≡◌, ℕ, zero, suc, ◌+◌, ◌%◌, ◌==◌, Bool, true, false, not, ◌&&◌, nat_lt, if◌then◌else◌, List, [], ◌∷◌, Option, Some, None, refl, ap, ap₂, ◌∙◌}
-use Rattle.cec_opcode.specs.Words.{reason_byte}
-use Rattle.cec_opcode.specs.declared.words.Reason.TheVariants.{Unrecognized}
-use Rattle.cec_opcode.specs.declared.message.Decoded.{Decoded}
-use Rattle.cec_opcode.specs.declared.message.Decoded.TheVariants.{Known, Poll, Short, Unknown as NoName}
-use Rattle.cec_opcode.specs.Table.{decoded_of}
-use Rattle.hdmi_topo.specs.Node.{Node}
-use Rattle.hdmi_topo.specs.Tree.{with_plug}
-use Rattle.hdmi_topo.specs.declared.plug.Plug.{Plug as PlugRecord}
-use Rattle.cec_wire.specs.declared.Outcome.{Outcome}
-use Rattle.cec_wire.specs.Round.{close_in, fate_in}
-use Rattle.cec_frame.specs.Blocks.{frame_in}
-use Rattle.cec_frame.specs.declared.Fate.{Fate}
-use Rattle.cec_frame.specs.declared.Fate.TheVariants.{Delivered, Unacked, Lost, Broken}
-use Rattle.cec_feature.specs.declared.record.Heard.{Heard}
-use Rattle.cec_feature.specs.declared.keys.Key.{Key}
-use Rattle.cec_feature.specs.declared.say.Say.{Say}
-use Rattle.cec_feature.specs.declared.say.Say.TheVariants.{Reply, Cast, Report, Refuse}
-use Rattle.cec_feature.specs.Effect.{Effect}
-use Rattle.cec_feature.specs.Effects.{effect_of, heard_of, refuses}
-use Rattle.cec_feature.specs.Keys.{pressing, releasing}
-use Rattle.cec_device.specs.declared.device.SubmitError.{SubmitError}
-use Rattle.cec_device.specs.declared.keys.KeyError.{KeyError}
-use Rattle.cec_device.specs.declared.free_time.FreeTime.TheVariants.{Retry}
-use Rattle.cec_device.specs.State.{State, addresses_held, with_queued, source}
-use Rattle.cec_device.specs.Say.{after_effect, say, say_all}
-use Rattle.cec_device.specs.Effects.{by_decoded, after_frame, is_for}
-use Rattle.cec_device.specs.Keys.{key_fault, after_key, keyed_by, own_doing}
-use Rattle.cec_device.specs.declared.outside.Act.{Act}
-use Rattle.cec_device.specs.declared.outside.Act.TheVariants.{Hold, Empty}
-use Rattle.cec_device.specs.Outside.{act_fault, after_act, acted_by}
-use Rattle.cec_device.specs.Place.{class_of_poll, after_front, after_failure, frame_sent, front_is_poll, is_on_wire, polled_at, sent_by, place_after_fate, submit_fault, after_submission, submitted_by}
-use Rattle.cec_event.specs.declared.event.Event.{Event}
-use Rattle.cec_event.specs.declared.event.Event.TheVariants.{Plug, Unplug, Key as KeyEvent, Send, SendNamed, Outside}
-use Rattle.cec_event.specs.declared.event.EventError.{EventError}
-use Rattle.cec_net.specs.Start.{contends}
-use Rattle.cec_net.specs.State.{NetState, each_from}
-use Rattle.cec_net.specs.Apply.{net_after, applied_unless, changed_at, event_fault, named_frame, after_sent}
-use Rattle.cec_net.specs.Step.{after_round, device_after, followed_in, followed_unless, is_among, is_sent, after_fate}
-use Rattle.cec_driven.specs.Driven.{names_of}
+use Rattle.message_table.specs.Words.{reason_byte}
+use Rattle.message_table.specs.declared.words.Reason.TheVariants.{Unrecognized}
+use Rattle.message_table.specs.declared.message.Decoded.{Decoded}
+use Rattle.message_table.specs.declared.message.Decoded.TheVariants.{Known, Poll, Short, Unknown as NoName}
+use Rattle.message_table.specs.Table.{decoded_of}
+use Rattle.edid_tree.specs.Node.{Node}
+use Rattle.edid_tree.specs.Tree.{with_plug}
+use Rattle.edid_tree.specs.declared.plug.Plug.{Plug as PlugRecord}
+use Rattle.line_rounds.specs.declared.Outcome.{Outcome}
+use Rattle.line_rounds.specs.Round.{close_in, fate_in}
+use Rattle.line_frames.specs.Blocks.{frame_in}
+use Rattle.line_frames.specs.declared.Fate.{Fate}
+use Rattle.line_frames.specs.declared.Fate.TheVariants.{Delivered, Unacked, Lost, Broken}
+use Rattle.device_features.specs.declared.record.Heard.{Heard}
+use Rattle.device_features.specs.declared.keys.Key.{Key}
+use Rattle.device_features.specs.declared.say.Say.{Say}
+use Rattle.device_features.specs.declared.say.Say.TheVariants.{Reply, Cast, Report, Refuse}
+use Rattle.device_features.specs.Effect.{Effect}
+use Rattle.device_features.specs.Effects.{effect_of, heard_of, refuses}
+use Rattle.device_features.specs.Keys.{pressing, releasing}
+use Rattle.device_core.specs.declared.device.SubmitError.{SubmitError}
+use Rattle.device_core.specs.declared.keys.KeyError.{KeyError}
+use Rattle.device_core.specs.declared.free_time.FreeTime.TheVariants.{Retry}
+use Rattle.device_core.specs.State.{State, addresses_held, with_queued, source}
+use Rattle.device_core.specs.Say.{after_effect, say, say_all}
+use Rattle.device_core.specs.Effects.{by_decoded, after_frame, is_for}
+use Rattle.device_core.specs.Keys.{key_fault, after_key, keyed_by, own_doing}
+use Rattle.device_core.specs.declared.outside.Act.{Act}
+use Rattle.device_core.specs.declared.outside.Act.TheVariants.{Hold, Empty}
+use Rattle.device_core.specs.Outside.{act_fault, after_act, acted_by}
+use Rattle.device_core.specs.Place.{class_of_poll, after_front, after_failure, frame_sent, front_is_poll, is_on_wire, polled_at, sent_by, place_after_fate, submit_fault, after_submission, submitted_by}
+use Rattle.room_event.specs.declared.event.Event.{Event}
+use Rattle.room_event.specs.declared.event.Event.TheVariants.{Plug, Unplug, Key as KeyEvent, Send, SendNamed, Outside}
+use Rattle.room_event.specs.declared.event.EventError.{EventError}
+use Rattle.room_net.specs.Start.{contends}
+use Rattle.room_net.specs.State.{NetState, each_from}
+use Rattle.room_net.specs.Apply.{net_after, applied_unless, changed_at, event_fault, named_frame, after_sent}
+use Rattle.room_net.specs.Step.{after_round, device_after, followed_in, followed_unless, is_among, is_sent, after_fate}
+use Rattle.room_driven.specs.Driven.{names_of}
 use Rattle.driven_laws.specs.Dumps.{names_in}
 use Rattle.driven_laws.proofs.Names.{name-queued, name-reported_by, names-each, two}
 

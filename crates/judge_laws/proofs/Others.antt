@@ -4,36 +4,36 @@ use Rattle.std.specs.Fmt.{decimal}
 use Rattle.std.specs.List.{All, flat_map, list_all, range_with_len}
 use Rattle.std.specs.Option.{option_to_list}
 use Rattle.std.specs.Str.{bytes_eq}
-use Rattle.hdmi_core.specs.declared.kind.Kind.{Kind}
-use Rattle.hdmi_core.specs.declared.kind.Kind.TheVariants.{Tv, Amp, Player, Recorder, Switch, Combo, Outside, OutsideTv}
-use Rattle.hdmi_core.specs.Piece.{dash_or, hex_or_dash, hex_text, nibble_text, phys_text, switch_text}
-use Rattle.hdmi_blocks.specs.declared.edid.Edid.{Edid}
-use Rattle.hdmi_topo.specs.Node.{Node}
-use Rattle.hdmi_topo.specs.Path.{is_on_wire}
-use Rattle.hdmi_topo.specs.Port.{port_bytes}
-use Rattle.hdmi_topo.specs.Tree.{ports_of}
-use Rattle.hdmi_core.specs.Number.{number_of}
-use Rattle.hdmi_core.specs.Words.{words_of}
-use Rattle.cec_signal.proofs.Numbers.{number_again}
-use Rattle.cec_signal.proofs.Texts.{shown}
-use Rattle.cec_opcode.specs.DeckWords.{deck_info_byte}
-use Rattle.cec_feature.specs.declared.record.Note.{Note}
-use Rattle.cec_device.specs.State.{State, addresses_held}
-use Rattle.cec_device.specs.Place as place
-use Rattle.cec_device.specs.declared.device.SubmitError.TheVariants as submit
-use Rattle.cec_device.specs.declared.keys.KeyError.TheVariants as key
-use Rattle.cec_event.specs.declared.event.EventError.{EventError}
-use Rattle.cec_event.specs.declared.event.EventError.TheVariants.{Plug, Unplug, Key, Send}
-use Rattle.hdmi_topo.specs.declared.plug.PlugError.TheVariants as plug
-use Rattle.hdmi_topo.specs.declared.plug.UnplugError.TheVariants as unplug
-use Rattle.cec_audit.specs.Kept.{IsPlain}
-use Rattle.cec_audit.proofs.Plain.{plain_codes, plain_decimal, plain_hex, plain_more, plain_nibble, plain_phys}
-use Rattle.cec_trace.specs.PortText.{lines_of_new, lines_of_ports, name_in, port_line, port_line_of, port_lines}
-use Rattle.hdmi_core.specs.Kind.{kind_word}
-use Rattle.cec_trace.specs.StateText.{address_text, held_text, language_bytes, note_text, outside_line, phys_on, power_text, state_line, state_line_of, unit_text}
-use Rattle.cec_feature.specs.Kinds.{is_outside}
-use Rattle.cec_trace.specs.TraceText.{end_line, error_word, event_line}
-use Rattle.cec_judge.specs.Told.{EventLine, RoundLine, event_by, event_in, round_by, round_in, reported_in}
+use Rattle.text_core.specs.declared.kind.Kind.{Kind}
+use Rattle.text_core.specs.declared.kind.Kind.TheVariants.{Tv, Amp, Player, Recorder, Switch, Combo, Outside, OutsideTv}
+use Rattle.text_core.specs.Piece.{dash_or, hex_or_dash, hex_text, nibble_text, phys_text, switch_text}
+use Rattle.edid_core.specs.declared.edid.Edid.{Edid}
+use Rattle.edid_tree.specs.Node.{Node}
+use Rattle.edid_tree.specs.Path.{is_on_wire}
+use Rattle.edid_tree.specs.Port.{port_bytes}
+use Rattle.edid_tree.specs.Tree.{ports_of}
+use Rattle.text_core.specs.Number.{number_of}
+use Rattle.text_core.specs.Words.{words_of}
+use Rattle.capture_core.proofs.Numbers.{number_again}
+use Rattle.capture_core.proofs.Texts.{shown}
+use Rattle.message_table.specs.DeckWords.{deck_info_byte}
+use Rattle.device_features.specs.declared.record.Note.{Note}
+use Rattle.device_core.specs.State.{State, addresses_held}
+use Rattle.device_core.specs.Place as place
+use Rattle.device_core.specs.declared.device.SubmitError.TheVariants as submit
+use Rattle.device_core.specs.declared.keys.KeyError.TheVariants as key
+use Rattle.room_event.specs.declared.event.EventError.{EventError}
+use Rattle.room_event.specs.declared.event.EventError.TheVariants.{Plug, Unplug, Key, Send}
+use Rattle.edid_tree.specs.declared.plug.PlugError.TheVariants as plug
+use Rattle.edid_tree.specs.declared.plug.UnplugError.TheVariants as unplug
+use Rattle.audit_core.specs.Kept.{IsPlain}
+use Rattle.audit_core.proofs.Plain.{plain_codes, plain_decimal, plain_hex, plain_more, plain_nibble, plain_phys}
+use Rattle.room_trace.specs.PortText.{lines_of_new, lines_of_ports, name_in, port_line, port_line_of, port_lines}
+use Rattle.text_core.specs.Kind.{kind_word}
+use Rattle.room_trace.specs.StateText.{address_text, held_text, language_bytes, note_text, outside_line, phys_on, power_text, state_line, state_line_of, unit_text}
+use Rattle.device_features.specs.Kinds.{is_outside}
+use Rattle.room_trace.specs.TraceText.{end_line, error_word, event_line}
+use Rattle.expect_judge.specs.Told.{EventLine, RoundLine, event_by, event_in, round_by, round_in, reported_in}
 use Rattle.judge_laws.specs.ReadBack.{fault_words}
 use Rattle.judge_laws.proofs.Lines.{Adds, Closed, adds_none, adds_nothing, adds_two, closed_end, closed_last, closed_more, first_word, number_solid, one_word_adds, two_words_add}
 

@@ -6,21 +6,21 @@ use Rattle.std.specs.Option.{option_to_list}
 use Rattle.std.specs.Str.{bytes_eq}
 use Rattle.std.proofs.lemmas.Slice.Eq.{bytes_eq-Decides}
 use Rattle.std.proofs.lemmas.List.Splits.{join_with_byte-slice_split, length-slice_split}
-use Rattle.cec_frame.specs.declared.Ending.{Ending}
-use Rattle.cec_frame.specs.declared.Ending.TheVariants.{Complete, Short, Silent, BadStart, Long, Open}
-use Rattle.cec_frame.specs.declared.Reading.{Reading}
-use Rattle.cec_wire.specs.declared.Loser.{Loser}
-use Rattle.cec_wire.specs.declared.Outcome.{Outcome}
-use Rattle.hdmi_core.specs.Number.{number_of}
-use Rattle.hdmi_core.specs.Words.{text_of, words_of}
-use Rattle.cec_signal.proofs.Numbers.{number_again}
-use Rattle.cec_device.specs.State.{State}
-use Rattle.cec_audit.specs.Kept.{IsPlain}
-use Rattle.cec_audit.proofs.OneLine.{plain_reading}
-use Rattle.cec_audit.proofs.Plain.{plain_codes, plain_decimal, plain_more}
-use Rattle.cec_text.specs.ReadingText.{ending_text, reported_text, verdict_text}
-use Rattle.cec_trace.specs.TraceText.{comma_list, loser_text, name_at, round_line}
-use Rattle.cec_judge.specs.Told.{EventLine, RoundLine, after_complete, round_by, round_in, reported_in}
+use Rattle.line_frames.specs.declared.Ending.{Ending}
+use Rattle.line_frames.specs.declared.Ending.TheVariants.{Complete, Short, Silent, BadStart, Long, Open}
+use Rattle.line_frames.specs.declared.Reading.{Reading}
+use Rattle.line_rounds.specs.declared.Loser.{Loser}
+use Rattle.line_rounds.specs.declared.Outcome.{Outcome}
+use Rattle.text_core.specs.Number.{number_of}
+use Rattle.text_core.specs.Words.{text_of, words_of}
+use Rattle.capture_core.proofs.Numbers.{number_again}
+use Rattle.device_core.specs.State.{State}
+use Rattle.audit_core.specs.Kept.{IsPlain}
+use Rattle.audit_core.proofs.OneLine.{plain_reading}
+use Rattle.audit_core.proofs.Plain.{plain_codes, plain_decimal, plain_more}
+use Rattle.message_text.specs.ReadingText.{ending_text, reported_text, verdict_text}
+use Rattle.room_trace.specs.TraceText.{comma_list, loser_text, name_at, round_line}
+use Rattle.expect_judge.specs.Told.{EventLine, RoundLine, after_complete, round_by, round_in, reported_in}
 use Rattle.judge_laws.specs.ReadBack.{RoundReported, ending_reported, round_read, round_text_of}
 use Rattle.judge_laws.proofs.Lines.{Adds, Closed, closed_end, closed_more, closed_word, number_solid, two_words_add}
 use Rattle.judge_laws.proofs.Others.{other_verb}

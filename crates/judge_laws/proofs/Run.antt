@@ -5,37 +5,37 @@ use Rattle.std.specs.List.{All, cons_option, filter_map}
 use Rattle.std.proofs.lemmas.Bool.Decides.{nat_tests}
 use Rattle.std.proofs.lemmas.List.Elements.{All-append, All-cons, All-nil}
 use Rattle.std.proofs.lemmas.Option.{get_or_from_slice_get, slice_get_within}
-use Rattle.cec_wave.specs.Line.{line_of}
-use Rattle.cec_wave.specs.Bounds.{latest_event}
-use Rattle.cec_wire.specs.declared.Outcome.{Outcome}
-use Rattle.cec_wire.proofs.Bounds.{rounds_are_short}
-use Rattle.hdmi_blocks.specs.declared.edid.Edid.{Edid}
-use Rattle.hdmi_topo.specs.Node.{Node}
-use Rattle.hdmi_topo.specs.Path.{is_on_wire}
-use Rattle.hdmi_core.specs.Lines.{lines_of}
-use Rattle.hdmi_core.specs.Words.{words_of}
-use Rattle.cec_signal.proofs.Texts.{Lacks}
-use Rattle.cec_device.specs.State.{State}
-use Rattle.cec_net.specs.State.{NetState, next_start, first_net}
-use Rattle.cec_net.specs.Apply.{net_after, event_fault}
-use Rattle.cec_asm.specs.declared.script.TimedEvent.{TimedEvent}
-use Rattle.cec_asm.proofs.Sound.{scripts_are_sound}
-use Rattle.cec_audit.specs.Kept.{IsPlain}
-use Rattle.cec_trace.specs.TraceText.{round_line}
-use Rattle.cec_run.specs.declared.run.Reporting.TheVariants.{Trace}
-use Rattle.cec_run.specs.declared.run.Totals.{Totals}
-use Rattle.cec_run.specs.declared.run.Turn.{Turn}
-use Rattle.cec_run.specs.declared.run.Turn.TheVariants.{Stop, Apply, Round}
-use Rattle.cec_run.specs.Run.{Config, IsEventTurn, IsTurnBy, Leads, event_turn, first_time, is_by, round_turn, start, start_reported, turn_at, turn_of}
-use Rattle.cec_run.specs.RunLine as run_line
-use Rattle.cec_run.specs.Emulate.{IsTraceOf}
-use Rattle.cec_run.proofs.Advance.{round_begins}
-use Rattle.cec_driven.specs.Driven.{names_of}
-use Rattle.cec_judge.specs.Seen.{end_by, ends_seen}
-use Rattle.cec_judge.specs.Told.{EventLine, RoundLine, events_of, round_in, rounds_of}
-use Rattle.cec_judge.specs.declared.seen.Span.{Span}
-use Rattle.dump_laws.specs.Dumps.{is_word}
-use Rattle.dump_laws.proofs.Head.{name_of}
+use Rattle.line_wave.specs.Line.{line_of}
+use Rattle.line_wave.specs.Bounds.{latest_event}
+use Rattle.line_rounds.specs.declared.Outcome.{Outcome}
+use Rattle.line_rounds.proofs.Bounds.{rounds_are_short}
+use Rattle.edid_core.specs.declared.edid.Edid.{Edid}
+use Rattle.edid_tree.specs.Node.{Node}
+use Rattle.edid_tree.specs.Path.{is_on_wire}
+use Rattle.text_core.specs.Lines.{lines_of}
+use Rattle.text_core.specs.Words.{words_of}
+use Rattle.capture_core.proofs.Texts.{Lacks}
+use Rattle.device_core.specs.State.{State}
+use Rattle.room_net.specs.State.{NetState, next_start, first_net}
+use Rattle.room_net.specs.Apply.{net_after, event_fault}
+use Rattle.room_script.specs.declared.script.TimedEvent.{TimedEvent}
+use Rattle.room_script.proofs.Sound.{scripts_are_sound}
+use Rattle.audit_core.specs.Kept.{IsPlain}
+use Rattle.room_trace.specs.TraceText.{round_line}
+use Rattle.room_run.specs.declared.run.Reporting.TheVariants.{Trace}
+use Rattle.room_run.specs.declared.run.Totals.{Totals}
+use Rattle.room_run.specs.declared.run.Turn.{Turn}
+use Rattle.room_run.specs.declared.run.Turn.TheVariants.{Stop, Apply, Round}
+use Rattle.room_run.specs.Run.{Config, IsEventTurn, IsTurnBy, Leads, event_turn, first_time, is_by, round_turn, start, start_reported, turn_at, turn_of}
+use Rattle.room_run.specs.RunLine as run_line
+use Rattle.room_run.specs.Emulate.{IsTraceOf}
+use Rattle.room_run.proofs.Advance.{round_begins}
+use Rattle.room_driven.specs.Driven.{names_of}
+use Rattle.expect_judge.specs.Seen.{end_by, ends_seen}
+use Rattle.expect_judge.specs.Told.{EventLine, RoundLine, events_of, round_in, rounds_of}
+use Rattle.expect_judge.specs.declared.seen.Span.{Span}
+use Rattle.wires_laws.specs.Dumps.{is_word}
+use Rattle.wires_laws.proofs.Head.{name_of}
 use Rattle.driven_laws.specs.Dumps.{names_in}
 use Rattle.driven_laws.proofs.Names.{names_are_words, names_started}
 use Rattle.judge_laws.specs.ReadBack.{EventReported, LinesReportRounds, RoundReported, TracesAreReadBack, event_read, events_by, events_in, events_reported, first_event, round_read, rounds_by, rounds_in, rounds_reported}

@@ -5,29 +5,29 @@ use Rattle.std.specs.Str.{bytes_eq}
 use Rattle.std.proofs.lemmas.List.Elements.{All-append, All-cons, All-nil}
 use Rattle.std.proofs.lemmas.List.Splits.{length-slice_split}
 use Rattle.std.proofs.lemmas.List.Sums.{count_by-le-length}
-use Rattle.cec_wave.specs.declared.Stretch.{Stretch}
-use Rattle.cec_wave.specs.declared.PulsesError.{PulsesError}
-use Rattle.hdmi_topo.specs.Node.{Node}
-use Rattle.hdmi_topo.specs.Tree.{device_named}
-use Rattle.cec_feature.specs.declared.keys.Key.{Key as KeyValue}
-use Rattle.cec_event.specs.declared.event.Event.{Event}
-use Rattle.cec_event.specs.declared.event.Event.TheVariants.{Plug, Unplug, Key, Outside}
-use Rattle.cec_event.specs.declared.event.HeaderNames.{HeaderNames}
-use Rattle.hdmi_core.specs.Lines.{is_skipped, lines_of, without_empty_end}
-use Rattle.hdmi_core.specs.Number.{number_of}
-use Rattle.hdmi_core.specs.Words.{one_of, three_of, two_of, words_of}
-use Rattle.cec_text.specs.declared.assembler.AssembleError.{AssembleError}
-use Rattle.cec_asm.specs.Keys.{key_of}
-use Rattle.cec_asm.specs.Header.{header_names}
-use Rattle.cec_asm.specs.Holding.{hold_of}
-use Rattle.cec_device.specs.declared.outside.Act.{Act}
-use Rattle.cec_device.specs.declared.outside.Act.TheVariants.{Empty}
-use Rattle.cec_asm.specs.Fault.{at_word}
-use Rattle.cec_asm.specs.declared.fault.LineFault.{LineFault}
-use Rattle.cec_asm.specs.declared.script.ScriptCause.TheVariants as causes
-use Rattle.cec_asm.specs.declared.script.TimedEvent.{TimedEvent}
-use Rattle.cec_asm.specs.Script.{AreLinesRead, Course, IsEventRead, IsLineRead, IsScriptRead, IsSendRead, IsWordsRead, Notes, Onward, end_read, end_words, course_at_end, event_words, key_read, key_words, act_read, hold_words, drop_words, last_end, last_time, no_notes, other_words, plug_read, plug_words, pulse_read, pulse_words, pull_read, pull_words, pulse_refusal, touches, is_before, level_of, notes_with_level, pin_read, pin_words, pulses_ended, notes_with_event, frame_event, send_read, time_of, unless_fault, unplug_read, unplug_words}
-use Rattle.cec_wave.specs.Bounds.{most_pulses, most_pulls, widest_pull}
+use Rattle.line_wave.specs.declared.Stretch.{Stretch}
+use Rattle.line_wave.specs.declared.PulsesError.{PulsesError}
+use Rattle.edid_tree.specs.Node.{Node}
+use Rattle.edid_tree.specs.Tree.{device_named}
+use Rattle.device_features.specs.declared.keys.Key.{Key as KeyValue}
+use Rattle.room_event.specs.declared.event.Event.{Event}
+use Rattle.room_event.specs.declared.event.Event.TheVariants.{Plug, Unplug, Key, Outside}
+use Rattle.room_event.specs.declared.event.HeaderNames.{HeaderNames}
+use Rattle.text_core.specs.Lines.{is_skipped, lines_of, without_empty_end}
+use Rattle.text_core.specs.Number.{number_of}
+use Rattle.text_core.specs.Words.{one_of, three_of, two_of, words_of}
+use Rattle.message_text.specs.declared.assembler.AssembleError.{AssembleError}
+use Rattle.room_script.specs.Keys.{key_of}
+use Rattle.room_script.specs.Header.{header_names}
+use Rattle.room_script.specs.Holding.{hold_of}
+use Rattle.device_core.specs.declared.outside.Act.{Act}
+use Rattle.device_core.specs.declared.outside.Act.TheVariants.{Empty}
+use Rattle.room_script.specs.Fault.{at_word}
+use Rattle.room_script.specs.declared.fault.LineFault.{LineFault}
+use Rattle.room_script.specs.declared.script.ScriptCause.TheVariants as causes
+use Rattle.room_script.specs.declared.script.TimedEvent.{TimedEvent}
+use Rattle.room_script.specs.Script.{AreLinesRead, Course, IsEventRead, IsLineRead, IsScriptRead, IsSendRead, IsWordsRead, Notes, Onward, end_read, end_words, course_at_end, event_words, key_read, key_words, act_read, hold_words, drop_words, last_end, last_time, no_notes, other_words, plug_read, plug_words, pulse_read, pulse_words, pull_read, pull_words, pulse_refusal, touches, is_before, level_of, notes_with_level, pin_read, pin_words, pulses_ended, notes_with_event, frame_event, send_read, time_of, unless_fault, unplug_read, unplug_words}
+use Rattle.line_wave.specs.Bounds.{most_pulses, most_pulls, widest_pull}
 
 -- no event stands below this line
 abbrev pub AreBy : ℕ → List TimedEvent → Type 0

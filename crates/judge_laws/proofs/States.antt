@@ -5,39 +5,39 @@ use Rattle.std.specs.List.{All, flat_map, range_with_len}
 use Rattle.std.specs.Str.{bytes_eq}
 use Rattle.std.proofs.lemmas.List.Elements.{All-cons, All-nil}
 use Rattle.std.proofs.lemmas.Slice.Eq.{bytes_eq-Decides}
-use Rattle.cec_wave.specs.Bounds.{latest_event}
-use Rattle.cec_wire.specs.declared.Outcome.{Outcome}
-use Rattle.hdmi_blocks.specs.declared.edid.Edid.{Edid}
-use Rattle.hdmi_topo.specs.Node.{Node}
-use Rattle.hdmi_topo.specs.Path.{is_on_wire}
-use Rattle.hdmi_topo.specs.Port.{port_bytes}
-use Rattle.hdmi_topo.specs.Tree.{ports_of}
-use Rattle.hdmi_core.specs.Lines.{lines_of}
-use Rattle.hdmi_core.specs.Number.{number_of}
-use Rattle.hdmi_core.specs.Words.{words_of}
-use Rattle.cec_signal.proofs.Numbers.{number_again}
-use Rattle.cec_signal.proofs.Texts.{Lacks, line_before, shown}
-use Rattle.cec_device.specs.State.{State}
-use Rattle.cec_event.specs.declared.event.EventError.{EventError}
-use Rattle.cec_net.specs.State.{NetState, first_net}
-use Rattle.cec_net.specs.Apply.{net_after, event_fault}
-use Rattle.cec_asm.specs.declared.script.TimedEvent.{TimedEvent}
-use Rattle.cec_asm.proofs.Sound.{scripts_are_sound}
-use Rattle.cec_audit.specs.Kept.{IsPlain}
-use Rattle.cec_audit.proofs.Plain.{plain_codes, plain_decimal, plain_more}
-use Rattle.cec_trace.specs.PortText.{lines_of_new, lines_of_ports, name_in, port_line, port_line_of, port_lines}
-use Rattle.cec_trace.specs.StateText.{state_line}
-use Rattle.cec_trace.specs.TraceText.{end_line, event_line, round_line}
-use Rattle.cec_vcd.specs.Dump.{is_space}
-use Rattle.cec_run.specs.declared.run.Reporting.TheVariants.{Trace}
-use Rattle.cec_run.specs.declared.run.Turn.{Turn}
-use Rattle.cec_run.specs.declared.run.Turn.TheVariants.{Stop, Apply, Round}
-use Rattle.cec_run.specs.Run.{Config, IsEventTurn, IsTurnBy, Leads, end_reported, first_time, start, start_reported, turn_at}
-use Rattle.cec_run.proofs.Advance.{round_begins}
-use Rattle.cec_driven.specs.Driven.{names_of}
-use Rattle.cec_judge.specs.Told.{is_state_of, state_among, state_line as line_read}
-use Rattle.dump_laws.specs.Dumps.{is_word}
-use Rattle.dump_laws.proofs.Head.{name_of}
+use Rattle.line_wave.specs.Bounds.{latest_event}
+use Rattle.line_rounds.specs.declared.Outcome.{Outcome}
+use Rattle.edid_core.specs.declared.edid.Edid.{Edid}
+use Rattle.edid_tree.specs.Node.{Node}
+use Rattle.edid_tree.specs.Path.{is_on_wire}
+use Rattle.edid_tree.specs.Port.{port_bytes}
+use Rattle.edid_tree.specs.Tree.{ports_of}
+use Rattle.text_core.specs.Lines.{lines_of}
+use Rattle.text_core.specs.Number.{number_of}
+use Rattle.text_core.specs.Words.{words_of}
+use Rattle.capture_core.proofs.Numbers.{number_again}
+use Rattle.capture_core.proofs.Texts.{Lacks, line_before, shown}
+use Rattle.device_core.specs.State.{State}
+use Rattle.room_event.specs.declared.event.EventError.{EventError}
+use Rattle.room_net.specs.State.{NetState, first_net}
+use Rattle.room_net.specs.Apply.{net_after, event_fault}
+use Rattle.room_script.specs.declared.script.TimedEvent.{TimedEvent}
+use Rattle.room_script.proofs.Sound.{scripts_are_sound}
+use Rattle.audit_core.specs.Kept.{IsPlain}
+use Rattle.audit_core.proofs.Plain.{plain_codes, plain_decimal, plain_more}
+use Rattle.room_trace.specs.PortText.{lines_of_new, lines_of_ports, name_in, port_line, port_line_of, port_lines}
+use Rattle.room_trace.specs.StateText.{state_line}
+use Rattle.room_trace.specs.TraceText.{end_line, event_line, round_line}
+use Rattle.capture_vcd.specs.Dump.{is_space}
+use Rattle.room_run.specs.declared.run.Reporting.TheVariants.{Trace}
+use Rattle.room_run.specs.declared.run.Turn.{Turn}
+use Rattle.room_run.specs.declared.run.Turn.TheVariants.{Stop, Apply, Round}
+use Rattle.room_run.specs.Run.{Config, IsEventTurn, IsTurnBy, Leads, end_reported, first_time, start, start_reported, turn_at}
+use Rattle.room_run.proofs.Advance.{round_begins}
+use Rattle.room_driven.specs.Driven.{names_of}
+use Rattle.expect_judge.specs.Told.{is_state_of, state_among, state_line as line_read}
+use Rattle.wires_laws.specs.Dumps.{is_word}
+use Rattle.wires_laws.proofs.Head.{name_of}
 use Rattle.driven_laws.specs.Dumps.{names_in}
 use Rattle.driven_laws.proofs.Names.{names_are_words, names_started}
 use Rattle.judge_laws.specs.States.{IsStateLine, StateLinesAreRead, device_of}

@@ -1,27 +1,27 @@
 -- A trace that is read back is its run (own): what is judged of a trace is judged of the rounds and events of the run.
 use Rattle.std.specs.Prelude.{◌≡◌, ℕ, zero, suc, ◌<◌, ◌^◌, length, List, [], ◌∷◌, ◌++◌, map, slice_get, Option, Some, None, codes}
 use Rattle.std.specs.List.{filter_map}
-use Rattle.cec_frame.specs.declared.Ending.{Ending}
-use Rattle.cec_frame.specs.declared.Ending.TheVariants.{Complete, Short, Silent, BadStart, Long, Open}
-use Rattle.cec_wire.specs.declared.Outcome.{Outcome}
-use Rattle.hdmi_blocks.specs.declared.edid.Edid.{Edid}
-use Rattle.cec_device.specs.State.{State}
-use Rattle.cec_event.specs.declared.event.EventError.{EventError}
-use Rattle.cec_asm.specs.declared.script.TimedEvent.{TimedEvent}
-use Rattle.cec_net.specs.Apply.{event_fault}
-use Rattle.cec_net.specs.State.{NetState, first_net}
-use Rattle.cec_text.specs.ReadingText.{reported_text, verdict_text}
-use Rattle.cec_trace.specs.TraceText.{error_word, comma_list, loser_text, name_at, round_line}
-use Rattle.cec_run.specs.declared.run.Reporting.TheVariants.{Trace}
-use Rattle.cec_run.specs.declared.run.Totals.{Totals}
-use Rattle.cec_run.specs.declared.run.Turn.{Turn}
-use Rattle.cec_run.specs.declared.run.Turn.TheVariants.{Stop, Apply, Round}
-use Rattle.cec_run.specs.Run.{Config, IsTurnBy, Leads, start, turn_at}
-use Rattle.cec_run.specs.Emulate.{IsTraceOf}
-use Rattle.cec_run.specs.OneRun.{rounds_of_trace}
-use Rattle.cec_judge.specs.Seen.{end_by, ends_seen}
-use Rattle.cec_judge.specs.Told.{EventLine, RoundLine, events_of, rounds_of}
-use Rattle.cec_judge.specs.declared.seen.Span.{Span}
+use Rattle.line_frames.specs.declared.Ending.{Ending}
+use Rattle.line_frames.specs.declared.Ending.TheVariants.{Complete, Short, Silent, BadStart, Long, Open}
+use Rattle.line_rounds.specs.declared.Outcome.{Outcome}
+use Rattle.edid_core.specs.declared.edid.Edid.{Edid}
+use Rattle.device_core.specs.State.{State}
+use Rattle.room_event.specs.declared.event.EventError.{EventError}
+use Rattle.room_script.specs.declared.script.TimedEvent.{TimedEvent}
+use Rattle.room_net.specs.Apply.{event_fault}
+use Rattle.room_net.specs.State.{NetState, first_net}
+use Rattle.message_text.specs.ReadingText.{reported_text, verdict_text}
+use Rattle.room_trace.specs.TraceText.{error_word, comma_list, loser_text, name_at, round_line}
+use Rattle.room_run.specs.declared.run.Reporting.TheVariants.{Trace}
+use Rattle.room_run.specs.declared.run.Totals.{Totals}
+use Rattle.room_run.specs.declared.run.Turn.{Turn}
+use Rattle.room_run.specs.declared.run.Turn.TheVariants.{Stop, Apply, Round}
+use Rattle.room_run.specs.Run.{Config, IsTurnBy, Leads, start, turn_at}
+use Rattle.room_run.specs.Emulate.{IsTraceOf}
+use Rattle.room_run.specs.OneRun.{rounds_of_trace}
+use Rattle.expect_judge.specs.Seen.{end_by, ends_seen}
+use Rattle.expect_judge.specs.Told.{EventLine, RoundLine, events_of, rounds_of}
+use Rattle.expect_judge.specs.declared.seen.Span.{Span}
 
 -- ---- what a run reports
 

@@ -2,20 +2,20 @@
 use Rattle.std.specs.Prelude.{◌≡◌, ℕ, ◌≤◌, codes, List, [], ◌++◌, filter, min, Option, Some, None}
 use Rattle.std.specs.List.{find}
 use Rattle.std.specs.Str.{bytes_eq}
-use Rattle.cec_wave.specs.Bounds.{latest_event}
-use Rattle.cec_device.specs.State.{State}
-use Rattle.cec_net.specs.State.{first_net}
-use Rattle.cec_trace.specs.StateText.{state_line}
-use Rattle.cec_run.specs.declared.run.Reporting.TheVariants.{Trace}
-use Rattle.cec_run.specs.declared.run.Totals.{Totals}
-use Rattle.cec_run.specs.Run.{Config, start}
-use Rattle.cec_run.specs.Emulate.{IsTraceOf}
-use Rattle.cec_certain.specs.Certain.{AllBefore}
-use Rattle.cec_certain.specs.Causal.{BeginsWith, before_reported}
-use Rattle.cec_expect.specs.Line.{cut_script}
-use Rattle.cec_judge.specs.Told.{state_line as line_read}
-use Rattle.cec_check.specs.Cuts.{IsCut, is_early}
-use Rattle.cec_check.specs.States.{IsStateAt}
+use Rattle.line_wave.specs.Bounds.{latest_event}
+use Rattle.device_core.specs.State.{State}
+use Rattle.room_net.specs.State.{first_net}
+use Rattle.room_trace.specs.StateText.{state_line}
+use Rattle.room_run.specs.declared.run.Reporting.TheVariants.{Trace}
+use Rattle.room_run.specs.declared.run.Totals.{Totals}
+use Rattle.room_run.specs.Run.{Config, start}
+use Rattle.room_run.specs.Emulate.{IsTraceOf}
+use Rattle.live_certain.specs.Certain.{AllBefore}
+use Rattle.live_certain.specs.Causal.{BeginsWith, before_reported}
+use Rattle.expect_text.specs.Line.{cut_script}
+use Rattle.expect_judge.specs.Told.{state_line as line_read}
+use Rattle.expect_run.specs.Cuts.{IsCut, is_early}
+use Rattle.expect_run.specs.States.{IsStateAt}
 
 -- ---- the state lines of a trace
 

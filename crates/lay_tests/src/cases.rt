@@ -1,8 +1,8 @@
 //! Each row through the call that the program makes.
 use crate::rows::{LAID, REFUSED};
-use cec_lay::{LayError, lay_lines};
-use hdmi_core::Writes;
+use message_lay::{LayError, lay_lines};
 use std::process::Abort;
+use text_core::Writes;
 
 /// What is written of a text, or why nothing is, and the word at fault.
 fn reported(rt: &(impl Abort + AllocGlobal), text: &str) -> String {

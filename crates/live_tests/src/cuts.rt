@@ -3,9 +3,9 @@
 use crate::edges::edges_of;
 use crate::pipes::{Wanted, end_of, lines_of, said_in};
 use crate::rooms::{ROOMS, parts};
-use cec_run::emulate::emulate;
-use hdmi_core::Writes;
+use room_run::emulate::emulate;
 use std::process::Abort;
+use text_core::Writes;
 
 /// Numbers in no order, one after another.
 #[derive(Drop)]

@@ -2,9 +2,9 @@
 use crate::dialogues::is_said;
 use crate::pipes::{Wanted, end_of, lines_of, said_in};
 use crate::rooms::{ROOMS, parts};
-use cec_run::edges::emulate_edges;
-use hdmi_core::Writes;
+use room_run::edges::emulate_edges;
 use std::process::Abort;
+use text_core::Writes;
 
 /// A television alone, which polls at 12000: the start bit is low for 3,700, slots begin 4,500 after the frame's begin and every
 /// 2,400, and are low for 1,500 (a 0) or 600 (a 1). The poll is eight zeros, a one at its end, and a one that nobody pulls down.

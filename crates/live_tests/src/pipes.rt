@@ -1,9 +1,9 @@
 //! A session over two pipes, and what went through them, in the order in which it did.
-use cec_dialogue::{SessionError, session};
-use hdmi_core::{Buffered, Writes};
+use live_dialogue::{SessionError, session};
 use std::cell::RefCell;
 use std::io::{self, ErrorKind, Read, Write};
 use std::process::Abort;
+use text_core::{Buffered, Writes};
 
 /// A reader that gives one line at each read, at most as many bytes as there is room for, and notes it. A line `#fault` can't
 /// be read.

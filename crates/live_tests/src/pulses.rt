@@ -1,8 +1,8 @@
 //! Sessions of many pulses: those that a told round has taken count no more.
 use crate::pipes::{Wanted, lines_of, said_in};
-use cec_run::emulate::emulate;
-use hdmi_core::Writes;
+use room_run::emulate::emulate;
 use std::process::Abort;
+use text_core::Writes;
 
 const ROOM: &str = "device tv tv 1\nscript\n";
 

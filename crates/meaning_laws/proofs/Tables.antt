@@ -4,11 +4,11 @@ use Rattle.std.specs.List.{count_by, sum_by}
 use Rattle.std.proofs.lemmas.Bool.{ltb-true, eq-eqb, ne_eqb}
 use Rattle.std.proofs.lemmas.List.Concat.{length-flat_map}
 use Rattle.std.proofs.lemmas.List.Sums.{sum_by-cons}
-use Rattle.hdmi_edid.specs.declared.standard.StandardTiming.{StandardTiming}
-use Rattle.hdmi_meaning.specs.Notes.{Row, is_set, set_line, set_lines}
-use Rattle.hdmi_meaning.specs.Formats.{formats, find_code, format_of}
-use Rattle.hdmi_meaning.specs.declared.formats.Format.{Format}
-use Rattle.hdmi_display.specs.Figures.{standard_height}
+use Rattle.edid_base.specs.declared.standard.StandardTiming.{StandardTiming}
+use Rattle.meaning_words.specs.Notes.{Row, is_set, set_line, set_lines}
+use Rattle.meaning_words.specs.Formats.{formats, find_code, format_of}
+use Rattle.meaning_words.specs.declared.formats.Format.{Format}
+use Rattle.meaning_base.specs.Figures.{standard_height}
 use Rattle.meaning_laws.specs.Rising.{rise}
 
 both : (a b : Bool) → (a && b) ≡ true → (a ≡ true) × (b ≡ true)

@@ -1,11 +1,11 @@
 //! The laws.
 ghost use Rattle.std.specs.Prelude.{ℕ, ◌≡◌, ◌<◌, true, Some, length, map, slice_get, count_by};
-ghost use Rattle.hdmi_edid.specs.declared.standard.StandardTiming.{StandardTiming as StandardValue};
-ghost use Rattle.hdmi_meaning.specs.Notes.{is_set, set_lines};
-ghost use Rattle.hdmi_meaning.specs.Formats.{formats, format_of};
-ghost use Rattle.hdmi_meaning.specs.declared.formats.Format.{Format as FormatValue};
-ghost use Rattle.hdmi_display.specs.Established.{established_rows};
-ghost use Rattle.hdmi_display.specs.Figures.{standard_height};
+ghost use Rattle.edid_base.specs.declared.standard.StandardTiming.{StandardTiming as StandardValue};
+ghost use Rattle.meaning_words.specs.Notes.{is_set, set_lines};
+ghost use Rattle.meaning_words.specs.Formats.{formats, format_of};
+ghost use Rattle.meaning_words.specs.declared.formats.Format.{Format as FormatValue};
+ghost use Rattle.meaning_base.specs.Established.{established_rows};
+ghost use Rattle.meaning_base.specs.Figures.{standard_height};
 ghost use Rattle.meaning_laws.specs.Rising.{rise};
 
 /// The codes of the video formats rise, and each format is found by its own code: so a code stands for one format at most.

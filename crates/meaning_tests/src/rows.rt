@@ -3,14 +3,14 @@ ghost use Rattle.std.specs.Prelude.{◌≤◌, length};
 
 use crate::{abilities, displays, videos};
 use arrayvec::ArrayVec;
-use hdmi_abilities::{append_audio, append_flags, append_hdmi, append_speakers};
-use hdmi_descriptors::append_descriptor;
-use hdmi_display::{
+use edid_base::Revision;
+use meaning_base::{
     append_chroma, append_established, append_ext, append_features, append_gamma, append_input,
     append_made, append_range, append_raw, append_size, append_standard,
 };
-use hdmi_edid::Revision;
-use hdmi_meaning::{Page, append_timing, append_video};
+use meaning_cta::{append_audio, append_flags, append_hdmi, append_speakers};
+use meaning_descriptors::append_descriptor;
+use meaning_words::{Page, append_timing, append_video};
 use std::process::Abort;
 
 /// The video codes of the EDID whose HDMI blocks are read.

@@ -1,9 +1,9 @@
 //! The text of an EDID with what it means, over writers that take few bytes and that fail.
-use hdmi_annotate::edid_to_meaning;
-use hdmi_convert::EdidToTextError;
-use hdmi_core::Writes;
+use conversion_calls::EdidToTextError;
+use conversion_notes::edid_to_meaning;
 use std::io::{self, ErrorKind, Write};
 use std::process::Abort;
+use text_core::Writes;
 
 /// The bytes of a television's EDID, in hex.
 const EDID: &str =

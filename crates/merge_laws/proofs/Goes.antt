@@ -1,15 +1,15 @@
 -- Bytes of data blocks of one subject, at the front of others.
 use Rattle.std.proofs.Common.{◌≡◌, ◌∙◌, refl, sym, ap, subst, ℕ, suc, ◌+◌, ◌*◌, ◌<◌, ◌==◌, Bool, true, false, cond, arith, tests, List, [], ◌∷◌, ◌++◌, length, get_or, drop, flat_map, filter, append_assoc, Option, Some, None}
 use Rattle.std.specs.List.{find}
-use Rattle.hdmi_cta.specs.Block.{block_bytes, kind_number}
-use Rattle.hdmi_cta.specs.declared.block.BlockKind.{BlockKind}
-use Rattle.hdmi_cta.specs.declared.block.BlockKind.TheVariants.{Tag0, Audio, Video, Vendor, Speakers, Tag5, Tag6, Extended}
-use Rattle.hdmi_cta.specs.declared.block.DataBlock.{DataBlock}
-use Rattle.hdmi_merge.specs.Blocks.{blocks_of, both_of}
-use Rattle.hdmi_merge.specs.Mixing.{mixed}
-use Rattle.hdmi_merge.specs.Subjects.{is_of, subject_by, subject_number, subject_of}
-use Rattle.hdmi_merge.specs.declared.mixing.Way.{Way}
-use Rattle.hdmi_merge.specs.declared.subject.Subject.{Subject}
+use Rattle.edid_cta.specs.Block.{block_bytes, kind_number}
+use Rattle.edid_cta.specs.declared.block.BlockKind.{BlockKind}
+use Rattle.edid_cta.specs.declared.block.BlockKind.TheVariants.{Tag0, Audio, Video, Vendor, Speakers, Tag5, Tag6, Extended}
+use Rattle.edid_cta.specs.declared.block.DataBlock.{DataBlock}
+use Rattle.edid_merge.specs.Blocks.{blocks_of, both_of}
+use Rattle.edid_merge.specs.Mixing.{mixed}
+use Rattle.edid_merge.specs.Subjects.{is_of, subject_by, subject_number, subject_of}
+use Rattle.edid_merge.specs.declared.mixing.Way.{Way}
+use Rattle.edid_merge.specs.declared.subject.Subject.{Subject}
 
 -- ---- the block that bytes begin with
 

@@ -1,15 +1,15 @@
 -- One block of two tells of what the display's tells of.
 use Rattle.std.proofs.Common.{◌≡◌, ◌∙◌, refl, sym, ap, subst, ℕ, ◌==◌, Bool, true, false, ◌&&◌, ◌||◌, nat_le, cond, arith, tests, List, [], ◌∷◌, length, get_or}
-use Rattle.hdmi_cta.specs.Hdmi.{has_identifier}
-use Rattle.hdmi_cta.specs.declared.block.BlockKind.{BlockKind}
-use Rattle.hdmi_cta.specs.declared.block.BlockKind.TheVariants as tags
-use Rattle.hdmi_cta.specs.declared.block.DataBlock.{DataBlock}
-use Rattle.hdmi_merge.specs.Mixing.{mixed, speakers_ways}
-use Rattle.hdmi_merge.specs.Subjects.{extended_subject, is_forum, is_of, subject_by, subject_number, tag_subject, vendor_subject}
-use Rattle.hdmi_merge.specs.declared.mixing.Way.{Way}
-use Rattle.hdmi_merge.specs.declared.mixing.Way.TheVariants.{Display}
-use Rattle.hdmi_merge.specs.declared.subject.Subject.{Subject}
-use Rattle.hdmi_merge.specs.declared.subject.Subject.TheVariants.{Video, Speakers, Hdmi, Forum, Capability, Colorimetry, Hdr, MakerVideo, MakerAudio, Override, Other}
+use Rattle.edid_cta.specs.Hdmi.{has_identifier}
+use Rattle.edid_cta.specs.declared.block.BlockKind.{BlockKind}
+use Rattle.edid_cta.specs.declared.block.BlockKind.TheVariants as tags
+use Rattle.edid_cta.specs.declared.block.DataBlock.{DataBlock}
+use Rattle.edid_merge.specs.Mixing.{mixed, speakers_ways}
+use Rattle.edid_merge.specs.Subjects.{extended_subject, is_forum, is_of, subject_by, subject_number, tag_subject, vendor_subject}
+use Rattle.edid_merge.specs.declared.mixing.Way.{Way}
+use Rattle.edid_merge.specs.declared.mixing.Way.TheVariants.{Display}
+use Rattle.edid_merge.specs.declared.subject.Subject.{Subject}
+use Rattle.edid_merge.specs.declared.subject.Subject.TheVariants.{Video, Speakers, Hdmi, Forum, Capability, Colorimetry, Hdr, MakerVideo, MakerAudio, Override, Other}
 use Rattle.merge_laws.proofs.Goes.{Keeps, mixed_length, of_block}
 
 no_true : {A : Type 0} → false ≡ true → A

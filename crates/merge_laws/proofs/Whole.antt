@@ -1,22 +1,22 @@
 -- All blocks that a receiver answers with.
 use Rattle.std.proofs.Common.{◌≡◌, ◌∙◌, refl, sym, ap, ℕ, arith, true, List, [], ◌∷◌, ◌++◌, length, flat_map, append_assoc}
 use Rattle.std.proofs.lemmas.List.{append-nil}
-use Rattle.hdmi_cta.specs.Block.{block_bytes}
-use Rattle.hdmi_cta.specs.declared.block.DataBlock.{DataBlock}
-use Rattle.hdmi_merge.specs.Blocks.{blocks_of, by_bits, by_numbers, by_whose, merged_blocks}
-use Rattle.hdmi_merge.specs.Mixing.{speakers_ways, capability_ways, colours_ways, hdmi_ways, forum_ways}
-use Rattle.hdmi_merge.specs.Subjects.{is_of}
-use Rattle.hdmi_merge.specs.declared.mixing.Way.{Way}
-use Rattle.hdmi_merge.specs.declared.mixing.Way.TheVariants as ways
-use Rattle.hdmi_merge.specs.declared.subject.Subject.{Subject}
-use Rattle.hdmi_merge.specs.declared.subject.Subject.TheVariants.{Video, Audio, Speakers, Hdmi, Forum, Capability, Colorimetry, Hdr, MakerVideo, MakerAudio, Override, Other}
-use Rattle.hdmi_merge.specs.declared.table.Bits.{Bits}
-use Rattle.hdmi_merge.specs.declared.table.Bits.TheVariants as bits
-use Rattle.hdmi_merge.specs.declared.table.Numbers.{Numbers}
-use Rattle.hdmi_merge.specs.declared.table.Numbers.TheVariants as numbers
-use Rattle.hdmi_merge.specs.declared.table.Table.{Table}
-use Rattle.hdmi_merge.specs.declared.table.Whose.{Whose}
-use Rattle.hdmi_merge.specs.declared.table.Whose.TheVariants as whose
+use Rattle.edid_cta.specs.Block.{block_bytes}
+use Rattle.edid_cta.specs.declared.block.DataBlock.{DataBlock}
+use Rattle.edid_merge.specs.Blocks.{blocks_of, by_bits, by_numbers, by_whose, merged_blocks}
+use Rattle.edid_merge.specs.Mixing.{speakers_ways, capability_ways, colours_ways, hdmi_ways, forum_ways}
+use Rattle.edid_merge.specs.Subjects.{is_of}
+use Rattle.edid_merge.specs.declared.mixing.Way.{Way}
+use Rattle.edid_merge.specs.declared.mixing.Way.TheVariants as ways
+use Rattle.edid_merge.specs.declared.subject.Subject.{Subject}
+use Rattle.edid_merge.specs.declared.subject.Subject.TheVariants.{Video, Audio, Speakers, Hdmi, Forum, Capability, Colorimetry, Hdr, MakerVideo, MakerAudio, Override, Other}
+use Rattle.edid_merge.specs.declared.table.Bits.{Bits}
+use Rattle.edid_merge.specs.declared.table.Bits.TheVariants as bits
+use Rattle.edid_merge.specs.declared.table.Numbers.{Numbers}
+use Rattle.edid_merge.specs.declared.table.Numbers.TheVariants as numbers
+use Rattle.edid_merge.specs.declared.table.Table.{Table}
+use Rattle.edid_merge.specs.declared.table.Whose.{Whose}
+use Rattle.edid_merge.specs.declared.table.Whose.TheVariants as whose
 use Rattle.merge_laws.specs.Rows.{ObeyTheirRows, by_row}
 use Rattle.merge_laws.proofs.Goes.{Goes, Keeps, first_two, kept, part_of}
 use Rattle.merge_laws.proofs.Kept.{speakers_keep, with_first, with_three}

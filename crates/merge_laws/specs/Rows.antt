@@ -1,12 +1,12 @@
 -- What a table has for the data blocks of each kind.
 use Rattle.std.specs.Prelude.{◌≡◌, ℕ, List, [], flat_map}
-use Rattle.hdmi_cta.specs.Block.{block_bytes}
-use Rattle.hdmi_cta.specs.declared.block.DataBlock.{DataBlock}
-use Rattle.hdmi_merge.specs.Blocks.{blocks_of, by_bits, by_numbers, by_whose, merged_blocks}
-use Rattle.hdmi_merge.specs.Mixing.{speakers_ways, capability_ways, colours_ways, hdmi_ways, forum_ways}
-use Rattle.hdmi_merge.specs.declared.subject.Subject.{Subject}
-use Rattle.hdmi_merge.specs.declared.subject.Subject.TheVariants.{Video, Audio, Speakers, Hdmi, Forum, Capability, Colorimetry, Hdr, MakerVideo, MakerAudio, Override, Other}
-use Rattle.hdmi_merge.specs.declared.table.Table.{Table}
+use Rattle.edid_cta.specs.Block.{block_bytes}
+use Rattle.edid_cta.specs.declared.block.DataBlock.{DataBlock}
+use Rattle.edid_merge.specs.Blocks.{blocks_of, by_bits, by_numbers, by_whose, merged_blocks}
+use Rattle.edid_merge.specs.Mixing.{speakers_ways, capability_ways, colours_ways, hdmi_ways, forum_ways}
+use Rattle.edid_merge.specs.declared.subject.Subject.{Subject}
+use Rattle.edid_merge.specs.declared.subject.Subject.TheVariants.{Video, Audio, Speakers, Hdmi, Forum, Capability, Colorimetry, Hdr, MakerVideo, MakerAudio, Override, Other}
+use Rattle.edid_merge.specs.declared.table.Table.{Table}
 
 abbrev pub by_row : Table → Subject → List DataBlock → List DataBlock → List ℕ
 by_row t Video display own = by_whose t.video Video display own

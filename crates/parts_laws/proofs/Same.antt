@@ -1,17 +1,17 @@
 -- A receiver and a sender are what they keep, since the facts about their fields are propositions.
 use Rattle.std.proofs.Common.{arith, subst, ◌≡◌, Option, Some, None, IsSome, IfSome, ℕ, ◌≤◌, ◌<◌, Bool, List, length, refl, ap, sym, ◌∙◌}
 use Rattle.std.specs.Coded.{le_prop}
-use Rattle.cec_wave.specs.Bounds.{latest_heard}
+use Rattle.line_wave.specs.Bounds.{latest_heard}
 use Rattle.arrayvec.specs.ArrayVec.{ArrayVec}
-use Rattle.cec_bits.specs.Parts.{ArePartsOf, ArePartsOfSender, number_of, number_of_state, slot_of_state}
-use Rattle.cec_bits.specs.declared.receiver.ReceiverState.{ReceiverState}
-use Rattle.cec_bits.specs.declared.receiver.ReceiverState.TheVariants.{Rest, StartLow, StartHigh, Unsampled, Sampled}
-use Rattle.cec_bits.specs.declared.receiver.Receiver.{Receiver}
-use Rattle.cec_bits.specs.declared.receiver.parts.ReceiverParts.{ReceiverParts}
-use Rattle.cec_bits.specs.declared.sender.Sender.{Sender}
-use Rattle.cec_bits.specs.declared.sender.SenderState.{SenderState}
-use Rattle.cec_bits.specs.declared.sender.SenderState.TheVariants.{Sending, Out, Stopped}
-use Rattle.cec_bits.specs.declared.sender.parts.SenderParts.{SenderParts}
+use Rattle.line_reading.specs.Parts.{ArePartsOf, ArePartsOfSender, number_of, number_of_state, slot_of_state}
+use Rattle.line_reading.specs.declared.receiver.ReceiverState.{ReceiverState}
+use Rattle.line_reading.specs.declared.receiver.ReceiverState.TheVariants.{Rest, StartLow, StartHigh, Unsampled, Sampled}
+use Rattle.line_reading.specs.declared.receiver.Receiver.{Receiver}
+use Rattle.line_reading.specs.declared.receiver.parts.ReceiverParts.{ReceiverParts}
+use Rattle.line_reading.specs.declared.sender.Sender.{Sender}
+use Rattle.line_reading.specs.declared.sender.SenderState.{SenderState}
+use Rattle.line_reading.specs.declared.sender.SenderState.TheVariants.{Sending, Out, Stopped}
+use Rattle.line_reading.specs.declared.sender.parts.SenderParts.{SenderParts}
 
 -- two values with the same fields and any proofs of the same facts are one
 same : {A B : Type 0} {P : A → Type 0} (mk : (x : A) → P x → B) → ((x : A) → IsProp (P x))

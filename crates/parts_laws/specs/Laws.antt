@@ -1,10 +1,10 @@
 -- What a receiver and a sender keep is all that they are (this profile's own).
 use Rattle.std.specs.Prelude.{◌≡◌}
-use Rattle.cec_bits.specs.Parts.{ArePartsOf, ArePartsOfSender}
-use Rattle.cec_bits.specs.declared.receiver.Receiver.{Receiver}
-use Rattle.cec_bits.specs.declared.receiver.parts.ReceiverParts.{ReceiverParts}
-use Rattle.cec_bits.specs.declared.sender.Sender.{Sender}
-use Rattle.cec_bits.specs.declared.sender.parts.SenderParts.{SenderParts}
+use Rattle.line_reading.specs.Parts.{ArePartsOf, ArePartsOfSender}
+use Rattle.line_reading.specs.declared.receiver.Receiver.{Receiver}
+use Rattle.line_reading.specs.declared.receiver.parts.ReceiverParts.{ReceiverParts}
+use Rattle.line_reading.specs.declared.sender.Sender.{Sender}
+use Rattle.line_reading.specs.declared.sender.parts.SenderParts.{SenderParts}
 
 abbrev pub ReceiversHaveOneForm : Type 0
 ReceiversHaveOneForm = (first second : Receiver) (parts : ReceiverParts) → ArePartsOf first parts → ArePartsOf second parts → first ≡ second

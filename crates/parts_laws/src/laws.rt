@@ -2,7 +2,7 @@
 ghost use Rattle.std.specs.Prelude.{◌≡◌, Some};
 ghost use Rattle.parts_laws.specs.Laws.{ReceiversHaveOneForm, SendersHaveOneForm};
 
-use cec_bits::{Receiver, Sender};
+use line_reading::{Receiver, Sender};
 
 /// Two receivers that keep the same are the same.
 pub fn receivers_have_one_form()

@@ -1,8 +1,8 @@
 //! What the program does, over readers and writers that it is handed.
-use hdmi_core::Writes;
-use hdminet_program::program::program;
+use program_calls::program::program;
 use std::io::{self, ErrorKind, Read, Write};
 use std::process::Abort;
+use text_core::Writes;
 
 mod captures;
 mod command_line;

@@ -7,7 +7,7 @@ use Rattle.std.specs.Str.Parse.{AllDigits}
 use Rattle.std.proofs.lemmas.Bool.{false≢true}
 use Rattle.std.proofs.lemmas.Bool.Decides.{nat_tests}
 use Rattle.std.proofs.lemmas.Fmt.{decimal_is_IsNumeral}
-use Rattle.cec_json.specs.Parts.{after_byte, before_byte}
+use Rattle.json_trace.specs.Parts.{after_byte, before_byte}
 
 -- none of these is the byte
 abbrev pub lacks : ℕ → List ℕ → Bool

@@ -1,14 +1,14 @@
 -- What the object of a test reports, part by part.
 use Rattle.std.proofs.Common.{◌≡◌, inl, inr, ℕ, ◌^◌, ◌<◌, ◌==◌, Bool, true, false, if◌then◌else◌, codes, List, [], ◌∷◌, ◌++◌, append-nil, append_assoc, refl, sym, ap, ◌∙◌}
 use Rattle.std.specs.Fmt.{decimal}
-use Rattle.cec_signal.proofs.Numbers.{decimal_numeral}
-use Rattle.cec_check.specs.Report.{escaped_text, escaped_byte, test_start}
-use Rattle.cec_json.specs.Columns.{field, field_lead}
-use Rattle.cec_json.specs.Object.{type_field}
-use Rattle.cec_json.specs.Parts.{after_word}
-use Rattle.cec_json.specs.Values.{string_text}
-use Rattle.cec_json.specs.declared.values.Shape.TheVariants.{Number}
-use Rattle.cec_report_json.specs.TestLine.{expected_fields, place_fields, plain, plain_from, test_reported, text_fields, truth}
+use Rattle.capture_core.proofs.Numbers.{decimal_numeral}
+use Rattle.expect_run.specs.Report.{escaped_text, escaped_byte, test_start}
+use Rattle.json_trace.specs.Columns.{field, field_lead}
+use Rattle.json_trace.specs.Object.{type_field}
+use Rattle.json_trace.specs.Parts.{after_word}
+use Rattle.json_trace.specs.Values.{string_text}
+use Rattle.json_trace.specs.declared.values.Shape.TheVariants.{Number}
+use Rattle.json_report.specs.TestLine.{expected_fields, place_fields, plain, plain_from, test_reported, text_fields, truth}
 use Rattle.report_laws.specs.Tests.{BeginsAsOne, ExpectationsAreReported, IsReported, RefusalsAreReported, count_field, test_fields}
 use Rattle.report_laws.proofs.Parted.{front_before, no_colon, no_space, one_more, rest_after}
 

@@ -1,14 +1,14 @@
 -- The object of the line of a test reports what the report has of it (own).
 use Rattle.std.specs.Prelude.{◌≡◌, ◌⊎◌, ℕ, ◌^◌, ◌<◌, Bool, false, codes, List, [], ◌++◌}
 use Rattle.std.specs.Fmt.{decimal}
-use Rattle.cec_check.specs.Report.{escaped_text, test_start}
-use Rattle.cec_json.specs.Columns.{field, field_lead}
-use Rattle.cec_json.specs.Object.{type_field}
-use Rattle.cec_json.specs.Values.{string_text}
-use Rattle.cec_json.specs.declared.values.Shape.TheVariants.{Text}
-use Rattle.cec_report_json.specs.Object.{IsReportedAs, form_of}
-use Rattle.cec_report_json.specs.TestLine.{truth}
-use Rattle.cec_report_json.specs.declared.object.Report.TheVariants.{Expectations}
+use Rattle.expect_run.specs.Report.{escaped_text, test_start}
+use Rattle.json_trace.specs.Columns.{field, field_lead}
+use Rattle.json_trace.specs.Object.{type_field}
+use Rattle.json_trace.specs.Values.{string_text}
+use Rattle.json_trace.specs.declared.values.Shape.TheVariants.{Text}
+use Rattle.json_report.specs.Object.{IsReportedAs, form_of}
+use Rattle.json_report.specs.TestLine.{truth}
+use Rattle.json_report.specs.declared.object.Report.TheVariants.{Expectations}
 
 -- what the object of a line of a report has after the line
 abbrev pub IsReported : List ℕ → List ℕ → Type 0

@@ -2,12 +2,12 @@
 ghost use Rattle.std.specs.Prelude.{◌↔◌, ◌<◌, [], IfSome, IsTrue};
 
 use crate::rooms::{LATEST, replug, room, round_before};
-use cec_device::{Act, SubmitError};
-use cec_frame::{Addr, Frame};
-use cec_net::{Event, EventError, HeaderNames, Net};
-use cec_one_wire::EdgeWire;
-use hdmi_core::Kind;
+use device_core::{Act, SubmitError};
+use line_frames::{Addr, Frame};
+use line_wire::EdgeWire;
+use room_net::{Event, EventError, HeaderNames, Net};
 use std::process::Abort;
+use text_core::Kind;
 
 // The opcode of each frame that is handed in.
 const STANDBY: u8 = 0x36;

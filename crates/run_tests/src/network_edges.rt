@@ -2,13 +2,13 @@
 ghost use Rattle.std.specs.Prelude.{◌<◌, IsSome};
 
 use crate::rooms::{LATEST, room, round_before, send};
-use cec_bits::Standing;
-use cec_frame::Ending;
-use cec_net::{Net, RoundReport};
-use cec_one_wire::EdgeWire;
-use cec_wave::{Edge, Stretch};
-use hdmi_core::Kind;
+use line_frames::Ending;
+use line_reading::Standing;
+use line_wave::{Edge, Stretch};
+use line_wire::EdgeWire;
+use room_net::{Net, RoundReport};
 use std::process::Abort;
+use text_core::Kind;
 
 const IMAGE_VIEW_ON: u8 = 0x04;
 

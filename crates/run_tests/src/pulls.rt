@@ -1,9 +1,9 @@
 //! Rooms in which anything is pulled from outside, by pulls and by a pin: frames laid bit by bit, with faults, among those of the devices. Each trace was
 //! worked out by hand from the standard's times.
-use cec_run::emulate::emulate;
-use hdmi_core::Writes;
+use room_run::emulate::emulate;
 use std::alloc::{AllocGlobal, Global};
 use std::process::Abort;
+use text_core::Writes;
 
 /// A television, a player in its first port, and a device from outside in its second.
 const ROOM: &str =

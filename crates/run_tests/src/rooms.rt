@@ -1,13 +1,13 @@
 //! Networks of a television and devices in its first ports.
 ghost use Rattle.std.specs.Prelude.{◌≤◌, ◌<◌, All};
 
-use cec_frame::Frame;
-use cec_net::{Event, Net, RoundReport};
-use cec_one_wire::EdgeWire;
-use cec_wave::{Pulses, Stretch};
-use hdmi_core::Kind;
-use hdmi_topo::Tree;
+use edid_tree::Tree;
+use line_frames::Frame;
+use line_wave::{Pulses, Stretch};
+use line_wire::EdgeWire;
+use room_net::{Event, Net, RoundReport};
 use std::process::Abort;
+use text_core::Kind;
 
 /// The last instant at which a round may begin or an event come.
 pub(crate) const LATEST: u64 = 2_000_000_000_000;

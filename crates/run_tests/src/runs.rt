@@ -1,9 +1,9 @@
 //! Runs worked out by hand from the standard's times, to the byte.
-use cec_run::edges::emulate_edges;
-use cec_run::emulate::emulate;
-use hdmi_core::Writes;
+use room_run::edges::emulate_edges;
+use room_run::emulate::emulate;
 use std::alloc::Global;
 use std::process::Abort;
+use text_core::Writes;
 
 // Where a run's lines stand: in its trace one right after another, at the trace's front, as all of the trace, or at
 // the end of the run's edge file.

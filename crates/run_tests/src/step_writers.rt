@@ -1,16 +1,16 @@
 //! Writers that take one byte a call, and that fail: what a step has written then, and where the stepper stands.
 ghost use Rattle.std.specs.Prelude.{length, IfSome};
-ghost use Rattle.cec_asm.specs.Script.{IsScript, course_of};
+ghost use Rattle.room_script.specs.Script.{IsScript, course_of};
 
-use cec_asm::{Script, Topology, parse_script, parse_topology};
-use cec_run::emulate::EmulateError;
-use cec_step::step_run::{StepRunError, step_run};
-use cec_step::{Break, StepError, Stepper};
-use hdmi_blocks::root_of;
-use hdmi_core::Writes;
+use edid_core::root_of;
+use room_run::emulate::EmulateError;
+use room_script::{Script, Topology, parse_script, parse_topology};
+use room_steps::step_run::{StepRunError, step_run};
+use room_steps::{Break, StepError, Stepper};
 use std::alloc::Global;
 use std::io::{self, ErrorKind, Write};
 use std::process::Abort;
+use text_core::Writes;
 
 /// A television, and a player in its first port.
 const TWO: &str = "device tv tv 4\ndevice p1 player 0\nplug p1 tv 1\n";

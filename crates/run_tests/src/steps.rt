@@ -1,9 +1,9 @@
 //! Steps worked out by hand from the standard's times, to the byte.
-use cec_run::emulate::EmulateError;
-use cec_step::step_run::{StepRunError, step_run};
-use hdmi_core::Writes;
+use room_run::emulate::EmulateError;
+use room_steps::step_run::{StepRunError, step_run};
 use std::alloc::Global;
 use std::process::Abort;
+use text_core::Writes;
 
 const ALONE: &str = "device tv tv 1\n";
 

@@ -1,12 +1,12 @@
 //! A pulse at each microsecond of a poll, and at each one of a frame. What has to come out was worked out from the
 //! rules of the wire: a pulse breaks a frame, acknowledges one falsely or refuses one, and never makes another of it.
 use crate::rooms::{LATEST, room, round_before, send};
-use cec_frame::{Addr, Ending, Reading};
-use cec_net::Net;
-use cec_one_wire::EdgeWire;
-use cec_wave::Stretch;
-use hdmi_core::Kind;
+use line_frames::{Addr, Ending, Reading};
+use line_wave::Stretch;
+use line_wire::EdgeWire;
+use room_net::Net;
 use std::process::Abort;
+use text_core::Kind;
 
 /// How wide the pulses are, in microseconds.
 const POLL_WIDTHS: &[u64] = &[1, 400, 3_000, 3_700, 10_000];

@@ -1,19 +1,19 @@
 //! Each call over writers that take few bytes a call, and that fail.
 use crate::rows::{ROWS, Row};
-use cec_frame::Frame;
-use cec_line::Format;
-use cec_mon::watch;
-use cec_run::edges::emulate_edges;
-use cec_run::emulate::emulate;
-use cec_run::line::emulate_line;
-use cec_step::step_run::step_run;
-use cec_text::{asm_lines, write_frame};
-use hdmi_convert::{edid_to_text, text_to_hex};
-use hdmi_core::Writes;
-use hdmi_edtext::{edid_from_bytes, write_text};
+use capture_monitor::watch;
+use conversion_calls::{edid_to_text, text_to_hex};
+use edid_texts::{edid_from_bytes, write_text};
+use line_frames::Frame;
+use message_text::{asm_lines, write_frame};
+use room_line::Format;
+use room_run::edges::emulate_edges;
+use room_run::emulate::emulate;
+use room_run::line::emulate_line;
+use room_steps::step_run::step_run;
 use std::fmt::Display;
 use std::io::{self, ErrorKind, Write};
 use std::process::Abort;
+use text_core::Writes;
 
 /// A writer that takes at most so many bytes a call. It fails once, where it has no room left, and takes bytes again after that:
 /// what a call writes after a failed write is seen.

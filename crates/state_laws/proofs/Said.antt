@@ -6,28 +6,28 @@ use Rattle.std.proofs.lemmas.Grind.{common_steps}
 use Rattle.std.proofs.lemmas.Fmt.{decimal_by_steps, decimal_nonempty}
 use Rattle.std.proofs.lemmas.List.Elements.{All-cons, All-nil}
 use Rattle.std.proofs.lemmas.List.Folds.{list_all-append}
-use Rattle.hdmi_core.specs.Bytes.{are_bytes}
-use Rattle.hdmi_core.specs.Kind.{kind_word}
-use Rattle.hdmi_core.specs.Piece.{dash_or, hex_or_dash, hex_text, nibble_text, phys_text, switch_text}
-use Rattle.hdmi_core.specs.declared.kind.Kind.{Kind}
-use Rattle.hdmi_core.specs.declared.kind.Kind.TheVariants.{Tv, Amp, Player, Recorder, Switch, Combo, Outside, OutsideTv}
-use Rattle.hdmi_core.specs.declared.phys.Phys.{Phys}
-use Rattle.cec_opcode.specs.DeckWords.{deck_info_byte}
-use Rattle.cec_feature.specs.declared.record.Note.{Note}
-use Rattle.cec_feature.specs.Kinds.{is_outside}
-use Rattle.cec_device.specs.State.{State, addresses_held}
-use Rattle.cec_device.specs.Place.{is_on_wire}
-use Rattle.cec_device.specs.declared.place.Place.{Place}
-use Rattle.cec_device.specs.declared.place.Place.TheVariants.{Off, Polls, Settled}
-use Rattle.cec_trace.specs.StateText.{address_text, held_text, language_bytes, note_text, outside_line, phys_on, power_text, state_line_of, unit_text}
-use Rattle.cec_expect.specs.Parts.{IsTextOf, has}
-use Rattle.cec_expect.specs.StateTest.{fields}
-use Rattle.cec_expect.specs.StateWords.{IsDash, IsStateWord, IsUnit, note_parts, number_parts, physical_parts}
-use Rattle.cec_expect.specs.declared.part.Class.TheVariants.{Digit, Hex}
-use Rattle.cec_expect.specs.declared.part.Part.{Part}
-use Rattle.cec_expect.specs.declared.part.Part.TheVariants.{Byte, One, Many}
-use Rattle.cec_expect.proofs.Meeting.{and_both, first_of, second_of}
-use Rattle.cec_expect.proofs.Readings.{all_hex, hex_digit, high, low, two_digits}
+use Rattle.text_core.specs.Bytes.{are_bytes}
+use Rattle.text_core.specs.Kind.{kind_word}
+use Rattle.text_core.specs.Piece.{dash_or, hex_or_dash, hex_text, nibble_text, phys_text, switch_text}
+use Rattle.text_core.specs.declared.kind.Kind.{Kind}
+use Rattle.text_core.specs.declared.kind.Kind.TheVariants.{Tv, Amp, Player, Recorder, Switch, Combo, Outside, OutsideTv}
+use Rattle.text_core.specs.declared.phys.Phys.{Phys}
+use Rattle.message_table.specs.DeckWords.{deck_info_byte}
+use Rattle.device_features.specs.declared.record.Note.{Note}
+use Rattle.device_features.specs.Kinds.{is_outside}
+use Rattle.device_core.specs.State.{State, addresses_held}
+use Rattle.device_core.specs.Place.{is_on_wire}
+use Rattle.device_core.specs.declared.place.Place.{Place}
+use Rattle.device_core.specs.declared.place.Place.TheVariants.{Off, Polls, Settled}
+use Rattle.room_trace.specs.StateText.{address_text, held_text, language_bytes, note_text, outside_line, phys_on, power_text, state_line_of, unit_text}
+use Rattle.expect_text.specs.Parts.{IsTextOf, has}
+use Rattle.expect_text.specs.StateTest.{fields}
+use Rattle.expect_text.specs.StateWords.{IsDash, IsStateWord, IsUnit, note_parts, number_parts, physical_parts}
+use Rattle.expect_text.specs.declared.part.Class.TheVariants.{Digit, Hex}
+use Rattle.expect_text.specs.declared.part.Part.{Part}
+use Rattle.expect_text.specs.declared.part.Part.TheVariants.{Byte, One, Many}
+use Rattle.expect_text.proofs.Meeting.{and_both, first_of, second_of}
+use Rattle.expect_text.proofs.Readings.{all_hex, hex_digit, high, low, two_digits}
 use Rattle.state_laws.specs.Lines.{IsSaid, IsSized, IsSmall, StateLinesAreSaid, bytes_of, note_bytes, phys_bytes, spaced}
 
 -- ---- texts

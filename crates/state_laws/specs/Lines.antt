@@ -1,13 +1,13 @@
 -- The state line of a device, word by word (own).
 use Rattle.std.specs.Prelude.{◌≡◌, ℕ, ◌<◌, ◌^◌, true, codes, List, [], ◌∷◌, ◌++◌, length, Option, Some, None}
 use Rattle.std.specs.List.{All}
-use Rattle.hdmi_core.specs.Bytes.{are_bytes}
-use Rattle.hdmi_core.specs.declared.phys.Phys.{Phys}
-use Rattle.cec_opcode.specs.DeckWords.{deck_info_byte}
-use Rattle.cec_feature.specs.declared.record.Note.{Note}
-use Rattle.cec_device.specs.State.{State}
-use Rattle.cec_trace.specs.StateText.{language_bytes, state_line}
-use Rattle.cec_expect.specs.StateWords.{IsStateWord}
+use Rattle.text_core.specs.Bytes.{are_bytes}
+use Rattle.text_core.specs.declared.phys.Phys.{Phys}
+use Rattle.message_table.specs.DeckWords.{deck_info_byte}
+use Rattle.device_features.specs.declared.record.Note.{Note}
+use Rattle.device_core.specs.State.{State}
+use Rattle.room_trace.specs.StateText.{language_bytes, state_line}
+use Rattle.expect_text.specs.StateWords.{IsStateWord}
 
 -- ---- values of a device that are bytes and numbers of 64 bits, as each device has them
 

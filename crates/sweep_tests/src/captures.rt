@@ -1,11 +1,11 @@
 //! Expectations of captures.
 use crate::rows::{END, EXPECTED, FAULTS, FRAMES, REMARKED, REMARKS_REPORT, REPORT, WANTED};
-use cec_capture_check::{CaptureCheckError, check_capture};
-use cec_check::Tally;
-use cec_mon::read_edges;
-use cec_signal::Capture;
-use hdmi_core::Writes;
+use audit_expect::{CaptureCheckError, check_capture};
+use capture_core::Capture;
+use capture_monitor::read_edges;
+use expect_run::Tally;
 use std::process::Abort;
+use text_core::Writes;
 
 fn holds(rt: &impl Abort, holds: bool, case: &str) {
     assert!(rt; holds, "{case}");

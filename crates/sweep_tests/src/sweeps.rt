@@ -1,9 +1,9 @@
 //! Sweeps of scripts.
 use crate::rows::{ALONE, DECKS, RACE, RACES, SWEEPS};
-use cec_sweep::{Hearer, Progress, Silent, SweepError, sweep};
-use hdmi_core::Writes;
+use expect_sweep::{Hearer, Progress, Silent, SweepError, sweep};
 use std::io::{self, ErrorKind, Write};
 use std::process::Abort;
+use text_core::Writes;
 
 fn holds(rt: &impl Abort, holds: bool, case: &str) {
     assert!(rt; holds, "{case}");

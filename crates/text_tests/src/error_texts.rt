@@ -1,18 +1,18 @@
 //! The text of each error, written by hand.
-use cec_device::{KeyError, SubmitError};
-use cec_frame::FrameError;
-use cec_opcode::EncodeError;
-use cec_text::{AssembleError, FrameLinesError, LineFault};
-use cec_wave::PulsesError;
-use hdmi_core::WriteFault;
-use hdmi_cta::{ExtError, NoHdmiBlock};
-use hdmi_ddc::DdcError;
-use hdmi_edid::BaseError;
-use hdmi_topo::{AddError, PlugError, PortEdidError, UnplugError};
+use device_core::{KeyError, SubmitError};
+use edid_base::BaseError;
+use edid_cta::{ExtError, NoHdmiBlock};
+use edid_ddc::DdcError;
+use edid_tree::{AddError, PlugError, PortEdidError, UnplugError};
+use line_frames::FrameError;
+use line_wave::PulsesError;
+use message_table::EncodeError;
+use message_text::{AssembleError, FrameLinesError, LineFault};
 use std::alloc::Global;
 use std::fmt::Display;
 use std::process::Abort;
 use std::test::Fail;
+use text_core::WriteFault;
 
 const FRAMES: &[(FrameError, &str)] = &[
     (FrameError::Empty, "a frame has at least one block"),

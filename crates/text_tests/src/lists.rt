@@ -1,6 +1,6 @@
 //! Lists of words in help.
 use crate::cases::case_holds;
-use hdminet_help::run_words;
+use explain_lists::run_words;
 use std::alloc::AllocError;
 
 /// Lines of the words of topologies and scripts, written by hand from the table of keys and the lists of causes.

@@ -1,9 +1,9 @@
 //! What a topology and a script say, and why one is refused.
 use crate::cases::{bytes_of, case_holds};
-use cec_asm::{Script, ScriptError, TimedEvent, Topology, parse_script, parse_topology};
-use cec_device::{Act, Key, VolumeKey};
-use cec_net::Event;
-use cec_opcode::UserControl;
+use device_core::{Act, Key, VolumeKey};
+use message_table::UserControl;
+use room_net::Event;
+use room_script::{Script, ScriptError, TimedEvent, Topology, parse_script, parse_topology};
 use std::alloc::Global;
 use std::process::Abort;
 

@@ -1,6 +1,6 @@
 //! Shapes, written by hand from the standard's table of opcodes.
 use crate::cases::case_holds;
-use cec_frame_shapes::frame_shape;
+use message_shapes::frame_shape;
 use std::process::Abort;
 
 const SHAPES: &[(u8, &str)] = &[

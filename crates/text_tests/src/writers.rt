@@ -1,10 +1,10 @@
 //! Writers that take one byte a call, and that fail: what a frame's text has then.
 use arrayvec::ArrayVec;
-use cec_frame::Frame;
-use cec_text::write_frame;
-use hdmi_core::{WriteFault, Writes};
+use line_frames::Frame;
+use message_text::write_frame;
 use std::io::{self, ErrorKind, Write};
 use std::process::Abort;
+use text_core::{WriteFault, Writes};
 
 const PLAY: [u8; 3] = [0x40, 0x41, 0x24];
 

@@ -5,33 +5,33 @@ use Rattle.std.specs.Option.{option_to_list}
 use Rattle.std.proofs.Math.Path.{fun_ext}
 use Rattle.std.proofs.lemmas.Bool.{cases_lt, false≢true}
 use Rattle.std.proofs.lemmas.Bool.Decides.{nat_tests}
-use Rattle.cec_wave.specs.declared.Stretch.{Stretch}
-use Rattle.cec_wave.specs.Line.{Line, line_of, covers, is_fall, is_rise, IsWave, IsWaveFrom}
-use Rattle.cec_wave.specs.Sender.{slot_stretches, sender_stretches}
-use Rattle.cec_frame.specs.Bits.{frame_bits, least_among}
-use Rattle.cec_frame.specs.declared.Ending.{Ending}
-use Rattle.cec_frame.specs.declared.Ending.TheVariants.{Complete, Short, Silent, BadStart, Long, Open}
-use Rattle.cec_frame.proofs.Slots.{length-frame_bits}
-use Rattle.cec_bits.specs.Windows.{standard, sample_at}
-use Rattle.cec_bits.specs.Reading.After.{Next, Ends}
-use Rattle.cec_bits.specs.Reading.{next_fall, next_rise, Read, Slot, known_at, reading_of, read_slots, read_on, read_start, after_slot, after_fall, after_last, last_ending, last_heard, bit_sampled_at, start_of, start_fall, bits_of, After}
-use Rattle.cec_bits.proofs.Search.{first_in_some, found_first, found_none}
-use Rattle.cec_bits.proofs.Causes.{nothing, known_start_low, known_start_high, start_risen}
-use Rattle.cec_wire.specs.declared.Seat.{Seat}
-use Rattle.cec_wire.specs.declared.Outcome.{Outcome}
-use Rattle.cec_wire.specs.Round.{IsRound, IsRoundLine, frames_of, is_acknowledged, is_broken, losers_from, rest_of, survivors_from}
-use Rattle.cec_wire.specs.Contend.{AreFrames}
-use Rattle.cec_wire.specs.Lasting.{is_begun}
-use Rattle.cec_wire.proofs.Differ.{In, Least, is_least}
-use Rattle.cec_wire.proofs.Lows.{before_slots}
-use Rattle.cec_wire.proofs.Lays.{start_at, before_start, after_start}
-use Rattle.cec_wire.proofs.Early.{sender_low}
-use Rattle.cec_wire.proofs.Walk.{NextFall, next_falls, Reached, reach_next}
-use Rattle.cec_wire.proofs.Law.{all_in, least_of, reached_start}
-use Rattle.cec_wire.proofs.Lasting.{begun_by, contended, low_at_begin}
-use Rattle.cec_wire.proofs.Afterwards.{no_fall_after}
-use Rattle.cec_wire.proofs.Still.{high_before}
-use Rattle.cec_wire.proofs.OneOutcome.{one_outcome}
+use Rattle.line_wave.specs.declared.Stretch.{Stretch}
+use Rattle.line_wave.specs.Line.{Line, line_of, covers, is_fall, is_rise, IsWave, IsWaveFrom}
+use Rattle.line_wave.specs.Sender.{slot_stretches, sender_stretches}
+use Rattle.line_frames.specs.Bits.{frame_bits, least_among}
+use Rattle.line_frames.specs.declared.Ending.{Ending}
+use Rattle.line_frames.specs.declared.Ending.TheVariants.{Complete, Short, Silent, BadStart, Long, Open}
+use Rattle.line_frames.proofs.Slots.{length-frame_bits}
+use Rattle.line_reading.specs.Windows.{standard, sample_at}
+use Rattle.line_reading.specs.Reading.After.{Next, Ends}
+use Rattle.line_reading.specs.Reading.{next_fall, next_rise, Read, Slot, known_at, reading_of, read_slots, read_on, read_start, after_slot, after_fall, after_last, last_ending, last_heard, bit_sampled_at, start_of, start_fall, bits_of, After}
+use Rattle.line_reading.proofs.Search.{first_in_some, found_first, found_none}
+use Rattle.line_reading.proofs.Causes.{nothing, known_start_low, known_start_high, start_risen}
+use Rattle.line_rounds.specs.declared.Seat.{Seat}
+use Rattle.line_rounds.specs.declared.Outcome.{Outcome}
+use Rattle.line_rounds.specs.Round.{IsRound, IsRoundLine, frames_of, is_acknowledged, is_broken, losers_from, rest_of, survivors_from}
+use Rattle.line_rounds.specs.Contend.{AreFrames}
+use Rattle.line_rounds.specs.Lasting.{is_begun}
+use Rattle.line_rounds.proofs.Differ.{In, Least, is_least}
+use Rattle.line_rounds.proofs.Lows.{before_slots}
+use Rattle.line_rounds.proofs.Lays.{start_at, before_start, after_start}
+use Rattle.line_rounds.proofs.Early.{sender_low}
+use Rattle.line_rounds.proofs.Walk.{NextFall, next_falls, Reached, reach_next}
+use Rattle.line_rounds.proofs.Law.{all_in, least_of, reached_start}
+use Rattle.line_rounds.proofs.Lasting.{begun_by, contended, low_at_begin}
+use Rattle.line_rounds.proofs.Afterwards.{no_fall_after}
+use Rattle.line_rounds.proofs.Still.{high_before}
+use Rattle.line_rounds.proofs.OneOutcome.{one_outcome}
 use Rattle.timing_laws.specs.Nominal.{RoundsAreNominal}
 use Rattle.timing_laws.proofs.Slots.{Calm, IsSlotTime, OnSlot, Puller, SlotLow, Starter, falls_nominal, high_to, in_slot, low_for, quiet_slot, quiet_start, slot_low, soon_low, starter, who_makes}
 

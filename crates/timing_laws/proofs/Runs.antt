@@ -3,43 +3,43 @@ use Rattle.std.proofs.Common.{◌≡◌, ◌≢◌, ℕ, zero, suc, ◌+◌, ◌
 use Rattle.std.specs.List.{filter, list_any, cons_option}
 use Rattle.std.proofs.lemmas.Bool.{cases_lt, false≢true}
 use Rattle.std.proofs.lemmas.Bool.Decides.{nat_tests}
-use Rattle.cec_wave.specs.declared.Edge.{Edge}
-use Rattle.cec_wave.specs.declared.Stretch.{Stretch}
-use Rattle.cec_wave.specs.Line.{line_of}
-use Rattle.cec_wave.specs.Sender.{slot_stretches, sender_stretches}
-use Rattle.cec_frame.specs.declared.Ending.{Ending}
-use Rattle.cec_frame.specs.declared.Ending.TheVariants.{Complete, Short, Silent, BadStart, Long, Open}
-use Rattle.cec_bits.specs.Windows.{standard}
-use Rattle.cec_bits.specs.Reading.{reading_of}
-use Rattle.cec_bits.specs.Readings.{IsLone, Listed}
-use Rattle.cec_bits.proofs.Ends.{at_by}
-use Rattle.cec_signal.specs.Edges.{edges_of}
-use Rattle.cec_timing.specs.declared.low.Low.{Low as LowOf}
-use Rattle.cec_timing.specs.Lows.{first_low, gone_to, low_at, lows_before, lows_in}
-use Rattle.cec_timing.specs.Misfits.{drive_within, last_of, long_by, long_low}
-use Rattle.cec_remarks.specs.declared.free.Before.TheVariants.{Nothing}
-use Rattle.cec_remarks.specs.declared.free.Previous.{Previous}
-use Rattle.cec_remarks.specs.Attempts.{tries_again}
-use Rattle.cec_remarks.specs.Free.{before_of, final_bit, final_by, free_before, free_due, is_bad_start, last_fall, previous_with, too_soon}
-use Rattle.cec_audit.specs.Audit.{Tape, after, come_to, drive_by, falls_until, first_tape, is_folded, lows_of}
-use Rattle.cec_audit.specs.Lines.{misfits_text}
-use Rattle.cec_wire.specs.declared.Seat.{Seat}
-use Rattle.cec_wire.specs.declared.Outcome.{Outcome}
-use Rattle.cec_wire.specs.Round.{IsRound, frames_of}
-use Rattle.cec_wire.specs.Alone.{outcome_listed, part_of}
-use Rattle.cec_wire.specs.Lasting.{is_begun}
-use Rattle.cec_wire.proofs.Alone.{rounds_are_lone}
-use Rattle.cec_wire.proofs.Lays.{after_start, slot_at}
-pub use Rattle.cec_wire.proofs.Differ.{In}
-use Rattle.cec_net.specs.State.{NetState, next_start}
-use Rattle.cec_net.specs.Start.{first_onset, least_start, sooner}
-use Rattle.cec_net.specs.Apply.{net_after}
-use Rattle.cec_net.specs.Step.{after_round, seats_of}
-use Rattle.cec_net.specs.Framed.{AreFramed}
-use Rattle.cec_net.specs.Line.{Move, Happens, Goes, GoesFrom, Moves, rounds_of, run_wave}
-pub use Rattle.cec_net.proofs.Framed.{framed-applied, framed-round, seats_fit}
-pub use Rattle.cec_net.proofs.Lines.{begun, kept}
-pub use Rattle.cec_net.proofs.Progress.{Led, led}
+use Rattle.line_wave.specs.declared.Edge.{Edge}
+use Rattle.line_wave.specs.declared.Stretch.{Stretch}
+use Rattle.line_wave.specs.Line.{line_of}
+use Rattle.line_wave.specs.Sender.{slot_stretches, sender_stretches}
+use Rattle.line_frames.specs.declared.Ending.{Ending}
+use Rattle.line_frames.specs.declared.Ending.TheVariants.{Complete, Short, Silent, BadStart, Long, Open}
+use Rattle.line_reading.specs.Windows.{standard}
+use Rattle.line_reading.specs.Reading.{reading_of}
+use Rattle.line_reading.specs.Readings.{IsLone, Listed}
+use Rattle.line_reading.proofs.Ends.{at_by}
+use Rattle.capture_core.specs.Edges.{edges_of}
+use Rattle.audit_widths.specs.declared.low.Low.{Low as LowOf}
+use Rattle.audit_widths.specs.Lows.{first_low, gone_to, low_at, lows_before, lows_in}
+use Rattle.audit_widths.specs.Misfits.{drive_within, last_of, long_by, long_low}
+use Rattle.audit_remarks.specs.declared.free.Before.TheVariants.{Nothing}
+use Rattle.audit_remarks.specs.declared.free.Previous.{Previous}
+use Rattle.audit_remarks.specs.Attempts.{tries_again}
+use Rattle.audit_remarks.specs.Free.{before_of, final_bit, final_by, free_before, free_due, is_bad_start, last_fall, previous_with, too_soon}
+use Rattle.audit_core.specs.Audit.{Tape, after, come_to, drive_by, falls_until, first_tape, is_folded, lows_of}
+use Rattle.audit_core.specs.Lines.{misfits_text}
+use Rattle.line_rounds.specs.declared.Seat.{Seat}
+use Rattle.line_rounds.specs.declared.Outcome.{Outcome}
+use Rattle.line_rounds.specs.Round.{IsRound, frames_of}
+use Rattle.line_rounds.specs.Alone.{outcome_listed, part_of}
+use Rattle.line_rounds.specs.Lasting.{is_begun}
+use Rattle.line_rounds.proofs.Alone.{rounds_are_lone}
+use Rattle.line_rounds.proofs.Lays.{after_start, slot_at}
+pub use Rattle.line_rounds.proofs.Differ.{In}
+use Rattle.room_net.specs.State.{NetState, next_start}
+use Rattle.room_net.specs.Start.{first_onset, least_start, sooner}
+use Rattle.room_net.specs.Apply.{net_after}
+use Rattle.room_net.specs.Step.{after_round, seats_of}
+use Rattle.room_net.specs.Framed.{AreFramed}
+use Rattle.room_net.specs.Line.{Move, Happens, Goes, GoesFrom, Moves, rounds_of, run_wave}
+pub use Rattle.room_net.proofs.Framed.{framed-applied, framed-round, seats_fit}
+pub use Rattle.room_net.proofs.Lines.{begun, kept}
+pub use Rattle.room_net.proofs.Progress.{Led, led}
 use Rattle.timing_laws.specs.Times.{AreFree, AreInTime, AsksForMore}
 use Rattle.timing_laws.proofs.Nominal.{IsOwnEnding, ends_later, rounds_are_nominal}
 use Rattle.timing_laws.proofs.Widths.{Later, none_later, sender_remarks}

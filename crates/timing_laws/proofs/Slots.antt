@@ -5,33 +5,33 @@ use Rattle.std.proofs.Math.Seq.{get_or-append_seam}
 use Rattle.std.proofs.lemmas.Bool.{cases_lt, false≢true}
 use Rattle.std.proofs.lemmas.Bool.Decides.{nat_tests}
 use Rattle.std.proofs.lemmas.Option.{get_or_from_slice_get}
-use Rattle.cec_wave.specs.Line.{Line, line_of, was_low, is_fall}
-use Rattle.cec_wave.specs.Pulses.{AreSparse}
-use Rattle.cec_wave.specs.Sender.{sender_stretches}
-use Rattle.cec_frame.specs.Bits.{frame_bits, least_among}
-use Rattle.cec_frame.specs.declared.Ending.{Ending}
-use Rattle.cec_frame.specs.declared.Ending.TheVariants.{Complete, Short, Silent, BadStart, Long, Open}
-use Rattle.cec_frame.proofs.Slots.{ack_slot}
-use Rattle.cec_bits.specs.Windows.{sample_at}
-use Rattle.cec_bits.specs.Reading.After.{Ends}
-use Rattle.cec_bits.specs.Reading.{next_fall, Slot, End, Known, known_at, known_slot, reading_of, read_slots, after_slot, after_last, last_ending, last_heard, bit_sampled_at}
-use Rattle.cec_bits.specs.Sending.{bit_read, out_slot, sender_pulls, goes_on}
-use Rattle.cec_bits.proofs.Search.{first_in_none}
-use Rattle.cec_bits.proofs.Causes.{nothing, known_front, late_read, known_in_slot}
-use Rattle.cec_wire.specs.declared.Seat.{Seat}
-use Rattle.cec_wire.specs.Round.{IsRoundLine, frames_of, is_acknowledged, is_broken, winning_frames}
-use Rattle.cec_wire.specs.Contend.{AreFrames, pulled_through, Stays}
-use Rattle.cec_wire.specs.Machine.{acks_until}
-use Rattle.cec_wire.proofs.Differ.{In, in_any, or_right}
-use Rattle.cec_wire.proofs.Lays.{slot_or_none, after_start}
-use Rattle.cec_wire.proofs.Early.{or_cases, and_left, and_right, leaves_more, no_acks, sender_low, Reports}
-use Rattle.cec_wire.proofs.Walk.{over_sampled, quiet_sample, Reached, known_unsampled, reported_more}
-use Rattle.cec_wire.proofs.Inside.{stays_by, known_here}
-use Rattle.cec_wire.proofs.Law.{in_filter}
-use Rattle.cec_wire.proofs.Holding.{acks_now, done_by}
-use Rattle.cec_wire.proofs.Lasting.{contended}
-use Rattle.cec_wire.proofs.Falls.{round_fall_by, FallBy}
-use Rattle.cec_wire.proofs.SameLine.{same_line}
+use Rattle.line_wave.specs.Line.{Line, line_of, was_low, is_fall}
+use Rattle.line_wave.specs.Pulses.{AreSparse}
+use Rattle.line_wave.specs.Sender.{sender_stretches}
+use Rattle.line_frames.specs.Bits.{frame_bits, least_among}
+use Rattle.line_frames.specs.declared.Ending.{Ending}
+use Rattle.line_frames.specs.declared.Ending.TheVariants.{Complete, Short, Silent, BadStart, Long, Open}
+use Rattle.line_frames.proofs.Slots.{ack_slot}
+use Rattle.line_reading.specs.Windows.{sample_at}
+use Rattle.line_reading.specs.Reading.After.{Ends}
+use Rattle.line_reading.specs.Reading.{next_fall, Slot, End, Known, known_at, known_slot, reading_of, read_slots, after_slot, after_last, last_ending, last_heard, bit_sampled_at}
+use Rattle.line_reading.specs.Sending.{bit_read, out_slot, sender_pulls, goes_on}
+use Rattle.line_reading.proofs.Search.{first_in_none}
+use Rattle.line_reading.proofs.Causes.{nothing, known_front, late_read, known_in_slot}
+use Rattle.line_rounds.specs.declared.Seat.{Seat}
+use Rattle.line_rounds.specs.Round.{IsRoundLine, frames_of, is_acknowledged, is_broken, winning_frames}
+use Rattle.line_rounds.specs.Contend.{AreFrames, pulled_through, Stays}
+use Rattle.line_rounds.specs.Machine.{acks_until}
+use Rattle.line_rounds.proofs.Differ.{In, in_any, or_right}
+use Rattle.line_rounds.proofs.Lays.{slot_or_none, after_start}
+use Rattle.line_rounds.proofs.Early.{or_cases, and_left, and_right, leaves_more, no_acks, sender_low, Reports}
+use Rattle.line_rounds.proofs.Walk.{over_sampled, quiet_sample, Reached, known_unsampled, reported_more}
+use Rattle.line_rounds.proofs.Inside.{stays_by, known_here}
+use Rattle.line_rounds.proofs.Law.{in_filter}
+use Rattle.line_rounds.proofs.Holding.{acks_now, done_by}
+use Rattle.line_rounds.proofs.Lasting.{contended}
+use Rattle.line_rounds.proofs.Falls.{round_fall_by, FallBy}
+use Rattle.line_rounds.proofs.SameLine.{same_line}
 
 -- ---- a line without falls
 

@@ -3,40 +3,40 @@ use Rattle.std.proofs.Common.{◌≡◌, ℕ, zero, suc, ◌+◌, ◌≤◌, max
 use Rattle.std.proofs.Math.Path.{fun_ext}
 use Rattle.std.specs.List.{flat_map}
 use Rattle.std.proofs.lemmas.List.Elements.{All-nil}
-use Rattle.cec_wave.specs.declared.Stretch.{Stretch}
-use Rattle.cec_wave.specs.Line.{line_of, IsWave}
-use Rattle.cec_wave.specs.Bounds.{latest_instant}
-use Rattle.cec_bits.specs.Readings.{Listed, readings_of}
-use Rattle.cec_wire.specs.declared.Outcome.{Outcome}
-use Rattle.cec_wire.specs.Alone.{outcome_listed}
-use Rattle.hdmi_topo.specs.Node.{Node}
-use Rattle.cec_signal.specs.Edges.{Captured, edges_of, line_of_edges}
-use Rattle.cec_audit.specs.Audit.{first_tape}
-use Rattle.cec_net.specs.State.{NetState, first_net}
-use Rattle.cec_net.specs.Apply.{net_after}
-use Rattle.cec_net.specs.Step.{after_round}
-use Rattle.cec_net.specs.Line.{Move, Happens, Goes, Moves, rounds_of, run_wave}
-use Rattle.cec_net.proofs.Framed.{framed-started}
-use Rattle.cec_asm.specs.Script.{AreFramedEvents}
-use Rattle.cec_asm.specs.declared.script.TimedEvent.{TimedEvent}
-use Rattle.cec_run.specs.declared.run.Reporting.{Reporting}
-use Rattle.cec_run.specs.declared.run.Reporting.TheVariants.{Line}
-use Rattle.cec_run.specs.declared.run.Totals.{Totals}
-use Rattle.cec_run.specs.declared.run.Turn.{Turn}
-use Rattle.cec_run.specs.declared.run.Turn.TheVariants.{Stop, Apply, Round}
-use Rattle.cec_run.specs.Run.{Config, start, turn_at, first_time, IsEventTurn, IsRunText, IsTurnBy, Leads}
-use Rattle.cec_run.specs.RunLine.{rounds_by, rounds_in, IsLineText}
-use Rattle.cec_run.specs.OneRun.{rounds_reported}
-use Rattle.cec_run.proofs.Advance.{round_begins}
-use Rattle.cec_run.proofs.OneRun.{runs_close_soon}
-use Rattle.cec_run.proofs.WholeLine.{lines_are_of_the_rounds}
+use Rattle.line_wave.specs.declared.Stretch.{Stretch}
+use Rattle.line_wave.specs.Line.{line_of, IsWave}
+use Rattle.line_wave.specs.Bounds.{latest_instant}
+use Rattle.line_reading.specs.Readings.{Listed, readings_of}
+use Rattle.line_rounds.specs.declared.Outcome.{Outcome}
+use Rattle.line_rounds.specs.Alone.{outcome_listed}
+use Rattle.edid_tree.specs.Node.{Node}
+use Rattle.capture_core.specs.Edges.{Captured, edges_of, line_of_edges}
+use Rattle.audit_core.specs.Audit.{first_tape}
+use Rattle.room_net.specs.State.{NetState, first_net}
+use Rattle.room_net.specs.Apply.{net_after}
+use Rattle.room_net.specs.Step.{after_round}
+use Rattle.room_net.specs.Line.{Move, Happens, Goes, Moves, rounds_of, run_wave}
+use Rattle.room_net.proofs.Framed.{framed-started}
+use Rattle.room_script.specs.Script.{AreFramedEvents}
+use Rattle.room_script.specs.declared.script.TimedEvent.{TimedEvent}
+use Rattle.room_run.specs.declared.run.Reporting.{Reporting}
+use Rattle.room_run.specs.declared.run.Reporting.TheVariants.{Line}
+use Rattle.room_run.specs.declared.run.Totals.{Totals}
+use Rattle.room_run.specs.declared.run.Turn.{Turn}
+use Rattle.room_run.specs.declared.run.Turn.TheVariants.{Stop, Apply, Round}
+use Rattle.room_run.specs.Run.{Config, start, turn_at, first_time, IsEventTurn, IsRunText, IsTurnBy, Leads}
+use Rattle.room_run.specs.RunLine.{rounds_by, rounds_in, IsLineText}
+use Rattle.room_run.specs.OneRun.{rounds_reported}
+use Rattle.room_run.proofs.Advance.{round_begins}
+use Rattle.room_run.proofs.OneRun.{runs_close_soon}
+use Rattle.room_run.proofs.WholeLine.{lines_are_of_the_rounds}
 use Rattle.capture_laws.specs.Formats.{IsReadAs}
 use Rattle.capture_laws.proofs.Formats.{is_capture, lines_are_read_back}
 use Rattle.capture_laws.proofs.ReadBack.{same_line}
 use Rattle.capture_laws.specs.Formats.{IsReadText}
-use Rattle.cec_line.specs.declared.format.Format.{Format}
-use Rattle.cec_wave.specs.Bounds.{latest_event}
-use Rattle.cec_wave.specs.declared.Edge.{Edge}
+use Rattle.room_line.specs.declared.format.Format.{Format}
+use Rattle.line_wave.specs.Bounds.{latest_event}
+use Rattle.line_wave.specs.declared.Edge.{Edge}
 use Rattle.timing_laws.specs.Attempts.{AreOfSix, RunsGiveUp}
 use Rattle.timing_laws.specs.Times.{AreFree, AreInTime, KeepsTimes, RunsKeepTheirTimes}
 use Rattle.timing_laws.proofs.Runs.{AreTimed, first_in_time, runs_are_timed}

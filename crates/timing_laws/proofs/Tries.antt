@@ -4,37 +4,37 @@ use Rattle.std.specs.List.{filter, list_any, cons_option}
 use Rattle.std.proofs.lemmas.Bool.{cases_lt, false≢true}
 use Rattle.std.proofs.lemmas.Bool.Decides.{nat_tests}
 use mathlib.Core.Bool.{beq}
-use Rattle.cec_wave.specs.declared.Edge.{Edge}
-use Rattle.cec_wave.specs.declared.Stretch.{Stretch}
-use Rattle.cec_frame.specs.declared.Ending.{Ending}
-use Rattle.cec_frame.specs.declared.Ending.TheVariants.{Complete, Short, Silent, BadStart, Long, Open}
-use Rattle.cec_frame.specs.Bits.{frame_bits}
-use Rattle.cec_bits.specs.Reading.{first_in}
-use Rattle.cec_bits.specs.Readings.{Listed}
-use Rattle.cec_signal.specs.Edges.{edges_of}
-use Rattle.cec_timing.specs.declared.low.Low.{Low as LowOf}
-use Rattle.cec_timing.specs.Spreads.{sum_of}
-use Rattle.cec_remarks.specs.declared.attempts.Attempts.{Attempts}
-use Rattle.cec_remarks.specs.declared.attempts.Earlier.{Earlier}
-use Rattle.cec_remarks.specs.declared.free.Previous.{Previous}
-use Rattle.cec_remarks.specs.Attempts.{after_attempt, attempt_after, attempt_of, earlier_of, failure_at, failure_of, repeats, same_from, since_with}
-use Rattle.cec_remarks.specs.Free.{before_of, final_bit, free_before, is_bad_start}
-use Rattle.cec_remarks.specs.Header.{failed_block, initiator_of, is_poll, is_taken, seeks_address}
-use Rattle.cec_audit.specs.Audit.{Tape, after, come_to, first_tape, lows_of}
-use Rattle.cec_wire.specs.declared.Seat.{Seat}
-use Rattle.cec_wire.specs.declared.Outcome.{Outcome}
-use Rattle.cec_wire.specs.Alone.{outcome_listed}
-use Rattle.cec_wire.specs.Round.{IsRound, frames_of}
-use Rattle.cec_device.specs.declared.device.Queued.{Queued}
-use Rattle.cec_device.specs.declared.free_time.FreeTime.TheVariants.{Retry}
-use Rattle.cec_device.specs.Place.{front_by, front_of, polled_at}
-use Rattle.cec_device.specs.State.{State}
-use Rattle.cec_net.specs.Apply.{net_after}
-use Rattle.cec_net.specs.Framed.{AreFramed}
-use Rattle.cec_net.specs.Line.{Move, Happens, Goes, GoesFrom, Moves, rounds_of, run_wave}
-use Rattle.cec_net.specs.Start.{contends, first_onset, least_start, sooner}
-use Rattle.cec_net.specs.State.{NetState, next_start}
-use Rattle.cec_net.specs.Step.{after_round, is_sent, seat_of, seats_of, sent_in}
+use Rattle.line_wave.specs.declared.Edge.{Edge}
+use Rattle.line_wave.specs.declared.Stretch.{Stretch}
+use Rattle.line_frames.specs.declared.Ending.{Ending}
+use Rattle.line_frames.specs.declared.Ending.TheVariants.{Complete, Short, Silent, BadStart, Long, Open}
+use Rattle.line_frames.specs.Bits.{frame_bits}
+use Rattle.line_reading.specs.Reading.{first_in}
+use Rattle.line_reading.specs.Readings.{Listed}
+use Rattle.capture_core.specs.Edges.{edges_of}
+use Rattle.audit_widths.specs.declared.low.Low.{Low as LowOf}
+use Rattle.audit_widths.specs.Spreads.{sum_of}
+use Rattle.audit_remarks.specs.declared.attempts.Attempts.{Attempts}
+use Rattle.audit_remarks.specs.declared.attempts.Earlier.{Earlier}
+use Rattle.audit_remarks.specs.declared.free.Previous.{Previous}
+use Rattle.audit_remarks.specs.Attempts.{after_attempt, attempt_after, attempt_of, earlier_of, failure_at, failure_of, repeats, same_from, since_with}
+use Rattle.audit_remarks.specs.Free.{before_of, final_bit, free_before, is_bad_start}
+use Rattle.audit_remarks.specs.Header.{failed_block, initiator_of, is_poll, is_taken, seeks_address}
+use Rattle.audit_core.specs.Audit.{Tape, after, come_to, first_tape, lows_of}
+use Rattle.line_rounds.specs.declared.Seat.{Seat}
+use Rattle.line_rounds.specs.declared.Outcome.{Outcome}
+use Rattle.line_rounds.specs.Alone.{outcome_listed}
+use Rattle.line_rounds.specs.Round.{IsRound, frames_of}
+use Rattle.device_core.specs.declared.device.Queued.{Queued}
+use Rattle.device_core.specs.declared.free_time.FreeTime.TheVariants.{Retry}
+use Rattle.device_core.specs.Place.{front_by, front_of, polled_at}
+use Rattle.device_core.specs.State.{State}
+use Rattle.room_net.specs.Apply.{net_after}
+use Rattle.room_net.specs.Framed.{AreFramed}
+use Rattle.room_net.specs.Line.{Move, Happens, Goes, GoesFrom, Moves, rounds_of, run_wave}
+use Rattle.room_net.specs.Start.{contends, first_onset, least_start, sooner}
+use Rattle.room_net.specs.State.{NetState, next_start}
+use Rattle.room_net.specs.Step.{after_round, is_sent, seat_of, seats_of, sent_in}
 use Rattle.timing_laws.specs.Attempts.{AreOfSix, IsOfSix}
 use Rattle.timing_laws.proofs.Nominal.{LastStarts, last_starts}
 use Rattle.timing_laws.proofs.Runs.{AreTimed, In, Led, OldBefore, come_here, final_by_round, framed-applied, framed-round, kept, leads, old_before, rested_after, runs_are_timed, seats_fit, sends_any}

@@ -2,53 +2,53 @@
 use Rattle.std.proofs.Common.{◌≡◌, ℕ, zero, suc, ◌+◌, ◌%◌, ◌==◌, ◌<◌, ◌≤◌, Bool, true, false, not, ◌&&◌, ◌||◌, nat_lt, if◌then◌else◌, max, min, List, [], ◌∷◌, ◌++◌, length, ◌⊎◌, inl, inr, Option, Some, None, is_some, refl, sym, ap, ◌∙◌, subst, append_assoc, append-nil, arith}
 use Rattle.std.proofs.lemmas.Bool.{false≢true}
 use Rattle.std.proofs.lemmas.Bool.Decides.{nat_tests}
-use Rattle.hdmi_core.specs.declared.kind.Kind.{Kind}
-use Rattle.hdmi_core.specs.declared.kind.Kind.TheVariants.{Tv, Amp, Player, Recorder, Switch, Combo, Outside as FromOutside, OutsideTv}
-use Rattle.hdmi_core.specs.declared.phys.Phys.{Phys}
-use Rattle.hdmi_topo.specs.Node.{Node}
-use Rattle.hdmi_topo.specs.Path.{address_of}
-use Rattle.cec_frame.specs.declared.Fate.{Fate}
-use Rattle.cec_frame.specs.declared.Fate.TheVariants.{Delivered, Unacked, Lost, Broken}
-use Rattle.cec_frame.specs.Blocks.{frame_in}
-use Rattle.cec_opcode.specs.Words.{reason_byte}
-use Rattle.cec_opcode.specs.declared.message.Decoded.{Decoded}
-use Rattle.cec_opcode.specs.declared.message.Decoded.TheVariants.{Known, Poll, Short, Unknown as NoName}
-use Rattle.cec_opcode.specs.declared.words.Reason.TheVariants.{Unrecognized}
-use Rattle.cec_opcode.specs.Table.{decoded_of}
-use Rattle.cec_feature.specs.declared.record.Heard.{Heard}
-use Rattle.cec_feature.specs.declared.say.Say.{Say}
-use Rattle.cec_feature.specs.declared.say.Say.TheVariants.{Reply, Cast, Report, Refuse}
-use Rattle.cec_feature.specs.Effect.{Effect}
-use Rattle.cec_feature.specs.Effects.{effect_of, refuses, heard_of}
-use Rattle.cec_feature.specs.Keys.{pressing, releasing}
-use Rattle.cec_feature.specs.Kinds.{is_nowhere, is_outside, is_switch, type_of}
-use Rattle.cec_feature.specs.declared.keys.Key.{Key}
-use Rattle.cec_device.specs.declared.device.Queued.{Queued}
-use Rattle.cec_device.specs.declared.device.SubmitError.{SubmitError}
-use Rattle.cec_device.specs.declared.free_time.FreeTime.{FreeTime}
-use Rattle.cec_device.specs.declared.free_time.FreeTime.TheVariants.{Retry, NewInitiator, PresentInitiator}
-use Rattle.cec_device.specs.declared.keys.KeyError.{KeyError}
-use Rattle.cec_device.specs.declared.keys.KeyError.TheVariants.{NotForKind, OffWire}
-use Rattle.cec_device.specs.declared.outside.Act.{Act}
-use Rattle.cec_device.specs.declared.outside.Act.TheVariants.{Hold, Empty}
-use Rattle.cec_device.specs.declared.place.Place.{Place}
-use Rattle.cec_device.specs.declared.place.Place.TheVariants.{Off, Polls, Settled}
-use Rattle.cec_device.specs.Effects.{after_frame, by_decoded, is_for}
-use Rattle.cec_device.specs.FreeTime.{free_time_of}
-use Rattle.cec_device.specs.Keys.{after_key, key_fault, keyed_by, own_doing}
-use Rattle.cec_device.specs.Outside.{act_fault, acted_by, after_act, class_after_drop}
-use Rattle.cec_device.specs.Place.{after_failure, after_front, after_joining, after_submission, class_after_waiting, class_of_poll, fresh, frame_sent, front_is_poll, is_allocating, is_off, is_on_wire, place_after_fate, place_after_poll, polled_at, ready_by, ready_of, reported_by, reported_from, sent_by, start_place, submit_fault, submitted_by, with_reports}
-use Rattle.cec_device.specs.Say.{after_effect, say, say_all}
-use Rattle.cec_device.specs.State.{State, addresses_held, frame_of, holds, one_more, source, speaks, with_queued}
-use Rattle.cec_event.specs.declared.event.Event.{Event}
-use Rattle.cec_event.specs.declared.event.Event.TheVariants.{Plug, Unplug, Key as KeyEvent, Send, SendNamed, Outside}
-use Rattle.cec_event.specs.declared.event.EventError.{EventError}
-use Rattle.cec_wire.specs.declared.Outcome.{Outcome}
-use Rattle.cec_wire.specs.Round.{close_in, fate_in}
-use Rattle.cec_net.specs.Apply.{applied_unless, changed_at, event_fault, net_after, named_frame, after_sent}
-use Rattle.cec_net.specs.Start.{contends, is_at, least_start, next_turn, sooner, start_by, start_of}
-use Rattle.cec_net.specs.State.{NetState, after_move, each_from, first_net, loose, moved_by}
-use Rattle.cec_net.specs.Step.{after_fate, device_after, followed_in, followed_unless, is_among}
+use Rattle.text_core.specs.declared.kind.Kind.{Kind}
+use Rattle.text_core.specs.declared.kind.Kind.TheVariants.{Tv, Amp, Player, Recorder, Switch, Combo, Outside as FromOutside, OutsideTv}
+use Rattle.text_core.specs.declared.phys.Phys.{Phys}
+use Rattle.edid_tree.specs.Node.{Node}
+use Rattle.edid_tree.specs.Path.{address_of}
+use Rattle.line_frames.specs.declared.Fate.{Fate}
+use Rattle.line_frames.specs.declared.Fate.TheVariants.{Delivered, Unacked, Lost, Broken}
+use Rattle.line_frames.specs.Blocks.{frame_in}
+use Rattle.message_table.specs.Words.{reason_byte}
+use Rattle.message_table.specs.declared.message.Decoded.{Decoded}
+use Rattle.message_table.specs.declared.message.Decoded.TheVariants.{Known, Poll, Short, Unknown as NoName}
+use Rattle.message_table.specs.declared.words.Reason.TheVariants.{Unrecognized}
+use Rattle.message_table.specs.Table.{decoded_of}
+use Rattle.device_features.specs.declared.record.Heard.{Heard}
+use Rattle.device_features.specs.declared.say.Say.{Say}
+use Rattle.device_features.specs.declared.say.Say.TheVariants.{Reply, Cast, Report, Refuse}
+use Rattle.device_features.specs.Effect.{Effect}
+use Rattle.device_features.specs.Effects.{effect_of, refuses, heard_of}
+use Rattle.device_features.specs.Keys.{pressing, releasing}
+use Rattle.device_features.specs.Kinds.{is_nowhere, is_outside, is_switch, type_of}
+use Rattle.device_features.specs.declared.keys.Key.{Key}
+use Rattle.device_core.specs.declared.device.Queued.{Queued}
+use Rattle.device_core.specs.declared.device.SubmitError.{SubmitError}
+use Rattle.device_core.specs.declared.free_time.FreeTime.{FreeTime}
+use Rattle.device_core.specs.declared.free_time.FreeTime.TheVariants.{Retry, NewInitiator, PresentInitiator}
+use Rattle.device_core.specs.declared.keys.KeyError.{KeyError}
+use Rattle.device_core.specs.declared.keys.KeyError.TheVariants.{NotForKind, OffWire}
+use Rattle.device_core.specs.declared.outside.Act.{Act}
+use Rattle.device_core.specs.declared.outside.Act.TheVariants.{Hold, Empty}
+use Rattle.device_core.specs.declared.place.Place.{Place}
+use Rattle.device_core.specs.declared.place.Place.TheVariants.{Off, Polls, Settled}
+use Rattle.device_core.specs.Effects.{after_frame, by_decoded, is_for}
+use Rattle.device_core.specs.FreeTime.{free_time_of}
+use Rattle.device_core.specs.Keys.{after_key, key_fault, keyed_by, own_doing}
+use Rattle.device_core.specs.Outside.{act_fault, acted_by, after_act, class_after_drop}
+use Rattle.device_core.specs.Place.{after_failure, after_front, after_joining, after_submission, class_after_waiting, class_of_poll, fresh, frame_sent, front_is_poll, is_allocating, is_off, is_on_wire, place_after_fate, place_after_poll, polled_at, ready_by, ready_of, reported_by, reported_from, sent_by, start_place, submit_fault, submitted_by, with_reports}
+use Rattle.device_core.specs.Say.{after_effect, say, say_all}
+use Rattle.device_core.specs.State.{State, addresses_held, frame_of, holds, one_more, source, speaks, with_queued}
+use Rattle.room_event.specs.declared.event.Event.{Event}
+use Rattle.room_event.specs.declared.event.Event.TheVariants.{Plug, Unplug, Key as KeyEvent, Send, SendNamed, Outside}
+use Rattle.room_event.specs.declared.event.EventError.{EventError}
+use Rattle.line_rounds.specs.declared.Outcome.{Outcome}
+use Rattle.line_rounds.specs.Round.{close_in, fate_in}
+use Rattle.room_net.specs.Apply.{applied_unless, changed_at, event_fault, net_after, named_frame, after_sent}
+use Rattle.room_net.specs.Start.{contends, is_at, least_start, next_turn, sooner, start_by, start_of}
+use Rattle.room_net.specs.State.{NetState, after_move, each_from, first_net, loose, moved_by}
+use Rattle.room_net.specs.Step.{after_fate, device_after, followed_in, followed_unless, is_among}
 
 -- ---- more is queued
 

@@ -1,18 +1,18 @@
 -- The widths of a line of nominal times are in their windows.
-use Rattle.cec_bits.specs.Windows.{standard}
+use Rattle.line_reading.specs.Windows.{standard}
 use Rattle.std.proofs.Common.{◌≡◌, ℕ, zero, suc, ◌+◌, ◌-◌, ◌*◌, ◌==◌, ◌<◌, ◌≤◌, Bool, true, false, not, ◌&&◌, nat_lt, if◌then◌else◌, List, [], ◌∷◌, ◌++◌, length, length-append, slice_index_or, take, Option, Some, None, refl, arith, ap, ◌∙◌, sym, subst, append_assoc}
 use Rattle.std.proofs.Math.Seq.{get_or-append_seam}
 use Rattle.std.proofs.lemmas.Bool.Decides.{nat_tests}
-use Rattle.cec_wave.specs.declared.Edge.{Edge}
-use Rattle.cec_wave.specs.Sender.{slot_stretches, sender_stretches}
-use Rattle.cec_frame.specs.declared.Ending.{Ending}
-use Rattle.cec_signal.specs.Edges.{edges_of}
-use Rattle.cec_timing.specs.declared.low.Low.{Low as LowOf}
-use Rattle.cec_timing.specs.declared.misfit.Kind.TheVariants.{Low, Total}
-use Rattle.cec_timing.specs.declared.misfit.Misfit.{Misfit}
-use Rattle.cec_timing.specs.Lows.{low_at, lows_before, lows_in}
-use Rattle.cec_timing.specs.Misfits.{fits, has_all, is_total, low_misfit, low_window, misfit_of, slot_bit, total_by, total_misfit, total_window, window}
-use Rattle.cec_audit.specs.Lines.{misfits_text}
+use Rattle.line_wave.specs.declared.Edge.{Edge}
+use Rattle.line_wave.specs.Sender.{slot_stretches, sender_stretches}
+use Rattle.line_frames.specs.declared.Ending.{Ending}
+use Rattle.capture_core.specs.Edges.{edges_of}
+use Rattle.audit_widths.specs.declared.low.Low.{Low as LowOf}
+use Rattle.audit_widths.specs.declared.misfit.Kind.TheVariants.{Low, Total}
+use Rattle.audit_widths.specs.declared.misfit.Misfit.{Misfit}
+use Rattle.audit_widths.specs.Lows.{low_at, lows_before, lows_in}
+use Rattle.audit_widths.specs.Misfits.{fits, has_all, is_total, low_misfit, low_window, misfit_of, slot_bit, total_by, total_misfit, total_window, window}
+use Rattle.audit_core.specs.Lines.{misfits_text}
 
 -- ---- widths in their windows
 

@@ -1,20 +1,20 @@
 -- A run without pulses keeps to the attempts of the standard (CEC 7.1): a frame that is not taken is sent six times at most.
 use Rattle.std.specs.Prelude.{ℕ, ◌≤◌, List, [], ◌∷◌, Option, Some, None}
-use Rattle.cec_wave.specs.Bounds.{latest_event}
-use Rattle.hdmi_topo.specs.Node.{Node}
-use Rattle.cec_bits.specs.Readings.{Listed, readings_of}
-use Rattle.cec_signal.specs.Edges.{Captured, line_of_edges}
-use Rattle.cec_audit.specs.Audit.{Tape, after, come_to, first_tape}
-use Rattle.cec_remarks.specs.declared.attempts.Failure.{Failure}
-use Rattle.cec_remarks.specs.Attempts.{failure_of}
-use Rattle.cec_remarks.specs.Free.{free_before}
-use Rattle.cec_net.specs.State.{first_net}
-use Rattle.cec_asm.specs.Script.{AreFramedEvents}
-use Rattle.cec_asm.specs.declared.script.TimedEvent.{TimedEvent}
-use Rattle.cec_line.specs.declared.format.Format.{Format}
-use Rattle.cec_run.specs.declared.run.Reporting.TheVariants.{Line}
-use Rattle.cec_run.specs.declared.run.Totals.{Totals}
-use Rattle.cec_run.specs.Run.{start, IsRunText}
+use Rattle.line_wave.specs.Bounds.{latest_event}
+use Rattle.edid_tree.specs.Node.{Node}
+use Rattle.line_reading.specs.Readings.{Listed, readings_of}
+use Rattle.capture_core.specs.Edges.{Captured, line_of_edges}
+use Rattle.audit_core.specs.Audit.{Tape, after, come_to, first_tape}
+use Rattle.audit_remarks.specs.declared.attempts.Failure.{Failure}
+use Rattle.audit_remarks.specs.Attempts.{failure_of}
+use Rattle.audit_remarks.specs.Free.{free_before}
+use Rattle.room_net.specs.State.{first_net}
+use Rattle.room_script.specs.Script.{AreFramedEvents}
+use Rattle.room_script.specs.declared.script.TimedEvent.{TimedEvent}
+use Rattle.room_line.specs.declared.format.Format.{Format}
+use Rattle.room_run.specs.declared.run.Reporting.TheVariants.{Line}
+use Rattle.room_run.specs.declared.run.Totals.{Totals}
+use Rattle.room_run.specs.Run.{start, IsRunText}
 use Rattle.capture_laws.specs.Formats.{IsReadText}
 
 -- the first attempt, or one of five more

@@ -1,12 +1,12 @@
 -- The line of a round that no pulse comes into (CEC 5.2.1, 5.2.2: nominal times).
 use Rattle.std.specs.Prelude.{◌≡◌, ℕ, true, List, [], is_some}
 use Rattle.std.specs.List.{list_any}
-use Rattle.cec_wave.specs.Line.{IsWave}
-use Rattle.cec_wave.specs.Sender.{sender_stretches}
-use Rattle.cec_wire.specs.declared.Seat.{Seat}
-use Rattle.cec_wire.specs.declared.Outcome.{Outcome}
-use Rattle.cec_wire.specs.Contend.{AreFrames}
-use Rattle.cec_wire.specs.Round.{IsRound}
+use Rattle.line_wave.specs.Line.{IsWave}
+use Rattle.line_wave.specs.Sender.{sender_stretches}
+use Rattle.line_rounds.specs.declared.Seat.{Seat}
+use Rattle.line_rounds.specs.declared.Outcome.{Outcome}
+use Rattle.line_rounds.specs.Contend.{AreFrames}
+use Rattle.line_rounds.specs.Round.{IsRound}
 
 -- Whoever sends, wins and acknowledges: its line is that of one sender of the nominal times, which sends the bits that are read.
 abbrev pub RoundsAreNominal : Type 0

@@ -1,22 +1,22 @@
 -- A run without pulses keeps the times of the standard (CEC 5.2.1, 5.2.2, 9.1): no width is out of its window, and no frame
 -- begins before three bit periods have passed since the start of the final bit of the one before.
 use Rattle.std.specs.Prelude.{◌≡◌, ℕ, ◌<◌, ◌≤◌, List, [], ◌∷◌, Option, Some, None}
-use Rattle.cec_wave.specs.Bounds.{latest_event}
-use Rattle.hdmi_topo.specs.Node.{Node}
-use Rattle.cec_bits.specs.Readings.{Listed, readings_of}
-use Rattle.cec_signal.specs.Edges.{Captured, line_of_edges}
-use Rattle.cec_timing.specs.Misfits.{drive_within}
-use Rattle.cec_audit.specs.Audit.{Tape, after, come_to, drive_of, first_tape, lows_of, reading_misfits}
-use Rattle.cec_remarks.specs.declared.free.TooSoon.{TooSoon}
-use Rattle.cec_remarks.specs.Attempts.{tries_again}
-use Rattle.cec_remarks.specs.Free.{too_soon}
-use Rattle.cec_net.specs.State.{first_net}
-use Rattle.cec_asm.specs.Script.{AreFramedEvents}
-use Rattle.cec_asm.specs.declared.script.TimedEvent.{TimedEvent}
-use Rattle.cec_line.specs.declared.format.Format.{Format}
-use Rattle.cec_run.specs.declared.run.Reporting.TheVariants.{Line}
-use Rattle.cec_run.specs.declared.run.Totals.{Totals}
-use Rattle.cec_run.specs.Run.{start, IsRunText}
+use Rattle.line_wave.specs.Bounds.{latest_event}
+use Rattle.edid_tree.specs.Node.{Node}
+use Rattle.line_reading.specs.Readings.{Listed, readings_of}
+use Rattle.capture_core.specs.Edges.{Captured, line_of_edges}
+use Rattle.audit_widths.specs.Misfits.{drive_within}
+use Rattle.audit_core.specs.Audit.{Tape, after, come_to, drive_of, first_tape, lows_of, reading_misfits}
+use Rattle.audit_remarks.specs.declared.free.TooSoon.{TooSoon}
+use Rattle.audit_remarks.specs.Attempts.{tries_again}
+use Rattle.audit_remarks.specs.Free.{too_soon}
+use Rattle.room_net.specs.State.{first_net}
+use Rattle.room_script.specs.Script.{AreFramedEvents}
+use Rattle.room_script.specs.declared.script.TimedEvent.{TimedEvent}
+use Rattle.room_line.specs.declared.format.Format.{Format}
+use Rattle.room_run.specs.declared.run.Reporting.TheVariants.{Line}
+use Rattle.room_run.specs.declared.run.Totals.{Totals}
+use Rattle.room_run.specs.Run.{start, IsRunText}
 use Rattle.capture_laws.specs.Formats.{IsReadText}
 
 -- an audit that goes from reading to reading remarks no width, and no low drive, after a fall too early or within a low

@@ -1,5 +1,5 @@
 use super::*;
-use hdminet_faults::{ProgramFault, write_fault};
+use program_faults::{ProgramFault, write_fault};
 use std::alloc::AllocError;
 use std::process::Abort;
 

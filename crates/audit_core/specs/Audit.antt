@@ -1,0 +1,173 @@
+-- The audit of a capture: below the line of each reading what there is to remark, in order, and at the end the widths of
+-- all readings (own).
+use Rattle.std.specs.Prelude.{ℕ, Bool, nat_lt, ◌&&◌, if◌then◌else◌, List, [], ◌∷◌, ◌++◌, Option, Some, None, codes}
+use Rattle.text_core.specs.declared.phys.Phys.{Phys}
+use Rattle.line_wave.specs.declared.Edge.{Edge}
+use Rattle.line_frames.specs.declared.Ending.{Ending}
+use Rattle.line_frames.specs.declared.Ending.TheVariants.{Open}
+use Rattle.line_reading.specs.Readings.{Listed, readings_of}
+use Rattle.capture_core.specs.Edges.{Captured, line_of_edges}
+use Rattle.audit_widths.specs.declared.low.Low.{Low}
+use Rattle.audit_widths.specs.declared.spread.Widths.{Widths}
+use Rattle.audit_widths.specs.Lows.{first_low, gone_to, lows_before, place_of}
+use Rattle.audit_widths.specs.Misfits.{drive_within, low_drive}
+use Rattle.audit_widths.specs.Spreads.{no_widths, sum_of, with_slots}
+use Rattle.line_frames.specs.Blocks.{frame_in}
+use Rattle.message_hex.specs.Remark.{remark}
+use Rattle.capture_monitor.specs.Watch.{listed_line, reading_as}
+use Rattle.audit_remarks.specs.declared.attempts.Attempts.{Attempts}
+use Rattle.audit_core.specs.declared.auditor.Auditor.{Auditor}
+use Rattle.audit_core.specs.declared.whole.WholeAudit.{WholeAudit}
+use Rattle.audit_remarks.specs.declared.counts.Count.{Count}
+use Rattle.audit_remarks.specs.declared.free.Previous.{Previous}
+use Rattle.audit_remarks.specs.declared.requests.Request.{Request}
+use Rattle.audit_remarks.specs.declared.series.Series.{Series}
+use Rattle.audit_remarks.specs.declared.sources.Sources.{Sources}
+use Rattle.audit_remarks.specs.Attempts.{after_attempt, failure_of, no_attempts, tries_again}
+use Rattle.audit_remarks.specs.Counts.{no_counts, with_reading}
+use Rattle.audit_remarks.specs.Frames.{delivered_frame, sender}
+use Rattle.audit_remarks.specs.Free.{free_before, is_bad_start, no_previous, previous_with, too_soon}
+use Rattle.audit_core.specs.Lines.{answers_text, claims_text, counts_text, drive_text, failure_text, head_text, late_text, misfits_text, missing_text, moved_text, named_text, receivers_text, series_text, soon_text, timing_text, unfinished_text, widths_text, within_text}
+use Rattle.audit_remarks.specs.Header.{head_read, unfinished}
+use Rattle.audit_remarks.specs.Messages.{missed_receivers, missing_operands}
+use Rattle.audit_remarks.specs.Places.{moved_from, no_places, with_places}
+use Rattle.audit_remarks.specs.Requests.{after_frame}
+use Rattle.audit_remarks.specs.Series.{after_start, no_series, series_over}
+use Rattle.audit_remarks.specs.Sources.{no_sources, with_sources}
+
+-- ---- what is kept of the readings so far
+
+pub record Tape : Type 0 where
+  pub place : List Edge
+  pub previous : Previous
+  pub attempts : Attempts
+  pub series : Series
+  pub waiting : List Request
+  pub places : List (Option Phys)
+  pub sources : Sources
+  pub counts : List Count
+  pub widths : Widths
+
+-- of a capture of which these edges are left
+abbrev pub tape_at : List Edge → Auditor → Tape
+tape_at edges a = record { place = edges; previous = a.previous; attempts = a.attempts; series = a.series; waiting = a.waiting.items; places = a.places; sources = a.sources; counts = a.counts; widths = a.widths }
+
+abbrev pub tape_of : WholeAudit → Tape
+tape_of w = tape_at (place_of w.cursor) w.auditor
+
+-- before all readings of a capture
+abbrev pub first_tape : List Edge → Tape
+first_tape edges = record { place = edges; previous = no_previous; attempts = no_attempts; series = no_series; waiting = []; places = no_places; sources = no_sources; counts = no_counts; widths = no_widths }
+
+-- its edges are passed over up to the fall of a reading
+abbrev pub come_to : Listed → Tape → Tape
+come_to x t = record t { place = gone_to x.begin t.place }
+
+-- ---- a reading
+
+-- its slots fall before it ended; what is open has those up to the capture's end
+abbrev pub falls_until : Ending → ℕ → ℕ
+falls_until Open at = sum_of at 1
+falls_until _ at = at
+
+abbrev pub lows_of : Listed → List Edge → List Low
+lows_of x edges = lows_before (falls_until x.reported.ending x.reported.at) edges
+
+-- the widths that are out of their windows: of bad starts in a row those of the first one
+abbrev pub is_folded : Series → Ending → Bool
+is_folded s ending = is_bad_start ending && nat_lt 0 s.count
+
+abbrev pub reading_misfits : Series → Listed → List Low → List ℕ
+reading_misfits s x lows = if is_folded s x.reported.ending then [] else misfits_text x.reported.ending x.reported.bits 0 lows
+
+-- the low drive that may follow it
+abbrev pub drive_by : Ending → Option Low → Option ℕ
+drive_by ending None = None
+drive_by ending (Some low) = low_drive ending low
+
+abbrev pub drive_of : Listed → List Edge → Option ℕ
+drive_of x edges = drive_by x.reported.ending (first_low (gone_to x.reported.at edges))
+
+-- the block after which it breaks off, where no low drive breaks it
+abbrev pub unless_driven : Option ℕ → Option ℕ → Option ℕ
+unless_driven None block = block
+unless_driven (Some width) block = None
+
+abbrev pub unfinished_of : Listed → List Low → Option ℕ
+unfinished_of x lows = unless_driven (drive_within lows) (unfinished x.reported.ending x.reported.bits)
+
+-- what there is to remark of what was before it, of its times and its blocks
+abbrev pub times_text : Tape → Listed → List ℕ
+times_text t x =
+    series_text (series_over t.series x.reported.ending) ++ answers_text x.begin (delivered_frame x) t.waiting
+    ++ soon_text (too_soon t.previous x (tries_again t.attempts x.reported.bits)) ++ reading_misfits t.series x (lows_of x t.place) ++ drive_text (drive_of x t.place)
+    ++ within_text (drive_within (lows_of x t.place)) ++ unfinished_text (unfinished_of x (lows_of x t.place))
+    ++ failure_text (failure_of t.attempts x.begin (free_before t.previous x.begin) x.reported.bits)
+
+-- what the standard calls what the line leaves as bytes
+abbrev pub named_in : Option (List ℕ) → Option (List ℕ)
+named_in None = None
+named_in (Some frame) = remark frame
+
+abbrev pub named_of : Listed → Option (List ℕ)
+named_of x = named_in (frame_in (reading_as x))
+
+-- what was read, in words
+abbrev pub notes_text : Listed → List ℕ
+notes_text x = head_text (head_read x.reported.ending x.reported.bits) ++ named_text (named_of x)
+
+-- of what it says
+abbrev pub frame_text : Tape → List ℕ → List ℕ
+frame_text t frame = moved_text (sender frame) (moved_from frame t.places) ++ receivers_text (missed_receivers frame) ++ missing_text (missing_operands frame)
+
+-- what there is to remark, in order
+abbrev pub remarks_text : Bool → Tape → Listed → List ℕ
+remarks_text timing t x =
+    notes_text x ++ times_text t x ++ frame_text t (delivered_frame x) ++ timing_text timing (with_slots x.reported.ending x.reported.bits 0 (lows_of x t.place) no_widths)
+
+-- what is kept of it, of these low stretches
+abbrev pub tape_by : List Low → Listed → Tape → Tape
+tape_by lows x t = record {
+  place = t.place;
+  previous = previous_with t.previous x lows;
+  attempts = after_attempt t.attempts x (free_before t.previous x.begin);
+  series = after_start t.series x.reported.ending x.begin;
+  waiting = after_frame x.begin x.reported.at (delivered_frame x) t.waiting;
+  places = with_places (delivered_frame x) t.places;
+  sources = with_sources (delivered_frame x) x.reported.at t.sources;
+  counts = with_reading x.reported.ending x.reported.bits t.counts;
+  widths = with_slots x.reported.ending x.reported.bits 0 lows t.widths;
+}
+
+abbrev pub tape_after : Listed → Tape → Tape
+tape_after x t = tape_by (lows_of x t.place) x t
+
+-- its line, and what there is to remark
+abbrev pub line_and_remarks : Bool → Tape → Listed → List ℕ
+line_and_remarks timing t x = listed_line x ++ remarks_text timing (come_to x t) x
+
+abbrev pub after : Listed → Tape → Tape
+after x t = tape_after x (come_to x t)
+
+-- ---- readings, one after another
+
+abbrev pub after_all : Tape → List Listed → Tape
+after_all t [] = t
+after_all t (x ∷ xs) = after_all (after x t) xs
+
+abbrev pub reported_all : Bool → Tape → List Listed → List ℕ
+reported_all timing t [] = []
+reported_all timing t (x ∷ xs) = line_and_remarks timing t x ++ reported_all timing (after x t) xs
+
+-- what there is to say of all readings up to an end: the requests that were not answered, the addresses that nobody reported,
+-- the frames of each initiator, and the widths
+abbrev pub summary_text : ℕ → Tape → List ℕ
+summary_text end t = codes "  all readings\n" ++ late_text end t.waiting ++ claims_text t.sources.reported.items t.sources.active.items ++ counts_text 0 t.counts ++ widths_text t.widths
+
+-- the whole of a capture: these readings, one after another, and what there is to say of all
+abbrev pub audit_text_of : Bool → Captured → List Listed → List ℕ
+audit_text_of timing c xs = reported_all timing (first_tape c.edges) xs ++ summary_text c.end (after_all (first_tape c.edges) xs)
+
+-- its readings by the standard's windows
+abbrev pub audit_text : Bool → Captured → List ℕ
+audit_text timing c = audit_text_of timing c (readings_of (line_of_edges c.edges) c.end)

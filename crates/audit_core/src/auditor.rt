@@ -1,0 +1,293 @@
+//! What is remarked of one reading after another.
+ghost use Rattle.std.specs.Prelude.{◌≡◌, ◌≤◌, [], List, length};
+ghost use Rattle.std.specs.Option.{option_copied};
+ghost use Rattle.line_wave.specs.declared.Edge.{Edge as EdgeOf};
+ghost use Rattle.line_reading.specs.Reports.{listed_as};
+ghost use Rattle.audit_core.specs.Audit.{drive_of, falls_until, first_tape, frame_text, is_folded, lows_of, named_of, notes_text, tape_after, tape_at, tape_by, reading_misfits, remarks_text, summary_text, times_text, unfinished_of, unless_driven};
+ghost use Rattle.audit_remarks.specs.Frames.{delivered_frame};
+ghost use Rattle.audit_core.specs.Lines.{timing_text};
+ghost use Rattle.audit_core.specs.Progress.{WritesOn};
+ghost use Rattle.audit_widths.specs.Spreads.{no_widths, with_slots};
+ghost use Rattle.line_wave.specs.Bounds.{most_sent};
+
+use crate::lines::{
+    write_answers, write_claims, write_counts, write_drive, write_failure, write_head, write_late,
+    write_misfits, write_missing, write_moved, write_named, write_receivers, write_series,
+    write_soon, write_unfinished, write_widths, write_within,
+};
+use crate::progress::Progress;
+use arrayvec::ArrayVec;
+use audit_remarks::{
+    Attempts, Counts, Places, Previous, Series, Sources, Waiting, after_frame, count_reading,
+    delivered_frame, head_read, is_bad_start, missed_receivers, missing_operands, moved_from,
+    no_counts, no_places, note_report, sender, unfinished,
+};
+use audit_widths::{Cursor, Low, Widths, drive_within, first_low, low_drive, lows_before};
+use line_frames::{Ending, Reading};
+use line_wave::{Edge, MOST_SENT};
+use message_hex::remark;
+use text_core::{Piece, Sink};
+
+/// What is kept of the readings so far. It is told the edges of each, and keeps none.
+#[derive(Drop)]
+pub(crate) struct Auditor {
+    previous: Previous,
+    attempts: Attempts,
+    series: Series,
+    waiting: Waiting,
+    places: Places,
+    sources: Sources,
+    counts: Counts,
+    widths: Widths,
+}
+
+// The instant before which the slots of a reading fall.
+fn falls_until(ending: Ending, at: u64) -> u64
+    ensures { result ≡ falls_until ending at }
+{
+    match ending {
+        Ending::Open => at.saturating_add(1),
+        Ending::Complete | Ending::Short | Ending::Silent | Ending::BadStart | Ending::Long => at,
+    }
+}
+
+fn lows_of(reading: &Reading, edges: &[Edge]) -> ArrayVec<Low, MOST_SENT>
+    ensures { result.items ≡ lows_of (listed_as reading.now) edges.now }
+{
+    lows_before(edges, falls_until(reading.ending, reading.at))
+}
+
+fn drive_of(reading: &Reading, edges: &[Edge]) -> Option<u64>
+    ensures { result ≡ drive_of (listed_as reading.now) edges.now }
+{
+    let mut end = Cursor::new(edges);
+    end.go_to(reading.at);
+    match first_low(end.edges()) {
+        None => None,
+        Some(low) => low_drive(reading.ending, low),
+    }
+}
+
+fn unless_driven(drive: Option<u64>, block: Option<usize>) -> Option<usize>
+    ensures { result ≡ unless_driven drive block }
+{
+    match drive {
+        None => block,
+        Some(_) => None,
+    }
+}
+
+fn unfinished_of(reading: &Reading, lows: &[Low]) -> Option<usize>
+    ensures { result ≡ unfinished_of (listed_as reading.now) lows.now }
+{
+    unless_driven(
+        drive_within(lows),
+        unfinished(reading.ending, &reading.bits),
+    )
+}
+
+// What the standard calls what the line of a reading leaves as bytes.
+fn named_of(reading: &Reading) -> Option<&'static str>
+    ensures { option_copied result ≡ named_of (listed_as reading.now) }
+{
+    match reading.frame() {
+        None => None,
+        Some(frame) => remark(&frame),
+    }
+}
+
+// What was read, in words.
+fn write_notes<S: Sink>(reading: &Reading, progress: &mut Progress, out: &mut S)
+    ensures { WritesOn (S.contents out.old) (S.contents out.new) (S.is_stuck out.old) (S.is_stuck out.new) (notes_text (listed_as reading.now)) progress.old.so_far progress.new.so_far }
+{
+    write_head(head_read(reading.ending, &reading.bits), progress, out);
+    write_named(named_of(reading), progress, out);
+}
+
+// Whether a reading's widths are left out: it is a bad start after another one.
+fn is_folded(series: Series, ending: Ending) -> bool
+    ensures { result ≡ is_folded series ending }
+{
+    is_bad_start(ending) && series.count > 0
+}
+
+fn write_reading_misfits<S: Sink>(
+    series: Series,
+    reading: &Reading,
+    lows: &[Low],
+    progress: &mut Progress,
+    out: &mut S,
+)
+    requires { length lows.now ≤ most_sent }
+    ensures { WritesOn (S.contents out.old) (S.contents out.new) (S.is_stuck out.old) (S.is_stuck out.new)
+        (reading_misfits series (listed_as reading.now) lows.now) progress.old.so_far progress.new.so_far }
+{
+    if is_folded(series, reading.ending) {
+        return;
+    }
+    write_misfits(reading.ending, &reading.bits, 0, lows, progress, out);
+}
+
+// The widths of one reading.
+fn widths_of(reading: &Reading, lows: &[Low]) -> Widths
+    requires { length lows.now ≤ most_sent }
+    ensures { result ≡ with_slots reading.now.ending reading.now.bits.items 0 lows.now no_widths }
+{
+    let mut widths = Widths::new();
+    widths.add(reading.ending, &reading.bits, 0, lows);
+    widths
+}
+
+// The widths of a reading, where they are asked for.
+fn write_reading_widths<S: Sink>(
+    timing: bool,
+    reading: &Reading,
+    lows: &[Low],
+    progress: &mut Progress,
+    out: &mut S,
+)
+    requires { length lows.now ≤ most_sent }
+    ensures { WritesOn (S.contents out.old) (S.contents out.new) (S.is_stuck out.old) (S.is_stuck out.new)
+        (timing_text timing (with_slots reading.now.ending reading.now.bits.items 0 lows.now no_widths)) progress.old.so_far progress.new.so_far }
+{
+    if !timing {
+        return;
+    }
+    write_widths(widths_of(reading, lows), progress, out);
+}
+
+impl Auditor {
+    /// Before all readings.
+    pub(crate) fn new() -> Self
+        ensures { tape_at [] result ≡ first_tape [] }
+    {
+        Auditor {
+            previous: Previous::new(),
+            attempts: Attempts::new(),
+            series: Series::new(),
+            waiting: Waiting::new(),
+            places: no_places(),
+            sources: Sources::new(),
+            counts: no_counts(),
+            widths: Widths::new(),
+        }
+    }
+
+    // What there is to remark of what was before a reading, of its times and its blocks.
+    fn write_times<S: Sink>(
+        &self,
+        reading: &Reading,
+        edges: &[Edge],
+        lows: &[Low],
+        frame: &[u8],
+        progress: &mut Progress,
+        out: &mut S,
+    )
+        requires lows { lows.now ≡ lows_of (listed_as reading.now) edges.now }
+        requires few { length lows.now ≤ most_sent }
+        requires frame { frame.now ≡ delivered_frame (listed_as reading.now) }
+        ensures { WritesOn (S.contents out.old) (S.contents out.new) (S.is_stuck out.old) (S.is_stuck out.new)
+            (times_text (tape_at edges.now self.now) (listed_as reading.now)) progress.old.so_far progress.new.so_far }
+    {
+        let free = self.previous.free_before(reading.begin);
+        let again = self.attempts.tries_again(&reading.bits);
+        write_series(self.series.over(reading.ending), progress, out);
+        write_answers(reading.begin, frame, &self.waiting, progress, out);
+        write_soon(self.previous.too_soon(reading, again), progress, out);
+        write_reading_misfits(self.series, reading, lows, progress, out);
+        write_drive(drive_of(reading, edges), progress, out);
+        write_within(drive_within(lows), progress, out);
+        write_unfinished(unfinished_of(reading, lows), progress, out);
+        write_failure(
+            self.attempts.failure_of(reading.begin, free, &reading.bits),
+            progress,
+            out,
+        );
+    }
+
+    // What there is to remark of what a frame says.
+    fn write_frame<S: Sink>(&self, frame: &[u8], progress: &mut Progress, out: &mut S)
+        ensures { WritesOn (S.contents out.old) (S.contents out.new) (S.is_stuck out.old) (S.is_stuck out.new)
+            (frame_text (tape_at [] self.now) frame.now) progress.old.so_far progress.new.so_far }
+    {
+        write_moved(
+            sender(frame),
+            moved_from(frame, &self.places),
+            progress,
+            out,
+        );
+        write_receivers(missed_receivers(frame), progress, out);
+        write_missing(missing_operands(frame), progress, out);
+    }
+
+    // What there is to remark of a reading.
+    fn write_remarks<S: Sink>(
+        &self,
+        reading: &Reading,
+        edges: &[Edge],
+        lows: &[Low],
+        frame: &[u8],
+        timing: bool,
+        progress: &mut Progress,
+        out: &mut S,
+    )
+        requires lows { lows.now ≡ lows_of (listed_as reading.now) edges.now }
+        requires few { length lows.now ≤ most_sent }
+        requires frame { frame.now ≡ delivered_frame (listed_as reading.now) }
+        ensures { WritesOn (S.contents out.old) (S.contents out.new) (S.is_stuck out.old) (S.is_stuck out.new)
+            (remarks_text timing (tape_at edges.now self.now) (listed_as reading.now)) progress.old.so_far progress.new.so_far }
+    {
+        write_notes(reading, progress, out);
+        self.write_times(reading, edges, lows, frame, progress, out);
+        self.write_frame(frame, progress, out);
+        write_reading_widths(timing, reading, lows, progress, out);
+    }
+
+    // A reading is kept.
+    fn note(&mut self, reading: &Reading, lows: &[Low], frame: &[u8])
+        requires few { length lows.now ≤ most_sent }
+        requires frame { frame.now ≡ delivered_frame (listed_as reading.now) }
+        ensures { (edges : List EdgeOf) → tape_at edges self.new ≡ tape_by lows.now (listed_as reading.now) (tape_at edges self.old) }
+    {
+        let free = self.previous.free_before(reading.begin);
+        self.attempts.note(reading, free);
+        self.previous = self.previous.with(reading, lows);
+        self.series = self.series.with(reading.ending, reading.begin);
+        self.waiting = after_frame(reading.begin, reading.at, frame, &self.waiting);
+        note_report(frame, &mut self.places);
+        self.sources.note(frame, reading.at);
+        count_reading(reading.ending, &reading.bits, &mut self.counts);
+        self.widths.add(reading.ending, &reading.bits, 0, lows);
+    }
+
+    /// Writes what there is to remark of a reading, and keeps it. `edges` are those of the capture from its fall on.
+    pub(crate) fn remark<S: Sink>(
+        &mut self,
+        reading: &Reading,
+        edges: &[Edge],
+        timing: bool,
+        progress: &mut Progress,
+        out: &mut S,
+    )
+        ensures kept { tape_at edges.now self.new ≡ tape_after (listed_as reading.now) (tape_at edges.now self.old) }
+        ensures written { WritesOn (S.contents out.old) (S.contents out.new) (S.is_stuck out.old) (S.is_stuck out.new)
+            (remarks_text timing (tape_at edges.now self.old) (listed_as reading.now)) progress.old.so_far progress.new.so_far }
+    {
+        let lows = lows_of(reading, edges);
+        let frame = delivered_frame(reading);
+        self.write_remarks(reading, edges, &lows, &frame, timing, progress, out);
+        self.note(reading, &lows, &frame);
+    }
+
+    /// Writes what there is to say of all readings up to an end.
+    pub(crate) fn summarize<S: Sink>(&self, end: u64, progress: &mut Progress, out: &mut S)
+        ensures { WritesOn (S.contents out.old) (S.contents out.new) (S.is_stuck out.old) (S.is_stuck out.new)
+            (summary_text end (tape_at [] self.now)) progress.old.so_far progress.new.so_far }
+    {
+        progress.line(out, &[Piece::Text("  all readings\n")]);
+        write_late(end, &self.waiting, progress, out);
+        write_claims(&self.sources, self.sources.active(), progress, out);
+        write_counts(0, &self.counts, progress, out);
+        write_widths(self.widths, progress, out);
+    }
+}

@@ -1,0 +1,24 @@
+-- No line of the expectations of a capture speaks of a state.
+use Rattle.std.proofs.Common.{◌≡◌, ℕ, Bool, true, false, List, [], ◌∷◌, map, refl, ap, ◌∙◌}
+use Rattle.text_core.specs.Lines.{lines_of}
+use Rattle.expect_judge.specs.Judged.{first_state, is_of_state, later_states, states_for}
+use Rattle.expect_run.specs.Report.{Report, tests}
+use Rattle.audit_expect.specs.Marks.{no_states}
+
+no_first : (b : Bool) → first_state b [] ≡ []
+no_first true = refl
+no_first false = refl
+
+none_later : (b : Bool) → later_states b [] ≡ []
+none_later true = refl
+none_later false = refl
+
+no_states_for : (lines : List (List ℕ)) → states_for lines [] ≡ map (λ line. []) lines
+no_states_for [] = refl
+no_states_for (line ∷ lines) =
+    ap (λ (state : List ℕ). state ∷ states_for lines (later_states (is_of_state line) [])) (no_first (is_of_state line))
+    ∙ ap (λ (states : List (List ℕ)). [] ∷ states_for lines states) (none_later (is_of_state line))
+    ∙ ap (λ (states : List (List ℕ)). [] ∷ states) (no_states_for lines)
+
+pub stateless : (script trace : List ℕ) (r : Report) → r ≡ tests script trace (states_for (lines_of script) []) → r ≡ tests script trace (no_states script)
+stateless script trace r is = is ∙ ap (tests script trace) (no_states_for (lines_of script))

@@ -1,0 +1,41 @@
+-- The first line of expectations of a capture that is at fault (own). Lines count from 1.
+use Rattle.std.specs.Prelude.{ℕ, ◌+◌, nat_lt, if◌then◌else◌, List, [], ◌∷◌, Option, Some, None}
+use Rattle.text_core.specs.Lines.{lines_of}
+use Rattle.expect_text.specs.Faults.{fault_or, line_fault as expectation_fault}
+use Rattle.expect_text.specs.declared.fault.LineFault.{LineFault}
+use Rattle.expect_text.specs.declared.faults.ExpectFault.{ExpectFault}
+use Rattle.audit_expect.specs.Lines.{line_fault}
+use Rattle.audit_expect.specs.Wanted.{plain_text, wanted_faults}
+
+abbrev pub or_else : Option LineFault → Option LineFault → Option LineFault
+or_else None next = next
+or_else (Some fault) next = Some fault
+
+-- the first line at fault of these, of which the first has this number: it is none of a capture's, or its label or expectation is
+-- at fault as in a script; there are no devices
+abbrev pub faults_from : List ℕ → ℕ → List (List ℕ) → Option ExpectFault
+faults_from text number [] = None
+faults_from text number (line ∷ lines) = fault_or number (or_else (line_fault line) (expectation_fault [] text number line)) (faults_from text (number + 1) lines)
+
+-- of expectations of readings
+abbrev pub readings_fault : List ℕ → Option ExpectFault
+readings_fault text = faults_from text 1 (lines_of text)
+
+-- ---- as it is found
+
+-- the first line that is none of a capture's
+abbrev pub kinds_from : ℕ → List (List ℕ) → Option ExpectFault
+kinds_from number [] = None
+kinds_from number (line ∷ lines) = fault_or number (line_fault line) (kinds_from (number + 1) lines)
+
+-- ---- of readings and of remarks
+
+-- the one on the earlier line, or else the first
+abbrev pub earlier : Option ExpectFault → Option ExpectFault → Option ExpectFault
+earlier None other = other
+earlier (Some fault) None = Some fault
+earlier (Some fault) (Some other) = if nat_lt other.line fault.line then Some other else Some fault
+
+-- the first line at fault of all
+abbrev pub first_fault : List ℕ → Option ExpectFault
+first_fault text = earlier (wanted_faults 1 (lines_of text)) (readings_fault (plain_text text))

@@ -1,0 +1,111 @@
+//! From expectations and a capture to their report.
+ghost use Rattle.std.specs.Prelude.{◌≡◌, ◌↔◌, false, IfOk, IfErr, IsTrue};
+ghost use Rattle.audit_expect.specs.Check.{IsCaptureChecked, IsCaptureCut, IsCaptureReported, capture_report, is_write, reading_tests};
+ghost use Rattle.audit_expect.specs.Marks.{capture_trace};
+ghost use Rattle.audit_expect.specs.Wanted.{plain_text};
+ghost use Rattle.expect_run.specs.Report.{report_as};
+
+use crate::faults::first_fault;
+use crate::marks::push_marks;
+use crate::remarks::add_wanted;
+use crate::wanted::plain_text;
+use capture_core::Capture;
+use capture_monitor::watch_capture;
+use expect_run::{Held, ReportDraft, Tally, add_plan, open_report, tally_of};
+use expect_text::ExpectFault;
+use std::alloc::{AllocError, Global};
+use text_core::{Sink, put_all};
+use thiserror::Error;
+
+/// Why there is no report of a capture, or not all of it.
+#[derive(Debug, Drop, Error)]
+pub enum CaptureCheckError {
+    /// The first line of the expectations at fault.
+    #[error("expectations {0}")]
+    Expect(ExpectFault),
+    /// A `put` took none. So many bytes of the report were written.
+    #[error("write fault after {0} bytes")]
+    Write(u128),
+    #[error("no memory")]
+    Memory,
+}
+
+// What is judged of a capture.
+fn capture_trace(alloc: Global, expectations: &[u8], capture: &Capture) -> Result<Held, AllocError>
+    ensures { IfOk result (λ held. held.bytes.items ≡ capture_trace expectations.now capture.now) }
+{
+    let mut held = Held::new(alloc);
+    push_marks(&mut held.bytes, expectations)?;
+    match watch_capture(capture, &mut held) {
+        Ok(()) => Ok(held),
+        Err(_) => Err(AllocError),
+    }
+}
+
+// The tests of expectations of readings.
+#[tactic(auto, using(crate::proofs::Stateless::stateless))]
+fn reading_tests(
+    alloc: Global,
+    expectations: &[u8],
+    capture: &Capture,
+) -> Result<ReportDraft, AllocError>
+    ensures { IfOk result (λ draft. report_as draft ≡ reading_tests expectations.now capture.now) }
+{
+    let held = capture_trace(alloc, expectations, capture)?;
+    open_report(alloc, expectations, &held.bytes, &[])
+}
+
+// The report; `plain` are the expectations of readings.
+fn report_of(
+    alloc: Global,
+    expectations: &[u8],
+    plain: &[u8],
+    capture: &Capture,
+) -> Result<ReportDraft, AllocError>
+    requires { plain.now ≡ plain_text expectations.now }
+    ensures { IfOk result (λ draft. report_as draft ≡ capture_report expectations.now capture.now) }
+{
+    let mut draft = reading_tests(alloc, plain, capture)?;
+    add_wanted(alloc, &mut draft, expectations, capture)?;
+    add_plan(&mut draft)?;
+    Ok(draft)
+}
+
+/// Writes the report of whether the readings of a capture are as the expectations have it, as `check` writes that of a run. The
+/// lines of the expectations are those of a script, with `label NAME at T` in place of events: it names an instant. After them stand
+/// the tests of the remarks of its audit, `expect no-remark` and `expect remark PATTERN`. The report, the lines of the readings and,
+/// where remarks are spoken of, the audit are held in memory.
+///
+/// # Errors
+///
+/// The first line at fault: then nothing was written. A failed write: then the front of the report was written, as long as it
+/// reports.
+pub fn check_capture<S: Sink>(
+    alloc: Global,
+    expectations: &[u8],
+    capture: &Capture,
+    out: &mut S,
+) -> Result<Tally, CaptureCheckError>
+    ensures ok { IfOk result (IsCaptureChecked expectations.now capture.now (S.contents out.old) (S.contents out.new)) }
+    ensures reported { IfErr result (IsCaptureReported expectations.now) }
+    ensures write { S.is_stuck out.old ≡ false → (IsTrue (is_write result) ↔ IsTrue (S.is_stuck out.new)) }
+    ensures cut { IfErr result (IsCaptureCut expectations.now capture.now (S.contents out.old) (S.contents out.new)) }
+{
+    let Ok(plain) = plain_text(alloc, expectations) else {
+        return Err(CaptureCheckError::Memory);
+    };
+    let Ok(fault) = first_fault(alloc, expectations, &plain) else {
+        return Err(CaptureCheckError::Memory);
+    };
+    match fault {
+        Some(fault) => return Err(CaptureCheckError::Expect(fault)),
+        None => {}
+    }
+    let Ok(report) = report_of(alloc, expectations, &plain, capture) else {
+        return Err(CaptureCheckError::Memory);
+    };
+    match put_all(out, &report.text.bytes) {
+        Ok(()) => Ok(tally_of(&report.verdicts)),
+        Err(fault) => Err(CaptureCheckError::Write(fault.count)),
+    }
+}

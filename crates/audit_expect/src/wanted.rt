@@ -1,0 +1,233 @@
+//! Expectations of remarks, the first of them at fault, and the other lines.
+ghost use Rattle.std.specs.Prelude.{◌≡◌, ◌≤◌, ◌++◌, codes, is_some, length, IfOk, OnOk};
+ghost use Rattle.std.specs.Option.{option_map};
+ghost use Rattle.text_core.specs.Lines.{lines_of};
+ghost use Rattle.expect_text.specs.Form.{is_open_ended, is_pattern, stars};
+ghost use Rattle.audit_expect.specs.Wanted.{is_any_wanted, is_called, lone_fault, pattern_fault, plain_line, plain_text, remark_kinds, wanted_as, wanted_by, wanted_fault, wanted_faults, wanted_of};
+
+use audit_lines::Kind;
+use expect_text::{ExpectCause, ExpectFault, LineFault, at_word, fits};
+use json_trace::{after_word, word};
+use std::alloc::{AllocError, Global};
+use text_core::{byte_at, first_line};
+
+/// What a line expects of the remarks of an audit.
+#[derive(Clone, Copy, Debug)]
+pub(crate) enum Wanted<'a> {
+    /// That there is none.
+    NoRemark,
+    /// That some remark meets a pattern.
+    Remark(&'a [u8]),
+}
+
+/// The kinds of remarks.
+const REMARKS: &[Kind] = &[
+    Kind::NoAnswer,
+    Kind::LateAnswer,
+    Kind::Free,
+    Kind::StartLow,
+    Kind::StartTotal,
+    Kind::BitLow,
+    Kind::BitTotal,
+    Kind::LowDrive,
+    Kind::DriveWithin,
+    Kind::Unfinished,
+    Kind::LastAttempt,
+    Kind::Receivers,
+    Kind::Operands,
+];
+
+/// The most bytes of a pattern.
+const PATTERN_MOST: usize = 160;
+
+/// The most `*` of a pattern.
+const STARS_MOST: usize = 4;
+
+fn wanted_by<'a>(how: &[u8], rest: &'a [u8]) -> Option<Wanted<'a>>
+    ensures { option_map wanted_as result ≡ wanted_by how.now rest.now }
+{
+    if how == b"no-remark".as_slice() {
+        Some(Wanted::NoRemark)
+    } else if how == b"remark".as_slice() {
+        Some(Wanted::Remark(rest))
+    } else {
+        None
+    }
+}
+
+/// What a line expects of remarks.
+pub(crate) fn wanted_of(line: &[u8]) -> Option<Wanted<'_>>
+    ensures { option_map wanted_as result ≡ wanted_of line.now }
+{
+    if word(line) == b"expect".as_slice() {
+        let rest = after_word(line);
+        wanted_by(word(rest), after_word(rest))
+    } else {
+        None
+    }
+}
+
+fn is_wanted(line: &[u8]) -> bool
+    ensures { result ≡ is_some (wanted_of line.now) }
+{
+    match wanted_of(line) {
+        None => false,
+        Some(_) => true,
+    }
+}
+
+/// Whether some line expects something of remarks.
+pub(crate) fn is_any_wanted(text: &[u8]) -> bool
+    ensures { result ≡ is_any_wanted (lines_of text.now) }
+{
+    let mut rest = text;
+    'lines: while let Some((line, after)) = first_line(rest) {
+        if is_wanted(line) {
+            return true;
+        }
+        rest = after;
+    }
+    false
+}
+
+// ---- the other lines
+
+fn plain_line(line: &[u8]) -> &[u8]
+    ensures { result.now ≡ plain_line line.now }
+{
+    if is_wanted(line) { b"" } else { line }
+}
+
+// Appends a line.
+fn push_line(text: &mut Vec<u8>, line: &[u8]) -> Result<(), AllocError>
+    ensures { OnOk result (text.new.items ≡ text.old.items ++ (line.now ++ codes "\n")) }
+{
+    text.extend_from_slice(line)?;
+    text.push(b'\n')?;
+    Ok(())
+}
+
+/// The expectations without those of remarks, line for line: their lines are empty.
+///
+/// # Errors
+///
+/// Want of memory.
+pub(crate) fn plain_text(alloc: Global, text: &[u8]) -> Result<Vec<u8>, AllocError>
+    ensures { IfOk result (λ plain. plain.items ≡ plain_text text.now) }
+{
+    let mut plain = Vec::new(alloc);
+    let mut rest = text;
+    'lines: while let Some((line, after)) = first_line(rest) {
+        push_line(&mut plain, plain_line(line))?;
+        rest = after;
+    }
+    Ok(plain)
+}
+
+// ---- faults
+
+// How many `*` a text has.
+fn stars(text: &[u8]) -> usize
+    ensures value { result ≡ stars text.now }
+    ensures within { result ≤ length text.now }
+{
+    match text {
+        [] => 0,
+        [b'*', rest @ ..] => 1 + stars(rest),
+        [_, rest @ ..] => stars(rest),
+    }
+}
+
+// Whether a text has a space at an end.
+fn is_open_ended(text: &[u8]) -> bool
+    ensures { result ≡ is_open_ended text.now }
+{
+    byte_at(text, 0) == b' ' || byte_at(text, text.len().saturating_sub(1)) == b' '
+}
+
+fn is_pattern(text: &[u8]) -> bool
+    ensures { result ≡ is_pattern text.now }
+{
+    !text.is_empty()
+        && text.len() <= PATTERN_MOST
+        && stars(text) <= STARS_MOST
+        && !is_open_ended(text)
+}
+
+// Whether one of these kinds is called so.
+fn is_called(pattern: &[u8], kinds: &[Kind]) -> bool
+    ensures { result ≡ is_called pattern.now kinds.now }
+{
+    let mut rest = kinds;
+    'kinds: while let [kind, others @ ..] = rest {
+        if fits(pattern, kind.name().as_bytes()) {
+            return true;
+        }
+        rest = others;
+    }
+    false
+}
+
+// Whether some kind of remarks is called so.
+fn is_remark_called(pattern: &[u8]) -> bool
+    ensures { result ≡ is_called pattern.now remark_kinds }
+{
+    is_called(pattern, REMARKS)
+}
+
+fn pattern_fault(pattern: &[u8]) -> Option<LineFault>
+    ensures { result ≡ pattern_fault pattern.now }
+{
+    if pattern.is_empty() {
+        Some(at_word(2, ExpectCause::Word))
+    } else if !is_pattern(pattern) {
+        Some(at_word(2, ExpectCause::Pattern))
+    } else if is_remark_called(word(pattern)) {
+        None
+    } else {
+        Some(at_word(2, ExpectCause::Unmet))
+    }
+}
+
+// Whether nothing stands after `no-remark`.
+fn lone_fault(line: &[u8]) -> Option<LineFault>
+    ensures { result ≡ lone_fault line.now }
+{
+    if line == b"expect no-remark".as_slice() {
+        None
+    } else {
+        Some(at_word(2, ExpectCause::Word))
+    }
+}
+
+fn wanted_fault(line: &[u8]) -> Option<LineFault>
+    ensures { result ≡ wanted_fault line.now (wanted_of line.now) }
+{
+    match wanted_of(line) {
+        None => None,
+        Some(wanted) => match wanted {
+            Wanted::NoRemark => lone_fault(line),
+            Wanted::Remark(pattern) => pattern_fault(pattern),
+        },
+    }
+}
+
+/// The first line that expects something of remarks and is at fault.
+pub(crate) fn wanted_fault_in(text: &[u8]) -> Option<ExpectFault>
+    ensures { result ≡ wanted_faults 1 (lines_of text.now) }
+{
+    let mut rest = text;
+    let mut number = 1u64;
+    'lines: while let Some((line, after)) = first_line(rest) {
+        if let Some(fault) = wanted_fault(line) {
+            return Some(ExpectFault {
+                line: number,
+                cause: fault.cause,
+                word: fault.word,
+            });
+        }
+        rest = after;
+        number += 1;
+    }
+    None
+}

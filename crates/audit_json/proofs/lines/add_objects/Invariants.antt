@@ -1,0 +1,10 @@
+use Rattle.std.proofs.Common.{length}
+use Rattle.audit_json.specs.Object.{IsAuditObject}
+use Rattle.json_trace.proofs.Parted.{Done}
+use Rattle.audit_json.proofs.lines.add_objects.Given as goal
+
+abbrev pub invariant-loop-line : goal.invariant-loop-line
+invariant-loop-line g l = Done IsAuditObject l.text l.rest l.fn.out l.out
+
+abbrev pub decreases-loop-line : goal.decreases-loop-line
+decreases-loop-line g l = length l.rest

@@ -1,0 +1,70 @@
+-- The signal free time before a frame (CEC 9.1): the time since the start of the final bit of the frame before. It is three
+-- nominal bit periods of 2,400 at least before an initiator whose frame was not taken tries again, five before a new
+-- initiator sends, and seven before one sends again after a frame that was taken.
+use Rattle.std.specs.Prelude.{ℕ, ◌-◌, ◌==◌, Bool, true, false, not, nat_lt, nat_le, ◌&&◌, ◌||◌, if◌then◌else◌, List, [], ◌∷◌, length, Option, Some, None}
+use Rattle.line_frames.specs.declared.Ending.{Ending}
+use Rattle.line_frames.specs.declared.Ending.TheVariants.{BadStart, Short}
+use Rattle.line_reading.specs.Readings.{Listed}
+use Rattle.audit_widths.specs.declared.low.Low.{Low}
+use Rattle.audit_remarks.specs.declared.free.Before.{Before}
+use Rattle.audit_remarks.specs.declared.free.Before.TheVariants.{Nothing, Somebody, Frame}
+use Rattle.audit_remarks.specs.declared.free.Previous.{Previous}
+use Rattle.audit_remarks.specs.declared.free.TooSoon.{TooSoon}
+use Rattle.audit_remarks.specs.Header.{initiator_of, is_delivered, seeks_address}
+
+-- The initiator says who sends, but for a device that has no address, or looks for one.
+abbrev pub is_known : List Bool → Bool
+is_known bits = nat_le 8 (length bits) && (not (seeks_address bits) && not (initiator_of bits == 15))
+
+-- ---- the frame before
+
+-- The final bit of a reading is the one that falls last; of one that a fall broke as too short it is that fall, with which a
+-- low drive begins (own).
+abbrev pub last_fall : ℕ → List Low → ℕ
+last_fall begin [] = begin
+last_fall begin (low ∷ lows) = last_fall low.fall lows
+
+abbrev pub final_by : Ending → ℕ → ℕ → ℕ
+final_by Short at last = at
+final_by _ at last = last
+
+abbrev pub final_bit : Listed → List Low → ℕ
+final_bit x lows = final_by x.reported.ending x.reported.at (last_fall x.begin lows)
+
+abbrev pub before_of : Ending → List Bool → Before
+before_of ending bits = if is_known bits then Frame (initiator_of bits) (is_delivered ending bits) else Somebody
+
+abbrev pub is_bad_start : Ending → Bool
+is_bad_start BadStart = true
+is_bad_start _ = false
+
+abbrev pub no_previous : Previous
+no_previous = record { frame = Nothing; final_bit = 0 }
+
+-- a bad start is no frame (own)
+abbrev pub previous_with : Previous → Listed → List Low → Previous
+previous_with p x lows =
+    if is_bad_start x.reported.ending then p else record { frame = before_of x.reported.ending x.reported.bits; final_bit = final_bit x lows }
+
+-- ---- the free time
+
+abbrev pub free_before : Previous → ℕ → ℕ
+free_before p begin = begin - p.final_bit
+
+-- What is due before a frame of another initiator is five periods, but three for one whose own last frame was not taken. So
+-- it is for one of a greater address: it may have lost the line to the frame before (CEC 7.2), of which the line shows nothing,
+-- and then its attempt has failed (own). Where one of the two senders is not known, it is three (own).
+abbrev pub due_after : ℕ → Bool → ℕ → Bool → ℕ
+due_after initiator taken next again =
+    if initiator == next then (if taken then 16800 else 7200) else if again || nat_lt initiator next then 7200 else 12000
+
+abbrev pub free_due : Before → List Bool → Bool → ℕ
+free_due Nothing bits again = 0
+free_due Somebody bits again = 7200
+free_due (Frame initiator taken) bits again = if is_known bits then due_after initiator taken (initiator_of bits) again else 7200
+
+-- A reading comes too soon after less. Of a bad start nothing is said.
+abbrev pub too_soon : Previous → Listed → Bool → Option TooSoon
+too_soon p x again =
+    if not (is_bad_start x.reported.ending) && nat_lt (free_before p x.begin) (free_due p.frame x.reported.bits again)
+    then Some (record { free = free_before p x.begin; due = free_due p.frame x.reported.bits again }) else None

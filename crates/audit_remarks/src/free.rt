@@ -1,0 +1,165 @@
+//! The signal free time before a frame (CEC 9.1).
+ghost use Rattle.std.specs.Prelude.{◌≡◌, ◌≤◌, length};
+ghost use Rattle.line_reading.specs.Reports.{listed_as};
+ghost use Rattle.audit_remarks.specs.Free.{before_of, due_after, final_bit, final_by, free_before, free_due, is_bad_start, is_known, last_fall, no_previous, previous_with, too_soon};
+
+use crate::header::{HEADER, initiator_of, is_delivered, seeks_address};
+use audit_widths::Low;
+use line_frames::{Addr, Ending, Reading};
+
+/// Three, five and seven nominal bit periods (CEC 9.1), in microseconds.
+const RETRY: u64 = 7_200;
+
+const NEW_INITIATOR: u64 = 12_000;
+
+const PRESENT_INITIATOR: u64 = 16_800;
+
+/// Who sent a frame.
+#[derive(Clone, Copy, Debug, PartialEq, Eq)]
+pub enum Before {
+    /// There was none.
+    Nothing,
+    /// Its sender is not known.
+    Somebody,
+    /// This initiator, and whether the frame was taken.
+    Frame(u8, bool),
+}
+
+/// The frame before a reading.
+#[derive(Clone, Copy, Debug, PartialEq, Eq)]
+pub struct Previous {
+    frame: Before,
+    // where its final bit began
+    final_bit: u64,
+}
+
+/// A frame that came too soon: how long the line was free, and was to be, from the start of the final bit before it.
+#[derive(Clone, Copy, Debug, PartialEq, Eq)]
+pub struct TooSoon {
+    pub free: u64,
+    pub due: u64,
+}
+
+fn is_known(bits: &[bool]) -> bool
+    ensures { result ≡ is_known bits.now }
+{
+    bits.len() >= HEADER && !seeks_address(bits) && initiator_of(bits) != Addr::BROADCAST
+}
+
+fn due_after(initiator: u8, taken: bool, next: u8, again: bool) -> u64
+    ensures { result ≡ due_after initiator taken next again }
+{
+    if initiator == next {
+        if taken { PRESENT_INITIATOR } else { RETRY }
+    } else if again || initiator < next {
+        RETRY
+    } else {
+        NEW_INITIATOR
+    }
+}
+
+/// Whether a reading ended as a bad start.
+pub fn is_bad_start(ending: Ending) -> bool
+    ensures { result ≡ is_bad_start ending }
+{
+    match ending {
+        Ending::BadStart => true,
+        Ending::Complete | Ending::Short | Ending::Silent | Ending::Long | Ending::Open => false,
+    }
+}
+
+fn last_fall(begin: u64, lows: &[Low]) -> u64
+    ensures { result ≡ last_fall begin lows.now }
+{
+    let [low, lows @ ..] = lows else {
+        return begin;
+    };
+    last_fall(low.fall, lows)
+}
+
+fn final_by(ending: Ending, at: u64, last: u64) -> u64
+    ensures { result ≡ final_by ending at last }
+{
+    match ending {
+        Ending::Short => at,
+        Ending::Complete | Ending::Silent | Ending::BadStart | Ending::Long | Ending::Open => last,
+    }
+}
+
+fn final_bit(reading: &Reading, lows: &[Low]) -> u64
+    ensures { result ≡ final_bit (listed_as reading.now) lows.now }
+{
+    final_by(reading.ending, reading.at, last_fall(reading.begin, lows))
+}
+
+impl Before {
+    fn free_due(self, bits: &[bool], again: bool) -> u64
+        ensures { result ≡ free_due self bits.now again }
+    {
+        match self {
+            Before::Nothing => 0,
+            Before::Somebody => RETRY,
+            Before::Frame(initiator, taken) => {
+                if !is_known(bits) {
+                    return RETRY;
+                }
+                due_after(initiator, taken, initiator_of(bits), again)
+            }
+        }
+    }
+
+    fn of(ending: Ending, bits: &[bool]) -> Self
+        requires { length bits.now ≤ 160 }
+        ensures { result ≡ before_of ending bits.now }
+    {
+        if is_known(bits) {
+            Before::Frame(initiator_of(bits), is_delivered(ending, bits))
+        } else {
+            Before::Somebody
+        }
+    }
+}
+
+impl Previous {
+    /// Of the first reading.
+    pub fn new() -> Self
+        ensures { result ≡ no_previous }
+    {
+        Previous {
+            frame: Before::Nothing,
+            final_bit: 0,
+        }
+    }
+
+    /// How long the line was free before an instant: since the start of the final bit.
+    pub fn free_before(self, begin: u64) -> u64
+        ensures { result ≡ free_before self begin }
+    {
+        begin.saturating_sub(self.final_bit)
+    }
+
+    /// Whether a reading comes too soon after this. Its initiator tries again where its own last frame was not taken.
+    pub fn too_soon(self, reading: &Reading, again: bool) -> Option<TooSoon>
+        ensures { result ≡ too_soon self (listed_as reading.now) again }
+    {
+        let free = self.free_before(reading.begin);
+        let due = self.frame.free_due(&reading.bits, again);
+        if is_bad_start(reading.ending) || free >= due {
+            return None;
+        }
+        Some(TooSoon { free, due })
+    }
+
+    /// What a reading of these low stretches leaves for the next one.
+    pub fn with(self, reading: &Reading, lows: &[Low]) -> Self
+        ensures { result ≡ previous_with self (listed_as reading.now) lows.now }
+    {
+        if is_bad_start(reading.ending) {
+            return self;
+        }
+        Previous {
+            frame: Before::of(reading.ending, &reading.bits),
+            final_bit: final_bit(reading, lows),
+        }
+    }
+}

@@ -1,0 +1,5 @@
+use Rattle.capture_pin.proofs.Sampled as lemmas
+use Rattle.capture_pin.proofs.laws.pin_lines_go_on.Goals as goal
+
+pub returns : goal.returns
+returns c = lemmas.pin_lines_go_on

@@ -1,0 +1,9 @@
+use Rattle.std.proofs.Common.{take}
+use Rattle.std.specs.List.{flat_map}
+use Rattle.text_core.specs.Adds.{Adds}
+use Rattle.capture_vcd.specs.Text.{change_lines}
+use Rattle.capture_vcd.proofs.writing.add_changes.Given as goal
+
+-- the lines of the stretches so far are added
+abbrev pub invariant-loop-stretch : goal.invariant-loop-stretch
+invariant-loop-stretch g l = Adds l.fn.out l.out (flat_map change_lines (take l.stretch-index l.stretches))

@@ -1,5 +1,0 @@
-use Rattle.cec_asm.proofs.KeyLemmas.{code_of-found}
-use Rattle.cec_asm.proofs.keys.code_in.Goals as goal
-
-pub returns : goal.returns
-returns c = code_of-found c.args.word.now c.byte.result c.byte.ensures.found c.byte.ensures.none

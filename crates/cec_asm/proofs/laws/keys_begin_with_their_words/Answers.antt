@@ -1,5 +1,0 @@
-use Rattle.cec_asm.proofs.KeyTexts.{begins_with_its_word}
-use Rattle.cec_asm.proofs.laws.keys_begin_with_their_words.Goals as goal
-
-pub returns : goal.returns
-returns c = begins_with_its_word

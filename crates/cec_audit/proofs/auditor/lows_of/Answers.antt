@@ -1,6 +1,0 @@
-use Rattle.std.proofs.Common.{ℕ, ap, ◌∙◌}
-use Rattle.cec_timing.specs.Lows.{lows_before}
-use Rattle.cec_audit.proofs.auditor.lows_of.Goals as goal
-
-pub returns : goal.returns
-returns c = c.lows_before.ensures ∙ ap (λ (u : ℕ). lows_before u c.args.edges.now) c.falls_until.ensures

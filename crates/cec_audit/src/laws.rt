@@ -1,8 +1,0 @@
-//! Laws of audits.
-ghost use Rattle.cec_audit.specs.Kept.{AuditsKeepReadings};
-
-/// Without the lines that begin with a space an audit is what a monitor writes of the capture, to the byte; and those lines
-/// begin with two, and stand below the reading that they are remarked of, or at the end.
-pub fn audits_keep_readings()
-    ensures { AuditsKeepReadings }
-{}

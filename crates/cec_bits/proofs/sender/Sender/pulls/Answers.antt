@@ -1,8 +1,0 @@
-use Rattle.std.proofs.Common.{◌∙◌}
-use Rattle.cec_bits.proofs.Sent.{pulls_so}
-use Rattle.cec_bits.proofs.sender.Sender.pulls.Goals as goal
-
-pub returns-clause-round : goal.returns-clause-round
-returns-clause-round c = λ low s.
-    let self = c.args.self.now in
-    c.is_pulling.ensures ∙ pulls_so low self.begin c.args.t self.last self.frame self.state s.state s.past

@@ -1,7 +1,0 @@
--- What is known of a reading before an instant depends on the line before it alone.
-use Rattle.std.specs.Prelude.{◌≡◌, ℕ, ◌<◌, Bool}
-use Rattle.cec_bits.specs.Reading.{known_at, reading_of}
-
--- lines that are one before t are read alike before t
-abbrev pub ReadingsAreCausal : Type 0
-ReadingsAreCausal = (t : ℕ) (low other : ℕ → Bool) (begin : ℕ) → ((u : ℕ) → u < t → low u ≡ other u) → known_at t (reading_of low begin) ≡ known_at t (reading_of other begin)

@@ -1,5 +1,0 @@
-use Rattle.cec_certain.proofs.Causality as Causality
-use Rattle.cec_certain.proofs.laws.traces_are_causal.Goals as goal
-
-pub returns : goal.returns
-returns c = Causality.traces_are_causal

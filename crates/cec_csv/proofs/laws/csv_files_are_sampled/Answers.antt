@@ -1,5 +1,0 @@
-use Rattle.cec_csv.proofs.Sampled as lemmas
-use Rattle.cec_csv.proofs.laws.csv_files_are_sampled.Goals as goal
-
-pub returns : goal.returns
-returns c = lemmas.csv_files_are_sampled

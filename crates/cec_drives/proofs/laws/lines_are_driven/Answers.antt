@@ -1,5 +1,0 @@
-use Rattle.cec_drives.proofs.Driven as lemmas
-use Rattle.cec_drives.proofs.laws.lines_are_driven.Goals as goal
-
-pub returns : goal.returns
-returns c = lemmas.lines_are_driven

@@ -1,5 +1,0 @@
-use Rattle.cec_expect.proofs.Wording as lemmas
-use Rattle.cec_expect.proofs.laws.state_words_are_met.Goals as goal
-
-pub returns : goal.returns
-returns c = lemmas.state_words_are_met

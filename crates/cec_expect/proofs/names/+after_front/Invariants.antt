@@ -1,5 +1,0 @@
-use Rattle.std.proofs.Common.{length}
-use Rattle.cec_expect.proofs.names.+after_front.Given as goal
-
-abbrev pub decreases-after_front : goal.decreases-after_front
-decreases-after_front l = length l.front.now

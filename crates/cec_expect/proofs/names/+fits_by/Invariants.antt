@@ -1,5 +1,0 @@
-use Rattle.std.proofs.Common.{length}
-use Rattle.cec_expect.proofs.names.+fits_by.Given as goal
-
-abbrev pub decreases-fits_by : goal.decreases-fits_by
-decreases-fits_by l = length l.bytes.now

@@ -1,5 +1,0 @@
-use Rattle.std.proofs.Common.{length}
-use Rattle.cec_expect.proofs.names.+meetable_by.Given as goal
-
-abbrev pub decreases-meetable_by : goal.decreases-meetable_by
-decreases-meetable_by l = length l.bytes.now

@@ -1,5 +1,0 @@
-use Rattle.std.proofs.Common.{length}
-use Rattle.cec_expect.proofs.names.+meets_by.Given as goal
-
-abbrev pub decreases-meets_by : goal.decreases-meets_by
-decreases-meets_by l = length l.bytes.now

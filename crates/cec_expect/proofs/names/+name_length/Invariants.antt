@@ -1,5 +1,0 @@
-use Rattle.std.proofs.Common.{length}
-use Rattle.cec_expect.proofs.names.+name_length.Given as goal
-
-abbrev pub decreases-name_length : goal.decreases-name_length
-decreases-name_length l = length l.text.now

@@ -1,9 +1,0 @@
-use Rattle.std.proofs.Common.{◌≡◌, subst, sym}
-use Rattle.cec_follow.specs.Lines.{lines_captured, lines_left}
-use Rattle.cec_follow.specs.declared.lines.CaptureLines.TheVariants.{Names}
-use Rattle.cec_follow.specs.declared.lines.LineForm.{LineForm}
-use Rattle.cec_follow.proofs.Left.{names_first}
-use Rattle.cec_follow.proofs.lines.CaptureLines.new.Goals as goal
-
-pub returns-in-Csv-clause-first : goal.returns-in-Csv-clause-first
-returns-in-Csv-clause-first c = λ signal lines. subst (λ (f : LineForm). lines_left signal Names 1 lines ≡ lines_captured f signal lines) (sym c.in-Csv.is) (names_first signal lines)

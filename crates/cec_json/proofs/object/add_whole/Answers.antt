@@ -1,9 +1,0 @@
-use Rattle.cec_json.proofs.Parted.{whole_is}
-use Rattle.hdmi_core.proofs.Adding.{then}
-use Rattle.cec_json.proofs.Writing.{adds_as}
-use Rattle.cec_json.proofs.object.add_whole.Goals as goal
-
-pub returns : goal.returns
-returns g c =
-    adds_as c.args.out.now c.add_seats.new.out _ _ (whole_is c.args.frame.now c.args.line.now c.after_ending-rest.result.now c.reported_in.result.now c.after_ending-rest.ensures c.reported_in.ensures)
-    (then _ _ _ _ _ (then _ _ _ _ _ c.add_begun.ensures c.add_complete.ensures) c.add_seats.ensures)

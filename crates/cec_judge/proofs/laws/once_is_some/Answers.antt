@@ -1,5 +1,0 @@
-use Rattle.cec_judge.proofs.Often as lemmas
-use Rattle.cec_judge.proofs.laws.once_is_some.Goals as goal
-
-pub returns : goal.returns
-returns c = lemmas.once_is_some

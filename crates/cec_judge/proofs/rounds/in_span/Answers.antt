@@ -1,9 +1,0 @@
-use Rattle.std.proofs.Common.{◌≡◌, List, true, subst, sym}
-use Rattle.cec_judge.specs.Index.{are_in_order}
-use Rattle.cec_judge.specs.declared.reported.RoundLine.{RoundLine as RoundRead}
-use Rattle.cec_judge.proofs.Ordered.{still_in_order}
-use Rattle.cec_judge.proofs.rounds.in_span.Goals as goal
-
-pub last_place-requires : goal.last_place-requires
-last_place-requires c =
-    subst (λ (rs : List RoundRead). are_in_order rs ≡ true) (sym c.split_at.ensures.back) (still_in_order c.args.rounds.now c.first_place.result c.requires)

@@ -1,5 +1,0 @@
-use Rattle.std.proofs.Common.{length}
-use Rattle.cec_lay.proofs.bits.+push_blocks.Given as goal
-
-abbrev pub decreases-push_blocks : goal.decreases-push_blocks
-decreases-push_blocks l = length l.bytes.now

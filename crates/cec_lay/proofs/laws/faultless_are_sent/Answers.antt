@@ -1,5 +1,0 @@
-use Rattle.cec_lay.proofs.Laid.{faultless_are_sent}
-use Rattle.cec_lay.proofs.laws.faultless_are_sent.Goals as goal
-
-pub returns : goal.returns
-returns c = faultless_are_sent

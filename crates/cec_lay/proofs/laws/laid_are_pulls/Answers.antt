@@ -1,5 +1,0 @@
-use Rattle.cec_lay.proofs.Bounded.{laid_are_pulls}
-use Rattle.cec_lay.proofs.laws.laid_are_pulls.Goals as goal
-
-pub returns : goal.returns
-returns c = laid_are_pulls

@@ -1,5 +1,0 @@
-use Rattle.cec_meaning.proofs.Named.{named_opcodes_have_sentences}
-use Rattle.cec_meaning.proofs.laws.named_opcodes_have_sentences.Goals as goal
-
-pub returns : goal.returns
-returns c = named_opcodes_have_sentences

@@ -1,7 +1,0 @@
-use Rattle.std.proofs.Common.{refl}
-use Rattle.cec_meaning.specs.Sentences.{sentences}
-use Rattle.cec_meaning.proofs.sentences.table.Goals as goal
-
-pub returns : goal.returns
-unfolding sentences
-returns c = refl

@@ -1,8 +1,0 @@
-use Rattle.std.proofs.Common.{append-nil, subst, sym}
-use Rattle.hdmi_core.specs.Adds.{Adds}
-use Rattle.cec_text.specs.ReadingText.{reading_line}
-use Rattle.cec_mon.proofs.watching.add_reported.Goals as goal
-
-pub returns-in-Some : goal.returns-in-Some
-returns-in-Some g c =
-    rw c.in-Some.is (subst (λ t. Adds c.args.out.now c.add_reading.new.out t) (sym (append-nil (reading_line c.in-Some.reading))) c.add_reading.ensures)

@@ -1,5 +1,0 @@
-use Rattle.std.proofs.Common.{length}
-use Rattle.cec_named.proofs.notes.+put_bits.Given as goal
-
-abbrev pub decreases-put_bits : goal.decreases-put_bits
-decreases-put_bits l = length l.bits.now

@@ -1,5 +1,0 @@
-use Rattle.cec_net.proofs.Few as lemmas
-use Rattle.cec_net.proofs.laws.runs_are_short.Goals as goal
-
-pub returns : goal.returns
-returns c = lemmas.runs_are_short

@@ -1,5 +1,0 @@
-use Rattle.cec_net.proofs.Starts.{start_is_least}
-use Rattle.cec_net.proofs.start.start_is_least.Goals as goal
-
-pub returns : goal.returns
-returns c = start_is_least

@@ -1,5 +1,0 @@
-use Rattle.cec_net.proofs.OneStep.{one_step}
-use Rattle.cec_net.proofs.step.one_step.Goals as goal
-
-pub returns : goal.returns
-returns c = one_step

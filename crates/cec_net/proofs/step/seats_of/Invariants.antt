@@ -1,6 +1,0 @@
-use Rattle.std.proofs.Common.{◌≡◌, map, take}
-use Rattle.cec_net.specs.Step.{seat_of}
-use Rattle.cec_net.proofs.step.seats_of.Given as goal
-
-abbrev pub invariant-loop-device : goal.invariant-loop-device
-invariant-loop-device l = l.seats.items ≡ map (seat_of l.rest l.begin) (take l.device-index l.devices)

@@ -1,7 +1,0 @@
-use Rattle.std.proofs.Common.{◌≡◌, ℕ, ◌<◌, ◌≤◌, not, false}
-use Rattle.cec_remarks.specs.Header.{is_taken}
-use Rattle.cec_remarks.proofs.header.failed_block.Given as goal
-
--- the blocks so far were taken
-abbrev pub invariant-loop-block : goal.invariant-loop-block
-invariant-loop-block l = (u : ℕ) → 1 ≤ u → u < l.block → not (is_taken l.bits u) ≡ false

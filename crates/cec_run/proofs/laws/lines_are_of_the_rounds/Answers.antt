@@ -1,5 +1,0 @@
-use Rattle.cec_run.proofs.WholeLine as lemmas
-use Rattle.cec_run.proofs.laws.lines_are_of_the_rounds.Goals as goal
-
-pub returns : goal.returns
-returns c = lemmas.lines_are_of_the_rounds

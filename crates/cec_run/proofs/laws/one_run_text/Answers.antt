@@ -1,5 +1,0 @@
-use Rattle.cec_run.proofs.Turns as Turns
-use Rattle.cec_run.proofs.laws.one_run_text.Goals as goal
-
-pub returns : goal.returns
-returns c = Turns.one_run_text

@@ -1,5 +1,0 @@
-use Rattle.cec_run.proofs.Few as lemmas
-use Rattle.cec_run.proofs.laws.runs_are_short.Goals as goal
-
-pub returns : goal.returns
-returns c = lemmas.runs_short

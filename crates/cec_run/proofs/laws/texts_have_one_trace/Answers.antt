@@ -1,5 +1,0 @@
-use Rattle.cec_run.proofs.Accepted as Accepted
-use Rattle.cec_run.proofs.laws.texts_have_one_trace.Goals as goal
-
-pub returns : goal.returns
-returns c = Accepted.texts_have_one_trace

@@ -1,5 +1,0 @@
-use Rattle.cec_run.proofs.HasRun as lemmas
-use Rattle.cec_run.proofs.laws.texts_have_traces.Goals as goal
-
-pub returns : goal.returns
-returns c = lemmas.texts_have_traces

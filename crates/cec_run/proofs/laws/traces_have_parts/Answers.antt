@@ -1,5 +1,0 @@
-use Rattle.cec_run.proofs.OneRun as lemmas
-use Rattle.cec_run.proofs.laws.traces_have_parts.Goals as goal
-
-pub returns : goal.returns
-returns c = lemmas.traces_have_parts

@@ -1,6 +1,0 @@
-use Rattle.std.proofs.Common.{refl}
-use Rattle.hdmi_core.proofs.Adding.{nothing}
-use Rattle.cec_run.proofs.line_text.LineTextReporter.event.Goals as goal
-
-pub returns : goal.returns
-returns g c = λ before applied. (nothing c.args.self.now.text, refl)

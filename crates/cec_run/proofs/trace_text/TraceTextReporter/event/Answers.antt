@@ -1,9 +1,0 @@
-use Rattle.std.proofs.Common.{refl}
-use Rattle.cec_run.proofs.Whole.{event_added}
-use Rattle.cec_run.proofs.trace_text.TraceTextReporter.event.Goals as goal
-
-pub returns : goal.returns
-returns g c = λ before applied. (
-  event_added c.args.at c.args.self.now.passed.edid.now c.args.event.now before c.args.net.now c.args.refused c.args.was.now c.tree.result.now _ _ _ applied c.tree.ensures c.add_event.ensures c.add_new_ports.ensures,
-  refl,
-)

@@ -1,5 +1,0 @@
-use Rattle.cec_session.proofs.Kept as Kept
-use Rattle.cec_session.proofs.laws.sessions_report_traces_of.Goals as goal
-
-pub returns : goal.returns
-returns c = Kept.sessions_report_traces_of

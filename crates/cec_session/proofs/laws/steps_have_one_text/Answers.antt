@@ -1,5 +1,0 @@
-use Rattle.cec_session.proofs.Answering as Answering
-use Rattle.cec_session.proofs.laws.steps_have_one_text.Goals as goal
-
-pub returns : goal.returns
-returns c = Answering.steps_have_one_text

@@ -1,5 +1,0 @@
-use Rattle.cec_smooth.proofs.Pairs.{smoothing}
-use Rattle.cec_smooth.proofs.laws.smoothing_keeps_what_is_long.Goals as goal
-
-pub returns : goal.returns
-returns c = smoothing

@@ -1,5 +1,0 @@
-use Rattle.cec_step.proofs.TraceRounds as lemmas
-use Rattle.cec_step.proofs.laws.rounds_are_the_trace.Goals as goal
-
-pub returns : goal.returns
-returns c = lemmas.rounds_are_the_trace

@@ -1,5 +1,0 @@
-use Rattle.std.proofs.Common.{length}
-use Rattle.cec_timing.proofs.spread.Widths.+add.Given as goal
-
-abbrev pub decreases-add : goal.decreases-add
-decreases-add l = length l.lows.now

@@ -1,5 +1,0 @@
-use Rattle.cec_vcd.proofs.Sampled as lemmas
-use Rattle.cec_vcd.proofs.laws.dumps_are_sampled.Goals as goal
-
-pub returns : goal.returns
-returns c = lemmas.dumps_are_sampled

@@ -1,9 +1,0 @@
-use Rattle.std.proofs.Common.{take}
-use Rattle.std.specs.List.{flat_map}
-use Rattle.hdmi_core.specs.Adds.{Adds}
-use Rattle.cec_vcd.specs.Text.{change_lines}
-use Rattle.cec_vcd.proofs.writing.add_changes.Given as goal
-
--- the lines of the stretches so far are added
-abbrev pub invariant-loop-stretch : goal.invariant-loop-stretch
-invariant-loop-stretch g l = Adds l.fn.out l.out (flat_map change_lines (take l.stretch-index l.stretches))

@@ -1,5 +1,0 @@
-use Rattle.cec_wave.proofs.Sparse as Sparse
-use Rattle.cec_wave.proofs.laws.faultless_are_sparse.Goals as goal
-
-pub returns : goal.returns
-returns c = Sparse.faultless_are_sparse

@@ -1,5 +1,0 @@
-use Rattle.cec_wave.proofs.Kept as Kept
-use Rattle.cec_wave.proofs.laws.timely_tested.Goals as goal
-
-pub returns : goal.returns
-returns c = Kept.timely_tested

@@ -1,5 +1,0 @@
-use Rattle.cec_wave.proofs.Times as Times
-use Rattle.cec_wave.proofs.laws.times_of_senders.Goals as goal
-
-pub returns : goal.returns
-returns c = Times.times_of_senders

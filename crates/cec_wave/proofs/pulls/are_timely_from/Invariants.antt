@@ -1,7 +1,0 @@
-use Rattle.std.proofs.Common.{◌≡◌, drop}
-use Rattle.cec_wave.specs.Pulls.{are_timely_from}
-use Rattle.cec_wave.proofs.pulls.are_timely_from.Given as goal
-
--- what is left decides
-abbrev pub invariant-loop-stretch : goal.invariant-loop-stretch
-invariant-loop-stretch l = are_timely_from l.free (drop l.stretch-index l.stretches) ≡ are_timely_from l.from l.stretches

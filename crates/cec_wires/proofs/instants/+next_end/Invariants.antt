@@ -1,5 +1,0 @@
-use Rattle.std.proofs.Common.{length}
-use Rattle.cec_wires.proofs.instants.+next_end.Given as goal
-
-abbrev pub decreases-next_end : goal.decreases-next_end
-decreases-next_end l = length l.wire.now

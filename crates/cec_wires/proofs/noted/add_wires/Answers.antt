@@ -1,9 +1,0 @@
-use Rattle.std.proofs.Common.{◌-◌, [], ◌∷◌, ◌++◌, subst}
-use Rattle.hdmi_core.specs.Adds.{Adds}
-use Rattle.cec_wires.proofs.Noting.{no_notes}
-use Rattle.cec_wires.proofs.noted.add_wires.Goals as goal
-
-pub returns : goal.returns
-returns g c =
-    subst (Adds c.args.out.now c.add_noted_wires.new.out) (no_notes (c.args.line.now ∷ (c.args.drives.now ++ c.args.pulses.now ∷ [])) c.args.from (c.args.to - c.args.from))
-    c.add_noted_wires.ensures

@@ -1,0 +1,386 @@
+//! The command line.
+ghost use Rattle.std.specs.Prelude.{◌≡◌, MatchResult, None, Some, map, string_bytes};
+ghost use Rattle.cli_words.specs.Line.{asked_by};
+
+use crate::{frames_help, help};
+use clap::error::ErrorKind;
+use clap::{Arg, ArgAction, Command, Error};
+use cli_words::{Asked, Subcommand, asked_by, subcommand_of};
+use explain_lists::{frame_forms, run_words};
+use std::alloc::{AllocError, Global};
+
+/// What is said in place of doing what a command line asks for.
+#[derive(Debug, Drop)]
+pub enum Refused {
+    /// The help that it asks for.
+    Help(String),
+    /// Why its words are refused.
+    Words(String),
+    /// Nothing, as memory ran out.
+    Memory,
+}
+
+fn flag<'a>(alloc: Global, name: &'a str, help: &'a str) -> Arg<'a> {
+    Arg::new(alloc, name)
+        .long(name)
+        .help(help)
+        .action(ArgAction::SetTrue)
+}
+
+// Adds flags, by their names and helps.
+fn with_flags<'a>(
+    alloc: Global,
+    command: Command<'a>,
+    flags: &[(&'static str, &'static str)],
+) -> Result<Command<'a>, AllocError> {
+    let mut command = command;
+    for row in flags {
+        let (name, help) = *row;
+        command = command.arg(flag(alloc, name, help))?;
+    }
+    Ok(command)
+}
+
+// Adds flags that take a value, by their names, what stands for the value, and their helps.
+fn with_values<'a>(
+    alloc: Global,
+    command: Command<'a>,
+    flags: &[(&'static str, &'static str, &'static str)],
+) -> Result<Command<'a>, AllocError> {
+    let mut command = command;
+    for row in flags {
+        let (name, value, help) = *row;
+        let flag = Arg::new(alloc, name)
+            .long(name)
+            .value_name(value)
+            .help(help)
+            .action(ArgAction::Set);
+        command = command.arg(flag)?;
+    }
+    Ok(command)
+}
+
+// Whether help is asked for.
+fn asks_help(words: &[String]) -> bool {
+    for word in words {
+        if word.as_str() == "--help" || word.as_str() == "-h" {
+            return true;
+        }
+    }
+    false
+}
+
+// What follows the help of `asm`: with the forms of frames from the tables, where help is asked for.
+fn asm_help(alloc: Global, words: &[String]) -> Result<String, AllocError> {
+    if !asks_help(words) {
+        return String::from_str(alloc, frames_help::ASM_HELP);
+    }
+    let forms = frame_forms(alloc)?;
+    format!(in alloc;
+        "{}\n\n{}\n{}",
+        frames_help::ASM_HELP,
+        frames_help::ASM_FORMS,
+        forms.trim_end()
+    )
+}
+
+// What follows the help of `run`: with keys, codes and causes from the tables, where help is asked for.
+fn run_help(alloc: Global, words: &[String]) -> Result<String, AllocError> {
+    if !asks_help(words) {
+        return String::from_str(alloc, help::RUN_HELP);
+    }
+    let lists = run_words(alloc)?;
+    format!(in alloc;
+        "{}\n\n{}\n{}",
+        help::RUN_HELP,
+        help::RUN_WORDS,
+        lists.trim_end()
+    )
+}
+
+// The program itself, before its commands.
+fn program_command<'a>(alloc: Global) -> Result<Command<'a>, AllocError> {
+    Command::new(alloc, "hdminet")
+        .about(help::ABOUT)
+        .version("0.1.0")
+        .after_help(help::OVERVIEW)
+        .disable_help_subcommand(true)
+        .arg(flag(alloc, "explain", help::EXPLAIN_FLAG).global(true))
+}
+
+// A command, before its flags.
+fn plain_command<'a>(alloc: Global, name: &'a str, about: &'a str, help: &'a str) -> Command<'a> {
+    Command::new(alloc, name).about(about).after_help(help)
+}
+
+// Adds the command that runs a network.
+fn add_run<'a>(
+    alloc: Global,
+    program: Command<'a>,
+    run_help: &'a str,
+) -> Result<Command<'a>, AllocError> {
+    let run = plain_command(alloc, "run", help::RUN_ABOUT, run_help);
+    let run = with_flags(alloc, run, help::RUN_FLAGS)?;
+    let run = with_values(alloc, run, help::RUN_VALUES)?;
+    program.subcommand(run)
+}
+
+// Adds the command that tests a network or a capture.
+fn add_check<'a>(alloc: Global, program: Command<'a>) -> Result<Command<'a>, AllocError> {
+    let check = plain_command(alloc, "check", help::CHECK_ABOUT, help::CHECK_HELP);
+    let check = with_flags(alloc, check, help::CHECK_FLAGS)?;
+    let check = with_values(alloc, check, help::CHECK_VALUES)?;
+    program.subcommand(check)
+}
+
+// Adds the command that steps through a run.
+fn add_step<'a>(alloc: Global, program: Command<'a>) -> Result<Command<'a>, AllocError> {
+    program.subcommand(plain_command(alloc, "step", help::STEP_ABOUT, help::STEP_HELP))
+}
+
+// Adds the command that answers a script line by line.
+fn add_live<'a>(alloc: Global, program: Command<'a>) -> Result<Command<'a>, AllocError> {
+    let live = plain_command(alloc, "live", help::LIVE_ABOUT, help::LIVE_HELP);
+    let live = with_flags(alloc, live, help::LIVE_FLAGS)?;
+    program.subcommand(live)
+}
+
+// Adds the command that reads texts of frames.
+fn add_asm<'a>(
+    alloc: Global,
+    program: Command<'a>,
+    asm_help: &'a str,
+) -> Result<Command<'a>, AllocError> {
+    program.subcommand(plain_command(alloc, "asm", frames_help::ASM_ABOUT, asm_help))
+}
+
+// Adds the command that reads frames in hex.
+fn add_dis<'a>(alloc: Global, program: Command<'a>) -> Result<Command<'a>, AllocError> {
+    let dis = plain_command(alloc, "dis", frames_help::DIS_ABOUT, frames_help::DIS_HELP);
+    let dis = with_flags(alloc, dis, frames_help::DIS_FLAGS)?;
+    program.subcommand(dis)
+}
+
+// Adds the command that lays frames.
+fn add_lay<'a>(alloc: Global, program: Command<'a>) -> Result<Command<'a>, AllocError> {
+    let lay = plain_command(alloc, "lay", frames_help::LAY_ABOUT, frames_help::LAY_HELP);
+    program.subcommand(lay)
+}
+
+// Adds the command that reads captures.
+fn add_mon<'a>(alloc: Global, program: Command<'a>) -> Result<Command<'a>, AllocError> {
+    let mon = plain_command(alloc, "mon", help::MON_ABOUT, help::MON_HELP);
+    let mon = with_flags(alloc, mon, help::MON_FLAGS)?;
+    let mon = with_values(alloc, mon, help::MON_VALUES)?;
+    program.subcommand(mon)
+}
+
+// Adds the command that reads EDIDs.
+fn add_edid<'a>(alloc: Global, program: Command<'a>) -> Result<Command<'a>, AllocError> {
+    let edid = plain_command(alloc, "edid", help::EDID_ABOUT, help::EDID_HELP);
+    let edid = with_flags(alloc, edid, help::EDID_FLAGS)?;
+    let edid = with_values(alloc, edid, help::EDID_VALUES)?;
+    program.subcommand(edid)
+}
+
+// The program with its commands, in the order in which help lists them.
+fn command<'a>(
+    alloc: Global,
+    run_help: &'a str,
+    asm_help: &'a str,
+) -> Result<Command<'a>, AllocError> {
+    let program = program_command(alloc)?;
+    let program = add_run(alloc, program, run_help)?;
+    let program = add_check(alloc, program)?;
+    let program = add_step(alloc, program)?;
+    let program = add_live(alloc, program)?;
+    let program = add_asm(alloc, program, asm_help)?;
+    let program = add_dis(alloc, program)?;
+    let program = add_lay(alloc, program)?;
+    let program = add_mon(alloc, program)?;
+    add_edid(alloc, program)
+}
+
+// Whether explanations are asked for.
+fn asks_explanation(words: &[String]) -> bool {
+    for word in words {
+        if word.as_str() == "--explain" {
+            return true;
+        }
+    }
+    false
+}
+
+// Puts a command line to the table of commands and flags, which refuses it, shows a help, or takes it.
+fn put_to_table(
+    alloc: Global,
+    words: &[String],
+    run_help: &str,
+    asm_help: &str,
+) -> Result<(), Error> {
+    let command = command(alloc, run_help, asm_help)?;
+    let _ = command.try_get_matches_from(words)?;
+    Ok(())
+}
+
+// The same with the helps of its commands.
+fn put_with_help(alloc: Global, words: &[String]) -> Result<(), Error> {
+    let run_help = run_help(alloc, words)?;
+    let asm_help = asm_help(alloc, words)?;
+    put_to_table(alloc, words, run_help.as_str(), asm_help.as_str())
+}
+
+// What follows words that are refused: with `--explain` among them, how the program is called.
+fn explanation(words: &[String]) -> &'static str {
+    if asks_explanation(words) {
+        help::EXPLAINED
+    } else {
+        ""
+    }
+}
+
+// The word that an error quotes after a text.
+fn quoted_after<'a>(error: &'a str, before: &str) -> Option<&'a str> {
+    let (word, _) = error.strip_prefix(before)?.split_once("'")?;
+    Some(word)
+}
+
+// A word where no more words are taken: a file's name, and no flag.
+fn refused_word(error: &str) -> Option<&str> {
+    let word = quoted_after(error, "error: unexpected argument '")?;
+    if word.starts_with("-") {
+        None
+    } else {
+        Some(word)
+    }
+}
+
+// A word in the place of a subcommand that is a file's name.
+fn refused_file(error: &str) -> Option<&str> {
+    let word = quoted_after(error, "error: unrecognized subcommand '")?;
+    if word.contains(".") || word.contains("/") {
+        Some(word)
+    } else {
+        None
+    }
+}
+
+// A file's name among the words of a command line, by the error.
+fn file_in(error: &str) -> Option<&str> {
+    match refused_word(error) {
+        Some(word) => Some(word),
+        None => refused_file(error),
+    }
+}
+
+// Adds the words of a command line after the program's name, each after a space, but for a file's name and what follows it up to
+// the next flag.
+fn add_words_but(words: &[String], file: &str, text: &mut String) -> Result<(), AllocError> {
+    let mut is_left_out = false;
+    for word in words.iter().skip(1) {
+        let follows = is_left_out && !word.as_str().starts_with("-");
+        is_left_out = follows || word.as_str() == file;
+        if !is_left_out {
+            text.push_str(" ")?;
+            text.push_str(word.as_str())?;
+        }
+    }
+    Ok(())
+}
+
+// How a command line is written that has a file's name among its words.
+fn with_input(alloc: Global, words: &[String], file: &str) -> Result<String, AllocError> {
+    let mut text = String::from_str(alloc, help::FILE_NAME)?;
+    add_words_but(words, file, &mut text)?;
+    text.push_str(help::AFTER_WORDS)?;
+    Ok(text)
+}
+
+// What is often meant by words that are refused so: a file's name, of which the input is, and `help`.
+fn meant(alloc: Global, error: &str, words: &[String]) -> Result<String, AllocError> {
+    match file_in(error) {
+        Some(file) => with_input(alloc, words, file),
+        None if error.starts_with("error: unrecognized subcommand 'help'") => {
+            String::from_str(alloc, help::HELP_WORD)
+        }
+        None => Ok(String::new(alloc)),
+    }
+}
+
+// What is said of a command line that is not to be done.
+fn said(alloc: Global, error: &Error, words: &[String]) -> Result<Refused, AllocError> {
+    let mut text = format!(in alloc; "{error}")?;
+    if error.use_stderr() {
+        let meant = meant(alloc, text.as_str(), words)?;
+        text.push_str(meant.as_str())?;
+        text.push_str(explanation(words))?;
+        return Ok(Refused::Words(text));
+    }
+    Ok(Refused::Help(text))
+}
+
+// What becomes of a command line that is not to be done.
+fn refusal(alloc: Global, error: &Error, words: &[String]) -> Refused {
+    if error.kind() == ErrorKind::OutOfMemory {
+        return Refused::Memory;
+    }
+    match said(alloc, error, words) {
+        Ok(refused) => refused,
+        Err(AllocError) => Refused::Memory,
+    }
+}
+
+// What goes with what in a subcommand, if it has flags of its own.
+fn rules_of(subcommand: Subcommand) -> Option<&'static str> {
+    match subcommand {
+        Subcommand::Run => Some(help::RUN_RULES),
+        Subcommand::Check => Some(help::CHECK_RULES),
+        Subcommand::Mon => Some(help::MON_RULES),
+        Subcommand::Edid => Some(help::EDID_RULES),
+        Subcommand::Step | Subcommand::Live | Subcommand::Asm | Subcommand::Dis | Subcommand::Lay =>
+            None,
+    }
+}
+
+// The same in the first such subcommand that some words name.
+fn rules(words: &[String]) -> &'static str {
+    for word in words {
+        if let Some(subcommand) = subcommand_of(word.as_str()) {
+            if let Some(rules) = rules_of(subcommand) {
+                return rules;
+            }
+        }
+    }
+    ""
+}
+
+// What is said where the table takes words that ask for nothing: what goes with what.
+fn meaningless(alloc: Global, words: &[String]) -> Refused {
+    let rules = rules(words);
+    let explanation = explanation(words);
+    let text = format!(in alloc;
+        "error: a value is none of its flag, or flags do not go together\n{rules}\nFor more information, try '--help'.\n{explanation}"
+    );
+    match text {
+        Ok(text) => Refused::Words(text),
+        Err(AllocError) => Refused::Memory,
+    }
+}
+
+/// Reads a command line: the program's name, a subcommand, its flags. The name alone asks for the trace of a run.
+///
+/// # Errors
+///
+/// A line that `asked_by` does not read is put to the table of commands and flags, which says why it is refused, or shows a help.
+// The table takes as long to build as an EDID to read, so where nothing of it is needed it is left alone.
+pub fn choose(alloc: Global, words: &[String]) -> Result<Asked, Refused>
+    ensures { MatchResult result (λ asked. asked_by (map string_bytes words.now) ≡ Some asked) (λ _. asked_by (map string_bytes words.now) ≡ None) }
+{
+    if let Some(asked) = asked_by(words) {
+        return Ok(asked);
+    }
+    match put_with_help(alloc, words) {
+        Ok(()) => Err(meaningless(alloc, words)),
+        Err(error) => Err(refusal(alloc, &error, words)),
+    }
+}

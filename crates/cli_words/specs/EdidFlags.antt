@@ -1,0 +1,167 @@
+-- The flags of `edid` (own).
+use Rattle.std.specs.Prelude.{ℕ, List, [], ◌∷◌, Bool, Option, Some, None, if◌then◌else◌, true, false, codes, ◌&&◌, ◌||◌, nat_le, is_some, unwrap_or, option_and_then, is_none, not}
+use Rattle.std.specs.Option.{option_map}
+use Rattle.std.specs.Str.{bytes_eq}
+use Rattle.text_core.specs.Number.{number_of}
+use Rattle.text_core.specs.Phys.{phys_of}
+use Rattle.text_core.specs.declared.phys.Phys.{Phys}
+use Rattle.edid_merge.specs.Tables.{receiver_table}
+use Rattle.edid_merge.specs.declared.table.Table.{Table}
+use Rattle.cli_words.specs.Joined.{joined}
+use Rattle.cli_words.specs.Rows.{rows_of}
+use Rattle.cli_words.specs.declared.choice.Asked.{Asked}
+use Rattle.cli_words.specs.declared.choice.Choice.TheVariants.{Edid}
+use Rattle.cli_words.specs.declared.choice.Reading.TheVariants as readings
+use Rattle.cli_words.specs.declared.choice.Recipient.{Recipient}
+use Rattle.cli_words.specs.declared.choice.Recipient.TheVariants.{Own, At, Port}
+use Rattle.cli_words.specs.declared.choice.Sound.{Sound}
+use Rattle.cli_words.specs.declared.choice.Sound.TheVariants.{Kept, Amplified, Spoken}
+use Rattle.cli_words.specs.declared.choice.Source.{Source}
+use Rattle.cli_words.specs.declared.choice.Source.TheVariants as sources
+use Rattle.cli_words.specs.declared.choice.Shape.{Shape}
+use Rattle.cli_words.specs.declared.choice.Shape.TheVariants as shapes
+use Rattle.cli_words.specs.declared.choice.View.{View}
+use Rattle.cli_words.specs.declared.choice.View.TheVariants.{Whole, Meaning, Findings, Address, Readout}
+use Rattle.cli_words.specs.declared.edid_flags.EdidFlags.{EdidFlags}
+use Rattle.cli_words.specs.declared.edid_flags.Wanted.{Wanted}
+use Rattle.cli_words.specs.declared.edid_flags.Wanted.TheVariants as wants
+use Rattle.cli_words.specs.declared.edid_flags.EdidValue.{EdidValue}
+use Rattle.cli_words.specs.declared.edid_flags.EdidValue.TheVariants as values
+
+-- the number of a port: 1 to 15
+abbrev pub port_number : Option ℕ → Option ℕ
+port_number None = None
+port_number (Some n) = if nat_le 1 n && nat_le n 15 then Some n else None
+
+abbrev pub port_of : List ℕ → Option ℕ
+port_of word = port_number (number_of word)
+
+-- the number of an EDID among several: from 1
+abbrev pub nth_number : Option ℕ → Option ℕ
+nth_number None = None
+nth_number (Some n) = if nat_le 1 n then Some n else None
+
+abbrev pub nth_of : List ℕ → Option ℕ
+nth_of word = nth_number (number_of word)
+
+abbrev pub amplified_of : List ℕ → Bool
+amplified_of word = bytes_eq word (codes "amp")
+
+abbrev pub spoken_of : List ℕ → Bool
+spoken_of word = bytes_eq word (codes "own")
+
+-- the flags with the value of the last
+abbrev pub with_edid_value : EdidFlags → EdidValue → List ℕ → Option EdidFlags
+with_edid_value flags values.Address word = option_map (λ address. record flags { address = Some address; waits = None }) (phys_of word)
+with_edid_value flags values.Port word = option_map (λ port. record flags { port = Some port; waits = None }) (port_of word)
+with_edid_value flags values.Below word = if amplified_of word then Some (record flags { amplified = true; waits = None }) else None
+with_edid_value flags values.Speakers word = if spoken_of word then Some (record flags { spoken = true; waits = None }) else None
+with_edid_value flags values.Rows word = option_map (λ rows. record flags { rows = Some rows; waits = None }) (rows_of receiver_table word)
+with_edid_value flags values.Nth word = option_map (λ nth. record flags { nth = Some nth; waits = None }) (nth_of word)
+
+-- the flags with one more; each stands once at most, and those that exclude one another not together
+abbrev pub with_edid_flag : EdidFlags → List ℕ → Option EdidFlags
+with_edid_flag flags word =
+    if bytes_eq word (codes "--text") && is_none flags.source then Some (record flags { source = Some sources.Text })
+    else if bytes_eq word (codes "--words") && is_none flags.source then Some (record flags { source = Some sources.Words })
+    else if bytes_eq word (codes "--hex") && is_none flags.source then Some (record flags { source = Some (sources.Dump 1) })
+    else if bytes_eq word (codes "--eeodb") && is_none flags.reading then Some (record flags { reading = Some readings.Overridden })
+    else if bytes_eq word (codes "--as-source") && is_none flags.reading then Some (record flags { reading = Some readings.AsSource })
+    else if bytes_eq word (codes "--raw") && is_none flags.wanted then Some (record flags { wanted = Some wants.Raw })
+    else if bytes_eq word (codes "--check") && is_none flags.wanted then Some (record flags { wanted = Some wants.Check })
+    else if bytes_eq word (codes "--meaning") && is_none flags.wanted then Some (record flags { wanted = Some wants.Meaning })
+    else if bytes_eq word (codes "--only-address") && is_none flags.wanted then Some (record flags { wanted = Some wants.OnlyAddress })
+    else if bytes_eq word (codes "--ddc") && is_none flags.wanted then Some (record flags { wanted = Some wants.Ddc })
+    else if bytes_eq word (codes "--address") && is_none flags.address then Some (record flags { waits = Some values.Address })
+    else if bytes_eq word (codes "--port") && is_none flags.port then Some (record flags { waits = Some values.Port })
+    else if bytes_eq word (codes "--below") && not flags.amplified then Some (record flags { waits = Some values.Below })
+    else if bytes_eq word (codes "--speakers") && not flags.spoken then Some (record flags { waits = Some values.Speakers })
+    else if bytes_eq word (codes "--merge") && not flags.merges then Some (record flags { merges = true })
+    else if bytes_eq word (codes "--rows") && is_none flags.rows then Some (record flags { waits = Some values.Rows })
+    else if bytes_eq word (codes "--nth") && is_none flags.nth then Some (record flags { waits = Some values.Nth })
+    else if bytes_eq word (codes "--explain") && not flags.explains then Some (record flags { explains = true })
+    else None
+
+-- a flag that waits for a value, with this one
+abbrev pub waited_edid : List ℕ → EdidFlags → Option EdidFlags
+waited_edid word flags = option_and_then (λ value. with_edid_value flags value word) flags.waits
+
+-- the flags with one more, or with a flag and its value
+abbrev pub with_edid_parts : EdidFlags → List ℕ → Option (List ℕ × List ℕ) → Option EdidFlags
+with_edid_parts flags word None = with_edid_flag flags word
+with_edid_parts flags word (Some parts) = option_and_then (waited_edid parts.1) (with_edid_flag flags parts.0)
+
+-- the flags with one word more, which is a value where a flag waits for one
+abbrev pub with_edid_word : EdidFlags → Option EdidValue → List ℕ → Option EdidFlags
+with_edid_word flags (Some value) word = with_edid_value flags value word
+with_edid_word flags None word = with_edid_parts flags word (joined word)
+
+-- and with each of some words
+abbrev pub edid_flags : EdidFlags → List (List ℕ) → Option EdidFlags
+edid_flags flags [] = Some flags
+edid_flags flags (word ∷ words) = option_and_then (λ more. edid_flags more words) (with_edid_word flags flags.waits word)
+
+-- whose sound is passed on: the speakers are an amplifier's with its audio alone
+abbrev pub edid_sound : Bool → Bool → Option Sound
+edid_sound false false = Some Kept
+edid_sound true false = Some Amplified
+edid_sound true true = Some Spoken
+edid_sound false true = None
+
+-- the device that the EDID is for, by an address, a port and the sound, of which not each goes with each
+abbrev pub place_by : Option Phys → Option ℕ → Sound → Option Recipient
+place_by None None Kept = Some Own
+place_by (Some address) None Kept = Some (At address)
+place_by None (Some port) sound = Some (Port port sound)
+place_by address port sound = None
+
+abbrev pub edid_place : EdidFlags → Option Recipient
+edid_place flags = option_and_then (λ sound. place_by flags.address flags.port sound) (edid_sound flags.amplified flags.spoken)
+
+-- how an EDID is written where no flag says it: that of a text as hex, and else as its text
+abbrev pub own_shape : Source → Shape
+own_shape sources.Text = shapes.Hex
+own_shape sources.Words = shapes.Hex
+own_shape sources.Bytes = shapes.Text
+own_shape (sources.Dump nth) = shapes.Text
+own_shape (sources.Pair dumps table) = shapes.Text
+
+-- one EDID; of a dump alone one of several is chosen
+abbrev pub one_source : Option Source → Option ℕ → Option Source
+one_source source None = Some (unwrap_or source sources.Bytes)
+one_source (Some (sources.Dump one)) (Some nth) = Some (sources.Dump nth)
+one_source source (Some nth) = None
+
+-- two EDIDs, as bytes or as dumps
+abbrev pub pair_source : Option Source → Table → Option Source
+pair_source None table = Some (sources.Pair false table)
+pair_source (Some (sources.Dump one)) table = Some (sources.Pair true table)
+pair_source source table = None
+
+-- what the EDID is read from; rows go with two EDIDs alone, which are read as they stand, and of which none is chosen
+abbrev pub edid_source : EdidFlags → Option Source
+edid_source flags =
+    if flags.merges then (if is_some flags.nth || is_some flags.reading then None else pair_source flags.source (unwrap_or flags.rows receiver_table))
+    else if is_some flags.rows then None
+    else one_source flags.source flags.nth
+
+-- what is written
+abbrev pub edid_view : Option Wanted → Recipient → Shape → View
+edid_view None place shape = Whole place shape
+edid_view (Some wants.Raw) place shape = Whole place shapes.Bytes
+edid_view (Some wants.Check) place shape = Findings place
+edid_view (Some wants.Meaning) place shape = Meaning place
+edid_view (Some wants.OnlyAddress) place shape = Address place
+edid_view (Some wants.Ddc) place shape = Readout place
+
+-- what they ask for
+abbrev pub asked_by_view : EdidFlags → Source → Recipient → Asked
+asked_by_view flags source place = record {
+  choice = Edid source (unwrap_or flags.reading readings.Strict) (edid_view flags.wanted place (own_shape source));
+  explains = flags.explains;
+}
+
+abbrev pub edid_asked : EdidFlags → Option Asked
+edid_asked flags =
+    if is_some flags.waits then None
+    else option_and_then (λ source. option_map (asked_by_view flags source) (edid_place flags)) (edid_source flags)

@@ -1,0 +1,245 @@
+//! What a command line asks for.
+use edid_merge::Table;
+use text_core::Phys;
+
+/// What is written of a run.
+#[derive(Clone, Copy, Debug)]
+pub enum Listing {
+    /// Its trace.
+    Trace,
+    /// The edge file of its line.
+    Edges,
+    /// Its line as a Value Change Dump.
+    Vcd,
+    /// Its line as pin events of cec-ctl.
+    Pin,
+    /// Its line as comma-separated values.
+    Csv,
+    /// Its line as a Value Change Dump, and below it who drives it.
+    Drives,
+    /// The same, and its frames and bits as strings.
+    Named,
+}
+
+/// The form of a capture.
+#[derive(Clone, Copy, Debug)]
+pub enum Form {
+    /// An edge file.
+    Edges,
+    /// A Value Change Dump.
+    Vcd,
+    /// Pin events of cec-ctl.
+    Pin,
+    /// Comma-separated values.
+    Csv,
+}
+
+/// The form of a capture that is read line by line.
+#[derive(Clone, Copy, Debug)]
+pub enum LineForm {
+    /// An edge file.
+    Edges,
+    /// Pin events of cec-ctl.
+    Pin,
+    /// Comma-separated values.
+    Csv,
+}
+
+/// What is written of a capture.
+#[derive(Clone, Copy, Debug)]
+pub enum Report {
+    /// Its readings.
+    Readings,
+    /// Those from where the line was first idle, as of a capture that begins in the middle of a frame.
+    FromIdle,
+    /// Its readings, and below each what the standard would have otherwise.
+    Audit {
+        /// With the widths of the parts of each reading.
+        timing: bool,
+        /// A remark is a fault.
+        strict: bool,
+    },
+}
+
+/// What is written of a test: a topology, and a script with expectations.
+#[derive(Clone, Copy, Debug)]
+pub enum TestView {
+    /// The report of whether its run is as they have it.
+    Report,
+    /// The same, and on standard error how far a sweep is.
+    Progress,
+    /// The report, and after it the trace of its run.
+    Traced,
+    /// The input of its run, without labels and expectations.
+    Plain,
+}
+
+/// What is written as objects of JSON, a line each.
+#[derive(Clone, Copy, Debug)]
+pub enum Objects {
+    /// The lines of the trace of a run. Where it is strict, an event that is refused is a fault.
+    Trace {
+        strict: bool,
+    },
+    /// The same, after the lines of the topology and the pulses of the script, and with each event's line of the script.
+    Room {
+        strict: bool,
+    },
+    /// The lines of a capture.
+    Capture {
+        form: Option<Form>,
+        glitch: u64,
+        margin: u64,
+        inverted: bool,
+        report: Option<Report>,
+    },
+    /// The lines of the report of a test of a run, with its trace after it or without.
+    Test {
+        traced: bool,
+    },
+    /// The lines of the report of a test of a capture.
+    CaptureTest {
+        form: Option<Form>,
+        glitch: u64,
+    },
+}
+
+/// What an EDID is read from.
+#[derive(Clone, Copy, Debug)]
+pub enum Source {
+    /// Its bytes.
+    Bytes,
+    /// A hex dump of its bytes: of several in a text the one with this number, from 1.
+    Dump { nth: u64 },
+    /// Its text.
+    Text,
+    /// Its text, in which payloads may stand in words.
+    Words,
+    /// The EDIDs of a display and of a receiver, of which that is made that the receiver answers with by a table: their bytes one
+    /// after the other, or the first two hex dumps of a text.
+    Pair { dumps: bool, table: Table },
+}
+
+/// How the bytes of an EDID are read.
+#[derive(Clone, Copy, Debug)]
+pub enum Reading {
+    /// As they stand.
+    Strict,
+    /// With the count of extensions that the HDMI Forum's override of it has.
+    Overridden,
+    /// As a source reads them, which mends some and passes over others.
+    AsSource,
+}
+
+/// Whose sound an EDID reports that is passed on.
+#[derive(Clone, Copy, Debug)]
+pub enum Sound {
+    /// That of the device that has the EDID.
+    Kept,
+    /// The audio of an amplifier that has its address.
+    Amplified,
+    /// The audio and the speakers of that amplifier.
+    Spoken,
+}
+
+/// The device that an EDID is for.
+#[derive(Clone, Copy, Debug)]
+pub enum Recipient {
+    /// The one that has it.
+    Own,
+    /// One at this address.
+    At(Phys),
+    /// One in this port, from 1 to 15, of the device that has it.
+    Port { port: u8, sound: Sound },
+}
+
+/// How an EDID is written.
+#[derive(Clone, Copy, Debug)]
+pub enum Shape {
+    /// Its text.
+    Text,
+    /// Its bytes, as one line of hex.
+    Hex,
+    /// Its bytes.
+    Bytes,
+}
+
+/// What is written of an EDID.
+#[derive(Clone, Copy, Debug)]
+pub enum View {
+    /// The EDID for a device.
+    Whole(Recipient, Shape),
+    /// Its text for a device, and below each line what it means.
+    Meaning(Recipient),
+    /// The rules that it breaks.
+    Findings(Recipient),
+    /// The physical address in it.
+    Address(Recipient),
+    /// What a device reads of it over DDC.
+    Readout(Recipient),
+}
+
+/// What the words of a command line ask for.
+#[derive(Clone, Copy, Debug)]
+pub enum Choice {
+    /// A run of a topology and a script. Where it is strict, an event that is refused is a fault.
+    Run {
+        listing: Listing,
+        strict: bool,
+    },
+    /// A test of a run.
+    Check(TestView),
+    /// A test of a capture. Its first line reports its form where none is given; pulses and gaps shorter than so many microseconds
+    /// are passed over.
+    CheckCapture {
+        form: Option<Form>,
+        glitch: u64,
+    },
+    /// Steps of a run, edge by edge and round by round.
+    Step,
+    /// A session: a run whose script comes line by line, each answered as it comes, in lines or, where it is wanted, in objects of
+    /// JSON.
+    Live {
+        json: bool,
+    },
+    /// The bytes of frames, from their texts.
+    Asm,
+    /// The texts of frames, from their bytes in hex, and below each, where it is wanted, what it means.
+    Dis {
+        meaning: bool,
+    },
+    /// The pulls that lay frames on the line, whole or with a fault, from their instants and texts.
+    Lay,
+    /// What a capture reports. Its first line reports its form where none is given; pulses and gaps shorter than so many
+    /// microseconds are passed over; the windows are so many microseconds wider, 300 at most; the levels are read as they stand, or
+    /// the other way round; bad starts one after another are a line each, or one; and where no report is given, that is by the form.
+    Mon {
+        form: Option<Form>,
+        glitch: u64,
+        margin: u64,
+        inverted: bool,
+        folded: bool,
+        report: Option<Report>,
+    },
+    /// The readings of a capture in this form as they come, line by line; the windows are so many microseconds wider, 300 at most.
+    Follow {
+        form: LineForm,
+        margin: u64,
+    },
+    /// Lines of a run or of a capture, as objects.
+    Json(Objects),
+    /// An EDID.
+    Edid {
+        source: Source,
+        reading: Reading,
+        view: View,
+    },
+}
+
+/// What a command line asks for.
+#[derive(Clone, Copy, Debug)]
+pub struct Asked {
+    pub choice: Choice,
+    /// Whether faults are explained, and runs counted, on standard error.
+    pub explains: bool,
+}

@@ -1,0 +1,387 @@
+//! The flags of `mon`.
+ghost use Rattle.std.specs.Prelude.{◌≡◌, map, string_bytes, Some, None, MatchOption, option_and_then};
+ghost use Rattle.cli_words.specs.MonFlags.{follow_choice, form_of, goes_further, has_names, is_from_idle, line_form, margin_of, is_misfit, joined_signal, mon_asked, mon_choice, mon_flags, mon_report, signal_in, waited_mon, with_mon_flag, with_mon_value, with_mon_word};
+
+use crate::choice::{Asked, Choice, Form, LineForm, Objects, Report};
+use crate::joined::joined;
+use crate::micros::micros_of;
+use text_core::{after, before, number_in};
+
+/// The most by which windows are made wider, in microseconds.
+const MOST_MARGIN: u64 = 300;
+
+/// A flag of a capture that a value follows.
+#[derive(Clone, Copy, Debug)]
+pub enum MonValue {
+    From,
+    Signal,
+    Glitch,
+    Margin,
+}
+
+/// The flags that `mon` was given.
+#[derive(Clone, Copy)]
+pub struct MonFlags {
+    pub form: Option<Form>,
+    /// Whether `--signal` names a wire, which `signal_in` returns.
+    pub named: bool,
+    pub glitch: Option<u64>,
+    pub margin: Option<u64>,
+    pub inverted: bool,
+    /// The readings that `--from-start` or `--from-idle` asks for.
+    pub start: Option<Report>,
+    pub audit: bool,
+    pub timing: bool,
+    pub strict: bool,
+    pub folded: bool,
+    pub json: bool,
+    /// Whether readings are written as they come.
+    pub follows: bool,
+    pub explains: bool,
+    /// The flag whose value comes next.
+    pub waits: Option<MonValue>,
+}
+
+impl MonFlags {
+    /// No flag.
+    pub const NONE: MonFlags = MonFlags {
+        form: None,
+        named: false,
+        glitch: None,
+        margin: None,
+        inverted: false,
+        start: None,
+        audit: false,
+        timing: false,
+        strict: false,
+        folded: false,
+        json: false,
+        follows: false,
+        explains: false,
+        waits: None,
+    };
+}
+
+/// The form of a capture that a word names.
+pub fn form_of(word: &str) -> Option<Form>
+    ensures { result ≡ form_of word.now }
+{
+    match word {
+        "edges" => Some(Form::Edges),
+        "vcd" => Some(Form::Vcd),
+        "pin" => Some(Form::Pin),
+        "csv" => Some(Form::Csv),
+        _ => None,
+    }
+}
+
+// By how many microseconds windows are wider: 300 at most.
+fn margin_of(word: &[u8]) -> Option<u64>
+    ensures { result ≡ margin_of word.now }
+{
+    match number_in(word) {
+        Some(margin) if margin <= MOST_MARGIN => Some(margin),
+        _ => None,
+    }
+}
+
+// The flags with the value of the last.
+fn with_mon_value(flags: MonFlags, value: MonValue, word: &str) -> Option<MonFlags>
+    ensures { result ≡ with_mon_value flags value word.now }
+{
+    match value {
+        MonValue::From => {
+            let form = form_of(word)?;
+            Some(MonFlags {
+                form: Some(form),
+                waits: None,
+                ..flags
+            })
+        }
+        MonValue::Signal => Some(MonFlags {
+            named: true,
+            waits: None,
+            ..flags
+        }),
+        MonValue::Glitch => {
+            let glitch = micros_of(word.as_bytes())?;
+            Some(MonFlags {
+                glitch: Some(glitch),
+                waits: None,
+                ..flags
+            })
+        }
+        MonValue::Margin => {
+            let margin = margin_of(word.as_bytes())?;
+            Some(MonFlags {
+                margin: Some(margin),
+                waits: None,
+                ..flags
+            })
+        }
+    }
+}
+
+// The flags with one more. Each stands once at most, and those that exclude one another not together.
+fn with_mon_flag(flags: MonFlags, word: &str) -> Option<MonFlags>
+    ensures { result ≡ with_mon_flag flags word.now }
+{
+    match word {
+        "--from" if flags.form.is_none() => Some(MonFlags {
+            waits: Some(MonValue::From),
+            ..flags
+        }),
+        "--signal" if !flags.named => Some(MonFlags {
+            waits: Some(MonValue::Signal),
+            ..flags
+        }),
+        "--glitch" if flags.glitch.is_none() => Some(MonFlags {
+            waits: Some(MonValue::Glitch),
+            ..flags
+        }),
+        "--margin" if flags.margin.is_none() => Some(MonFlags {
+            waits: Some(MonValue::Margin),
+            ..flags
+        }),
+        "--invert" if !flags.inverted => Some(MonFlags {
+            inverted: true,
+            ..flags
+        }),
+        "--from-start" if flags.start.is_none() => Some(MonFlags {
+            start: Some(Report::Readings),
+            ..flags
+        }),
+        "--from-idle" if flags.start.is_none() => Some(MonFlags {
+            start: Some(Report::FromIdle),
+            ..flags
+        }),
+        "--audit" if !flags.audit => Some(MonFlags {
+            audit: true,
+            ..flags
+        }),
+        "--timing" if !flags.timing => Some(MonFlags {
+            timing: true,
+            ..flags
+        }),
+        "--strict" if !flags.strict => Some(MonFlags {
+            strict: true,
+            ..flags
+        }),
+        "--fold" if !flags.folded => Some(MonFlags {
+            folded: true,
+            ..flags
+        }),
+        "--json" if !flags.json => Some(MonFlags {
+            json: true,
+            ..flags
+        }),
+        "--follow" if !flags.follows => Some(MonFlags {
+            follows: true,
+            ..flags
+        }),
+        "--explain" if !flags.explains => Some(MonFlags {
+            explains: true,
+            ..flags
+        }),
+        _ => None,
+    }
+}
+
+// The flags with a flag that waits for this value.
+fn with_mon_pair(flags: MonFlags, flag: &str, word: &str) -> Option<MonFlags>
+    ensures { result ≡ option_and_then (waited_mon word.now) (with_mon_flag flags flag.now) }
+{
+    let flags = with_mon_flag(flags, flag)?;
+    with_mon_value(flags, flags.waits?, word)
+}
+
+// The flags with one word more: a value where a flag waits for one, else a flag, or a flag and its value.
+fn with_mon_word(flags: MonFlags, word: &str) -> Option<MonFlags>
+    ensures { result ≡ with_mon_word flags flags.waits word.now }
+{
+    match flags.waits {
+        Some(value) => with_mon_value(flags, value, word),
+        None => match joined(word) {
+            Some((flag, value)) => with_mon_pair(flags, flag, value),
+            None => with_mon_flag(flags, word),
+        },
+    }
+}
+
+/// The flags with those that these words are, and their values.
+pub fn mon_flags(flags: MonFlags, words: &[String]) -> Option<MonFlags>
+    ensures { result ≡ mon_flags flags (map string_bytes words.now) }
+{
+    match words {
+        [] => Some(flags),
+        [word, rest @ ..] => mon_flags(with_mon_word(flags, word.as_str())?, rest),
+    }
+}
+
+/// Whether the wires of a capture may have names: those of edge files and of pin events have none.
+pub fn has_names(form: Option<Form>) -> bool
+    ensures { result ≡ has_names form }
+{
+    match form {
+        None | Some(Form::Vcd | Form::Csv) => true,
+        Some(Form::Edges | Form::Pin) => false,
+    }
+}
+
+// What is written of the capture, where a flag says it. An audit is of the whole capture, and an audit alone is strict.
+fn mon_report(
+    start: Option<Report>,
+    audited: bool,
+    timing: bool,
+    strict: bool,
+) -> Option<Option<Report>>
+    ensures { result ≡ mon_report start audited timing strict }
+{
+    match start {
+        Some(_) if audited || strict => None,
+        Some(start) => Some(Some(start)),
+        None if audited => Some(Some(Report::Audit { timing, strict })),
+        None if strict => None,
+        None => Some(None),
+    }
+}
+
+// What is done with a capture.
+fn mon_choice(
+    json: bool,
+    form: Option<Form>,
+    glitch: u64,
+    margin: u64,
+    inverted: bool,
+    folded: bool,
+    report: Option<Report>,
+) -> Choice
+    ensures { result ≡ mon_choice json form glitch margin inverted folded report }
+{
+    if json {
+        Choice::Json(Objects::Capture {
+            form,
+            glitch,
+            margin,
+            inverted,
+            report,
+        })
+    } else {
+        Choice::Mon {
+            form,
+            glitch,
+            margin,
+            inverted,
+            folded,
+            report,
+        }
+    }
+}
+
+// The form of a capture that is read line by line. It is not guessed.
+fn line_form(form: Option<Form>) -> Option<LineForm>
+    ensures { result ≡ line_form form }
+{
+    match form {
+        Some(Form::Edges) => Some(LineForm::Edges),
+        Some(Form::Pin) => Some(LineForm::Pin),
+        Some(Form::Csv) => Some(LineForm::Csv),
+        Some(Form::Vcd) | None => None,
+    }
+}
+
+fn is_from_idle(start: Option<Report>) -> bool
+    ensures { result ≡ is_from_idle start }
+{
+    matches!(start, Some(Report::FromIdle))
+}
+
+// Whether a flag asks for something else than all readings of the edges as they are.
+fn goes_further(flags: &MonFlags) -> bool
+    ensures { result ≡ goes_further flags.now }
+{
+    flags.glitch.is_some()
+        || flags.inverted
+        || is_from_idle(flags.start)
+        || flags.audit
+        || flags.timing
+        || flags.strict
+        || flags.folded
+        || flags.json
+}
+
+// The readings of a capture as they come.
+fn follow_choice(flags: &MonFlags) -> Option<Choice>
+    ensures { result ≡ follow_choice flags.now }
+{
+    if goes_further(flags) {
+        return None;
+    }
+    let form = line_form(flags.form)?;
+    Some(Choice::Follow {
+        form,
+        margin: flags.margin.unwrap_or(0),
+    })
+}
+
+// Whether a value is missing, a wire has no name, or objects are asked for of lines that are folded.
+fn is_misfit(flags: &MonFlags) -> bool
+    ensures { result ≡ is_misfit flags.now }
+{
+    flags.waits.is_some() || (flags.named && !has_names(flags.form)) || (flags.folded && flags.json)
+}
+
+/// What `mon` with these flags asks for.
+pub fn mon_asked(flags: &MonFlags) -> Option<Asked>
+    ensures { result ≡ mon_asked flags.now }
+{
+    if is_misfit(flags) {
+        return None;
+    }
+    if flags.follows {
+        let choice = follow_choice(flags)?;
+        return Some(Asked {
+            choice,
+            explains: flags.explains,
+        });
+    }
+    let audited = flags.audit || flags.timing;
+    let report = mon_report(flags.start, audited, flags.timing, flags.strict)?;
+    Some(Asked {
+        choice: mon_choice(
+            flags.json,
+            flags.form,
+            flags.glitch.unwrap_or(0),
+            flags.margin.unwrap_or(0),
+            flags.inverted,
+            flags.folded,
+            report,
+        ),
+        explains: flags.explains,
+    })
+}
+
+// The value that stands in the word of `--signal`, as `--signal=NAME`.
+fn joined_signal(word: &[u8]) -> Option<&[u8]>
+    ensures { MatchOption result (joined_signal word.now ≡ None) (λ name. joined_signal word.now ≡ Some name.now) }
+{
+    if before(word, 9) == b"--signal=".as_slice() {
+        Some(after(word, 9))
+    } else {
+        None
+    }
+}
+
+/// The name of a wire: what stands after the first `--signal`, as a word of its own or in the same word.
+pub fn signal_in(words: &[String]) -> Option<&[u8]>
+    ensures { MatchOption result (signal_in (map string_bytes words.now) ≡ None) (λ name. signal_in (map string_bytes words.now) ≡ Some name.now) }
+{
+    match words {
+        [] => None,
+        [word, name, ..] if word.as_str() == "--signal" => Some(name.as_bytes()),
+        [word, rest @ ..] => match joined_signal(word.as_bytes()) {
+            Some(name) => Some(name),
+            None => signal_in(rest),
+        },
+    }
+}

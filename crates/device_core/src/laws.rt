@@ -1,0 +1,45 @@
+//! Why no address is held twice.
+ghost use Rattle.device_core.specs.Once.{AddressesAreFound, FatesKeepOnce};
+ghost use Rattle.device_core.specs.Clean.{HoldsNothingYet, KeepsClean, KeepsNumber, KeepsPlace};
+ghost use Rattle.device_core.specs.Listed.{HoldsListed};
+ghost use Rattle.device_core.specs.PlaceLaw.{PlaceGoesByFates};
+
+/// The fates of a round keep each address below 15 with one holder.
+pub fn fates_keep_once()
+    ensures { FatesKeepOnce }
+{}
+
+/// What is queued goes to others, and nothing is queued before a device has settled.
+pub fn queues_go_elsewhere()
+    ensures { KeepsClean }
+{}
+
+/// A device polls and holds addresses of its kind's list alone.
+pub fn addresses_are_listed()
+    ensures { HoldsListed }
+{}
+
+/// A device stands where all the fates of its polls so far put it.
+pub fn place_goes_by_fates()
+    ensures { PlaceGoesByFates }
+{}
+
+/// Only joining, leaving and the fates of polls move a device that is not from outside.
+pub fn only_polls_move()
+    ensures { KeepsPlace }
+{}
+
+/// A device holds an address only from a poll on that nobody acknowledged.
+pub fn addresses_are_found()
+    ensures { AddressesAreFound }
+{}
+
+/// A device that joins, or has left, holds no address yet.
+pub fn joining_holds_nothing()
+    ensures { HoldsNothingYet }
+{}
+
+/// A device keeps its number from when it joins until it leaves.
+pub fn numbers_stay()
+    ensures { KeepsNumber }
+{}

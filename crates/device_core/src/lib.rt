@@ -1,0 +1,22 @@
+//! One device on the CEC line: its address, its queue, what it says.
+#![tactic(auto)]
+
+mod device;
+mod follow;
+mod free_time;
+mod keys;
+mod laws;
+mod outside;
+mod place;
+mod state;
+
+pub use device::{Device, Queued, SubmitError};
+pub use device_features::{Key, Note, Port, Record, Volume, VolumeKey};
+pub use free_time::FreeTime;
+pub use keys::KeyError;
+pub use laws::{
+    addresses_are_found, addresses_are_listed, fates_keep_once, joining_holds_nothing,
+    numbers_stay, only_polls_move, place_goes_by_fates, queues_go_elsewhere,
+};
+pub use line_frames::Fate;
+pub use outside::{Act, only_outside};

@@ -1,0 +1,154 @@
+-- Rows of a hex dump, in the forms in which EDIDs are printed (own).
+use Rattle.std.specs.Prelude.{ℕ, ◌-◌, ◌/◌, ◌==◌, ◌&&◌, ◌||◌, nat_le, nat_lt, Bool, true, false, if◌then◌else◌, List, [], ◌∷◌, length, take, drop, slice_index, Option, Some, None}
+use Rattle.std.specs.List.{list_all}
+use Rattle.std.specs.Str.{bytes_eq}
+use Rattle.std.specs.Char.{is_ascii_hexdigit}
+use Rattle.edid_dump.specs.declared.digits.Column.{Column}
+use Rattle.edid_dump.specs.declared.digits.Column.TheVariants.{Absent, AfterGap, AfterBar, AfterAngle}
+use Rattle.edid_dump.specs.declared.rows.Form.{Form}
+use Rattle.edid_dump.specs.declared.rows.Form.TheVariants.{Plain, Colon, Bars, Octal, Six, LogPairs, LogDigits, Short, Words, Opened, Listed}
+use Rattle.edid_dump.specs.Digits.{is_blank, list_start, listed, octal_of, offset_of, pairs, swapped}
+
+-- eight digits
+abbrev pub has_offset : List ℕ → Bool
+has_offset line = nat_le 8 (length line) && list_all is_ascii_hexdigit (take 8 line)
+
+-- so many digits, alone or with a blank after them
+abbrev pub has_number : ℕ → List ℕ → Bool
+has_number count line = nat_le count (length line) && (list_all is_ascii_hexdigit (take count line) && ((length line == count) || is_blank (slice_index line count)))
+
+abbrev pub after_number : ℕ → List ℕ → Option ℕ
+after_number count line = if has_number count line then Some count else None
+
+-- two digits, a colon and a space
+abbrev pub is_short : List ℕ → Bool
+is_short line = list_all is_ascii_hexdigit (take 2 line) && ((slice_index line 2 == 58) && (slice_index line 3 == 32))
+
+-- the last so many characters, with a blank before them
+abbrev pub tail_start : ℕ → List ℕ → Option ℕ
+tail_start count line =
+    if nat_lt count (length line) && is_blank (slice_index line (length line - count - 1)) then Some (length line - count) else None
+
+-- where the digits of a row begin: with the line; after an offset of eight digits and a colon, or two spaces, or alone; after
+-- one of seven or six digits, or of two and a colon; at sixteen pairs one blank apart, or 32 digits, that end a line of a log;
+-- after what opens a list
+abbrev pub digits_start : Form → List ℕ → Option ℕ
+digits_start Plain line = Some 0
+digits_start Colon line = if has_offset line && (slice_index line 8 == 58) then Some 9 else None
+digits_start Bars line =
+    if has_offset line && ((length line == 8) || ((slice_index line 8 == 32) && (slice_index line 9 == 32))) then Some 8 else None
+digits_start LogPairs line = tail_start 47 line
+digits_start LogDigits line = tail_start 32 line
+digits_start Octal line = after_number 7 line
+digits_start Six line = after_number 6 line
+digits_start Short line = if is_short line then Some 3 else None
+digits_start Words line = after_number 7 line
+digits_start Opened line = Some (list_start line)
+digits_start Listed line = Some 0
+
+abbrev pub column_of : Form → Column
+column_of Plain = Absent
+column_of Colon = AfterGap
+column_of Bars = AfterBar
+column_of LogPairs = Absent
+column_of LogDigits = Absent
+column_of Octal = AfterAngle
+column_of Six = AfterAngle
+column_of Short = AfterGap
+column_of Words = Absent
+column_of Opened = Absent
+column_of Listed = Absent
+
+-- whether it has a list
+abbrev pub is_list : Form → Bool
+is_list Opened = true
+is_list Listed = true
+is_list _ = false
+
+-- the bytes of its digits
+abbrev pub digits_read : Form → List ℕ → Option (List ℕ)
+digits_read form text = if is_list form then listed text else pairs (column_of form) text
+
+-- a row of a log has sixteen bytes
+abbrev pub may_have : Form → ℕ → Bool
+may_have Plain count = true
+may_have Colon count = true
+may_have Bars count = true
+may_have LogPairs count = count == 16
+may_have LogDigits count = count == 16
+may_have Octal count = true
+may_have Six count = true
+may_have Short count = true
+may_have Words count = true
+may_have Opened count = true
+may_have Listed count = true
+
+abbrev pub counted_bytes : Form → Option (List ℕ) → Option (List ℕ)
+counted_bytes form None = None
+counted_bytes form (Some bytes) = if may_have form (length bytes) then Some bytes else None
+
+abbrev pub row_from : Form → List ℕ → Option ℕ → Option (List ℕ)
+row_from form line None = None
+row_from form line (Some start) = counted_bytes form (digits_read form (drop start line))
+
+-- the bytes of a line, where it is a row of this form
+abbrev pub row : Form → List ℕ → Option (List ℕ)
+row form line = row_from form line (digits_start form line)
+
+-- a line of hexdump or od for those that it leaves out since they repeat the one above
+abbrev pub is_star : List ℕ → Bool
+is_star line = (length line == 1) && (slice_index line 0 == 42)
+
+abbrev pub is_repeat : Form → List ℕ → Bool
+is_repeat Bars line = is_star line
+is_repeat Octal line = is_star line
+is_repeat Six line = is_star line
+is_repeat Words line = is_star line
+is_repeat _ line = false
+
+-- the number of its first byte, where rows may be left out: of eight hex digits, seven octal ones, six or seven hex ones
+abbrev pub place_of : Form → List ℕ → ℕ
+place_of Octal line = octal_of line
+place_of Six line = offset_of line / 256
+place_of Words line = offset_of line / 16
+place_of _ line = offset_of line
+
+-- what opens a list stands on its first row alone
+abbrev pub next_form : Form → Form
+next_form Opened = Listed
+next_form form = form
+
+-- the bytes of all rows in their order
+abbrev pub in_order : Form → List ℕ → List ℕ
+in_order Words bytes = swapped bytes
+in_order _ bytes = bytes
+
+-- the header of an EDID (VESA E-EDID, 3.3)
+abbrev pub header : List ℕ
+header = 0 ∷ 255 ∷ 255 ∷ 255 ∷ 255 ∷ 255 ∷ 255 ∷ 0 ∷ []
+
+abbrev pub begins_with : List ℕ → Option (List ℕ) → Bool
+begins_with front None = false
+begins_with front (Some bytes) = bytes_eq (take 8 bytes) front
+
+abbrev pub has_header : Option (List ℕ) → Bool
+has_header bytes = begins_with header bytes
+
+-- as words
+abbrev pub words_header : List ℕ
+words_header = 255 ∷ 0 ∷ 255 ∷ 255 ∷ 255 ∷ 255 ∷ 0 ∷ 255 ∷ []
+
+-- the form of a line that an EDID begins with, the first that fits
+abbrev pub form_of : List ℕ → Option Form
+form_of line =
+    if has_header (row Plain line) then Some Plain
+    else if has_header (row Colon line) then Some Colon
+    else if has_header (row Bars line) then Some Bars
+    else if has_header (row Octal line) then Some Octal
+    else if has_header (row Six line) then Some Six
+    else if has_header (row LogPairs line) then Some LogPairs
+    else if has_header (row LogDigits line) then Some LogDigits
+    else if has_header (row Short line) then Some Short
+    else if begins_with words_header (row Words line) then Some Words
+    else if has_header (row Opened line) then Some Opened
+    else None

@@ -1,0 +1,339 @@
+//! Rows of a hex dump, and the forms that they have.
+ghost use Rattle.std.specs.Prelude.{◌≡◌, ◌<◌, ◌≤◌, ◌^◌, length, IsSome, Some};
+ghost use Rattle.std.specs.Option.{option_map};
+ghost use Rattle.std.specs.List.{list_all};
+ghost use Rattle.std.specs.Char.{is_ascii_hexdigit};
+ghost use Rattle.edid_dump.specs.Digits.{bytes_with_row};
+ghost use Rattle.edid_dump.specs.Rows.{after_number, begins_with, column_of, digits_read, digits_start, form_of, has_header, has_number, has_offset, is_list, is_repeat, is_short, is_star, may_have, next_form, place_of, row, tail_start, words_header};
+ghost use Rattle.edid_dump.specs.declared.rows.Form.TheVariants.{Words};
+
+use crate::digits::{Column, is_blank, octal_of, offset_of, pair_count, push_pairs};
+use crate::lists::{list_start, listed_count, push_listed};
+use arrayvec::ArrayVec;
+use text_core::{after, before, byte_at};
+
+/// The form of a dump's rows.
+#[derive(Clone, Copy, Debug, PartialEq, Eq)]
+pub enum Form {
+    /// Digits and blanks alone, as `xxd -p`, `edid-decode` and `xrandr` print them.
+    Plain,
+    /// An offset and a colon, digits, two spaces and characters, as `xxd` prints them.
+    Colon,
+    /// An offset and two spaces, digits, and characters between bars, as `hexdump -C` prints them.
+    Bars,
+    /// An offset of seven digits, octal ones, and digits, as `od -tx1` prints them; characters may stand after an angle.
+    Octal,
+    /// The same with an offset of six hex digits, as `od -Ax -tx1` prints them.
+    Six,
+    /// A line of a log that ends in sixteen pairs one blank apart.
+    LogPairs,
+    /// A line of a log that ends in 32 digits.
+    LogDigits,
+    /// An offset of two digits and a colon, digits, two spaces and characters, as `i2cdump` prints them.
+    Short,
+    /// An offset of seven hex digits, and words of two bytes, as `hexdump` prints them.
+    Words,
+    /// A list of bytes that may begin after `<`, `{` or `hex:`, as programs and registries have them.
+    Opened,
+    /// A further line of such a list.
+    Listed,
+}
+
+/// The header of an EDID (VESA E-EDID, 3.3).
+const HEADER: &[u8] = &[0, 0xff, 0xff, 0xff, 0xff, 0xff, 0xff, 0];
+
+/// The same, in words.
+const WORDS_HEADER: &[u8] = &[0xff, 0, 0xff, 0xff, 0xff, 0xff, 0, 0xff];
+
+fn all_digits(text: &[u8]) -> bool
+    ensures { result ≡ list_all is_ascii_hexdigit text.now }
+{
+    text.iter().all(|b| b.is_ascii_hexdigit())
+}
+
+fn has_offset(line: &[u8]) -> bool
+    ensures { result ≡ has_offset line.now }
+{
+    line.len() >= 8 && all_digits(before(line, 8))
+}
+
+fn has_number(count: usize, line: &[u8]) -> bool
+    ensures { result ≡ has_number count line.now }
+{
+    count <= line.len()
+        && (all_digits(before(line, count))
+            && (line.len() == count || is_blank(byte_at(line, count))))
+}
+
+// Where the digits begin after a number of so many.
+fn after_number(count: usize, line: &[u8]) -> Option<usize>
+    ensures { result ≡ after_number count line.now }
+{
+    if has_number(count, line) {
+        Some(count)
+    } else {
+        None
+    }
+}
+
+fn is_short(line: &[u8]) -> bool
+    ensures { result ≡ is_short line.now }
+{
+    all_digits(before(line, 2)) && (byte_at(line, 2) == b':' && byte_at(line, 3) == b' ')
+}
+
+// Where the last so many characters begin, with a blank before them.
+fn tail_start(count: usize, line: &[u8]) -> Option<usize>
+    requires { count < 100 }
+    ensures { result ≡ tail_start count line.now }
+{
+    if count < line.len() && is_blank(byte_at(line, line.len() - count - 1)) {
+        Some(line.len() - count)
+    } else {
+        None
+    }
+}
+
+// Where the digits of a row begin.
+fn digits_start(form: Form, line: &[u8]) -> Option<usize>
+    ensures { result ≡ digits_start form line.now }
+{
+    match form {
+        Form::Plain => Some(0),
+        Form::Colon => {
+            let is_row = has_offset(line) && byte_at(line, 8) == b':';
+            if is_row { Some(9) } else { None }
+        }
+        Form::Bars => {
+            let is_row = has_offset(line)
+                && (line.len() == 8 || (byte_at(line, 8) == b' ' && byte_at(line, 9) == b' '));
+            if is_row { Some(8) } else { None }
+        }
+        Form::LogPairs => tail_start(47, line),
+        Form::LogDigits => tail_start(32, line),
+        Form::Octal | Form::Words => after_number(7, line),
+        Form::Six => after_number(6, line),
+        Form::Short => { if is_short(line) { Some(3) } else { None } }
+        Form::Opened => Some(list_start(line)),
+        Form::Listed => Some(0),
+    }
+}
+
+fn column_of(form: Form) -> Column
+    ensures { result ≡ column_of form }
+{
+    match form {
+        Form::Plain
+        | Form::LogPairs
+        | Form::LogDigits
+        | Form::Words
+        | Form::Opened
+        | Form::Listed => Column::Absent,
+        Form::Colon => Column::AfterGap,
+        Form::Short => Column::AfterGap,
+        Form::Octal | Form::Six => Column::AfterAngle,
+        Form::Bars => Column::AfterBar,
+    }
+}
+
+fn may_have(form: Form, count: usize) -> bool
+    ensures { result ≡ may_have form count }
+{
+    match form {
+        Form::Plain
+        | Form::Colon
+        | Form::Bars
+        | Form::Octal
+        | Form::Six
+        | Form::Short
+        | Form::Words
+        | Form::Opened
+        | Form::Listed => true,
+        Form::LogPairs | Form::LogDigits => count == 16,
+    }
+}
+
+fn is_list(form: Form) -> bool
+    ensures { result ≡ is_list form }
+{
+    match form {
+        Form::Opened | Form::Listed => true,
+        Form::Plain
+        | Form::Colon
+        | Form::Bars
+        | Form::Octal
+        | Form::Six
+        | Form::LogPairs
+        | Form::LogDigits
+        | Form::Short
+        | Form::Words => false,
+    }
+}
+
+// How many bytes digits spell, as a row of this form has them.
+fn digit_count(form: Form, text: &[u8]) -> Option<usize>
+    ensures { result ≡ option_map length (digits_read form text.now) }
+{
+    if is_list(form) {
+        listed_count(text)
+    } else {
+        pair_count(column_of(form), text)
+    }
+}
+
+// Adds the bytes that they spell, as far as there is room.
+fn push_digits(form: Form, text: &[u8], bytes: &mut ArrayVec<u8, 512>)
+    requires { IsSome (digits_read form text.now) }
+    ensures { bytes_with_row bytes.old.items (digits_read form text.now) ≡ Some bytes.new.items }
+{
+    if is_list(form) {
+        push_listed(text, bytes);
+    } else {
+        push_pairs(column_of(form), text, bytes);
+    }
+}
+
+/// How many bytes a line has, where it is a row of this form.
+#[tactic(auto, using(crate::proofs::RowLemmas::row_by_count, crate::proofs::RowLemmas::row_absent))]
+pub fn row_count(form: Form, line: &[u8]) -> Option<usize>
+    ensures { result ≡ option_map length (row form line.now) }
+{
+    let Some(start) = digits_start(form, line) else {
+        return None;
+    };
+    let Some(count) = digit_count(form, after(line, start)) else {
+        return None;
+    };
+    if may_have(form, count) {
+        Some(count)
+    } else {
+        None
+    }
+}
+
+/// Adds the bytes of a row, as far as there is room.
+#[tactic(auto, using(crate::proofs::RowLemmas::row_absent))]
+pub fn push_row(form: Form, line: &[u8], bytes: &mut ArrayVec<u8, 512>)
+    requires { IsSome (row form line.now) }
+    ensures { bytes_with_row bytes.old.items (row form line.now) ≡ Some bytes.new.items }
+{
+    let Some(start) = digits_start(form, line) else {
+        return;
+    };
+    push_digits(form, after(line, start), bytes);
+}
+
+fn is_star(line: &[u8]) -> bool
+    ensures { result ≡ is_star line.now }
+{
+    line.len() == 1 && byte_at(line, 0) == b'*'
+}
+
+/// Whether a line stands for rows that repeat the one above.
+pub fn is_repeat(form: Form, line: &[u8]) -> bool
+    ensures { result ≡ is_repeat form line.now }
+{
+    match form {
+        Form::Bars | Form::Octal | Form::Six | Form::Words => is_star(line),
+        Form::Plain
+        | Form::Colon
+        | Form::LogPairs
+        | Form::LogDigits
+        | Form::Short
+        | Form::Opened
+        | Form::Listed => false,
+    }
+}
+
+/// The number of a row's first byte, in a form of which rows may be left out.
+pub fn place_of(form: Form, line: &[u8]) -> u64
+    ensures value { result ≡ place_of form line.now }
+    ensures small { result < 2 ^ 32 }
+{
+    match form {
+        Form::Octal => octal_of(line),
+        Form::Six => offset_of(line) / 0x100,
+        Form::Words => offset_of(line) / 0x10,
+        Form::Plain
+        | Form::Colon
+        | Form::Bars
+        | Form::LogPairs
+        | Form::LogDigits
+        | Form::Short
+        | Form::Opened
+        | Form::Listed => offset_of(line),
+    }
+}
+
+/// The form of the row after one of this form.
+pub fn next_form(form: Form) -> Form
+    ensures { result ≡ next_form form }
+{
+    match form {
+        Form::Opened => Form::Listed,
+        Form::Plain
+        | Form::Colon
+        | Form::Bars
+        | Form::Octal
+        | Form::Six
+        | Form::LogPairs
+        | Form::LogDigits
+        | Form::Short
+        | Form::Words
+        | Form::Listed => form,
+    }
+}
+
+// Whether a row begins with these bytes.
+#[tactic(auto, using(crate::proofs::RowLemmas::begins_absent, crate::proofs::RowLemmas::counted_some))]
+fn begins_with(front: &[u8], form: Form, line: &[u8]) -> bool
+    ensures { result ≡ begins_with front.now (row form line.now) }
+{
+    let Some(_count) = row_count(form, line) else {
+        return false;
+    };
+    let mut bytes = ArrayVec::new();
+    push_row(form, line, &mut bytes);
+    before(&bytes, 8) == front
+}
+
+fn has_header(form: Form, line: &[u8]) -> bool
+    ensures { result ≡ has_header (row form line.now) }
+{
+    begins_with(HEADER, form, line)
+}
+
+fn begins_in_words(line: &[u8]) -> bool
+    ensures { result ≡ begins_with words_header (row Words line.now) }
+{
+    begins_with(WORDS_HEADER, Form::Words, line)
+}
+
+/// The form of a line that an EDID begins with.
+pub fn form_of(line: &[u8]) -> Option<Form>
+    ensures { result ≡ form_of line.now }
+{
+    if has_header(Form::Plain, line) {
+        Some(Form::Plain)
+    } else if has_header(Form::Colon, line) {
+        Some(Form::Colon)
+    } else if has_header(Form::Bars, line) {
+        Some(Form::Bars)
+    } else if has_header(Form::Octal, line) {
+        Some(Form::Octal)
+    } else if has_header(Form::Six, line) {
+        Some(Form::Six)
+    } else if has_header(Form::LogPairs, line) {
+        Some(Form::LogPairs)
+    } else if has_header(Form::LogDigits, line) {
+        Some(Form::LogDigits)
+    } else if has_header(Form::Short, line) {
+        Some(Form::Short)
+    } else if begins_in_words(line) {
+        Some(Form::Words)
+    } else if has_header(Form::Opened, line) {
+        Some(Form::Opened)
+    } else {
+        None
+    }
+}

@@ -1,0 +1,229 @@
+-- What is found of each line of a script, by the trace and, of each line, the state line that it speaks of (own). Lines count
+-- from 1.
+use Rattle.std.specs.Prelude.{ℕ, ◌+◌, ◌-◌, ◌^◌, ◌==◌, nat_lt, min, ◌||◌, not, codes, Bool, true, false, if◌then◌else◌, length, List, [], ◌∷◌, Option, Some, None, Result, Ok, Err}
+use Rattle.std.specs.Str.{bytes_eq}
+use Rattle.std.specs.List.{list_all, list_any}
+use Rattle.text_core.specs.Lines.{lines_of}
+use Rattle.text_core.specs.Words.{words_of}
+use Rattle.expect_text.specs.Line.{onset_in, unlabelled_words}
+use Rattle.expect_text.specs.Form.{Form, Window, form_in}
+use Rattle.expect_text.specs.Form.Form.{Other, Rounds, State, Refused}
+use Rattle.expect_text.specs.Form.Window.{Within, From}
+use Rattle.expect_text.specs.Faults.{line_of_label, event_meant}
+use Rattle.expect_text.specs.declared.fault.LineFault.{LineFault}
+use Rattle.expect_text.specs.declared.form.Quantity.{Quantity}
+use Rattle.expect_text.specs.declared.form.Quantity.TheVariants.{AtLeastOnce, Never, Once}
+use Rattle.expect_judge.specs.Told.{EventLine, event_at, refusal_in, state_words}
+use Rattle.expect_judge.specs.Named.{is_labelled}
+use Rattle.expect_judge.specs.Seen.{ends_seen, first_of}
+use Rattle.expect_judge.specs.declared.seen.Span.{Span}
+use Rattle.expect_judge.specs.declared.judge.Judged.{Judged}
+use Rattle.expect_judge.specs.declared.judge.Finding.{Finding as FindingRead}
+
+-- ---- windows
+
+-- the instant of a line, by those of the lines above
+abbrev pub instant_at : (ℕ → Option ℕ) → Option ℕ → Option ℕ
+instant_at at None = None
+instant_at at (Some line) = at line
+
+-- a window that begins at an instant; its end is at most 2 ^ 64 - 1
+abbrev pub span_from : ℕ → Option ℕ → Option Span
+span_from duration None = None
+span_from duration (Some at) = Some (record { from = at; to = min (at + duration) (2 ^ 64 - 1) })
+
+-- a label without an instant leaves no span
+abbrev pub span_of : List ℕ → (ℕ → Option ℕ) → Window → Option Span
+span_of script at (Within duration name) = span_from duration (instant_at at (line_of_label script name))
+span_of script at (From from to) = Some (record { from = from; to = to })
+
+-- ---- expectations of rounds
+
+abbrev pub holds_by : Quantity → ℕ → Bool
+holds_by AtLeastOnce count = nat_lt 0 count
+holds_by Never count = count == 0
+holds_by Once count = count == 1
+
+-- its instant is the end of the first round that meets it, where it holds
+abbrev pub rounds_by : Quantity → Span → ℕ → Option ℕ → Judged
+rounds_by quantity span count first = record {
+  holds = Some (holds_by quantity count);
+  at = if holds_by quantity count then first else None;
+  span = Some span;
+  count = count;
+}
+
+-- what fails
+abbrev pub failure : Judged
+failure = record { holds = Some false; at = None; span = None; count = 0 }
+
+abbrev pub rounds_judged : List ℕ → Quantity → List ℕ → Option Span → Judged
+rounds_judged trace quantity pattern None = failure
+rounds_judged trace quantity pattern (Some span) =
+    rounds_by quantity span (length (ends_seen trace span pattern)) (first_of (ends_seen trace span pattern))
+
+-- ---- states
+
+abbrev pub has_word : List ℕ → List (List ℕ) → Bool
+has_word word words = list_any (λ other. bytes_eq other word) words
+
+-- each of these words is among the others
+abbrev pub has_words : List (List ℕ) → List (List ℕ) → Bool
+has_words words others = list_all (λ word. has_word word others) words
+
+-- none of these words is among the others
+abbrev pub lacks_words : List (List ℕ) → List (List ℕ) → Bool
+lacks_words words others = list_all (λ word. not (has_word word others)) words
+
+-- after `not` none of them is
+abbrev pub is_state_met : List (List ℕ) → List (List ℕ) → Bool
+is_state_met [] others = true
+is_state_met (word ∷ words) others = if bytes_eq word (codes "not") then lacks_words words others else has_words (word ∷ words) others
+
+abbrev pub state_judged : List ℕ → List (List ℕ) → Judged
+state_judged state words = record { holds = Some (is_state_met words (state_words (words_of state))); at = None; span = None; count = 0 }
+
+-- ---- refused events
+
+abbrev pub refusal_by : Option EventLine → Option (List ℕ)
+refusal_by None = None
+refusal_by (Some e) = refusal_in e.outcome
+
+-- the word with which the event of a line was refused
+abbrev pub refusal_at : List ℕ → Option ℕ → Option (List ℕ)
+refusal_at trace None = None
+refusal_at trace (Some line) = refusal_by (event_at trace line)
+
+abbrev pub is_word : List ℕ → Option (List ℕ) → Bool
+is_word word None = false
+is_word word (Some other) = bytes_eq other word
+
+-- of a line of this number that names the event of a label, or else that of the line above
+abbrev pub refused_judged : List ℕ → List ℕ → ℕ → Option (List ℕ) → List ℕ → Judged
+refused_judged script trace number name word = record { holds = Some (is_word word (refusal_at trace (event_meant script number name))); at = None; span = None; count = 0 }
+
+-- ---- lines
+
+abbrev pub event_instant : Option EventLine → Option ℕ
+event_instant None = None
+event_instant (Some e) = Some e.at
+
+-- nothing is to hold of it; the instant of a pulse is its onset
+abbrev pub of_instant : Option ℕ → Judged
+of_instant at = record { holds = None; at = at; span = None; count = 0 }
+
+-- and that of an event the one of its line in the trace
+abbrev pub other_judged : List ℕ → ℕ → Option ℕ → Judged
+other_judged trace number None = of_instant (event_instant (event_at trace number))
+other_judged trace number (Some onset) = of_instant (Some onset)
+
+-- nothing is found of a line that expects nothing, where no label names it
+abbrev pub nothing : Judged
+nothing = record { holds = None; at = None; span = None; count = 0 }
+
+-- of a line that may have a label and be a pulse
+abbrev pub form_judged : List ℕ → List ℕ → List ℕ → (ℕ → Option ℕ) → ℕ → Bool → Option ℕ → Result Form LineFault → Judged
+form_judged script trace state at number named onset (Err cause) = failure
+form_judged script trace state at number named onset (Ok Other) = if named then other_judged trace number onset else nothing
+form_judged script trace state at number named onset (Ok (Rounds quantity window pattern)) = rounds_judged trace quantity pattern (span_of script at window)
+form_judged script trace state at number named onset (Ok (State time device words)) = state_judged state words
+form_judged script trace state at number named onset (Ok (Refused name word)) = refused_judged script trace number name word
+
+-- a line of this number, by the instants of the lines above and the state line that it speaks of
+abbrev pub line_judged : List ℕ → List ℕ → List ℕ → (ℕ → Option ℕ) → ℕ → List ℕ → Judged
+line_judged script trace state at number line = form_judged script trace state at number (is_labelled line) (onset_in (unlabelled_words (words_of line))) (form_in (unlabelled_words (words_of line)))
+
+-- with the instant of one line more, where it has one
+abbrev pub noted : (ℕ → Option ℕ) → ℕ → Option ℕ → ℕ → Option ℕ
+noted at number None line = at line
+noted at number (Some instant) line = if number == line then Some instant else at line
+
+-- these lines, of which the first has this number, and the state line of each
+abbrev pub lines_judged : List ℕ → List ℕ → (ℕ → Option ℕ) → ℕ → List (List ℕ) → List (List ℕ) → List Judged
+lines_judged script trace at number [] states = []
+lines_judged script trace at number (line ∷ lines) [] = []
+lines_judged script trace at number (line ∷ lines) (state ∷ states) =
+    line_judged script trace state at number line
+    ∷ lines_judged script trace (noted at number (line_judged script trace state at number line).at) (number + 1) lines states
+
+-- all lines
+abbrev pub verdicts_of : List ℕ → List ℕ → List (List ℕ) → List Judged
+verdicts_of script trace states = lines_judged script trace (λ line. None) 1 (lines_of script) states
+
+-- ---- expectations alone
+
+-- what is found of a line that expects something: its number, and the state line that it speaks of
+pub record Finding : Type 0 where
+  pub line : ℕ
+  pub judged : Judged
+  pub state : List ℕ
+
+abbrev pub finding_as : FindingRead → Finding
+finding_as f = record { line = f.line; judged = f.judged; state = f.state.now }
+
+abbrev pub or_more : ℕ → List ℕ → Judged → Option Bool → List Finding → List Finding
+or_more number state j None more = more
+or_more number state j (Some holds) more = record { line = number; judged = j; state = state } ∷ more
+
+-- those of lines that expect something, of lines with these state lines, of which the first has this number
+abbrev pub findings_from : ℕ → List (List ℕ) → List Judged → List Finding
+findings_from number [] js = []
+findings_from number (state ∷ states) [] = []
+findings_from number (state ∷ states) (j ∷ js) = or_more number state j j.holds (findings_from (number + 1) states js)
+
+abbrev pub findings_of : List ℕ → List ℕ → List (List ℕ) → List Finding
+findings_of script trace states = findings_from 1 states (verdicts_of script trace states)
+
+-- ---- state lines
+
+abbrev pub is_state_form : Result Form LineFault → Bool
+is_state_form (Err cause) = false
+is_state_form (Ok Other) = false
+is_state_form (Ok (Rounds quantity window pattern)) = false
+is_state_form (Ok (State time device words)) = true
+is_state_form (Ok (Refused name word)) = false
+
+-- a line speaks of a state
+abbrev pub is_of_state : List ℕ → Bool
+is_of_state line = is_state_form (form_in (unlabelled_words (words_of line)))
+
+abbrev pub first_state : Bool → List (List ℕ) → List ℕ
+first_state false states = []
+first_state true [] = []
+first_state true (state ∷ states) = state
+
+abbrev pub later_states : Bool → List (List ℕ) → List (List ℕ)
+later_states false states = states
+later_states true [] = []
+later_states true (state ∷ states) = states
+
+-- the state line of each of these lines, by those of the lines that speak of a state, in order; of another line none
+abbrev pub states_for : List (List ℕ) → List (List ℕ) → List (List ℕ)
+states_for [] states = []
+states_for (line ∷ lines) states = first_state (is_of_state line) states ∷ states_for lines (later_states (is_of_state line) states)
+
+-- ---- refusals that no line expects
+
+abbrev pub is_number : ℕ → Option ℕ → Bool
+is_number number None = false
+is_number number (Some line) = line == number
+
+abbrev pub form_expects : List ℕ → ℕ → ℕ → Result Form LineFault → Bool
+form_expects script own number (Err cause) = false
+form_expects script own number (Ok Other) = false
+form_expects script own number (Ok (Rounds quantity window pattern)) = false
+form_expects script own number (Ok (State time device words)) = false
+form_expects script own number (Ok (Refused name word)) = is_number number (event_meant script own name)
+
+-- a line of the first number expects that the event of the line of the other one is refused
+abbrev pub line_expects : List ℕ → ℕ → ℕ → List ℕ → Bool
+line_expects script own number line = form_expects script own number (form_in (unlabelled_words (words_of line)))
+
+-- one of these lines does, of which the first has the first number
+abbrev pub lines_expect : List ℕ → ℕ → ℕ → List (List ℕ) → Bool
+lines_expect script own number [] = false
+lines_expect script own number (line ∷ lines) = line_expects script own number line || lines_expect script (own + 1) number lines
+
+-- a line of the script expects that the event of this line is refused
+abbrev pub is_refusal_expected : List ℕ → ℕ → Bool
+is_refusal_expected script number = lines_expect script 1 number (lines_of script)

@@ -1,0 +1,17 @@
+//! Laws of expectations of rounds.
+ghost use Rattle.expect_judge.specs.Laws.{LargerSpansHold, NeverIsTheContrary, OnceIsSome};
+
+/// `none` is the contrary of the plain form, in the same span.
+pub fn never_is_the_contrary()
+    ensures { NeverIsTheContrary }
+{}
+
+/// Where `once` holds, the plain form does.
+pub fn once_is_some()
+    ensures { OnceIsSome }
+{}
+
+/// An expectation of the plain form that holds goes on to hold in a larger span.
+pub fn larger_spans_hold()
+    ensures { LargerSpansHold }
+{}

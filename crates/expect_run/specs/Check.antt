@@ -1,0 +1,94 @@
+-- What a check of a script answers: its report by the trace of the plain script's run.
+use Rattle.std.specs.Prelude.{◌≡◌, ℕ, ◌<◌, not, Bool, true, false, List, length, filter, take, Option, Some, None, Result, Ok, Err}
+use Rattle.std.specs.Io.KnownBytes.{Appends}
+use Rattle.text_core.specs.Lines.{lines_of}
+use Rattle.expect_text.specs.Line.{plain_script}
+use Rattle.expect_text.specs.Faults.{first_fault}
+use Rattle.expect_text.specs.Names.{has_names}
+use Rattle.expect_holdings.specs.HeldTrace.{IsHeldTraceOf}
+use Rattle.room_run.specs.Emulate.{IsTraceOf, IsReported}
+use Rattle.room_run.specs.declared.run.Totals.{Totals}
+use Rattle.expect_run.specs.States.{AreStates}
+use Rattle.expect_run.specs.Kept.{are_timed, kept}
+use Rattle.expect_run.specs.Report.{Report, report}
+use Rattle.expect_run.specs.declared.checking.Tally.{Tally}
+use Rattle.expect_run.specs.declared.checking.CheckError.{CheckError}
+use Rattle.expect_run.specs.declared.checking.CheckError.TheVariants.{Emulate, Expect, Write, Memory}
+
+-- how many tests have these verdicts, and how many of them failed
+abbrev pub tally_of : List Bool → Tally
+tally_of verdicts = record { count = length verdicts; failed = length (filter not verdicts) }
+
+-- The trace by which a script is judged, that of its plain script's run: where a pattern has names, the one that says who holds which
+-- address.
+abbrev pub IsTraceBy : Bool → List ℕ → List ℕ → List ℕ → Totals → Type 0
+IsTraceBy false topology plain trace totals = IsTraceOf topology plain trace totals
+IsTraceBy true topology plain trace totals = IsHeldTraceOf topology plain trace totals
+
+abbrev pub IsTraceFor : List ℕ → List ℕ → List ℕ → Totals → Type 0
+IsTraceFor topology script trace totals = IsTraceBy (has_names script) topology (plain_script script) trace totals
+
+-- the report of a script, by the trace of the run of its plain script on the topology, which is accepted and has no line at fault
+pub record IsReportOf (topology script : List ℕ) (r : Report) : Type 0 where
+  pub trace : List ℕ
+  pub totals : Totals
+  pub run : IsTraceFor topology script trace totals
+  pub accepted : first_fault topology script ≡ None
+  pub states : List (List ℕ)
+  pub states_are : AreStates topology (plain_script script) (lines_of script) states
+  pub report_is : r ≡ report script trace states
+
+-- the lines of the plain script's run that a script needs, in which labelled events were applied about when the script has them
+pub record AreKept (topology script few : List ℕ) : Type 0 where
+  pub trace : List ℕ
+  pub totals : Totals
+  pub run : IsTraceFor topology script trace totals
+  pub lines_are : lines_of few ≡ kept script (lines_of trace)
+  pub timed : are_timed script (lines_of trace) ≡ true
+
+-- the report is written
+abbrev pub IsChecked : List ℕ → List ℕ → Option (List ℕ) → Option (List ℕ) → Tally → Type 0
+IsChecked topology script old new tally =
+    (r : Report) × IsReportOf topology script r × (tally ≡ tally_of r.verdicts) × Appends old new r.text
+
+-- When each refusal comes: those of the run of the plain script, and then the first line whose label or expectation is at fault.
+-- Of memory nothing is said.
+abbrev pub IsCheckReported : List ℕ → List ℕ → CheckError → Type 0
+IsCheckReported topology script (Emulate error) = IsReported topology (plain_script script) error
+IsCheckReported topology script (Expect fault) = (trace : List ℕ) × (totals : Totals) × IsTraceOf topology (plain_script script) trace totals × (first_fault topology script ≡ Some fault)
+IsCheckReported topology script (Write count) = (r : Report) × IsReportOf topology script r
+IsCheckReported topology script Memory = Unit {0}
+
+-- what a refusal has written: after a failed write the front of the report, as long as it reports, and else nothing
+abbrev pub IsCheckCut : List ℕ → List ℕ → Option (List ℕ) → Option (List ℕ) → CheckError → Type 0
+IsCheckCut topology script old new (Write count) =
+    (r : Report) × IsReportOf topology script r × (count < length r.text) × Appends old new (take count r.text)
+IsCheckCut topology script old new (Emulate error) = new ≡ old
+IsCheckCut topology script old new (Expect fault) = new ≡ old
+IsCheckCut topology script old new Memory = new ≡ old
+
+abbrev pub is_write_fault : CheckError → Bool
+is_write_fault (Write count) = true
+is_write_fault (Emulate error) = false
+is_write_fault (Expect fault) = false
+is_write_fault Memory = false
+
+abbrev pub is_write : Result Tally CheckError → Bool
+is_write (Ok tally) = false
+is_write (Err error) = is_write_fault error
+
+-- ---- verdicts alone
+
+-- these are the verdicts of the report's tests
+abbrev pub AreVerdictsOf : List ℕ → List ℕ → List Bool → Type 0
+AreVerdictsOf topology script verdicts = (r : Report) × IsReportOf topology script r × (verdicts ≡ r.verdicts)
+
+-- when each refusal comes where nothing is written: as with a report
+pub record IsVerdictReported (topology script : List ℕ) (error : CheckError) : Type 0 where
+  pub reported : IsCheckReported topology script error
+  pub unwritten : is_write_fault error ≡ false
+
+-- a tally counts the verdicts, and those of them that are false
+abbrev pub TalliesCountVerdicts : Type 0
+TalliesCountVerdicts = (topology script : List ℕ) (old new : Option (List ℕ)) (tally : Tally) (verdicts : List Bool)
+    → IsChecked topology script old new tally → AreVerdictsOf topology script verdicts → tally ≡ tally_of verdicts

@@ -1,0 +1,137 @@
+-- What a report needs of a trace (own): the lines of events that a label names or that are refused, those of rounds that meet an
+-- expectation as far as that is known before the run, and those of states. Where an expectation fails that no round meets, the rounds
+-- in its window are shown, and the whole trace is needed.
+use Rattle.std.specs.Prelude.{ℕ, ◌+◌, ◌-◌, ◌^◌, ◌==◌, nat_le, min, ◌&&◌, ◌||◌, Bool, true, false, if◌then◌else◌, codes, filter, List, [], ◌∷◌, Option, Some, None, is_some, Result, Ok, Err}
+use Rattle.std.specs.List.{filter_map, list_all, list_any}
+use Rattle.std.specs.Str.{bytes_eq}
+use Rattle.text_core.specs.Lines.{lines_of}
+use Rattle.text_core.specs.Number.{number_of}
+use Rattle.text_core.specs.Words.{words_of}
+use Rattle.expect_text.specs.Names.{meets}
+use Rattle.expect_text.specs.Line.{unlabelled_words, has_verb}
+use Rattle.expect_text.specs.Faults.{line_of_label}
+use Rattle.expect_text.specs.Form.{Form, Window, form_in}
+use Rattle.expect_text.specs.Form.Form.{Other, Rounds, State, Refused}
+use Rattle.expect_text.specs.Form.Window.{Within, From}
+use Rattle.expect_text.specs.declared.fault.LineFault.{LineFault}
+use Rattle.expect_judge.specs.Told.{EventLine, RoundLine, event_in, refusal_in, round_in}
+use Rattle.expect_judge.specs.Named.{is_labelled, is_named}
+use Rattle.expect_judge.specs.Judged.{instant_at}
+use Rattle.expect_judge.specs.declared.judge.Judged.{Judged}
+use Rattle.expect_judge.specs.declared.seen.Span.{Span}
+use Rattle.expect_run.specs.declared.watch.Watch.{Watch as WatchRead}
+
+-- ---- the times of events
+
+-- `at T ..`
+abbrev pub time_in : List (List ℕ) → Option ℕ
+time_in [] = None
+time_in (verb ∷ []) = None
+time_in (verb ∷ time ∷ words) = if bytes_eq verb (codes "at") then number_of time else None
+
+abbrev pub labelled_time : List ℕ → Option ℕ
+labelled_time line = if is_labelled line then time_in (unlabelled_words (words_of line)) else None
+
+-- of the line of this number, where the first of these has the other one
+abbrev pub times_from : ℕ → List (List ℕ) → ℕ → Option ℕ
+times_from first [] number = None
+times_from first (line ∷ lines) number = if first == number then labelled_time line else times_from (first + 1) lines number
+
+-- the time that a line of the script gives its event, where it has a label
+abbrev pub time_at : List ℕ → ℕ → Option ℕ
+time_at script number = times_from 1 (lines_of script) number
+
+-- An event in the middle of a round waits for the round's close: at most the length of a round (RoundsAreShort of line_rounds).
+abbrev pub longest_wait : ℕ
+longest_wait = 458461
+
+-- an event was applied no earlier than at its time, and no later than so long after it
+abbrev pub is_at : ℕ → Option ℕ → Bool
+is_at at None = true
+is_at at (Some time) = nat_le time at && nat_le at (time + longest_wait)
+
+abbrev pub is_timed : List ℕ → Option EventLine → Bool
+is_timed script None = true
+is_timed script (Some e) = is_at e.at (time_at script e.line)
+
+-- the event of a line of the trace was, where its line in the script has a label
+abbrev pub is_line_timed : List ℕ → List ℕ → Bool
+is_line_timed script line = is_timed script (event_in (words_of line))
+
+abbrev pub are_timed : List ℕ → List (List ℕ) → Bool
+are_timed script lines = list_all (is_line_timed script) lines
+
+-- ---- what is looked for
+
+-- from the time of a label on, or later by a wait
+abbrev pub known_from : ℕ → Option ℕ → Option Span
+known_from duration None = None
+known_from duration (Some time) = Some (record { from = time; to = min (time + duration + longest_wait) (2 ^ 64 - 1) })
+
+-- the span that a window lies in, where it is known before the run, by the times of lines: of an expectation's label it is not
+abbrev pub known_span : List ℕ → (ℕ → Option ℕ) → Window → Option Span
+known_span script times (Within duration name) = known_from duration (instant_at times (line_of_label script name))
+known_span script times (From from to) = Some (record { from = from; to = to })
+
+-- what an expectation of rounds looks for, and the span in which it can be met, where that is known
+pub record Watch : Type 0 where
+  pub span : Option Span
+  pub pattern : List ℕ
+
+abbrev pub watch_as : WatchRead → Watch
+watch_as w = record { span = w.span; pattern = w.pattern.now }
+
+abbrev pub watch_by : List ℕ → (ℕ → Option ℕ) → Result Form LineFault → Option Watch
+watch_by script times (Err cause) = None
+watch_by script times (Ok Other) = None
+watch_by script times (Ok (Rounds quantity window pattern)) = Some (record { span = known_span script times window; pattern = pattern })
+watch_by script times (Ok (State time device words)) = None
+watch_by script times (Ok (Refused name word)) = None
+
+abbrev pub watch_of : List ℕ → (ℕ → Option ℕ) → List ℕ → Option Watch
+watch_of script times line = watch_by script times (form_in (unlabelled_words (words_of line)))
+
+-- those of the lines of a script, by the times of another's
+abbrev pub watches_by : List ℕ → List ℕ → List Watch
+watches_by script other = filter_map (watch_of script (time_at other)) (lines_of script)
+
+abbrev pub watches_of : List ℕ → List Watch
+watches_of script = watches_by script script
+
+abbrev pub is_within : Option Span → RoundLine → Bool
+is_within None r = true
+is_within (Some span) r = nat_le span.from r.begin && nat_le r.at span.to
+
+-- a round is in the span, if that is known, and what its line says meets the pattern
+abbrev pub is_met : RoundLine → Watch → Bool
+is_met r w = is_within w.span r && meets w.pattern r.reported
+
+-- ---- what is kept
+
+-- a line of a round is needed where it meets one of these; of other lines those of states
+abbrev pub is_other_kept : List Watch → List (List ℕ) → Option RoundLine → Bool
+is_other_kept watches words None = has_verb (codes "state") words
+is_other_kept watches words (Some r) = list_any (is_met r) watches
+
+-- an event of a line with a label, or one that is refused
+abbrev pub is_event_kept : List ℕ → Option EventLine → Bool
+is_event_kept script None = false
+is_event_kept script (Some e) = is_named script e.line || is_some (refusal_in e.outcome)
+
+-- by a script, a line of the trace is needed
+abbrev pub is_kept : List ℕ → List ℕ → Bool
+is_kept script line = is_event_kept script (event_in (words_of line)) || is_other_kept (watches_of script) (words_of line) (round_in (words_of line))
+
+abbrev pub kept : List ℕ → List (List ℕ) → List (List ℕ)
+kept script lines = filter (is_kept script) lines
+
+-- ---- whether that is enough
+
+abbrev pub has_failed : Option Bool → Bool
+has_failed None = false
+has_failed (Some true) = false
+has_failed (Some false) = true
+
+-- it failed, and no round in its window meets its pattern
+abbrev pub is_unmet : Judged → Bool
+is_unmet j = has_failed j.holds && is_some j.span && (j.count == 0)

@@ -1,0 +1,212 @@
+//! From the texts of a topology and a script with expectations to their report.
+ghost use Rattle.std.specs.Prelude.{◌≡◌, ◌↔◌, not, false, length, filter, map, None, IfOk, IfErr, IfSome, IsTrue, OnOk};
+ghost use Rattle.text_core.specs.Lines.{lines_of};
+ghost use Rattle.expect_text.specs.Line.{plain_script};
+ghost use Rattle.expect_text.specs.Faults.{first_fault};
+ghost use Rattle.expect_judge.specs.Judged.{states_for};
+ghost use Rattle.expect_run.specs.States.{AreStates, IsTraced};
+ghost use Rattle.expect_run.specs.Check.{AreKept, AreVerdictsOf, IsCheckCut, IsCheckReported, IsChecked, IsReportOf, IsVerdictReported, is_write, tally_of};
+ghost use Rattle.expect_run.specs.Report.{report_as};
+
+use crate::held::Held;
+use crate::report::{ReportDraft, report_of_few, whole_report};
+use crate::run::emulate_for;
+use crate::sieve::{Patterns, Sieve};
+use crate::states::all_states;
+use expect_text::{ExpectFault, Labels, fault_among};
+use room_run::emulate::EmulateError;
+use std::alloc::Global;
+use text_core::{Sink, put_all};
+use thiserror::Error;
+
+/// How many tests a report has.
+#[derive(Clone, Copy, Debug, PartialEq, Eq)]
+pub struct Tally {
+    /// All of them, one for each expectation and for each refused event that none expects.
+    pub count: u64,
+    /// Those that failed.
+    pub failed: u64,
+}
+
+/// Why there is no report, or not all of it.
+#[derive(Debug, Drop, Error)]
+pub enum CheckError {
+    /// The run of the script without labels and expectations is refused.
+    #[error(transparent)]
+    Emulate(EmulateError),
+    /// The first line of the script whose label or expectation is at fault.
+    #[error("script {0}")]
+    Expect(ExpectFault),
+    /// A `put` took none. So many bytes of the report were written.
+    #[error("write fault after {0} bytes")]
+    Write(u128),
+    #[error("no memory")]
+    Memory,
+}
+
+// How many tests failed.
+fn failed_in(verdicts: &[bool]) -> u64
+    ensures { result ≡ length (filter not verdicts.now) }
+{
+    let mut rest = verdicts;
+    let mut count = 0u64;
+    'verdicts: while let [holds, others @ ..] = rest {
+        if !*holds {
+            count += 1;
+        }
+        rest = others;
+    }
+    count
+}
+
+/// How many tests have these verdicts, and how many of them failed.
+pub fn tally_of(verdicts: &[bool]) -> Tally
+    ensures { result ≡ tally_of verdicts.now }
+{
+    Tally {
+        count: verdicts.len() as u64,
+        failed: failed_in(verdicts),
+    }
+}
+
+// The report of a script, by the whole trace of its run.
+#[tactic(auto, using(crate::proofs::Checked::reported, crate::proofs::Checked::reports))]
+fn report_by_trace(
+    alloc: Global,
+    topology: &[u8],
+    script: &[u8],
+    states: &[Vec<u8>],
+) -> Result<ReportDraft, CheckError>
+    requires accepted { first_fault topology.now script.now ≡ None }
+    requires states { AreStates topology.now (plain_script script.now) (lines_of script.now) (states_for (lines_of script.now) (map (λ state. state.items) states.now)) }
+    ensures ok { IfOk result (λ draft. IsReportOf topology.now script.now (report_as draft)) }
+    ensures reported { IfErr result (IsVerdictReported topology.now script.now) }
+{
+    let mut trace = Held::new(alloc);
+    match emulate_for(alloc, topology, script, &mut trace) {
+        Ok(_) => {}
+        Err(EmulateError::Write(_)) => return Err(CheckError::Memory),
+        Err(error) => return Err(CheckError::Emulate(error)),
+    }
+    match whole_report(alloc, script, &trace.bytes, states) {
+        Ok(report) => Ok(report),
+        Err(_) => Err(CheckError::Memory),
+    }
+}
+
+// The lines of the trace of a script's run that its report needs, where these are enough as far as the run shows.
+#[tactic(auto, using(crate::proofs::Checked::kept_of_run))]
+fn few_of(alloc: Global, topology: &[u8], script: &[u8]) -> Result<Option<Vec<u8>>, CheckError>
+    ensures traced { OnOk result (IsTraced topology.now (plain_script script.now)) }
+    ensures kept { IfOk result (λ few. IfSome few (λ few. AreKept topology.now script.now few.items)) }
+    ensures reported { IfErr result (IsVerdictReported topology.now script.now) }
+{
+    let Ok(patterns) = Patterns::new(alloc, script) else {
+        return Err(CheckError::Memory);
+    };
+    let mut sieve = Sieve::new(alloc, patterns);
+    match emulate_for(alloc, topology, script, &mut sieve) {
+        Ok(_) => {}
+        Err(EmulateError::Write(_)) => return Err(CheckError::Memory),
+        Err(error) => return Err(CheckError::Emulate(error)),
+    }
+    match sieve.few(script) {
+        Ok(few) => Ok(few),
+        Err(_) => Err(CheckError::Memory),
+    }
+}
+
+// The report of a script whose labels these are, by the lines that it needs of its trace. The run is made again where these are not
+// enough, or where a test failed whose window no round meets: then the first rounds in the window are shown.
+#[tactic(auto, using(crate::proofs::Checked::reported_few))]
+fn report_by_few(
+    alloc: Global,
+    topology: &[u8],
+    labels: &Labels<'_>,
+    few: Option<Vec<u8>>,
+    states: &[Vec<u8>],
+) -> Result<ReportDraft, CheckError>
+    requires kept { IfSome few (λ few. AreKept topology.now labels.now.script.now few.items) }
+    requires accepted { first_fault topology.now labels.now.script.now ≡ None }
+    requires states { AreStates topology.now (plain_script labels.now.script.now) (lines_of labels.now.script.now) (states_for (lines_of labels.now.script.now) (map (λ state. state.items) states.now)) }
+    ensures ok { IfOk result (λ draft. IsReportOf topology.now labels.now.script.now (report_as draft)) }
+    ensures reported { IfErr result (IsVerdictReported topology.now labels.now.script.now) }
+{
+    let Some(few) = few else {
+        return report_by_trace(alloc, topology, labels.script, states);
+    };
+    let Ok(report) = report_of_few(alloc, labels, &few, states) else {
+        return Err(CheckError::Memory);
+    };
+    match report {
+        Some(report) => Ok(report),
+        None => report_by_trace(alloc, topology, labels.script, states),
+    }
+}
+
+// The report of a script.
+#[tactic(auto, using(crate::proofs::Checked::faulty, crate::proofs::Checked::faultless))]
+fn report_of(alloc: Global, topology: &[u8], script: &[u8]) -> Result<ReportDraft, CheckError>
+    ensures ok { IfOk result (λ draft. IsReportOf topology.now script.now (report_as draft)) }
+    ensures reported { IfErr result (IsVerdictReported topology.now script.now) }
+{
+    let few = match few_of(alloc, topology, script) {
+        Ok(few) => few,
+        Err(error) => return Err(error),
+    };
+    let Ok(labels) = Labels::new(alloc, script) else {
+        return Err(CheckError::Memory);
+    };
+    match fault_among(topology, &labels) {
+        Some(fault) => return Err(CheckError::Expect(fault)),
+        None => {}
+    }
+    let Ok(states) = all_states(alloc, topology, script) else {
+        return Err(CheckError::Memory);
+    };
+    report_by_few(alloc, topology, &labels, few, &states)
+}
+
+/// Runs a script without its labels and expectations on a topology, and writes the report of whether the run is as they have
+/// it, as the Test Anything Protocol has it: a line for each expectation, in order, and one for each refused event that none
+/// expects. Of the trace the lines of events that have a label or are refused, and of rounds that meet an expectation, are held in
+/// memory, by a wider window where it hangs from a label; all of it only where a test failed whose window no round meets. Where a
+/// pattern has names, each round of that trace says who holds which address.
+///
+/// # Errors
+///
+/// Those of `emulate` for the plain script, and then the first line of the script whose label or expectation is at fault: then
+/// nothing was written. A failed write: then the front of the report was written, as long as it reports.
+pub fn check<S: Sink>(
+    alloc: Global,
+    topology: &[u8],
+    script: &[u8],
+    out: &mut S,
+) -> Result<Tally, CheckError>
+    ensures ok { IfOk result (IsChecked topology.now script.now (S.contents out.old) (S.contents out.new)) }
+    ensures reported { IfErr result (IsCheckReported topology.now script.now) }
+    ensures write { S.is_stuck out.old ≡ false → (IsTrue (is_write result) ↔ IsTrue (S.is_stuck out.new)) }
+    ensures cut { IfErr result (IsCheckCut topology.now script.now (S.contents out.old) (S.contents out.new)) }
+{
+    let report = match report_of(alloc, topology, script) {
+        Ok(report) => report,
+        Err(error) => return Err(error),
+    };
+    match put_all(out, &report.text.bytes) {
+        Ok(()) => Ok(tally_of(&report.verdicts)),
+        Err(fault) => Err(CheckError::Write(fault.count)),
+    }
+}
+
+/// Whether each test of the report that [`check`] writes of a script holds, in order. What [`check`] keeps of the trace and the
+/// report are held in memory meanwhile.
+///
+/// # Errors
+///
+/// Those of [`check`], except that nothing is written.
+pub fn verdicts(alloc: Global, topology: &[u8], script: &[u8]) -> Result<Vec<bool>, CheckError>
+    ensures ok { IfOk result (λ verdicts. AreVerdictsOf topology.now script.now verdicts.items) }
+    ensures reported { IfErr result (IsVerdictReported topology.now script.now) }
+{
+    Ok(report_of(alloc, topology, script)?.verdicts)
+}

@@ -1,0 +1,474 @@
+//! The report of a script's expectations, by the trace of its run.
+ghost use Rattle.std.specs.Prelude.{◌≡◌, ◌≤◌, true, not, ◌++◌, ◌==◌, codes, if◌then◌else◌, length, ℕ, List, OnOk, IfOk, IfSome, Some, map, take};
+ghost use Rattle.std.specs.List.{flat_map, list_all, list_any};
+ghost use Rattle.std.specs.Option.{option_map};
+ghost use Rattle.text_core.specs.Piece.{piece_text};
+ghost use Rattle.text_core.specs.Lines.{lines_of};
+ghost use Rattle.expect_judge.specs.Judged.{finding_as, states_for};
+ghost use Rattle.expect_judge.specs.Index.{lines_among};
+ghost use Rattle.expect_judge.specs.Told.{event_as};
+ghost use Rattle.expect_run.specs.Kept.{are_timed, is_unmet, kept};
+ghost use Rattle.expect_run.specs.Report.{report_start, report_with_plan, escaped_text, bare_length, escaped_byte, is_holders, remarks, report, report_as, report_by, tests, tests_by, shown_text, shown_line, shown_round, span_remarks, verdict_word, with_event, with_findings, with_line, with_refusals, with_test, with_word};
+
+use crate::held::Held;
+use expect_judge::{
+    EventLine, Expected, Finding, Judged, RoundLine, RoundLines, Span, all_judged, event_in,
+    is_seen, refusal_in,
+};
+use expect_text::{Form, Labels, form_in, unlabelled};
+use std::alloc::{AllocError, Global};
+use text_core::{Piece, first_line, put_all, write_pieces};
+
+/// A report that is being made.
+#[derive(Drop)]
+pub struct ReportDraft {
+    pub text: Held,
+    /// Whether each of its tests holds, in order.
+    pub verdicts: Vec<bool>,
+}
+
+/// How many lines of rounds stand below a test that failed, at most.
+const SHOWN_MOST: usize = 8;
+
+// Appends the parts of a line.
+fn append(out: &mut Held, pieces: &[Piece]) -> Result<(), AllocError>
+    ensures { OnOk result (out.new.bytes.items ≡ out.old.bytes.items ++ flat_map piece_text pieces.now) }
+{
+    match write_pieces(out, pieces) {
+        Ok(_) => Ok(()),
+        Err(_) => Err(AllocError),
+    }
+}
+
+fn append_bytes(out: &mut Held, bytes: &[u8]) -> Result<(), AllocError>
+    ensures { OnOk result (out.new.bytes.items ≡ out.old.bytes.items ++ bytes.now) }
+{
+    match put_all(out, bytes) {
+        Ok(()) => Ok(()),
+        Err(_) => Err(AllocError),
+    }
+}
+
+fn append_byte(out: &mut Held, byte: u8) -> Result<(), AllocError>
+    ensures { OnOk result (out.new.bytes.items ≡ out.old.bytes.items ++ escaped_byte byte) }
+{
+    if byte == b'#' || byte == b'\\' {
+        append_bytes(out, &[b'\\', byte])
+    } else {
+        append_bytes(out, &[byte])
+    }
+}
+
+// Appends a text with a backslash before each `#` and each backslash.
+fn append_escaped(out: &mut Held, text: &[u8]) -> Result<(), AllocError>
+    ensures { OnOk result (out.new.bytes.items ≡ out.old.bytes.items ++ escaped_text text.now) }
+{
+    let mut rest = text;
+    'bytes: while let [byte, others @ ..] = rest {
+        append_byte(out, *byte)?;
+        rest = others;
+    }
+    Ok(())
+}
+
+fn verdict_word(holds: bool) -> &'static str
+    ensures { result.now ≡ verdict_word holds }
+{
+    if holds { "ok " } else { "not ok " }
+}
+
+/// Appends a test: of a line of this number, its text after some words.
+pub fn add_test(
+    draft: &mut ReportDraft,
+    holds: bool,
+    line: u64,
+    front: &str,
+    text: &[u8],
+) -> Result<(), AllocError>
+    ensures { OnOk result (report_as draft.new ≡ with_test (report_as draft.old) holds line front.now text.now) }
+{
+    let number = draft.verdicts.len() as u64 + 1;
+    append(
+        &mut draft.text,
+        &[
+            Piece::Text(verdict_word(holds)),
+            Piece::Decimal(number),
+            Piece::Text(" - line "),
+            Piece::Decimal(line),
+            Piece::Text(": "),
+            Piece::Text(front),
+        ],
+    )?;
+    append_escaped(&mut draft.text, text)?;
+    append_bytes(&mut draft.text, b"\n")?;
+    draft.verdicts.push(holds)?;
+    Ok(())
+}
+
+// Appends a line of a trace.
+fn append_shown_line(out: &mut Held, line: &[u8]) -> Result<(), AllocError>
+    ensures { OnOk result (out.new.bytes.items ≡ out.old.bytes.items ++ shown_line line.now) }
+{
+    append(
+        out,
+        &[Piece::Text("# "), Piece::Bytes(line), Piece::Text("\n")],
+    )
+}
+
+fn is_word(text: &[u8]) -> bool
+    ensures { result ≡ list_all (λ b. not (b == 32)) text.now }
+{
+    match text {
+        [] => true,
+        [byte, others @ ..] => *byte != b' ' && is_word(others),
+    }
+}
+
+// Whether a text is one word that says who holds which address.
+fn is_holders(text: &[u8]) -> bool
+    ensures { result ≡ is_holders text.now }
+{
+    match text {
+        [] => false,
+        [byte, others @ ..] => *byte == b'@' && is_word(others),
+    }
+}
+
+// How long the line of a round is without such a word at its end.
+fn bare_length(line: &[u8]) -> usize
+    ensures value { result ≡ bare_length line.now }
+    ensures within { result ≤ length line.now }
+{
+    match line {
+        [] => 0,
+        [byte, others @ ..] => {
+            if *byte == b' ' && is_holders(others) {
+                0
+            } else {
+                bare_length(others) + 1
+            }
+        }
+    }
+}
+
+// Appends the line of a round as the trace of `run` has it.
+#[tactic(auto, unfolding(crate::specs::Report::shown_round))]
+fn append_shown_round(out: &mut Held, line: &[u8]) -> Result<(), AllocError>
+    ensures { OnOk result (out.new.bytes.items ≡ out.old.bytes.items ++ shown_round line.now) }
+{
+    let (bare, _holders) = line.split_at(bare_length(line));
+    append_shown_line(out, bare)
+}
+
+// Appends the first eight lines of those of these rounds that are seen.
+fn append_first(
+    out: &mut Held,
+    rounds: &[RoundLine<'_>],
+    span: Span,
+    pattern: &[u8],
+) -> Result<(), AllocError>
+    ensures { OnOk result (out.new.bytes.items ≡ out.old.bytes.items ++ flat_map shown_round (take 8 (lines_among rounds.now span pattern.now))) }
+{
+    let mut rest = rounds;
+    let mut left = SHOWN_MOST;
+    'rounds: while let [round, others @ ..] = rest {
+        if left == 0 {
+            return Ok(());
+        }
+        if is_seen(span, pattern, round) {
+            append_shown_round(out, round.line)?;
+            left -= 1;
+        }
+        rest = others;
+    }
+    Ok(())
+}
+
+// Appends the first eight lines of rounds of a trace that are seen.
+fn append_shown(
+    out: &mut Held,
+    rounds: &RoundLines<'_>,
+    span: Span,
+    pattern: &[u8],
+) -> Result<(), AllocError>
+    ensures { OnOk result (out.new.bytes.items ≡ out.old.bytes.items ++ shown_text rounds.now.trace.now span pattern.now) }
+{
+    append_first(out, rounds.within(span), span, pattern)
+}
+
+// What is looked at below a test that failed.
+fn looked_at(count: u64, pattern: &[u8]) -> &[u8]
+    ensures { result.now ≡ (if count == 0 then codes "*" else pattern.now) }
+{
+    if count == 0 { b"*" } else { pattern }
+}
+
+// Appends the window, and rounds in it.
+fn append_span(
+    out: &mut Held,
+    rounds: &RoundLines<'_>,
+    pattern: &[u8],
+    count: u64,
+    span: Option<Span>,
+) -> Result<(), AllocError>
+    ensures { OnOk result (out.new.bytes.items ≡ out.old.bytes.items ++ span_remarks rounds.now.trace.now pattern.now count span) }
+{
+    let Some(span) = span else {
+        return append_bytes(out, b"# no instant\n");
+    };
+    append(
+        out,
+        &[
+            Piece::Text("# seen "),
+            Piece::Decimal(count),
+            Piece::Text(" from "),
+            Piece::Decimal(span.from),
+            Piece::Text(" to "),
+            Piece::Decimal(span.to),
+            Piece::Text("\n"),
+        ],
+    )?;
+    append_shown(out, rounds, span, looked_at(count, pattern))
+}
+
+// Appends what stands below a test that failed.
+fn append_remarks(
+    out: &mut Held,
+    rounds: &RoundLines<'_>,
+    state: &[u8],
+    judged: &Judged,
+    line: &[u8],
+) -> Result<(), AllocError>
+    ensures { OnOk result (out.new.bytes.items ≡ out.old.bytes.items ++ remarks rounds.now.trace.now state.now judged.now line.now) }
+{
+    match form_in(unlabelled(line).rest) {
+        Err(_) => Ok(()),
+        Ok(form) => match form {
+            Form::Other => Ok(()),
+            Form::Refused { .. } => Ok(()),
+            Form::State { .. } => append_shown_line(out, state),
+            Form::Rounds { pattern, .. } => {
+                append_span(out, rounds, pattern, judged.count, judged.span)
+            }
+        },
+    }
+}
+
+// Appends the test of a line, where it is an expectation.
+fn add_line(
+    draft: &mut ReportDraft,
+    rounds: &RoundLines<'_>,
+    state: &[u8],
+    number: u64,
+    line: &[u8],
+    judged: &Judged,
+) -> Result<(), AllocError>
+    ensures { OnOk result (report_as draft.new ≡ with_line rounds.now.trace.now state.now (report_as draft.old) number line.now judged.now) }
+{
+    let Some(holds) = judged.holds else {
+        return Ok(());
+    };
+    add_test(draft, holds, number, "", line)?;
+    if holds {
+        return Ok(());
+    }
+    append_remarks(&mut draft.text, rounds, state, judged, line)
+}
+
+// Appends the tests of the lines of a script, by what is found of those that expect something.
+fn add_lines(
+    draft: &mut ReportDraft,
+    script: &[u8],
+    rounds: &RoundLines<'_>,
+    found: &[Finding<'_>],
+) -> Result<(), AllocError>
+    ensures { OnOk result (report_as draft.new ≡ with_findings rounds.now.trace.now (report_as draft.old) 1 (lines_of script.now) (map finding_as found.now)) }
+{
+    let mut rest = script;
+    let mut left = found;
+    let mut number = 1u64;
+    'lines: while let Some((line, after)) = first_line(rest) {
+        let [finding, others @ ..] = left else {
+            return Ok(());
+        };
+        if finding.line == number {
+            add_line(draft, rounds, finding.state, number, line, &finding.judged)?;
+            left = others;
+        }
+        rest = after;
+        number += 1;
+    }
+    Ok(())
+}
+
+fn add_word(
+    draft: &mut ReportDraft,
+    expected: &Expected<'_>,
+    line: u64,
+    word: &[u8],
+) -> Result<(), AllocError>
+    ensures { OnOk result (report_as draft.new ≡ with_word expected.now.script.now (report_as draft.old) line (Some word.now)) }
+{
+    if expected.has(line) {
+        return Ok(());
+    }
+    add_test(draft, false, line, "refused ", word)
+}
+
+// Appends the test of an event, where it was refused and no line expects it.
+fn add_event(
+    draft: &mut ReportDraft,
+    expected: &Expected<'_>,
+    event: Option<EventLine>,
+) -> Result<(), AllocError>
+    ensures { OnOk result (report_as draft.new ≡ with_event expected.now.script.now (report_as draft.old) (option_map event_as event.entry)) }
+{
+    let Some(event) = event else {
+        return Ok(());
+    };
+    let Some(word) = refusal_in(event.outcome) else {
+        return Ok(());
+    };
+    add_word(draft, expected, event.line, word)
+}
+
+// Appends the tests of refused events.
+fn add_refusals(
+    draft: &mut ReportDraft,
+    expected: &Expected<'_>,
+    trace: &[u8],
+) -> Result<(), AllocError>
+    ensures { OnOk result (report_as draft.new ≡ with_refusals expected.now.script.now (report_as draft.old) (lines_of trace.now)) }
+{
+    let mut rest = trace;
+    'lines: while let Some((line, after)) = first_line(rest) {
+        add_event(draft, expected, event_in(line))?;
+        rest = after;
+    }
+    Ok(())
+}
+
+/// Appends the count of tests, which ends a report.
+pub fn add_plan(draft: &mut ReportDraft) -> Result<(), AllocError>
+    ensures { OnOk result (report_as draft.new ≡ report_with_plan (report_as draft.old)) }
+{
+    let count = draft.verdicts.len() as u64;
+    append(
+        &mut draft.text,
+        &[Piece::Text("1.."), Piece::Decimal(count), Piece::Text("\n")],
+    )
+}
+
+fn report_start(alloc: Global) -> Result<ReportDraft, AllocError>
+    ensures { IfOk result (λ draft. report_as draft ≡ report_start) }
+{
+    let mut text = Held::new(alloc);
+    append_bytes(&mut text, b"TAP version 13\n")?;
+    Ok(ReportDraft {
+        text,
+        verdicts: Vec::new(alloc),
+    })
+}
+
+// Whether a test failed whose window no round meets.
+fn is_unmet(judged: &Judged) -> bool
+    ensures { result ≡ is_unmet judged.now }
+{
+    match judged.holds {
+        None => false,
+        Some(holds) => !holds && judged.span.is_some() && judged.count == 0,
+    }
+}
+
+fn is_any_unmet(found: &[Finding<'_>]) -> bool
+    ensures { result ≡ list_any (λ finding. is_unmet finding.judged) (map finding_as found.now) }
+{
+    let mut rest = found;
+    'lines: while let [finding, others @ ..] = rest {
+        if is_unmet(&finding.judged) {
+            return true;
+        }
+        rest = others;
+    }
+    false
+}
+
+// The tests by what is found of the lines that expect something.
+fn tests_found(
+    alloc: Global,
+    labels: &Labels<'_>,
+    trace: &[u8],
+    found: &[Finding<'_>],
+) -> Result<ReportDraft, AllocError>
+    ensures { IfOk result (λ draft. report_as draft ≡ tests_by labels.now.script.now trace.now (map finding_as found.now)) }
+{
+    let expected = Expected::new(alloc, labels)?;
+    let rounds = RoundLines::new(alloc, trace)?;
+    let mut draft = report_start(alloc)?;
+    add_lines(&mut draft, labels.script, &rounds, found)?;
+    add_refusals(&mut draft, &expected, trace)?;
+    Ok(draft)
+}
+
+// The report by what is found of the lines that expect something.
+fn report_found(
+    alloc: Global,
+    labels: &Labels<'_>,
+    trace: &[u8],
+    found: &[Finding<'_>],
+) -> Result<ReportDraft, AllocError>
+    ensures { IfOk result (λ draft. report_as draft ≡ report_by labels.now.script.now trace.now (map finding_as found.now)) }
+{
+    let mut draft = tests_found(alloc, labels, trace, found)?;
+    add_plan(&mut draft)?;
+    Ok(draft)
+}
+
+/// The report of a script without its last line, the count of tests, by the trace of its run and the state lines of the lines that
+/// speak of one, in order.
+pub fn open_report(
+    alloc: Global,
+    script: &[u8],
+    trace: &[u8],
+    states: &[Vec<u8>],
+) -> Result<ReportDraft, AllocError>
+    ensures { IfOk result (λ draft. report_as draft ≡ tests script.now trace.now (states_for (lines_of script.now) (map (λ state. state.items) states.now))) }
+{
+    let labels = Labels::new(alloc, script)?;
+    let found = all_judged(alloc, &labels, trace, states)?;
+    let draft = tests_found(alloc, &labels, trace, &found)?;
+    Ok(draft)
+}
+
+/// The report of a script, by the trace of its run and the state lines of the lines that speak of one, in order.
+pub fn whole_report(
+    alloc: Global,
+    script: &[u8],
+    trace: &[u8],
+    states: &[Vec<u8>],
+) -> Result<ReportDraft, AllocError>
+    ensures { IfOk result (λ draft. report_as draft ≡ report script.now trace.now (states_for (lines_of script.now) (map (λ state. state.items) states.now))) }
+{
+    let labels = Labels::new(alloc, script)?;
+    let found = all_judged(alloc, &labels, trace, states)?;
+    let draft = report_found(alloc, &labels, trace, &found)?;
+    Ok(draft)
+}
+
+/// The report of a script, by the lines that it needs of its trace. Where a test failed whose window no round meets, these are
+/// not enough.
+pub(crate) fn report_of_few(
+    alloc: Global,
+    labels: &Labels<'_>,
+    few: &[u8],
+    states: &[Vec<u8>],
+) -> Result<Option<ReportDraft>, AllocError>
+    ensures { IfOk result (λ made. IfSome made (λ draft. (trace : List ℕ) → lines_of few.now ≡ kept labels.now.script.now (lines_of trace) → are_timed labels.now.script.now (lines_of trace) ≡ true
+        → report_as draft ≡ report labels.now.script.now trace (states_for (lines_of labels.now.script.now) (map (λ state. state.items) states.now)))) }
+{
+    let found = all_judged(alloc, labels, few, states)?;
+    if is_any_unmet(&found) {
+        return Ok(None);
+    }
+    Ok(Some(report_found(alloc, labels, few, &found)?))
+}

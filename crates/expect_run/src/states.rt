@@ -1,0 +1,133 @@
+//! The state lines that the lines of a script speak of.
+ghost use Rattle.std.specs.Prelude.{◌≡◌, ◌≤◌, map, option_map, IfOk};
+ghost use Rattle.std.specs.List.{list_any};
+ghost use Rattle.line_wave.specs.Bounds.{latest_event};
+ghost use Rattle.text_core.specs.Lines.{lines_of};
+ghost use Rattle.expect_text.specs.Line.{plain_script};
+ghost use Rattle.expect_judge.specs.Judged.{is_of_state, states_for};
+ghost use Rattle.expect_run.specs.States.{AreStates, IsStateAt, IsStateRead, IsTraced};
+
+use crate::sieve::{Patterns, Sieve};
+use expect_judge::{is_of_state, state_line};
+use expect_text::{Form, cut_script, form_in, plain_script, unlabelled};
+use room_run::emulate::{EmulateError, emulate};
+use room_script::one_script;
+use std::alloc::{AllocError, Global};
+use text_core::first_line;
+
+// The state line of a device at the end of a run of the plain script up to a time.
+fn state_at(
+    alloc: Global,
+    topology: &[u8],
+    plain: &[u8],
+    time: u64,
+    device: &[u8],
+) -> Result<Vec<u8>, AllocError>
+    requires traced { IsTraced topology.now plain.now }
+    requires early { time ≤ latest_event }
+    ensures { IfOk result (λ state. IsStateAt topology.now plain.now time device.now state.items) }
+{
+    // No effect at run time. The proof reads from it that the earlier script is read in one way.
+    one_script();
+    let cut = cut_script(alloc, time, plain)?;
+    let mut sieve = Sieve::new(alloc, Patterns::new(alloc, &[])?);
+    match emulate(alloc, topology, &cut, &mut sieve) {
+        Ok(_) => {}
+        Err(error) => match error {
+            EmulateError::Topology { .. } => unreachable!(),
+            EmulateError::Script { .. } => unreachable!(),
+            EmulateError::Edid(_) => unreachable!(),
+            EmulateError::Write(_) => return Err(AllocError),
+            EmulateError::Memory => return Err(AllocError),
+        },
+    }
+    // Without a label no event is late.
+    let Some(few) = sieve.few(&[])? else {
+        return Err(AllocError);
+    };
+    let mut state = Vec::new(alloc);
+    state.extend_from_slice(state_line(&few, device))?;
+    Ok(state)
+}
+
+// The state line that a line of the script speaks of, where it speaks of one.
+fn state_for(
+    alloc: Global,
+    topology: &[u8],
+    plain: &[u8],
+    line: &[u8],
+) -> Result<Option<Vec<u8>>, AllocError>
+    requires traced { IsTraced topology.now plain.now }
+    ensures { IfOk result (λ state. IsStateRead topology.now plain.now line.now (option_map (λ text. text.items) state)) }
+{
+    match form_in(unlabelled(line).rest) {
+        Err(_) => Ok(None),
+        Ok(form) => match form {
+            Form::State { time, device, .. } => {
+                Ok(Some(state_at(alloc, topology, plain, time, device)?))
+            }
+            Form::Other => Ok(None),
+            Form::Rounds { .. } => Ok(None),
+            Form::Refused { .. } => Ok(None),
+        },
+    }
+}
+
+// Whether a line of a script speaks of a state.
+fn has_state(script: &[u8]) -> bool
+    ensures { result ≡ list_any is_of_state (lines_of script.now) }
+{
+    let mut rest = script;
+    'lines: while let Some((line, after)) = first_line(rest) {
+        if is_of_state(line) {
+            return true;
+        }
+        rest = after;
+    }
+    false
+}
+
+// The state lines of the lines of a script that speak of one, in order, by a run for each.
+#[tactic(auto, using(crate::proofs::Stated::none_more, crate::proofs::Stated::one_more, crate::proofs::Stated::no_more))]
+fn states_of(
+    alloc: Global,
+    topology: &[u8],
+    plain: &[u8],
+    script: &[u8],
+) -> Result<Vec<Vec<u8>>, AllocError>
+    requires traced { IsTraced topology.now plain.now }
+    ensures { IfOk result (λ states. AreStates topology.now plain.now (lines_of script.now) (states_for (lines_of script.now) (map (λ state. state.items) states.items))) }
+{
+    let mut states = Vec::new(alloc);
+    let mut rest = script;
+    'lines: while let Some((line, after)) = first_line(rest) {
+        match state_for(alloc, topology, plain, line)? {
+            None => {}
+            Some(state) => states.push(state)?,
+        }
+        rest = after;
+    }
+    Ok(states)
+}
+
+/// The state lines of the lines of a script that speak of one, in order, by a run of its plain script for each. Only where one does
+/// is the plain script made.
+///
+/// # Errors
+///
+/// Want of memory.
+#[tactic(auto, using(crate::proofs::Stated::stateless))]
+pub(crate) fn all_states(
+    alloc: Global,
+    topology: &[u8],
+    script: &[u8],
+) -> Result<Vec<Vec<u8>>, AllocError>
+    requires traced { IsTraced topology.now (plain_script script.now) }
+    ensures { IfOk result (λ states. AreStates topology.now (plain_script script.now) (lines_of script.now) (states_for (lines_of script.now) (map (λ state. state.items) states.items))) }
+{
+    if !has_state(script) {
+        return Ok(Vec::new(alloc));
+    }
+    let plain = plain_script(alloc, script)?;
+    states_of(alloc, topology, &plain, script)
+}

@@ -1,0 +1,302 @@
+//! The words that a device's state line can have.
+ghost use Rattle.std.specs.Prelude.{◌≡◌, ◌+◌, ◌<◌, ◌≤◌, ◌^◌, IfSome};
+ghost use Rattle.std.specs.List.{list_any};
+ghost use Rattle.text_core.specs.Words.{words_of};
+ghost use Rattle.expect_text.specs.StateWords.{key, value_of};
+ghost use Rattle.expect_text.specs.StateTest.{by_front, fields, is_bare, is_dash, is_of_field, is_pair, is_second, is_state_word, is_text, is_text_or_dash, is_value, strange_from, strange_word};
+
+use crate::part::{Class, Part, has};
+use text_core::{Kind, first_word};
+
+/// A field of a state line: a key with its value.
+#[derive(Clone, Copy, Debug, PartialEq, Eq)]
+pub(crate) enum Field {
+    Active,
+    Path,
+    Deck,
+    Menu,
+    Audio,
+    Volume,
+    Mute,
+    Arc,
+    Selected,
+    Language,
+    Osd,
+    Held,
+    Heard,
+    Sub,
+    Queue,
+    Dropped,
+}
+
+/// What a field can say, beside `-` where it says nothing.
+#[derive(Clone, Copy, Debug, PartialEq, Eq)]
+pub(crate) enum Value {
+    /// `on` or `off`.
+    Switch,
+    /// A physical address.
+    Physical,
+    /// Two hex digits.
+    Byte,
+    /// A decimal number.
+    Number,
+    /// Pairs of hex digits.
+    Hex,
+    /// An initiator, an opcode and its first operand.
+    Note,
+    /// A hex digit.
+    Nibble,
+    /// A decimal number, never `-`.
+    Count,
+}
+
+const PHYSICAL: &[Part] = &[
+    Part::One(Class::Hex),
+    Part::Byte(b'.'),
+    Part::One(Class::Hex),
+    Part::Byte(b'.'),
+    Part::One(Class::Hex),
+    Part::Byte(b'.'),
+    Part::One(Class::Hex),
+];
+
+const NOTE: &[Part] = &[
+    Part::One(Class::Hex),
+    Part::Byte(b':'),
+    Part::One(Class::Hex),
+    Part::One(Class::Hex),
+    Part::Byte(b':'),
+    Part::One(Class::Hex),
+    Part::One(Class::Hex),
+];
+
+const NUMBER: &[Part] = &[Part::One(Class::Digit), Part::Many(Class::Digit)];
+
+const NIBBLE: &[Part] = &[Part::One(Class::Hex)];
+
+const BYTE: &[Part] = &[Part::One(Class::Hex), Part::One(Class::Hex)];
+
+const HEX: &[Part] = &[
+    Part::One(Class::Hex),
+    Part::One(Class::Hex),
+    Part::Many(Class::Hex),
+];
+
+impl Field {
+    const ALL: &'static [Field] = &[
+        Field::Active,
+        Field::Path,
+        Field::Deck,
+        Field::Menu,
+        Field::Audio,
+        Field::Volume,
+        Field::Mute,
+        Field::Arc,
+        Field::Selected,
+        Field::Language,
+        Field::Osd,
+        Field::Held,
+        Field::Heard,
+        Field::Sub,
+        Field::Queue,
+        Field::Dropped,
+    ];
+
+    fn key(self) -> &'static [u8]
+        ensures { result.now ≡ key self }
+    {
+        match self {
+            Field::Active => b"active=",
+            Field::Path => b"path=",
+            Field::Deck => b"deck=",
+            Field::Menu => b"menu=",
+            Field::Audio => b"audio=",
+            Field::Volume => b"volume=",
+            Field::Mute => b"mute=",
+            Field::Arc => b"arc=",
+            Field::Selected => b"sel=",
+            Field::Language => b"lang=",
+            Field::Osd => b"osd=",
+            Field::Held => b"held=",
+            Field::Heard => b"heard=",
+            Field::Sub => b"sub=",
+            Field::Queue => b"queue=",
+            Field::Dropped => b"dropped=",
+        }
+    }
+
+    fn value(self) -> Value
+        ensures { result ≡ value_of self }
+    {
+        match self {
+            Field::Active | Field::Path => Value::Physical,
+            Field::Deck | Field::Held => Value::Byte,
+            Field::Menu | Field::Audio | Field::Mute | Field::Arc => Value::Switch,
+            Field::Volume | Field::Selected => Value::Number,
+            Field::Language | Field::Osd => Value::Hex,
+            Field::Heard => Value::Note,
+            Field::Sub => Value::Nibble,
+            Field::Queue | Field::Dropped => Value::Count,
+        }
+    }
+}
+
+// Whether a text is one of these parts, none of which is a word of a set or an opcode.
+fn is_text(parts: &[Part], text: &[u8]) -> bool
+    ensures { result ≡ is_text parts.now text.now }
+{
+    match parts {
+        [] => text.is_empty(),
+        [Part::Byte(due), others @ ..] => match text {
+            [] => false,
+            [byte, rest @ ..] => *byte == *due && is_text(others, rest),
+        },
+        [Part::One(class), others @ ..] => match text {
+            [] => false,
+            [byte, rest @ ..] => has(*class, *byte) && is_text(others, rest),
+        },
+        [Part::Many(class), others @ ..] => match text {
+            [] => is_text(others, text),
+            [byte, rest @ ..] => {
+                is_text(others, text) || (has(*class, *byte) && is_text(parts, rest))
+            }
+        },
+        [Part::Word(_), ..] | [Part::Opcode(_), ..] => false,
+    }
+}
+
+fn is_dash(text: &[u8]) -> bool
+    ensures { result ≡ is_dash text.now }
+{
+    text == b"-".as_slice()
+}
+
+fn is_text_or_dash(parts: &[Part], text: &[u8]) -> bool
+    ensures { result ≡ is_text_or_dash parts.now text.now }
+{
+    is_text(parts, text) || is_dash(text)
+}
+
+fn is_value(value: Value, text: &[u8]) -> bool
+    ensures { result ≡ is_value value text.now }
+{
+    match value {
+        Value::Switch => text == b"on".as_slice() || text == b"off".as_slice() || is_dash(text),
+        Value::Physical => is_text_or_dash(PHYSICAL, text),
+        Value::Byte => is_text_or_dash(BYTE, text),
+        Value::Number => is_text_or_dash(NUMBER, text),
+        Value::Hex => is_text_or_dash(HEX, text),
+        Value::Note => is_text_or_dash(NOTE, text),
+        Value::Nibble => is_text_or_dash(NIBBLE, text),
+        Value::Count => is_text(NUMBER, text),
+    }
+}
+
+// Whether a word is this text with such a value after it.
+fn is_value_after(front: &[u8], value: Value, word: &[u8]) -> bool
+    ensures { result ≡ by_front front.now (is_value value) word.now }
+{
+    match front {
+        [] => is_value(value, word),
+        [due, others @ ..] => match word {
+            [] => false,
+            [byte, rest @ ..] => *byte == *due && is_value_after(others, value, rest),
+        },
+    }
+}
+
+fn is_of_field(word: &[u8], field: Field) -> bool
+    ensures { result ≡ is_of_field word.now field }
+{
+    is_value_after(field.key(), field.value(), word)
+}
+
+// Whether a word is one of these fields with its value.
+fn is_of_any(word: &[u8], fields: &[Field]) -> bool
+    ensures { result ≡ list_any (is_of_field word.now) fields.now }
+{
+    match fields {
+        [] => false,
+        [field, others @ ..] => is_of_field(word, *field) || is_of_any(word, others),
+    }
+}
+
+// Whether a word is some field with its value.
+fn is_field(word: &[u8]) -> bool
+    ensures { result ≡ list_any (is_of_field word.now) fields }
+{
+    is_of_any(word, Field::ALL)
+}
+
+fn is_second(text: &[u8]) -> bool
+    ensures { result ≡ is_second text.now }
+{
+    match text {
+        [] => false,
+        [byte, rest @ ..] => *byte == b'+' && is_text_or_dash(NIBBLE, rest),
+    }
+}
+
+fn is_pair(word: &[u8]) -> bool
+    ensures { result ≡ is_pair word.now }
+{
+    match word {
+        [] => false,
+        [byte, rest @ ..] => {
+            (has(Class::Hex, *byte) && is_second(rest)) || (*byte == b'-' && is_second(rest))
+        }
+    }
+}
+
+fn is_bare(word: &[u8]) -> bool
+    ensures { result ≡ is_bare word.now }
+{
+    word == b"on".as_slice()
+        || word == b"standby".as_slice()
+        || Kind::named(word).is_some()
+        || is_text_or_dash(NIBBLE, word)
+        || is_pair(word)
+        || is_text(PHYSICAL, word)
+}
+
+/// Whether some state line can have a word after the device's name.
+#[tactic(auto, unfolding(crate::specs::StateTest::is_state_word))]
+pub fn is_state_word(word: &[u8]) -> bool
+    ensures { result ≡ is_state_word word.now }
+{
+    is_bare(word) || is_field(word)
+}
+
+#[tactic(auto, using(crate::proofs::Parted::few_words))]
+fn strange_from(first: usize, text: &[u8]) -> Option<usize>
+    requires few { first ≤ 5 }
+    ensures value { result ≡ strange_from first (words_of text.now) }
+    ensures near { IfSome result (λ number. number + 2 < 2 ^ 64) }
+{
+    let mut rest = Some(text);
+    let mut number = first;
+    'words: while let Some(words) = rest {
+        let (word, others) = first_word(words);
+        if !is_state_word(word) {
+            return Some(number);
+        }
+        rest = others;
+        number += 1;
+    }
+    None
+}
+
+/// The first of the words that an expectation of a state has, of which the first has the number 4, that no state line has.
+pub(crate) fn strange_word(words: &[u8]) -> Option<usize>
+    ensures value { result ≡ strange_word (words_of words.now) }
+    ensures near { IfSome result (λ number. number + 2 < 2 ^ 64) }
+{
+    let (word, others) = first_word(words);
+    if word != b"not".as_slice() {
+        return strange_from(4, words);
+    }
+    match others {
+        None => None,
+        Some(others) => strange_from(5, others),
+    }
+}

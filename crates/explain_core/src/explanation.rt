@@ -1,0 +1,255 @@
+//! What follows the line of a fault.
+use crate::edids::{add_lack, add_length};
+use crate::hints::{is_shown, of_edid, of_edid_text, of_line, of_text};
+use crate::right::right;
+use edid_core::EdidError;
+use edid_dump::looks_like_dump;
+use edid_text_lines::WORD_TEXTS;
+use explain_forms::{add_meant, add_right_forms, add_slip};
+use explain_lists::Draft;
+use explain_marks::{
+    Fault, Gaps, Input, Mark, Place, Slip, gaps_of, is_line_end, label_words, marked,
+    place_in_session, place_of, plain, slip_of, span_of, word_at,
+};
+use rules_explain::lacks_line_feed;
+use std::alloc::{AllocError, Global};
+
+/// A line is shown up to so many columns.
+const COLUMNS: usize = 160;
+
+// A line as it is shown: `.` for what is not printable, and cut after so many columns.
+fn shown(alloc: Global, line: &[u8]) -> Result<String, AllocError> {
+    let mut draft = Draft::new(alloc);
+    for byte in line.iter().take(COLUMNS) {
+        draft.add_character(if is_shown(*byte) {
+            char::from(*byte)
+        } else {
+            '.'
+        });
+    }
+    draft.finish()
+}
+
+// The columns of a line that are shown.
+fn shown_part(line: &[u8]) -> &[u8] {
+    line.get(..COLUMNS).unwrap_or(line)
+}
+
+// Blanks, and `^` below the marked words.
+fn add_mark(draft: &mut Draft, before: usize, line: &[u8], gaps: Gaps, mark: Mark) {
+    if let Some(span) = span_of(shown_part(line), gaps, mark.first, mark.last) {
+        draft.add_times(before.saturating_add(span.begin), ' ');
+        draft.add_times(span.end.saturating_sub(span.begin), '^');
+        draft.add("\n");
+    }
+}
+
+fn add_hints(draft: &mut Draft, hints: &[Option<&'static str>]) {
+    for hint in hints {
+        if let Some(hint) = hint {
+            draft.add_line(hint);
+        }
+    }
+}
+
+// What stands before a line. Returns its length. A line that the fault counts in its part of the input is counted anew.
+fn add_head(draft: &mut Draft, place: Place<'_>) -> usize {
+    let begin = draft.len();
+    let number = place.number;
+    if place.before > 0 {
+        write!(draft, "  line {number} of the input: ");
+    } else {
+        write!(draft, "  line {number}: ");
+    }
+    draft.len().saturating_sub(begin)
+}
+
+// The number and the text of a line, and the mark below its words.
+fn add_shown(draft: &mut Draft, place: Place<'_>, line: &str, gaps: Gaps, mark: Option<Mark>) {
+    let before = add_head(draft, place);
+    let end = if place.line.len() > COLUMNS {
+        " ..\n"
+    } else {
+        "\n"
+    };
+    draft.add_all(&[line, end]);
+    if let Some(mark) = mark {
+        add_mark(draft, before, place.line, gaps, mark);
+    }
+}
+
+// What there is to say of the word at fault: that it may have been meant for another one, or that no remark begins there.
+fn add_word(
+    draft: &mut Draft,
+    what: Input,
+    place: Place<'_>,
+    fault: Fault,
+    line: &str,
+    mark: Mark,
+) {
+    let labels = match fault {
+        Fault::Script { .. } => label_words(what, line),
+        _ => 0,
+    };
+    let own = if labels > 0 { plain(what, line) } else { line };
+    let number = mark.first.saturating_sub(labels);
+    add_meant(draft, what, place, fault, own, number);
+    if gaps_of(fault) != Gaps::Spaces {
+        return;
+    }
+    if let Some(word) = word_at(line, mark.first) {
+        if mark.first > 0 && word.starts_with("#") {
+            draft.add_line("`#` begins a remark at the start of a line alone");
+        }
+    }
+}
+
+// A line as it is shown, with its mark, what is odd about it, and what it would have to look like. Returns whether what would be
+// right in place of any such fault is of no use then.
+fn add_marked(draft: &mut Draft, what: Input, place: Place<'_>, fault: Fault, line: &str) -> bool {
+    let mark = marked(what, fault, line);
+    add_shown(draft, place, line, gaps_of(fault), mark);
+    add_hints(draft, of_line(place.line, line).as_slice());
+    let slip = slip_of(fault, line);
+    if let Some(found) = slip {
+        add_slip(draft, found.slip);
+    }
+    let is_said = add_right_forms(draft, what, place, fault, line);
+    match (mark, slip) {
+        (Some(_), Some(found)) if found.slip == Slip::NoName => {}
+        (Some(mark), _) => add_word(draft, what, place, fault, line, mark),
+        (None, _) => {}
+    }
+    is_said
+}
+
+// Whether all that is wrong with a line of an EDID's text is that no line feed ends it.
+fn is_unended(place: Place<'_>, fault: Fault, line: &str) -> bool {
+    let is_last = place.number >= place.input.split(is_line_end).count();
+    let is_known = WORD_TEXTS.contains(&word_at(line, 0).unwrap_or(""));
+    matches!(fault, Fault::TextSyntax { .. }) && is_last && is_known && lacks_line_feed(place.input)
+}
+
+// What there is to say of a line that is shown so. Returns whether what would be right in place of any such fault is of no use.
+fn add_line(draft: &mut Draft, what: Input, place: Place<'_>, fault: Fault, line: &str) -> bool {
+    if is_unended(place, fault, line) {
+        add_shown(draft, place, line, Gaps::Spaces, None);
+        return true;
+    }
+    let is_said = add_marked(draft, what, place, fault, line);
+    match fault {
+        Fault::NoScriptLine if !line.trim_ascii_start().starts_with("s") => {
+            draft.add_line("above this line the line `script` is missing");
+        }
+        _ => {}
+    }
+    is_said
+}
+
+// The line of a fault. Returns whether what would be right in place of any such fault is of no use.
+fn add_place(draft: &mut Draft, what: Input, place: Place<'_>, fault: Fault) -> bool {
+    match shown(draft.alloc(), place.line) {
+        Ok(line) => add_line(draft, what, place, fault, line.as_str()),
+        Err(AllocError) => {
+            draft.fail();
+            false
+        }
+    }
+}
+
+// What is odd about an input that is to be the bytes of an EDID.
+fn add_edid_hints(draft: &mut Draft, fault: Fault, input: &[u8]) {
+    add_hints(draft, of_edid(input).as_slice());
+    if matches!(fault, Fault::Edid(EdidError::Length)) && !looks_like_dump(input) {
+        add_length(draft, input.len());
+    }
+}
+
+// Whether a fault is none of the input, or of too little of it to look at the whole.
+fn is_of_program(fault: Fault) -> bool {
+    matches!(
+        fault,
+        Fault::NoStepsLine
+            | Fault::NoRange
+            | Fault::InputTooLong
+            | Fault::LineTooLong
+            | Fault::Read
+            | Fault::Write
+            | Fault::Memory
+            | Fault::NotUtf8
+            | Fault::Dump(_)
+    )
+}
+
+// What is odd about the input.
+fn add_input_hints(draft: &mut Draft, what: Input, fault: Fault, input: &[u8]) {
+    match what {
+        _ if is_of_program(fault) => {}
+        Input::Session => {}
+        Input::EdidBytes => add_edid_hints(draft, fault, input),
+        Input::EdidText => {
+            add_hints(draft, of_text(input).as_slice());
+            add_hints(draft, of_edid_text(input).as_slice());
+        }
+        _ => add_hints(draft, of_text(input).as_slice()),
+    }
+}
+
+/// The indented lines that follow the line of a fault: the line of the input with its number, the word marked, what would be
+/// right, and what often goes wrong so.
+///
+/// # Errors
+///
+/// Where memory runs out.
+pub fn explain(
+    alloc: Global,
+    what: Input,
+    fault: Fault,
+    input: &[u8],
+) -> Result<String, AllocError> {
+    let mut draft = Draft::new(alloc);
+    let place = place_of(input, what, fault);
+    let is_said = match place {
+        Some(place) => add_place(&mut draft, what, place, fault),
+        None => false,
+    };
+    if !is_said {
+        draft.add_line(right(fault));
+    }
+    if let (Fault::NoHdmiBlock, Some(place)) = (fault, place) {
+        add_lack(&mut draft, place);
+    }
+    add_input_hints(&mut draft, what, fault, input);
+    draft.finish()
+}
+
+/// The indented lines that follow a refused line of a session, the one of this number after the line `script`, with the topology above
+/// it: the line, the word marked, and what would be right.
+///
+/// # Errors
+///
+/// Where memory runs out.
+pub fn explain_line(
+    alloc: Global,
+    fault: Fault,
+    topology: &[u8],
+    number: u64,
+    line: &[u8],
+) -> Result<String, AllocError> {
+    let mut draft = Draft::new(alloc);
+    let place = place_in_session(topology, number, line);
+    if !add_place(&mut draft, Input::Session, place, fault) {
+        draft.add_line(right(fault));
+    }
+    draft.finish()
+}
+
+/// The line that follows a run: its rounds, those of them that were complete, and the events that were refused.
+pub fn counts(
+    alloc: Global,
+    rounds: u64,
+    complete: u64,
+    refused: u64,
+) -> Result<String, AllocError> {
+    format!(in alloc; "  rounds {rounds}, complete rounds {complete}, refused events {refused}\n")
+}

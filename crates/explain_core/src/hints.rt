@@ -1,0 +1,88 @@
+//! What often goes wrong with an input, whatever the fault says.
+use edid_dump::looks_like_dump;
+use rules_explain::lacks_line_feed;
+
+/// The bytes that some editors put before a text in UTF-8.
+const BYTE_ORDER_MARK: [u8; 3] = [0xef, 0xbb, 0xbf];
+
+/// The first bytes of each EDID.
+const EDID_HEADER: [u8; 3] = [0x00, 0xff, 0xff];
+
+/// What is said of a hex dump.
+const HEX_DUMP: &str = "this looks like a hex dump; `edid --hex` reads it";
+
+/// Whether a byte is shown as it is.
+pub fn is_shown(byte: u8) -> bool {
+    byte == b' ' || byte.is_ascii_graphic()
+}
+
+// Whether a byte is a tab or the CR of a line's end, of which there are hints of their own.
+fn is_blank(byte: u8) -> bool {
+    byte == b'\t' || byte == b'\r'
+}
+
+// Whether a byte is no part of a text.
+fn is_odd(byte: &u8) -> bool {
+    !is_shown(*byte) && !is_blank(*byte)
+}
+
+fn is_no_text(line: &[u8]) -> bool {
+    line.iter().any(is_odd)
+}
+
+/// What is odd about a line: its bytes, and the text that is shown of it.
+pub fn of_line(line: &[u8], shown: &str) -> [Option<&'static str>; 6] {
+    [
+        line.ends_with(b"\r")
+            .then_some("lines end with LF; this one has a CR before it"),
+        line.contains(&b'\t')
+            .then_some("this line has a tab; words stand one space apart"),
+        line.ends_with(b" ")
+            .then_some("this line ends with a space"),
+        line.starts_with(b" ")
+            .then_some("this line begins with a space"),
+        shown
+            .contains("  ")
+            .then_some("two spaces stand side by side here"),
+        is_no_text(line).then_some(
+            "this line has bytes that are no printable text; `.` stands for each",
+        ),
+    ]
+}
+
+/// What is odd about the start of a whole input of lines.
+pub fn of_text(input: &[u8]) -> [Option<&'static str>; 4] {
+    [
+        input.is_empty().then_some("the input is empty"),
+        input.starts_with(BYTE_ORDER_MARK.as_slice()).then_some(
+            "the input begins with a byte order mark, ef bb bf, which is no part of the text",
+        ),
+        (input.starts_with(b"\xff\xfe") || input.starts_with(b"\xfe\xff")).then_some(
+            "this looks like UTF-16; the text has one byte a character",
+        ),
+        input.starts_with(EDID_HEADER.as_slice()).then_some(
+            "this looks like the bytes of an EDID, which `edid` reads without `--text`",
+        ),
+    ]
+}
+
+/// What is odd about an input that is to be the bytes of an EDID.
+pub fn of_edid(input: &[u8]) -> [Option<&'static str>; 3] {
+    [
+        input.is_empty().then_some("the input is empty"),
+        looks_like_dump(input).then_some(HEX_DUMP),
+        input.starts_with(b"edid 1.").then_some(
+            "this looks like the text of an EDID, which `edid --text` reads",
+        ),
+    ]
+}
+
+/// What is odd about an input that is to be the text of an EDID, beside what is odd about any text.
+pub fn of_edid_text(input: &[u8]) -> [Option<&'static str>; 2] {
+    [
+        looks_like_dump(input).then_some(HEX_DUMP),
+        lacks_line_feed(input).then_some(
+            "the last line has no line feed; each line of an EDID's text ends with one",
+        ),
+    ]
+}

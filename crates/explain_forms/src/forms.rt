@@ -1,0 +1,288 @@
+//! What a line at fault would have to look like.
+use crate::fields::fields_of;
+use crate::frames::add_frame;
+use crate::keys::{add_key, is_of_key};
+use crate::order::add_order;
+use crate::room::{add_field_count, add_lack_of_room};
+use expect_text::ExpectCause;
+use explain_lists::Draft;
+use explain_marks::{
+    Fault, Input, LAID, Place, REFUSALS, REMARKS, SCRIPT, SESSION, STEPS, TEST, TOPOLOGY, as_form,
+    fitting, forms_of, frame_start, is_word, missing, most_fitting, plain, slip_of, without_label,
+    word_at, word_count,
+};
+use message_lay::LayCause;
+use room_script::{ScriptCause, TopologyCause};
+
+/// What the words of a state are.
+const STATE_WORDS: &str =
+    "WORD is one of a state line after the device's name: a kind, logical addresses, a physical address, `on` or `standby`, or KEY=VALUE as `active=1.0.0.0`, `path=-`, `deck=20`, `menu=off`, `audio=on`, `volume=20`, `mute=off`, `arc=off`, `sel=1`, `lang=656e67`, `osd=5456`, `held=41`, `heard=4:90:00`, `sub=5`, `queue=0`, `dropped=0`";
+
+/// The word that a line lacks.
+pub fn add_missing(draft: &mut Draft, word: Option<&str>) {
+    if let Some(word) = word {
+        draft.add_all(&["  ", word, " is missing at the end of the line\n"]);
+    }
+}
+
+// The forms that a line fits as far as any.
+fn add_fitting(draft: &mut Draft, forms: &[&[&str]], line: &str) {
+    let most = most_fitting(forms, line);
+    let mut before = "  a line here reads `";
+    for some in forms {
+        for form in *some {
+            if fitting(form, line) == most {
+                draft.add(before);
+                draft.add(form);
+                before = "`, `";
+            }
+        }
+    }
+    draft.add("`\n");
+}
+
+// The forms that a line fits as far as any, and the word that it lacks.
+fn add_forms(draft: &mut Draft, forms: &[&[&str]], line: &str) {
+    add_fitting(draft, forms, line);
+    add_missing(draft, missing(forms, line));
+}
+
+// The forms of a script's lines, which may have labels and expectations among them in a test.
+fn script_forms(what: Input) -> &'static [&'static [&'static str]] {
+    match what {
+        Input::Test => TEST,
+        Input::Session => SESSION,
+        _ => SCRIPT,
+    }
+}
+
+// The forms that a script's line could have, and who reads it where it is a test's.
+fn add_script_forms(draft: &mut Draft, what: Input, line: &str) {
+    add_forms(draft, script_forms(what), line);
+    let is_of_test = line.starts_with("label ") || line.starts_with("expect ");
+    if what != Input::Test && is_of_test {
+        draft.add_line("labels and expectations are read by `hdminet check`");
+    }
+}
+
+// What a line of a script would be, by the number of its first word that it may not have. Returns whether more would be of no use.
+fn add_script_line(
+    draft: &mut Draft,
+    what: Input,
+    place: Place<'_>,
+    line: &str,
+    word: usize,
+) -> bool {
+    let is_key = is_of_key(line, word);
+    if !is_key || word == 4 {
+        add_script_forms(draft, what, line);
+    }
+    if word >= 4 && is_word(line, 2, "hold") {
+        draft.add_line(
+            "ADDRS is `-` for none, or one or two logical addresses, 0 to e: `4`, `4+8`",
+        );
+    }
+    is_key && add_key(draft, place, line, word)
+}
+
+// Whether the word after the first one has hex digits alone.
+fn begins_with_hex(line: &str) -> bool {
+    match word_at(line, 1) {
+        Some(word) => word.bytes().all(|byte| byte.is_ascii_hexdigit()),
+        None => false,
+    }
+}
+
+// The forms of a topology's line.
+fn add_topology_forms(draft: &mut Draft, line: &str) {
+    add_forms(draft, TOPOLOGY, line);
+    if line.starts_with("edid ") && word_count(line) > 2 {
+        draft.add_line(if begins_with_hex(line) {
+            "HEX is one word: its digits stand without spaces"
+        } else {
+            "no name stands before HEX: the EDID is that of the television"
+        });
+    }
+}
+
+// What a line of a topology would be that is refused for a cause.
+fn add_topology(draft: &mut Draft, cause: TopologyCause, line: &str) {
+    match cause {
+        TopologyCause::Word => add_topology_forms(draft, line),
+        TopologyCause::Number
+        | TopologyCause::Name
+        | TopologyCause::Full
+        | TopologyCause::SecondRoot
+        | TopologyCause::NoRoot
+        | TopologyCause::PortRange
+        | TopologyCause::PortTaken
+        | TopologyCause::NotLoose
+        | TopologyCause::Loop
+        | TopologyCause::Hex => {}
+    }
+}
+
+// What a line of a script would be that is refused for a cause, by the number of its word at fault. Returns whether more would
+// be of no use.
+fn add_script(
+    draft: &mut Draft,
+    what: Input,
+    place: Place<'_>,
+    cause: ScriptCause,
+    line: &str,
+    word: usize,
+) -> bool {
+    match cause {
+        ScriptCause::Word => return add_script_line(draft, what, place, line, word),
+        ScriptCause::Order => add_order(draft, place),
+        ScriptCause::Frame(cause) => add_frame(draft, cause, line, 4),
+        ScriptCause::Number
+        | ScriptCause::Name
+        | ScriptCause::Width
+        | ScriptCause::Close
+        | ScriptCause::TooMany
+        | ScriptCause::End => {}
+    }
+    false
+}
+
+// The forms of a line of expectations. Where a word slipped, none is missing at its end.
+fn add_expectation_forms(draft: &mut Draft, what: Input, fault: Fault, line: &str) {
+    let own = as_form(what, line);
+    match slip_of(fault, line) {
+        Some(_) => add_fitting(draft, forms_of(what), own),
+        None => add_forms(draft, forms_of(what), own),
+    }
+    let lacks_word = own.starts_with("expect state ") && own.ends_with(" not");
+    if lacks_word || own == "expect refused" {
+        add_missing(draft, Some("WORD"));
+    }
+}
+
+// What the words of a state are. Returns whether the line is of a state.
+fn add_state_words(draft: &mut Draft, line: &str) -> bool {
+    let is_state = without_label(line).line.starts_with("expect state ");
+    if is_state {
+        draft.add_line(STATE_WORDS);
+    }
+    is_state
+}
+
+// The words that may stand somewhere.
+fn add_words(draft: &mut Draft, about: &str, words: &[&str]) {
+    draft.add(about);
+    for word in words {
+        draft.add_all(&[" `", word, "`"]);
+    }
+    draft.add("\n");
+}
+
+// The words with which an event is refused. Returns whether the line is of a refusal.
+fn add_refusals(draft: &mut Draft, line: &str) -> bool {
+    let is_refusal = without_label(line).line.starts_with("expect refused ");
+    if is_refusal {
+        let about = "  WORD is one with which an event is refused:";
+        add_words(draft, about, REFUSALS);
+    }
+    is_refusal
+}
+
+// The kinds of remarks. Returns whether the line is of a remark.
+fn add_remarks(draft: &mut Draft, line: &str) -> bool {
+    let is_remark = line.starts_with("expect remark ");
+    if is_remark {
+        let about = "  PATTERN begins with a kind of remarks:";
+        add_words(draft, about, REMARKS);
+    }
+    is_remark
+}
+
+// What a line of expectations would be that is refused for a cause. Returns whether more would be of no use.
+fn add_expectation(
+    draft: &mut Draft,
+    what: Input,
+    fault: Fault,
+    cause: ExpectCause,
+    line: &str,
+) -> bool {
+    match cause {
+        ExpectCause::Word | ExpectCause::Pattern => {
+            add_expectation_forms(draft, what, fault, line);
+        }
+        ExpectCause::Unmet => {
+            return add_state_words(draft, line)
+                || add_refusals(draft, line)
+                || add_remarks(draft, line);
+        }
+        ExpectCause::Number | ExpectCause::Name | ExpectCause::Label | ExpectCause::Order => {}
+    }
+    false
+}
+
+// What the fields of a line of an EDID's text are, or that its extension has no room for it. Returns whether more would be of no
+// use.
+fn add_fields(draft: &mut Draft, place: Place<'_>, line: &str) -> bool {
+    if add_lack_of_room(draft, place) {
+        return true;
+    }
+    if let Some(word) = word_at(line, 0) {
+        if let Some(fields) = fields_of(word) {
+            draft.add_line(fields);
+        }
+    }
+    false
+}
+
+/// The forms that a line could have, or the line that it should not stand after. Returns whether what would be right in place
+/// of any fault of this cause is of no use then.
+pub fn add_right_forms(
+    draft: &mut Draft,
+    what: Input,
+    place: Place<'_>,
+    fault: Fault,
+    line: &str,
+) -> bool {
+    match fault {
+        Fault::Topology { cause, .. } => add_topology(draft, cause, line),
+        Fault::Script { cause, word, .. } => {
+            let line = plain(what, line);
+            return add_script(draft, what, place, cause, line, word);
+        }
+        Fault::Expectation { cause, .. } => {
+            return add_expectation(draft, what, fault, cause, line);
+        }
+        Fault::Steps { .. } => add_forms(draft, STEPS, line),
+        Fault::Frame { cause, .. } => add_frame(draft, cause, line, 0),
+        Fault::Lay {
+            cause: LayCause::Frame(cause),
+            word,
+            ..
+        } => add_frame(draft, cause, line, frame_start(cause, word)),
+        Fault::Lay {
+            cause: LayCause::Word | LayCause::Number,
+            ..
+        } => add_forms(draft, LAID, line),
+        Fault::TextField { .. } => return add_fields(draft, place, line),
+        Fault::TextSyntax { .. } => return add_field_count(draft, line),
+        Fault::Past { .. }
+        | Fault::Range { .. }
+        | Fault::Hex { .. }
+        | Fault::Lay { .. }
+        | Fault::Capture { .. }
+        | Fault::Edid(_)
+        | Fault::NoHdmiBlock
+        | Fault::NoPort
+        | Fault::Dump(_)
+        | Fault::NoScriptLine
+        | Fault::NoStepsLine
+        | Fault::NoCaptureLine
+        | Fault::NoRange
+        | Fault::InputTooLong
+        | Fault::LineTooLong
+        | Fault::Read
+        | Fault::Write
+        | Fault::Memory
+        | Fault::NotUtf8 => {}
+    }
+    false
+}

@@ -1,0 +1,230 @@
+//! What the words of a topology's line may have been meant for, and what stands in their way.
+use crate::names::{add_name_meant, add_taken};
+use explain_lists::Draft;
+use explain_marks::{Place, is_line_end, kind_of, ports_of, word_at};
+use explain_near::{add_near, add_nearest, add_number, add_other, add_suggestion};
+use room_script::TopologyCause;
+use text_core::Kind;
+
+/// Words that stand for kinds elsewhere, each with the KIND here.
+const OTHER_KINDS: &[(&str, &str)] = &[
+    ("television", "tv"),
+    ("display", "tv"),
+    ("avr", "amp"),
+    ("receiver", "amp"),
+    ("amplifier", "amp"),
+    ("audio-system", "amp"),
+    ("soundbar", "amp"),
+    ("playback", "player"),
+    ("source", "player"),
+    ("recording", "recorder"),
+    ("splitter", "switch"),
+    ("hub", "switch"),
+    ("matrix", "switch"),
+    ("audio", "amp"),
+    ("bluray", "player"),
+    ("blu-ray", "player"),
+    ("dvd", "player"),
+    ("console", "player"),
+    ("external", "outside"),
+    ("external-tv", "outside-tv"),
+    ("stb", "player"),
+    ("settop", "player"),
+    ("set-top-box", "player"),
+    ("laptop", "player"),
+    ("pc", "player"),
+];
+
+/// The words with which lines of a topology begin, and the one between it and a script.
+const TOPOLOGY_VERBS: &[&str] = &["device", "plug", "edid", "script"];
+
+/// The words with which lines of a script begin.
+const SCRIPT_VERBS: &[&str] = &["at", "pulse", "pull", "pin", "end", "label", "expect"];
+
+/// Words that lines of a topology begin with elsewhere.
+const OTHER_VERBS: &[(&str, &str)] = &[
+    ("connect", "plug"),
+    ("attach", "plug"),
+    ("join", "plug"),
+    ("link", "plug"),
+    ("cable", "plug"),
+    ("node", "device"),
+    ("add", "device"),
+    ("dev", "device"),
+    ("name", "device"),
+];
+
+/// The words of events after `at T`.
+const EVENTS: &[&str] = &["press", "release", "unplug", "send", "hold", "drop"];
+
+// What a name of a topology's line may have been meant for, by its line.
+fn of_topology_name(draft: &mut Draft, place: Place<'_>, word: &str) {
+    if place.line.starts_with(b"plug ") {
+        add_name_meant(draft, place, word);
+    } else {
+        add_taken(draft, place, word);
+        add_spelling(draft, word);
+    }
+}
+
+// What is wrong with a name that is no name.
+fn add_spelling(draft: &mut Draft, word: &str) {
+    let begins_so = matches!(word.as_bytes(), [first, ..] if first.is_ascii_lowercase());
+    let count = word.len();
+    if count > 14 {
+        writeln!(
+            draft,
+            "  a name has at most 14 characters, and this one {count}"
+        );
+    } else if !begins_so {
+        draft.add_line("a name begins with a letter in lower case");
+    } else if !word.bytes().all(is_of_name) {
+        draft.add_line("a name has letters in lower case, digits and `-` alone");
+    }
+}
+
+fn is_of_name(byte: u8) -> bool {
+    byte.is_ascii_lowercase() || byte.is_ascii_digit() || byte == b'-'
+}
+
+// The kind that a word may have been meant for: one that is near, or one that is called so elsewhere.
+fn add_nearest_kind(draft: &mut Draft, word: &str) {
+    for kind in Kind::ALL {
+        if add_near(draft, kind.word(), word) {
+            return;
+        }
+    }
+    let _ = add_other(draft, OTHER_KINDS, word);
+}
+
+// What the first word of a topology's line may have been meant for: one with which such a line begins, or a line of the script.
+fn of_topology_verb(draft: &mut Draft, word: &str) {
+    if SCRIPT_VERBS.contains(&word) {
+        draft.add_line("this line is one of a script, which stands below the line `script`");
+    } else if EVENTS.contains(&word) {
+        writeln!(
+            draft,
+            "  `{word}` is an event of a script, below the line `script`: `at T {word} ..`"
+        );
+    } else if Kind::named(word.as_bytes()).is_some() {
+        draft.add_line("`device` and NAME stand before KIND, as `device tv tv 4`");
+    } else {
+        let _ = add_nearest(draft, TOPOLOGY_VERBS, word) || add_other(draft, OTHER_VERBS, word);
+    }
+}
+
+// What a word of a topology that may not stand there may have been meant for, by its number in the line.
+fn of_topology_word(draft: &mut Draft, word: &str, number: usize) {
+    match number {
+        0 => of_topology_verb(draft, word),
+        2 => add_nearest_kind(draft, word),
+        _ => {}
+    }
+}
+
+// The PORTS of a device of a topology.
+fn add_ports(draft: &mut Draft, place: Place<'_>, name: &str) {
+    match ports_of(place, name) {
+        Some("0") => draft.add_all(&["  `", name, "` has no ports\n"]),
+        Some(ports) => draft.add_all(&["  `", name, "` has the ports 1 to ", ports, "\n"]),
+        None => {}
+    }
+}
+
+// The line above that plugs into a port, with its number.
+fn add_plugged(draft: &mut Draft, place: Place<'_>, parent: &str, port: &str) {
+    let above = place.number.saturating_sub(1);
+    let mut number = 0usize;
+    for line in place.input.split(is_line_end).take(above) {
+        number = number.saturating_add(1);
+        let line = str::from_utf8(line).unwrap_or("");
+        if word_at(line, 0) == Some("plug")
+            && word_at(line, 2) == Some(parent)
+            && word_at(line, 3) == Some(port)
+        {
+            let child = word_at(line, 1).unwrap_or("");
+            writeln!(draft, "  line {number} plugs `{child}` in there");
+        }
+    }
+}
+
+// The line above that plugs a device in, or that it is the television.
+fn add_not_loose(draft: &mut Draft, place: Place<'_>, child: &str) {
+    if kind_of(place, child) == Some("tv") {
+        return draft.add_all(&["  `", child, "` is the root: it is in no port\n"]);
+    }
+    let above = place.number.saturating_sub(1);
+    let mut number = 0usize;
+    for line in place.input.split(is_line_end).take(above) {
+        number = number.saturating_add(1);
+        let line = str::from_utf8(line).unwrap_or("");
+        if word_at(line, 0) == Some("plug") && word_at(line, 1) == Some(child) {
+            writeln!(draft, "  line {number} plugs `{child}` in already");
+        }
+    }
+}
+
+// What is wrong with digits of an EDID.
+fn add_digits(draft: &mut Draft, word: &str) {
+    let count = word.len();
+    if word.starts_with("0x") {
+        draft.add_line("the digits of HEX stand without `0x`");
+    } else if !word.bytes().all(|byte| byte.is_ascii_hexdigit()) {
+        draft.add_line("HEX has digits 0 to 9 and a to f alone");
+    } else if count % 2 == 1 {
+        writeln!(draft, "  HEX has {count} digits, which is no even count");
+    }
+}
+
+// What stands in the way of a line that plugs a device in.
+fn of_plug(draft: &mut Draft, place: Place<'_>, cause: TopologyCause, line: &str) {
+    let (Some(child), Some(parent), Some(port)) = (
+        word_at(line, 1),
+        word_at(line, 2),
+        word_at(line, 3),
+    ) else {
+        return;
+    };
+    match cause {
+        TopologyCause::PortRange => add_ports(draft, place, parent),
+        TopologyCause::PortTaken => add_plugged(draft, place, parent, port),
+        TopologyCause::NotLoose => add_not_loose(draft, place, child),
+        _ => {}
+    }
+}
+
+// A port that is named by letters and a number.
+fn add_port_number(draft: &mut Draft, word: &str) {
+    let digits = word.trim_start_matches(|c: char| c.is_ascii_alphabetic());
+    if digits.len() < word.len() && !digits.is_empty() {
+        add_suggestion(draft, digits, word);
+    } else {
+        add_number(draft, word);
+    }
+}
+
+/// What a word of a topology may have been meant for, by its number in the line.
+pub fn add_topology_meant(
+    draft: &mut Draft,
+    place: Place<'_>,
+    cause: TopologyCause,
+    line: &str,
+    number: usize,
+) {
+    let Some(word) = word_at(line, number) else {
+        return;
+    };
+    match cause {
+        TopologyCause::Name => of_topology_name(draft, place, word),
+        TopologyCause::Number => add_port_number(draft, word),
+        TopologyCause::Word => of_topology_word(draft, word, number),
+        TopologyCause::PortRange | TopologyCause::PortTaken | TopologyCause::NotLoose => {
+            of_plug(draft, place, cause, line);
+        }
+        TopologyCause::Hex => add_digits(draft, word),
+        TopologyCause::Full
+        | TopologyCause::SecondRoot
+        | TopologyCause::NoRoot
+        | TopologyCause::Loop => {}
+    }
+}

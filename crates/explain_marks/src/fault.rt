@@ -1,0 +1,134 @@
+//! The faults of inputs, as the libraries return them.
+use capture_forms::{Cause, Form};
+use edid_core::EdidError;
+use edid_dump::DumpError;
+use expect_text::ExpectCause;
+use message_hex::DisCause;
+use message_lay::LayCause;
+use message_text::AssembleError;
+use room_script::{ScriptCause, TopologyCause};
+
+/// What an input is to be.
+#[derive(Clone, Copy, Debug, PartialEq, Eq)]
+pub enum Input {
+    /// A topology, a line `script` and a script.
+    Network,
+    /// The same with a script that may have labels and expectations.
+    Test,
+    /// Expectations, a line `capture` and a capture.
+    CaptureTest,
+    /// Lines of their own: frames or edges.
+    Lines,
+    /// Lines that are answered as they come. None of them is kept.
+    Session,
+    /// The bytes of an EDID.
+    EdidBytes,
+    /// The text of an EDID.
+    EdidText,
+}
+
+/// What is wrong with a range of instants.
+#[derive(Clone, Copy, Debug, PartialEq, Eq)]
+pub enum RangeSlip {
+    /// A time or a step is no number.
+    Number,
+    /// It ends before it begins.
+    Order,
+    /// It is the second one.
+    Second,
+    /// An instant of it breaks the order of the script.
+    Crosses,
+}
+
+/// Why the program did not do what it was asked. Lines count from 1 in their part of the input, words from 0 in their line;
+/// where a word is missing, its number is the one that it would have.
+#[derive(Clone, Copy, Debug)]
+pub enum Fault {
+    /// A line of a topology.
+    Topology {
+        line: u64,
+        cause: TopologyCause,
+        word: usize,
+    },
+    /// A line of a script. Words are those of the line without its label.
+    Script {
+        line: u64,
+        cause: ScriptCause,
+        word: usize,
+    },
+    /// A line of a session that is for an instant before its horizon.
+    Past {
+        line: u64,
+        word: usize,
+    },
+    /// A line with a label or an expectation, of a script or of a capture. Words are those of the line with its label.
+    Expectation {
+        line: u64,
+        cause: ExpectCause,
+        word: usize,
+    },
+    /// A line of a script with a range of instants. Words are those of the line with its label.
+    Range {
+        line: u64,
+        cause: RangeSlip,
+        word: usize,
+    },
+    /// A line that is no step.
+    Steps {
+        line: u64,
+        word: usize,
+    },
+    /// A line that is no frame's text.
+    Frame {
+        line: u64,
+        cause: AssembleError,
+    },
+    /// A line that is no frame in hex.
+    Hex {
+        line: u64,
+        cause: DisCause,
+    },
+    /// A line with a frame to lay.
+    Lay {
+        line: u64,
+        cause: LayCause,
+        word: usize,
+    },
+    /// A line of a capture in this form, which parts its words.
+    Capture {
+        form: Form,
+        line: u64,
+        cause: Cause,
+        word: usize,
+    },
+    /// The bytes of an EDID, of the input or of a topology's line `edid`.
+    Edid(EdidError),
+    /// An EDID of a television that has no HDMI block.
+    NoHdmiBlock,
+    /// No device has such a port.
+    NoPort,
+    /// A line of an EDID's text that has another form.
+    TextSyntax {
+        line: u64,
+    },
+    /// A word of a line of an EDID's text.
+    TextField {
+        line: u64,
+        word: usize,
+    },
+    /// A text without a hex dump of an EDID.
+    Dump(DumpError),
+    NoScriptLine,
+    NoStepsLine,
+    NoCaptureLine,
+    /// No time of a script is a range.
+    NoRange,
+    InputTooLong,
+    /// A line of a session is.
+    LineTooLong,
+    Read,
+    Write,
+    Memory,
+    /// A word of the command line is none of UTF-8.
+    NotUtf8,
+}

@@ -1,0 +1,209 @@
+//! Where in an input a fault stands.
+use crate::fault::{Fault, Input};
+
+/// A line of an input, with its number from 1.
+#[derive(Clone, Copy)]
+pub struct Place<'a> {
+    pub input: &'a [u8],
+    /// How many lines stand before the part in which the line is.
+    pub before: usize,
+    /// Its number in the whole input.
+    pub number: usize,
+    pub line: &'a [u8],
+}
+
+/// Whether a byte ends a line, or parts it from the next one.
+pub fn is_line_end(byte: &u8) -> bool {
+    *byte == b'\n'
+}
+
+// The line of this number, from 1, after some others.
+fn line_of(input: &[u8], before: usize, line: u64) -> Option<Place<'_>> {
+    let number = before.saturating_add(usize::try_from(line).ok()?);
+    let index = number.checked_sub(1)?;
+    let line = input.split(is_line_end).nth(index)?;
+    Some(Place {
+        input,
+        before,
+        number,
+        line,
+    })
+}
+
+fn is_like(line: &[u8], text: &str) -> bool {
+    match line.split_at_checked(text.len()) {
+        Some((front, _)) => front.eq_ignore_ascii_case(text.as_bytes()),
+        None => false,
+    }
+}
+
+// Whether a line begins like one of some texts, blanks and case aside.
+fn is_like_any(line: &[u8], texts: &[&str]) -> bool {
+    let line = line.trim_ascii();
+    for text in texts {
+        if is_like(line, text) {
+            return true;
+        }
+    }
+    false
+}
+
+// The first line that begins like one of some texts.
+fn find_like<'a>(input: &'a [u8], texts: &[&str]) -> Option<Place<'a>> {
+    let mut number = 0usize;
+    for line in input.split(is_line_end) {
+        number = number.saturating_add(1);
+        if is_like_any(line, texts) {
+            return Some(Place {
+                input,
+                before: 0,
+                number,
+                line,
+            });
+        }
+    }
+    None
+}
+
+// The line that was meant to part an input, or else the first line that stands after it in other inputs.
+fn find_parting<'a>(input: &'a [u8], parting: &str, later: &[&str]) -> Option<Place<'a>> {
+    match find_like(input, &[parting]) {
+        Some(place) => Some(place),
+        None => find_like(input, later),
+    }
+}
+
+// How many lines there are up to the first one after some others that reads so; none where there is no such line.
+fn lines_to(input: &[u8], after: usize, text: &str) -> usize {
+    let mut number = 0usize;
+    for line in input.split(is_line_end) {
+        number = number.saturating_add(1);
+        if number > after && line == text.as_bytes() {
+            return number;
+        }
+    }
+    0
+}
+
+/// How many lines stand before those of a script, the line `script` among them.
+pub fn before_script(input: &[u8]) -> usize {
+    lines_to(input, 0, "script")
+}
+
+// How many stand before those of the steps.
+fn before_steps(input: &[u8]) -> usize {
+    lines_to(input, before_script(input), "steps")
+}
+
+// How many stand before those of a capture.
+fn before_capture(what: Input, input: &[u8]) -> usize {
+    match what {
+        Input::CaptureTest => lines_to(input, 0, "capture"),
+        _ => 0,
+    }
+}
+
+// How many stand before those with expectations.
+fn before_expectations(what: Input, input: &[u8]) -> usize {
+    match what {
+        Input::CaptureTest => 0,
+        _ => before_script(input),
+    }
+}
+
+// The `edid` line of a topology.
+fn edid_line(what: Input, input: &[u8]) -> Option<Place<'_>> {
+    match what {
+        Input::Network | Input::Test => find_like(input, &["edid "]),
+        _ => None,
+    }
+}
+
+/// A line of a session, the one of this number after the line `script`. Of what came before only the topology is known.
+pub fn place_in_session<'a>(topology: &'a [u8], number: u64, line: &'a [u8]) -> Place<'a> {
+    // The topology's last line has an end, so that there is one more than it has lines: for the line `script`.
+    let before = topology.split(is_line_end).count();
+    Place {
+        input: topology,
+        before,
+        number: before.saturating_add(usize::try_from(number).unwrap_or(usize::MAX)),
+        line,
+    }
+}
+
+/// Where a fault stands in a whole input.
+pub fn place_of(input: &[u8], what: Input, fault: Fault) -> Option<Place<'_>> {
+    if what == Input::Session {
+        return None;
+    }
+    match fault {
+        Fault::Topology {
+            cause: room_script::TopologyCause::NoRoot,
+            ..
+        } => None,
+        Fault::Topology { line, .. } => line_of(input, 0, line),
+        Fault::Script { line, .. } | Fault::Range { line, .. } | Fault::Past { line, .. } => {
+            line_of(input, before_script(input), line)
+        }
+        Fault::Expectation { line, .. } => line_of(input, before_expectations(what, input), line),
+        Fault::Steps { line, .. } => line_of(input, before_steps(input), line),
+        Fault::Capture { line, .. } => line_of(input, before_capture(what, input), line),
+        Fault::Frame { line, .. }
+        | Fault::Hex { line, .. }
+        | Fault::Lay { line, .. }
+        | Fault::TextSyntax { line }
+        | Fault::TextField { line, .. } => line_of(input, 0, line),
+        Fault::Edid(_) | Fault::NoHdmiBlock => edid_line(what, input),
+        Fault::NoScriptLine => find_parting(
+            input,
+            "script",
+            &[
+                "at ", "pulse ", "pull ", "pin ", "end ", "label ", "expect ",
+            ],
+        ),
+        Fault::NoStepsLine => find_parting(input, "steps", &["edge", "round", "until ", "show "]),
+        Fault::NoCaptureLine => find_parting(input, "capture", &[]),
+        Fault::NoPort
+        | Fault::Dump(_)
+        | Fault::NoRange
+        | Fault::InputTooLong
+        | Fault::LineTooLong
+        | Fault::Read
+        | Fault::Write
+        | Fault::Memory
+        | Fault::NotUtf8 => None,
+    }
+}
+
+/// The words of a line that declares a device, after `device`.
+fn declaration(line: &[u8]) -> Option<&str> {
+    str::from_utf8(line).ok()?.strip_prefix("device ")
+}
+
+/// The name of the device that a line declares.
+pub fn declared_by(line: &[u8]) -> Option<&str> {
+    let (name, _) = declaration(line)?.split_once(' ')?;
+    Some(name)
+}
+
+/// The PORTS of a device that a line above a place declares.
+pub fn ports_of<'a>(place: Place<'a>, name: &str) -> Option<&'a str> {
+    let above = place.number.saturating_sub(1);
+    for line in place.input.split(is_line_end).take(above) {
+        if declared_by(line) == Some(name) {
+            return declaration(line)?.split(' ').nth(2);
+        }
+    }
+    None
+}
+
+/// The word of the kind of a device that a line above a place declares.
+pub fn kind_of<'a>(place: Place<'a>, name: &str) -> Option<&'a str> {
+    let above = place.number.saturating_sub(1);
+    for line in place.input.split(is_line_end).take(above) {
+        if declared_by(line) == Some(name) {
+            return declaration(line)?.split(' ').nth(1);
+        }
+    }
+    None
+}

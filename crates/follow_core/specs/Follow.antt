@@ -1,0 +1,289 @@
+-- What is reported of a capture as its lines come: at each moment the front of the text of the whole, whatever comes later (own).
+use Rattle.std.specs.Prelude.{◌≡◌, ℕ, ◌+◌, ◌<◌, ◌≤◌, ◌⊎◌, Bool, true, false, List, [], ◌∷◌, ◌++◌, length, Option, Some, None, IfErr, IfSome, Result, Ok, Err}
+use Rattle.std.specs.Io.KnownBytes.{Appends}
+use Rattle.text_core.specs.Lines.{lines_of}
+use Rattle.line_wave.specs.declared.Edge.{Edge}
+use Rattle.line_wave.specs.Line.{Line, was_low}
+use Rattle.line_reading.specs.declared.times.Windows.{Windows}
+use Rattle.capture_core.specs.Edges.{AreInTurn, Captured, EndBy, level_at, line_of_edges}
+use Rattle.capture_core.specs.Reading.{with_edges}
+use Rattle.capture_core.specs.declared.fault.CaptureFault.{CaptureFault}
+use Rattle.capture_monitor.specs.Joined.{captured_by}
+use Rattle.capture_monitor.specs.Monitor.{HeardBeforeBy}
+use Rattle.capture_monitor.specs.ReadBy.{ended_before_by}
+use Rattle.capture_monitor.specs.Watch.{readings_text, reported_text}
+use Rattle.capture_monitor.specs.declared.monitor.Monitor.{Monitor as Watcher}
+use Rattle.capture_forms.specs.Captures.{capture_in}
+use Rattle.live_incoming.specs.Incoming.{longest_line}
+use Rattle.live_incoming.specs.declared.incoming.LineFault.{LineFault}
+use Rattle.live_incoming.specs.declared.incoming.LineFault.TheVariants as line_fault
+use Rattle.line_reading.specs.Readings.{Listed}
+use Rattle.line_reading.specs.Reports.{listed_as}
+use Rattle.follow_core.specs.Lines.{IsEarly, form_as, from_of, lines_captured, lines_left}
+use Rattle.follow_core.specs.declared.lines.LineForm.{LineForm}
+use Rattle.follow_core.specs.declared.follower.Follower.{Follower}
+use Rattle.follow_core.specs.declared.follower.Heard.{Heard}
+use Rattle.follow_core.specs.declared.error.FollowError.{FollowError}
+use Rattle.follow_core.specs.declared.error.FollowError.TheVariants.{Capture, Read, TooLong, Write}
+use Rattle.std.specs.Option.{option_map, option_to_list}
+use Rattle.line_wave.specs.Bounds.{latest_instant}
+
+-- the text of a whole capture
+abbrev pub text_of : Windows → Captured → List ℕ
+text_of windows c = readings_text (captured_by windows c)
+
+-- ---- a follower
+
+-- Before microsecond `known` a monitor was told a line, of which these edges are still to come, up to an end; the readings that
+-- have ended are reported.
+pub record HasTold (windows : Windows) (m : Watcher) (known : ℕ) (low : Line) (edges : List Edge) (end : ℕ) (text : List ℕ) : Type 0 where
+  pub is_low : Bool
+  pub level : (u : ℕ) → known ≤ u → low u ≡ level_at is_low edges u
+  pub before : was_low low known ≡ is_low
+  pub turn : AreInTurn is_low known edges
+  pub ends : EndBy end edges
+  pub reach : known ≤ end + 1
+  pub heard : HeardBeforeBy windows m low known
+  pub reported : text ≡ readings_text (ended_before_by windows low known)
+
+-- Of a capture these lines came, before the one of this number, and this text was reported: whatever comes later, these are the
+-- readings that have ended.
+pub record IsFollowed (form : LineForm) (signal : List ℕ) (windows : Windows) (past : List (List ℕ)) (number : ℕ) (f : Follower) (text : List ℕ) : Type 0 where
+  pub edges : List Edge
+  pub read : (rest : List (List ℕ)) → lines_captured form signal (past ++ rest) ≡ with_edges edges (lines_left signal f.lines number rest)
+  pub told : (rest : List (List ℕ)) (c : Captured) → lines_left signal f.lines number rest ≡ Ok c → HasTold windows f.monitor f.known (line_of_edges (edges ++ c.edges)) c.edges c.end text
+
+-- all is known that the lines say: a reading that is over by them is reported
+abbrev pub IsPrompt : Follower → Type 0
+IsPrompt f = from_of f.lines ≤ f.known
+
+abbrev pub IsReady : Follower → Type 0
+IsReady f = IsEarly f.lines × (f.known ≤ latest_instant + 1)
+
+abbrev pub heard_text : Heard → List ℕ
+heard_text h = reported_text (option_map listed_as h.first) ++ reported_text (option_map listed_as h.second)
+
+-- an edge is told, if there is one
+pub record TellsEdge (old : Follower) (edge : Option Edge) (reported : Option Listed) (new : Follower) : Type 0 where
+  pub lines : new.lines ≡ old.lines
+  pub early : new.known ≤ latest_instant + 1
+  pub told : (windows : Windows) (low : Line) (edges : List Edge) (end : ℕ) (text : List ℕ) → HasTold windows old.monitor old.known low (option_to_list edge ++ edges) end text
+      → HasTold windows new.monitor new.known low edges end (text ++ reported_text reported)
+
+-- no edge of these comes before an instant
+abbrev pub NoneBefore : ℕ → List Edge → Type 0
+NoneBefore from edges = (is_low : Bool) × AreInTurn is_low from edges
+
+-- it is told that none comes before an instant
+pub record TellsCalm (old : Follower) (from : ℕ) (reported : Option Listed) (new : Follower) : Type 0 where
+  pub lines : new.lines ≡ old.lines
+  pub early : new.known ≤ latest_instant + 1
+  pub prompt : from ≤ new.known
+  pub told : (windows : Windows) (low : Line) (edges : List Edge) (end : ℕ) (text : List ℕ) → HasTold windows old.monitor old.known low edges end text → NoneBefore from edges → from ≤ end + 1
+      → HasTold windows new.monitor new.known low edges end (text ++ reported_text reported)
+
+-- a line has come
+abbrev pub HearsLine : List ℕ → ℕ → List ℕ → Follower → Result Heard CaptureFault → Follower → Type 0
+HearsLine signal number line old (Ok heard) new = (form : LineForm) (windows : Windows) (past : List (List ℕ)) (text : List ℕ) → IsFollowed form signal windows past number old text
+    → IsFollowed form signal windows (past ++ line ∷ []) (number + 1) new (text ++ heard_text heard)
+HearsLine signal number line old (Err fault) new = (form : LineForm) (windows : Windows) (past : List (List ℕ)) (text : List ℕ) → IsFollowed form signal windows past number old text
+    → (rest : List (List ℕ)) → lines_captured form signal (past ++ line ∷ rest) ≡ Err fault
+
+-- no line is left
+pub record IsWhole (form : LineForm) (signal : List ℕ) (windows : Windows) (lines : List (List ℕ)) (text : List ℕ) : Type 0 where
+  pub capture : Captured
+  pub read : lines_captured form signal lines ≡ Ok capture
+  pub all : text_of windows capture ≡ text
+
+abbrev pub HearsEnd : ℕ → Follower → Result Heard CaptureFault → Type 0
+HearsEnd number f (Ok heard) = (form : LineForm) (signal : List ℕ) (windows : Windows) (past : List (List ℕ)) (text : List ℕ) → IsFollowed form signal windows past number f text
+    → IsWhole form signal windows past (text ++ heard_text heard)
+HearsEnd number f (Err fault) = (form : LineForm) (signal : List ℕ) (windows : Windows) (past : List (List ℕ)) (text : List ℕ) → IsFollowed form signal windows past number f text
+    → lines_captured form signal past ≡ Err fault
+
+-- ---- what is written
+
+-- a text is put, or its front
+abbrev pub Puts : {F : Type 0} → Option (List ℕ) → Option (List ℕ) → List ℕ → Result (Unit {0}) F → Type 0
+Puts old new text (Ok done) = Appends old new text
+Puts old new text (Err fault) = (front : List ℕ) × (rest : List ℕ) × (text ≡ front ++ rest) × Appends old new front
+
+-- nothing but a write fails
+abbrev pub IsOfWriting : Result (Unit {0}) FollowError → Type 0
+IsOfWriting (Ok done) = Unit {0}
+IsOfWriting (Err (Write count)) = Unit {0}
+IsOfWriting (Err (Capture fault)) = ⊥
+IsOfWriting (Err Read) = ⊥
+IsOfWriting (Err TooLong) = ⊥
+
+-- whether lines are left, or these are all
+abbrev pub AreLeft : Bool → List (List ℕ) → Type 0
+AreLeft true rest = Unit {0}
+AreLeft false rest = rest ≡ []
+
+-- Whatever comes after these lines, where some may come, this text is a front of that of the capture.
+abbrev pub IsFront : Bool → LineForm → List ℕ → Windows → List (List ℕ) → List ℕ → Type 0
+IsFront more form signal windows past text = (rest : List (List ℕ)) (c : Captured) → AreLeft more rest → lines_captured form signal (past ++ rest) ≡ Ok c
+    → (left : List ℕ) × (text_of windows c ≡ text ++ left)
+
+-- a line has come, and what has ended by it is written
+pub record HasHeard (signal : List ℕ) (number : ℕ) (line : List ℕ) (old new : Follower) (before after : Option (List ℕ)) : Type 0 where
+  pub text : List ℕ
+  pub put : Appends before after text
+  pub followed : (form : LineForm) (windows : Windows) (past : List (List ℕ)) (so_far : List ℕ) → IsFollowed form signal windows past number old so_far
+      → IsFollowed form signal windows (past ++ line ∷ []) (number + 1) new (so_far ++ text)
+  pub prompt : IsPrompt new
+
+-- it is at fault, and nothing is written
+pub record IsAtFault (signal : List ℕ) (number : ℕ) (line : List ℕ) (old : Follower) (before after : Option (List ℕ)) (fault : CaptureFault) : Type 0 where
+  pub put : Appends before after []
+  pub place : fault.line ≡ number
+  pub refused : (form : LineForm) (windows : Windows) (past : List (List ℕ)) (so_far : List ℕ) → IsFollowed form signal windows past number old so_far
+      → (rest : List (List ℕ)) → lines_captured form signal (past ++ line ∷ rest) ≡ Err fault
+
+-- a write failed: a front of what has ended by it is written
+pub record IsCut (signal : List ℕ) (number : ℕ) (line : List ℕ) (old new : Follower) (before after : Option (List ℕ)) : Type 0 where
+  pub text : List ℕ
+  pub left : List ℕ
+  pub put : Appends before after text
+  pub followed : (form : LineForm) (windows : Windows) (past : List (List ℕ)) (so_far : List ℕ) → IsFollowed form signal windows past number old so_far
+      → IsFollowed form signal windows (past ++ line ∷ []) (number + 1) new (so_far ++ (text ++ left))
+  pub prompt : IsPrompt new
+
+abbrev pub Hears : List ℕ → ℕ → List ℕ → Follower → Follower → Option (List ℕ) → Option (List ℕ) → Result (Unit {0}) FollowError → Type 0
+Hears signal number line old new before after (Ok done) = HasHeard signal number line old new before after
+Hears signal number line old new before after (Err (Capture fault)) = IsAtFault signal number line old before after fault
+Hears signal number line old new before after (Err (Write count)) = IsCut signal number line old new before after
+Hears signal number line old new before after (Err Read) = ⊥
+Hears signal number line old new before after (Err TooLong) = ⊥
+
+-- no line is left, and the rest is written, or the end is missing
+pub record HasWritten (number : ℕ) (f : Follower) (before after : Option (List ℕ)) : Type 0 where
+  pub text : List ℕ
+  pub put : Appends before after text
+  pub all : (form : LineForm) (signal : List ℕ) (windows : Windows) (past : List (List ℕ)) (so_far : List ℕ) → IsFollowed form signal windows past number f so_far
+      → IsWhole form signal windows past (so_far ++ text)
+
+pub record LacksEnd (number : ℕ) (f : Follower) (before after : Option (List ℕ)) (fault : CaptureFault) : Type 0 where
+  pub put : Appends before after []
+  pub place : fault.line ≡ number
+  pub refused : (form : LineForm) (signal : List ℕ) (windows : Windows) (past : List (List ℕ)) (so_far : List ℕ) → IsFollowed form signal windows past number f so_far → lines_captured form signal past ≡ Err fault
+
+pub record IsCutLast (number : ℕ) (f : Follower) (before after : Option (List ℕ)) : Type 0 where
+  pub text : List ℕ
+  pub left : List ℕ
+  pub put : Appends before after text
+  pub all : (form : LineForm) (signal : List ℕ) (windows : Windows) (past : List (List ℕ)) (so_far : List ℕ) → IsFollowed form signal windows past number f so_far
+      → IsWhole form signal windows past (so_far ++ (text ++ left))
+
+abbrev pub Ends : ℕ → Follower → Option (List ℕ) → Option (List ℕ) → Result (Unit {0}) FollowError → Type 0
+Ends number f before after (Ok done) = HasWritten number f before after
+Ends number f before after (Err (Capture fault)) = LacksEnd number f before after fault
+Ends number f before after (Err (Write count)) = IsCutLast number f before after
+Ends number f before after (Err Read) = ⊥
+Ends number f before after (Err TooLong) = ⊥
+
+-- ---- an input
+
+-- the readings of the capture that an input spells are written, and nothing else
+pub record HasFollowed (form : LineForm) (signal : List ℕ) (windows : Windows) (known old new : Option (List ℕ)) : Type 0 where
+  pub input : List ℕ
+  pub all : IfSome known (λ text. input ≡ text)
+  pub capture : Captured
+  pub read : capture_in (form_as form) signal input ≡ Ok capture
+  pub put : Appends old new (text_of windows capture)
+
+-- its first lines are these
+abbrev pub AreFirst : Option (List ℕ) → List (List ℕ) → Type 0
+AreFirst known past = IfSome known (λ text. (rest : List (List ℕ)) × (lines_of text ≡ past ++ rest))
+
+-- and the next one is this, or there is none
+abbrev pub HaveCome : Option (List ℕ) → List (List ℕ) → Option (List ℕ) → Type 0
+HaveCome known past (Some line) = AreFirst known (past ++ line ∷ [])
+HaveCome known past None = IfSome known (λ text. lines_of text ≡ past)
+
+-- Each reading that is over by these lines is written, and nothing else: the front of the text of each capture that begins so.
+pub record IsUpToDate (form : LineForm) (signal : List ℕ) (windows : Windows) (past : List (List ℕ)) (old new : Option (List ℕ)) : Type 0 where
+  pub follower : Follower
+  pub text : List ℕ
+  pub followed : IsFollowed form signal windows past (length past + 1) follower text
+  pub prompt : IsPrompt follower
+  pub front : IsFront true form signal windows past text
+  pub put : Appends old new text
+
+-- a line is at fault whatever comes after it, or the end is missing
+abbrev pub IsRefused : LineForm → List ℕ → List (List ℕ) → Option (List ℕ) → CaptureFault → Type 0
+IsRefused form signal past (Some line) fault = (rest : List (List ℕ)) → lines_captured form signal (past ++ line ∷ rest) ≡ Err fault
+IsRefused form signal past None fault = lines_captured form signal past ≡ Err fault
+
+-- the fault is that of the input, and at the line after these
+pub record StopsAtFault (form : LineForm) (signal : List ℕ) (windows : Windows) (known old new : Option (List ℕ)) (fault : CaptureFault) : Type 0 where
+  pub past : List (List ℕ)
+  pub next : Option (List ℕ)
+  pub came : HaveCome known past next
+  pub place : fault.line ≡ length past + 1
+  pub refused : IsRefused form signal past next fault
+  pub read : IfSome known (λ text. capture_in (form_as form) signal text ≡ Err fault)
+  pub written : IsUpToDate form signal windows past old new
+
+-- a read failed after these lines
+pub record StopsAtRead (form : LineForm) (signal : List ℕ) (windows : Windows) (known old new : Option (List ℕ)) : Type 0 where
+  pub past : List (List ℕ)
+  pub came : AreFirst known past
+  pub written : IsUpToDate form signal windows past old new
+
+-- the line after these has more bytes than a line may have, or these are as many as are counted
+abbrev pub IsTooMuch : Option (List ℕ) → List (List ℕ) → Type 0
+IsTooMuch known past = ((line : List ℕ) × (longest_line < length line) × HaveCome known past (Some line)) ⊎ ((length past ≡ 18446744073709551615) × AreFirst known past)
+
+pub record StopsAtLength (form : LineForm) (signal : List ℕ) (windows : Windows) (known old new : Option (List ℕ)) : Type 0 where
+  pub past : List (List ℕ)
+  pub over : IsTooMuch known past
+  pub written : IsUpToDate form signal windows past old new
+
+-- this text is all that is over by these lines and the next one, or by all of them where there is none; and this is a front of that of
+-- each capture that begins so
+abbrev pub IsOverBy : LineForm → List ℕ → Windows → List (List ℕ) → Option (List ℕ) → List ℕ → List ℕ → Type 0
+IsOverBy form signal windows past (Some line) text front =
+    (f : Follower) × IsFollowed form signal windows (past ++ line ∷ []) (length past + 1 + 1) f text × IsPrompt f × IsFront true form signal windows (past ++ line ∷ []) front
+IsOverBy form signal windows past None text front = IsWhole form signal windows past text × IsFront false form signal windows past front
+
+-- a write failed: what was over by these lines is written, and a front of what is over by the next one, or with the end
+pub record StopsAtWrite (form : LineForm) (signal : List ℕ) (windows : Windows) (known old new : Option (List ℕ)) : Type 0 where
+  pub past : List (List ℕ)
+  pub next : Option (List ℕ)
+  pub came : HaveCome known past next
+  pub follower : Follower
+  pub text : List ℕ
+  pub followed : IsFollowed form signal windows past (length past + 1) follower text
+  pub prompt : IsPrompt follower
+  pub front : List ℕ
+  pub left : List ℕ
+  pub over : IsOverBy form signal windows past next (text ++ (front ++ left)) (text ++ front)
+  pub put : Appends old new (text ++ front)
+
+-- nothing is held back, but where a write failed
+abbrev pub IsHandedOn : FollowError → List ℕ → Type 0
+IsHandedOn (Capture fault) pending = pending ≡ []
+IsHandedOn Read pending = pending ≡ []
+IsHandedOn TooLong pending = pending ≡ []
+IsHandedOn (Write count) pending = Unit {0}
+
+-- where nothing was held back before
+abbrev pub HoldsNothing : Result (Unit {0}) FollowError → List ℕ → List ℕ → Type 0
+HoldsNothing result old new = IfErr result (λ error. old ≡ [] → IsHandedOn error new)
+
+-- why no line was read
+abbrev pub line_error : LineFault → FollowError
+line_error line_fault.Read = Read
+line_error line_fault.TooLong = TooLong
+
+abbrev pub Stops : LineForm → List ℕ → Windows → Option (List ℕ) → Option (List ℕ) → Option (List ℕ) → FollowError → Type 0
+Stops form signal windows known old new (Capture fault) = StopsAtFault form signal windows known old new fault
+Stops form signal windows known old new Read = StopsAtRead form signal windows known old new
+Stops form signal windows known old new TooLong = StopsAtLength form signal windows known old new
+Stops form signal windows known old new (Write count) = StopsAtWrite form signal windows known old new
+
+abbrev pub Follows : LineForm → List ℕ → Windows → Option (List ℕ) → Option (List ℕ) → Option (List ℕ) → Result (Unit {0}) FollowError → Type 0
+Follows form signal windows known old new (Ok done) = HasFollowed form signal windows known old new
+Follows form signal windows known old new (Err error) = Stops form signal windows known old new error

@@ -1,4 +1,0 @@
-use Rattle.hdmi_abilities.proofs.stereo.append_structure_bits.Goals as goal
-
-pub returns-clause-items : goal.returns-clause-items
-returns-clause-items c = c.append_bits.ensures.items

@@ -1,9 +1,0 @@
-use Rattle.hdmi_annotate.proofs.Joins.{joined}
-use Rattle.hdmi_display.specs.Raws.{ext_meanings}
-use Rattle.hdmi_annotate.specs.Meanings.{section_meanings}
-use Rattle.hdmi_annotate.proofs.meanings.append_ext_lines.Goals as goal
-
-pub returns : goal.returns
-returns c =
-    let p = c.args.bytes.now in
-    joined _ _ _ (ext_meanings p) (section_meanings p) c.append_ext.ensures.items c.append_section.ensures

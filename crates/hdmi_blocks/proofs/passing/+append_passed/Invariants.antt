@@ -1,5 +1,0 @@
-use Rattle.std.proofs.Common.{length}
-use Rattle.hdmi_blocks.proofs.passing.+append_passed.Given as goal
-
-abbrev pub decreases-append_passed : goal.decreases-append_passed
-decreases-append_passed l = length l.extensions.now

@@ -1,7 +1,0 @@
-use Rattle.std.proofs.Common.{List, ℕ, ap, subst, option_map}
-use Rattle.hdmi_blocks.specs.Root.{IsNoRoot}
-use Rattle.hdmi_blocks.proofs.root.root_of.Goals as goal
-
-pub returns-in-Err-clause-refused : goal.returns-in-Err-clause-refused
-returns-in-Err-clause-refused c =
-    (c.in-Some.bytes.items, ap (option_map (λ v. v.items)) c.in-Some.is, subst (λ (b : List ℕ). IsNoRoot b c.in-Err.cause) c.deref.ensures.value c.in-Err.ensures.refused)

@@ -1,7 +1,0 @@
-use Rattle.std.proofs.Common.{List, ℕ, ap, subst, option_map}
-use Rattle.hdmi_blocks.specs.Root.{IsNoRootOf}
-use Rattle.hdmi_blocks.proofs.root.root_on_heap.Goals as goal
-
-pub returns-in-Err-clause-refused : goal.returns-in-Err-clause-refused
-returns-in-Err-clause-refused c =
-    (c.in-Some.bytes.items, ap (option_map (λ v. v.items)) c.in-Some.is, subst (λ (b : List ℕ). IsNoRootOf b c.in-Err.error) c.deref.ensures.value c.in-Err.ensures.refused)

@@ -1,5 +1,0 @@
-use Rattle.hdmi_check.proofs.LawLemmas.{law}
-use Rattle.hdmi_check.proofs.laws.findings_are_what_is_broken.Goals as goal
-
-pub returns : goal.returns
-returns c = law

@@ -1,5 +1,0 @@
-use Rattle.std.proofs.Common.{length}
-use Rattle.hdmi_contents.proofs.contents.+lists_format_zero.Given as goal
-
-abbrev pub decreases-lists_format_zero : goal.decreases-lists_format_zero
-decreases-lists_format_zero l = length l.formats.now

@@ -1,5 +1,0 @@
-use Rattle.hdmi_convert.proofs.PortLemmas.{by_the_tree}
-use Rattle.hdmi_convert.proofs.laws.ports_are_those_of_the_tree.Goals as goal
-
-pub returns : goal.returns
-returns c = by_the_tree

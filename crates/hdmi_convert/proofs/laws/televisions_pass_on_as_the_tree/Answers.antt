@@ -1,5 +1,0 @@
-use Rattle.hdmi_convert.proofs.PortLemmas.{by_television}
-use Rattle.hdmi_convert.proofs.laws.televisions_pass_on_as_the_tree.Goals as goal
-
-pub returns : goal.returns
-returns c = by_television

@@ -1,4 +1,0 @@
-use Rattle.hdmi_ddc.proofs.readout.+add_rows.Given as goal
-
-abbrev pub decreases-add_rows : goal.decreases-add_rows
-decreases-add_rows g l = l.count

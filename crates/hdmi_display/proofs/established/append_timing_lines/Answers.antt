@@ -1,4 +1,0 @@
-use Rattle.hdmi_display.proofs.established.append_timing_lines.Goals as goal
-
-pub returns-clause-items : goal.returns-clause-items
-returns-clause-items c = c.append_bit_lines.ensures.items

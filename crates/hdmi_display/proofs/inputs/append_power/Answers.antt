@@ -1,4 +1,0 @@
-use Rattle.hdmi_display.proofs.inputs.append_power.Goals as goal
-
-pub returns-clause-items : goal.returns-clause-items
-returns-clause-items c = c.append_bits.ensures.items

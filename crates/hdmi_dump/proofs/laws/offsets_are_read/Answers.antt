@@ -1,5 +1,0 @@
-use Rattle.hdmi_dump.proofs.Offsets as lemmas
-use Rattle.hdmi_dump.proofs.laws.offsets_are_read.Goals as goal
-
-pub returns : goal.returns
-returns c = lemmas.offsets_are_read

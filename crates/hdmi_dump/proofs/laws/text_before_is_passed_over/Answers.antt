@@ -1,5 +1,0 @@
-use Rattle.hdmi_dump.proofs.Before as lemmas
-use Rattle.hdmi_dump.proofs.laws.text_before_is_passed_over.Goals as goal
-
-pub returns : goal.returns
-returns c = lemmas.text_before

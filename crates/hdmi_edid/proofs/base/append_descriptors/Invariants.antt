@@ -1,9 +1,0 @@
-use Rattle.std.proofs.Common.{◌≡◌, ◌+◌, ◌*◌, ◌++◌, length, take, flat_map}
-use Rattle.hdmi_edid.specs.Descriptor.{descriptor_bytes}
-use Rattle.hdmi_edid.proofs.base.append_descriptors.Given as goal
-
-abbrev pub invariant-loop-descriptor : goal.invariant-loop-descriptor
-invariant-loop-descriptor l = record {
-  items : l.block.items ≡ l.fn.block.items ++ flat_map descriptor_bytes (take l.descriptor-index l.descriptors);
-  len : length l.block.items ≡ 54 + 18 * l.descriptor-index;
-}

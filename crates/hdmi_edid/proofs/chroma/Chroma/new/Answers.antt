@@ -1,6 +1,0 @@
-use Rattle.std.proofs.Common.{sym}
-use Rattle.hdmi_edid.proofs.Bytes.{cells}
-use Rattle.hdmi_edid.proofs.chroma.Chroma.new.Goals as goal
-
-pub returns : goal.returns
-returns c = sym (cells c.args.numbers.now 8 c.if-n-ne8.false)

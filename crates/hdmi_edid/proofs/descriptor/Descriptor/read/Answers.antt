@@ -1,5 +1,0 @@
-use Rattle.hdmi_edid.proofs.Bytes.{are_bytes-cells}
-use Rattle.hdmi_edid.proofs.descriptor.Descriptor.read.Goals as goal
-
-pub invariant_of-result-clause-bytes_fit : goal.invariant_of-result-clause-bytes_fit
-invariant_of-result-clause-bytes_fit c = are_bytes-cells c.args.bytes.now c.fits-bytes

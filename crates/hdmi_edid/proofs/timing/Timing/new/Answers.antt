@@ -1,6 +1,0 @@
-use Rattle.std.proofs.Common.{sym, refl}
-use Rattle.hdmi_edid.proofs.Bytes.{cells}
-use Rattle.hdmi_edid.proofs.timing.Timing.new.Goals as goal
-
-pub returns : goal.returns
-returns c = (sym (cells c.args.numbers.now 13 c.if-n-ne13.false), refl)

@@ -1,6 +1,0 @@
-use Rattle.hdmi_edtext.specs.Drafts.{draft_of}
-use Rattle.hdmi_edtext.proofs.Places.{not_all, whole_stage}
-use Rattle.hdmi_edtext.proofs.draft.EdidDraft.is_whole.Goals as goal
-
-pub returns-in_default-clause-begun : goal.returns-in_default-clause-begun
-returns-in_default-clause-begun c = λ begun e all. not_all (draft_of c.args.self.now) e (λ whole. c.in_default.not-Whole (whole_stage c.args.self.now whole)) all

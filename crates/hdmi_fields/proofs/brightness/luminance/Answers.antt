@@ -1,7 +1,0 @@
-use Rattle.std.proofs.Common.{rules}
-use Rattle.hdmi_fields.specs.Luminance.{luminance}
-use Rattle.hdmi_fields.proofs.brightness.luminance.Goals as goal
-
-pub returns : goal.returns
-unfolding luminance
-returns c = search rules

@@ -1,5 +1,0 @@
-use Rattle.std.proofs.Common.{length}
-use Rattle.hdmi_fields.proofs.fields.+append_fields.Given as goal
-
-abbrev pub decreases-append_fields : goal.decreases-append_fields
-decreases-append_fields l = length l.fields.now

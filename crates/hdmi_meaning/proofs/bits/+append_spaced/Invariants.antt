@@ -1,5 +1,0 @@
-use Rattle.std.proofs.Common.{length}
-use Rattle.hdmi_meaning.proofs.bits.+append_spaced.Given as goal
-
-abbrev pub decreases-append_spaced : goal.decreases-append_spaced
-decreases-append_spaced l = length l.rows.now

@@ -1,5 +1,0 @@
-use Rattle.std.proofs.Common.{length}
-use Rattle.hdmi_native.proofs.natives.+append_codes.Given as goal
-
-abbrev pub decreases-append_codes : goal.decreases-append_codes
-decreases-append_codes l = length l.svds.now

@@ -1,5 +1,0 @@
-use Rattle.std.proofs.Common.{length}
-use Rattle.hdmi_parts.proofs.codes.+repeats.Given as goal
-
-abbrev pub decreases-repeats : goal.decreases-repeats
-decreases-repeats l = length l.codes.now

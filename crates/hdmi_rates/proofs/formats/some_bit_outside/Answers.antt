@@ -1,7 +1,0 @@
-use Rattle.std.proofs.Common.{rules}
-use Rattle.hdmi_rates.specs.Formats.{some_bit_outside}
-use Rattle.hdmi_rates.proofs.formats.some_bit_outside.Goals as goal
-
-pub returns : goal.returns
-unfolding some_bit_outside
-returns c = search rules

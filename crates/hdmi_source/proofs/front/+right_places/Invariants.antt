@@ -1,5 +1,0 @@
-use Rattle.std.proofs.Common.{length}
-use Rattle.hdmi_source.proofs.front.+right_places.Given as goal
-
-abbrev pub decreases-right_places : goal.decreases-right_places
-decreases-right_places l = length l.bytes.now

@@ -1,5 +1,0 @@
-use Rattle.hdmi_source.proofs.Strict.{taken_strictly}
-use Rattle.hdmi_source.proofs.laws.mended_bytes_are_taken.Goals as goal
-
-pub returns : goal.returns
-returns c = taken_strictly

@@ -1,7 +1,0 @@
-use Rattle.std.proofs.Common.{subst}
-use Rattle.hdmi_core.specs.Adds.{Adds}
-use Rattle.hdmi_source.specs.Notes.{revision_by}
-use Rattle.hdmi_source.proofs.notes.add_revision.Goals as goal
-
-pub returns : goal.returns
-returns g c = subst (λ r. Adds c.args.out.now c.add_revision_by.new.out (revision_by r)) c.byte_at-revision.ensures c.add_revision_by.ensures

@@ -1,6 +1,0 @@
-use Rattle.std.proofs.Common.{ap, sym, ◌∙◌}
-use Rattle.hdminet_captures.specs.Captures.{name_of}
-use Rattle.hdminet_program.proofs.program.name_of.Goals as goal
-
-pub returns-in-None : goal.returns-in-None
-returns-in-None c = c.new.ensures.items ∙ ap name_of (sym c.in-None.ensures)

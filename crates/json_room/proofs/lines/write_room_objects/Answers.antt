@@ -1,0 +1,53 @@
+use Rattle.std.proofs.Common.{◌++◌, ◌∙◌, ℕ, Bool, List, Option, Ok, Err, Result, ap, refl, rules, subst}
+use Rattle.std.specs.List.{flat_map}
+use Rattle.text_core.specs.Adds.{Adds}
+use Rattle.text_core.specs.Cut.{WrittenText}
+use Rattle.text_core.specs.Lines.{lines_of}
+use Rattle.text_core.specs.declared.sink.WriteFault.{WriteFault}
+use Rattle.text_core.proofs.Adding.{loan_ended, then}
+use Rattle.json_trace.specs.Object.{AreInOrder}
+use Rattle.json_trace.specs.Written.{WritesText}
+use Rattle.json_trace.proofs.Writing.{adds_as}
+use Rattle.json_room.specs.Event.{IsRoomObject}
+use Rattle.json_room.specs.Head.{head_text}
+use Rattle.json_room.proofs.lines.write_room_objects.Goals as goal
+
+pub returns-in-Ok : goal.returns-in-Ok
+returns-in-Ok g c =
+    let old = g.S.Sink.contents c.args.out.now in
+    let was = g.S.Sink.is_stuck c.args.out.now in
+    let topology = c.new-lines.ensures.topology in
+    let script = c.new-lines.ensures.script in
+    let t = c.add.ensures.objects in
+    let text = flat_map head_text (lines_of c.args.topology.now) ++ flat_map head_text (lines_of c.args.script.now) ++ t.0 in
+    let are = subst (λ (s : List ℕ). AreInOrder (IsRoomObject (lines_of s)) (lines_of c.args.trace.now) t.0) script t.1 in
+    let heads = ap (λ (s : List ℕ). flat_map head_text (lines_of s) ++ flat_map head_text (lines_of c.new-lines.result.script.now)) topology
+    ∙ ap (λ (s : List ℕ). flat_map head_text (lines_of c.args.topology.now) ++ flat_map head_text (lines_of s)) script in
+    let all : Adds c.new-objects.result c.add.new.out text = then _ _ _ _ _ (adds_as c.new-objects.result c.add_head.new.out _ _ heads c.add_head.ensures) t.2 in (
+      text,
+      (t.0, are, refl),
+      loan_ended g.S.Sink.contents g.S.Sink.is_stuck c.args.out.now _ c.into_sink-below.result.now _ c.into_sink-below.result.ghost_name c.new-objects.result c.add.new.out text
+          (λ (k : Option (List ℕ)) (s : Bool). WritesText old k was s text (Ok tt)) c.new-objects.ensures all
+          (λ added. let whole = subst (λ (r : Result ℕ WriteFault). WrittenText old c.add.new.out.known was c.add.new.out.stuck text r) c.in-Ok.is (c.written-written.ensures.text _ _ _ text added) in (whole.1, whole.2))
+          c.into_sink-below.ensures.loan c.into_sink-below.ensures.known c.into_sink-below.ensures.stuck (search rules),
+    )
+
+pub returns-in-Err : goal.returns-in-Err
+returns-in-Err g c =
+    let old = g.S.Sink.contents c.args.out.now in
+    let was = g.S.Sink.is_stuck c.args.out.now in
+    let topology = c.new-lines.ensures.topology in
+    let script = c.new-lines.ensures.script in
+    let t = c.add.ensures.objects in
+    let text = flat_map head_text (lines_of c.args.topology.now) ++ flat_map head_text (lines_of c.args.script.now) ++ t.0 in
+    let are = subst (λ (s : List ℕ). AreInOrder (IsRoomObject (lines_of s)) (lines_of c.args.trace.now) t.0) script t.1 in
+    let heads = ap (λ (s : List ℕ). flat_map head_text (lines_of s) ++ flat_map head_text (lines_of c.new-lines.result.script.now)) topology
+    ∙ ap (λ (s : List ℕ). flat_map head_text (lines_of c.args.topology.now) ++ flat_map head_text (lines_of s)) script in
+    let all : Adds c.new-objects.result c.add.new.out text = then _ _ _ _ _ (adds_as c.new-objects.result c.add_head.new.out _ _ heads c.add_head.ensures) t.2 in (
+      text,
+      (t.0, are, refl),
+      loan_ended g.S.Sink.contents g.S.Sink.is_stuck c.args.out.now _ c.into_sink-below.result.now _ c.into_sink-below.result.ghost_name c.new-objects.result c.add.new.out text
+          (λ (k : Option (List ℕ)) (s : Bool). WritesText old k was s text (Err c.in-Err.fault)) c.new-objects.ensures all
+          (λ added. subst (λ (r : Result ℕ WriteFault). WrittenText old c.add.new.out.known was c.add.new.out.stuck text r) c.in-Err.is (c.written-written.ensures.text _ _ _ text added))
+          c.into_sink-below.ensures.loan c.into_sink-below.ensures.known c.into_sink-below.ensures.stuck (search rules),
+    )

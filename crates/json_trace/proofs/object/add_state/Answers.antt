@@ -1,0 +1,11 @@
+use Rattle.std.proofs.Common.{◌++◌, ℕ, List, ap, codes}
+use Rattle.json_trace.specs.Columns.{fields, state_fields}
+use Rattle.json_trace.specs.Object.{type_field}
+use Rattle.text_core.proofs.Adding.{then}
+use Rattle.json_trace.proofs.Writing.{adds_as}
+use Rattle.json_trace.proofs.object.add_state.Goals as goal
+
+pub returns : goal.returns
+returns g c =
+    adds_as c.args.out.now c.add_fields.new.out _ _ (ap (λ (v : List ℕ). type_field (codes "state") ++ fields state_fields v) c.after_word.ensures)
+    (then _ _ _ _ _ c.add_type.ensures c.add_fields.ensures)

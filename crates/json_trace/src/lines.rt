@@ -1,0 +1,78 @@
+//! The objects of the lines of a text.
+ghost use Rattle.std.specs.Prelude.{ℕ, List};
+ghost use Rattle.text_core.specs.Adds.{Adds};
+ghost use Rattle.text_core.specs.Lines.{lines_of};
+ghost use Rattle.json_trace.specs.Object.{AreInOrder, AreObjects};
+ghost use Rattle.json_trace.specs.Written.{WritesText};
+
+use crate::object::add_object;
+use text_core::{Counted, Sink, WriteFault, first_line};
+
+// Adds the object of each line.
+fn add_objects<S: Sink>(out: &mut Counted<'_, S>, text: &[u8])
+    ensures { (objects : List ℕ) × AreObjects (lines_of text.now) objects × Adds out.old out.new objects }
+{
+    let mut rest = text;
+    while let Some((line, after)) = first_line(rest) {
+        add_object(out, line);
+        rest = after;
+    }
+}
+
+/// What adds the objects of lines, of one text after another.
+pub trait LineObjects {
+    /// What stands before the first object.
+    ghost head: { Self → List ℕ };
+
+    /// What is the object of a line.
+    ghost is: { Self → List ℕ → List ℕ → Type 0 };
+
+    /// Adds what stands before the first object.
+    fn add_head<S: Sink>(&self, out: &mut Counted<'_, S>)
+        ensures { Adds out.old out.new (head self.now) };
+
+    /// Adds the object of each line of a text.
+    fn add<S: Sink>(&mut self, out: &mut Counted<'_, S>, text: &[u8])
+        ensures objects { (objects : List ℕ) × AreInOrder (is self.old) (lines_of text.now) objects × Adds out.old out.new objects }
+        ensures same { (line object : List ℕ) → is self.new line object → is self.old line object };
+}
+
+/// The lines of a trace, or of readings, as they stand.
+#[derive(Clone, Copy, Debug)]
+pub struct PlainLines;
+
+impl LineObjects for PlainLines {
+    ghost use Rattle.std.specs.Prelude.{[]};
+    ghost use Rattle.json_trace.specs.Object.{IsObject};
+
+    ghost head = { λ lines. [] };
+
+    ghost is = { λ lines. IsObject };
+
+    #[tactic(auto, using(text_core::proofs::Adding::nothing))]
+    fn add_head<S: Sink>(&self, _out: &mut Counted<'_, S>) {}
+
+    fn add<S: Sink>(&mut self, out: &mut Counted<'_, S>, text: &[u8]) {
+        add_objects(out, text);
+    }
+}
+
+/// Writes the object of each line of a trace, or of readings, a line each.
+///
+/// # Errors
+///
+/// The sink takes no more: then the front of the objects was written, as long as it reports.
+pub fn write_objects<S: Sink>(text: &[u8], out: &mut S) -> Result<(), WriteFault>
+    ensures { (objects : List ℕ) × AreObjects (lines_of text.now) objects
+        × WritesText (S.contents out.old) (S.contents out.new) (S.is_stuck out.old) (S.is_stuck out.new) objects result }
+{
+    let mut objects = Counted::new(out);
+    add_objects(&mut objects, text);
+    let written = objects.written();
+    // No effect at run time. The proof reads what `out` holds from the sink that comes back.
+    let _below = objects.into_sink();
+    match written {
+        Ok(_) => Ok(()),
+        Err(fault) => Err(fault),
+    }
+}

@@ -1,0 +1,121 @@
+//! A sender of a frame on the CEC line. The caller keeps what it keeps.
+ghost use Rattle.std.specs.Prelude.{◌≡◌, ◌≤◌, ◌<◌, Some, None, length};
+ghost use Rattle.line_wave.specs.Bounds.{latest_heard};
+ghost use Rattle.line_reading.specs.Parts.{ArePartsOfSender};
+ghost use Rattle.line_reading.specs.Sending.{pull_of};
+ghost use Rattle.line_reading.specs.declared.receiver.Told.{Told as ReportedValue};
+ghost use Rattle.line_reading.specs.declared.sender.Sender.{Sender as SenderValue};
+ghost use Rattle.library_answers.specs.Codes.{number_of};
+ghost use Rattle.library_answers.specs.declared.code.Code.TheVariants.{Done, FrameEmpty, FrameTooLong, Heard as NothingHeard, Late, State};
+ghost use Rattle.library_wire.specs.Heard.{instant_refused, reported_in};
+ghost use Rattle.library_wire.specs.Sender.{HasBegun, IsChange, IsLeft, IsNoSender, IsReported, pull_code, pull_reported};
+
+use crate::heard::{Heard, Instant, instant_of, instant_refused, reported_in};
+use library_answers::{Code, frame_code};
+use line_frames::Frame;
+use line_reading::{Sender, SenderParts};
+use line_wave::LATEST_HEARD;
+
+/// Whether a sender pulls the line low.
+#[repr(C)]
+#[derive(Clone, Copy, Debug, PartialEq, Eq)]
+pub struct Pull {
+    /// The number of a `Code`: 0 where it is known.
+    pub code: u32,
+    /// Whether it pulls.
+    pub is_low: bool,
+}
+
+/// Begins to send a frame at `t`, in microseconds: the line falls then. Answers the number of a `Code`.
+///
+/// Refused where there is no byte, or more than 16, and then where `t` is after 3,000,000,000,000: the sender stays as it
+/// was.
+pub fn sender_begin(sender: &mut SenderParts, bytes: &[u8], t: u64) -> u32
+    ensures begun { 1 ≤ length bytes.now → length bytes.now ≤ 16 → t ≤ latest_heard → (result ≡ number_of Done) × HasBegun bytes.now t sender.new }
+    ensures empty { length bytes.now ≡ 0 → IsLeft FrameEmpty result sender.old sender.new }
+    ensures too_long { 16 < length bytes.now → IsLeft FrameTooLong result sender.old sender.new }
+    ensures late { 1 ≤ length bytes.now → length bytes.now ≤ 16 → latest_heard < t → IsLeft Late result sender.old sender.new }
+{
+    let frame = match Frame::new(bytes) {
+        Ok(frame) => frame,
+        Err(error) => return frame_code(error).number(),
+    };
+    if t > LATEST_HEARD {
+        return Code::Late.number();
+    }
+    *sender = Sender::begin(frame, t).parts();
+    Code::Done.number()
+}
+
+/// What a receiver told at `t` of the reading that this sender began. Answers the number of a `Code`.
+///
+/// Refused where the state is no sender's, then where no receiver reports this, and then where `t` is after
+/// 3,000,000,000,000 microseconds: the sender stays as it was.
+pub fn sender_heard(sender: &mut SenderParts, heard: &Heard, t: u64) -> u32
+    ensures hears { (s : SenderValue) → (reported : ReportedValue) → ArePartsOfSender s sender.old → reported_in heard.now ≡ Some reported → t ≤ latest_heard
+        → (result ≡ number_of Done) × IsReported s reported t sender.new }
+    ensures spoilt { IsNoSender sender.old → IsLeft State result sender.old sender.new }
+    ensures nothing { (s : SenderValue) → ArePartsOfSender s sender.old → reported_in heard.now ≡ None → IsLeft NothingHeard result sender.old sender.new }
+    ensures late { (s : SenderValue) → (reported : ReportedValue) → ArePartsOfSender s sender.old → reported_in heard.now ≡ Some reported → latest_heard < t
+        → IsLeft Late result sender.old sender.new }
+{
+    let Some(was) = Sender::of_parts(sender) else {
+        return Code::State.number();
+    };
+    let Some(reported) = reported_in(*heard) else {
+        return Code::Heard.number();
+    };
+    if t > LATEST_HEARD {
+        return Code::Late.number();
+    }
+    let mut next = was;
+    next.heard(reported, t);
+    *sender = next.parts();
+    Code::Done.number()
+}
+
+fn pull_refused(code: Code) -> Pull
+    ensures { result ≡ pull_code code }
+{
+    Pull {
+        code: code.number(),
+        is_low: false,
+    }
+}
+
+/// Whether the sender pulls the line low in microsecond `t`.
+///
+/// Refused where the state is no sender's, and then where `t` is after 3,000,000,000,000.
+pub fn sender_pulls(sender: &SenderParts, t: u64) -> Pull
+    ensures pulls { (s : SenderValue) → ArePartsOfSender s sender.now → t ≤ latest_heard → result ≡ pull_reported (pull_of s t) }
+    ensures spoilt { IsNoSender sender.now → result ≡ pull_code State }
+    ensures late { (s : SenderValue) → ArePartsOfSender s sender.now → latest_heard < t → result ≡ pull_code Late }
+{
+    let Some(sender) = Sender::of_parts(sender) else {
+        return pull_refused(Code::State);
+    };
+    if t > LATEST_HEARD {
+        return pull_refused(Code::Late);
+    }
+    Pull {
+        code: Code::Done.number(),
+        is_low: sender.pulls(t),
+    }
+}
+
+/// The first instant after `t` at which the pull changes, where the sender is told nothing more, in microseconds.
+///
+/// Refused where the state is no sender's, then where `t` is after 3,000,000,000,000, and absent where it changes no more.
+pub fn sender_next_change(sender: &SenderParts, t: u64) -> Instant
+    ensures changes { (s : SenderValue) → ArePartsOfSender s sender.now → t ≤ latest_heard → IsChange s t result }
+    ensures spoilt { IsNoSender sender.now → result ≡ instant_refused State }
+    ensures late { (s : SenderValue) → ArePartsOfSender s sender.now → latest_heard < t → result ≡ instant_refused Late }
+{
+    let Some(sender) = Sender::of_parts(sender) else {
+        return instant_refused(Code::State);
+    };
+    if t > LATEST_HEARD {
+        return instant_refused(Code::Late);
+    }
+    instant_of(sender.next_change(t))
+}

@@ -1,0 +1,147 @@
+//! Laws of rounds: one line, arbitration (CEC 9), the acknowledge bit (CEC 6.1), and how long a round lasts.
+ghost use Rattle.line_rounds.specs.Alone.{RoundsAreLone};
+ghost use Rattle.line_rounds.specs.Bounds.{RoundsAreShort};
+ghost use Rattle.line_rounds.specs.Contend.{AcknowledgedIsZero, AcknowledgersHold, AlikePulses, CompleteIsSurvivors, CompleteIsWinners, HasLine, LaterPulses, LosersInside, RoundBelow, SameLine, WinnersLast, WinnersWindow};
+ghost use Rattle.line_rounds.specs.Falls.{EachFallBegins, FallsAreRead, FewFalls, RoundFits, WaveFits};
+ghost use Rattle.line_rounds.specs.Lasting.{RoundsLast};
+ghost use Rattle.line_rounds.specs.OneOutcome.{OneOutcome, RoundsHaveOutcomes};
+ghost use Rattle.line_rounds.specs.Polls.{FreeIsRead, HoldersAreHeard};
+ghost use Rattle.line_rounds.specs.Round.{FatesReported, OneLine};
+ghost use Rattle.line_rounds.specs.Winning.{CompleteIsRead};
+
+// ---- the line
+
+/// A round has one line, whichever way it is found.
+pub fn one_line()
+    ensures { OneLine }
+{}
+
+/// Where a sender that is not out pulls, a winner that is not out pulls.
+pub fn losers_inside()
+    ensures { LosersInside }
+{}
+
+/// Where pulses are sparse, the round's line is that on which the winners alone pull: losers pull only inside winners, and
+/// a sender has no fall to make at an ending for want of a fall.
+pub fn same_line()
+    ensures { SameLine }
+{}
+
+/// While a winner is still sending, the read fall of a slot is not after its own and at most 350 before it.
+pub fn winners_window()
+    ensures { WinnersWindow }
+{}
+
+/// No winner is out before another sender is.
+pub fn winners_last()
+    ensures { WinnersLast }
+{}
+
+/// Each round has a line.
+pub fn has_line()
+    ensures { HasLine }
+{}
+
+/// A pulse changes nothing before it begins.
+pub fn later_pulses()
+    ensures { LaterPulses }
+{}
+
+/// Pulses that are alike before an instant have lines that are.
+pub fn alike_pulses()
+    ensures { AlikePulses }
+{}
+
+/// What everybody pulled below an instant is the round's line there, whatever pulses follow.
+pub fn round_below()
+    ensures { RoundBelow }
+{}
+
+/// Arbitration (CEC 9): a complete reading has, acknowledge slots left out, the bits of a winner.
+pub fn complete_is_winners()
+    ensures { CompleteIsWinners }
+{}
+
+/// Of any line: a complete reading has, acknowledge slots left out, the bits of each sender that is not out of it.
+pub fn complete_is_survivors()
+    ensures { CompleteIsSurvivors }
+{}
+
+/// Arbitration (CEC 9): what is read of a complete round as its frame is the frame of a winner.
+pub fn complete_is_read()
+    ensures { CompleteIsRead }
+{}
+
+/// Where an acknowledger pulls, the acknowledge bit is read 0 (CEC 6.1).
+pub fn acknowledged_is_zero()
+    ensures { AcknowledgedIsZero }
+{}
+
+/// Who acknowledges is decided at the slot's fall, and holds for the 1,500 of the pull.
+pub fn acknowledgers_hold()
+    ensures { AcknowledgersHold }
+{}
+
+// ---- falls, and how long it lasts
+
+/// A line that keeps the round's rule falls only where a sender's stretch or a pulse begins, where frames have at most 16
+/// blocks (CEC 6). Whoever pulls, it falls at most 162 times, and a wave of it has at most 162 stretches.
+pub fn few_falls()
+    ensures begins { EachFallBegins }
+    ensures few { FewFalls }
+    ensures wave { WaveFits }
+    ensures round { RoundFits }
+{}
+
+/// Of any line at most 162 falls lie from a reading's begin to its last microsecond, whoever pulls.
+pub fn falls_are_read()
+    ensures { FallsAreRead }
+{}
+
+/// A round in which a seat sends, or a pulse begins at its begin, ends after its begin, and its last low
+/// stretch too.
+pub fn rounds_last()
+    ensures { RoundsLast }
+{}
+
+/// A round's line by itself is read once, from the round's begin, whatever pulls in order there are: it is high before and from
+/// the rest on, and falls no more once the reading is over. That reading is the outcome's.
+pub fn rounds_are_lone()
+    ensures { RoundsAreLone }
+{}
+
+/// A round's reading ends at most 444,861 microseconds after its begin, and its last low stretch at most 448,461 after it, or with
+/// a pull that began by then: with sparse pulses at most 458,461 after it. That stretch begins by the reading's last microsecond,
+/// and at most 19 sparse pulses begin in all that time.
+pub fn rounds_are_short()
+    ensures { RoundsAreShort }
+{}
+
+// ---- what the outcome says
+
+/// A round has one outcome: the same seats, begin and pulses give one reading, the same survivors and losers,
+/// one rest and one wave.
+pub fn one_outcome()
+    ensures { OneOutcome }
+{}
+
+/// Each round has an outcome, whoever sends and whatever pulls in order come.
+pub fn rounds_have_outcomes()
+    ensures { RoundsHaveOutcomes }
+{}
+
+/// What an outcome says of each sender and of its close is what becomes of them in the round.
+pub fn fates_reported()
+    ensures { FatesReported }
+{}
+
+/// A poll of an address below 15 that nobody acknowledged was read whole, just as it was sent.
+pub fn free_is_read()
+    ensures { FreeIsRead }
+{}
+
+/// Where a poll was not acknowledged, whoever is plugged in and holds its address was itself still sending to that
+/// address, whatever pulses there were.
+pub fn holders_are_heard()
+    ensures { HoldersAreHeard }
+{}

@@ -1,0 +1,30 @@
+-- Along the slots of a reading, by the standard's windows.
+use Rattle.std.proofs.Common.{◌≡◌, ℕ, suc, ◌<◌, ◌≤◌, Bool, List, [], ◌∷◌, ◌++◌}
+use Rattle.line_wave.specs.Line.{Line}
+use Rattle.line_frames.specs.declared.Ending.{Ending}
+use Rattle.line_reading.specs.Reading.After.{Ends}
+use Rattle.line_reading.specs.Reading.{Slot, known_at, known_slot, bit_sampled_at, reading_of, read_slots, after_slot, last_ending, last_heard}
+use Rattle.line_reading.specs.Windows.{standard}
+use Rattle.line_reading.proofs.Causes.{AreSampled}
+use Rattle.line_reading.proofs.Standard.{standard_are}
+use Rattle.line_reading.proofs.AlongBy as by
+pub use Rattle.line_reading.proofs.AlongBy.{next_none, next_here}
+
+abbrev pub AreOver : ℕ → List Slot → Type 0
+AreOver = by.AreOver standard standard_are
+
+abbrev pub Reached : Line → ℕ → ℕ → List Slot → List Bool → ℕ → Type 0
+Reached = by.Reached standard standard_are
+
+pub over_sampled : (e t : ℕ) (ss : List Slot) → e ≤ t → AreOver e ss → AreSampled t ss
+over_sampled = by.over_sampled standard standard_are
+
+pub ends_so : (low : Line) (begin left : ℕ) (xs : List Slot) (before : List Bool) (e : ℕ) (ending : Ending) (at : ℕ) → Reached low begin (suc left) xs before e → after_slot low e (last_ending before) ≡ Ends ending at
+    → reading_of low begin ≡ record { slots = xs ++ record { fall = e; bit = bit_sampled_at low e } ∷ []; ending = ending; at = at; until = last_heard ending at }
+unfolding read_slots
+ends_so = by.ends_so standard standard_are
+
+pub known_ending : (low : Line) (begin left : ℕ) (xs : List Slot) (bits : List Bool) (e t : ℕ) (ending : Ending) (at : ℕ) → Reached low begin (suc left) xs bits e → e < t
+    → after_slot low e (last_ending bits) ≡ Ends ending at → (known_at t (reading_of low begin)).slots ≡ xs ++ known_slot t (record { fall = e; bit = bit_sampled_at low e }) ∷ []
+unfolding read_slots
+known_ending = by.known_ending standard standard_are

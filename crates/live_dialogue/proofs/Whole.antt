@@ -1,0 +1,149 @@
+-- A whole session, from its parts.
+use Rattle.std.proofs.Common.{◌≡◌, ℕ, true, false, List, ◌++◌, Option, Some, Result, Ok, Err, inl, inr, length, ◌≤◌, refl, sym, subst}
+use Rattle.std.proofs.lemmas.Bool.{false≢true}
+use Rattle.room_net.specs.State.{first_net}
+use Rattle.live_incoming.specs.Incoming.{text_of_lines}
+use Rattle.room_run.specs.declared.run.Reporting.TheVariants.{Trace}
+use Rattle.room_run.specs.Run.{IsRunText, start}
+use Rattle.room_run.specs.Emulate.{IsTraceOf}
+use Rattle.live_session.specs.Session.{Session, first_session}
+use Rattle.live_session.specs.Whole.{AreLines}
+use Rattle.live_session.proofs.Wholly.{sessions_report_traces}
+use Rattle.live_session.proofs.Kept.{sessions_report_traces_of}
+use Rattle.live_dialogue.specs.declared.error.SessionError.{SessionError}
+use Rattle.live_dialogue.specs.declared.error.SessionError.TheVariants.{Read, TooLong, NoScriptLine, Topology, Edid, Script, Write, Memory}
+use Rattle.live_dialogue.specs.Dialogue.{HasBegun, HasRoom, HasRun, HaveAnswers, IsAnswering, IsFirstPut, IsInLimits, IsOpened, IsOpening, IsSession, IsTalk, IsTopologyFault, first_reported, is_write}
+use Rattle.line_wave.specs.Bounds.{most_pulses}
+
+-- ---- what stands first, and the answers
+
+pub talked_on : (before after : Option (List ℕ)) (s : Session) (old put new : Option (List ℕ)) (result : Result Unit SessionError) → IsFirstPut s old put (Ok tt) → IsAnswering before after s put new result
+    → IsTalk before after s old new result
+talked_on before after s old put new result first answered = inl (put, first, answered)
+
+pub talked_cut : (before after : Option (List ℕ)) (s : Session) (old new : Option (List ℕ)) (error : SessionError) → IsFirstPut s old new (Err error) → IsTalk before after s old new (Err error)
+talked_cut before after s old new (Write count) first = inr (refl, first)
+talked_cut before after s old new Read first = absurd first
+talked_cut before after s old new TooLong first = absurd first
+talked_cut before after s old new NoScriptLine first = absurd first
+talked_cut before after s old new (Topology line cause word) first = absurd first
+talked_cut before after s old new (Edid cause) first = absurd first
+talked_cut before after s old new (Script line cause) first = absurd first
+talked_cut before after s old new Memory first = absurd first
+
+-- ---- the trace
+
+trace_of : (topology : List ℕ) (s : Session) (b : HasBegun topology s) (lines kept : List (List ℕ)) (reported text : List ℕ) (t : Session) (end : ℕ) (before after old new : Option (List ℕ)) (a : HaveAnswers before after s old new t)
+    → t.notes.end ≡ Some end → length t.notes.pulses ≤ most_pulses → IsTraceOf topology (text_of_lines a.kept) (first_reported s ++ a.reported) t.place.totals
+trace_of topology s b lines kept reported text t end before after old new a ended sparse =
+    let are : AreLines a.lines (first_session b.edid b.plan.tree) a.kept a.reported a.text t = subst (λ (s : Session). AreLines a.lines s a.kept a.reported a.text t) b.is a.are in
+    subst (λ (s : Session). IsTraceOf topology (text_of_lines a.kept) (first_reported s ++ a.reported) t.place.totals) (sym b.is)
+    (sessions_report_traces_of topology b.plan b.edid a.lines a.kept a.reported a.text t end b.plan_is b.root a.whole a.few sparse are ended)
+
+run_of : (topology : List ℕ) (s : Session) (b : HasBegun topology s) (t : Session) (end : ℕ) (before after old new : Option (List ℕ)) (a : HaveAnswers before after s old new t)
+    → t.notes.end ≡ Some end → IsRunText (Trace b.edid) end (start (first_net b.plan.tree t.notes.pulses) t.notes.events) (first_reported s ++ a.reported) t.place.totals
+run_of topology s b t end before after old new a ended =
+    let are : AreLines a.lines (first_session b.edid b.plan.tree) a.kept a.reported a.text t = subst (λ (s : Session). AreLines a.lines s a.kept a.reported a.text t) b.is a.are in
+    subst (λ (s : Session). IsRunText (Trace b.edid) end (start (first_net b.plan.tree t.notes.pulses) t.notes.events) (first_reported s ++ a.reported) t.place.totals) (sym b.is)
+    (sessions_report_traces b.edid b.plan.tree a.lines a.kept a.reported a.text t end are ended)
+
+-- ---- the session
+
+quiet_cut : (error : SessionError) → (let r : Result Unit SessionError = Err error in is_write r) ≡ true → (P : SessionError → Type 0) → ((count : ℕ) → P (Write count)) → P error
+quiet_cut (Write count) e P f = f count
+quiet_cut Read e P f = absurd (false≢true e)
+quiet_cut TooLong e P f = absurd (false≢true e)
+quiet_cut NoScriptLine e P f = absurd (false≢true e)
+quiet_cut (Topology line cause word) e P f = absurd (false≢true e)
+quiet_cut (Edid cause) e P f = absurd (false≢true e)
+quiet_cut (Script line cause) e P f = absurd (false≢true e)
+quiet_cut Memory e P f = absurd (false≢true e)
+
+answered_is : (before mid after : Option (List ℕ)) (s : Session) (old put new : Option (List ℕ)) (topology : List ℕ) (result : Result Unit SessionError) → (run : HasRun before after old new)
+    → IsAnswering run.mid after run.first run.so_far new result → IsSession before after old new result
+answered_is before mid after s old put new topology (Ok done) run a = record {
+  run = run;
+  over = a;
+  reported = run_of run.topology run.first run.begins a.last a.end run.mid after run.so_far new a.answers a.ended;
+  trace = trace_of run.topology run.first run.begins a.answers.lines a.answers.kept a.answers.reported a.answers.text a.last a.end run.mid after run.so_far new a.answers a.ended;
+}
+answered_is before mid after s old put new topology (Err (Script line cause)) run a = (run, a)
+answered_is before mid after s old put new topology (Err (Write count)) run a = inl (run, a)
+answered_is before mid after s old put new topology (Err Read) run a = inr (run, a)
+answered_is before mid after s old put new topology (Err TooLong) run a = inr (run, a)
+answered_is before mid after s old put new topology (Err Memory) run a = inr (run, a)
+answered_is before mid after s old put new topology (Err NoScriptLine) run a = absurd a
+answered_is before mid after s old put new topology (Err (Topology line cause word)) run a = absurd a
+answered_is before mid after s old put new topology (Err (Edid cause)) run a = absurd a
+
+pub session_is : (before mid after : Option (List ℕ)) (s : Session) (old new : Option (List ℕ)) (topology : List ℕ) (result : Result Unit SessionError) → IsOpened before mid topology → HasBegun topology s
+    → IsTalk mid after s old new result → IsSession before after old new result
+session_is before mid after s old new topology result ready begins (inl (put, first, answered)) =
+    answered_is before mid after s old put new topology result (record { topology = topology; first = s; mid = mid; so_far = put; opened = ready; begins = begins; put = first }) answered
+session_is before mid after s old new topology (Ok done) opened begins (inr (failed, cut)) = absurd (false≢true failed)
+session_is before mid after s old new topology (Err error) opened begins (inr (failed, cut)) =
+    quiet_cut error failed (λ error. IsSession before after old new (Err error)) (λ count. inr (topology, s, mid, opened, begins, cut))
+
+-- the topology is refused
+pub refused_is : (before mid after old : Option (List ℕ)) (topology : List ℕ) (error : SessionError) → IsOpened before mid topology → IsTopologyFault topology error → IsSession before after old old (Err error)
+refused_is before mid after old topology (Topology line cause word) opened fault = ((topology, mid, opened, fault), refl)
+refused_is before mid after old topology (Edid cause) opened fault = ((topology, mid, opened, fault), refl)
+refused_is before mid after old topology Memory opened fault = inl refl
+refused_is before mid after old topology Read opened fault = absurd fault
+refused_is before mid after old topology TooLong opened fault = absurd fault
+refused_is before mid after old topology NoScriptLine opened fault = absurd fault
+refused_is before mid after old topology (Script line cause) opened fault = absurd fault
+refused_is before mid after old topology (Write count) opened fault = absurd fault
+
+pub refused_quiet : (topology : List ℕ) (error : SessionError) → IsTopologyFault topology error → (let r : Result Unit SessionError = Err error in is_write r) ≡ false
+refused_quiet topology (Topology line cause word) fault = refl
+refused_quiet topology (Edid cause) fault = refl
+refused_quiet topology Memory fault = refl
+refused_quiet topology Read fault = absurd fault
+refused_quiet topology TooLong fault = absurd fault
+refused_quiet topology NoScriptLine fault = absurd fault
+refused_quiet topology (Script line cause) fault = absurd fault
+refused_quiet topology (Write count) fault = absurd fault
+
+-- there is none
+pub unopened_is : (before after old : Option (List ℕ)) (error : SessionError) → IsOpening before after (Err error) → IsSession before after old old (Err error)
+unopened_is before after old NoScriptLine none = (none.0, refl)
+unopened_is before after old Read none = inl refl
+unopened_is before after old TooLong long = inl (long, refl)
+unopened_is before after old Memory none = inl refl
+unopened_is before after old (Topology line cause word) none = absurd none
+unopened_is before after old (Edid cause) none = absurd none
+unopened_is before after old (Script line cause) none = absurd none
+unopened_is before after old (Write count) none = absurd none
+
+-- it goes on within the limits alone
+pub in_limits : (before : Option (List ℕ)) (result : Result Unit SessionError) → HasRoom before → IsInLimits before result
+in_limits before (Ok done) room = room
+in_limits before (Err NoScriptLine) room = room
+in_limits before (Err (Topology line cause word)) room = room
+in_limits before (Err (Edid cause)) room = room
+in_limits before (Err (Script line cause)) room = room
+in_limits before (Err (Write count)) room = room
+in_limits before (Err TooLong) room = tt
+in_limits before (Err Read) room = tt
+in_limits before (Err Memory) room = tt
+
+pub unopened_limits : (before mid : Option (List ℕ)) (error : SessionError) → IsOpening before mid (Err error) → IsInLimits before (Err error)
+unopened_limits before mid NoScriptLine none = none.1
+unopened_limits before mid Read none = tt
+unopened_limits before mid TooLong long = tt
+unopened_limits before mid Memory none = tt
+unopened_limits before mid (Topology line cause word) none = absurd none
+unopened_limits before mid (Edid cause) none = absurd none
+unopened_limits before mid (Script line cause) none = absurd none
+unopened_limits before mid (Write count) none = absurd none
+
+pub unopened_quiet : (before mid : Option (List ℕ)) (error : SessionError) → IsOpening before mid (Err error) → (let r : Result Unit SessionError = Err error in is_write r) ≡ false
+unopened_quiet before mid NoScriptLine none = refl
+unopened_quiet before mid Read none = refl
+unopened_quiet before mid TooLong none = refl
+unopened_quiet before mid Memory none = refl
+unopened_quiet before mid (Topology line cause word) none = absurd none
+unopened_quiet before mid (Edid cause) none = absurd none
+unopened_quiet before mid (Script line cause) none = absurd none
+unopened_quiet before mid (Write count) none = absurd none

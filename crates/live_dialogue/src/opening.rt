@@ -1,0 +1,101 @@
+//! What stands before a session's first line: the topology, and the line `script`.
+ghost use Rattle.std.specs.Prelude.{◌≡◌, [], ◌∷◌, ◌++◌, OnOk, codes};
+ghost use Rattle.std.specs.Str.{bytes_eq};
+ghost use Rattle.std.specs.Result.{result_map_both};
+ghost use Rattle.live_incoming.specs.Incoming.{to_come};
+ghost use Rattle.live_dialogue.specs.Dialogue.{IsBegun, IsOpening, IsTopologyLine};
+
+use crate::error::SessionError;
+use crate::limits::{LONGEST_LINE, LONGEST_TOPOLOGY};
+use arrayvec::ArrayVec;
+use edid_core::{RootError, root_on_heap};
+use live_incoming::{LineFault, Lines};
+use live_session::Live;
+use room_script::{TopologyError, parse_topology};
+use std::alloc::{AllocError, Global};
+use std::io::Read;
+
+// Whether a line is the one between the topology and the lines that are answered.
+fn is_script(line: &[u8]) -> bool
+    ensures { result ≡ bytes_eq line.now (codes "script") }
+{
+    line == b"script".as_slice()
+}
+
+// A line with its end is added to a text.
+fn add_line(text: &mut Vec<u8>, line: &[u8]) -> Result<(), AllocError>
+    ensures { OnOk result (text.new.items ≡ text.old.items ++ (line.now ++ 10 ∷ [])) }
+{
+    text.extend_from_slice(line)?;
+    text.extend_from_slice(b"\n")
+}
+
+// Reads the next line before the line `script`.
+fn next_line<R: Read>(
+    lines: &mut Lines,
+    input: &mut R,
+    line: &mut ArrayVec<u8, LONGEST_LINE>,
+) -> Result<(), SessionError>
+    ensures { IsTopologyLine (to_come lines.old (R.remaining input.old)) (to_come lines.new (R.remaining input.new)) line.new.items result }
+{
+    match lines.next(input, line) {
+        Ok(more) => {
+            if more {
+                Ok(())
+            } else {
+                Err(SessionError::NoScriptLine)
+            }
+        }
+        Err(LineFault::Read) => Err(SessionError::Read),
+        Err(LineFault::TooLong) => Err(SessionError::TooLong),
+    }
+}
+
+/// Reads the text before the first line `script`, and that line.
+pub(crate) fn topology_text<R: Read>(
+    alloc: Global,
+    lines: &mut Lines,
+    input: &mut R,
+    line: &mut ArrayVec<u8, LONGEST_LINE>,
+) -> Result<Vec<u8>, SessionError>
+    ensures { IsOpening (to_come lines.old (R.remaining input.old)) (to_come lines.new (R.remaining input.new)) (result_map_both (λ text. text.items) (λ error. error) result) }
+{
+    let mut text = Vec::new(alloc);
+    'lines: while text.len() <= LONGEST_TOPOLOGY {
+        match next_line(lines, input, line) {
+            Err(error) => return Err(error),
+            Ok(()) => {
+                let bytes = line.as_slice();
+                if is_script(bytes) {
+                    return Ok(text);
+                }
+                match add_line(&mut text, bytes) {
+                    Ok(()) => {}
+                    Err(_) => return Err(SessionError::Memory),
+                }
+            }
+        }
+    }
+    Err(SessionError::TooLong)
+}
+
+/// The run of a topology before its first line.
+pub(crate) fn begin(alloc: Global, text: &[u8]) -> Result<Live, SessionError>
+    ensures { IsBegun text.now result }
+{
+    let topology = match parse_topology(alloc, text) {
+        Ok(topology) => topology,
+        Err(TopologyError::At { line, cause, word }) => {
+            return Err(SessionError::Topology { line, cause, word });
+        }
+        Err(TopologyError::Memory) => return Err(SessionError::Memory),
+    };
+    match root_on_heap(alloc, &topology.edid) {
+        Ok(edid) => match Live::new(alloc, topology.tree, edid) {
+            Ok(live) => Ok(live),
+            Err(_) => Err(SessionError::Memory),
+        },
+        Err(RootError::Cause(cause)) => Err(SessionError::Edid(cause)),
+        Err(RootError::Memory) => Err(SessionError::Memory),
+    }
+}

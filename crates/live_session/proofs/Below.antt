@@ -1,0 +1,11 @@
+-- Lemmas of the crates below.
+pub use Rattle.line_wave.proofs.Kept.{timely_tested, wave_filter}
+pub use Rattle.line_reading.proofs.Ends.{until_by}
+pub use Rattle.line_rounds.proofs.Exists.{later_pulses}
+pub use Rattle.line_rounds.proofs.OneOutcome.{one_outcome}
+pub use Rattle.room_net.proofs.Framed.{framed-applied, framed-round, framed-started, seats_fit}
+pub use Rattle.room_net.proofs.Lines.{begun}
+pub use Rattle.room_run.proofs.Advance.{event_keeps, round_begins}
+pub use Rattle.room_run.proofs.Turns.{no_turn, same_outcome}
+pub use Rattle.live_certain.proofs.Before.{NoTurn, all_on, held_ends, one_turn}
+pub use Rattle.live_certain.proofs.Certainty.{is_late, reported_is_front, round_more, round_same, turns_are_certain, turns_stay_certain}

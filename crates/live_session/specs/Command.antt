@@ -1,0 +1,42 @@
+-- The lines of a session that are no lines of a script (this profile's own): `wait`, `run to T`, `show NAME`, `edge T`,
+-- `edges on` and `edges off`. Every other line is one of the script.
+use Rattle.std.specs.Prelude.{ℕ, true, false, List, [], ◌∷◌, codes, if◌then◌else◌, Option, Some, None}
+use Rattle.std.specs.Str.{bytes_eq}
+use Rattle.edid_tree.specs.Node.{Node}
+use Rattle.edid_tree.specs.Tree.{device_named}
+use Rattle.text_core.specs.Words.{words_of, one_of, two_of}
+use Rattle.room_script.specs.Script.{time_of}
+use Rattle.live_session.specs.declared.command.Command.{Command}
+use Rattle.live_session.specs.declared.command.Command.TheVariants.{Script, Wait, RunTo, Show, Edge, Edges}
+
+-- the words after `run`
+abbrev pub run_words : Option (List ℕ × List ℕ) → Command
+run_words None = Script
+run_words (Some words) = if bytes_eq words.0 (codes "to") then RunTo (time_of words.1) else Script
+
+-- the word after `show`
+abbrev pub show_words : List Node → Option (List ℕ) → Command
+show_words tree None = Script
+show_words tree (Some name) = Show (device_named tree name)
+
+-- the word after `edge`
+abbrev pub edge_words : Option (List ℕ) → Command
+edge_words None = Script
+edge_words (Some word) = Edge (time_of word)
+
+-- the word after `edges`
+abbrev pub edges_words : Option (List ℕ) → Command
+edges_words None = Script
+edges_words (Some word) = if bytes_eq word (codes "on") then Edges true else if bytes_eq word (codes "off") then Edges false else Script
+
+abbrev pub verb_words : List Node → List (List ℕ) → Command
+verb_words tree [] = Script
+verb_words tree (verb ∷ words) =
+    if bytes_eq verb (codes "run") then run_words (two_of words)
+    else if bytes_eq verb (codes "show") then show_words tree (one_of words)
+    else if bytes_eq verb (codes "edge") then edge_words (one_of words)
+    else if bytes_eq verb (codes "edges") then edges_words (one_of words)
+    else Script
+
+abbrev pub command_of : List Node → List ℕ → Command
+command_of tree line = if bytes_eq line (codes "wait") then Wait else verb_words tree (words_of line)

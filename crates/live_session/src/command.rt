@@ -1,0 +1,109 @@
+//! The lines of a session that are no lines of a script.
+ghost use Rattle.std.specs.Prelude.{◌≡◌};
+ghost use Rattle.std.specs.Option.{option_copied};
+ghost use Rattle.text_core.specs.Words.{one_of, two_of, words_after};
+ghost use Rattle.room_script.specs.Script.{time_of};
+ghost use Rattle.live_session.specs.Command.{command_of, edge_words, edges_words, run_words, show_words};
+
+use edid_tree::Tree;
+use line_wave::LATEST_EVENT;
+use text_core::{first_word, number_in, one_word, two_words};
+
+/// What a line of a session is.
+#[derive(Clone, Copy, Debug, PartialEq, Eq)]
+pub enum Command {
+    /// A line of the script.
+    Script,
+    /// `wait`
+    Wait,
+    /// `run to T`, with the time, where it is one.
+    RunTo(Option<u64>),
+    /// `show NAME`, with the device's number, where it has that name.
+    Show(Option<usize>),
+    /// `edge T`, with the time, where it is one.
+    Edge(Option<u64>),
+    /// `edges on` or `edges off`: whether edges are reported.
+    Edges(bool),
+}
+
+fn time_in(word: &[u8]) -> Option<u64>
+    ensures { result ≡ time_of word.now }
+{
+    let time = number_in(word)?;
+    if time > LATEST_EVENT {
+        None
+    } else {
+        Some(time)
+    }
+}
+
+// What the words after `run` ask for.
+fn run_in(rest: Option<&[u8]>) -> Command
+    ensures { result ≡ run_words (two_of (words_after (option_copied rest.entry))) }
+{
+    let Some((to, time)) = two_words(rest) else {
+        return Command::Script;
+    };
+    if to == b"to".as_slice() {
+        Command::RunTo(time_in(time))
+    } else {
+        Command::Script
+    }
+}
+
+// What the word after `show` asks for.
+fn show_in(tree: &Tree<15>, rest: Option<&[u8]>) -> Command
+    ensures { result ≡ show_words tree.now (one_of (words_after (option_copied rest.entry))) }
+{
+    let Some(name) = one_word(rest) else {
+        return Command::Script;
+    };
+    Command::Show(tree.device_named(name))
+}
+
+// What the word after `edge` asks for.
+fn edge_in(rest: Option<&[u8]>) -> Command
+    ensures { result ≡ edge_words (one_of (words_after (option_copied rest.entry))) }
+{
+    let Some(time) = one_word(rest) else {
+        return Command::Script;
+    };
+    Command::Edge(time_in(time))
+}
+
+// What the word after `edges` asks for.
+fn edges_in(rest: Option<&[u8]>) -> Command
+    ensures { result ≡ edges_words (one_of (words_after (option_copied rest.entry))) }
+{
+    let Some(word) = one_word(rest) else {
+        return Command::Script;
+    };
+    if word == b"on".as_slice() {
+        Command::Edges(true)
+    } else if word == b"off".as_slice() {
+        Command::Edges(false)
+    } else {
+        Command::Script
+    }
+}
+
+/// What a line asks for.
+pub(crate) fn command_in(tree: &Tree<15>, line: &[u8]) -> Command
+    ensures { result ≡ command_of tree.now line.now }
+{
+    if line == b"wait".as_slice() {
+        return Command::Wait;
+    }
+    let (verb, rest) = first_word(line);
+    if verb == b"run".as_slice() {
+        run_in(rest)
+    } else if verb == b"show".as_slice() {
+        show_in(tree, rest)
+    } else if verb == b"edge".as_slice() {
+        edge_in(rest)
+    } else if verb == b"edges".as_slice() {
+        edges_in(rest)
+    } else {
+        Command::Script
+    }
+}

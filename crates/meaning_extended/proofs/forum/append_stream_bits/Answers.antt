@@ -1,0 +1,10 @@
+use Rattle.std.proofs.Common.{rules, ◌≡◌, ◌++◌, ◌∙◌, ap}
+use Rattle.meaning_words.specs.Notes.{set_words}
+use Rattle.meaning_extended.specs.Forum.{stream_rows}
+use Rattle.meaning_extended.proofs.forum.append_stream_bits.Goals as goal
+
+pub returns-clause-items : goal.returns-clause-items
+returns-clause-items c =
+    let e : c.append_bits.new.note.items ≡ c.args.note.now.items ++ set_words stream_rows c.from.result = c.append_bits.ensures.items in
+    let n : c.from.result ≡ c.args.bits = search rules in
+    e ∙ ap (λ n. c.args.note.now.items ++ set_words stream_rows n) n

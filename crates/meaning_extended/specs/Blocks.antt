@@ -1,0 +1,46 @@
+-- What an extended block and a vendor block mean, of all bytes after the block's header (CTA-861-G, table 56).
+use Rattle.std.specs.Prelude.{ℕ, ◌==◌, if◌then◌else◌, List, [], drop, length, slice_index}
+use Rattle.meaning_words.specs.Videos.{video_meanings}
+use Rattle.meaning_extended.specs.Colours.{capability_meanings, colour_meanings, hdr_meanings}
+use Rattle.meaning_extended.specs.Videos.{preference_meanings, map_meanings}
+use Rattle.edid_layout.specs.ForumBlock.{identifier}
+use Rattle.meaning_extended.specs.Makers.{maker_name, named_meanings, tag_name, labelled_meanings}
+use Rattle.meaning_extended.specs.Forum.{forum_meanings, sink_meanings}
+use Rattle.meaning_extended.specs.Counts.{count_meanings}
+use Rattle.meaning_vendor.specs.Dolby.{dolby_meanings}
+use Rattle.meaning_vendor.specs.Vendors.{plus_meanings, sound_meanings, soft_meanings}
+use Rattle.meaning_vendor.specs.Sync.{sync_meanings}
+
+-- video and audio of a maker (CTA-861-G, sections 7.5.7 and 7.5.8)
+abbrev pub vendor_video : List ℕ → List (List ℕ)
+vendor_video p =
+    if identifier p == 0x00d046 then dolby_meanings (drop 3 p) else if identifier p == 0x90848b then plus_meanings (drop 3 p) else []
+
+abbrev pub vendor_audio : List ℕ → List (List ℕ)
+vendor_audio p = if identifier p == 0x00d046 then sound_meanings (drop 3 p) else []
+
+-- by the extended tag, and the video codes of the EDID
+unfoldable pub tagged_meanings : List ℕ → ℕ → List ℕ → List (List ℕ)
+tagged_meanings svds tag p =
+    if tag == 0x00 then capability_meanings p
+    else if tag == 0x01 then vendor_video p
+    else if tag == 0x05 then colour_meanings p
+    else if tag == 0x06 then hdr_meanings p
+    else if tag == 0x0d then preference_meanings p
+    else if tag == 0x0e then video_meanings p
+    else if tag == 0x0f then map_meanings svds p
+    else if tag == 0x11 then vendor_audio p
+    else if tag == 0x78 then count_meanings p
+    else if tag == 0x79 then sink_meanings p
+    else labelled_meanings (tag_name tag) p
+
+abbrev pub extended_meanings : List ℕ → List ℕ → List (List ℕ)
+extended_meanings svds p = if length p == 0 then [] else tagged_meanings svds (slice_index p 0) (drop 1 p)
+
+-- by the identifier, of which C4-5D-D8 is the HDMI Forum's
+abbrev pub vendor_meanings : List ℕ → List (List ℕ)
+vendor_meanings p =
+    if identifier p == 0xc45dd8 then forum_meanings (drop 3 p)
+    else if identifier p == 0x00001a then sync_meanings (drop 3 p)
+    else if identifier p == 0xca125c then soft_meanings (drop 3 p)
+    else named_meanings (maker_name (identifier p)) p

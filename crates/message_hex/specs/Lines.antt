@@ -1,0 +1,64 @@
+-- Frames in hex, a line each, and the lines of their texts (own). Lines that are empty or begin with `#` are skipped, but
+-- counted. A word of the standard that the text leaves as a byte stands after it as a remark.
+use Rattle.std.specs.Prelude.{◌≡◌, ℕ, ◌+◌, Bool, true, if◌then◌else◌, List, [], ◌∷◌, ◌++◌, codes, Option, Some, None, Result, Ok, Err}
+use Rattle.std.specs.List.{flat_map}
+use Rattle.text_core.specs.Lines.{is_skipped}
+use Rattle.text_core.specs.Cut.{CutOff}
+use Rattle.text_core.specs.declared.sink.WriteFault.{WriteFault}
+use Rattle.message_text.specs.FrameText.{frame_text}
+use Rattle.message_hex.specs.Bytes.{frame_in}
+use Rattle.message_hex.specs.Remark.{remark}
+use Rattle.message_hex.specs.declared.bytes.DisCause.{DisCause}
+use Rattle.message_hex.specs.declared.lines.DisFault.{DisFault}
+use Rattle.message_hex.specs.declared.lines.DisError.{DisError}
+use Rattle.message_hex.specs.declared.lines.DisError.TheVariants.{Line, Write}
+use Rattle.std.specs.Io.KnownBytes.{Appends}
+
+abbrev pub reported_frame : Result (List ℕ) DisCause → Result (Option (List ℕ)) DisCause
+reported_frame (Ok frame) = Ok (Some frame)
+reported_frame (Err cause) = Err cause
+
+-- the frame of a line, if it is not skipped
+abbrev pub line_frame : List ℕ → Result (Option (List ℕ)) DisCause
+line_frame line = if is_skipped line then Ok None else reported_frame (frame_in line)
+
+abbrev pub remark_text : Option (List ℕ) → List ℕ
+remark_text None = []
+remark_text (Some word) = codes " # " ++ word
+
+-- the line of a frame
+abbrev pub frame_line : List ℕ → List ℕ
+frame_line frame = frame_text frame ++ remark_text (remark frame) ++ codes "\n"
+
+abbrev pub reported_line : Result (Option (List ℕ)) DisCause → List ℕ
+reported_line (Ok None) = []
+reported_line (Ok (Some frame)) = frame_line frame
+reported_line (Err cause) = []
+
+-- what is written of a line
+abbrev pub line_text : List ℕ → List ℕ
+line_text line = reported_line (line_frame line)
+
+abbrev pub fault_of : ℕ → Result (Option (List ℕ)) DisCause → Option DisFault → Option DisFault
+fault_of number (Ok frame) next = next
+fault_of number (Err cause) next = Some (record { line = number; cause = cause })
+
+-- the first line that has no frame, where the first of these has this number
+abbrev pub first_fault : ℕ → List (List ℕ) → Option DisFault
+first_fault number [] = None
+first_fault number (line ∷ lines) = fault_of number (line_frame line) (first_fault (number + 1) lines)
+
+-- All lines have frames, and what each gives is written, whole or their front up to a fault; or the first that has none is
+-- returned, and nothing is written.
+abbrev pub Answers : (List ℕ → List ℕ) → Option (List ℕ) → Option (List ℕ) → Bool → Bool → List (List ℕ) → Result (Unit {0}) DisError → Type 0
+Answers text_of old new was is lines (Ok n) =
+    (first_fault 1 lines ≡ None) × Appends old new (flat_map text_of lines) × (is ≡ was)
+Answers text_of old new was is lines (Err (Write fault)) =
+    (first_fault 1 lines ≡ None) × CutOff old new (flat_map text_of lines) fault × (is ≡ true)
+Answers text_of old new was is lines (Err (Line fault)) =
+    (first_fault 1 lines ≡ Some fault) × (new ≡ old) × (is ≡ was)
+
+-- what lines give is written, whole or its front up to a fault
+abbrev pub WritesLines : (List ℕ → List ℕ) → Option (List ℕ) → Option (List ℕ) → Bool → Bool → List (List ℕ) → Result (Unit {0}) WriteFault → Type 0
+WritesLines text_of old new was is lines (Ok n) = Appends old new (flat_map text_of lines) × (is ≡ was)
+WritesLines text_of old new was is lines (Err fault) = CutOff old new (flat_map text_of lines) fault × (is ≡ true)

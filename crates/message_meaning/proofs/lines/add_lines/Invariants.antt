@@ -1,0 +1,11 @@
+use Rattle.std.proofs.Common.{length}
+use Rattle.text_core.specs.Lines.{lines_of}
+use Rattle.message_meaning.specs.Lines.{meant_text}
+use Rattle.message_hex.proofs.Reporting.{Put}
+use Rattle.message_meaning.proofs.lines.add_lines.Given as goal
+
+abbrev pub invariant-lines : goal.invariant-lines
+invariant-lines g l = Put meant_text (lines_of l.text) l.rest l.fn.out l.out
+
+abbrev pub decreases-lines : goal.decreases-lines
+decreases-lines g l = length l.rest

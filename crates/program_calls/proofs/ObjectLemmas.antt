@@ -1,0 +1,78 @@
+-- Objects of lines, that are held or written while they come.
+use Rattle.std.proofs.Common.{◌≡◌, ◌++◌, ℕ, Bool, true, false, List, [], OnOk, Option, Result, Some, refl, subst}
+use Rattle.std.specs.Io.KnownBytes.{Appends}
+use Rattle.std.specs.List.{flat_map}
+use Rattle.json_trace.specs.Object.{AreInOrder, IsObject}
+use Rattle.json_room.specs.Event.{IsRoomObject}
+use Rattle.json_room.specs.Head.{head_text}
+use Rattle.room_run.specs.Emulate.{IsTraceOf}
+use Rattle.room_run.specs.declared.run.Totals.{Totals}
+use Rattle.text_core.specs.Lines.{lines_of}
+use Rattle.program_calls.specs.Done.{AreObjectsOf, Writes, WritesLines, are_of_run}
+use Rattle.program_faults.specs.Parted.{IsRunInput}
+use Rattle.program_calls.proofs.ShownLemmas.{on_ok}
+use Rattle.cli_words.specs.declared.choice.Choice.TheVariants.{Json}
+use Rattle.cli_words.specs.declared.choice.Objects.{Objects}
+use Rattle.cli_words.specs.declared.choice.Objects.TheVariants as of
+
+-- what is held is what was put
+pub all_held : (old new : Option (List ℕ)) (bytes text : List ℕ) → old ≡ Some [] → new ≡ Some bytes → Appends old new text → bytes ≡ text
+all_held old new bytes text e f a = rw (e, f) at a
+
+clash : true ≡ false → ⊥
+clash k = cc
+
+-- of lines that are not those of a run the input says nothing more
+any_input : (objects : Objects) (input lines text : List ℕ) → are_of_run objects ≡ false → AreObjectsOf objects [] lines text → AreObjectsOf objects input lines text
+any_input (of.Trace strict) input lines text e are = absurd (clash e)
+any_input (of.Room strict) input lines text e are = absurd (clash e)
+any_input (of.Capture form glitch margin inverted report) input lines text e are = are
+any_input (of.Test traced) input lines text e are = are
+any_input (of.CaptureTest form glitch) input lines text e are = are
+
+pub objects_done : (objects : Objects) (name input bytes text : List ℕ) (old new before after : Option (List ℕ)) → WritesLines objects name input old new → old ≡ Some [] → new ≡ Some bytes
+    → are_of_run objects ≡ false → AreObjectsOf objects [] bytes text → Appends before after text → Writes (Json objects) name input before after
+objects_done objects name input bytes text old new before after lines e f held are now = (
+  text,
+  (lines.0, lines.1, subst (λ (t : List ℕ). AreObjectsOf objects input t text) (all_held old new bytes lines.0 e f lines.2) (any_input objects input bytes text held are)),
+  now,
+)
+
+-- ---- of a run, while it runs
+
+pub trace_done : (strict : Bool) (input topology script : List ℕ) (totals : Totals) (before after : Option (List ℕ)) → IsRunInput input topology script → (strict ≡ true → totals.refused ≡ 0)
+    → (trace : List ℕ) × (objects : List ℕ) × IsTraceOf topology script trace totals × AreInOrder IsObject (lines_of trace) objects × Appends before after objects
+    → Writes (Json (of.Trace strict)) [] input before after
+trace_done strict input topology script totals before after parts taken w =
+    (w.1, (w.0, (totals, record { topology = topology; script = script; parts = parts; trace = w.2 }, taken), w.3), w.4)
+
+pub room_done : (strict : Bool) (input topology script : List ℕ) (totals : Totals) (before after : Option (List ℕ)) → IsRunInput input topology script → (strict ≡ true → totals.refused ≡ 0)
+    → (trace : List ℕ) × (objects : List ℕ) × IsTraceOf topology script trace totals × AreInOrder (IsRoomObject (lines_of script)) (lines_of trace) objects
+    × Appends before after ((flat_map head_text (lines_of topology) ++ flat_map head_text (lines_of script)) ++ objects)
+    → Writes (Json (of.Room strict)) [] input before after
+room_done strict input topology script totals before after parts taken w = (
+  (flat_map head_text (lines_of topology) ++ flat_map head_text (lines_of script)) ++ w.1,
+  (
+    w.0,
+    (totals, record { topology = topology; script = script; parts = parts; trace = w.2 }, taken),
+    record { topology = topology; script = script; parts = parts; objects = (w.1, w.3, refl) },
+  ),
+  w.4,
+)
+
+pub trace_ended : {A E : Type 0} (result : Result A E) (strict : Bool) (input topology script : List ℕ) (totals : Totals) (before after : Option (List ℕ)) → IsRunInput input topology script
+    → (trace : List ℕ) × (objects : List ℕ) × IsTraceOf topology script trace totals × AreInOrder IsObject (lines_of trace) objects × Appends before after objects
+    → OnOk result (strict ≡ true → totals.refused ≡ 0) → OnOk result (Writes (Json (of.Trace strict)) [] input before after)
+trace_ended result strict input topology script totals before after parts w =
+    on_ok result _ _ (λ taken. trace_done strict input topology script totals before after parts taken w)
+
+pub room_ended : {A E : Type 0} (result : Result A E) (strict : Bool) (input topology script its_topology its_script : List ℕ) (totals : Totals) (before after : Option (List ℕ)) → IsRunInput input topology script
+    → its_topology ≡ topology → its_script ≡ script
+    → (trace : List ℕ) × (objects : List ℕ) × IsTraceOf topology script trace totals × AreInOrder (IsRoomObject (lines_of its_script)) (lines_of trace) objects
+    × Appends before after ((flat_map head_text (lines_of its_topology) ++ flat_map head_text (lines_of its_script)) ++ objects)
+    → OnOk result (strict ≡ true → totals.refused ≡ 0) → OnOk result (Writes (Json (of.Room strict)) [] input before after)
+room_ended result strict input topology script its_topology its_script totals before after parts t s w =
+    let are = subst (λ (x : List ℕ). AreInOrder (IsRoomObject (lines_of x)) (lines_of w.0) w.1) s w.3 in
+    let now = subst (λ (x : List ℕ). Appends before after ((flat_map head_text (lines_of x) ++ flat_map head_text (lines_of script)) ++ w.1)) t
+    (subst (λ (x : List ℕ). Appends before after ((flat_map head_text (lines_of its_topology) ++ flat_map head_text (lines_of x)) ++ w.1)) s w.4) in
+    on_ok result _ _ (λ taken. room_done strict input topology script totals before after parts taken (w.0, w.1, w.2, are, now))

@@ -1,0 +1,25 @@
+-- What the words of a command line ask for is done.
+use Rattle.std.proofs.Common.{◌≡◌, ℕ, List, Option, Some, None, subst, sym}
+use Rattle.program_captures.specs.Following.{FollowsTo}
+use Rattle.program_calls.specs.Done.{AreServedAs, IsHelp, IsServed}
+use Rattle.cli_words.specs.declared.choice.Asked.{Asked}
+use Rattle.cli_words.specs.declared.choice.Choice.TheVariants.{Follow}
+use Rattle.cli_words.specs.declared.choice.LineForm.{LineForm}
+
+-- where a choice was made
+pub chosen : (o : Option Asked) (asked : Asked) (name : List ℕ) (known old new : Option (List ℕ)) → o ≡ Some asked → IsServed known old new asked.choice name
+    → AreServedAs o name known old new
+chosen o asked name known old new is served = subst (λ x. AreServedAs x name known old new) (sym is) served
+
+-- and where none was
+pub helped : (o : Option Asked) (name : List ℕ) (known old new : Option (List ℕ)) → o ≡ None → IsHelp old new → AreServedAs o name known old new
+helped o name known old new is help = subst (λ x. AreServedAs x name known old new) (sym is) help
+
+-- a capture that is reported as its lines come
+pub followed : (form : LineForm) (margin : ℕ) (known old new : Option (List ℕ)) (name : List ℕ) → FollowsTo form name margin known old new
+    → IsServed known old new (Follow form margin) name
+followed form margin known old new name f = record {
+  input = f.input;
+  all = f.all;
+  written = (f.text, f.reported, f.put);
+}

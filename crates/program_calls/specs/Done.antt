@@ -1,0 +1,218 @@
+-- What the program does for a choice, an input and what it writes (own).
+use Rattle.std.specs.Prelude.{◌≡◌, ℕ, Bool, true, false, if◌then◌else◌, ◌⊎◌, List, take, Option, None, Some, Ok, IfSome, MatchOption, codes}
+use Rattle.std.specs.Str.{bytes_eq}
+use Rattle.std.specs.List.{flat_map}
+use Rattle.std.specs.Io.KnownBytes.{Appends}
+use Rattle.audit_json.specs.Object.{AreAuditObjects}
+use Rattle.message_hex.specs.Lines.{first_fault, line_text}
+use Rattle.room_driven.specs.Emulate.{IsDumpOf}
+use Rattle.room_driven.specs.declared.wires.Wires.{Wires}
+use Rattle.room_driven.specs.declared.wires.Wires.TheVariants as wires
+use Rattle.json_trace.specs.Object.{AreObjects}
+use Rattle.message_lay.specs.Text.{AreLinesRead, no_notes, pull_line}
+use Rattle.room_line.specs.declared.format.Format.{Format}
+use Rattle.room_line.specs.declared.format.Format.TheVariants as formats
+use Rattle.message_meaning.specs.Lines.{meant_text}
+use Rattle.json_report.specs.Object.{AreReportObjects}
+use Rattle.json_report.specs.declared.object.Report.{Report as ReportKind}
+use Rattle.json_report.specs.declared.object.Report.TheVariants as kinds
+use Rattle.json_room.specs.Room.{AreRoomObjects}
+use Rattle.room_run.specs.Emulate.{IsLineOf, IsTraceOf}
+use Rattle.room_run.specs.declared.run.Totals.{Totals}
+use Rattle.room_steps.specs.StepRun.{AreStepsOf}
+use Rattle.message_text.specs.FrameLines.{AreTextsOf, hex_line as frame_line, lines_of_frames}
+use Rattle.line_wave.specs.declared.Stretch.{Stretch}
+use Rattle.text_core.specs.Lines.{lines_of}
+use Rattle.cli_words.specs.Line.{asked_by}
+use Rattle.cli_words.specs.MonFlags.{signal_in}
+use Rattle.cli_words.specs.declared.choice.Asked.{Asked}
+use Rattle.cli_words.specs.declared.choice.Choice.{Choice}
+use Rattle.cli_words.specs.declared.choice.Choice.TheVariants.{Run, Check, CheckCapture, Step, Live, Asm, Dis, Lay, Mon, Follow, Json, Edid}
+use Rattle.cli_words.specs.declared.choice.Objects.{Objects}
+use Rattle.cli_words.specs.declared.choice.Objects.TheVariants as of
+use Rattle.cli_words.specs.declared.choice.Listing.{Listing}
+use Rattle.cli_words.specs.declared.choice.Listing.TheVariants.{Trace, Edges, Vcd, Pin, Csv, Drives, Named}
+use Rattle.cli_words.specs.declared.choice.Report.{Report as CaptureReport}
+use Rattle.cli_words.specs.declared.choice.Report.TheVariants.{Audit}
+use Rattle.cli_words.specs.declared.choice.TestView.{TestView}
+use Rattle.cli_words.specs.declared.choice.TestView.TheVariants.{Report, Traced}
+use Rattle.program_captures.specs.CaptureTests.{IsCaptureTest}
+use Rattle.program_captures.specs.Captures.{IsHeard, IsShown, form_of, name_of, report_of}
+use Rattle.program_captures.specs.Following.{IsReported}
+use Rattle.program_edids.specs.Edids.{IsMade}
+use Rattle.program_calls.specs.Live.{IsLiveDoneAs}
+use Rattle.program_faults.specs.Parted.{IsParted, IsRunInput}
+use Rattle.program_calls.specs.Tests.{IsTestOf}
+
+-- this text with these counts is the trace of the run that the input spells
+pub record IsRunDone (input text : List ℕ) (totals : Totals) : Type 0 where
+  pub topology : List ℕ
+  pub script : List ℕ
+  pub parts : IsRunInput input topology script
+  pub trace : IsTraceOf topology script text totals
+
+-- the same of its line in a format
+pub record IsLineDone (format : Format) (input text : List ℕ) (totals : Totals) : Type 0 where
+  pub topology : List ℕ
+  pub script : List ℕ
+  pub parts : IsRunInput input topology script
+  pub line : IsLineOf format topology script text totals
+
+-- the same of its line and who drives it, with its frames and bits as strings or without
+pub record IsDrivenDone (of_wires : Wires) (input text : List ℕ) (totals : Totals) : Type 0 where
+  pub topology : List ℕ
+  pub script : List ℕ
+  pub parts : IsRunInput input topology script
+  pub dump : IsDumpOf of_wires topology script text totals
+
+-- this text is what is asked for of the test that the input spells
+pub record IsTestDone (view : TestView) (input text : List ℕ) : Type 0 where
+  pub topology : List ℕ
+  pub script : List ℕ
+  pub parts : IsRunInput input topology script
+  pub test : IsTestOf view topology script text
+
+-- after the script and a line `steps` stand commands, whose steps these are
+pub record AreStepsDone (input text : List ℕ) : Type 0 where
+  pub topology : List ℕ
+  pub rest : List ℕ
+  pub script : List ℕ
+  pub commands : List ℕ
+  pub parts : IsRunInput input topology rest
+  pub rest_parts : IsParted (codes "steps") rest script commands
+  pub steps : AreStepsOf topology script commands text
+
+-- this text with these counts is what is asked for of the run that the input spells
+abbrev pub IsListed : Listing → List ℕ → List ℕ → Totals → Type 0
+IsListed Trace input text totals = IsRunDone input text totals
+IsListed Edges input text totals = IsLineDone formats.Edges input text totals
+IsListed Vcd input text totals = IsLineDone formats.Vcd input text totals
+IsListed Pin input text totals = IsLineDone formats.Pin input text totals
+IsListed Csv input text totals = IsLineDone formats.Csv input text totals
+IsListed Drives input text totals = IsDrivenDone wires.Plain input text totals
+IsListed Named input text totals = IsDrivenDone wires.Named input text totals
+
+-- a report, with its trace or without
+abbrev pub report_view : Bool → TestView
+report_view false = Report
+report_view true = Traced
+
+-- the lines of which there are objects
+abbrev pub AreLines : Objects → List ℕ → List ℕ → List ℕ → Type 0
+AreLines (of.Trace strict) name input text = (totals : Totals) × IsRunDone input text totals × (strict ≡ true → totals.refused ≡ 0)
+AreLines (of.Room strict) name input text = (totals : Totals) × IsRunDone input text totals × (strict ≡ true → totals.refused ≡ 0)
+AreLines (of.Capture form glitch margin inverted report) name input text = IsHeard (form_of form input) name inverted glitch margin (report_of report (form_of form input)) input text
+AreLines (of.Test traced) name input text = IsTestDone (report_view traced) input text
+AreLines (of.CaptureTest form glitch) name input text = IsCaptureTest form name glitch input text
+
+-- those of a run's trace, whose objects are written while it runs
+abbrev pub are_of_run : Objects → Bool
+are_of_run (of.Trace strict) = true
+are_of_run (of.Room strict) = true
+are_of_run (of.Capture form glitch margin inverted report) = false
+are_of_run (of.Test traced) = false
+are_of_run (of.CaptureTest form glitch) = false
+
+-- they are written, and nothing else
+abbrev pub WritesLines : Objects → List ℕ → List ℕ → Option (List ℕ) → Option (List ℕ) → Type 0
+WritesLines objects name input old new = (text : List ℕ) × AreLines objects name input text × Appends old new text
+
+-- the report of one run begins with its version, a sweep with an instant
+abbrev pub report_kind : List ℕ → ReportKind
+report_kind lines = if bytes_eq (take 3 lines) (codes "TAP") then kinds.Expectations else kinds.Sweep
+
+-- a text is the objects of the room that the input spells, and of these lines of its trace
+pub record AreRoomDone (input lines text : List ℕ) : Type 0 where
+  pub topology : List ℕ
+  pub script : List ℕ
+  pub parts : IsRunInput input topology script
+  pub objects : AreRoomObjects topology script lines text
+
+-- the lines of a report are those of an audit
+abbrev pub is_audit : Option CaptureReport → Bool
+is_audit (Some (Audit timing strict)) = true
+is_audit report = false
+
+-- a text is the objects of the lines of a report of a capture
+abbrev pub AreCaptureObjects : Bool → List ℕ → List ℕ → Type 0
+AreCaptureObjects true lines text = AreAuditObjects (lines_of lines) text
+AreCaptureObjects false lines text = AreObjects (lines_of lines) text
+
+abbrev pub WritesCaptureObjects : Bool → List ℕ → Option (List ℕ) → Option (List ℕ) → Type 0
+WritesCaptureObjects audited lines old new = (text : List ℕ) × AreCaptureObjects audited lines text × Appends old new text
+
+-- a text is the objects of these lines
+abbrev pub AreObjectsOf : Objects → List ℕ → List ℕ → List ℕ → Type 0
+AreObjectsOf (of.Trace strict) input lines text = AreObjects (lines_of lines) text
+AreObjectsOf (of.Room strict) input lines text = AreRoomDone input lines text
+AreObjectsOf (of.Capture form glitch margin inverted report) input lines text = AreCaptureObjects (is_audit report) lines text
+AreObjectsOf (of.Test traced) input lines text = AreReportObjects (report_kind lines) (lines_of lines) text
+AreObjectsOf (of.CaptureTest form glitch) input lines text = AreReportObjects kinds.Expectations (lines_of lines) text
+
+-- they are written, and nothing else
+abbrev pub WritesObjects : Objects → List ℕ → List ℕ → Option (List ℕ) → Option (List ℕ) → Type 0
+WritesObjects objects input lines old new = (text : List ℕ) × AreObjectsOf objects input lines text × Appends old new text
+
+-- what is written of a line of hex: the frame's text, and below it what it means or not
+abbrev pub dis_text : Bool → List ℕ → List ℕ
+dis_text false = line_text
+dis_text true = meant_text
+
+-- The text that a choice makes of an input; of a capture, of the wire of a name. A strict run is one whose events were all
+-- taken.
+abbrev pub IsDone : Choice → List ℕ → List ℕ → List ℕ → Type 0
+IsDone (Run listing strict) name input text = (totals : Totals) × IsListed listing input text totals × (strict ≡ true → totals.refused ≡ 0)
+IsDone (Check view) name input text = IsTestDone view input text
+IsDone (CheckCapture form glitch) name input text = IsCaptureTest form name glitch input text
+IsDone Step name input text = AreStepsDone input text
+IsDone (Live json) name input text = IsLiveDoneAs json input text
+IsDone Asm name input text = (frames : List (List ℕ)) × AreTextsOf (lines_of_frames (lines_of input)) frames × (text ≡ flat_map frame_line frames)
+IsDone (Dis meaning) name input text = (first_fault 1 (lines_of input) ≡ None) × (text ≡ flat_map (dis_text meaning) (lines_of input))
+IsDone Lay name input text = (pulls : List Stretch) × AreLinesRead (lines_of input) 1 no_notes (Ok pulls) × (text ≡ flat_map pull_line pulls)
+IsDone (Mon form glitch margin inverted folded report) name input text = IsShown folded (form_of form input) name inverted glitch margin (report_of report (form_of form input)) input text
+IsDone (Follow form margin) name input text = IsReported form margin name input text
+IsDone (Json objects) name input text = (lines : List ℕ) × AreLines objects name input lines × AreObjectsOf objects input lines text
+IsDone (Edid source reading view) name input text = IsMade source reading view input text
+
+-- the choices whose lines are answered as they come
+abbrev pub is_line_by_line : Choice → Bool
+is_line_by_line (Live json) = true
+is_line_by_line (Follow form margin) = true
+is_line_by_line choice = false
+
+-- a choice is done for an input: its text is written, and nothing else
+abbrev pub Writes : Choice → List ℕ → List ℕ → Option (List ℕ) → Option (List ℕ) → Type 0
+Writes choice name input old new = (text : List ℕ) × IsDone choice name input text × Appends old new text
+
+-- the line of a run in a format is written, and nothing else
+abbrev pub WritesLine : Format → Bool → List ℕ → Option (List ℕ) → Option (List ℕ) → Type 0
+WritesLine format strict input old new =
+    (text : List ℕ) × ((totals : Totals) × IsLineDone format input text totals × (strict ≡ true → totals.refused ≡ 0)) × Appends old new text
+
+-- the same of its line and who drives it
+abbrev pub WritesDrives : Wires → Bool → List ℕ → Option (List ℕ) → Option (List ℕ) → Type 0
+WritesDrives of_wires strict input old new =
+    (text : List ℕ) × ((totals : Totals) × IsDrivenDone of_wires input text totals × (strict ≡ true → totals.refused ≡ 0)) × Appends old new text
+
+-- what was read is all that there was, where that is known
+abbrev pub IsAllOf : Option (List ℕ) → List ℕ → Type 0
+IsAllOf known bytes = IfSome known (λ all. bytes ≡ all)
+
+-- a choice is done for all that there was to read
+pub record IsServed (known old new : Option (List ℕ)) (choice : Choice) (name : List ℕ) : Type 0 where
+  pub input : List ℕ
+  pub all : IsAllOf known input
+  pub written : Writes choice name input old new
+
+-- a help is written; of its text nothing is said
+abbrev pub IsHelp : Option (List ℕ) → Option (List ℕ) → Type 0
+IsHelp old new = (text : List ℕ) × Appends old new text
+
+-- What is asked for is done: the choice; of a line that asks for none a help is written.
+abbrev pub AreServedAs : Option Asked → List ℕ → Option (List ℕ) → Option (List ℕ) → Option (List ℕ) → Type 0
+AreServedAs asked name known old new =
+    MatchOption asked (IsHelp old new) (λ a. IsServed known old new a.choice name)
+
+-- What the words of a command line ask for is done.
+abbrev pub AreServed : List (List ℕ) → Option (List ℕ) → Option (List ℕ) → Option (List ℕ) → Type 0
+AreServed words known old new = AreServedAs (asked_by words) (name_of (signal_in words)) known old new

@@ -1,0 +1,264 @@
+//! The faults of the program as they are explained.
+use capture_forms::{CaptureError, Form};
+use cli_words::{Choice, LineForm, Objects, Source};
+use conversion_calls::{EdidToTextError, PassOnError, TextToHexError};
+use edid_core::EdidCause;
+use expect_run::CheckError;
+use expect_sweep::{RangeCause, RangeFault};
+use expect_text::ExpectFault;
+use explain_marks::{Fault as Explained, Input, RangeSlip};
+use live_dialogue::{ScriptEnd, SessionError};
+use message_hex::DisError;
+use message_lay::LayError;
+use message_text::FrameLinesError;
+use program_captures::form_of;
+use program_faults::ProgramFault;
+use program_faults::parts::capture_parts;
+use room_run::emulate::EmulateError;
+use room_script::ScriptCause;
+
+/// What the input of a choice is to be.
+pub fn input_of(choice: Choice) -> Input {
+    match choice {
+        Choice::Check(_) | Choice::Json(Objects::Test { .. }) => Input::Test,
+        Choice::CheckCapture { .. } | Choice::Json(Objects::CaptureTest { .. }) => {
+            Input::CaptureTest
+        }
+        Choice::Run { .. }
+        | Choice::Step
+        | Choice::Json(Objects::Trace { .. } | Objects::Room { .. }) => Input::Network,
+        Choice::Live { .. } => Input::Session,
+        Choice::Asm
+        | Choice::Dis { .. }
+        | Choice::Lay
+        | Choice::Mon { .. }
+        | Choice::Follow { .. }
+        | Choice::Json(Objects::Capture { .. }) => { Input::Lines }
+        Choice::Edid { source, .. } => match source {
+            Source::Bytes | Source::Pair { dumps: false, .. } => Input::EdidBytes,
+            Source::Dump { .. } | Source::Pair { dumps: true, .. } => Input::Lines,
+            Source::Text | Source::Words => Input::EdidText,
+        },
+    }
+}
+
+/// The form of the capture that a choice takes from its input.
+pub fn form_in(choice: Choice, input: &[u8]) -> Form {
+    match choice {
+        Choice::Mon { form, .. } | Choice::Json(Objects::Capture { form, .. }) => {
+            form_of(form, input)
+        }
+        Choice::Follow {
+            form: LineForm::Pin,
+            ..
+        } => Form::Pin,
+        Choice::Follow {
+            form: LineForm::Csv,
+            ..
+        } => Form::Csv,
+        Choice::CheckCapture { form, .. } | Choice::Json(Objects::CaptureTest { form, .. }) => {
+            match capture_parts(input) {
+                Ok((_, taken)) => form_of(form, taken),
+                Err(_) => Form::Edges,
+            }
+        }
+        _ => Form::Edges,
+    }
+}
+
+fn of_root(cause: &EdidCause) -> Explained {
+    match cause {
+        EdidCause::Edid(error) => Explained::Edid(*error),
+        EdidCause::NoHdmiBlock => Explained::NoHdmiBlock,
+    }
+}
+
+fn of_run(error: &EmulateError) -> Explained {
+    match error {
+        EmulateError::Topology { line, cause, word } => Explained::Topology {
+            line: *line,
+            cause: *cause,
+            word: *word,
+        },
+        EmulateError::Script { line, cause, word } => Explained::Script {
+            line: *line,
+            cause: *cause,
+            word: *word,
+        },
+        EmulateError::Edid(cause) => of_root(cause),
+        EmulateError::Write(_) => Explained::Write,
+        EmulateError::Memory => Explained::Memory,
+    }
+}
+
+fn of_expectation(fault: ExpectFault) -> Explained {
+    Explained::Expectation {
+        line: fault.line,
+        cause: fault.cause,
+        word: fault.word,
+    }
+}
+
+fn of_test(error: &CheckError) -> Explained {
+    match error {
+        CheckError::Emulate(error) => of_run(error),
+        CheckError::Expect(fault) => of_expectation(*fault),
+        CheckError::Write(_) => Explained::Write,
+        CheckError::Memory => Explained::Memory,
+    }
+}
+
+fn of_range(fault: RangeFault) -> Explained {
+    Explained::Range {
+        line: fault.line,
+        cause: match fault.cause {
+            RangeCause::Number => RangeSlip::Number,
+            RangeCause::Order => RangeSlip::Order,
+            RangeCause::Range => RangeSlip::Second,
+            RangeCause::Crosses(_) => RangeSlip::Crosses,
+        },
+        word: fault.word,
+    }
+}
+
+// No further line was read where the script is at this line.
+fn of_end(line: u64, cause: ScriptEnd) -> Explained {
+    match cause {
+        ScriptEnd::End => Explained::Script {
+            line,
+            cause: ScriptCause::End,
+            word: 0,
+        },
+        ScriptEnd::TooLong => Explained::LineTooLong,
+    }
+}
+
+fn of_session(error: &SessionError) -> Explained {
+    match error {
+        SessionError::Read => Explained::Read,
+        SessionError::TooLong => Explained::InputTooLong,
+        SessionError::NoScriptLine => Explained::NoScriptLine,
+        SessionError::Topology { line, cause, word } => Explained::Topology {
+            line: *line,
+            cause: *cause,
+            word: *word,
+        },
+        SessionError::Edid(cause) => of_root(cause),
+        SessionError::Script { line, cause } => of_end(*line, *cause),
+        SessionError::Write(_) => Explained::Write,
+        SessionError::Memory => Explained::Memory,
+    }
+}
+
+fn of_frames(error: &FrameLinesError) -> Explained {
+    match error {
+        FrameLinesError::Line(fault) => Explained::Frame {
+            line: fault.line,
+            cause: fault.cause,
+        },
+        FrameLinesError::Write(_) => Explained::Write,
+    }
+}
+
+fn of_hex(error: &DisError) -> Explained {
+    match error {
+        DisError::Line(fault) => Explained::Hex {
+            line: fault.line,
+            cause: fault.cause,
+        },
+        DisError::Write(_) => Explained::Write,
+    }
+}
+
+fn of_laid(error: &LayError) -> Explained {
+    match error {
+        LayError::Line(fault) => Explained::Lay {
+            line: fault.line,
+            cause: fault.cause,
+            word: fault.word,
+        },
+        LayError::Write(_) => Explained::Write,
+    }
+}
+
+fn of_capture(form: Form, error: &CaptureError) -> Explained {
+    match error {
+        CaptureError::Fault(fault) => Explained::Capture {
+            form,
+            line: fault.line,
+            cause: fault.cause,
+            word: fault.word,
+        },
+        CaptureError::Memory => Explained::Memory,
+    }
+}
+
+fn of_edid(error: &EdidToTextError) -> Explained {
+    match error {
+        EdidToTextError::Edid(error) => Explained::Edid(*error),
+        EdidToTextError::Write(_) => Explained::Write,
+    }
+}
+
+fn of_edid_text(error: &TextToHexError) -> Explained {
+    match error {
+        TextToHexError::Syntax(line) => Explained::TextSyntax { line: *line as u64 },
+        TextToHexError::Field { line, word } => Explained::TextField {
+            line: *line as u64,
+            word: *word,
+        },
+        TextToHexError::Write(_) => Explained::Write,
+        TextToHexError::Memory => Explained::Memory,
+    }
+}
+
+fn of_passing(error: &PassOnError) -> Explained {
+    match error {
+        PassOnError::PortRange => Explained::NoPort,
+        PassOnError::Edid(error) => Explained::Edid(*error),
+        PassOnError::NoHdmiBlock => Explained::NoHdmiBlock,
+        PassOnError::Write(_) => Explained::Write,
+    }
+}
+
+/// A fault as it is explained, where a capture has this form; None of what was done and is not as it was wanted.
+pub fn explained(form: Form, fault: &ProgramFault) -> Option<Explained> {
+    let explained = match fault {
+        ProgramFault::NotUtf8 => Explained::NotUtf8,
+        ProgramFault::TooLong => Explained::InputTooLong,
+        ProgramFault::Read => Explained::Read,
+        ProgramFault::NoScriptLine => Explained::NoScriptLine,
+        ProgramFault::NoStepsLine => Explained::NoStepsLine,
+        ProgramFault::NoCaptureLine => Explained::NoCaptureLine,
+        ProgramFault::Emulate(error) => of_run(error),
+        ProgramFault::Expect(fault) | ProgramFault::CaptureExpect(fault) => of_expectation(*fault),
+        ProgramFault::NoRange => Explained::NoRange,
+        ProgramFault::Range(fault) => of_range(*fault),
+        ProgramFault::AtInstant { error, .. } => of_test(error),
+        ProgramFault::Session(error) => of_session(error),
+        ProgramFault::Steps { line, word } => Explained::Steps {
+            line: *line,
+            word: *word,
+        },
+        ProgramFault::Frames(error) => of_frames(error),
+        ProgramFault::Dis(error) => of_hex(error),
+        ProgramFault::Lay(error) => of_laid(error),
+        ProgramFault::Capture(error) => of_capture(form, error),
+        ProgramFault::EdidToText(error) => of_edid(error),
+        ProgramFault::TextToHex(error) => of_edid_text(error),
+        ProgramFault::Dump(error) => Explained::Dump(*error),
+        ProgramFault::PassOn(error) => of_passing(error),
+        ProgramFault::Write(_) => Explained::Write,
+        ProgramFault::Memory(_) => Explained::Memory,
+        ProgramFault::EventsRefused(_)
+        | ProgramFault::TestsFailed(_)
+        | ProgramFault::SweepFailed
+        | ProgramFault::Remarked
+        | ProgramFault::RuleFails
+        | ProgramFault::Merge(_)
+        | ProgramFault::Speakers(_) => {
+            return None;
+        }
+    };
+    Some(explained)
+}

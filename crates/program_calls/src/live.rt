@@ -1,0 +1,113 @@
+//! A session: the lines of an input, answered as they come.
+ghost use Rattle.std.specs.Prelude.{◌≡◌, None, Ok, OnOk};
+ghost use Rattle.text_core.specs.Buffered.{below};
+ghost use Rattle.program_calls.specs.Live.{Lives, LivesInObjects};
+
+use explain_core::explain_line;
+use explain_marks::Fault;
+use json_live::{Finished, Halt, LiveObjects};
+use live_dialogue::{Hearer, SessionError, session_heard};
+use live_session::{Refusal, RefusalCause};
+use program_faults::ProgramFault;
+use std::alloc::{AllocError, Global};
+use std::io::Read;
+use text_core::{Buffered, Sink, put_all};
+
+/// Explains refused lines, where that is asked for.
+#[derive(Drop)]
+struct Explainer<'e, E: Sink> {
+    alloc: Global,
+    explains: bool,
+    err: &'e mut E,
+}
+
+fn fault_of(line: u64, refusal: Refusal) -> Fault {
+    let word = refusal.word;
+    match refusal.cause {
+        RefusalCause::Script(cause) => Fault::Script { line, cause, word },
+        RefusalCause::Past => Fault::Past { line, word },
+    }
+}
+
+// The line of a refusal, as that of a script which is refused, and what would be right.
+fn explained(
+    alloc: Global,
+    topology: &[u8],
+    number: u64,
+    line: &[u8],
+    refusal: Refusal,
+) -> Result<String, AllocError> {
+    let mut text = match refusal.cause {
+        RefusalCause::Script(cause) => format!(in alloc;
+            "hdminet: script line {number}: {cause}\n"
+        )?,
+        RefusalCause::Past => format!(in alloc; "hdminet: script line {number}: past\n")?,
+    };
+    let fault = fault_of(number, refusal);
+    text.push_str(explain_line(alloc, fault, topology, number, line)?.as_str())?;
+    Ok(text)
+}
+
+impl<E: Sink> Hearer for Explainer<'_, E> {
+    fn hear(&mut self, topology: &[u8], number: u64, line: &[u8], refusal: Refusal) {
+        if !self.explains {
+            return;
+        }
+        // Where memory runs out the answer stands alone.
+        if let Ok(text) = explained(self.alloc, topology, number, line, refusal) {
+            let _ = put_all(self.err, text.as_bytes());
+        }
+    }
+}
+
+/// Answers each line of an input before it reads the next one. What was put to the sink before is handed on first. A refused line is
+/// explained where that is asked for.
+#[inline(never)]
+pub(crate) fn live<R: Read, W: Sink, E: Sink>(
+    alloc: Global,
+    explains: bool,
+    input: &mut R,
+    out: &mut Buffered<W>,
+    err: &mut E,
+) -> Result<(), ProgramFault>
+    ensures { OnOk result (Lives (R.remaining input.old) (⟦<Buffered<W> as Sink>⟧.contents out.old) (W.contents (below out.new))) }
+{
+    out.flush()?;
+    let mut explainer = Explainer {
+        alloc,
+        explains,
+        err,
+    };
+    session_heard(alloc, input, out, &mut explainer)?;
+    Ok(())
+}
+
+/// How a session in objects ended, why no more objects were put, where that is so, and the sink that it wrote to.
+#[derive(Drop)]
+pub(crate) struct LiveEnded<W: Sink> {
+    pub done: Result<(), SessionError>,
+    pub halted: Option<Halt>,
+    pub out: Buffered<W>,
+}
+
+/// [`live`], which writes the object of each line, and hands it on, before it reads the next one.
+#[inline(never)]
+pub(crate) fn live_in_objects<R: Read, W: Sink, E: Sink>(
+    alloc: Global,
+    explains: bool,
+    input: &mut R,
+    out: W,
+    err: &mut E,
+) -> LiveEnded<W>
+    ensures { result.done ≡ Ok tt → result.halted ≡ None → LivesInObjects (R.remaining input.old) (W.contents out) (W.contents (below result.out)) }
+{
+    let mut lines = Buffered::new(LiveObjects::new(alloc, out));
+    let mut explainer = Explainer {
+        alloc,
+        explains,
+        err,
+    };
+    let done = session_heard(alloc, input, &mut lines, &mut explainer);
+    let Finished { halted, out } = lines.into_below().finish();
+    LiveEnded { done, halted, out }
+}

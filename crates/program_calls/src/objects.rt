@@ -1,0 +1,167 @@
+//! Objects of JSON: of a run while it runs, and of all other lines once they are all there.
+ghost use Rattle.std.specs.Prelude.{◌≡◌, true, false, [], OnOk};
+ghost use Rattle.program_calls.specs.Done.{Writes, WritesLines, WritesObjects, WritesCaptureObjects, are_of_run, is_audit, report_kind, report_view};
+
+use crate::check::{test, test_capture};
+use crate::run::{run_to_objects, run_to_room};
+use crate::told::Told;
+use audit_json::write_audit_objects;
+use cli_words::{Choice, Objects, Report, TestView};
+use expect_sweep::Silent;
+use json_report::{Report as ReportKind, write_report_objects};
+use json_trace::{Held, write_objects};
+use program_captures::monitor;
+use program_faults::ProgramFault;
+use std::alloc::{AllocError, Global};
+use text_core::{Sink, before};
+
+// Writes the lines whose objects are asked for, where they are not those of a run.
+fn write_lines<W: Sink>(
+    alloc: Global,
+    objects: Objects,
+    signal: &[u8],
+    input: &[u8],
+    out: &mut W,
+) -> Result<Told, ProgramFault>
+    requires { are_of_run objects ≡ false }
+    ensures { OnOk result (WritesLines objects signal.now input.now (W.contents out.old) (W.contents out.new)) }
+{
+    match objects {
+        Objects::Trace { .. } => unreachable!(),
+        Objects::Room { .. } => unreachable!(),
+        Objects::Capture {
+            form,
+            glitch,
+            margin,
+            inverted,
+            report,
+        } => {
+            let signs = monitor(
+                alloc, form, signal, inverted, glitch, margin, report, input, out,
+            )?;
+            Ok(Told::Capture(signs))
+        }
+        Objects::Test { traced } => test(alloc, report_view(traced), input, out, &mut Silent),
+        Objects::CaptureTest { form, glitch } => {
+            test_capture(alloc, form, signal, glitch, input, out)
+        }
+    }
+}
+
+// Which report lines are of: that of one run begins with its version, a sweep with an instant.
+fn report_kind(lines: &[u8]) -> ReportKind
+    ensures { result ≡ report_kind lines.now }
+{
+    if before(lines, 3) == b"TAP".as_slice() {
+        ReportKind::Expectations
+    } else {
+        ReportKind::Sweep
+    }
+}
+
+// Whether the lines of a report are those of an audit.
+fn is_audit(report: Option<Report>) -> bool
+    ensures { result ≡ is_audit report }
+{
+    matches!(report, Some(Report::Audit { .. }))
+}
+
+// Writes the objects of the lines of an audit.
+fn write_audited<W: Sink>(lines: &[u8], out: &mut W) -> Result<(), ProgramFault>
+    ensures { OnOk result (WritesCaptureObjects true lines.now (W.contents out.old) (W.contents out.new)) }
+{
+    Ok(write_audit_objects(lines, out)?)
+}
+
+// Writes the objects of the lines of another report of a capture.
+fn write_read<W: Sink>(lines: &[u8], out: &mut W) -> Result<(), ProgramFault>
+    ensures { OnOk result (WritesCaptureObjects false lines.now (W.contents out.old) (W.contents out.new)) }
+{
+    Ok(write_objects(lines, out)?)
+}
+
+// Writes the objects of the lines of a report of a capture, which is an audit or not.
+fn write_capture_objects<W: Sink>(
+    audited: bool,
+    lines: &[u8],
+    out: &mut W,
+) -> Result<(), ProgramFault>
+    ensures { OnOk result (WritesCaptureObjects audited lines.now (W.contents out.old) (W.contents out.new)) }
+{
+    if audited {
+        write_audited(lines, out)
+    } else {
+        write_read(lines, out)
+    }
+}
+
+// Writes the objects of lines that are not those of a run.
+fn write_objects_of<W: Sink>(
+    objects: Objects,
+    lines: &[u8],
+    out: &mut W,
+) -> Result<(), ProgramFault>
+    requires { are_of_run objects ≡ false }
+    ensures { OnOk result (WritesObjects objects [] lines.now (W.contents out.old) (W.contents out.new)) }
+{
+    match objects {
+        Objects::Trace { .. } => unreachable!(),
+        Objects::Room { .. } => unreachable!(),
+        Objects::Capture { report, .. } => write_capture_objects(is_audit(report), lines, out),
+        Objects::Test { .. } => Ok(write_report_objects(report_kind(lines), lines, out)?),
+        Objects::CaptureTest { .. } => {
+            Ok(write_report_objects(ReportKind::Expectations, lines, out)?)
+        }
+    }
+}
+
+// Writes the objects of lines that are not those of a run, which are held until they are all there.
+#[inline(never)]
+fn write_held<W: Sink>(
+    alloc: Global,
+    objects: Objects,
+    signal: &[u8],
+    input: &[u8],
+    out: &mut W,
+) -> Result<Told, ProgramFault>
+    requires { are_of_run objects ≡ false }
+    ensures { OnOk result (Writes (Choice.Json objects) signal.now input.now (W.contents out.old) (W.contents out.new)) }
+{
+    let mut held = Held::new(alloc);
+    let done = write_lines(alloc, objects, signal, input, &mut held);
+    if held.is_full() {
+        return Err(ProgramFault::Memory(AllocError));
+    }
+    write_objects_of(objects, held.bytes(), out)?;
+    done
+}
+
+/// Writes the objects of lines: of a run while it runs, and of all others once they are all there.
+pub fn write_json<W: Sink>(
+    alloc: Global,
+    objects: Objects,
+    signal: &[u8],
+    input: &[u8],
+    out: &mut W,
+) -> Result<Told, ProgramFault>
+    ensures { OnOk result (Writes (Choice.Json objects) signal.now input.now (W.contents out.old) (W.contents out.new)) }
+{
+    match objects {
+        Objects::Trace { strict } => run_to_objects(alloc, strict, input, out),
+        Objects::Room { strict } => run_to_room(alloc, strict, input, out),
+        Objects::Capture { .. } | Objects::Test { .. } | Objects::CaptureTest { .. } => write_held(
+            alloc, objects, signal, input, out,
+        ),
+    }
+}
+
+// A report, with its trace or without.
+fn report_view(traced: bool) -> TestView
+    ensures { result ≡ report_view traced }
+{
+    if traced {
+        TestView::Traced
+    } else {
+        TestView::Report
+    }
+}

@@ -1,0 +1,132 @@
+//! What the program does for a choice.
+ghost use Rattle.std.specs.Prelude.{◌≡◌, true, false, [], OnOk};
+ghost use Rattle.program_calls.specs.Done.{Writes, is_line_by_line};
+
+use crate::check::{test, test_capture};
+use crate::objects::write_json;
+use crate::run::{run, run_to_drives, run_to_line};
+use crate::told::Told;
+use cli_words::{Choice, Listing};
+use expect_sweep::Hearer;
+use message_hex::dis_lines;
+use message_lay::lay_lines;
+use message_meaning::dis_with_meaning;
+use message_text::asm_lines;
+use program_captures::show;
+use program_edids::edid::edid;
+use program_faults::ProgramFault;
+use program_faults::parts::{parted, parts};
+use room_driven::Wires;
+use room_line::Format;
+use room_steps::step_run::step_run;
+use std::alloc::Global;
+use text_core::Sink;
+
+#[inline(never)]
+fn step<W: Sink>(alloc: Global, input: &[u8], out: &mut W) -> Result<Told, ProgramFault>
+    ensures { OnOk result (Writes Choice.Step [] input.now (W.contents out.old) (W.contents out.new)) }
+{
+    let (topology, rest) = parts(input)?;
+    let (script, steps) = parted(rest, b"steps").ok_or(ProgramFault::NoStepsLine)?;
+    step_run(alloc, topology, script, steps, out)?;
+    Ok(Told::Nothing)
+}
+
+// Writes the texts of frames.
+fn write_frames<W: Sink>(input: &[u8], out: &mut W) -> Result<Told, ProgramFault>
+    ensures { OnOk result (Writes (Choice.Dis false) [] input.now (W.contents out.old) (W.contents out.new)) }
+{
+    dis_lines(input, out)?;
+    Ok(Told::Nothing)
+}
+
+// Writes the texts of frames, and what they mean.
+fn write_meanings<W: Sink>(input: &[u8], out: &mut W) -> Result<Told, ProgramFault>
+    ensures { OnOk result (Writes (Choice.Dis true) [] input.now (W.contents out.old) (W.contents out.new)) }
+{
+    dis_with_meaning(input, out)?;
+    Ok(Told::Nothing)
+}
+
+#[inline(never)]
+fn disassemble<W: Sink>(meaning: bool, input: &[u8], out: &mut W) -> Result<Told, ProgramFault>
+    ensures { OnOk result (Writes (Choice.Dis meaning) [] input.now (W.contents out.old) (W.contents out.new)) }
+{
+    if meaning {
+        write_meanings(input, out)
+    } else {
+        write_frames(input, out)
+    }
+}
+
+#[inline(never)]
+fn assemble<W: Sink>(input: &[u8], out: &mut W) -> Result<Told, ProgramFault>
+    ensures { OnOk result (Writes Choice.Asm [] input.now (W.contents out.old) (W.contents out.new)) }
+{
+    asm_lines(input, out)?;
+    Ok(Told::Nothing)
+}
+
+#[inline(never)]
+fn lay<W: Sink>(input: &[u8], out: &mut W) -> Result<Told, ProgramFault>
+    ensures { OnOk result (Writes Choice.Lay [] input.now (W.contents out.old) (W.contents out.new)) }
+{
+    lay_lines(input, out)?;
+    Ok(Told::Nothing)
+}
+
+/// Does what is asked for. Of a run the result has the counts. Of a sweep the hearer hears how far it is, where that is asked for.
+pub fn perform<W: Sink, H: Hearer>(
+    alloc: Global,
+    choice: Choice,
+    signal: &[u8],
+    input: &[u8],
+    out: &mut W,
+    hearer: &mut H,
+) -> Result<Told, ProgramFault>
+    requires { is_line_by_line choice ≡ false }
+    ensures { OnOk result (Writes choice signal.now input.now (W.contents out.old) (W.contents out.new)) }
+{
+    match choice {
+        Choice::Run { listing, strict } => match listing {
+            Listing::Trace => run(alloc, strict, input, out),
+            Listing::Edges => run_to_line(alloc, Format::Edges, strict, input, out),
+            Listing::Vcd => run_to_line(alloc, Format::Vcd, strict, input, out),
+            Listing::Pin => run_to_line(alloc, Format::Pin, strict, input, out),
+            Listing::Csv => run_to_line(alloc, Format::Csv, strict, input, out),
+            Listing::Drives => run_to_drives(alloc, Wires::Plain, strict, input, out),
+            Listing::Named => run_to_drives(alloc, Wires::Named, strict, input, out),
+        },
+        Choice::Check(view) => test(alloc, view, input, out, hearer),
+        Choice::CheckCapture { form, glitch } => {
+            test_capture(alloc, form, signal, glitch, input, out)
+        }
+        Choice::Step => step(alloc, input, out),
+        Choice::Live { .. } | Choice::Follow { .. } => unreachable!(),
+        Choice::Asm => assemble(input, out),
+        Choice::Dis { meaning } => disassemble(meaning, input, out),
+        Choice::Lay => lay(input, out),
+        Choice::Mon {
+            form,
+            glitch,
+            margin,
+            inverted,
+            folded,
+            report,
+        } => {
+            let signs = show(
+                alloc, folded, form, signal, inverted, glitch, margin, report, input, out,
+            )?;
+            Ok(Told::Capture(signs))
+        }
+        Choice::Json(objects) => write_json(alloc, objects, signal, input, out),
+        Choice::Edid {
+            source,
+            reading,
+            view,
+        } => {
+            edid(alloc, source, reading, view, input, out)?;
+            Ok(Told::Nothing)
+        }
+    }
+}

@@ -1,0 +1,58 @@
+-- A capture by its edges and its end.
+use Rattle.std.proofs.Common.{◌≡◌, ℕ, zero, suc, List, [], Option, Some, None, min, refl, ap, subst, append-nil, ◌∙◌}
+use Rattle.line_reading.specs.Windows.{most_margin, standard, wider}
+use Rattle.line_reading.specs.declared.times.Windows.{Windows}
+use Rattle.capture_monitor.proofs.FollowedEdges.{captured_standard}
+use Rattle.capture_monitor.specs.Joined.{captured_by}
+use Rattle.capture_monitor.specs.Watch.{readings_text}
+use Rattle.follow_core.specs.Follow.{HasFollowed, IsHandedOn, Stops, text_of}
+use Rattle.program_captures.specs.Following.{FollowsTo, StopsSo, fault_of, form_followed}
+use Rattle.follow_core.specs.declared.error.FollowError.{FollowError}
+use Rattle.follow_core.specs.declared.lines.LineForm.{LineForm as FollowedForm}
+use Rattle.program_faults.specs.declared.fault.ProgramFault.{ProgramFault}
+use Rattle.cli_words.specs.declared.choice.LineForm.{LineForm}
+use Rattle.std.specs.Io.KnownBytes.{Appends, append_known}
+use Rattle.program_captures.specs.Captures.{readings_at}
+use Rattle.capture_core.specs.Edges.{Captured}
+use Rattle.line_wave.specs.declared.Edge.{Edge}
+
+pub same_capture : (c : Captured) (edges : List Edge) (end : ℕ) → c.edges ≡ edges → c.end ≡ end → c ≡ record { edges = edges; end = end }
+same_capture c edges end es e =
+    let one : (let r : Captured = record { edges = c.edges; end = c.end } in r) ≡ record { edges = edges; end = c.end } =
+    ap (λ xs. let r : Captured = record { edges = xs; end = c.end } in r) es in
+    let two : (let r : Captured = record { edges = edges; end = c.end } in r) ≡ record { edges = edges; end = end } =
+    ap (λ n. let r : Captured = record { edges = edges; end = n } in r) e in
+    one ∙ two
+
+-- without a margin the windows are the standard's
+pub readings_are : (margin : ℕ) (windows : Windows) (c : Captured) → windows ≡ wider (min margin most_margin) → captured_by windows c ≡ readings_at margin c
+readings_are zero windows c e = let same : windows ≡ standard = e in ap (λ w. captured_by w c) same ∙ captured_standard c
+readings_are (suc n) windows c e = ap (λ w. captured_by w c) e
+
+-- ---- as its lines come
+
+nothing_more : (known : Option (List ℕ)) → append_known known [] ≡ known
+nothing_more None = refl
+nothing_more (Some xs) = ap Some (append-nil xs)
+
+-- all that was put is handed on
+pub follows_to : (form : LineForm) (name : List ℕ) (margin : ℕ) (windows : Windows) (known old below : Option (List ℕ)) (pending : List ℕ) → windows ≡ wider (min margin most_margin) → pending ≡ []
+    → HasFollowed (form_followed form) name windows known old (append_known below pending) → FollowsTo form name margin known old below
+follows_to form name margin windows known old below pending e none f = record {
+  input = f.input;
+  all = f.all;
+  text = text_of windows f.capture;
+  reported = (f.capture, f.read, ap readings_text (readings_are margin windows f.capture e));
+  put = subst (λ (new : Option (List ℕ)). Appends old new (text_of windows f.capture)) (ap (append_known below) none ∙ nothing_more below) f.put;
+}
+
+-- or why it ends before
+pub stops_so : (form : LineForm) (name : List ℕ) (margin : ℕ) (followed : FollowedForm) (windows : Windows) (known old new : Option (List ℕ)) (before pending : List ℕ) (error : FollowError) (fault : ProgramFault) → windows ≡ wider (min margin most_margin)
+    → followed ≡ form_followed form → fault ≡ fault_of error → Stops followed name windows known old new error → (before ≡ [] → IsHandedOn error pending)
+    → StopsSo form name margin known old new before pending fault
+stops_so form name margin followed windows known old new before pending error fault e is cause stops handed = record {
+  error = error;
+  cause = cause;
+  stops = subst (λ (f : FollowedForm). Stops f name (wider (min margin most_margin)) known old new error) is (subst (λ (w : Windows). Stops followed name w known old new error) e stops);
+  handed = handed;
+}

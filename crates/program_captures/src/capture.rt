@@ -1,0 +1,339 @@
+//! What is reported of a capture.
+ghost use Rattle.std.specs.Prelude.{◌≡◌, ◌≤◌, min, OnOk, IfOk, Some, true, false};
+ghost use Rattle.std.specs.Io.KnownBytes.{Appends};
+ghost use Rattle.audit_core.specs.Audit.{audit_text_of};
+ghost use Rattle.line_reading.specs.Windows.{AreWindows, most_margin};
+ghost use Rattle.capture_monitor.specs.Joined.{captured_by};
+ghost use Rattle.audit_lines.specs.Kinds.{has_remark};
+ghost use Rattle.audit_fold.specs.Folded.{folded};
+ghost use Rattle.text_core.specs.Lines.{lines_of};
+ghost use Rattle.program_captures.specs.Captures.{Heard, Reports, Shown, edges_kept, edges_turned, form_of, report_of};
+
+use crate::signs::{Signs, has_several, signs_of};
+use arrayvec::ArrayString;
+use audit_core::{AuditOptions, audit_capture_by};
+use audit_fold::fold;
+use audit_lines::has_remark;
+use capture_core::Capture;
+use capture_forms::{Form as CaptureForm, read_capture};
+use capture_invert::invert;
+use capture_monitor::{watch_capture_by, watch_from_idle_by};
+use capture_pin::lost_lines;
+use capture_smooth::smooth_edges;
+use cli_words::{Form, Report};
+use json_trace::Held;
+use line_reading::{MOST_MARGIN, Windows};
+use program_faults::ProgramFault;
+use std::alloc::{AllocError, Global};
+use std::fmt::Write;
+use text_core::{Sink, put_all};
+
+/// The form of a capture: what is asked for, or else what its first line reports.
+pub fn form_of(form: Option<Form>, input: &[u8]) -> CaptureForm
+    ensures { result ≡ form_of form input.now }
+{
+    match form {
+        None => CaptureForm::of(input),
+        Some(Form::Edges) => CaptureForm::Edges,
+        Some(Form::Vcd) => CaptureForm::Vcd,
+        Some(Form::Pin) => CaptureForm::Pin,
+        Some(Form::Csv) => CaptureForm::Csv,
+    }
+}
+
+// What is written of a capture: what is asked for, or else what its form has.
+fn report_of(report: Option<Report>, form: CaptureForm) -> Report
+    ensures { result ≡ report_of report form }
+{
+    match report {
+        Some(report) => report,
+        None => match form {
+            CaptureForm::Edges => Report::Readings,
+            CaptureForm::Vcd | CaptureForm::Pin | CaptureForm::Csv => Report::FromIdle,
+        },
+    }
+}
+
+/// A capture without pulses and gaps that are too short.
+pub fn without_short(alloc: Global, glitch: u64, whole: Capture) -> Result<Capture, AllocError>
+    ensures edges { IfOk result (λ c. c.edges ≡ edges_kept glitch whole.edges) }
+    ensures end { IfOk result (λ c. c.end ≡ whole.end) }
+{
+    if glitch == 0 {
+        Ok(whole)
+    } else {
+        smooth_edges(alloc, &whole, glitch)
+    }
+}
+
+// A capture as it is read: as it stands or of a probe that turns the level of the line, and without pulses and gaps that are too
+// short.
+fn as_read(
+    alloc: Global,
+    inverted: bool,
+    glitch: u64,
+    whole: Capture,
+) -> Result<Capture, AllocError>
+    ensures edges { IfOk result (λ c. c.edges ≡ edges_kept glitch (edges_turned inverted whole.edges)) }
+    ensures end { IfOk result (λ c. c.end ≡ whole.end) }
+{
+    if inverted {
+        let turned = invert(alloc, &whole)?;
+        without_short(alloc, glitch, turned)
+    } else {
+        without_short(alloc, glitch, whole)
+    }
+}
+
+fn write_readings<W: Sink>(
+    capture: &Capture,
+    windows: Windows,
+    out: &mut W,
+) -> Result<(), ProgramFault>
+    requires { AreWindows windows }
+    ensures { OnOk result (Reports Report.Readings capture.now (captured_by windows capture.now) (W.contents out.old) (W.contents out.new)) }
+{
+    Ok(watch_capture_by(capture, windows, out)?)
+}
+
+fn write_from_idle<W: Sink>(
+    capture: &Capture,
+    windows: Windows,
+    out: &mut W,
+) -> Result<(), ProgramFault>
+    requires { AreWindows windows }
+    ensures { OnOk result (Reports Report.FromIdle capture.now (captured_by windows capture.now) (W.contents out.old) (W.contents out.new)) }
+{
+    Ok(watch_from_idle_by(capture, windows, out)?)
+}
+
+fn write_audit<W: Sink>(
+    capture: &Capture,
+    windows: Windows,
+    timing: bool,
+    out: &mut W,
+) -> Result<(), ProgramFault>
+    requires { AreWindows windows }
+    ensures { OnOk result (Reports (Report.Audit timing false) capture.now (captured_by windows capture.now) (W.contents out.old) (W.contents out.new)) }
+{
+    Ok(audit_capture_by(capture, windows, AuditOptions { timing }, out)?)
+}
+
+// An audit as it is held: `Err` where memory runs out.
+fn held_audit(
+    alloc: Global,
+    capture: &Capture,
+    windows: Windows,
+    timing: bool,
+) -> Result<Held, AllocError>
+    requires { AreWindows windows }
+    ensures { IfOk result (λ held. ⟦<Held as Sink>⟧.contents held ≡ Some (audit_text_of timing capture.now (captured_by windows capture.now))) }
+{
+    let mut held = Held::new(alloc);
+    match audit_capture_by(capture, windows, AuditOptions { timing }, &mut held) {
+        Ok(()) => Ok(held),
+        Err(_) => Err(AllocError),
+    }
+}
+
+// Fails where a text has a remark.
+fn without_remark(text: &[u8]) -> Result<(), ProgramFault>
+    ensures { OnOk result (has_remark (lines_of text.now) ≡ false) }
+{
+    if has_remark(text) {
+        return Err(ProgramFault::Remarked);
+    }
+    Ok(())
+}
+
+// The audit of which a remark is a fault. All of it is written then too.
+fn write_strict_audit<W: Sink>(
+    alloc: Global,
+    capture: &Capture,
+    windows: Windows,
+    timing: bool,
+    out: &mut W,
+) -> Result<(), ProgramFault>
+    requires { AreWindows windows }
+    ensures { OnOk result (Reports (Report.Audit timing true) capture.now (captured_by windows capture.now) (W.contents out.old) (W.contents out.new)) }
+{
+    let held = held_audit(alloc, capture, windows, timing)?;
+    let text = held.bytes();
+    put_all(out, text)?;
+    without_remark(text)
+}
+
+fn write_any_audit<W: Sink>(
+    alloc: Global,
+    capture: &Capture,
+    windows: Windows,
+    timing: bool,
+    strict: bool,
+    out: &mut W,
+) -> Result<(), ProgramFault>
+    requires { AreWindows windows }
+    ensures { OnOk result (Reports (Report.Audit timing strict) capture.now (captured_by windows capture.now) (W.contents out.old) (W.contents out.new)) }
+{
+    if strict {
+        write_strict_audit(alloc, capture, windows, timing, out)
+    } else {
+        write_audit(capture, windows, timing, out)
+    }
+}
+
+// Writes what is asked for of a capture, as these windows read it.
+fn write_report<W: Sink>(
+    alloc: Global,
+    capture: &Capture,
+    windows: Windows,
+    report: Report,
+    out: &mut W,
+) -> Result<(), ProgramFault>
+    requires { AreWindows windows }
+    ensures { OnOk result (Reports report capture.now (captured_by windows capture.now) (W.contents out.old) (W.contents out.new)) }
+{
+    match report {
+        Report::Readings => write_readings(capture, windows, out),
+        Report::FromIdle => write_from_idle(capture, windows, out),
+        Report::Audit { timing, strict } => write_any_audit(
+            alloc, capture, windows, timing, strict, out,
+        ),
+    }
+}
+
+pub(crate) fn within_most(margin: u64) -> u64
+    ensures same { result ≡ min margin most_margin }
+    ensures most { result ≤ most_margin }
+{
+    if margin > MOST_MARGIN {
+        MOST_MARGIN
+    } else {
+        margin
+    }
+}
+
+// Writes what is asked for of a capture in a form, of the wire of a name, with a margin.
+#[inline(never)]
+fn listen<W: Sink>(
+    alloc: Global,
+    form: CaptureForm,
+    signal: &[u8],
+    inverted: bool,
+    glitch: u64,
+    margin: u64,
+    report: Report,
+    input: &[u8],
+    out: &mut W,
+) -> Result<Signs, ProgramFault>
+    ensures { OnOk result (Heard form signal.now inverted glitch margin report input.now (W.contents out.old) (W.contents out.new)) }
+{
+    let whole = read_capture(alloc, form, signal, input)?;
+    let kept = as_read(alloc, inverted, glitch, whole)?;
+    let windows = Windows::wider(within_most(margin));
+    write_report(alloc, &kept, windows, report, out)?;
+    let is_first = signal.is_empty() && has_several(alloc, form, input);
+    Ok(signs_of(&kept, is_first))
+}
+
+/// Writes what is asked for of a capture: in a form, or in the one that its first line reports, of the wire of a name, or the
+/// first where that is empty, with its levels turned or not, as windows read it that are `margin` wider at either side. Returns what the capture looks like.
+pub fn monitor<W: Sink>(
+    alloc: Global,
+    form: Option<Form>,
+    signal: &[u8],
+    inverted: bool,
+    glitch: u64,
+    margin: u64,
+    report: Option<Report>,
+    input: &[u8],
+    out: &mut W,
+) -> Result<Signs, ProgramFault>
+    ensures { OnOk result (Heard (form_of form input.now) signal.now inverted glitch margin (report_of report (form_of form input.now)) input.now (W.contents out.old) (W.contents out.new)) }
+{
+    let form = form_of(form, input);
+    let report = report_of(report, form);
+    listen(
+        alloc, form, signal, inverted, glitch, margin, report, input, out,
+    )
+}
+
+// Writes lines, bad starts one after another as one.
+fn write_folded<W: Sink>(alloc: Global, lines: &[u8], out: &mut W) -> Result<(), ProgramFault>
+    ensures { OnOk result (Appends (W.contents out.old) (W.contents out.new) (folded (lines_of lines.now))) }
+{
+    let text = fold(alloc, lines)?;
+    Ok(put_all(out, &text)?)
+}
+
+// Writes what is asked for of a capture with bad starts one after another as one line. The lines are held until they are all there;
+// those of a strict audit that has a remark are written too.
+#[inline(never)]
+fn show_folded<W: Sink>(
+    alloc: Global,
+    form: Option<Form>,
+    signal: &[u8],
+    inverted: bool,
+    glitch: u64,
+    margin: u64,
+    report: Option<Report>,
+    input: &[u8],
+    out: &mut W,
+) -> Result<Signs, ProgramFault>
+    ensures { OnOk result (Shown true (form_of form input.now) signal.now inverted glitch margin (report_of report (form_of form input.now)) input.now (W.contents out.old) (W.contents out.new)) }
+{
+    let mut held = Held::new(alloc);
+    let done = monitor(
+        alloc, form, signal, inverted, glitch, margin, report, input, &mut held,
+    );
+    if held.is_full() {
+        return Err(ProgramFault::Memory(AllocError));
+    }
+    write_folded(alloc, held.bytes(), out)?;
+    done
+}
+
+/// Writes the same as `monitor`, as it stands or with bad starts one after another as one line.
+pub fn show<W: Sink>(
+    alloc: Global,
+    folds: bool,
+    form: Option<Form>,
+    signal: &[u8],
+    inverted: bool,
+    glitch: u64,
+    margin: u64,
+    report: Option<Report>,
+    input: &[u8],
+    out: &mut W,
+) -> Result<Signs, ProgramFault>
+    ensures { OnOk result (Shown folds (form_of form input.now) signal.now inverted glitch margin (report_of report (form_of form input.now)) input.now (W.contents out.old) (W.contents out.new)) }
+{
+    if folds {
+        show_folded(
+            alloc, form, signal, inverted, glitch, margin, report, input, out,
+        )
+    } else {
+        monitor(
+            alloc, form, signal, inverted, glitch, margin, report, input, out,
+        )
+    }
+}
+
+// The line that names an event before which others were lost.
+fn write_lost<E: Sink>(line: u64, err: &mut E) {
+    let mut text = ArrayString::<64>::new();
+    let _ = writeln!(text, "hdminet: events were lost before line {line}");
+    let _ = put_all(err, text.as_bytes());
+}
+
+/// Names the lines of pin events before which others were lost: what is read across them is not to be trusted. Where memory
+/// runs out none is named.
+pub fn name_lost<E: Sink>(alloc: Global, form: Option<Form>, input: &[u8], err: &mut E) {
+    if form_of(form, input) != CaptureForm::Pin {
+        return;
+    }
+    if let Ok(lines) = lost_lines(alloc, input) {
+        for line in &lines {
+            write_lost(*line, err);
+        }
+    }
+}

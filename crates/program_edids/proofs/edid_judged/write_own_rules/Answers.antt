@@ -1,0 +1,18 @@
+use Rattle.std.proofs.Common.{rules, ◌≡◌, List, OnOk, length, subst}
+use Rattle.edid_core.specs.Bytes.{edid_bytes}
+use Rattle.edid_core.specs.declared.edid.Edid.{Edid}
+use Rattle.edid_cta.specs.declared.raw.Ext.{Ext}
+use Rattle.program_edids.specs.Edids.{ShowsFound, ShowsOwn}
+use Rattle.program_edids.proofs.ShownLemmas.{on_ok}
+use Rattle.program_edids.proofs.edid_judged.write_own_rules.Goals as goal
+
+pub returns-in-Ok : goal.returns-in-Ok
+returns-in-Ok g c =
+    let counted : c.in-Ok.base.extensions ≡ length c.read_parts.new.extensions.items = search rules in
+    let edid : Edid = record { base = c.in-Ok.base; extensions = c.read_parts.new.extensions; counted = counted; few = c.read_parts.ensures.few } in
+    let spelled : edid_bytes edid ≡ c.args.bytes.now = search rules in
+    let old = g.W.Sink.contents c.args.out.now in
+    let new = g.W.Sink.contents c.write_found.new.out in
+    let P : List Ext → Type 0 = λ xs. OnOk c.write_found.result (ShowsFound c.args.origin c.in-Ok.base xs old new) in
+    on_ok c.write_found.result (ShowsFound c.args.origin edid.base edid.extensions.items old new) (ShowsOwn c.args.origin c.args.bytes.now old new)
+    (λ s. (s.0, (edid, spelled, s.1), s.2)) (subst P c.as_slice.ensures.value c.write_found.ensures)

@@ -1,0 +1,198 @@
+-- What is written of an EDID (own).
+use Rattle.std.specs.Prelude.{◌≡◌, ℕ, ◌+◌, ◌*◌, Bool, true, false, nat_lt, List, [], length, take, drop, Option, Some, Ok, if◌then◌else◌, slice_index}
+use Rattle.std.specs.Io.KnownBytes.{Appends}
+use Rattle.conversion_notes.specs.EdidMeaning.{meaning_of}
+use Rattle.conversion_notes.specs.Meanings.{plain_text}
+use Rattle.edid_core.specs.Bytes.{edid_bytes}
+use Rattle.edid_core.specs.declared.edid.Edid.{Edid}
+use Rattle.edid_core.specs.declared.passing.AudioFrom.TheVariants.{Television, Amplifier}
+use Rattle.rules_check.specs.Findings.{findings}
+use Rattle.rules_check.specs.Text.{findings_text, some_failure}
+use Rattle.rules_check.specs.declared.rule.Origin.{Origin}
+use Rattle.rules_check.specs.declared.rule.Origin.TheVariants as origins
+use Rattle.conversion_calls.specs.EdidFindings.{faults_of}
+use Rattle.conversion_calls.specs.Form.{form_text, hex_line}
+use Rattle.conversion_calls.specs.PassedOn.{Reports, address_line}
+use Rattle.conversion_calls.specs.Passing.{IsPassedOn}
+use Rattle.conversion_calls.specs.declared.form.Form.{Form}
+use Rattle.conversion_calls.specs.declared.form.Form.TheVariants as forms
+use Rattle.conversion_calls.specs.declared.passing.Passing.{Passing}
+use Rattle.conversion_calls.specs.declared.passing.Destination.TheVariants as to
+use Rattle.text_core.specs.declared.phys.Phys.{Phys}
+use Rattle.edid_cta.specs.declared.raw.Ext.{Ext}
+use Rattle.edid_ddc.specs.Readout.{readout_text}
+use Rattle.edid_dumps.specs.Nth.{nth_in_dump}
+use Rattle.edid_base.specs.Base.{base_bytes}
+use Rattle.edid_base.specs.declared.base.Base.{Base}
+use Rattle.edid_texts.specs.Lines.{edid_text}
+use Rattle.edid_merge.specs.Merge.{IsAnswer}
+use Rattle.edid_merge.specs.Speakers.{IsSpoken}
+use Rattle.edid_as_source.specs.Count.{counted, first_count, with_count}
+use Rattle.edid_as_source.specs.Source.{as_source}
+use Rattle.edid_spelling.specs.Canonical.{canonical_text}
+use Rattle.cli_words.specs.declared.choice.Reading.{Reading}
+use Rattle.cli_words.specs.declared.choice.Reading.TheVariants.{Strict, Overridden, AsSource}
+use Rattle.cli_words.specs.declared.choice.Recipient.{Recipient}
+use Rattle.cli_words.specs.declared.choice.Recipient.TheVariants.{Own, At, Port}
+use Rattle.cli_words.specs.declared.choice.Shape.{Shape}
+use Rattle.cli_words.specs.declared.choice.Shape.TheVariants as shapes
+use Rattle.cli_words.specs.declared.choice.Sound.{Sound}
+use Rattle.cli_words.specs.declared.choice.Sound.TheVariants.{Kept, Amplified, Spoken}
+use Rattle.cli_words.specs.declared.choice.Source.{Source}
+use Rattle.cli_words.specs.declared.choice.Source.TheVariants as sources
+use Rattle.cli_words.specs.declared.choice.View.{View}
+use Rattle.cli_words.specs.declared.choice.View.TheVariants.{Whole, Meaning, Findings, Address, Readout}
+
+abbrev pub form_of : Shape → Form
+form_of shapes.Text = forms.Text
+form_of shapes.Hex = forms.Hex
+form_of shapes.Bytes = forms.Bytes
+
+-- ---- the EDID for a device
+
+-- what is passed on to an address, and in a port
+abbrev pub at : Phys → Passing
+at address = record { place = to.Address address; audio = Television }
+
+abbrev pub in_port : ℕ → Bool → Passing
+in_port port amplified = record { place = to.Port port; audio = if amplified then Amplifier else Television }
+
+-- in a port, with the sound of the device that has the EDID, or of an amplifier, whose speakers are perhaps its own
+abbrev pub IsInPort : ℕ → Sound → List ℕ → Edid → Type 0
+IsInPort port Kept bytes e = IsPassedOn bytes (in_port port false) e
+IsInPort port Amplified bytes e = IsPassedOn bytes (in_port port true) e
+IsInPort port Spoken bytes e = (p : Edid) × IsPassedOn bytes (in_port port true) p × IsSpoken (edid_bytes p) (edid_bytes e)
+
+-- the bytes of the last
+abbrev pub IsSpokenIn : ℕ → List ℕ → List ℕ → Type 0
+IsSpokenIn port bytes given = (p : Edid) × IsPassedOn bytes (in_port port true) p × IsSpoken (edid_bytes p) given
+
+abbrev pub IsFor : Recipient → List ℕ → Edid → Type 0
+IsFor Own bytes e = edid_bytes e ≡ bytes
+IsFor (At address) bytes e = IsPassedOn bytes (at address) e
+IsFor (Port port sound) bytes e = IsInPort port sound bytes e
+
+-- the rules are those for the EDID of a display, or for one that is passed on
+abbrev pub origin_of : Recipient → Origin
+origin_of Own = origins.Display
+origin_of (At address) = origins.Port
+origin_of (Port port sound) = origins.Port
+
+-- the bytes of that EDID; those of the device that has them may be any
+abbrev pub IsGiven : Recipient → List ℕ → List ℕ → Type 0
+IsGiven Own bytes given = given ≡ bytes
+IsGiven (At address) bytes given = (e : Edid) × IsPassedOn bytes (at address) e × (given ≡ edid_bytes e)
+IsGiven (Port port sound) bytes given = (e : Edid) × IsInPort port sound bytes e × (given ≡ edid_bytes e)
+
+-- ---- what is written
+
+-- what the lines of an EDID's text mean, the address in it, and what is read of it over DDC
+abbrev pub IsMeant : List ℕ → List ℕ → Type 0
+IsMeant bytes text = (e : Edid) × (edid_bytes e ≡ bytes) × (text ≡ meaning_of e)
+
+abbrev pub IsAddress : List ℕ → List ℕ → Type 0
+IsAddress bytes text = (a : Phys) × Reports bytes (Some a) × (text ≡ address_line a)
+
+abbrev pub IsReadout : List ℕ → List ℕ → Type 0
+IsReadout bytes text = (e : Edid) × (edid_bytes e ≡ bytes) × (text ≡ readout_text bytes)
+
+-- The text that a view of the EDID of some bytes is. Of rules that are broken it is all, and none of them is a failure.
+abbrev pub IsShown : View → List ℕ → List ℕ → Type 0
+IsShown (Whole place shape) bytes text = (e : Edid) × IsFor place bytes e × (text ≡ form_text (form_of shape) e)
+IsShown (Meaning place) bytes text = (given : List ℕ) × IsGiven place bytes given × IsMeant given text
+IsShown (Findings place) bytes text =
+    (e : Edid) × IsFor place bytes e × (text ≡ findings_text (faults_of (origin_of place) e)) × (some_failure (faults_of (origin_of place) e) ≡ false)
+IsShown (Address place) bytes text = (given : List ℕ) × IsGiven place bytes given × IsAddress given text
+IsShown (Readout place) bytes text = (given : List ℕ) × IsGiven place bytes given × IsReadout given text
+
+-- What is found of an EDID of these parts is written, and none of it is a failure.
+abbrev pub IsFound : Origin → Base → List Ext → List ℕ → Type 0
+IsFound origin base extensions text = (text ≡ findings_text (findings origin base extensions)) × (some_failure (findings origin base extensions) ≡ false)
+
+abbrev pub ShowsFound : Origin → Base → List Ext → Option (List ℕ) → Option (List ℕ) → Type 0
+ShowsFound origin base extensions old new = (text : List ℕ) × IsFound origin base extensions text × Appends old new text
+
+-- of the EDID of some bytes
+abbrev pub ShowsOwn : Origin → List ℕ → Option (List ℕ) → Option (List ℕ) → Type 0
+ShowsOwn origin bytes old new = (text : List ℕ) × ((e : Edid) × (edid_bytes e ≡ bytes) × IsFound origin e.base e.extensions.items text) × Appends old new text
+
+-- of the EDID of some bytes, judged by a base block that counts its extensions otherwise, as others do
+abbrev pub IsJudged : Origin → ℕ → List ℕ → List ℕ → List ℕ → Type 0
+IsJudged origin count front bytes text =
+    (e : Edid) × (edid_bytes e ≡ bytes) × (b : Base) × (base_bytes b ≡ take 128 (with_count front count)) × IsFound origin b e.extensions.items text
+
+abbrev pub ShowsJudged : Origin → ℕ → List ℕ → List ℕ → Option (List ℕ) → Option (List ℕ) → Type 0
+ShowsJudged origin count front bytes old new = (text : List ℕ) × IsJudged origin count front bytes text × Appends old new text
+
+-- The bytes of an EDID for a device, with another count in byte 126.
+abbrev pub IsRecounted : ℕ → Recipient → List ℕ → List ℕ → Type 0
+IsRecounted count place bytes new = (given : List ℕ) × IsGiven place bytes given × ((e : Edid) × (edid_bytes e ≡ given)) × (new ≡ with_count given count)
+
+-- The same views where the HDMI Forum's override counts the extensions: bytes that are written have the count of byte 126, and the
+-- rules judge by it.
+abbrev pub IsShownCounted : ℕ → View → List ℕ → List ℕ → Type 0
+IsShownCounted count (Whole place shapes.Hex) bytes text = (new : List ℕ) × IsRecounted count place bytes new × (text ≡ hex_line new)
+IsShownCounted count (Whole place shapes.Bytes) bytes text = (new : List ℕ) × IsRecounted count place bytes new × (text ≡ new)
+IsShownCounted count (Readout place) bytes text = (new : List ℕ) × IsRecounted count place bytes new × (text ≡ readout_text new)
+IsShownCounted count (Whole place shapes.Text) bytes text = IsShown (Whole place shapes.Text) bytes text
+IsShownCounted count (Meaning place) bytes text = IsShown (Meaning place) bytes text
+IsShownCounted count (Findings place) bytes text = (given : List ℕ) × IsGiven place bytes given × IsJudged (origin_of place) count bytes given text
+IsShownCounted count (Address place) bytes text = IsShown (Address place) bytes text
+
+-- A view of the bytes that an input gives, as they are read.
+abbrev pub IsShownAs : Reading → ℕ → View → List ℕ → List ℕ → Type 0
+IsShownAs Strict count view given text = IsShown view given text
+IsShownAs Overridden count view given text = (bytes : List ℕ) × (counted given ≡ Ok bytes) × IsShownCounted count view bytes text
+IsShownAs AsSource count view given text = (bytes : List ℕ) × (as_source given ≡ Ok bytes) × IsShown view bytes text
+
+-- what is passed on is written, and nothing else; and the rules that it breaks
+abbrev pub ShowsPassed : Passing → Shape → List ℕ → Option (List ℕ) → Option (List ℕ) → Type 0
+ShowsPassed passing shape bytes old new = (text : List ℕ) × ((e : Edid) × IsPassedOn bytes passing e × (text ≡ form_text (form_of shape) e)) × Appends old new text
+
+abbrev pub ShowsRules : Passing → List ℕ → Option (List ℕ) → Option (List ℕ) → Type 0
+ShowsRules passing bytes old new =
+    (text : List ℕ)
+    × ((e : Edid) × IsPassedOn bytes passing e × (text ≡ findings_text (faults_of origins.Port e)) × (some_failure (faults_of origins.Port e) ≡ false))
+    × Appends old new text
+
+-- two EDIDs one after the other: the first is as long as its byte 126 counts
+abbrev pub display_half : List ℕ → List ℕ
+display_half input = if nat_lt (128 * slice_index input 126 + 128) (length input) then take (128 * slice_index input 126 + 128) input else input
+
+abbrev pub own_half : List ℕ → List ℕ
+own_half input = if nat_lt (128 * slice_index input 126 + 128) (length input) then drop (128 * slice_index input 126 + 128) input else []
+
+-- the bytes that an input gives
+abbrev pub IsRead : Source → List ℕ → List ℕ → Type 0
+IsRead sources.Bytes input given = given ≡ input
+IsRead (sources.Dump nth) input given = nth_in_dump nth input ≡ Ok given
+IsRead sources.Text input given = (e : Edid) × (edid_text e ≡ plain_text input) × (given ≡ edid_bytes e)
+IsRead sources.Words input given = (e : Edid) × (edid_text e ≡ canonical_text (plain_text input)) × (given ≡ edid_bytes e)
+IsRead (sources.Pair true table) input given =
+    (display : List ℕ) × (own : List ℕ) × (nth_in_dump 1 input ≡ Ok display) × (nth_in_dump 2 input ≡ Ok own) × IsAnswer table display own given
+IsRead (sources.Pair false table) input given = IsAnswer table (display_half input) (own_half input) given
+
+-- The count that byte 126 keeps: a text has none, so that it is 1 there where the override stands.
+abbrev pub kept_count : Source → List ℕ → ℕ
+kept_count sources.Bytes given = slice_index given 126
+kept_count (sources.Dump nth) given = slice_index given 126
+kept_count (sources.Pair dumps table) given = slice_index given 126
+kept_count sources.Text given = first_count given
+kept_count sources.Words given = first_count given
+
+-- a view is written, and nothing else
+abbrev pub Shows : View → List ℕ → Option (List ℕ) → Option (List ℕ) → Type 0
+Shows view bytes old new = (text : List ℕ) × IsShown view bytes text × Appends old new text
+
+abbrev pub ShowsCounted : ℕ → View → List ℕ → Option (List ℕ) → Option (List ℕ) → Type 0
+ShowsCounted count view bytes old new = (text : List ℕ) × IsShownCounted count view bytes text × Appends old new text
+
+abbrev pub ShowsAs : Reading → ℕ → View → List ℕ → Option (List ℕ) → Option (List ℕ) → Type 0
+ShowsAs reading count view given old new = (text : List ℕ) × IsShownAs reading count view given text × Appends old new text
+
+-- of what an input gives
+abbrev pub IsMade : Source → Reading → View → List ℕ → List ℕ → Type 0
+IsMade source reading view input text = (given : List ℕ) × IsRead source input given × IsShownAs reading (kept_count source given) view given text
+
+abbrev pub Made : Source → Reading → View → List ℕ → Option (List ℕ) → Option (List ℕ) → Type 0
+Made source reading view input old new = (text : List ℕ) × IsMade source reading view input text × Appends old new text

@@ -1,0 +1,552 @@
+//! What is done with an EDID.
+ghost use Rattle.std.specs.Prelude.{◌≡◌, ℕ, List, OnOk, IfOk};
+ghost use Rattle.edid_core.specs.Bytes.{edid_bytes};
+ghost use Rattle.edid_core.specs.declared.edid.Edid.{Edid as EdidValue};
+ghost use Rattle.program_edids.specs.Edids.{IsGiven, IsRecounted, IsSpokenIn, Made, Shows, ShowsAs, ShowsCounted, ShowsPassed, ShowsRules, at, form_of, in_port, origin_of};
+ghost use Rattle.std.specs.Io.KnownBytes.{Appends};
+ghost use Rattle.text_core.specs.Written.{WrittenAll};
+ghost use Rattle.conversion_calls.specs.Passing.{IsPassedOn};
+ghost use Rattle.edid_ddc.specs.Readout.{readout_text};
+ghost use Rattle.conversion_calls.specs.Form.{hex_line};
+
+use crate::edid_given::{given_of, kept_count};
+use crate::edid_judged::{unless_failed, write_counted_rules, write_own_rules};
+use arrayvec::ArrayVec;
+use cli_words::{Reading, Recipient, Shape, Sound, Source, View};
+use conversion_calls::{
+    Destination as PassedTo, EdidToTextError, Form, Passing, check_passed_on, edid_to_findings,
+    edid_to_text, write_address, write_passed_on,
+};
+use conversion_notes::edid_to_meaning;
+use edid_as_source::{as_source, counted, with_count};
+use edid_core::{AudioFrom, EdidError, read_parts};
+use edid_ddc::{Ddc, DdcError, write_readout};
+use edid_merge::with_speakers;
+use json_trace::Held;
+use program_faults::ProgramFault;
+use rules_check::Origin;
+use std::alloc::{AllocError, Global};
+use text_core::{Phys, Piece, Sink, WriteFault, put_all, write_line};
+
+/// The fewest and the most bytes of an EDID.
+const LEAST: usize = 128;
+
+const MOST: usize = 512;
+
+fn form_of(shape: Shape) -> Form
+    ensures { result ≡ form_of shape }
+{
+    match shape {
+        Shape::Text => Form::Text,
+        Shape::Hex => Form::Hex,
+        Shape::Bytes => Form::Bytes,
+    }
+}
+
+// What is passed on to an address.
+fn at(address: Phys) -> Passing
+    ensures { result ≡ at address }
+{
+    Passing {
+        place: PassedTo::Address(address),
+        audio: AudioFrom::Television,
+    }
+}
+
+// What is passed on in a port.
+fn in_port(port: u8, amplified: bool) -> Passing
+    ensures { result ≡ in_port port amplified }
+{
+    let audio = if amplified {
+        AudioFrom::Amplifier
+    } else {
+        AudioFrom::Television
+    };
+    Passing {
+        place: PassedTo::Port(port),
+        audio,
+    }
+}
+
+// That some bytes spell an EDID. It is read in parts, since an EDID is large.
+#[inline(never)]
+fn is_edid(bytes: &[u8]) -> Result<(), ProgramFault>
+    ensures { OnOk result ((e : EdidValue) × (edid_bytes e ≡ bytes.now)) }
+{
+    let mut extensions = ArrayVec::new();
+    match read_parts(bytes, &mut extensions) {
+        Ok(_base) => Ok(()),
+        Err(cause) => Err(ProgramFault::EdidToText(EdidToTextError::Edid(cause))),
+    }
+}
+
+// Writes bytes as one line of hex.
+fn write_hex_line<S: Sink>(bytes: &[u8], out: &mut S) -> Result<(), WriteFault>
+    ensures { WrittenAll (S.contents out.old) (S.contents out.new) (S.is_stuck out.old) (S.is_stuck out.new) (hex_line bytes.now) result }
+{
+    match write_line(out, &[Piece::Hex(bytes), Piece::Text("\n")]) {
+        Ok(_) => Ok(()),
+        Err(fault) => Err(fault),
+    }
+}
+
+fn write_as_text<W: Sink>(bytes: &[u8], out: &mut W) -> Result<(), ProgramFault>
+    ensures { OnOk result (Shows (View.Whole Recipient.Own Shape.Text) bytes.now (W.contents out.old) (W.contents out.new)) }
+{
+    Ok(edid_to_text(bytes, out)?)
+}
+
+fn write_as_hex<W: Sink>(bytes: &[u8], out: &mut W) -> Result<(), ProgramFault>
+    ensures { OnOk result (Shows (View.Whole Recipient.Own Shape.Hex) bytes.now (W.contents out.old) (W.contents out.new)) }
+{
+    is_edid(bytes)?;
+    Ok(write_hex_line(bytes, out)?)
+}
+
+fn write_as_bytes<W: Sink>(bytes: &[u8], out: &mut W) -> Result<(), ProgramFault>
+    ensures { OnOk result (Shows (View.Whole Recipient.Own Shape.Bytes) bytes.now (W.contents out.old) (W.contents out.new)) }
+{
+    is_edid(bytes)?;
+    Ok(put_all(out, bytes)?)
+}
+
+// Writes the EDID of some bytes.
+fn write_own<W: Sink>(bytes: &[u8], shape: Shape, out: &mut W) -> Result<(), ProgramFault>
+    ensures { OnOk result (Shows (View.Whole Recipient.Own shape) bytes.now (W.contents out.old) (W.contents out.new)) }
+{
+    match shape {
+        Shape::Text => write_as_text(bytes, out),
+        Shape::Hex => write_as_hex(bytes, out),
+        Shape::Bytes => write_as_bytes(bytes, out),
+    }
+}
+
+// Writes what is passed on of the EDID of some bytes.
+fn write_passed<W: Sink>(
+    bytes: &[u8],
+    passing: Passing,
+    shape: Shape,
+    out: &mut W,
+) -> Result<(), ProgramFault>
+    ensures { OnOk result (ShowsPassed passing shape bytes.now (W.contents out.old) (W.contents out.new)) }
+{
+    Ok(write_passed_on(bytes, passing, form_of(shape), out)?)
+}
+
+// The bytes that are passed on of the EDID of some bytes in a port of an amplifier, with its speakers.
+fn spoken_bytes(alloc: Global, port: u8, bytes: &[u8]) -> Result<Vec<u8>, ProgramFault>
+    ensures { IfOk result (λ spoken. IsSpokenIn port bytes.now spoken.items) }
+{
+    let passed = passed_bytes(alloc, in_port(port, true), bytes)?;
+    match with_speakers(passed.as_slice()) {
+        Ok(spoken) => Ok(spoken.as_slice().to_vec(alloc)?),
+        Err(error) => Err(ProgramFault::Speakers(error)),
+    }
+}
+
+// Writes them.
+fn write_spoken<W: Sink>(
+    alloc: Global,
+    bytes: &[u8],
+    port: u8,
+    shape: Shape,
+    out: &mut W,
+) -> Result<(), ProgramFault>
+    ensures { OnOk result (Shows (View.Whole (Recipient.Port port Sound.Spoken) shape) bytes.now (W.contents out.old) (W.contents out.new)) }
+{
+    let given = spoken_bytes(alloc, port, bytes)?;
+    write_own(given.as_slice(), shape, out)
+}
+
+// Writes what is passed on of the EDID of some bytes in a port.
+fn write_in_port<W: Sink>(
+    alloc: Global,
+    bytes: &[u8],
+    port: u8,
+    sound: Sound,
+    shape: Shape,
+    out: &mut W,
+) -> Result<(), ProgramFault>
+    ensures { OnOk result (Shows (View.Whole (Recipient.Port port sound) shape) bytes.now (W.contents out.old) (W.contents out.new)) }
+{
+    match sound {
+        Sound::Kept => write_passed(bytes, in_port(port, false), shape, out),
+        Sound::Amplified => write_passed(bytes, in_port(port, true), shape, out),
+        Sound::Spoken => write_spoken(alloc, bytes, port, shape, out),
+    }
+}
+
+// Writes the EDID of some bytes, for a device.
+fn write_whole<W: Sink>(
+    alloc: Global,
+    bytes: &[u8],
+    place: Recipient,
+    shape: Shape,
+    out: &mut W,
+) -> Result<(), ProgramFault>
+    ensures { OnOk result (Shows (View.Whole place shape) bytes.now (W.contents out.old) (W.contents out.new)) }
+{
+    match place {
+        Recipient::Own => write_own(bytes, shape, out),
+        Recipient::At(address) => write_passed(bytes, at(address), shape, out),
+        Recipient::Port { port, sound } => write_in_port(alloc, bytes, port, sound, shape, out),
+    }
+}
+
+// Writes the rules that the EDID of some bytes breaks.
+fn check_own<W: Sink>(bytes: &[u8], out: &mut W) -> Result<(), ProgramFault>
+    ensures { OnOk result (Shows (View.Findings Recipient.Own) bytes.now (W.contents out.old) (W.contents out.new)) }
+{
+    let fails = edid_to_findings(bytes, out)?;
+    unless_failed(fails)
+}
+
+// Writes the rules that what is passed on of it breaks.
+fn check_passed<W: Sink>(bytes: &[u8], passing: Passing, out: &mut W) -> Result<(), ProgramFault>
+    ensures { OnOk result (ShowsRules passing bytes.now (W.contents out.old) (W.contents out.new)) }
+{
+    let fails = check_passed_on(bytes, passing, out)?;
+    unless_failed(fails)
+}
+
+// Writes the rules that it breaks with the speakers of an amplifier.
+fn check_spoken<W: Sink>(
+    alloc: Global,
+    bytes: &[u8],
+    port: u8,
+    out: &mut W,
+) -> Result<(), ProgramFault>
+    ensures { OnOk result (Shows (View.Findings (Recipient.Port port Sound.Spoken)) bytes.now (W.contents out.old) (W.contents out.new)) }
+{
+    let given = spoken_bytes(alloc, port, bytes)?;
+    write_own_rules(Origin::Port, given.as_slice(), out)
+}
+
+// Writes the rules that what is passed on of it in a port breaks.
+fn check_in_port<W: Sink>(
+    alloc: Global,
+    bytes: &[u8],
+    port: u8,
+    sound: Sound,
+    out: &mut W,
+) -> Result<(), ProgramFault>
+    ensures { OnOk result (Shows (View.Findings (Recipient.Port port sound)) bytes.now (W.contents out.old) (W.contents out.new)) }
+{
+    match sound {
+        Sound::Kept => check_passed(bytes, in_port(port, false), out),
+        Sound::Amplified => check_passed(bytes, in_port(port, true), out),
+        Sound::Spoken => check_spoken(alloc, bytes, port, out),
+    }
+}
+
+// Writes the rules that the EDID of some bytes breaks, for a device.
+fn write_rules<W: Sink>(
+    alloc: Global,
+    bytes: &[u8],
+    place: Recipient,
+    out: &mut W,
+) -> Result<(), ProgramFault>
+    ensures { OnOk result (Shows (View.Findings place) bytes.now (W.contents out.old) (W.contents out.new)) }
+{
+    match place {
+        Recipient::Own => check_own(bytes, out),
+        Recipient::At(address) => check_passed(bytes, at(address), out),
+        Recipient::Port { port, sound } => check_in_port(alloc, bytes, port, sound, out),
+    }
+}
+
+// The bytes that are passed on of the EDID of some bytes.
+fn passed_bytes(alloc: Global, passing: Passing, bytes: &[u8]) -> Result<Vec<u8>, ProgramFault>
+    ensures { IfOk result (λ passed. (e : EdidValue) × IsPassedOn bytes.now passing e × (passed.items ≡ edid_bytes e)) }
+{
+    let mut held = Held::new(alloc);
+    let done = write_passed(bytes, passing, Shape::Bytes, &mut held);
+    if held.is_full() {
+        return Err(ProgramFault::Memory(AllocError));
+    }
+    done?;
+    Ok(held.bytes().to_vec(alloc)?)
+}
+
+// The bytes that are passed on of the EDID of some bytes in a port.
+fn given_in_port(
+    alloc: Global,
+    port: u8,
+    sound: Sound,
+    bytes: &[u8],
+) -> Result<Vec<u8>, ProgramFault>
+    ensures { IfOk result (λ given. IsGiven (Recipient.Port port sound) bytes.now given.items) }
+{
+    match sound {
+        Sound::Kept => passed_bytes(alloc, in_port(port, false), bytes),
+        Sound::Amplified => passed_bytes(alloc, in_port(port, true), bytes),
+        Sound::Spoken => spoken_bytes(alloc, port, bytes),
+    }
+}
+
+/// The bytes of the EDID of some bytes, for a device.
+pub fn given_to(alloc: Global, place: Recipient, bytes: &[u8]) -> Result<Vec<u8>, ProgramFault>
+    ensures { IfOk result (λ given. IsGiven place bytes.now given.items) }
+{
+    match place {
+        Recipient::Own => Ok(bytes.to_vec(alloc)?),
+        Recipient::At(address) => passed_bytes(alloc, at(address), bytes),
+        Recipient::Port { port, sound } => given_in_port(alloc, port, sound, bytes),
+    }
+}
+
+// Writes the text of the EDID of some bytes, for a device, with what it means.
+fn write_meaning<W: Sink>(
+    alloc: Global,
+    bytes: &[u8],
+    place: Recipient,
+    out: &mut W,
+) -> Result<(), ProgramFault>
+    ensures { OnOk result (Shows (View.Meaning place) bytes.now (W.contents out.old) (W.contents out.new)) }
+{
+    let given = given_to(alloc, place, bytes)?;
+    Ok(edid_to_meaning(given.as_slice(), out)?)
+}
+
+// Writes the address in the EDID of some bytes, for a device.
+fn write_place<W: Sink>(
+    alloc: Global,
+    bytes: &[u8],
+    place: Recipient,
+    out: &mut W,
+) -> Result<(), ProgramFault>
+    ensures { OnOk result (Shows (View.Address place) bytes.now (W.contents out.old) (W.contents out.new)) }
+{
+    let given = given_to(alloc, place, bytes)?;
+    Ok(write_address(given.as_slice(), out)?)
+}
+
+// Why bytes can't be read over DDC: there is no whole number of blocks, or not so many.
+fn unread(_error: DdcError) -> ProgramFault {
+    ProgramFault::EdidToText(EdidToTextError::Edid(EdidError::Length))
+}
+
+// Writes what is read of some bytes over DDC.
+fn write_reading<W: Sink>(bytes: &[u8], out: &mut W) -> Result<(), ProgramFault>
+    ensures { OnOk result ((text : List ℕ) × (text ≡ readout_text bytes.now) × Appends (W.contents out.old) (W.contents out.new) text) }
+{
+    match Ddc::over(bytes) {
+        Ok(mut ddc) => match write_readout(&mut ddc, out) {
+            Ok(_) => Ok(()),
+            Err(fault) => Err(ProgramFault::Write(fault)),
+        },
+        Err(error) => Err(unread(error)),
+    }
+}
+
+// Writes what a device reads of the EDID of some bytes over DDC.
+fn write_ddc<W: Sink>(
+    alloc: Global,
+    bytes: &[u8],
+    place: Recipient,
+    out: &mut W,
+) -> Result<(), ProgramFault>
+    ensures { OnOk result (Shows (View.Readout place) bytes.now (W.contents out.old) (W.contents out.new)) }
+{
+    let given = given_to(alloc, place, bytes)?;
+    let blocks = given.as_slice();
+    is_edid(blocks)?;
+    write_reading(blocks, out)
+}
+
+// Writes what is asked for of the EDID of some bytes.
+fn show<W: Sink>(alloc: Global, view: View, bytes: &[u8], out: &mut W) -> Result<(), ProgramFault>
+    ensures { OnOk result (Shows view bytes.now (W.contents out.old) (W.contents out.new)) }
+{
+    match view {
+        View::Whole(place, shape) => write_whole(alloc, bytes, place, shape, out),
+        View::Findings(place) => write_rules(alloc, bytes, place, out),
+        View::Meaning(place) => write_meaning(alloc, bytes, place, out),
+        View::Address(place) => write_place(alloc, bytes, place, out),
+        View::Readout(place) => write_ddc(alloc, bytes, place, out),
+    }
+}
+
+// The bytes of an EDID, for a device, with another count in byte 126.
+fn recounted(
+    alloc: Global,
+    count: u8,
+    place: Recipient,
+    bytes: &[u8],
+) -> Result<ArrayVec<u8, 512>, ProgramFault>
+    ensures { IfOk result (λ new. IsRecounted count place bytes.now new.items) }
+{
+    let given = given_to(alloc, place, bytes)?;
+    let blocks = given.as_slice();
+    is_edid(blocks)?;
+    if blocks.len() < LEAST || blocks.len() > MOST {
+        return Err(ProgramFault::EdidToText(EdidToTextError::Edid(EdidError::Length)));
+    }
+    Ok(with_count(blocks, count))
+}
+
+fn write_counted_hex<W: Sink>(
+    alloc: Global,
+    count: u8,
+    place: Recipient,
+    bytes: &[u8],
+    out: &mut W,
+) -> Result<(), ProgramFault>
+    ensures { OnOk result (ShowsCounted count (View.Whole place Shape.Hex) bytes.now (W.contents out.old) (W.contents out.new)) }
+{
+    let mended = recounted(alloc, count, place, bytes)?;
+    Ok(write_hex_line(mended.as_slice(), out)?)
+}
+
+fn write_counted_bytes<W: Sink>(
+    alloc: Global,
+    count: u8,
+    place: Recipient,
+    bytes: &[u8],
+    out: &mut W,
+) -> Result<(), ProgramFault>
+    ensures { OnOk result (ShowsCounted count (View.Whole place Shape.Bytes) bytes.now (W.contents out.old) (W.contents out.new)) }
+{
+    let mended = recounted(alloc, count, place, bytes)?;
+    Ok(put_all(out, mended.as_slice())?)
+}
+
+fn write_counted_ddc<W: Sink>(
+    alloc: Global,
+    count: u8,
+    place: Recipient,
+    bytes: &[u8],
+    out: &mut W,
+) -> Result<(), ProgramFault>
+    ensures { OnOk result (ShowsCounted count (View.Readout place) bytes.now (W.contents out.old) (W.contents out.new)) }
+{
+    let mended = recounted(alloc, count, place, bytes)?;
+    write_reading(mended.as_slice(), out)
+}
+
+/// The rules are those for the EDID of a display, or for one that is passed on.
+pub fn origin_of(place: Recipient) -> Origin
+    ensures { result ≡ origin_of place }
+{
+    match place {
+        Recipient::Own => Origin::Display,
+        Recipient::At(_) | Recipient::Port { .. } => Origin::Port,
+    }
+}
+
+// Writes the rules that the EDID of some bytes breaks, for a device, as its base block has this count in byte 126.
+fn check_counted<W: Sink>(
+    alloc: Global,
+    count: u8,
+    place: Recipient,
+    bytes: &[u8],
+    out: &mut W,
+) -> Result<(), ProgramFault>
+    ensures { OnOk result (ShowsCounted count (View.Findings place) bytes.now (W.contents out.old) (W.contents out.new)) }
+{
+    let given = given_to(alloc, place, bytes)?;
+    write_counted_rules(origin_of(place), count, bytes, given.as_slice(), out)
+}
+
+// Writes the EDID of some bytes, for a device. Bytes that are written have this count in byte 126.
+fn show_counted_whole<W: Sink>(
+    alloc: Global,
+    count: u8,
+    place: Recipient,
+    shape: Shape,
+    bytes: &[u8],
+    out: &mut W,
+) -> Result<(), ProgramFault>
+    ensures { OnOk result (ShowsCounted count (View.Whole place shape) bytes.now (W.contents out.old) (W.contents out.new)) }
+{
+    match shape {
+        Shape::Hex => write_counted_hex(alloc, count, place, bytes, out),
+        Shape::Bytes => write_counted_bytes(alloc, count, place, bytes, out),
+        Shape::Text => write_whole(alloc, bytes, place, Shape::Text, out),
+    }
+}
+
+// The same where the HDMI Forum's override counts the extensions. Bytes that are written have this count in byte 126.
+fn show_counted<W: Sink>(
+    alloc: Global,
+    count: u8,
+    view: View,
+    bytes: &[u8],
+    out: &mut W,
+) -> Result<(), ProgramFault>
+    ensures { OnOk result (ShowsCounted count view bytes.now (W.contents out.old) (W.contents out.new)) }
+{
+    match view {
+        View::Whole(place, shape) => show_counted_whole(alloc, count, place, shape, bytes, out),
+        View::Findings(place) => check_counted(alloc, count, place, bytes, out),
+        View::Meaning(place) => write_meaning(alloc, bytes, place, out),
+        View::Address(place) => write_place(alloc, bytes, place, out),
+        View::Readout(place) => write_counted_ddc(alloc, count, place, bytes, out),
+    }
+}
+
+// Writes what is asked for of bytes in which the override counts the extensions.
+fn show_overridden<W: Sink>(
+    alloc: Global,
+    count: u8,
+    view: View,
+    given: &[u8],
+    out: &mut W,
+) -> Result<(), ProgramFault>
+    ensures { OnOk result (ShowsAs Reading.Overridden count view given.now (W.contents out.old) (W.contents out.new)) }
+{
+    match counted(given) {
+        Ok(bytes) => show_counted(alloc, count, view, bytes.as_slice(), out),
+        Err(error) => Err(ProgramFault::EdidToText(EdidToTextError::Edid(error))),
+    }
+}
+
+// Writes what is asked for of bytes as a source reads them.
+fn show_as_source<W: Sink>(
+    alloc: Global,
+    count: u8,
+    view: View,
+    given: &[u8],
+    out: &mut W,
+) -> Result<(), ProgramFault>
+    ensures { OnOk result (ShowsAs Reading.AsSource count view given.now (W.contents out.old) (W.contents out.new)) }
+{
+    match as_source(given) {
+        Ok(bytes) => show(alloc, view, bytes.as_slice(), out),
+        Err(error) => Err(ProgramFault::EdidToText(EdidToTextError::Edid(error))),
+    }
+}
+
+// Writes what is asked for of bytes, as they are read.
+fn show_as<W: Sink>(
+    alloc: Global,
+    reading: Reading,
+    count: u8,
+    view: View,
+    given: &[u8],
+    out: &mut W,
+) -> Result<(), ProgramFault>
+    ensures { OnOk result (ShowsAs reading count view given.now (W.contents out.old) (W.contents out.new)) }
+{
+    match reading {
+        Reading::Strict => show(alloc, view, given, out),
+        Reading::Overridden => show_overridden(alloc, count, view, given, out),
+        Reading::AsSource => show_as_source(alloc, count, view, given, out),
+    }
+}
+
+/// Does what is asked for with an EDID.
+pub fn edid<W: Sink>(
+    alloc: Global,
+    source: Source,
+    reading: Reading,
+    view: View,
+    input: &[u8],
+    out: &mut W,
+) -> Result<(), ProgramFault>
+    ensures { OnOk result (Made source reading view input.now (W.contents out.old) (W.contents out.new)) }
+{
+    let given = given_of(alloc, source, input)?;
+    let bytes = given.as_slice();
+    show_as(alloc, reading, kept_count(source, bytes), view, bytes, out)
+}

@@ -1,0 +1,153 @@
+//! What is said of EDIDs on standard error, beside what is written of them.
+use crate::edid::{given_to, origin_of};
+use crate::edid_given::{given_of, kept_count};
+use arrayvec::ArrayString;
+use cli_words::{Choice, Reading, Recipient, Source};
+use conversion_calls::EdidToTextError;
+use edid_as_source::{as_source, counted, write_notes};
+use edid_dumps::dump_count;
+use edid_merge::{MergeError, Unfit};
+use program_faults::ProgramFault;
+use rules_explain::{explain_counted, explain_findings, explain_no_hdmi};
+use std::alloc::{AllocError, Global};
+use std::fmt::Write;
+use text_core::{Sink, put_all};
+
+// The bytes that the strict reader is given of some bytes.
+fn taken(alloc: Global, reading: Reading, given: &[u8]) -> Result<Vec<u8>, ProgramFault> {
+    let mended = match reading {
+        Reading::Strict => return Ok(given.to_vec(alloc)?),
+        Reading::Overridden => counted(given),
+        Reading::AsSource => as_source(given),
+    };
+    match mended {
+        Ok(bytes) => Ok(bytes.as_slice().to_vec(alloc)?),
+        Err(error) => Err(ProgramFault::EdidToText(EdidToTextError::Edid(error))),
+    }
+}
+
+// The bytes of the EDID of an input, for a device.
+fn bytes_for(
+    alloc: Global,
+    source: Source,
+    reading: Reading,
+    place: Recipient,
+    input: &[u8],
+) -> Result<Vec<u8>, ProgramFault> {
+    let given = given_of(alloc, source, input)?;
+    let bytes = taken(alloc, reading, &given)?;
+    given_to(alloc, place, &bytes)
+}
+
+/// What each rule asks that the EDID of an input breaks, for a device, and the values at fault. Of no EDID there is nothing.
+pub fn explain_rules(
+    alloc: Global,
+    source: Source,
+    reading: Reading,
+    place: Recipient,
+    input: &[u8],
+) -> Result<String, AllocError> {
+    let Ok(bytes) = bytes_for(alloc, source, reading, place, input) else {
+        return Ok(String::new(alloc));
+    };
+    match (reading, given_of(alloc, source, input)) {
+        (Reading::Overridden, Ok(given)) => {
+            let count = kept_count(source, &given);
+            explain_counted(alloc, origin_of(place), count, &bytes)
+        }
+        _ => explain_findings(alloc, origin_of(place), &bytes),
+    }
+}
+
+/// What would be right in place of what keeps two EDIDs from being made one.
+pub fn explain_merge(alloc: Global, error: MergeError) -> Result<String, AllocError> {
+    let text = match error {
+        MergeError::Display(Unfit::Cta) | MergeError::Receiver(Unfit::Cta) => {
+            "  one extension of each EDID has data blocks: a CTA block of revision 3\n"
+        }
+        MergeError::Display(Unfit::Edid(_)) => {
+            "  `edid` tells of the display's EDID alone what is wrong with it\n"
+        }
+        MergeError::Receiver(Unfit::Edid(_)) => {
+            "  `edid` tells of the receiver's EDID alone what is wrong with it\n"
+        }
+        MergeError::Long => {
+            "  the data blocks of an extension are at most 123 bytes long; `--rows` says of each kind whose are taken\n"
+        }
+    };
+    String::from_str(alloc, text)
+}
+
+/// What would be right in place of what keeps the speakers of an amplifier out.
+pub fn explain_speakers(alloc: Global) -> Result<String, AllocError> {
+    String::from_str(
+        alloc,
+        "  the extension with the HDMI block has zeros after its timings, four of them where it has no speakers\n",
+    )
+}
+
+/// Why the EDID of an input has no HDMI block, in indented lines. Of one that has a block there is nothing.
+pub fn explain_lack(
+    alloc: Global,
+    source: Source,
+    reading: Reading,
+    input: &[u8],
+) -> Result<String, AllocError> {
+    let mut text = String::new(alloc);
+    if let Ok(bytes) = bytes_for(alloc, source, reading, Recipient::Own, input) {
+        let explanation = explain_no_hdmi(alloc, &bytes)?;
+        for line in explanation.as_str().lines() {
+            text.push_str("  ")?;
+            text.push_str(line)?;
+            text.push_str("\n")?;
+        }
+    }
+    Ok(text)
+}
+
+// Of a text with the dumps of several EDIDs, which one is read.
+fn name_one<E: Sink>(nth: u64, input: &[u8], err: &mut E) {
+    let count = dump_count(input);
+    if count > 1 {
+        let mut text = ArrayString::<256>::new();
+        let _ = writeln!(text, "hdminet: EDID {nth} of {count}");
+        let _ = put_all(err, text.as_bytes());
+    }
+}
+
+// Of a text with the dumps of more than two EDIDs, which are read.
+fn name_two<E: Sink>(input: &[u8], err: &mut E) {
+    let count = dump_count(input);
+    if count > 2 {
+        let mut text = ArrayString::<256>::new();
+        let _ = writeln!(text, "hdminet: EDIDs 1 and 2 of {count}");
+        let _ = put_all(err, text.as_bytes());
+    }
+}
+
+// What a source mends and passes over of an input.
+fn name_mended<E: Sink>(alloc: Global, source: Source, input: &[u8], err: &mut E) {
+    if let Ok(given) = given_of(alloc, source, input) {
+        let _ = write_notes(&given, err);
+    }
+}
+
+/// Writes which of several EDIDs of a dump is read, and what a source mends and passes over.
+pub fn name_read<E: Sink>(alloc: Global, choice: Choice, input: &[u8], err: &mut E) {
+    let Choice::Edid {
+        source,
+        reading,
+        ..
+    } = choice
+    else {
+        return;
+    };
+    match source {
+        Source::Dump { nth } => name_one(nth, input, err),
+        Source::Pair { dumps: true, .. } => name_two(input, err),
+        Source::Bytes | Source::Text | Source::Words | Source::Pair { .. } => {}
+    }
+    if let Reading::AsSource = reading {
+        name_mended(alloc, source, input, err);
+    }
+}

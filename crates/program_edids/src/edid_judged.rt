@@ -1,0 +1,93 @@
+//! What is wrong with the EDID of some bytes, whose base block may count its extensions otherwise.
+ghost use Rattle.std.specs.Prelude.{◌≡◌, ◌≤◌, IfOk, OnOk, false, length, take};
+ghost use Rattle.edid_base.specs.Base.{base_bytes};
+ghost use Rattle.edid_as_source.specs.Count.{with_count};
+ghost use Rattle.program_edids.specs.Edids.{ShowsFound, ShowsJudged, ShowsOwn};
+
+use arrayvec::ArrayVec;
+use conversion_calls::EdidToTextError;
+use edid_as_source::with_count;
+use edid_base::{Base, part, read_base};
+use edid_core::{EdidError, read_parts};
+use edid_cta::Ext;
+use program_faults::ProgramFault;
+use rules_check::{Origin, check, has_failure, write_findings};
+use text_core::Sink;
+
+/// The fewest and the most bytes of an EDID.
+const LEAST: usize = 128;
+
+const MOST: usize = 512;
+
+/// Nothing, unless a rule fails.
+pub fn unless_failed(fails: bool) -> Result<(), ProgramFault>
+    ensures { OnOk result (fails ≡ false) }
+{
+    if fails {
+        return Err(ProgramFault::RuleFails);
+    }
+    Ok(())
+}
+
+// Writes the rules that an EDID of these parts breaks.
+fn write_found<W: Sink>(
+    origin: Origin,
+    base: &Base,
+    extensions: &[Ext],
+    out: &mut W,
+) -> Result<(), ProgramFault>
+    requires { length extensions.now ≤ 3 }
+    ensures { OnOk result (ShowsFound origin base.now extensions.now (W.contents out.old) (W.contents out.new)) }
+{
+    let found = check(origin, base, extensions);
+    write_findings(out, found.as_slice())?;
+    unless_failed(has_failure(found.as_slice()))
+}
+
+/// Writes the rules that the EDID of some bytes breaks.
+#[inline(never)]
+pub fn write_own_rules<W: Sink>(
+    origin: Origin,
+    bytes: &[u8],
+    out: &mut W,
+) -> Result<(), ProgramFault>
+    ensures { OnOk result (ShowsOwn origin bytes.now (W.contents out.old) (W.contents out.new)) }
+{
+    let mut extensions = ArrayVec::new();
+    match &read_parts(bytes, &mut extensions) {
+        Err(cause) => Err(ProgramFault::EdidToText(EdidToTextError::Edid(*cause))),
+        Ok(base) => write_found(origin, base, extensions.as_slice(), out),
+    }
+}
+
+// The base block of some bytes, with another count of extensions.
+fn counted_base(count: u8, bytes: &[u8]) -> Result<Base, ProgramFault>
+    ensures { IfOk result (λ base. base_bytes base ≡ take 128 (with_count bytes.now count)) }
+{
+    if bytes.len() < LEAST || bytes.len() > MOST {
+        return Err(ProgramFault::EdidToText(EdidToTextError::Edid(EdidError::Length)));
+    }
+    match read_base(&part(with_count(bytes, count).as_slice(), 0)) {
+        Ok(base) => Ok(base),
+        Err(cause) => Err(ProgramFault::EdidToText(EdidToTextError::Edid(EdidError::Base(cause)))),
+    }
+}
+
+/// Writes the rules that the EDID of some bytes breaks, for which the base block is that of others with this count of extensions.
+#[inline(never)]
+pub fn write_counted_rules<W: Sink>(
+    origin: Origin,
+    count: u8,
+    front: &[u8],
+    bytes: &[u8],
+    out: &mut W,
+) -> Result<(), ProgramFault>
+    ensures { OnOk result (ShowsJudged origin count front.now bytes.now (W.contents out.old) (W.contents out.new)) }
+{
+    let base = counted_base(count, front)?;
+    let mut extensions = ArrayVec::new();
+    match read_parts(bytes, &mut extensions) {
+        Err(cause) => Err(ProgramFault::EdidToText(EdidToTextError::Edid(cause))),
+        Ok(_shown) => write_found(origin, &base, extensions.as_slice(), out),
+    }
+}

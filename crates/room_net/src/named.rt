@@ -1,0 +1,86 @@
+//! Names in the header block of a frame that is handed in.
+ghost use Rattle.std.specs.Prelude.{◌≡◌, ◌<◌, ◌≤◌, [], ◌∷◌, length, IfSome};
+ghost use Rattle.device_core.specs.State.{addresses_held, frame_of};
+ghost use Rattle.room_event.specs.Events.{AreNamed};
+ghost use Rattle.room_net.specs.Apply.{first_of, address_for, named_frame, nameless};
+
+use arrayvec::ArrayVec;
+use device_core::{Device, SubmitError};
+use line_frames::{Addr, Frame, FrameError};
+use room_event::HeaderNames;
+
+// The first address below 15 of two units.
+fn first_of(first: Option<Addr>, second: Option<Addr>) -> Option<Addr>
+    ensures { result ≡ first_of (first ∷ second ∷ []) }
+{
+    match first {
+        Some(address) if address.value() < Addr::BROADCAST => first,
+        _ => match second {
+            Some(address) if address.value() < Addr::BROADCAST => second,
+            _ => None,
+        },
+    }
+}
+
+fn held_first(device: &Device<16>) -> Option<Addr>
+    ensures { result ≡ first_of (addresses_held device.now.place) }
+{
+    let [first, second] = device.held();
+    first_of(first, second)
+}
+
+// The address that stands for a name, the first one that its device holds. Where there is no name, the frame's own.
+fn address_for(devices: &[Device<16>], name: Option<usize>, own: Addr) -> Option<Addr>
+    requires { IfSome name (λ number. number < length devices.now) }
+    ensures { result ≡ address_for devices.now name own }
+{
+    match name {
+        None => Some(own),
+        Some(number) => held_first(&devices[number]),
+    }
+}
+
+// A frame of a header block and the blocks after it.
+fn framed(from: Addr, to: Addr, rest: &[u8]) -> Frame
+    requires { length rest.now ≤ 15 }
+    ensures { result ≡ frame_of from to rest.now }
+{
+    let mut bytes: ArrayVec<u8, 16> = ArrayVec::new();
+    bytes.push(from.value() * 16 + to.value());
+    let _ = bytes.try_extend_from_slice(rest);
+    match Frame::new(&bytes) {
+        Ok(frame) => frame,
+        Err(FrameError::Empty) => unreachable!(),
+        Err(FrameError::TooLong) => unreachable!(),
+    }
+}
+
+/// The frame with addresses in its header block for the names. There is none where a device of a name holds no address.
+pub(crate) fn named_frame(
+    devices: &[Device<16>],
+    names: HeaderNames,
+    frame: &Frame,
+) -> Option<Frame>
+    requires { AreNamed (length devices.now) names }
+    ensures { result ≡ named_frame devices.now names frame.now }
+{
+    let Some(from) = address_for(devices, names.initiator, frame.initiator()) else {
+        return None;
+    };
+    let Some(to) = address_for(devices, names.destination, frame.destination()) else {
+        return None;
+    };
+    let (_header, rest) = frame.bytes().split_at(1);
+    Some(framed(from, to, rest))
+}
+
+/// Why a device can't send a frame with a name that stands for no address.
+pub(crate) fn nameless(device: &Device<16>) -> SubmitError
+    ensures { result ≡ nameless device.now }
+{
+    if device.is_on_wire() {
+        SubmitError::NoAddress
+    } else {
+        SubmitError::OffWire
+    }
+}

@@ -1,0 +1,13 @@
+-- The EDID that ports pass on has an address.
+use Rattle.std.proofs.Common.{Option, None, Some, IsSome, subst, refl}
+use Rattle.std.specs.Option.{ForSome}
+use Rattle.edid_core.specs.Address.{edid_address}
+use Rattle.edid_core.specs.Root.{HasAddress}
+use Rattle.edid_core.specs.declared.edid.Edid.{Edid}
+
+pub each_address : (e : Option Edid) → HasAddress e → ForSome e (λ root. IsSome (edid_address root))
+each_address e has root is = subst HasAddress is has
+
+pub has_address : (e : Option Edid) → ForSome e (λ root. IsSome (edid_address root)) → HasAddress e
+has_address None each = tt
+has_address (Some root) each = each root refl

@@ -1,0 +1,119 @@
+//! The trace of a run, as what hears of it.
+ghost use Rattle.std.specs.Prelude.{◌≡◌, ◌≤◌, length, not, IsSome};
+ghost use Rattle.std.specs.Option.{ForSome};
+ghost use Rattle.line_wave.specs.Bounds.{latest_event};
+ghost use Rattle.edid_core.specs.Address.{edid_address};
+ghost use Rattle.edid_core.specs.Root.{HasAddress};
+ghost use Rattle.room_script.specs.Script.{IsSchedule};
+ghost use Rattle.room_run.specs.declared.run.Reporting.TheVariants.{Trace};
+ghost use Rattle.room_run.specs.Run.{IsRunText, start};
+ghost use Rattle.room_run.specs.Heard.{IsRunWritten};
+
+use crate::reporter::Reporter;
+use crate::run::{Totals, told};
+use crate::turn_by_turn::run_turns;
+use edid_core::Edid;
+use line_rounds::{Outcome, Wire};
+use room_event::EventError;
+use room_net::Net;
+use room_script::TimedEvent;
+use room_trace::{add_event, add_last_lines, add_new_ports, add_round};
+use text_core::{Counted, Sink, WriteFault};
+
+/// The EDID that ports pass on, where it is given: it has an HDMI block.
+#[derive(Drop)]
+pub struct Passed<'e> {
+    pub edid: &'e Option<Edid>,
+    ghost addressed: { ForSome edid.now (λ root. IsSome (edid_address root)) },
+}
+
+/// The trace, as far as it is written: the line of each event with those of the ports that come onto the wire by it, and the
+/// line of each round.
+#[derive(Drop)]
+pub struct TraceText<'a, 'e, S: Sink> {
+    pub text: Counted<'a, S>,
+    pub passed: Passed<'e>,
+}
+
+impl<'a, 'e, S: Sink> TraceText<'a, 'e, S> {
+    /// A trace with this EDID that goes on with this text.
+    #[tactic(auto, using(crate::proofs::Addressed::each_address))]
+    pub fn new(text: Counted<'a, S>, edid: &'e Option<Edid>) -> Self
+        requires { HasAddress edid.now }
+        ensures text { result.text ≡ text.entry }
+        ensures edid { result.passed.edid.now ≡ edid.now }
+    {
+        TraceText {
+            text,
+            passed: Passed { edid },
+        }
+    }
+}
+
+impl<'a, 'e, S: Sink> Reporter for TraceText<'a, 'e, S> {
+    ghost use Rattle.std.specs.Prelude.{◌≡◌, not};
+    ghost use Rattle.text_core.specs.Adds.{Adds};
+    ghost use Rattle.room_run.specs.Happening.{text_of};
+
+    ghost hears = { λ r x s. Adds r.text s.text (text_of r.passed.edid.now x) × (s.passed.edid.now ≡ r.passed.edid.now) };
+
+    ghost goes_on = { λ r. not r.text.failed };
+
+    #[tactic(auto, using(crate::proofs::Addressed::has_address, text_core::proofs::Adding::then))]
+    fn event<W>(
+        &mut self,
+        at: u64,
+        event: &TimedEvent,
+        refused: Option<EventError>,
+        was: &[bool],
+        net: &Net<W>,
+    ) {
+        add_event(&mut self.text, at, event.line, refused);
+        add_new_ports(&mut self.text, at, self.passed.edid, net.tree(), was);
+    }
+
+    fn round<W>(&mut self, _begin: u64, outcome: &Outcome, net: &Net<W>) {
+        add_round(&mut self.text, net.devices(), outcome);
+    }
+
+    fn wants_more(&self) -> bool {
+        !self.text.has_failed()
+    }
+}
+
+/// Runs a network to `end`, and writes its trace.
+///
+/// # Errors
+///
+/// Those of [`run`](crate::run::run).
+#[tactic(auto, using(crate::proofs::Addressed::each_address))]
+pub fn write_trace<S: Sink, W: Wire>(
+    out: &mut S,
+    net: &mut Net<W>,
+    edid: &Option<Edid>,
+    events: &[TimedEvent],
+    end: u64,
+) -> Result<Totals, WriteFault>
+    requires addressed { HasAddress edid.now }
+    requires early { end ≤ latest_event }
+    requires fresh { (net.old.close ≤ latest_event) × (net.old.rest ≤ latest_event) }
+    requires schedule { IsSchedule (length net.old.tree) end 0 events.now }
+    ensures { IsRunWritten (IsRunText (Trace edid.now) end (start net.old events.now)) (S.contents out.old) (S.contents out.new) (S.is_stuck out.old) (S.is_stuck out.new) result }
+{
+    let mut text = Counted::new(out);
+    add_new_ports(&mut text, 0, edid, net.tree(), &[]);
+    let mut trace = TraceText {
+        text,
+        passed: Passed { edid },
+    };
+    let totals = run_turns(net, events, end, &mut trace);
+    let TraceText {
+        mut text,
+        passed: _passed,
+    } = trace;
+    add_last_lines(&mut text, net.devices(), end);
+    let written = text.written();
+    // No effect at run time. The proof reads what `out` holds from the sink that comes back.
+    let _below = text.into_sink();
+    told(written, totals)
+}

@@ -1,0 +1,531 @@
+-- A line of a script adds at most one event and one pulse or pull to what was said before, and a pulse where there is room; a pin
+-- that is low has room for its pull.
+use Rattle.std.proofs.Common.{◌≡◌, ℕ, ◌+◌, ◌<◌, ◌≤◌, ◌==◌, ◌&&◌, ◌||◌, Bool, true, false, cond, if◌then◌else◌, codes, List, [], ◌∷◌, ◌++◌, length, length-append, max, min, nat_lt, nat_le, Option, Some, None, is_some, Result, Ok, Err, refl, sym, ap, subst, ◌∙◌, arith, append-nil}
+use Rattle.std.specs.Str.{bytes_eq}
+use Rattle.std.proofs.lemmas.Bool.Decides.{nat_tests}
+use Rattle.line_wave.specs.declared.Stretch.{Stretch}
+use Rattle.line_wave.specs.declared.PulsesError.{PulsesError}
+use Rattle.line_wave.specs.declared.PulsesError.TheVariants as faults
+use Rattle.line_wave.specs.Pulses.{first_of, stretch_fault}
+use Rattle.edid_tree.specs.Node.{Node}
+use Rattle.edid_tree.specs.Tree.{device_named}
+use Rattle.device_features.specs.declared.keys.Key.{Key as KeyValue}
+use Rattle.text_core.specs.Lines.{is_skipped}
+use Rattle.text_core.specs.Words.{words_of, one_of, two_of, three_of}
+use Rattle.text_core.specs.Number.{number_of}
+use Rattle.message_text.specs.declared.assembler.AssembleError.{AssembleError}
+use Rattle.room_script.specs.Keys.{key_of}
+use Rattle.room_script.specs.Header.{header_names}
+use Rattle.room_script.specs.Holding.{hold_of}
+use Rattle.device_core.specs.declared.outside.Act.{Act}
+use Rattle.device_core.specs.declared.outside.Act.TheVariants.{Empty}
+use Rattle.room_event.specs.declared.event.Event.{Event}
+use Rattle.room_event.specs.declared.event.Event.TheVariants.{Plug, Unplug, Key, Outside}
+use Rattle.room_event.specs.declared.event.HeaderNames.{HeaderNames}
+use Rattle.room_script.specs.declared.script.TimedEvent.{TimedEvent}
+use Rattle.room_script.specs.Fault.{at_word}
+use Rattle.room_script.specs.declared.fault.LineFault.{LineFault}
+use Rattle.room_script.specs.declared.script.ScriptCause.TheVariants.{Word, Width, Order, TooMany, End}
+use Rattle.room_script.specs.Script.{Notes, time_of, last_time, last_end, notes_with_event, plug_read, plug_words, unplug_read, unplug_words, key_read, key_words, act_read, hold_words, drop_words, send_read, frame_event, event_words, unless_fault, pulse_refusal, pulse_read, pulse_words, touches, notes_with_pull, pull_read, pull_words, is_before, level_of, pin_falls, pin_rises, pin_stays_high, pin_stays_low, notes_with_level, pin_read, pin_words, pulses_ended, end_read, end_words, other_words, IsSendRead, IsEventRead, IsWordsRead, IsLineRead}
+use Rattle.line_wave.specs.Bounds.{latest_event, most_pulses, most_pulls, widest_pull}
+
+-- ---- what a line adds
+
+-- how many pulls are still to come of a pin
+abbrev pub held : Option ℕ → ℕ
+held None = 0
+held (Some from) = 1
+
+pub record IsMore (waiting : ℕ) (old new : Notes) : Type 0 where
+  pub events : List TimedEvent
+  pub pulses : List Stretch
+  pub events_are : new.events ≡ old.events ++ events
+  pub pulses_are : new.pulses ≡ old.pulses ++ pulses
+  pub few_events : length events ≤ 1
+  pub few_pulses : length pulses ≤ 1
+  pub room : waiting + length pulses + held new.pin ≤ max (waiting + held old.pin) most_pulls
+
+none_held : (pin : Option ℕ) → is_some pin ≡ false → held pin ≡ 0
+none_held None h = refl
+none_held (Some from) h = cc
+
+with_none : (waiting : ℕ) (notes : Notes) → IsMore waiting notes notes
+with_none waiting notes = record {
+  events = [];
+  pulses = [];
+  events_are = sym (append-nil notes.events);
+  pulses_are = sym (append-nil notes.pulses);
+  few_events = omega arith;
+  few_pulses = omega arith;
+  room = omega arith;
+}
+
+with_event : (waiting : ℕ) (notes : Notes) (event : TimedEvent) → IsMore waiting notes (record notes { events = notes.events ++ event ∷ [] })
+with_event waiting notes event = record {
+  events = event ∷ [];
+  pulses = [];
+  events_are = refl;
+  pulses_are = sym (append-nil notes.pulses);
+  few_events = omega arith;
+  few_pulses = omega arith;
+  room = omega arith;
+}
+
+with_pulse : (waiting : ℕ) (notes : Notes) (pulse : Stretch) → is_some notes.pin ≡ false → waiting < most_pulls → IsMore waiting notes (record notes { pulses = notes.pulses ++ pulse ∷ [] })
+with_pulse waiting notes pulse high few = record {
+  events = [];
+  pulses = pulse ∷ [];
+  events_are = sym (append-nil notes.events);
+  pulses_are = refl;
+  few_events = omega arith;
+  few_pulses = omega arith;
+  room = (let none = none_held notes.pin high in omega (arith, few, none));
+}
+
+-- a pin that is high and falls
+with_fall : (waiting : ℕ) (notes : Notes) (from : ℕ) → waiting < most_pulls → IsMore waiting notes (record notes { pin = Some from })
+with_fall waiting notes from few = record {
+  events = [];
+  pulses = [];
+  events_are = sym (append-nil notes.events);
+  pulses_are = sym (append-nil notes.pulses);
+  few_events = omega arith;
+  few_pulses = omega arith;
+  room = omega (arith, few);
+}
+
+-- one that was low and rises
+with_rise : (waiting : ℕ) (notes : Notes) (pull : Stretch) (end : Option ℕ) → held notes.pin ≡ 1 → IsMore waiting notes (record notes { pulses = notes.pulses ++ pull ∷ []; end = end; pin = None })
+with_rise waiting notes pull end low = record {
+  events = [];
+  pulses = pull ∷ [];
+  events_are = sym (append-nil notes.events);
+  pulses_are = refl;
+  few_events = omega arith;
+  few_pulses = omega arith;
+  room = omega (arith, low);
+}
+
+with_end : (waiting : ℕ) (notes : Notes) (time : ℕ) → IsMore waiting notes (record notes { end = Some time; pin = None })
+with_end waiting notes time = record {
+  events = [];
+  pulses = [];
+  events_are = sym (append-nil notes.events);
+  pulses_are = sym (append-nil notes.pulses);
+  few_events = omega arith;
+  few_pulses = omega arith;
+  room = omega arith;
+}
+
+-- ---- whichever line it is
+
+Adds : ℕ → Notes → Result Notes LineFault → Type 0
+Adds waiting old read = (next : Notes) → read ≡ Ok next → IsMore waiting old next
+
+adds_next : (waiting : ℕ) (old : Notes) (read : Result Notes LineFault) (next : Notes) → Adds waiting old read → read ≡ Ok next → IsMore waiting old next
+unfolding Adds
+adds_next waiting old read next k e = k next e
+
+abbrev is_refused : Result Notes LineFault → Bool
+is_refused (Ok notes) = false
+is_refused (Err fault) = true
+
+-- whatever the fault
+adds_err : (waiting : ℕ) (old : Notes) (read : Result Notes LineFault) → is_refused read ≡ true → Adds waiting old read
+unfolding Adds
+adds_err waiting old (Ok notes) refused next h = cc
+adds_err waiting old (Err fault) refused next h = cc
+
+adds_if : (waiting : ℕ) (old : Notes) (b : Bool) (x y : Result Notes LineFault) → Adds waiting old x → Adds waiting old y → Adds waiting old (cond b x y)
+adds_if waiting old true x y f g = f
+adds_if waiting old false x y f g = g
+
+adds_unless : (waiting : ℕ) (old : Notes) (b : Bool) (x y : Result Notes LineFault) → Adds waiting old x → (b ≡ false → Adds waiting old y) → Adds waiting old (cond b x y)
+adds_unless waiting old true x y f g = f
+adds_unless waiting old false x y f g = g refl
+
+adds_ok : (waiting : ℕ) (old notes : Notes) → IsMore waiting old notes → Adds waiting old (Ok notes)
+unfolding Adds
+adds_ok waiting old notes s next h = let e : notes ≡ next = cc in let P : Notes → Type 0 = λ n. IsMore waiting old n in subst P e s
+
+scheduled-adds : (waiting : ℕ) (notes : Notes) (line time : ℕ) (event : Event) → Adds waiting notes (notes_with_event notes line time event)
+scheduled-adds waiting notes line time event =
+    adds_if waiting notes (nat_lt time (last_time notes.events)) _ _ (adds_err waiting notes _ refl)
+    (adds_if waiting notes (is_some notes.end) _ _ (adds_err waiting notes _ refl) (adds_ok waiting notes _ (with_event waiting notes (record { line = line; at = time; event = event }))))
+
+plug_read-adds : (waiting : ℕ) (notes : Notes) (line : ℕ) (time port child parent : Option ℕ) → Adds waiting notes (plug_read notes line time port child parent)
+plug_read-adds waiting notes line None port child parent = adds_err waiting notes _ refl
+plug_read-adds waiting notes line (Some time) None child parent = adds_err waiting notes _ refl
+plug_read-adds waiting notes line (Some time) (Some port) None parent = adds_err waiting notes _ refl
+plug_read-adds waiting notes line (Some time) (Some port) (Some child) None = adds_err waiting notes _ refl
+plug_read-adds waiting notes line (Some time) (Some port) (Some child) (Some parent) = scheduled-adds waiting notes line time (Plug child parent (min port 255))
+
+plug_words-adds : (waiting : ℕ) (tree : List Node) (notes : Notes) (line : ℕ) (time : List ℕ) (many : ℕ) (words : Option (List ℕ × List ℕ × List ℕ)) → Adds waiting notes (plug_words tree notes line time many words)
+plug_words-adds waiting tree notes line time many None = adds_err waiting notes _ refl
+plug_words-adds waiting tree notes line time many (Some words) = plug_read-adds waiting notes line (time_of time) (number_of words.2) (device_named tree words.0) (device_named tree words.1)
+
+unplug_read-adds : (waiting : ℕ) (notes : Notes) (line : ℕ) (time child : Option ℕ) → Adds waiting notes (unplug_read notes line time child)
+unplug_read-adds waiting notes line None child = adds_err waiting notes _ refl
+unplug_read-adds waiting notes line (Some time) None = adds_err waiting notes _ refl
+unplug_read-adds waiting notes line (Some time) (Some child) = scheduled-adds waiting notes line time (Unplug child)
+
+unplug_words-adds : (waiting : ℕ) (tree : List Node) (notes : Notes) (line : ℕ) (time : List ℕ) (many : ℕ) (words : Option (List ℕ)) → Adds waiting notes (unplug_words tree notes line time many words)
+unplug_words-adds waiting tree notes line time many None = adds_err waiting notes _ refl
+unplug_words-adds waiting tree notes line time many (Some word) = unplug_read-adds waiting notes line (time_of time) (device_named tree word)
+
+key_read-adds : (waiting : ℕ) (notes : Notes) (line : ℕ) (press : Bool) (key : Result KeyValue LineFault) (time device : Option ℕ) → Adds waiting notes (key_read notes line press key time device)
+key_read-adds waiting notes line press (Err cause) time device = adds_err waiting notes _ refl
+key_read-adds waiting notes line press (Ok key) None device = adds_err waiting notes _ refl
+key_read-adds waiting notes line press (Ok key) (Some time) None = adds_err waiting notes _ refl
+key_read-adds waiting notes line press (Ok key) (Some time) (Some device) = scheduled-adds waiting notes line time (Key device key press)
+
+key_words-adds : (waiting : ℕ) (tree : List Node) (notes : Notes) (line : ℕ) (press : Bool) (time : List ℕ) (words : List (List ℕ)) → Adds waiting notes (key_words tree notes line press time words)
+key_words-adds waiting tree notes line press time [] = adds_err waiting notes _ refl
+key_words-adds waiting tree notes line press time (name ∷ words) = key_read-adds waiting notes line press (key_of words) (time_of time) (device_named tree name)
+
+act_read-adds : (waiting : ℕ) (notes : Notes) (line : ℕ) (act : Option Act) (time device : Option ℕ) → Adds waiting notes (act_read notes line act time device)
+act_read-adds waiting notes line None time device = adds_err waiting notes _ refl
+act_read-adds waiting notes line (Some act) None device = adds_err waiting notes _ refl
+act_read-adds waiting notes line (Some act) (Some time) None = adds_err waiting notes _ refl
+act_read-adds waiting notes line (Some act) (Some time) (Some device) = scheduled-adds waiting notes line time (Outside device act)
+
+hold_words-adds : (waiting : ℕ) (tree : List Node) (notes : Notes) (line : ℕ) (time : List ℕ) (many : ℕ) (words : Option (List ℕ × List ℕ)) → Adds waiting notes (hold_words tree notes line time many words)
+hold_words-adds waiting tree notes line time many None = adds_err waiting notes _ refl
+hold_words-adds waiting tree notes line time many (Some words) = act_read-adds waiting notes line (hold_of words.1) (time_of time) (device_named tree words.0)
+
+drop_words-adds : (waiting : ℕ) (tree : List Node) (notes : Notes) (line : ℕ) (time : List ℕ) (many : ℕ) (words : Option (List ℕ)) → Adds waiting notes (drop_words tree notes line time many words)
+drop_words-adds waiting tree notes line time many None = adds_err waiting notes _ refl
+drop_words-adds waiting tree notes line time many (Some word) = act_read-adds waiting notes line (Some Empty) (time_of time) (device_named tree word)
+
+event_words-adds : (waiting : ℕ) (tree : List Node) (notes : Notes) (line : ℕ) (time verb : List ℕ) (words : List (List ℕ)) → Adds waiting notes (event_words tree notes line time verb words)
+event_words-adds waiting tree notes line time verb words =
+    adds_if waiting notes (bytes_eq verb (codes "plug")) _ _ (plug_words-adds waiting tree notes line time (length words) (three_of words))
+    (adds_if waiting notes (bytes_eq verb (codes "unplug")) _ _ (unplug_words-adds waiting tree notes line time (length words) (one_of words))
+    (adds_if waiting notes (bytes_eq verb (codes "press")) _ _ (key_words-adds waiting tree notes line true time words)
+    (adds_if waiting notes (bytes_eq verb (codes "release")) _ _ (key_words-adds waiting tree notes line false time words)
+    (adds_if waiting notes (bytes_eq verb (codes "hold")) _ _ (hold_words-adds waiting tree notes line time (length words) (two_of words))
+    (adds_if waiting notes (bytes_eq verb (codes "drop")) _ _ (drop_words-adds waiting tree notes line time (length words) (one_of words)) (adds_err waiting notes _ refl))))))
+
+send_read-adds : (waiting : ℕ) (notes : Notes) (line : ℕ) (time device : Option ℕ) (names : Option (Option HeaderNames)) (frame : Result (List ℕ) AssembleError) → Adds waiting notes (send_read notes line time device names frame)
+send_read-adds waiting notes line None device names frame = adds_err waiting notes _ refl
+send_read-adds waiting notes line (Some time) None names frame = adds_err waiting notes _ refl
+send_read-adds waiting notes line (Some time) (Some device) None frame = adds_err waiting notes _ refl
+send_read-adds waiting notes line (Some time) (Some device) (Some names) (Err cause) = adds_err waiting notes _ refl
+send_read-adds waiting notes line (Some time) (Some device) (Some names) (Ok frame) = scheduled-adds waiting notes line time (frame_event device names frame)
+
+send-adds : (waiting : ℕ) (tree : List Node) (notes : Notes) (line : ℕ) (time : List ℕ) (words : List (List ℕ)) (next : Notes) → IsSendRead tree notes line time words (Ok next) → IsMore waiting notes next
+send-adds waiting tree notes line time [] next h = cc
+send-adds waiting tree notes line time (name ∷ []) next h = cc
+send-adds waiting tree notes line time (name ∷ word ∷ words) next h =
+    adds_next waiting notes (send_read notes line (time_of time) (device_named tree name) (header_names tree word) h.0) next
+    (send_read-adds waiting notes line (time_of time) (device_named tree name) (header_names tree word) h.0) (sym h.2)
+
+-- none of two
+neither : (a b : Bool) → (a || b) ≡ false → a ≡ false
+neither true b h = cc
+neither false b h = refl
+
+-- either way
+by_cond : (b : Bool) (P Q R : Type 0) → (P → R) → (Q → R) → cond {A = Type 0} b P Q → R
+by_cond true P Q R f g h = f h
+by_cond false P Q R f g h = g h
+
+event-adds : (waiting : ℕ) (tree : List Node) (notes : Notes) (line : ℕ) (words : List (List ℕ)) (next : Notes) → IsEventRead tree notes line words (Ok next) → IsMore waiting notes next
+event-adds waiting tree notes line [] next h = cc
+event-adds waiting tree notes line (time ∷ []) next h = cc
+event-adds waiting tree notes line (time ∷ verb ∷ words) next h =
+    by_cond (bytes_eq verb (codes "send")) (IsSendRead tree notes line time words (Ok next)) (Ok next ≡ event_words tree notes line time verb words) (IsMore waiting notes next)
+    (λ p. send-adds waiting tree notes line time words next p)
+    (λ q. adds_next waiting notes (event_words tree notes line time verb words) next (event_words-adds waiting tree notes line time verb words) (sym q)) h
+
+unless_fault-adds : (waiting : ℕ) (fault : Option PulsesError) (notes : Notes) (pulse : Stretch) → (fault ≡ None → is_some notes.pin ≡ false) → Adds waiting notes (unless_fault fault notes waiting pulse)
+unless_fault-adds waiting (Some fault) notes pulse high = adds_err waiting notes _ refl
+unless_fault-adds waiting None notes pulse high =
+    adds_unless waiting notes (nat_le most_pulses waiting) _ _ (adds_err waiting notes _ refl)
+    (λ room. adds_if waiting notes (is_some notes.end) _ _ (adds_err waiting notes _ refl)
+    (adds_ok waiting notes _ (with_pulse waiting notes pulse (high refl) (let l : waiting < most_pulses = grind (arith, nat_tests, room) in omega (arith, l)))))
+
+-- a pulse is taken while the pin is high
+pub none_while_low : (pin before : Option ℕ) (pulse : Stretch) → pulse_refusal pin before pulse ≡ None → is_some pin ≡ false
+none_while_low None before pulse h = refl
+none_while_low (Some from) before pulse h = by (stretch_fault None pulse) h
+  where
+    by : (fault : Option PulsesError) → first_of fault (Some faults.Order) ≡ None → true ≡ false
+    by None k = cc
+    by (Some fault) k = cc
+
+pulse_read-adds : (waiting : ℕ) (notes : Notes) (time width : Option ℕ) → Adds waiting notes (pulse_read notes waiting time width)
+pulse_read-adds waiting notes None width = adds_err waiting notes _ refl
+pulse_read-adds waiting notes (Some time) None = adds_err waiting notes _ refl
+pulse_read-adds waiting notes (Some time) (Some width) =
+    unless_fault-adds waiting (pulse_refusal notes.pin (last_end notes.pulses) (record { from = time; to = time + min width 65535 })) notes (record { from = time; to = time + min width 65535 })
+    (λ taken. none_while_low notes.pin (last_end notes.pulses) (record { from = time; to = time + min width 65535 }) taken)
+
+pulse_words-adds : (waiting : ℕ) (notes : Notes) (many : ℕ) (words : Option (List ℕ × List ℕ)) → Adds waiting notes (pulse_words notes waiting many words)
+pulse_words-adds waiting notes many None = adds_err waiting notes _ refl
+pulse_words-adds waiting notes many (Some words) = pulse_read-adds waiting notes (time_of words.0) (number_of words.1)
+
+pulled-adds : (waiting : ℕ) (notes : Notes) (time width : ℕ) → Adds waiting notes (notes_with_pull notes waiting time width)
+pulled-adds waiting notes time width =
+    adds_if waiting notes (width == 0 || nat_lt widest_pull width) _ _ (adds_err waiting notes _ refl)
+    (adds_unless waiting notes (is_some notes.pin || touches (last_end notes.pulses) time) _ _ (adds_err waiting notes _ refl)
+    (λ apart. adds_unless waiting notes (nat_le most_pulls waiting) _ _ (adds_err waiting notes _ refl)
+    (λ room. adds_if waiting notes (is_some notes.end) _ _ (adds_err waiting notes _ refl)
+    (adds_ok waiting notes _ (with_pulse waiting notes (record { from = time; to = time + width }) (neither (is_some notes.pin) (touches (last_end notes.pulses) time) apart) (grind (arith, nat_tests, room)))))))
+
+-- the pin
+fall-adds : (waiting : ℕ) (notes : Notes) (time : ℕ) → Adds waiting notes (pin_falls notes waiting time)
+fall-adds waiting notes time =
+    adds_if waiting notes (touches (last_end notes.pulses) time) _ _ (adds_err waiting notes _ refl)
+    (adds_unless waiting notes (nat_le most_pulls waiting) _ _ (adds_err waiting notes _ refl)
+    (λ room. adds_if waiting notes (is_some notes.end) _ _ (adds_err waiting notes _ refl) (adds_ok waiting notes _ (with_fall waiting notes time (grind (arith, nat_tests, room))))))
+
+high-adds : (waiting : ℕ) (notes : Notes) (time : ℕ) → Adds waiting notes (pin_stays_high notes time)
+high-adds waiting notes time =
+    adds_if waiting notes (is_before (last_end notes.pulses) time) _ _ (adds_err waiting notes _ refl)
+    (adds_if waiting notes (is_some notes.end) _ _ (adds_err waiting notes _ refl) (adds_ok waiting notes notes (with_none waiting notes)))
+
+rise-adds : (waiting : ℕ) (notes : Notes) (from time : ℕ) → held notes.pin ≡ 1 → Adds waiting notes (pin_rises notes from time)
+rise-adds waiting notes from time low =
+    adds_if waiting notes (nat_le time from) _ _ (adds_err waiting notes _ refl) (adds_ok waiting notes _ (with_rise waiting notes (record { from = from; to = time }) notes.end low))
+
+low-adds : (waiting : ℕ) (notes : Notes) (from time : ℕ) → Adds waiting notes (pin_stays_low notes from time)
+low-adds waiting notes from time = adds_if waiting notes (nat_lt time from) _ _ (adds_err waiting notes _ refl) (adds_ok waiting notes notes (with_none waiting notes))
+
+level-adds : (waiting : ℕ) (notes : Notes) (time : ℕ) (pin : Option ℕ) (level : Bool) → notes.pin ≡ pin → Adds waiting notes (notes_with_level notes waiting time pin level)
+level-adds waiting notes time None false is = fall-adds waiting notes time
+level-adds waiting notes time None true is = high-adds waiting notes time
+level-adds waiting notes time (Some from) false is = low-adds waiting notes from time
+level-adds waiting notes time (Some from) true is = rise-adds waiting notes from time (ap held is)
+
+pin_read-adds : (waiting : ℕ) (notes : Notes) (time : Option ℕ) (level : Option Bool) → Adds waiting notes (pin_read notes waiting time level)
+pin_read-adds waiting notes None level = adds_err waiting notes _ refl
+pin_read-adds waiting notes (Some time) None = adds_err waiting notes _ refl
+pin_read-adds waiting notes (Some time) (Some level) = level-adds waiting notes time notes.pin level refl
+
+pin_words-adds : (waiting : ℕ) (notes : Notes) (many : ℕ) (words : Option (List ℕ × List ℕ)) → Adds waiting notes (pin_words notes waiting many words)
+pin_words-adds waiting notes many None = adds_err waiting notes _ refl
+pin_words-adds waiting notes many (Some words) = pin_read-adds waiting notes (time_of words.0) (level_of words.1)
+
+pull_read-adds : (waiting : ℕ) (notes : Notes) (time width : Option ℕ) → Adds waiting notes (pull_read notes waiting time width)
+pull_read-adds waiting notes None width = adds_err waiting notes _ refl
+pull_read-adds waiting notes (Some time) None = adds_err waiting notes _ refl
+pull_read-adds waiting notes (Some time) (Some width) = pulled-adds waiting notes time width
+
+pull_words-adds : (waiting : ℕ) (notes : Notes) (many : ℕ) (words : Option (List ℕ × List ℕ)) → Adds waiting notes (pull_words notes waiting many words)
+pull_words-adds waiting notes many None = adds_err waiting notes _ refl
+pull_words-adds waiting notes many (Some words) = pull_read-adds waiting notes (time_of words.0) (number_of words.1)
+
+end_read-adds : (waiting : ℕ) (notes : Notes) (time : Option ℕ) → Adds waiting notes (end_read notes time)
+end_read-adds waiting notes None = adds_err waiting notes _ refl
+end_read-adds waiting notes (Some time) =
+    adds_if waiting notes (is_some notes.end) _ _ (adds_err waiting notes _ refl)
+    (adds_if waiting notes (nat_lt 0 (length notes.events) && nat_le time (last_time notes.events)) _ _ (adds_err waiting notes _ refl) (adds_ok waiting notes _ (ended notes.pin refl)))
+  where
+    ended : (pin : Option ℕ) → notes.pin ≡ pin → IsMore waiting notes (record notes { pulses = pulses_ended pin notes.pulses time; end = Some time; pin = None })
+    ended None is = with_end waiting notes time
+    ended (Some from) is = with_rise waiting notes (record { from = from; to = max time (min from latest_event + 1) }) (Some time) (ap held is)
+
+end_words-adds : (waiting : ℕ) (notes : Notes) (many : ℕ) (words : Option (List ℕ)) → Adds waiting notes (end_words notes many words)
+end_words-adds waiting notes many None = adds_err waiting notes _ refl
+end_words-adds waiting notes many (Some word) = end_read-adds waiting notes (time_of word)
+
+other_words-adds : (waiting : ℕ) (notes : Notes) (verb : List ℕ) (words : List (List ℕ)) → Adds waiting notes (other_words notes waiting verb words)
+other_words-adds waiting notes verb words =
+    adds_if waiting notes (bytes_eq verb (codes "pulse")) _ _ (pulse_words-adds waiting notes (length words) (two_of words))
+    (adds_if waiting notes (bytes_eq verb (codes "pull")) _ _ (pull_words-adds waiting notes (length words) (two_of words))
+    (adds_if waiting notes (bytes_eq verb (codes "pin")) _ _ (pin_words-adds waiting notes (length words) (two_of words))
+    (adds_if waiting notes (bytes_eq verb (codes "end")) _ _ (end_words-adds waiting notes (length words) (one_of words)) (adds_err waiting notes _ refl))))
+
+words-add : (waiting : ℕ) (tree : List Node) (notes : Notes) (line : ℕ) (words : List (List ℕ)) (next : Notes) → IsWordsRead tree notes waiting line words (Ok next) → IsMore waiting notes next
+words-add waiting tree notes line [] next h = cc
+words-add waiting tree notes line (verb ∷ words) next h =
+    by_cond (bytes_eq verb (codes "at")) (IsEventRead tree notes line words (Ok next)) (Ok next ≡ other_words notes waiting verb words) (IsMore waiting notes next)
+    (λ p. event-adds waiting tree notes line words next p)
+    (λ q. adds_next waiting notes (other_words notes waiting verb words) next (other_words-adds waiting notes verb words) (sym q)) h
+
+-- a line that is taken
+pub line_adds : (waiting : ℕ) (tree : List Node) (notes : Notes) (line : ℕ) (text : List ℕ) (next : Notes) → IsLineRead tree notes waiting line text (Ok next) → IsMore waiting notes next
+line_adds waiting tree notes line text next h =
+    by_cond (is_skipped text) (Ok next ≡ Ok notes) (IsWordsRead tree notes waiting line (words_of text) (Ok next)) (IsMore waiting notes next)
+    (λ p. adds_next waiting notes (Ok notes) next (adds_ok waiting notes notes (with_none waiting notes)) (sym p))
+    (λ q. words-add waiting tree notes line (words_of text) next q) h
+
+-- what a script pulls low is few, with the pull of a pin that is low
+abbrev pub AreFew : Notes → Type 0
+AreFew notes = length notes.pulses + held notes.pin ≤ most_pulls
+
+-- and stays so
+pub few_pulses : (tree : List Node) (notes : Notes) (line : ℕ) (text : List ℕ) (next : Notes) → IsLineRead tree notes (length notes.pulses) line text (Ok next) → AreFew notes → AreFew next
+few_pulses tree notes line text next read few =
+    let more = line_adds (length notes.pulses) tree notes line text next read in
+    let long : length next.pulses ≡ length notes.pulses + length more.pulses = ap length more.pulses_are ∙ length-append notes.pulses more.pulses in
+    let room = more.room in omega (arith, long, room, few)
+
+-- ---- with fewer pulses and pulls that wait
+
+unless_again : (fault : Option PulsesError) (notes next : Notes) (waiting : ℕ) (pulse : Stretch) → length next.pulses ≤ most_pulses → Ok next ≡ unless_fault fault notes waiting pulse
+    → Ok next ≡ unless_fault fault notes (length notes.pulses) pulse
+unless_again (Some fault) notes next waiting pulse few h = h
+unless_again None notes next waiting pulse few h = by_room (nat_le most_pulses waiting) h
+  where
+    added : Notes
+    added = record notes { pulses = notes.pulses ++ pulse ∷ [] }
+
+    by_end : (b : Bool) → Ok next ≡ (if b then Err (at_word 0 End) else Ok added) → Ok next ≡ (if nat_le most_pulses (length notes.pulses) then Err (at_word 0 TooMany) else if b then Err (at_word 0 End) else Ok added)
+    by_end true k = cc
+    by_end false k =
+        let same : next ≡ added = cc in
+        let long : length next.pulses ≡ length notes.pulses + 1 = ap (λ (n : Notes). length n.pulses) same ∙ length-append notes.pulses (pulse ∷ []) in
+        let room : nat_le most_pulses (length notes.pulses) ≡ false = (let l : length notes.pulses < most_pulses = omega (arith, long, few) in grind (arith, nat_tests, l)) in
+        rw room k
+
+    by_room : (b : Bool) → Ok next ≡ (if b then Err (at_word 0 TooMany) else if is_some notes.end then Err (at_word 0 End) else Ok added)
+        → Ok next ≡ (if nat_le most_pulses (length notes.pulses) then Err (at_word 0 TooMany) else if is_some notes.end then Err (at_word 0 End) else Ok added)
+    by_room true k = cc
+    by_room false k = by_end (is_some notes.end) k
+
+pulse_again : (notes next : Notes) (waiting : ℕ) (time width : Option ℕ) → length next.pulses ≤ most_pulses → Ok next ≡ pulse_read notes waiting time width → Ok next ≡ pulse_read notes (length notes.pulses) time width
+pulse_again notes next waiting None width few h = h
+pulse_again notes next waiting (Some time) None few h = h
+pulse_again notes next waiting (Some time) (Some width) few h =
+    unless_again (pulse_refusal notes.pin (last_end notes.pulses) (record { from = time; to = time + min width 65535 })) notes next waiting (record { from = time; to = time + min width 65535 }) few h
+
+pulse_words_again : (notes next : Notes) (waiting many : ℕ) (words : Option (List ℕ × List ℕ)) → length next.pulses ≤ most_pulses → Ok next ≡ pulse_words notes waiting many words
+    → Ok next ≡ pulse_words notes (length notes.pulses) many words
+pulse_words_again notes next waiting many None few h = h
+pulse_words_again notes next waiting many (Some words) few h = pulse_again notes next waiting (time_of words.0) (number_of words.1) few h
+
+pull_again : (notes next : Notes) (waiting time width : ℕ) → length next.pulses ≤ most_pulses → Ok next ≡ notes_with_pull notes waiting time width → Ok next ≡ notes_with_pull notes (length notes.pulses) time width
+pull_again notes next waiting time width few h = by_width (width == 0 || nat_lt widest_pull width) h
+  where
+    added : Notes
+    added = record notes { pulses = notes.pulses ++ record { from = time; to = time + width } ∷ [] }
+
+    at_end : Bool → Result Notes LineFault
+    at_end b = if b then Err (at_word 0 End) else Ok added
+
+    with_room : ℕ → Result Notes LineFault
+    with_room many = if nat_le most_pulls many then Err (at_word 0 TooMany) else at_end (is_some notes.end)
+
+    by_end : (b : Bool) → Ok next ≡ at_end b → Ok next ≡ (if nat_le most_pulls (length notes.pulses) then Err (at_word 0 TooMany) else at_end b)
+    by_end true k = cc
+    by_end false k =
+        let same : next ≡ added = cc in
+        let long : length next.pulses ≡ length notes.pulses + 1 = ap (λ (n : Notes). length n.pulses) same ∙ length-append notes.pulses (record { from = time; to = time + width } ∷ []) in
+        let room : nat_le most_pulls (length notes.pulses) ≡ false = (let l : length notes.pulses < most_pulls = omega (arith, long, few) in grind (arith, nat_tests, l)) in
+        rw room k
+
+    by_room : (b : Bool) → Ok next ≡ (if b then Err (at_word 0 TooMany) else at_end (is_some notes.end)) → Ok next ≡ with_room (length notes.pulses)
+    by_room true k = cc
+    by_room false k = by_end (is_some notes.end) k
+
+    by_time : (b : Bool) → Ok next ≡ (if b then Err (at_word 1 Order) else with_room waiting) → Ok next ≡ (if b then Err (at_word 1 Order) else with_room (length notes.pulses))
+    by_time true k = cc
+    by_time false k = by_room (nat_le most_pulls waiting) k
+
+    by_width : (b : Bool) → Ok next ≡ (if b then Err (at_word 2 Width) else if is_some notes.pin || touches (last_end notes.pulses) time then Err (at_word 1 Order) else with_room waiting)
+        → Ok next ≡ (if b then Err (at_word 2 Width) else if is_some notes.pin || touches (last_end notes.pulses) time then Err (at_word 1 Order) else with_room (length notes.pulses))
+    by_width true k = cc
+    by_width false k = by_time (is_some notes.pin || touches (last_end notes.pulses) time) k
+
+pull_read_again : (notes next : Notes) (waiting : ℕ) (time width : Option ℕ) → length next.pulses ≤ most_pulses → Ok next ≡ pull_read notes waiting time width → Ok next ≡ pull_read notes (length notes.pulses) time width
+pull_read_again notes next waiting None width few h = h
+pull_read_again notes next waiting (Some time) None few h = h
+pull_read_again notes next waiting (Some time) (Some width) few h = pull_again notes next waiting time width few h
+
+pull_words_again : (notes next : Notes) (waiting many : ℕ) (words : Option (List ℕ × List ℕ)) → length next.pulses ≤ most_pulses → Ok next ≡ pull_words notes waiting many words
+    → Ok next ≡ pull_words notes (length notes.pulses) many words
+pull_words_again notes next waiting many None few h = h
+pull_words_again notes next waiting many (Some words) few h = pull_read_again notes next waiting (time_of words.0) (number_of words.1) few h
+
+-- a pin that falls has room for its pull where pulses and pulls are that few
+fall_again : (notes next : Notes) (waiting time : ℕ) → length next.pulses ≤ most_pulses → Ok next ≡ pin_falls notes waiting time → Ok next ≡ pin_falls notes (length notes.pulses) time
+fall_again notes next waiting time few h = by_time (touches (last_end notes.pulses) time) h
+  where
+    fallen : Notes
+    fallen = record notes { pin = Some time }
+
+    at_end : Bool → Result Notes LineFault
+    at_end b = if b then Err (at_word 0 End) else Ok fallen
+
+    with_room : ℕ → Result Notes LineFault
+    with_room many = if nat_le most_pulls many then Err (at_word 0 TooMany) else at_end (is_some notes.end)
+
+    by_end : (b : Bool) → Ok next ≡ at_end b → Ok next ≡ (if nat_le most_pulls (length notes.pulses) then Err (at_word 0 TooMany) else at_end b)
+    by_end true k = cc
+    by_end false k =
+        let same : next ≡ fallen = cc in
+        let long : length next.pulses ≡ length notes.pulses = ap (λ (n : Notes). length n.pulses) same in
+        let room : nat_le most_pulls (length notes.pulses) ≡ false = (let l : length notes.pulses < most_pulls = omega (arith, long, few) in grind (arith, nat_tests, l)) in
+        rw room k
+
+    by_room : (b : Bool) → Ok next ≡ (if b then Err (at_word 0 TooMany) else at_end (is_some notes.end)) → Ok next ≡ with_room (length notes.pulses)
+    by_room true k = cc
+    by_room false k = by_end (is_some notes.end) k
+
+    by_time : (b : Bool) → Ok next ≡ (if b then Err (at_word 1 Order) else with_room waiting) → Ok next ≡ (if b then Err (at_word 1 Order) else with_room (length notes.pulses))
+    by_time true k = cc
+    by_time false k = by_room (nat_le most_pulls waiting) k
+
+level_again : (notes next : Notes) (waiting time : ℕ) (pin : Option ℕ) (level : Bool) → length next.pulses ≤ most_pulses → Ok next ≡ notes_with_level notes waiting time pin level
+    → Ok next ≡ notes_with_level notes (length notes.pulses) time pin level
+level_again notes next waiting time None false few h = fall_again notes next waiting time few h
+level_again notes next waiting time None true few h = h
+level_again notes next waiting time (Some from) false few h = h
+level_again notes next waiting time (Some from) true few h = h
+
+pin_again : (notes next : Notes) (waiting : ℕ) (time : Option ℕ) (level : Option Bool) → length next.pulses ≤ most_pulses → Ok next ≡ pin_read notes waiting time level → Ok next ≡ pin_read notes (length notes.pulses) time level
+pin_again notes next waiting None level few h = h
+pin_again notes next waiting (Some time) None few h = h
+pin_again notes next waiting (Some time) (Some level) few h = level_again notes next waiting time notes.pin level few h
+
+pin_words_again : (notes next : Notes) (waiting many : ℕ) (words : Option (List ℕ × List ℕ)) → length next.pulses ≤ most_pulses → Ok next ≡ pin_words notes waiting many words
+    → Ok next ≡ pin_words notes (length notes.pulses) many words
+pin_words_again notes next waiting many None few h = h
+pin_words_again notes next waiting many (Some words) few h = pin_again notes next waiting (time_of words.0) (level_of words.1) few h
+
+other_again : (notes next : Notes) (waiting : ℕ) (verb : List ℕ) (words : List (List ℕ)) → length next.pulses ≤ most_pulses → Ok next ≡ other_words notes waiting verb words → Ok next ≡ other_words notes (length notes.pulses) verb words
+other_again notes next waiting verb words few h = by_pulse (bytes_eq verb (codes "pulse")) h
+  where
+    rest : Result Notes LineFault
+    rest = if bytes_eq verb (codes "end") then end_words notes (length words) (one_of words) else Err (at_word 0 Word)
+
+    pinned : ℕ → Bool → Result Notes LineFault
+    pinned many b = if b then pin_words notes many (length words) (two_of words) else rest
+
+    pulled : ℕ → Bool → Result Notes LineFault
+    pulled many b = if b then pull_words notes many (length words) (two_of words) else pinned many (bytes_eq verb (codes "pin"))
+
+    by_pin : (b : Bool) → Ok next ≡ pinned waiting b → Ok next ≡ pinned (length notes.pulses) b
+    by_pin true k = pin_words_again notes next waiting (length words) (two_of words) few k
+    by_pin false k = k
+
+    by_pull : (b : Bool) → Ok next ≡ pulled waiting b → Ok next ≡ pulled (length notes.pulses) b
+    by_pull true k = pull_words_again notes next waiting (length words) (two_of words) few k
+    by_pull false k = by_pin (bytes_eq verb (codes "pin")) k
+
+    by_pulse : (b : Bool) → Ok next ≡ (if b then pulse_words notes waiting (length words) (two_of words) else pulled waiting (bytes_eq verb (codes "pull")))
+        → Ok next ≡ (if b then pulse_words notes (length notes.pulses) (length words) (two_of words) else pulled (length notes.pulses) (bytes_eq verb (codes "pull")))
+    by_pulse true k = pulse_words_again notes next waiting (length words) (two_of words) few k
+    by_pulse false k = by_pull (bytes_eq verb (codes "pull")) k
+
+words_again : (tree : List Node) (notes next : Notes) (waiting line : ℕ) (words : List (List ℕ)) → length next.pulses ≤ most_pulses → IsWordsRead tree notes waiting line words (Ok next)
+    → IsWordsRead tree notes (length notes.pulses) line words (Ok next)
+words_again tree notes next waiting line [] few h = h
+words_again tree notes next waiting line (verb ∷ words) few h = by_verb (bytes_eq verb (codes "at")) h
+  where
+    by_verb : (b : Bool) → cond {A = Type 0} b (IsEventRead tree notes line words (Ok next)) (Ok next ≡ other_words notes waiting verb words)
+        → cond {A = Type 0} b (IsEventRead tree notes line words (Ok next)) (Ok next ≡ other_words notes (length notes.pulses) verb words)
+    by_verb true k = k
+    by_verb false k = other_again notes next waiting verb words few k
+
+-- a line that is taken is one of a script too, where its pulses and pulls are few in all
+pub read_again : (tree : List Node) (notes next : Notes) (waiting line : ℕ) (text : List ℕ) → length next.pulses ≤ most_pulses → IsLineRead tree notes waiting line text (Ok next)
+    → IsLineRead tree notes (length notes.pulses) line text (Ok next)
+read_again tree notes next waiting line text few h = by_text (is_skipped text) h
+  where
+    by_text : (b : Bool) → cond {A = Type 0} b (◌≡◌ {A = Result Notes LineFault} (Ok next) (Ok notes)) (IsWordsRead tree notes waiting line (words_of text) (Ok next))
+        → cond {A = Type 0} b (◌≡◌ {A = Result Notes LineFault} (Ok next) (Ok notes)) (IsWordsRead tree notes (length notes.pulses) line (words_of text) (Ok next))
+    by_text true k = k
+    by_text false k = words_again tree notes next waiting line (words_of text) few k

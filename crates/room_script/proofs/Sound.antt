@@ -1,0 +1,608 @@
+-- What holds of every script: the order of times, the limit, devices of the tree, frames and pulses.
+use Rattle.std.proofs.Common.{◌≡◌, ℕ, suc, ◌+◌, ◌-◌, ◌<◌, ◌≤◌, ◌==◌, ◌&&◌, ◌||◌, Bool, true, false, cond, codes, List, [], ◌∷◌, ◌++◌, length, max, min, nat_lt, nat_le, if◌then◌else◌, drop, slice_get, Option, Some, None, IfSome, is_some, option_map, Result, Ok, Err, refl, sym, ap, subst, ◌∙◌, arith}
+use Rattle.std.specs.Str.{bytes_eq}
+use Rattle.std.specs.Option.{option_map_or}
+use Rattle.std.specs.List.{All}
+use Rattle.std.proofs.lemmas.Grind.{common_steps}
+use Rattle.std.proofs.lemmas.List.Elements.{All-append, All-nil, All-from_recursion}
+use Rattle.std.proofs.lemmas.Bool.Decides.{nat_tests}
+use Rattle.line_wave.specs.declared.Stretch.{Stretch}
+use Rattle.line_wave.specs.declared.PulsesError.TheVariants as faults
+use Rattle.line_wave.specs.Pulses.{stretch_fault, gap_fault}
+use Rattle.line_wave.specs.Line.{IsWave, IsWaveFrom}
+use Rattle.line_wave.specs.Pulls.{AreTimely, are_timely}
+use Rattle.line_wave.proofs.Kept.{timely_tested}
+use Rattle.edid_tree.specs.Node.{Node}
+use Rattle.edid_tree.specs.Tree.{device_named}
+use Rattle.device_features.specs.declared.keys.Key.{Key as KeyValue}
+use Rattle.line_wave.specs.Bounds.{latest_event, most_pulses, most_pulls, widest_pull}
+use Rattle.text_core.specs.Lines.{lines_of, is_skipped}
+use Rattle.message_text.specs.FrameReading.{is_frame}
+use Rattle.message_text.specs.declared.assembler.AssembleError.{AssembleError}
+use Rattle.text_core.specs.Words.{words_of, one_of, two_of, three_of}
+use Rattle.text_core.specs.Number.{number_of}
+use Rattle.room_script.specs.Keys.{key_of}
+use Rattle.room_script.specs.Header.{is_named, initiator_part, destination_part, has_names, device_of, names_by, header_names, digits_text}
+use Rattle.room_script.specs.Holding.{hold_of}
+use Rattle.device_core.specs.declared.outside.Act.{Act}
+use Rattle.device_core.specs.declared.outside.Act.TheVariants.{Empty}
+use Rattle.room_event.specs.Events.{AreNamed, NamesDevices, IsFramedEvent}
+use Rattle.room_event.specs.declared.event.Event.{Event}
+use Rattle.room_event.specs.declared.event.Event.TheVariants.{Plug, Unplug, Key, Send, SendNamed, Outside}
+use Rattle.room_event.specs.declared.event.HeaderNames.{HeaderNames}
+use Rattle.room_script.specs.declared.script.TimedEvent.{TimedEvent}
+use Rattle.room_script.specs.declared.fault.LineFault.{LineFault}
+use Rattle.room_script.proofs.Adding.{AreFew, few_pulses, none_while_low}
+use Rattle.room_script.specs.Script.{Course, Notes, within_limit, time_of, last_time, last_end, notes_with_event, plug_read, plug_words, unplug_read, unplug_words, key_read, key_words, act_read, hold_words, drop_words, send_read, frame_event, event_words, unless_fault, pulse_refusal, notes_with_pulse, pulse_read, pulse_words, touches, notes_with_pull, pull_read, pull_words, is_before, level_of, pin_falls, pin_rises, pin_stays_high, pin_stays_low, notes_with_level, pin_read, pin_words, pulses_ended, end_read, end_words, other_words, course_at_end, no_notes, IsFrameOf, IsSendRead, IsEventRead, IsWordsRead, IsLineRead, IsSchedule, AreFramedEvents, IsNoWider, MayFall, IsScript, Onward, AreLinesRead, ScriptsAreSound}
+
+-- ---- times
+
+-- the time of the last event, from where there is none
+last_from : ℕ → List TimedEvent → ℕ
+last_from from [] = from
+last_from from (event ∷ events) = last_from event.at events
+
+at_place : List TimedEvent → ℕ → ℕ
+at_place events place = option_map_or (λ event. event.at) (slice_get events place) 0
+
+last_time-cons : (event next : TimedEvent) (events : List TimedEvent) → last_time (event ∷ next ∷ events) ≡ last_time (next ∷ events)
+unfolding at_place
+last_time-cons event next events =
+    let long : length (event ∷ next ∷ events) - 1 ≡ suc (length events) = omega arith in
+    let short : length (next ∷ events) - 1 ≡ length events = omega arith in
+    ap (at_place (event ∷ next ∷ events)) long ∙ sym (ap (at_place (next ∷ events)) short)
+
+last_time-last_from : (events : List TimedEvent) → last_time events ≡ last_from 0 events
+unfolding last_from
+last_time-last_from [] = refl
+last_time-last_from (event ∷ events) = onward event events
+  where
+    onward : (event : TimedEvent) (events : List TimedEvent) → last_time (event ∷ events) ≡ last_from event.at events
+    onward event [] = refl
+    onward event (next ∷ events) = last_time-cons event next events ∙ onward next events
+
+IsSchedule-later : (count end later from : ℕ) (events : List TimedEvent) → end ≤ later → IsSchedule count end from events → IsSchedule count later from events
+IsSchedule-later count end later from [] h s = tt
+IsSchedule-later count end later from (event ∷ events) h s = (s.0, omega (arith, s.1), s.2, IsSchedule-later count end later event.at events h s.3)
+
+IsSchedule-append : (count end from : ℕ) (events : List TimedEvent) (event : TimedEvent) → IsSchedule count end from events → last_from from events ≤ event.at → event.at < end → NamesDevices count event.event →
+    IsSchedule count end from (events ++ event ∷ [])
+unfolding last_from
+IsSchedule-append count end from [] event s after before known = (after, before, known, tt)
+IsSchedule-append count end from (first ∷ events) event s after before known = (s.0, s.1, s.2, IsSchedule-append count end first.at events event s.3 after before known)
+
+last_from-append : (from : ℕ) (events : List TimedEvent) (event : TimedEvent) → last_from from (events ++ event ∷ []) ≡ event.at
+unfolding last_from
+last_from-append from [] event = refl
+last_from-append from (first ∷ events) event = last_from-append first.at events event
+
+AreFramedEvents-append : (events : List TimedEvent) (event : TimedEvent) → AreFramedEvents events → IsFramedEvent event.event → AreFramedEvents (events ++ event ∷ [])
+AreFramedEvents-append [] event f g = (g, tt)
+AreFramedEvents-append (first ∷ events) event f g = (f.0, AreFramedEvents-append events event f.1 g)
+
+-- ---- pulses
+
+-- the end of the last pulse, from where there is none
+end_from : Option ℕ → List Stretch → Option ℕ
+end_from before [] = before
+end_from before (pulse ∷ pulses) = end_from (Some pulse.to) pulses
+
+end_at : List Stretch → ℕ → Option ℕ
+end_at pulses place = option_map (λ pulse. pulse.to) (slice_get pulses place)
+
+last_end-cons : (pulse next : Stretch) (pulses : List Stretch) → last_end (pulse ∷ next ∷ pulses) ≡ last_end (next ∷ pulses)
+unfolding end_at
+last_end-cons pulse next pulses =
+    let long : length (pulse ∷ next ∷ pulses) - 1 ≡ suc (length pulses) = omega arith in
+    let short : length (next ∷ pulses) - 1 ≡ length pulses = omega arith in
+    ap (end_at (pulse ∷ next ∷ pulses)) long ∙ sym (ap (end_at (next ∷ pulses)) short)
+
+last_end-end_from : (pulses : List Stretch) → last_end pulses ≡ end_from None pulses
+unfolding end_from
+last_end-end_from [] = refl
+last_end-end_from (pulse ∷ pulses) = onward pulse pulses
+  where
+    onward : (pulse : Stretch) (pulses : List Stretch) → last_end (pulse ∷ pulses) ≡ end_from (Some pulse.to) pulses
+    onward pulse [] = refl
+    onward pulse (next ∷ pulses) = last_end-cons pulse next pulses ∙ onward next pulses
+
+-- the first instant after the last pulse or pull, from where there is none
+free_from : ℕ → List Stretch → ℕ
+free_from from [] = from
+free_from from (pulse ∷ pulses) = free_from (pulse.to + 1) pulses
+
+-- the first instant after an end
+free_after : Option ℕ → ℕ
+free_after None = 0
+free_after (Some end) = end + 1
+
+free_from-end : (before : Option ℕ) (pulses : List Stretch) → free_from (free_after before) pulses ≡ free_after (end_from before pulses)
+unfolding free_from free_after end_from
+free_from-end before [] = refl
+free_from-end before (pulse ∷ pulses) = free_from-end (Some pulse.to) pulses
+
+free_from-last : (pulses : List Stretch) → free_from 0 pulses ≡ free_after (last_end pulses)
+unfolding free_after
+free_from-last pulses = free_from-end None pulses ∙ ap free_after (sym (last_end-end_from pulses))
+
+wave-append : (from : ℕ) (pulses : List Stretch) (pulse : Stretch) → IsWaveFrom from pulses → free_from from pulses ≤ pulse.from → pulse.from < pulse.to → IsWaveFrom from (pulses ++ pulse ∷ [])
+unfolding free_from
+wave-append from [] pulse wave later wide = (later, wide, tt)
+wave-append from (first ∷ pulses) pulse wave later wide = (wave.0, wave.1, wave-append (first.to + 1) pulses pulse wave.2 later wide)
+
+-- one that begins after the last
+wave_more : (pulses : List Stretch) (pulse : Stretch) → IsWave pulses → free_after (last_end pulses) ≤ pulse.from → pulse.from < pulse.to → IsWave (pulses ++ pulse ∷ [])
+wave_more pulses pulse wave later wide = let last = free_from-last pulses in wave-append 0 pulses pulse wave (omega (arith, last, later)) wide
+
+-- a pulse that is not refused begins after the last, and is narrow
+abbrev IsApart : Option ℕ → Stretch → Type 0
+IsApart before pulse = (free_after before ≤ pulse.from) × (pulse.from < pulse.to) × (pulse.to ≤ pulse.from + 10000)
+
+gap-apart : (before : Option ℕ) (pulse : Stretch) → gap_fault before pulse ≡ None → free_after before ≤ pulse.from
+unfolding free_after
+gap-apart None pulse h = omega arith
+gap-apart (Some end) pulse h = by (nat_lt pulse.from end) (nat_lt pulse.from (end + 25000)) refl h
+  where
+    by : (early near : Bool) → nat_lt pulse.from (end + 25000) ≡ near → (if early then Some faults.Order else if near then Some faults.Close else None) ≡ None → end + 1 ≤ pulse.from
+    by true near e g = cc
+    by false true e g = cc
+    by false false e g = grind (arith, nat_tests, e)
+
+pulse-apart : (before : Option ℕ) (pulse : Stretch) → stretch_fault before pulse ≡ None → IsApart before pulse
+pulse-apart before pulse h = by (nat_lt pulse.from pulse.to) (nat_le pulse.to (pulse.from + 10000)) refl refl h
+  where
+    by : (some narrow : Bool) → nat_lt pulse.from pulse.to ≡ some → nat_le pulse.to (pulse.from + 10000) ≡ narrow → (if some && narrow then gap_fault before pulse else Some faults.Width) ≡ None
+        → (free_after before ≤ pulse.from) × (pulse.from < pulse.to) × (pulse.to ≤ pulse.from + 10000)
+    by true true e g k = (gap-apart before pulse k, grind (arith, nat_tests, e), grind (arith, nat_tests, g))
+    by true false e g k = cc
+    by false narrow e g k = cc
+
+touches-apart : (before : Option ℕ) (time : ℕ) → touches before time ≡ false → free_after before ≤ time
+unfolding free_after
+touches-apart None time h = omega arith
+touches-apart (Some end) time h = grind (arith, nat_tests, h)
+
+-- ---- what the lines so far keep
+
+-- within the limit of times
+abbrev pub IsEarly : Stretch → Type 0
+IsEarly pulse = pulse.from ≤ latest_event
+
+pub record AreSound (count : ℕ) (notes : Notes) : Type 0 where
+  pub schedule : IsSchedule count (last_time notes.events + 1) 0 notes.events
+  pub framed : AreFramedEvents notes.events
+  pub order : IsWave notes.pulses
+  pub wide : All IsNoWider notes.pulses
+  pub early : All IsEarly notes.pulses
+  pub ended : (time : ℕ) → notes.end ≡ Some time → IsSchedule count time 0 notes.events × (time ≤ latest_event)
+  pub held : (from : ℕ) → notes.pin ≡ Some from → MayFall notes.pulses from
+  pub let_go : (time : ℕ) → notes.end ≡ Some time → notes.pin ≡ None
+
+pub sound_start : (count : ℕ) → AreSound count no_notes
+sound_start count = record { schedule = tt; framed = tt; order = tt; wide = All-nil IsNoWider; early = All-nil IsEarly; ended = λ t e. (cc); held = λ t e. (cc); let_go = λ t e. refl }
+
+Keeps : ℕ → Result Notes LineFault → Type 0
+Keeps count read = (next : Notes) → read ≡ Ok next → AreSound count next
+
+keeps_next : (count : ℕ) (read : Result Notes LineFault) (next : Notes) → Keeps count read → read ≡ Ok next → AreSound count next
+unfolding Keeps
+keeps_next count read next k e = k next e
+
+abbrev is_refused : Result Notes LineFault → Bool
+is_refused (Ok notes) = false
+is_refused (Err fault) = true
+
+-- whatever the fault
+keeps_err : (count : ℕ) (read : Result Notes LineFault) → is_refused read ≡ true → Keeps count read
+unfolding Keeps
+keeps_err count (Ok notes) refused next h = cc
+keeps_err count (Err fault) refused next h = cc
+
+keeps_if : (count : ℕ) (b : Bool) (x y : Result Notes LineFault) → (b ≡ true → Keeps count x) → (b ≡ false → Keeps count y) → Keeps count (cond b x y)
+keeps_if count true x y f g = f refl
+keeps_if count false x y f g = g refl
+
+keeps_ok : (count : ℕ) (notes : Notes) → AreSound count notes → Keeps count (Ok notes)
+unfolding Keeps
+keeps_ok count notes s next h = let e : notes ≡ next = cc in let P : Notes → Type 0 = λ n. AreSound count n in subst P e s
+
+scheduled-keeps : (count : ℕ) (notes : Notes) (line time : ℕ) (event : Event) → AreSound count notes → NamesDevices count event → IsFramedEvent event → Keeps count (notes_with_event notes line time event)
+scheduled-keeps count notes line time event s known framed =
+    keeps_if count (nat_lt time (last_time notes.events)) _ _ (λ e. keeps_err count _ refl)
+    (λ on_time. keeps_if count (is_some notes.end) _ _ (λ e. keeps_err count _ refl) (λ unended. keeps_ok count _ (sound_more on_time unended)))
+  where
+    sound_more : nat_lt time (last_time notes.events) ≡ false → is_some notes.end ≡ false →
+        AreSound count (record notes { events = notes.events ++ record { line = line; at = time; event = event } ∷ [] })
+    sound_more on_time unended =
+        let timed : TimedEvent = record { line = line; at = time; event = event } in
+        let after : last_time notes.events ≤ time = grind (arith, nat_tests) in
+        let from_zero : last_from 0 notes.events ≤ time = omega (arith, last_time-last_from notes.events) in
+        let last : last_time (notes.events ++ timed ∷ []) ≡ time = last_time-last_from (notes.events ++ timed ∷ []) ∙ last_from-append 0 notes.events timed in
+        let Until : ℕ → Type 0 = λ n. IsSchedule count (n + 1) 0 (notes.events ++ timed ∷ []) in
+        record {
+          schedule = subst Until (sym last) (IsSchedule-append count (time + 1) 0 notes.events timed (IsSchedule-later count (last_time notes.events + 1) (time + 1) 0 notes.events (omega arith) s.schedule) from_zero (omega arith) known);
+          framed = AreFramedEvents-append notes.events timed s.framed framed;
+          order = s.order;
+          wide = s.wide;
+          early = s.early;
+          ended = λ t h. (let clash = rw h at unended in cc);
+          held = s.held;
+          let_go = s.let_go;
+        }
+
+named-below : (tree : List Node) (name : List ℕ) (device : ℕ) → device_named tree name ≡ Some device → device < length tree
+named-below tree name device h = grind (arith, common_steps)
+
+plug_read-keeps : (count : ℕ) (notes : Notes) (line : ℕ) (time port child parent : Option ℕ) → AreSound count notes →
+    ((i : ℕ) → child ≡ Some i → i < count) → ((i : ℕ) → parent ≡ Some i → i < count) → Keeps count (plug_read notes line time port child parent)
+plug_read-keeps count notes line None port child parent s hc hp = keeps_err count _ refl
+plug_read-keeps count notes line (Some time) None child parent s hc hp = keeps_err count _ refl
+plug_read-keeps count notes line (Some time) (Some port) None parent s hc hp = keeps_err count _ refl
+plug_read-keeps count notes line (Some time) (Some port) (Some child) None s hc hp = keeps_err count _ refl
+plug_read-keeps count notes line (Some time) (Some port) (Some child) (Some parent) s hc hp =
+    scheduled-keeps count notes line time (Plug child parent (min port 255)) s (hc child refl, hp parent refl) tt
+
+plug_words-keeps : (tree : List Node) (notes : Notes) (line : ℕ) (time : List ℕ) (many : ℕ) (words : Option (List ℕ × List ℕ × List ℕ)) → AreSound (length tree) notes →
+    Keeps (length tree) (plug_words tree notes line time many words)
+plug_words-keeps tree notes line time many None s = keeps_err (length tree) _ refl
+plug_words-keeps tree notes line time many (Some words) s =
+    plug_read-keeps (length tree) notes line (time_of time) (number_of words.2) (device_named tree words.0) (device_named tree words.1) s (named-below tree words.0) (named-below tree words.1)
+
+unplug_read-keeps : (count : ℕ) (notes : Notes) (line : ℕ) (time child : Option ℕ) → AreSound count notes → ((i : ℕ) → child ≡ Some i → i < count) → Keeps count (unplug_read notes line time child)
+unplug_read-keeps count notes line None child s hc = keeps_err count _ refl
+unplug_read-keeps count notes line (Some time) None s hc = keeps_err count _ refl
+unplug_read-keeps count notes line (Some time) (Some child) s hc = scheduled-keeps count notes line time (Unplug child) s (hc child refl) tt
+
+unplug_words-keeps : (tree : List Node) (notes : Notes) (line : ℕ) (time : List ℕ) (many : ℕ) (words : Option (List ℕ)) → AreSound (length tree) notes → Keeps (length tree) (unplug_words tree notes line time many words)
+unplug_words-keeps tree notes line time many None s = keeps_err (length tree) _ refl
+unplug_words-keeps tree notes line time many (Some word) s = unplug_read-keeps (length tree) notes line (time_of time) (device_named tree word) s (named-below tree word)
+
+key_read-keeps : (count : ℕ) (notes : Notes) (line : ℕ) (press : Bool) (key : Result KeyValue LineFault) (time device : Option ℕ) → AreSound count notes → ((i : ℕ) → device ≡ Some i → i < count) →
+    Keeps count (key_read notes line press key time device)
+key_read-keeps count notes line press (Err cause) time device s hd = keeps_err count _ refl
+key_read-keeps count notes line press (Ok key) None device s hd = keeps_err count _ refl
+key_read-keeps count notes line press (Ok key) (Some time) None s hd = keeps_err count _ refl
+key_read-keeps count notes line press (Ok key) (Some time) (Some device) s hd = scheduled-keeps count notes line time (Key device key press) s (hd device refl) tt
+
+key_words-keeps : (tree : List Node) (notes : Notes) (line : ℕ) (press : Bool) (time : List ℕ) (words : List (List ℕ)) → AreSound (length tree) notes → Keeps (length tree) (key_words tree notes line press time words)
+key_words-keeps tree notes line press time [] s = keeps_err (length tree) _ refl
+key_words-keeps tree notes line press time (name ∷ words) s =
+    key_read-keeps (length tree) notes line press (key_of words) (time_of time) (device_named tree name) s (named-below tree name)
+
+act_read-keeps : (count : ℕ) (notes : Notes) (line : ℕ) (act : Option Act) (time device : Option ℕ) → AreSound count notes → ((i : ℕ) → device ≡ Some i → i < count) →
+    Keeps count (act_read notes line act time device)
+act_read-keeps count notes line None time device s hd = keeps_err count _ refl
+act_read-keeps count notes line (Some act) None device s hd = keeps_err count _ refl
+act_read-keeps count notes line (Some act) (Some time) None s hd = keeps_err count _ refl
+act_read-keeps count notes line (Some act) (Some time) (Some device) s hd = scheduled-keeps count notes line time (Outside device act) s (hd device refl) tt
+
+hold_words-keeps : (tree : List Node) (notes : Notes) (line : ℕ) (time : List ℕ) (many : ℕ) (words : Option (List ℕ × List ℕ)) → AreSound (length tree) notes → Keeps (length tree) (hold_words tree notes line time many words)
+hold_words-keeps tree notes line time many None s = keeps_err (length tree) _ refl
+hold_words-keeps tree notes line time many (Some words) s =
+    act_read-keeps (length tree) notes line (hold_of words.1) (time_of time) (device_named tree words.0) s (named-below tree words.0)
+
+drop_words-keeps : (tree : List Node) (notes : Notes) (line : ℕ) (time : List ℕ) (many : ℕ) (words : Option (List ℕ)) → AreSound (length tree) notes → Keeps (length tree) (drop_words tree notes line time many words)
+drop_words-keeps tree notes line time many None s = keeps_err (length tree) _ refl
+drop_words-keeps tree notes line time many (Some word) s =
+    act_read-keeps (length tree) notes line (Some Empty) (time_of time) (device_named tree word) s (named-below tree word)
+
+event_words-keeps : (tree : List Node) (notes : Notes) (line : ℕ) (time verb : List ℕ) (words : List (List ℕ)) → AreSound (length tree) notes → Keeps (length tree) (event_words tree notes line time verb words)
+event_words-keeps tree notes line time verb words s =
+    keeps_if (length tree) (bytes_eq verb (codes "plug")) _ _ (λ e. plug_words-keeps tree notes line time (length words) (three_of words) s)
+    (λ e. keeps_if (length tree) (bytes_eq verb (codes "unplug")) _ _ (λ e. unplug_words-keeps tree notes line time (length words) (one_of words) s)
+    (λ e. keeps_if (length tree) (bytes_eq verb (codes "press")) _ _ (λ e. key_words-keeps tree notes line true time words s)
+    (λ e. keeps_if (length tree) (bytes_eq verb (codes "release")) _ _ (λ e. key_words-keeps tree notes line false time words s)
+    (λ e. keeps_if (length tree) (bytes_eq verb (codes "hold")) _ _ (λ e. hold_words-keeps tree notes line time (length words) (two_of words) s)
+    (λ e. keeps_if (length tree) (bytes_eq verb (codes "drop")) _ _ (λ e. drop_words-keeps tree notes line time (length words) (one_of words) s)
+    (λ e. keeps_err (length tree) _ refl))))))
+
+-- a frame has a block
+frame_some : (frame : List ℕ) → is_frame frame ≡ true → 0 < length frame
+frame_some [] h = cc
+frame_some (block ∷ blocks) h = omega arith
+
+-- a device that a part of a header names is one of the tree
+device_of-below : (tree : List Node) (part : List ℕ) (found : Option ℕ) → device_of tree part ≡ Some found → IfSome found (λ d. d < length tree)
+device_of-below tree part found h = by (is_named part) (device_named tree (drop 1 part)) refl h
+  where
+    by : (named : Bool) (device : Option ℕ) → device_named tree (drop 1 part) ≡ device → (if named then option_map Some device else Some None) ≡ Some found → IfSome found (λ d. d < length tree)
+    by false device e g = let none : None ≡ found = cc in subst (λ (o : Option ℕ). IfSome o (λ d. d < length tree)) none tt
+    by true None e g = cc
+    by true (Some d) e g = let some : Some d ≡ found = cc in subst (λ (o : Option ℕ). IfSome o (λ d. d < length tree)) some (named-below tree (drop 1 part) d e)
+
+-- the names of a header are those of devices of the tree
+abbrev AreBelow : ℕ → Option HeaderNames → Type 0
+AreBelow count names = IfSome names (λ n. AreNamed count n)
+
+names_by-below : (count : ℕ) (initiator destination : Option (Option ℕ)) (names : Option HeaderNames) → ((o : Option ℕ) → initiator ≡ Some o → IfSome o (λ d. d < count))
+    → ((o : Option ℕ) → destination ≡ Some o → IfSome o (λ d. d < count)) → names_by initiator destination ≡ Some names → AreBelow count names
+names_by-below count None destination names hi hd e = cc
+names_by-below count (Some i) None names hi hd e = cc
+names_by-below count (Some i) (Some d) names hi hd e =
+    let some : Some (record { initiator = i; destination = d }) ≡ names = cc in subst (AreBelow count) some (hi i refl, hd d refl)
+
+header-below : (tree : List Node) (word : List ℕ) (names : Option HeaderNames) → header_names tree word ≡ Some names → AreBelow (length tree) names
+header-below tree word names h = by (has_names word) h
+  where
+    by : (b : Bool) → (if b then names_by (device_of tree (initiator_part word)) (device_of tree (destination_part word)) else Some None) ≡ Some names → AreBelow (length tree) names
+    by false e = let none : None ≡ names = cc in subst (AreBelow (length tree)) none tt
+    by true e =
+        names_by-below (length tree) (device_of tree (initiator_part word)) (device_of tree (destination_part word)) names (device_of-below tree (initiator_part word)) (device_of-below tree (destination_part word)) e
+
+-- the event of a frame
+framed-keeps : (count : ℕ) (notes : Notes) (line time device : ℕ) (names : Option HeaderNames) (frame : List ℕ) → AreSound count notes → device < count → AreBelow count names → 0 < length frame
+    → Keeps count (notes_with_event notes line time (frame_event device names frame))
+framed-keeps count notes line time device None frame s below named some = scheduled-keeps count notes line time (Send device frame) s below some
+framed-keeps count notes line time device (Some names) frame s below named some = scheduled-keeps count notes line time (SendNamed device names frame) s (below, named) some
+
+send_read-keeps : (count : ℕ) (notes : Notes) (line : ℕ) (time device : Option ℕ) (names : Option (Option HeaderNames)) (text : List ℕ) (frame : Result (List ℕ) AssembleError) → AreSound count notes
+    → ((i : ℕ) → device ≡ Some i → i < count) → ((n : Option HeaderNames) → names ≡ Some n → AreBelow count n) → IsFrameOf text frame → Keeps count (send_read notes line time device names frame)
+send_read-keeps count notes line None device names text frame s hd hn is = keeps_err count _ refl
+send_read-keeps count notes line (Some time) None names text frame s hd hn is = keeps_err count _ refl
+send_read-keeps count notes line (Some time) (Some device) None text frame s hd hn is = keeps_err count _ refl
+send_read-keeps count notes line (Some time) (Some device) (Some names) text (Err cause) s hd hn is = keeps_err count _ refl
+send_read-keeps count notes line (Some time) (Some device) (Some names) text (Ok frame) s hd hn is =
+    framed-keeps count notes line time device names frame s (hd device refl) (hn names refl) (frame_some frame is.0.whole)
+
+send-keeps : (tree : List Node) (notes : Notes) (line : ℕ) (time : List ℕ) (words : List (List ℕ)) (next : Notes) → AreSound (length tree) notes → IsSendRead tree notes line time words (Ok next) → AreSound (length tree) next
+send-keeps tree notes line time [] next s h = cc
+send-keeps tree notes line time (name ∷ []) next s h = cc
+send-keeps tree notes line time (name ∷ word ∷ words) next s h =
+    keeps_next (length tree) (send_read notes line (time_of time) (device_named tree name) (header_names tree word) h.0) next
+    (send_read-keeps (length tree) notes line (time_of time) (device_named tree name) (header_names tree word) (digits_text (word ∷ words)) h.0 s (named-below tree name) (header-below tree word) h.1) (sym h.2)
+
+-- either way
+by_cond : (b : Bool) (P Q R : Type 0) → (P → R) → (Q → R) → cond {A = Type 0} b P Q → R
+by_cond true P Q R f g h = f h
+by_cond false P Q R f g h = g h
+
+event-keeps : (tree : List Node) (notes : Notes) (line : ℕ) (words : List (List ℕ)) (next : Notes) → AreSound (length tree) notes → IsEventRead tree notes line words (Ok next) → AreSound (length tree) next
+event-keeps tree notes line [] next s h = cc
+event-keeps tree notes line (time ∷ []) next s h = cc
+event-keeps tree notes line (time ∷ verb ∷ words) next s h =
+    by_cond (bytes_eq verb (codes "send")) (IsSendRead tree notes line time words (Ok next)) (Ok next ≡ event_words tree notes line time verb words) (AreSound (length tree) next)
+    (λ p. send-keeps tree notes line time words next s p)
+    (λ q. keeps_next (length tree) (event_words tree notes line time verb words) next (event_words-keeps tree notes line time verb words s) (sym q)) h
+
+within_limit-limit : (o : Option ℕ) (time : ℕ) → within_limit o ≡ Some time → time ≤ latest_event
+within_limit-limit None time h = cc
+within_limit-limit (Some n) time h = grind (arith, nat_tests)
+
+-- one more that is pulled low from outside
+sound_with : (count : ℕ) (notes : Notes) (pulse : Stretch) → AreSound count notes → pulse.from ≤ latest_event → free_after (last_end notes.pulses) ≤ pulse.from → pulse.from < pulse.to → IsNoWider pulse
+    → AreSound count (record notes { pulses = notes.pulses ++ pulse ∷ []; pin = None })
+sound_with count notes pulse s within later some wide = record {
+  schedule = s.schedule;
+  framed = s.framed;
+  order = wave_more notes.pulses pulse s.order later some;
+  wide = All-append IsNoWider notes.pulses (pulse ∷ []) s.wide (All-from_recursion IsNoWider (pulse ∷ []) (wide, tt));
+  early = All-append IsEarly notes.pulses (pulse ∷ []) s.early (All-from_recursion IsEarly (pulse ∷ []) (within, tt));
+  ended = s.ended;
+  held = λ t h. (cc);
+  let_go = λ t h. refl;
+}
+
+-- while the pin is high
+sound_high : (count : ℕ) (notes : Notes) (pulse : Stretch) → AreSound count notes → is_some notes.pin ≡ false → pulse.from ≤ latest_event → free_after (last_end notes.pulses) ≤ pulse.from → pulse.from < pulse.to
+    → pulse.to ≤ pulse.from + widest_pull → AreSound count (record notes { pulses = notes.pulses ++ pulse ∷ [] })
+sound_high count notes pulse s high within later some wide =
+    let none = is_high notes.pin high in
+    let With : Option ℕ → Type 0 = λ pin. AreSound count (record notes { pulses = notes.pulses ++ pulse ∷ []; pin = pin }) in
+    subst With (sym none) (sound_with count notes pulse s within later some (omega (arith, wide)))
+  where
+    is_high : (pin : Option ℕ) → is_some pin ≡ false → pin ≡ None
+    is_high None h = refl
+    is_high (Some from) h = cc
+
+pulsed-keeps : (count : ℕ) (notes : Notes) (waiting : ℕ) (pulse : Stretch) → AreSound count notes → pulse.from ≤ latest_event → Keeps count (notes_with_pulse notes waiting pulse)
+pulsed-keeps count notes waiting pulse s within =
+    elim (pulse_refusal notes.pin (last_end notes.pulses) pulse) as (λ o. pulse_refusal notes.pin (last_end notes.pulses) pulse ≡ o → Keeps count (unless_fault o notes waiting pulse)) [
+      | Some fault ↦ λ e. keeps_err count _ refl
+      | None ↦ λ e. keeps_if count (nat_le most_pulses waiting) _ _ (λ full. keeps_err count _ refl)
+          (λ room. keeps_if count (is_some notes.end) _ _ (λ ended. keeps_err count _ refl)
+          (λ unended. keeps_ok count _ (sound_high count notes pulse s (high e) within (apart e).0 (apart e).1 (let narrow = (apart e).2 in omega (arith, narrow)))))
+    ] refl
+  where
+    high : pulse_refusal notes.pin (last_end notes.pulses) pulse ≡ None → is_some notes.pin ≡ false
+    high e = none_while_low notes.pin (last_end notes.pulses) pulse e
+
+    by : (pin : Option ℕ) → pulse_refusal pin (last_end notes.pulses) pulse ≡ None → is_some pin ≡ false → stretch_fault (last_end notes.pulses) pulse ≡ None
+    by None e h = e
+    by (Some from) e h = cc
+
+    apart : pulse_refusal notes.pin (last_end notes.pulses) pulse ≡ None → IsApart (last_end notes.pulses) pulse
+    apart e = pulse-apart (last_end notes.pulses) pulse (by notes.pin e (high e))
+
+pulse_read-keeps : (count : ℕ) (notes : Notes) (waiting : ℕ) (time width : Option ℕ) → AreSound count notes → ((t : ℕ) → time ≡ Some t → t ≤ latest_event) → Keeps count (pulse_read notes waiting time width)
+pulse_read-keeps count notes waiting None width s limit = keeps_err count _ refl
+pulse_read-keeps count notes waiting (Some time) None s limit = keeps_err count _ refl
+pulse_read-keeps count notes waiting (Some time) (Some width) s limit = pulsed-keeps count notes waiting (record { from = time; to = time + min width 65535 }) s (limit time refl)
+
+pulse_words-keeps : (count : ℕ) (notes : Notes) (waiting many : ℕ) (words : Option (List ℕ × List ℕ)) → AreSound count notes → Keeps count (pulse_words notes waiting many words)
+pulse_words-keeps count notes waiting many None s = keeps_err count _ refl
+pulse_words-keeps count notes waiting many (Some words) s = pulse_read-keeps count notes waiting (time_of words.0) (number_of words.1) s (within_limit-limit (number_of words.0))
+
+-- none of two
+both_false : (a b : Bool) → (a || b) ≡ false → (a ≡ false) × (b ≡ false)
+both_false true b h = cc
+both_false false b h = (refl, h)
+
+-- a pull that is not refused for its width
+fits_width : (time width : ℕ) → (width == 0 || nat_lt widest_pull width) ≡ false → (time < time + width) × (time + width ≤ time + widest_pull)
+fits_width time width h = by (width == 0) (nat_lt widest_pull width) refl refl h
+  where
+    by : (none wide : Bool) → (width == 0) ≡ none → nat_lt widest_pull width ≡ wide → (none || wide) ≡ false → (time < time + width) × (time + width ≤ time + widest_pull)
+    by true wide e g k = cc
+    by false true e g k = cc
+    by false false e g k = (grind (arith, nat_tests, e), grind (arith, nat_tests, g))
+
+pulled-keeps : (count : ℕ) (notes : Notes) (waiting time width : ℕ) → AreSound count notes → time ≤ latest_event → Keeps count (notes_with_pull notes waiting time width)
+pulled-keeps count notes waiting time width s within =
+    keeps_if count (width == 0 || nat_lt widest_pull width) _ _ (λ misfits. keeps_err count _ refl)
+    (λ fits. keeps_if count (is_some notes.pin || touches (last_end notes.pulses) time) _ _ (λ near. keeps_err count _ refl)
+    (λ apart. keeps_if count (nat_le most_pulls waiting) _ _ (λ full. keeps_err count _ refl)
+    (λ room. keeps_if count (is_some notes.end) _ _ (λ ended. keeps_err count _ refl)
+    (λ unended. keeps_ok count _ (sound_high count notes (record { from = time; to = time + width }) s (both_false (is_some notes.pin) (touches (last_end notes.pulses) time) apart).0 within
+    (touches-apart (last_end notes.pulses) time (both_false (is_some notes.pin) (touches (last_end notes.pulses) time) apart).1) (fits_width time width fits).0 (fits_width time width fits).1)))))
+
+-- the pin
+fall-keeps : (count : ℕ) (notes : Notes) (waiting time : ℕ) → AreSound count notes → time ≤ latest_event → Keeps count (pin_falls notes waiting time)
+fall-keeps count notes waiting time s within =
+    keeps_if count (touches (last_end notes.pulses) time) _ _ (λ near. keeps_err count _ refl)
+    (λ apart. keeps_if count (nat_le most_pulls waiting) _ _ (λ full. keeps_err count _ refl)
+    (λ room. keeps_if count (is_some notes.end) _ _ (λ ended. keeps_err count _ refl)
+    (λ unended. keeps_ok count _ (fallen apart unended))))
+  where
+    fallen : touches (last_end notes.pulses) time ≡ false → is_some notes.end ≡ false → AreSound count (record notes { pin = Some time })
+    fallen apart unended = record {
+      schedule = s.schedule;
+      framed = s.framed;
+      order = s.order;
+      wide = s.wide;
+      early = s.early;
+      ended = s.ended;
+      held = λ from h. (let same : time ≡ from = cc in subst (MayFall notes.pulses) same (apart, within));
+      let_go = λ t h. (let clash = rw h at unended in cc);
+    }
+
+high-keeps : (count : ℕ) (notes : Notes) (time : ℕ) → AreSound count notes → Keeps count (pin_stays_high notes time)
+high-keeps count notes time s =
+    keeps_if count (is_before (last_end notes.pulses) time) _ _ (λ early. keeps_err count _ refl)
+    (λ late. keeps_if count (is_some notes.end) _ _ (λ ended. keeps_err count _ refl) (λ unended. keeps_ok count notes s))
+
+-- a pull of the pin, which ends by the latest time of a script or a microsecond after it began
+sound_risen : (count : ℕ) (notes : Notes) (from to : ℕ) → AreSound count notes → notes.pin ≡ Some from → from < to → to ≤ max latest_event (from + 1)
+    → AreSound count (record notes { pulses = notes.pulses ++ record { from = from; to = to } ∷ []; pin = None })
+sound_risen count notes from to s is some early =
+    let fell = s.held from is in
+    sound_with count notes (record { from = from; to = to }) s fell.1 (touches-apart (last_end notes.pulses) from fell.0) some (omega (arith, early))
+
+rise-keeps : (count : ℕ) (notes : Notes) (from time : ℕ) → AreSound count notes → notes.pin ≡ Some from → time ≤ latest_event → Keeps count (pin_rises notes from time)
+rise-keeps count notes from time s is within =
+    keeps_if count (nat_le time from) _ _ (λ early. keeps_err count _ refl)
+    (λ later. keeps_ok count _ (sound_risen count notes from time s is (grind (arith, nat_tests, later)) (omega (arith, within))))
+
+low-keeps : (count : ℕ) (notes : Notes) (from time : ℕ) → AreSound count notes → Keeps count (pin_stays_low notes from time)
+low-keeps count notes from time s = keeps_if count (nat_lt time from) _ _ (λ early. keeps_err count _ refl) (λ late. keeps_ok count notes s)
+
+level-keeps : (count : ℕ) (notes : Notes) (waiting time : ℕ) (pin : Option ℕ) (level : Bool) → AreSound count notes → notes.pin ≡ pin → time ≤ latest_event → Keeps count (notes_with_level notes waiting time pin level)
+level-keeps count notes waiting time None false s is within = fall-keeps count notes waiting time s within
+level-keeps count notes waiting time None true s is within = high-keeps count notes time s
+level-keeps count notes waiting time (Some from) false s is within = low-keeps count notes from time s
+level-keeps count notes waiting time (Some from) true s is within = rise-keeps count notes from time s is within
+
+pin_read-keeps : (count : ℕ) (notes : Notes) (waiting : ℕ) (time : Option ℕ) (level : Option Bool) → AreSound count notes → ((t : ℕ) → time ≡ Some t → t ≤ latest_event) → Keeps count (pin_read notes waiting time level)
+pin_read-keeps count notes waiting None level s limit = keeps_err count _ refl
+pin_read-keeps count notes waiting (Some time) None s limit = keeps_err count _ refl
+pin_read-keeps count notes waiting (Some time) (Some level) s limit = level-keeps count notes waiting time notes.pin level s refl (limit time refl)
+
+pin_words-keeps : (count : ℕ) (notes : Notes) (waiting many : ℕ) (words : Option (List ℕ × List ℕ)) → AreSound count notes → Keeps count (pin_words notes waiting many words)
+pin_words-keeps count notes waiting many None s = keeps_err count _ refl
+pin_words-keeps count notes waiting many (Some words) s = pin_read-keeps count notes waiting (time_of words.0) (level_of words.1) s (within_limit-limit (number_of words.0))
+
+pull_read-keeps : (count : ℕ) (notes : Notes) (waiting : ℕ) (time width : Option ℕ) → AreSound count notes → ((t : ℕ) → time ≡ Some t → t ≤ latest_event) → Keeps count (pull_read notes waiting time width)
+pull_read-keeps count notes waiting None width s limit = keeps_err count _ refl
+pull_read-keeps count notes waiting (Some time) None s limit = keeps_err count _ refl
+pull_read-keeps count notes waiting (Some time) (Some width) s limit = pulled-keeps count notes waiting time width s (limit time refl)
+
+pull_words-keeps : (count : ℕ) (notes : Notes) (waiting many : ℕ) (words : Option (List ℕ × List ℕ)) → AreSound count notes → Keeps count (pull_words notes waiting many words)
+pull_words-keeps count notes waiting many None s = keeps_err count _ refl
+pull_words-keeps count notes waiting many (Some words) s = pull_read-keeps count notes waiting (time_of words.0) (number_of words.1) s (within_limit-limit (number_of words.0))
+
+-- after every event there is
+ends_after : (count time : ℕ) (events : List TimedEvent) → IsSchedule count (last_time events + 1) 0 events → (nat_lt 0 (length events) && nat_le time (last_time events)) ≡ false → IsSchedule count time 0 events
+ends_after count time [] s h = tt
+ends_after count time (event ∷ events) s h =
+    let after : last_time (event ∷ events) < time = grind (arith, nat_tests) in
+    IsSchedule-later count (last_time (event ∷ events) + 1) time 0 (event ∷ events) (omega arith) s
+
+-- with its end, where the pin is high
+sound_ended : (count : ℕ) (notes : Notes) (pulses : List Stretch) (time : ℕ) → AreSound count (record notes { pulses = pulses; pin = None })
+    → (nat_lt 0 (length notes.events) && nat_le time (last_time notes.events)) ≡ false → time ≤ latest_event → AreSound count (record notes { pulses = pulses; end = Some time; pin = None })
+sound_ended count notes pulses time s after within = record {
+  schedule = s.schedule;
+  framed = s.framed;
+  order = s.order;
+  wide = s.wide;
+  early = s.early;
+  ended = λ t h. (let same : time ≡ t = cc in let Ends : ℕ → Type 0 = λ n. IsSchedule count n 0 notes.events × (n ≤ latest_event) in
+      subst Ends same (ends_after count time notes.events s.schedule after, within));
+  held = s.held;
+  let_go = λ t h. refl;
+}
+
+end_read-keeps : (count : ℕ) (notes : Notes) (time : Option ℕ) → AreSound count notes → ((t : ℕ) → time ≡ Some t → t ≤ latest_event) → Keeps count (end_read notes time)
+end_read-keeps count notes None s limit = keeps_err count _ refl
+end_read-keeps count notes (Some time) s limit =
+    keeps_if count (is_some notes.end) _ _ (λ e. keeps_err count _ refl)
+    (λ unended. keeps_if count (nat_lt 0 (length notes.events) && nat_le time (last_time notes.events)) _ _ (λ e. keeps_err count _ refl)
+    (λ after. keeps_ok count _ (sound_ended count notes (pulses_ended notes.pin notes.pulses time) time (high_again notes.pin refl) after (limit time refl))))
+  where
+    high_again : (pin : Option ℕ) → notes.pin ≡ pin → AreSound count (record notes { pulses = pulses_ended pin notes.pulses time; pin = None })
+    high_again None is = let With : Option ℕ → Type 0 = λ pin. AreSound count (record notes { pin = pin }) in subst With is s
+    high_again (Some from) is =
+        let within = limit time refl in
+        let fell = (s.held from is).1 in
+        sound_risen count notes from (max time (min from latest_event + 1)) s is (omega (arith, fell)) (omega (arith, fell, within))
+
+end_words-keeps : (count : ℕ) (notes : Notes) (many : ℕ) (words : Option (List ℕ)) → AreSound count notes → Keeps count (end_words notes many words)
+end_words-keeps count notes many None s = keeps_err count _ refl
+end_words-keeps count notes many (Some word) s = end_read-keeps count notes (time_of word) s (within_limit-limit (number_of word))
+
+other_words-keeps : (count : ℕ) (notes : Notes) (waiting : ℕ) (verb : List ℕ) (words : List (List ℕ)) → AreSound count notes → Keeps count (other_words notes waiting verb words)
+other_words-keeps count notes waiting verb words s =
+    keeps_if count (bytes_eq verb (codes "pulse")) _ _ (λ e. pulse_words-keeps count notes waiting (length words) (two_of words) s)
+    (λ e. keeps_if count (bytes_eq verb (codes "pull")) _ _ (λ e. pull_words-keeps count notes waiting (length words) (two_of words) s)
+    (λ e. keeps_if count (bytes_eq verb (codes "pin")) _ _ (λ e. pin_words-keeps count notes waiting (length words) (two_of words) s)
+    (λ e. keeps_if count (bytes_eq verb (codes "end")) _ _ (λ e. end_words-keeps count notes (length words) (one_of words) s) (λ e. keeps_err count _ refl))))
+
+words-keep : (tree : List Node) (notes : Notes) (waiting line : ℕ) (words : List (List ℕ)) (next : Notes) → AreSound (length tree) notes → IsWordsRead tree notes waiting line words (Ok next) → AreSound (length tree) next
+words-keep tree notes waiting line [] next s h = cc
+words-keep tree notes waiting line (verb ∷ words) next s h =
+    by_cond (bytes_eq verb (codes "at")) (IsEventRead tree notes line words (Ok next)) (Ok next ≡ other_words notes waiting verb words) (AreSound (length tree) next)
+    (λ p. event-keeps tree notes line words next s p)
+    (λ q. keeps_next (length tree) (other_words notes waiting verb words) next (other_words-keeps (length tree) notes waiting verb words s) (sym q)) h
+
+-- a line that is taken keeps it
+pub line-keeps : (tree : List Node) (notes : Notes) (waiting line : ℕ) (text : List ℕ) (next : Notes) → AreSound (length tree) notes → IsLineRead tree notes waiting line text (Ok next) → AreSound (length tree) next
+line-keeps tree notes waiting line text next s h =
+    by_cond (is_skipped text) (Ok next ≡ Ok notes) (IsWordsRead tree notes waiting line (words_of text) (Ok next)) (AreSound (length tree) next)
+    (λ p. keeps_next (length tree) (Ok notes) next (keeps_ok (length tree) notes s) (sym p))
+    (λ q. words-keep tree notes waiting line (words_of text) next s q) h
+
+-- pulls in order that begin early enough and are no wider than they may be
+timely : (pulses : List Stretch) → length pulses ≤ most_pulls → IsWave pulses → All IsNoWider pulses → All IsEarly pulses → AreTimely pulses
+timely pulses few order wide early = record {
+  few = few;
+  order = order;
+  ends = λ k p l. (let x = wide k p l in let y = early k p l in omega (arith, x, y));
+}
+
+-- the same as a test
+pub tested : (pulses : List Stretch) → length pulses ≤ most_pulls → IsWave pulses → All IsNoWider pulses → All IsEarly pulses → are_timely pulses ≡ true
+tested pulses few order wide early = (timely_tested pulses).1 (timely pulses few order wide early)
+
+-- what the lines keep at the end is a script
+sound_script : (count : ℕ) (notes : Notes) (line : ℕ) (course : Course) → AreSound count notes → length notes.pulses ≤ most_pulls → Ok course ≡ course_at_end notes line notes.end → IsScript count course
+sound_script count notes line course s few h =
+    let Is : Course → Type 0 = λ found. IsScript count found in
+    elim notes.end as (λ o. notes.end ≡ o → Ok course ≡ course_at_end notes line o → IsScript count course) [
+      | None ↦ λ e g. (cc)
+      | Some time ↦ λ e g. (
+          let r = s.ended time e in
+          let same : record { events = notes.events; pulses = notes.pulses; end = time } ≡ course = cc in
+          subst Is same (record { schedule = r.0; framed = s.framed; timely = timely notes.pulses few s.order s.wide s.early; wide = s.wide; early = s.early; limit = r.1 }))
+    ] refl h
+
+lines-sound : (tree : List Node) (texts : List (List ℕ)) (line : ℕ) (notes : Notes) (course : Course) → AreSound (length tree) notes → AreFew notes → AreLinesRead tree texts line notes (Ok course)
+    → IsScript (length tree) course
+lines-sound tree [] line notes course s few h = sound_script (length tree) notes line course s (omega (arith, few)) h
+lines-sound tree (text ∷ texts) line notes course s few h = step h.0 h.1 h.2 (λ next n room. lines-sound tree texts (line + 1) next course n room)
+  where
+    step : (r : Result Notes LineFault) → IsLineRead tree notes (length notes.pulses) line text r → Onward line r (λ next. AreLinesRead tree texts (line + 1) next (Ok course)) (Ok course)
+        → ((next : Notes) → AreSound (length tree) next → AreFew next → AreLinesRead tree texts (line + 1) next (Ok course) → IsScript (length tree) course) → IsScript (length tree) course
+    step (Ok next) l k on = on next (line-keeps tree notes (length notes.pulses) line text next s l) (few_pulses tree notes line text next l few) k
+    step (Err fault) l k on = cc
+
+pub scripts_are_sound : ScriptsAreSound
+scripts_are_sound tree text course h = lines-sound tree (lines_of text) 1 no_notes course (sound_start (length tree)) (omega arith) h

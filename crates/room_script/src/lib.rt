@@ -1,0 +1,24 @@
+//! The texts that a network is described by: frames, topologies and scripts.
+#![tactic(auto)]
+
+mod counting;
+mod course;
+mod fault;
+mod header;
+mod holding;
+mod keys;
+mod laws;
+mod pin;
+mod script;
+mod topology;
+
+pub use course::Script;
+pub use fault::LineFault;
+pub use laws::{keys_begin_with_their_words, one_script, scripts_are_sound};
+pub use message_table::WordSet;
+pub use message_text::{AssembleError, assemble, frame_text, write_frame};
+pub use script::{
+    ScriptCause, ScriptDraft, ScriptError, ScriptLineError, TimedEvent, error_at, parse_script,
+    take_line,
+};
+pub use topology::{Topology, TopologyCause, TopologyError, parse_topology};

@@ -1,0 +1,17 @@
+use Rattle.std.proofs.Common.{◌≡◌, length, drop}
+use Rattle.room_steps.specs.Ready.{IsReady, happened, point_of}
+use Rattle.room_steps.specs.Steps.{after_events}
+use Rattle.room_steps.proofs.Passing.{HearsOn}
+use Rattle.room_steps.proofs.position.Position.to_round.Given as goal
+
+-- what is passed and heard of from here on leads where it led from the start
+abbrev pub invariant-events : goal.invariant-events
+invariant-events g l = record {
+  point : after_events l.course.end (point_of l.course.events.items l.self) ≡ after_events l.course.end (point_of l.course.events.items l.fn.self);
+  rest : l.self.net.value.rest ≡ l.fn.self.net.value.rest;
+  ready : IsReady l.course.end (point_of l.course.events.items l.self);
+  heard : HearsOn g.R.Reporter.hears (happened l.course.end (point_of l.course.events.items l.fn.self)) l.fn.reporter l.reporter (happened l.course.end (point_of l.course.events.items l.self));
+}
+
+abbrev pub decreases-events : goal.decreases-events
+decreases-events g l = length (drop l.self.applied l.course.events.items)

@@ -1,0 +1,146 @@
+//! Extensions and data blocks at fault.
+use edid_cta::{BlockKind, DataBlock, Ext};
+use rules_check::Rule;
+use rules_contents::{
+    SORTS, Slip, Sort, count_of_sort, has_slip, is_override, some_other_revision, some_overrun,
+    some_unknown,
+};
+use rules_values::blocks_of;
+use std::alloc::{AllocError, Global};
+
+/// Whether one extension breaks a rule for extensions that are kept as they are.
+fn is_ill(rule: Rule, one: &[Ext]) -> bool {
+    match rule {
+        Rule::CtaForm => some_overrun(one),
+        Rule::CtaRevision => some_other_revision(one),
+        _ => some_unknown(one),
+    }
+}
+
+/// The first extension that breaks such a rule, from 1, and its first three bytes.
+pub fn extension_reported(
+    alloc: Global,
+    rule: Rule,
+    extensions: &[Ext],
+) -> Result<Option<String>, AllocError> {
+    let mut number = 0_u8;
+    for one in extensions.chunks(1) {
+        number = number.saturating_add(1);
+        if is_ill(rule, one) {
+            if let [Ext::Raw(raw)] = one {
+                let (tag, revision, place) = (raw.bytes[0], raw.bytes[1], raw.bytes[2]);
+                return Ok(Some(format!(in alloc;
+                    "extension {number} begins with {tag:02x} {revision:02x} {place:02x}"
+                )?));
+            }
+        }
+    }
+    Ok(None)
+}
+
+fn kind_word(kind: BlockKind) -> &'static str {
+    match kind {
+        BlockKind::Tag0 => "tag 0",
+        BlockKind::Audio => "audio",
+        BlockKind::Video => "video",
+        BlockKind::Vendor => "vendor",
+        BlockKind::Speakers => "speakers",
+        BlockKind::Tag5 => "tag 5",
+        BlockKind::Tag6 => "tag 6",
+        BlockKind::Extended => "extended",
+    }
+}
+
+/// What kind of block it is, and its bytes.
+pub fn bytes_reported(alloc: Global, block: &DataBlock) -> Result<String, AllocError> {
+    let kind = kind_word(block.kind);
+    let mut text = format!(in alloc; "{kind} ")?;
+    if block.payload.is_empty() {
+        text.push_str("-")?;
+    }
+    for byte in block.payload.as_slice() {
+        let digits = format!(in alloc; "{byte:02x}")?;
+        text.push_str(digits.as_str())?;
+    }
+    Ok(text)
+}
+
+/// The first data block in which this is wrong.
+pub fn slip_reported(
+    alloc: Global,
+    slip: Slip,
+    extensions: &[Ext],
+) -> Result<Option<String>, AllocError> {
+    for ext in extensions {
+        for block in blocks_of(ext) {
+            if has_slip(slip, block) {
+                return Ok(Some(bytes_reported(alloc, block)?));
+            }
+        }
+    }
+    Ok(None)
+}
+
+fn sort_word(sort: Sort) -> &'static str {
+    match sort {
+        Sort::VideoCapability => "video capability",
+        Sort::Colorimetry => "colorimetry",
+        Sort::HdrStatic => "static HDR",
+        Sort::Map => "4:2:0 map",
+        Sort::Speakers => "speakers",
+        Sort::Forum => "HDMI Forum",
+    }
+}
+
+/// The first sort of blocks of which an extension has more than one.
+pub fn repeated_block_reported(
+    alloc: Global,
+    extensions: &[Ext],
+) -> Result<Option<String>, AllocError> {
+    for ext in extensions {
+        for sort in &SORTS {
+            let count = count_of_sort(*sort, blocks_of(ext));
+            if 1 < count {
+                let name = sort_word(*sort);
+                return Ok(Some(format!(in alloc; "{count} blocks of {name}")?));
+            }
+        }
+    }
+    Ok(None)
+}
+
+/// Whether a place is that of the first data block of the first extension.
+fn is_first(number: u8, place: u8) -> bool {
+    number == 1 && place == 1
+}
+
+/// Where an override of the count of extensions stands that is not the first data block.
+pub fn override_reported(alloc: Global, extensions: &[Ext]) -> Result<Option<String>, AllocError> {
+    let mut number = 0_u8;
+    for ext in extensions {
+        number = number.saturating_add(1);
+        let mut place = 0_u8;
+        for block in blocks_of(ext) {
+            place = place.saturating_add(1);
+            if is_override(block) && !is_first(number, place) {
+                return Ok(Some(format!(in alloc; "data block {place} of extension {number}")?));
+            }
+        }
+    }
+    Ok(None)
+}
+
+/// The first data block, and the count of the base block.
+pub fn override_count_reported(
+    alloc: Global,
+    count: u8,
+    extensions: &[Ext],
+) -> Result<Option<String>, AllocError> {
+    for ext in extensions {
+        for block in blocks_of(ext) {
+            let bytes = bytes_reported(alloc, block)?;
+            return Ok(Some(format!(in alloc; "{bytes}, byte 126 is {count}")?));
+        }
+    }
+    Ok(None)
+}

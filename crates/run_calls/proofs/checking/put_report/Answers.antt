@@ -1,8 +1,0 @@
-use Rattle.run_calls.proofs.Refusals.{no_refusal, not_checked}
-use Rattle.run_calls.proofs.checking.put_report.Goals as goal
-
-pub returns-in-Ok-clause-refused : goal.returns-in-Ok-clause-refused
-returns-in-Ok-clause-refused c = λ more. absurd (no_refusal c.bytes.result.now c.args.room.now c.put.new.room c.put.result c.put.ensures more)
-
-pub returns-clause-done : goal.returns-clause-done
-returns-clause-done c = λ little. absurd (not_checked c.in-Err.error c.check_refused.result c.check_refused.ensures little)

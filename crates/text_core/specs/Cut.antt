@@ -1,0 +1,17 @@
+-- What has been written of a text, and how a fault reports it.
+use Rattle.std.specs.Prelude.{◌≡◌, ℕ, ◌<◌, min, Bool, true, List, length, take, Option, Result, Ok, Err}
+use Rattle.std.specs.Io.KnownBytes.{Appends}
+use Rattle.text_core.specs.declared.sink.WriteFault.{WriteFault}
+
+-- a count of bytes as a u128 reports it, which stays at its greatest value
+abbrev pub reported_count : ℕ → ℕ
+reported_count n = min n 340282366920938463463374607431768211455
+
+-- a fault cut the text off: its front was written, as long as the fault reports
+abbrev pub CutOff : Option (List ℕ) → Option (List ℕ) → List ℕ → WriteFault → Type 0
+CutOff old new text fault = (count : ℕ) × (count < length text) × (fault.count ≡ reported_count count) × Appends old new (take count text)
+
+-- a text was written whole, whose length is answered, or a fault cut it off and the sink is stuck
+abbrev pub WrittenText : Option (List ℕ) → Option (List ℕ) → Bool → Bool → List ℕ → Result ℕ WriteFault → Type 0
+WrittenText old new was is text (Ok n) = (n ≡ reported_count (length text)) × Appends old new text × (is ≡ was)
+WrittenText old new was is text (Err fault) = CutOff old new text fault × (is ≡ true)

@@ -1,0 +1,13 @@
+-- Hex numbers (own): two lower-case digits a byte. A reader takes any text, and what is no digit counts as some digit.
+use Rattle.std.specs.Prelude.{ℕ, ◌+◌, ◌*◌, List, [], ◌∷◌, slice_index}
+use Rattle.text_core.specs.Phys.{digit_value}
+
+-- the byte whose two hex digits stand at these places
+abbrev pub hex_at : List ℕ → ℕ → ℕ → ℕ
+hex_at text high low = digit_value (slice_index text high) * 16 + digit_value (slice_index text low)
+
+-- bytes, two hex digits each
+abbrev pub hex_bytes : List ℕ → List ℕ
+hex_bytes [] = []
+hex_bytes (x ∷ []) = []
+hex_bytes (x ∷ y ∷ more) = (digit_value x * 16 + digit_value y) ∷ hex_bytes more

@@ -1,5 +1,0 @@
-use Rattle.wire_calls.proofs.Puts.{edid_of}
-use Rattle.wire_calls.proofs.edids.edid_fault.Goals as goal
-
-pub returns-in-Ok-clause-found : goal.returns-in-Ok-clause-found
-returns-in-Ok-clause-found c = λ zero. edid_of c.in-Ok._base c.read_parts.new.extensions c.args.bytes.now c.in-Ok.ensures.found c.in-Ok.ensures.counted c.in-Ok.ensures.few
