@@ -1,2 +1,3 @@
 pub mod Forms
 pub mod Captures
+pub mod Format

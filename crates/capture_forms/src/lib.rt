@@ -1,10 +1,15 @@
-//! Captures of the line in any of the forms that are read: edge files, Value Change Dumps, files of pin events, comma-separated values.
+//! The line of the bus as a file, in any of the forms that are read and written: edge files, Value Change Dumps, files of pin
+//! events, comma-separated values.
 #![tactic(auto)]
 
 mod causes;
 mod form;
+mod format;
 mod reading;
+mod writing;
 
 pub use capture_core::{CaptureError, CaptureFault, Cause};
 pub use form::Form;
+pub use format::Format;
 pub use reading::read_capture;
+pub use writing::{add_end, add_round, add_start};

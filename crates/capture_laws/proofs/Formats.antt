@@ -19,12 +19,12 @@ use Rattle.capture_pin.proofs.ReadBack.{pin_files_are_read_back}
 use Rattle.capture_csv.specs.Csv as csv_in
 use Rattle.capture_csv.specs.Text as csv
 use Rattle.capture_csv.proofs.ReadBack.{csv_files_are_read_back}
-use Rattle.room_trace.specs.EdgeText.{stretch_lines}
+use Rattle.capture_monitor.specs.EdgeText.{stretch_lines}
 use Rattle.room_trace.specs.TraceText.{end_line}
 use Rattle.message_text.specs.ReadingText.{reading_line}
 use Rattle.capture_monitor.specs.EdgeFile.{file_of}
 use Rattle.capture_monitor.specs.Watch.{readings_text}
-use Rattle.room_line.specs.declared.format.Format.TheVariants.{Edges, Vcd, Pin, Csv}
+use Rattle.capture_forms.specs.declared.format.Format.TheVariants.{Edges, Vcd, Pin, Csv}
 use Rattle.room_run.specs.declared.run.Reporting.TheVariants.{Line}
 use Rattle.room_run.specs.Run.{start}
 use Rattle.room_run.specs.OneRun.{rounds_of_line, rounds_reported}

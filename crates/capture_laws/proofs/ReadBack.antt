@@ -9,7 +9,7 @@ use Rattle.line_wave.specs.Line.{covers, line_of, IsWaveFrom}
 use Rattle.line_wave.specs.Bounds.{latest_instant}
 use Rattle.line_reading.specs.Readings.{readings_of}
 use Rattle.text_core.specs.Lines.{lines_of}
-use Rattle.room_trace.specs.EdgeText.{edge_lines}
+use Rattle.capture_monitor.specs.EdgeText.{edge_lines}
 use Rattle.room_trace.specs.TraceText.{end_line}
 use Rattle.room_run.proofs.WholeLine as runs
 use Rattle.room_run.proofs.OneRun.{runs_close_soon, texts_have_one_run, traces_have_parts}
@@ -18,7 +18,7 @@ use Rattle.room_run.specs.Run.{start}
 use Rattle.room_net.specs.State.{first_net}
 use Rattle.std.specs.List.{flat_map}
 use Rattle.capture_core.specs.Edges.{edges_of}
-use Rattle.room_line.specs.declared.format.Format.TheVariants.{Edges}
+use Rattle.capture_forms.specs.declared.format.Format.TheVariants.{Edges}
 use Rattle.room_run.specs.declared.run.Reporting.TheVariants.{Line}
 use Rattle.room_script.specs.Script.{Course, IsScript}
 use Rattle.room_script.proofs.Sound.{scripts_are_sound}

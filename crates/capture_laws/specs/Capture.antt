@@ -11,10 +11,10 @@ use Rattle.room_net.specs.State.{NetState, first_net}
 use Rattle.room_script.specs.Script.{AreFramedEvents}
 use Rattle.room_script.specs.declared.script.TimedEvent.{TimedEvent}
 use Rattle.capture_core.specs.Edges.{edges_of}
-use Rattle.room_line.specs.declared.format.Format.TheVariants.{Edges}
+use Rattle.capture_forms.specs.declared.format.Format.TheVariants.{Edges}
 use Rattle.room_run.specs.declared.run.Reporting.TheVariants.{Trace, Line}
 use Rattle.room_run.specs.declared.run.Totals.{Totals}
-use Rattle.room_trace.specs.EdgeText.{edge_lines}
+use Rattle.capture_monitor.specs.EdgeText.{edge_lines}
 use Rattle.room_trace.specs.TraceText.{end_line}
 use Rattle.room_run.specs.Run.{start, start_reported, end_reported, IsRunText}
 use Rattle.room_run.specs.Emulate.{IsTraceOf, IsEdgeTraceOf}

@@ -15,9 +15,9 @@ use Rattle.capture_pin.specs.Pin as pin
 use Rattle.capture_csv.specs.Csv as csv
 use Rattle.capture_monitor.specs.EdgeFile.{file_of}
 use Rattle.capture_monitor.specs.Watch.{as_file, file_readings, readings_text}
-use Rattle.room_line.specs.Format.{line_text}
-use Rattle.room_line.specs.declared.format.Format.{Format}
-use Rattle.room_line.specs.declared.format.Format.TheVariants.{Edges, Vcd, Pin, Csv}
+use Rattle.capture_forms.specs.Format.{line_text}
+use Rattle.capture_forms.specs.declared.format.Format.{Format}
+use Rattle.capture_forms.specs.declared.format.Format.TheVariants.{Edges, Vcd, Pin, Csv}
 use Rattle.room_run.specs.declared.run.Reporting.TheVariants.{Line}
 use Rattle.room_run.specs.declared.run.Totals.{Totals}
 use Rattle.room_run.specs.Run.{start, IsRunText}

@@ -9,7 +9,7 @@ use Rattle.expect_text.specs.Form.Form.{Other, Rounds, State, Refused}
 use Rattle.expect_text.specs.declared.fault.LineFault.{LineFault}
 use Rattle.expect_text.specs.Faults.{first_fault}
 use Rattle.expect_text.specs.Names.{has_names}
-use Rattle.expect_holdings.specs.HeldTrace.{TextsHaveOneHeldTrace}
+use Rattle.room_run.specs.HeldTrace.{TextsHaveOneHeldTrace}
 use Rattle.room_run.specs.Emulate.{TextsHaveOneTrace}
 use Rattle.room_run.specs.declared.run.Totals.{Totals}
 use Rattle.expect_judge.specs.Told.{state_line}

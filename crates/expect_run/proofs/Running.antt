@@ -3,7 +3,7 @@ use Rattle.std.proofs.Common.{◌≡◌, ◌∙◌, Bool, true, false, List, ℕ
 use Rattle.std.specs.Io.KnownBytes.{Appends}
 use Rattle.expect_text.specs.Line.{plain_script}
 use Rattle.expect_text.specs.Names.{has_names}
-use Rattle.expect_holdings.specs.HeldTrace.{IsHeldTraceOf}
+use Rattle.room_run.specs.HeldTrace.{IsHeldTraceOf}
 use Rattle.room_run.specs.Emulate.{IsTraceOf}
 use Rattle.room_run.specs.declared.emulate.EmulateError.{EmulateError}
 use Rattle.room_run.specs.declared.run.Totals.{Totals}

@@ -5,7 +5,7 @@ use Rattle.text_core.specs.Lines.{lines_of}
 use Rattle.expect_text.specs.Line.{plain_script}
 use Rattle.expect_text.specs.Faults.{first_fault}
 use Rattle.expect_text.specs.Names.{has_names}
-use Rattle.expect_holdings.specs.HeldTrace.{IsHeldTraceOf}
+use Rattle.room_run.specs.HeldTrace.{IsHeldTraceOf}
 use Rattle.room_run.specs.Emulate.{IsTraceOf, IsReported}
 use Rattle.room_run.specs.declared.run.Totals.{Totals}
 use Rattle.expect_run.specs.States.{AreStates}

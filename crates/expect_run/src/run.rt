@@ -7,10 +7,9 @@ ghost use Rattle.expect_run.specs.Check.{IsTraceFor};
 ghost use Rattle.expect_run.specs.States.{IsTraced};
 
 use crate::plain::PlainLines;
-use expect_holdings::emulate_held;
 use expect_text::has_names;
 use room_run::emulate::{EmulateError, emulate_from};
-use room_run::{Totals, texts_have_traces};
+use room_run::{Totals, emulate_held, texts_have_traces};
 use std::alloc::Global;
 use text_core::Sink;
 

@@ -13,8 +13,8 @@ use Rattle.room_script.proofs.Sound.{scripts_are_sound}
 use Rattle.room_run.specs.declared.run.Totals.{Totals}
 use Rattle.room_run.specs.Emulate.{IsTraceOf}
 use Rattle.room_run.proofs.Accepted.{one_plan}
-use Rattle.live_certain.specs.Causal.{AgreeBefore}
-use Rattle.live_certain.proofs.Causality.{traces_are_causal}
+use Rattle.room_run.specs.Causal.{AgreeBefore}
+use Rattle.room_run.proofs.Causality.{traces_are_causal}
 use Rattle.expect_text.specs.Line.{cut_script}
 use Rattle.expect_run.specs.Cuts.{IsCut, is_early}
 use Rattle.expect_run.proofs.Cuts.{cuts_are_read}

@@ -10,8 +10,8 @@ use Rattle.room_run.specs.declared.run.Reporting.TheVariants.{Trace}
 use Rattle.room_run.specs.declared.run.Totals.{Totals}
 use Rattle.room_run.specs.Run.{Config, start}
 use Rattle.room_run.specs.Emulate.{IsTraceOf}
-use Rattle.live_certain.specs.Certain.{AllBefore}
-use Rattle.live_certain.specs.Causal.{BeginsWith, before_reported}
+use Rattle.room_run.specs.Certain.{AllBefore}
+use Rattle.room_run.specs.Causal.{BeginsWith, before_reported}
 use Rattle.expect_text.specs.Line.{cut_script}
 use Rattle.expect_judge.specs.Told.{state_line as line_read}
 use Rattle.expect_run.specs.Cuts.{IsCut, is_early}

@@ -5,8 +5,6 @@
 #[cfg(test)]
 mod answers;
 #[cfg(test)]
-mod edid_texts;
-#[cfg(test)]
 mod edids;
 #[cfg(test)]
 mod fates;
@@ -28,3 +26,5 @@ mod samples;
 mod senders;
 #[cfg(test)]
 mod states;
+#[cfg(test)]
+mod texts;

@@ -7,5 +7,5 @@ pub use Rattle.room_net.proofs.Framed.{framed-applied, framed-round, framed-star
 pub use Rattle.room_net.proofs.Lines.{begun}
 pub use Rattle.room_run.proofs.Advance.{event_keeps, round_begins}
 pub use Rattle.room_run.proofs.Turns.{no_turn, same_outcome}
-pub use Rattle.live_certain.proofs.Before.{NoTurn, all_on, held_ends, one_turn}
-pub use Rattle.live_certain.proofs.Certainty.{is_late, reported_is_front, round_more, round_same, turns_are_certain, turns_stay_certain}
+pub use Rattle.room_run.proofs.Before.{NoTurn, all_on, held_ends, one_turn}
+pub use Rattle.room_run.proofs.Certainty.{is_late, reported_is_front, round_more, round_same, turns_are_certain, turns_stay_certain}

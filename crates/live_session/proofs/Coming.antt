@@ -28,7 +28,7 @@ use Rattle.room_run.specs.declared.run.Turn.{Turn}
 use Rattle.room_run.specs.declared.run.Turn.TheVariants.{Stop, Apply, Round}
 use Rattle.room_run.specs.Run.{Config, event_turn, first_time, is_by, round_turn, turn_at, turn_of, IsEventTurn, IsTurn, IsTurnBy}
 use Rattle.room_run.specs.RunLine.{rounds_by}
-use Rattle.live_certain.specs.Certain.{ComesFrom, IsHeld, IsHeldBy, IsOverBy, LeadsBy, with_more, with_pulses}
+use Rattle.room_run.specs.Certain.{ComesFrom, IsHeld, IsHeldBy, IsOverBy, LeadsBy, with_more, with_pulses}
 use Rattle.live_session.specs.declared.edges.Span.{Span}
 use Rattle.live_session.specs.Edges.{edges_reported, pinned, pinned_by}
 use Rattle.live_session.specs.Turns.{AreEdgesOf, LeadsWith, MayCome, certain_until}

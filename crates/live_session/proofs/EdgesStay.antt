@@ -6,7 +6,7 @@ use Rattle.line_wave.specs.Line.{line_of}
 use Rattle.line_reading.specs.Reading.{reading_of}
 use Rattle.line_rounds.specs.Round.{IsRoundLine}
 use Rattle.room_net.specs.Step.{seats_of}
-use Rattle.live_certain.specs.Certain.{ComesFrom}
+use Rattle.room_run.specs.Certain.{ComesFrom}
 use Rattle.live_session.specs.Edges.{pinned}
 use Rattle.live_session.specs.Turns.{certain_until}
 use Rattle.live_session.specs.EdgesStay.{EdgesStay, PinnedEdgesStay}

@@ -19,7 +19,7 @@ use Rattle.room_run.specs.Happening.{Happening, Happens, HappensBy, text_of}
 use Rattle.room_run.specs.Heard.{Hears}
 use Rattle.room_run.proofs.Running.{hears_more}
 use Rattle.room_run.proofs.Whole.{heard_text, trace_by}
-use Rattle.live_certain.specs.Certain.{LeadsIf, IsHeldBy}
+use Rattle.room_run.specs.Certain.{LeadsIf, IsHeldBy}
 use Rattle.live_session.specs.declared.edges.Span.{Span}
 use Rattle.live_session.specs.Edges.{edges_reported, pinned_by}
 use Rattle.live_session.specs.Session.{Session, span_of}

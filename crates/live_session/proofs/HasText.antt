@@ -23,7 +23,7 @@ use Rattle.room_run.specs.declared.run.Reporting.TheVariants.{Trace}
 use Rattle.room_run.specs.declared.run.Turn.{Turn}
 use Rattle.room_run.specs.declared.run.Turn.TheVariants.{Stop, Apply, Round}
 use Rattle.room_run.specs.Run.{Config, turn_at, turn_of, first_time, round_turn, counted_event, counted_round, event_text, round_reported, IsEventTurn, IsTurnBy}
-use Rattle.live_certain.specs.Certain.{IsHeldBy}
+use Rattle.room_run.specs.Certain.{IsHeldBy}
 use Rattle.live_session.specs.declared.edges.Span.{Span}
 use Rattle.live_session.specs.Edges.{edges_reported, pinned_by}
 use Rattle.live_session.specs.Turns.{AreAhead, AreEdgesOf, GoesWith, HasEdges, IsReported}

@@ -8,7 +8,7 @@ use Rattle.room_script.specs.Script.{Notes, IsLineRead}
 use Rattle.room_script.specs.declared.script.TimedEvent.{TimedEvent}
 use Rattle.room_script.specs.declared.fault.LineFault.{LineFault}
 use Rattle.room_script.proofs.Sound.{AreSound, line-keeps}
-use Rattle.live_certain.specs.Certain.{with_pulses}
+use Rattle.room_run.specs.Certain.{with_pulses}
 use Rattle.live_session.specs.declared.answer.RefusalCause.TheVariants.{Past}
 use Rattle.live_session.specs.declared.live.Step.TheVariants.{Go, Finish}
 use Rattle.live_session.specs.Note.{Extends, IsSettled}

@@ -18,7 +18,7 @@ use Rattle.room_script.specs.declared.script.ScriptCause.TheVariants.{Name, Numb
 use Rattle.room_script.specs.declared.script.TimedEvent.{TimedEvent}
 use Rattle.room_script.specs.declared.fault.LineFault.{LineFault}
 use Rattle.room_run.specs.declared.run.Reporting.TheVariants.{Trace, Line}
-use Rattle.room_line.specs.declared.format.Format.TheVariants.{Edges}
+use Rattle.capture_forms.specs.declared.format.Format.TheVariants.{Edges}
 use Rattle.room_run.specs.declared.run.Totals.{Totals}
 use Rattle.room_run.specs.declared.run.Turn.{Turn}
 use Rattle.room_run.specs.declared.run.Turn.TheVariants.{Stop}
@@ -26,8 +26,8 @@ use Rattle.room_run.specs.Run.{Config, start, turn_at, IsRunText}
 use Rattle.room_run.specs.RunLine.{EdgesAreTheLine, rounds_in}
 use Rattle.room_run.specs.OneRun.{OneRun}
 use Rattle.room_run.specs.HasRun.{RunsHaveTexts}
-use Rattle.live_certain.specs.Certain.{ComesFrom, IsOverBy, LeadsIf, with_more}
-use Rattle.room_trace.specs.EdgeText.{edge_lines}
+use Rattle.room_run.specs.Certain.{ComesFrom, IsOverBy, LeadsIf, with_more}
+use Rattle.capture_monitor.specs.EdgeText.{edge_lines}
 use Rattle.room_trace.specs.TraceText.{end_line}
 use Rattle.live_session.specs.declared.answer.RefusalCause.{RefusalCause}
 use Rattle.live_session.specs.declared.answer.RefusalCause.TheVariants.{Script, Past}

@@ -15,7 +15,7 @@ pub use Rattle.room_script.proofs.Sound.{AreSound, line-keeps, sound_start}
 use Rattle.room_run.specs.declared.run.Reporting.TheVariants.{Trace}
 use Rattle.room_run.specs.declared.run.Turn.{Turn}
 use Rattle.room_run.specs.Run.{Config, start, start_reported, end_reported, Leads, IsRunText, IsRunTextFrom}
-use Rattle.live_certain.specs.Certain.{ComesFrom, LeadsIf, LeadsBy, with_more}
+use Rattle.room_run.specs.Certain.{ComesFrom, LeadsIf, LeadsBy, with_more}
 use Rattle.room_script.specs.declared.script.ScriptCause.TheVariants.{Number}
 use Rattle.live_session.specs.declared.answer.RefusalCause.TheVariants.{Script, Past}
 use Rattle.live_session.specs.declared.command.Command.{Command}

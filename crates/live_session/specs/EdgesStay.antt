@@ -10,7 +10,7 @@ use Rattle.room_net.specs.Step.{IsNextRound}
 use Rattle.room_script.specs.declared.script.TimedEvent.{TimedEvent}
 use Rattle.room_run.specs.declared.run.Turn.TheVariants.{Round}
 use Rattle.room_run.specs.Run.{Config, turn_at}
-use Rattle.live_certain.specs.Certain.{ComesFrom, with_more, with_pulses}
+use Rattle.room_run.specs.Certain.{ComesFrom, with_more, with_pulses}
 use Rattle.live_session.specs.declared.edges.Span.{Span}
 use Rattle.live_session.specs.Edges.{edges_reported}
 use Rattle.live_session.specs.Turns.{HasEdges, MayCome, certain_until}

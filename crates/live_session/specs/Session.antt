@@ -22,7 +22,7 @@ use Rattle.room_run.specs.declared.run.Reporting.TheVariants.{Trace}
 use Rattle.room_run.specs.declared.run.Turn.{Turn}
 use Rattle.room_run.specs.declared.run.Turn.TheVariants.{Stop, Apply, Round}
 use Rattle.room_run.specs.Run.{Config, start, turn_at, end_reported}
-use Rattle.live_certain.specs.Certain.{with_pulses}
+use Rattle.room_run.specs.Certain.{with_pulses}
 use Rattle.live_session.specs.declared.command.Command.{Command}
 use Rattle.live_session.specs.declared.command.Command.TheVariants as commands
 use Rattle.live_session.specs.declared.answer.Refusal.{Refusal}

@@ -15,7 +15,7 @@ use Rattle.room_run.specs.declared.run.Turn.TheVariants.{Stop, Apply, Round}
 use Rattle.room_run.specs.Run.{Config, turn_at, IsTurn}
 use Rattle.room_run.specs.Happening.{Happening, OfEvent, OfRound, Happens, text_of}
 use Rattle.room_run.specs.Heard.{Hears}
-use Rattle.live_certain.specs.Certain.{ComesFrom, IsOverBy, LeadsIf, IsHeld, IsHeldBy}
+use Rattle.room_run.specs.Certain.{ComesFrom, IsOverBy, LeadsIf, IsHeld, IsHeldBy}
 use Rattle.live_session.specs.declared.edges.Span.{Span}
 use Rattle.live_session.specs.Edges.{edges_reported, pinned_by}
 

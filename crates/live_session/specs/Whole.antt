@@ -12,7 +12,7 @@ use Rattle.room_run.specs.declared.run.Reporting.TheVariants.{Trace}
 use Rattle.room_run.specs.declared.run.Totals.{Totals}
 use Rattle.room_run.specs.Run.{start, end_reported, IsRunText}
 use Rattle.room_run.specs.Emulate.{IsTraceOf}
-use Rattle.live_certain.specs.Causal.{BeginsWith, before_reported}
+use Rattle.room_run.specs.Causal.{BeginsWith, before_reported}
 use Rattle.live_session.specs.declared.command.Command.{Command}
 use Rattle.live_session.specs.declared.command.Command.TheVariants as commands
 use Rattle.live_session.specs.declared.live.Step.{Step}

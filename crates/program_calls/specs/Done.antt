@@ -10,8 +10,8 @@ use Rattle.room_driven.specs.declared.wires.Wires.{Wires}
 use Rattle.room_driven.specs.declared.wires.Wires.TheVariants as wires
 use Rattle.json_trace.specs.Object.{AreObjects}
 use Rattle.message_lay.specs.Text.{AreLinesRead, no_notes, pull_line}
-use Rattle.room_line.specs.declared.format.Format.{Format}
-use Rattle.room_line.specs.declared.format.Format.TheVariants as formats
+use Rattle.capture_forms.specs.declared.format.Format.{Format}
+use Rattle.capture_forms.specs.declared.format.Format.TheVariants as formats
 use Rattle.message_meaning.specs.Lines.{meant_text}
 use Rattle.json_report.specs.Object.{AreReportObjects}
 use Rattle.json_report.specs.declared.object.Report.{Report as ReportKind}

@@ -3,6 +3,7 @@ ghost use Rattle.std.specs.Prelude.{◌≡◌, true, [], OnOk};
 ghost use Rattle.program_calls.specs.Done.{Writes, WritesDrives, WritesLine};
 
 use crate::told::Told;
+use capture_forms::Format;
 use cli_words::{Choice, Listing, Objects};
 use json_room::RoomLines;
 use json_run::emulate_objects;
@@ -10,7 +11,6 @@ use json_trace::PlainLines;
 use program_faults::ProgramFault;
 use program_faults::parts::parts;
 use room_driven::{Wires, emulate_drives};
-use room_line::Format;
 use room_run::Totals;
 use room_run::emulate::emulate;
 use room_run::line::emulate_line;

@@ -17,7 +17,7 @@ use Rattle.edid_core.specs.declared.edid.Edid.{Edid}
 use Rattle.edid_core.proofs.OneEdid.{one_edid}
 use Rattle.edid_core.specs.Root.{IsRoot}
 use Rattle.room_run.specs.declared.run.Reporting.{Reporting}
-use Rattle.room_line.specs.declared.format.Format.{Format}
+use Rattle.capture_forms.specs.declared.format.Format.{Format}
 use Rattle.room_run.specs.declared.run.Reporting.TheVariants.{Trace, Line}
 use Rattle.room_run.specs.Run.{start, IsTrace, IsRunText}
 use Rattle.room_run.specs.Emulate.{IsAccepted, IsTraceOf, IsLineOf, TextsHaveOneTrace, TextsHaveOneLine}

@@ -14,7 +14,7 @@ use Rattle.room_event.specs.declared.event.EventError.{EventError}
 use Rattle.room_net.specs.State.{NetState}
 use Rattle.room_trace.specs.PortText.{port_lines}
 use Rattle.room_trace.specs.TraceText.{event_line, round_line}
-use Rattle.room_line.specs.declared.format.Format.{Format}
+use Rattle.capture_forms.specs.declared.format.Format.{Format}
 use Rattle.room_run.specs.declared.run.Totals.{Totals}
 use Rattle.room_run.specs.declared.run.Reporting.{Reporting}
 use Rattle.room_run.specs.declared.run.Reporting.TheVariants.{Line, Trace}

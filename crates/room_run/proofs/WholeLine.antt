@@ -7,13 +7,13 @@ use Rattle.line_rounds.specs.declared.Outcome.{Outcome}
 use Rattle.room_net.specs.Line.{run_wave}
 use Rattle.room_net.specs.State.{first_net}
 use Rattle.room_script.specs.declared.script.TimedEvent.{TimedEvent}
-use Rattle.room_line.specs.Format.{line_start, line_round, line_end}
-use Rattle.room_line.specs.declared.format.Format.{Format}
-use Rattle.room_line.specs.declared.format.Format.TheVariants.{Edges}
+use Rattle.capture_forms.specs.Format.{line_start, line_round, line_end}
+use Rattle.capture_forms.specs.declared.format.Format.{Format}
+use Rattle.capture_forms.specs.declared.format.Format.TheVariants.{Edges}
 use Rattle.room_run.specs.declared.run.Reporting.TheVariants.{Line}
 use Rattle.room_run.specs.declared.run.Turn.{Turn}
 use Rattle.room_run.specs.declared.run.Turn.TheVariants.{Stop, Apply, Round}
-use Rattle.room_trace.specs.EdgeText.{stretch_lines, edge_lines}
+use Rattle.capture_monitor.specs.EdgeText.{stretch_lines, edge_lines}
 use Rattle.room_trace.specs.TraceText.{end_line}
 use Rattle.room_run.specs.Run.{Config, start, turn_at, IsEventTurn, IsTurnBy, Leads}
 use Rattle.room_run.specs.RunLine.{rounds_by, rounds_in, EdgesAreTheLine, LinesAreOfTheRounds}

@@ -16,8 +16,8 @@ use Rattle.text_core.specs.Cut.{reported_count}
 use Rattle.edid_core.specs.Root.{IsRoot, IsNoRoot}
 use Rattle.edid_core.specs.declared.root.RootError.{RootError}
 use Rattle.edid_core.specs.declared.root.RootError.TheVariants as roots
-use Rattle.room_line.specs.declared.format.Format.{Format}
-use Rattle.room_line.specs.declared.format.Format.TheVariants.{Edges}
+use Rattle.capture_forms.specs.declared.format.Format.{Format}
+use Rattle.capture_forms.specs.declared.format.Format.TheVariants.{Edges}
 use Rattle.room_run.specs.declared.run.Reporting.TheVariants.{Line}
 use Rattle.room_run.specs.Run.{start, IsRunText, IsTrace}
 

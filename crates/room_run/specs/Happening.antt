@@ -9,8 +9,8 @@ use Rattle.room_net.specs.State.{NetState}
 use Rattle.room_net.specs.Apply.{net_after, event_fault}
 use Rattle.room_net.specs.Step.{IsNextRound}
 use Rattle.message_text.specs.ReadingText.{is_complete}
-use Rattle.room_line.specs.Format.{line_round}
-use Rattle.room_line.specs.declared.format.Format.{Format}
+use Rattle.capture_forms.specs.Format.{line_round}
+use Rattle.capture_forms.specs.declared.format.Format.{Format}
 use Rattle.room_trace.specs.TraceText.{round_line}
 use Rattle.room_run.specs.declared.run.Turn.{Turn}
 use Rattle.room_run.specs.declared.run.Turn.TheVariants.{Stop, Apply, Round}

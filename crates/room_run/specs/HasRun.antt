@@ -12,7 +12,7 @@ use Rattle.edid_core.specs.Root.{IsRoot}
 use Rattle.room_run.specs.declared.run.Reporting.{Reporting}
 use Rattle.room_run.specs.declared.run.Totals.{Totals}
 use Rattle.room_run.specs.Run.{start, IsRunText}
-use Rattle.room_line.specs.declared.format.Format.{Format}
+use Rattle.capture_forms.specs.declared.format.Format.{Format}
 use Rattle.room_run.specs.Emulate.{IsAccepted, IsTraceOf, IsLineOf}
 
 -- whatever is told of it, and whatever pulls in order there are: it stops, and each of its rounds has an outcome

@@ -5,3 +5,7 @@ pub mod Emulate
 pub mod RunLine
 pub mod OneRun
 pub mod HasRun
+pub mod Holdings
+pub mod HeldTrace
+pub mod Certain
+pub mod Causal

@@ -12,7 +12,7 @@ use Rattle.edid_core.specs.declared.edid.Edid.{Edid}
 use Rattle.message_text.specs.ReadingText.{reading_text}
 use Rattle.room_trace.specs.TraceText.{comma_list, name_at, loser_text}
 use Rattle.room_run.specs.declared.run.Reporting.{Reporting}
-use Rattle.room_line.specs.declared.format.Format.{Format}
+use Rattle.capture_forms.specs.declared.format.Format.{Format}
 use Rattle.room_run.specs.declared.run.Reporting.TheVariants.{Trace, Line}
 use Rattle.room_run.specs.declared.run.Totals.{Totals}
 use Rattle.room_run.specs.Run.{Config, start, start_reported, end_reported, event_text, Leads, IsRunText, IsTrace}

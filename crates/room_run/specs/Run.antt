@@ -21,7 +21,7 @@ use Rattle.room_trace.specs.PortText.{port_lines}
 use Rattle.device_core.specs.State.{State}
 use Rattle.message_text.specs.ReadingText.{is_complete}
 use Rattle.room_trace.specs.TraceText.{event_line, round_line, end_line}
-use Rattle.room_line.specs.Format.{line_start, line_round, line_end}
+use Rattle.capture_forms.specs.Format.{line_start, line_round, line_end}
 use Rattle.edid_core.specs.Root.{HasAddress}
 
 -- where a run stands: the network, the events that are left, and what is counted so far

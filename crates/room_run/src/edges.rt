@@ -6,7 +6,7 @@ ghost use Rattle.room_run.specs.Emulate.{IsEdgeTraceOf, IsReported, IsEdgeCut, i
 use crate::emulate::EmulateError;
 use crate::line::emulate_line;
 use crate::run::Totals;
-use room_line::Format;
+use capture_forms::Format;
 use std::alloc::Global;
 use text_core::Sink;
 

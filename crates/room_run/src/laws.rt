@@ -4,6 +4,12 @@ ghost use Rattle.room_run.specs.RunLine.{EdgesAreTheLine, LinesAreOfTheRounds, R
 ghost use Rattle.room_run.specs.Emulate.{TextsHaveOneLine, TextsHaveOneTrace};
 ghost use Rattle.room_run.specs.HasRun.{RunsHaveTexts, TextsHaveTraces};
 ghost use Rattle.room_run.specs.OneRun.{OneRun, RunsCloseSoon, TextsHaveOneRun, TracesHaveParts};
+ghost use Rattle.room_run.specs.Certain.{AllBeforeIsOne, ReportedIsFront, TurnsAreCertain, TurnsStayCertain};
+ghost use Rattle.room_run.specs.Causal.{RunsAreCausal, TracesAreCausal};
+ghost use Rattle.room_run.specs.HeldTrace.{TextsHaveOneHeldTrace};
+
+use line_rounds::one_outcome;
+use room_script::one_script;
 
 /// A run has one trace, and one count of its rounds and refused events.
 pub fn one_trace()
@@ -82,4 +88,44 @@ pub fn texts_have_traces()
 /// what the end reports.
 pub fn traces_have_parts()
     ensures { TracesHaveParts }
+{}
+
+/// The texts of a topology and a script have one trace with who holds which logical address.
+pub fn texts_have_one_held_trace()
+    ensures { TextsHaveOneHeldTrace }
+{
+    // No effect at run time. The proof reads these laws.
+    one_outcome();
+    one_script();
+}
+
+/// Turns that are over before an instant are turns of each run that may still come, whatever comes for that instant or
+/// later.
+pub fn turns_are_certain()
+    ensures { TurnsAreCertain }
+{}
+
+/// They are over before each later instant too, with whatever has come by then.
+pub fn turns_stay_certain()
+    ensures { TurnsStayCertain }
+{}
+
+/// What they report is the front of what each such run reports in the end.
+pub fn reported_is_front()
+    ensures { ReportedIsFront }
+{}
+
+/// All turns that are over before an instant tell one text, and lead to one place.
+pub fn all_before_is_one()
+    ensures { AllBeforeIsOne }
+{}
+
+/// Runs that know the same before an instant begin with one text, that of all turns that are over before it.
+pub fn runs_are_causal()
+    ensures { RunsAreCausal }
+{}
+
+/// What the trace of a topology and a script has before an instant depends on what the script says before that instant alone.
+pub fn traces_are_causal()
+    ensures { TracesAreCausal }
 {}

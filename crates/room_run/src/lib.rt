@@ -3,6 +3,9 @@
 
 pub mod edges;
 pub mod emulate;
+mod emulate_held;
+mod held_line;
+mod held_text;
 mod laws;
 pub mod line;
 mod line_text;
@@ -13,10 +16,13 @@ mod trace_text;
 mod turn;
 mod turn_by_turn;
 
+pub use emulate_held::emulate_held;
 pub use laws::{
-    edges_are_the_line, lines_are_of_the_rounds, one_run, one_run_text, one_trace, runs_are_read,
-    runs_are_short, runs_close_soon, runs_have_texts, texts_have_one_line, texts_have_one_run,
-    texts_have_one_trace, texts_have_traces, traces_have_parts,
+    all_before_is_one, edges_are_the_line, lines_are_of_the_rounds, one_run, one_run_text,
+    one_trace, reported_is_front, runs_are_causal, runs_are_read, runs_are_short, runs_close_soon,
+    runs_have_texts, texts_have_one_held_trace, texts_have_one_line, texts_have_one_run,
+    texts_have_one_trace, texts_have_traces, traces_are_causal, traces_have_parts,
+    turns_are_certain, turns_stay_certain,
 };
 pub use reporter::Reporter;
 pub use run::{Totals, Turn, first_time, next_turn, told};

@@ -6,8 +6,8 @@ ghost use Rattle.room_run.specs.Emulate.{IsLineOf, IsReported, IsLineCut, is_wri
 
 use crate::emulate::EmulateError;
 use crate::run::{Reporting, Totals, run, started_net};
+use capture_forms::Format;
 use edid_core::root_on_heap;
-use room_line::Format;
 use room_script::{parse_script, parse_topology};
 use std::alloc::{AllocError, Global};
 use text_core::Sink;

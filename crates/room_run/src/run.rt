@@ -11,11 +11,11 @@ ghost use Rattle.room_run.specs.Run.{HasAddressReported, IsRunText, event_turn, 
 
 use crate::line_text::write_line;
 use crate::trace_text::write_trace;
+use capture_forms::Format;
 use edid_core::Edid;
 use edid_tree::Tree;
 use line_rounds::Wire;
 use line_wire::EdgeWire;
-use room_line::Format;
 use room_net::Net;
 use room_script::{Script, TimedEvent};
 use std::alloc::{AllocError, Global};

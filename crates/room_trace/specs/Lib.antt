@@ -1,4 +1,3 @@
 pub mod StateText
 pub mod TraceText
 pub mod PortText
-pub mod EdgeText

@@ -1,7 +1,6 @@
-//! The lines of a trace and of an edge file: rounds, events, ports, the states of devices, falls and rises.
+//! The lines of a trace: rounds, events, ports, the states of devices.
 #![tactic(auto)]
 
-mod edge_text;
 mod last_lines;
 mod line;
 mod port_text;
@@ -9,7 +8,6 @@ mod round_text;
 mod state_text;
 mod trace_text;
 
-pub use edge_text::add_edges;
 pub use last_lines::{add_last_lines, add_states};
 pub use port_text::{add_new_ports, on_wire, write_ports};
 pub use round_text::add_round;

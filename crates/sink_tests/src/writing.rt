@@ -1,11 +1,11 @@
 //! Each call over writers that take few bytes a call, and that fail.
 use crate::rows::{ROWS, Row};
+use capture_forms::Format;
 use capture_monitor::watch;
 use conversion_calls::{edid_to_text, text_to_hex};
 use edid_texts::{edid_from_bytes, write_text};
 use line_frames::Frame;
 use message_text::{asm_lines, write_frame};
-use room_line::Format;
 use room_run::edges::emulate_edges;
 use room_run::emulate::emulate;
 use room_run::line::emulate_line;

@@ -34,7 +34,7 @@ use Rattle.capture_laws.specs.Formats.{IsReadAs}
 use Rattle.capture_laws.proofs.Formats.{is_capture, lines_are_read_back}
 use Rattle.capture_laws.proofs.ReadBack.{same_line}
 use Rattle.capture_laws.specs.Formats.{IsReadText}
-use Rattle.room_line.specs.declared.format.Format.{Format}
+use Rattle.capture_forms.specs.declared.format.Format.{Format}
 use Rattle.line_wave.specs.Bounds.{latest_event}
 use Rattle.line_wave.specs.declared.Edge.{Edge}
 use Rattle.timing_laws.specs.Attempts.{AreOfSix, RunsGiveUp}

@@ -1,7 +1,7 @@
 use Rattle.std.proofs.Common.{rules, ◌≡◌, ◌∙◌, ℕ, max, ap, subst}
 use Rattle.std.specs.List.{flat_map}
 use Rattle.text_core.specs.Adds.{Adds}
-use Rattle.room_line.specs.Format.{line_end}
+use Rattle.capture_forms.specs.Format.{line_end}
 use Rattle.room_net.specs.State.{NetState}
 use Rattle.room_run.specs.declared.run.Reporting.TheVariants.{Line}
 use Rattle.room_run.specs.Run.{start, start_reported, end_reported, IsRunText}

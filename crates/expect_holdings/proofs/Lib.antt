@@ -1,2 +1,0 @@
-pub mod OneHeld
-pub mod Written

@@ -1,3 +1,0 @@
-pub mod Certainty
-pub mod Before
-pub mod Causality

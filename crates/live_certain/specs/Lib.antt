@@ -1,2 +1,0 @@
-pub mod Certain
-pub mod Causal

@@ -1,0 +1,5 @@
+use Rattle.room_run.proofs.Certainty as Certainty
+use Rattle.room_run.proofs.laws.turns_stay_certain.Goals as goal
+
+pub returns : goal.returns
+returns c = Certainty.turns_stay_certain

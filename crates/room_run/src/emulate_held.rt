@@ -1,0 +1,59 @@
+//! From the texts of a topology and a script to the trace with who holds what.
+ghost use Rattle.std.specs.Prelude.{◌≡◌, ℕ, List, IfErr, IfOk};
+ghost use Rattle.std.specs.Io.KnownBytes.{Appends};
+ghost use Rattle.std.specs.Option.{option_map};
+ghost use Rattle.room_run.specs.Emulate.{IsReported};
+ghost use Rattle.room_run.specs.HeldTrace.{IsHeldTraceOf};
+
+use crate::held_text::write_held_trace;
+use edid_core::{Edid, root_on_heap};
+use room_net::Net;
+use room_run::emulate::EmulateError;
+use room_run::{ScriptSource, Totals};
+use room_script::parse_topology;
+use std::alloc::{AllocError, Global};
+use text_core::Sink;
+
+// The EDID that ports pass on, or that there is none, on the heap: it is large.
+#[inline(never)]
+fn edid_on_heap(alloc: Global, edid: Option<Box<Edid>>) -> Result<Box<Option<Edid>>, AllocError>
+    ensures { IfOk result (λ boxed. boxed.value ≡ option_map (λ b. b.value) edid) }
+{
+    let boxed = match edid {
+        None => Box::new(alloc, None)?,
+        Some(edid) => Box::new(alloc, Some(Box::into_inner(edid)))?,
+    };
+    Ok(boxed)
+}
+
+/// Runs the script that a source has on a topology, and writes the trace of the run, in which the line of each round ends with who
+/// holds which logical address when it begins.
+///
+/// # Errors
+///
+/// Those of [`emulate`](room_run::emulate::emulate), in the same order.
+// The network is large: where this stood inside its caller, the caller's frame would hold one for each kind of run.
+#[inline(never)]
+pub fn emulate_held<T: ScriptSource, S: Sink>(
+    alloc: Global,
+    topology: &[u8],
+    script: &T,
+    out: &mut S,
+) -> Result<Totals, EmulateError>
+    ensures ok { IfOk result (λ totals. (text : List ℕ) × IsHeldTraceOf topology.now (T.text script.now) text totals × Appends (S.contents out.old) (S.contents out.new) text) }
+    ensures reported { IfErr result (IsReported topology.now (T.text script.now)) }
+{
+    let topology = parse_topology(alloc, topology)?;
+    let script = script.parse(alloc, &topology)?;
+    let edid = root_on_heap(alloc, &topology.edid)?;
+    let Ok(edid) = edid_on_heap(alloc, edid) else {
+        return Err(EmulateError::Memory);
+    };
+    let Ok(mut net) = Net::on_heap(alloc, topology.tree, &script.pulses) else {
+        return Err(EmulateError::Memory);
+    };
+    match write_held_trace(out, &mut net, &edid, &script.events, script.end) {
+        Ok(totals) => Ok(totals),
+        Err(fault) => Err(EmulateError::Write(fault.count)),
+    }
+}
