@@ -5,11 +5,11 @@ ghost use Rattle.std.specs.Option.{option_map};
 ghost use Rattle.room_run.specs.Emulate.{IsReported};
 ghost use Rattle.room_run.specs.HeldTrace.{IsHeldTraceOf};
 
+use crate::emulate::EmulateError;
 use crate::held_text::write_held_trace;
+use crate::{ScriptSource, Totals};
 use edid_core::{Edid, root_on_heap};
 use room_net::Net;
-use room_run::emulate::EmulateError;
-use room_run::{ScriptSource, Totals};
 use room_script::parse_topology;
 use std::alloc::{AllocError, Global};
 use text_core::Sink;
@@ -31,7 +31,7 @@ fn edid_on_heap(alloc: Global, edid: Option<Box<Edid>>) -> Result<Box<Option<Edi
 ///
 /// # Errors
 ///
-/// Those of [`emulate`](room_run::emulate::emulate), in the same order.
+/// Those of [`emulate`](crate::emulate::emulate), in the same order.
 // The network is large: where this stood inside its caller, the caller's frame would hold one for each kind of run.
 #[inline(never)]
 pub fn emulate_held<T: ScriptSource, S: Sink>(

@@ -8,11 +8,11 @@ ghost use Rattle.room_run.specs.Run.{start};
 ghost use Rattle.room_run.specs.HeldTrace.{IsHeldRun};
 
 use crate::held_line::add_held_line;
+use crate::{Reporter, Totals, TraceText, run_turns, told};
 use edid_core::Edid;
 use line_rounds::{Outcome, Wire};
 use room_event::EventError;
 use room_net::Net;
-use room_run::{Reporter, Totals, TraceText, run_turns, told};
 use room_script::TimedEvent;
 use room_trace::{add_last_lines, add_new_ports};
 use text_core::{Counted, Sink, WriteFault};
