@@ -4,3 +4,6 @@ pub mod Moving
 pub mod Recording
 pub mod Decimals
 pub mod Passing
+pub mod Levels
+pub mod Ends
+pub mod Bytes

@@ -21,7 +21,8 @@ pub record Step (S : Type 0) : Type 0 where
   pub state : S
   pub edge : Option Edge
 
--- between two words of a line stands one byte that is a gap; words count from 0
+-- Between two words of a line stands one byte that is a gap. A word is taken by its number in the line, from 0, and by where the
+-- reader stands; a text may end where there is a last instant.
 pub record Form (S : Type 0) : Type 0 where
   pub is_gap : ℕ → Bool
   pub took : ℕ → List ℕ → S → Result (Step S) Slip

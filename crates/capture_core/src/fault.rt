@@ -38,6 +38,22 @@ pub struct Slip {
     pub word: usize,
 }
 
+impl Slip {
+    ghost use Rattle.std.specs.Prelude.{◌≡◌};
+    ghost use Rattle.capture_core.specs.Reading.{fault_at};
+
+    /// The fault of the line of this number.
+    pub fn on_line(self, line: u64) -> CaptureFault
+        ensures { result ≡ fault_at line self }
+    {
+        CaptureFault {
+            line,
+            cause: self.cause,
+            word: self.word,
+        }
+    }
+}
+
 /// The first line at fault, counted from 1, what is wrong with it, and the word at fault, counted from 0, or where it is
 /// missing the number that it would have. Words are parted as the form has it; two gaps have an empty word between them.
 #[derive(Clone, Copy, Debug, PartialEq, Eq, Error)]

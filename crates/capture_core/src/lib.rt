@@ -11,5 +11,5 @@ mod track;
 pub use capture::Capture;
 pub use fault::{CaptureError, CaptureFault, Cause, Slip};
 pub use reading::{TakesWords, no_gap, read_lines};
-pub use seconds::{decimals_in, nine_digits};
+pub use seconds::{decimals_in, instant_of, nine_digits};
 pub use track::{GoesBack, Track};

@@ -3,9 +3,9 @@ ghost use Rattle.std.specs.Prelude.{◌≡◌, ◌∷◌, ◌++◌, ◌+◌, ◌
 ghost use Rattle.std.specs.Option.{option_copied, option_to_list};
 ghost use Rattle.text_core.specs.Lines.{lines_of};
 ghost use Rattle.std.specs.List.{slice_split};
-ghost use Rattle.capture_core.specs.Reading.{Form, GivesEdges, PassesLine, Takes, fault_at, left_length, line_read, lines_read, words_left};
+ghost use Rattle.capture_core.specs.Reading.{Form, GivesEdges, PassesLine, Takes, left_length, line_read, lines_read, words_left};
 
-use crate::fault::{CaptureError, CaptureFault, Cause, Slip};
+use crate::fault::{CaptureError, Cause, Slip};
 use crate::track::Track;
 use line_wave::Edge;
 use std::alloc::{AllocError, Global};
@@ -58,16 +58,6 @@ fn first_word<'a, R: TakesWords<'a>>(line: &'a [u8]) -> (&'a [u8], Option<&'a [u
     }
 }
 
-fn fault_at(line: u64, slip: Slip) -> CaptureFault
-    ensures { result ≡ fault_at line slip }
-{
-    CaptureFault {
-        line,
-        cause: slip.cause,
-        word: slip.word,
-    }
-}
-
 // Adds an edge, where there is one.
 fn add(edges: &mut Vec<Edge>, edge: Option<Edge>) -> Result<(), AllocError>
     ensures { IfOk result (λ _. edges.new.items ≡ edges.old.items ++ option_to_list edge) }
@@ -93,7 +83,7 @@ fn read_line<'a, R: TakesWords<'a>>(
     'words: while let Some(words) = left {
         let (word, more) = first_word::<R>(words);
         match reader.take(number, word) {
-            Err(slip) => return Err(CaptureError::Fault(fault_at(line_number, slip))),
+            Err(slip) => return Err(CaptureError::Fault(slip.on_line(line_number))),
             Ok(edge) => add(edges, edge)?,
         }
         left = more;
@@ -125,7 +115,10 @@ pub fn read_lines<'a, R: TakesWords<'a>>(
         number += 1;
     }
     match reader.end() {
-        Err(cause) => Err(CaptureError::Fault(fault_at(number, Slip { cause, word: 0 }))),
+        Err(cause) => {
+            let slip = Slip { cause, word: 0 };
+            Err(CaptureError::Fault(slip.on_line(number)))
+        }
         Ok(end) => {
             add(&mut edges, reader.track().last())?;
             Ok((edges, end))

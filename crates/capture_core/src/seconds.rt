@@ -1,9 +1,10 @@
-//! Decimals of seconds.
+//! Seconds with decimals.
 ghost use Rattle.std.specs.Prelude.{◌≡◌, ◌+◌, ◌*◌, ◌%◌, ◌<◌};
 ghost use Rattle.std.specs.List.{list_all};
 ghost use Rattle.std.specs.Char.{is_ascii_digit};
-ghost use Rattle.capture_core.specs.Seconds.{decimals_of, digit_at, nine_digits};
+ghost use Rattle.capture_core.specs.Seconds.{decimals_of, digit_at, instant_of, nine_digits};
 
+use line_wave::LATEST_INSTANT;
 use text_core::byte_at;
 
 fn digit_at(text: &[u8], place: usize) -> u64
@@ -57,4 +58,14 @@ pub fn nine_digits(micros: u64) -> [u8; 9]
         b'0',
         b'0',
     ]
+}
+
+/// The microseconds of nanoseconds, rounded up, within the limit.
+pub fn instant_of(nanos: u128) -> Option<u64>
+    ensures { result ≡ instant_of nanos }
+{
+    if nanos > u128::from(LATEST_INSTANT) * 1_000 {
+        return None;
+    }
+    Some(((nanos + 999) / 1_000) as u64)
 }

@@ -7,53 +7,34 @@ use Rattle.std.specs.Option.{option_to_list}
 use Rattle.std.specs.Char.{digit_value, is_ascii_digit}
 use Rattle.std.specs.Str.Parse.{AllDigits}
 use Rattle.std.proofs.lemmas.Fmt.{decimal_is_IsNumeral, decimal_nonempty}
-use Rattle.std.proofs.lemmas.Bool.{false≢true}
 use Rattle.std.proofs.lemmas.Bool.Decides.{nat_tests}
 use Rattle.std.proofs.lemmas.List.Elements.{All-append}
 use Rattle.std.proofs.lemmas.List.Splits.{slice_split_at}
 use Rattle.line_wave.specs.declared.Edge.{Edge}
 use Rattle.line_wave.specs.declared.Stretch.{Stretch}
-use Rattle.line_wave.specs.Line.{covers, line_of, IsWaveFrom}
+use Rattle.line_wave.specs.Line.{IsWaveFrom}
 use Rattle.text_core.specs.Lines.{lines_of}
 use Rattle.text_core.specs.Number.{number_of}
 use Rattle.capture_core.specs.Edges.{Captured, edges_of}
-use Rattle.capture_core.specs.Seconds.{decimals_of, nine, nine_digits}
+use Rattle.capture_core.specs.Seconds.{decimals_of, dot_in, instant_of, nine, nine_digits}
 use Rattle.capture_core.specs.Track.{differ}
 use Rattle.capture_core.proofs.Decimals.{decimals_again}
 use Rattle.capture_core.proofs.Moving as moving
 use Rattle.capture_core.proofs.Moving.{due, track_at}
 use Rattle.capture_core.proofs.Numbers.{number_again}
-use Rattle.capture_core.proofs.Texts as texts
+use Rattle.capture_core.proofs.Bytes.{Lacks, digits_lack, dot_at, no_byte, shown}
+use Rattle.capture_core.proofs.Ends.{EndsBy, ends_by}
 use Rattle.capture_core.proofs.Texts.{line_before}
 use Rattle.capture_core.specs.Reading.{at_word, lines_read, with_edges}
 use Rattle.capture_core.specs.declared.fault.CaptureFault.{CaptureFault}
 use Rattle.capture_core.proofs.Passing.{alone, whole}
 use Rattle.capture_csv.specs.Clock.{cut_decimals}
-use Rattle.capture_csv.specs.Csv.{csv_form, dot_in, edges_in, fields_of, instant_of, level_by, moved_by, moved_to, nanos_by, nanos_of, named_read, row_by, row_in, row_of, signed_by, since, since_by, time_of, took, took_by, with_row, without_return, word_at_fault}
+use Rattle.capture_csv.specs.Csv.{csv_form, edges_in, fields_of, level_by, moved_by, moved_to, nanos_by, nanos_of, named_read, row_by, row_in, row_of, signed_by, since, since_by, time_of, took, took_by, with_row, without_return, word_at_fault}
 use Rattle.capture_csv.specs.Text.{changes, head, row_line, row_text, stretch_text, CsvFilesAreReadBack}
 use Rattle.capture_csv.specs.declared.row.Time.{Time}
-use Rattle.capture_csv.specs.declared.reader.Reader.{Reader}
+use Rattle.capture_csv.specs.declared.reader.CsvReader.{CsvReader}
 
 -- ---- bytes
-
-abbrev Lacks : ℕ → List ℕ → Type 0
-Lacks b bytes = texts.Lacks (λ c. c == b) bytes
-
-no_byte : (b c : ℕ) → digit_value c < 10 → b < 48 → (c == b) ≡ false
-no_byte b c h low = grind (arith, nat_tests)
-
-digits_lack : (b : ℕ) (ds : List ℕ) → b < 48 → AllDigits 10 ds → Lacks b ds
-digits_lack b ds low h = texts.digits_lack (λ c. c == b) ds (λ c d. no_byte b c d low) h
-
-shown : (b : ℕ) (line : List ℕ) → list_all (λ c. not (c == b)) line ≡ true → Lacks b line
-shown b line h = texts.shown (λ c. c == b) line h
-
-dot_at : (xs r : List ℕ) → Lacks 46 xs → dot_in (xs ++ 46 ∷ r) ≡ length xs
-dot_at [] r h = refl
-dot_at (x ∷ xs) r h =
-    let other : (x == 46) ≡ false = h 0 x (omega arith) in
-    let more : dot_in (xs ++ 46 ∷ r) ≡ length xs = dot_at xs r (λ k d low. h (suc k) d (omega (arith, low))) in
-    rw other (omega (arith, more))
 
 last_at : (xs : List ℕ) (b : ℕ) → slice_index (xs ++ b ∷ []) (length xs) ≡ b
 last_at [] b = refl
@@ -184,7 +165,7 @@ row_plain t level low early is =
 abbrev from_zero : Time
 from_zero = record { is_below = false; nanos = 0 }
 
-abbrev stood : Bool → ℕ → Bool → Bool → Reader
+abbrev stood : Bool → ℕ → Bool → Bool → CsvReader
 stood is_again at was_low is_low = record { column = 1; first = Some from_zero; is_again = is_again; is_low = is_low; track = track_at at was_low is_low }
 
 since_ok : (t : ℕ) → since from_zero (time_at t) ≡ Some (nanos t)
@@ -205,7 +186,7 @@ row_taken t level low again at was is early l =
     ∙ ap (λ o. moved_to from_zero o low (stood again at was is)) (instant_ok t early)
 
 -- a row's line, before what follows
-reported_line : (number t level : ℕ) (low : Bool) (more : List ℕ) (again : Bool) (at : ℕ) (was is : Bool) (u : Reader) (edge : Option Edge) → t ≤ 2000000000000 → IsLevel level low
+reported_line : (number t level : ℕ) (low : Bool) (more : List ℕ) (again : Bool) (at : ℕ) (was is : Bool) (u : CsvReader) (edge : Option Edge) → t ≤ 2000000000000 → IsLevel level low
     → moved_to from_zero (Some t) low (stood again at was is) ≡ Ok (record { state = u; edge = edge })
     → lines_read csv_form number (lines_of (row_line t level ++ 10 ∷ more)) (stood again at was is) ≡ with_edges (option_to_list edge) (lines_read csv_form (number + 1) (lines_of more) u)
 reported_line number t level low more again at was is u edge early l move =
@@ -284,10 +265,6 @@ end_reads end at true after low number again = by (nat_lt at end) refl
         ∙ reported_line number end 49 false [] again end true false (stood true end true false) None low rise (move_same end again true false false)
         ∙ ap (λ k. with_end (record { at = k; low = false } ∷ []) end) (sym same)
 
-abbrev EndsBy : ℕ → List Stretch → Type 0
-EndsBy end [] = Unit {0}
-EndsBy end (s ∷ ss) = (s.to ≤ end) × EndsBy end ss
-
 changes_read : (ss : List Stretch) (at : ℕ) (b : Bool) (end : ℕ) → IsWaveFrom (cond b (at + 1) at) ss → EndsBy end ss → at ≤ end → end ≤ 2000000000000
     → Reads (changes ss ++ row_text end 49) at b (edges_of ss) end
 changes_read [] at b end wave by after low = end_reads end at b after low
@@ -311,29 +288,6 @@ head_read more =
     same (Err f) = refl
 
 -- ---- the end
-
-or_left : (a b : Bool) → (a || b) ≡ false → a ≡ false
-or_left true b h = h
-or_left false b h = refl
-
-or_right : (a b : Bool) → (a || b) ≡ false → b ≡ false
-or_right true b h = absurd (false≢true (sym h))
-or_right false b h = h
-
-low_last : (s : Stretch) → s.from < s.to → covers s (s.to - 1) ≡ true
-low_last s h = grind (arith, nat_tests)
-
-by_end : (b : Bool) (to end : ℕ) → nat_le to end ≡ b → (end < to → ⊥) → to ≤ end
-by_end true to end e h = grind (arith, nat_tests)
-by_end false to end e h = absurd (h (grind (arith, nat_tests)))
-
-ends_by : (ss : List Stretch) (from end : ℕ) → IsWaveFrom from ss → ((u : ℕ) → end ≤ u → line_of ss u ≡ false) → EndsBy end ss
-ends_by [] from end wave high = tt
-ends_by (s ∷ ss) from end wave high = (
-  by_end (nat_le s.to end) s.to end refl
-      (λ h. false≢true (sym (or_left (covers s (s.to - 1)) (line_of ss (s.to - 1)) (high (s.to - 1) (let w = wave.1 in omega arith))) ∙ low_last s wave.1)),
-  ends_by ss (s.to + 1) end wave.2 (λ u h. or_right (covers s u) (line_of ss u) (high u h)),
-)
 
 pub csv_files_are_read_back : CsvFilesAreReadBack
 csv_files_are_read_back ss end wave high low =

@@ -1,38 +1,23 @@
 -- A file that is read is its column, sampled.
-use Rattle.std.proofs.Common.{◌≡◌, ℕ, ◌+◌, ◌*◌, ◌/◌, ◌≤◌, not, Bool, true, false, nat_lt, nat_le, if◌then◌else◌, List, [], ◌∷◌, ◌++◌, Option, Some, None, IfSome, Result, Ok, Err, refl, sym, ap, subst, ◌∙◌, arith}
+use Rattle.std.proofs.Common.{◌≡◌, ℕ, ◌+◌, ◌*◌, ◌≤◌, not, Bool, true, false, nat_lt, if◌then◌else◌, List, [], ◌∷◌, ◌++◌, Option, Some, None, IfSome, Ok, Err, refl, sym, ap, subst, ◌∙◌, arith}
 use Rattle.std.specs.Option.{option_to_list}
 use Rattle.std.proofs.lemmas.Bool.Decides.{nat_tests}
 use Rattle.line_wave.specs.declared.Edge.{Edge}
 use Rattle.text_core.specs.Lines.{lines_of}
 use Rattle.capture_core.specs.Edges.{Captured, EndBy, IsCapture}
-use Rattle.capture_core.specs.Samples.{Sample, level_in}
+use Rattle.capture_core.specs.Samples.{Level, Sample}
 use Rattle.capture_core.specs.Track.{Moved, differ, last_edge, track_move}
 use Rattle.capture_core.specs.declared.track.Track.{Track}
+use Rattle.capture_core.proofs.Ends.{edge_by}
+use Rattle.capture_core.proofs.Levels.{rounded, rounded_whole, samples_of, sampled_so}
 use Rattle.capture_core.proofs.Recording.{Records, moved_at, records_capture, records_end, records_level, records_line, records_moved}
 use Rattle.capture_core.specs.Reading.{Step, lines_read}
 use Rattle.capture_core.proofs.Passing.{Onward, onward, whole, without_word}
 use Rattle.capture_csv.specs.Csv.{Stepped, csv_form, first_reader, column_of, column_read, edges_in, end_of, ends_after, with_row, moved_by, moved_to, named_read, or_first, row_of, since, since_by, took, took_by, word_at_fault}
-use Rattle.capture_csv.specs.Sampling.{CsvFilesAreSampled, CsvLinesAreEarly, CsvLinesGoOn, Level, end_by, level_of, level_reported, levels_of, rows_by, rows_in, rows_of}
+use Rattle.capture_csv.specs.Sampling.{CsvFilesAreSampled, CsvLinesAreEarly, CsvLinesGoOn, end_by, level_reported, levels_of, rows_by, rows_in, rows_of}
 use Rattle.capture_csv.specs.declared.row.Row.{Row}
 use Rattle.capture_csv.specs.declared.row.Time.{Time}
-use Rattle.capture_csv.specs.declared.reader.Reader.{Reader}
-
--- ---- nanoseconds and microseconds
-
-abbrev rounded : ℕ → ℕ
-rounded nanos = (nanos + 999) / 1000
-
-rounded_by : (nanos u : ℕ) → nat_le (rounded nanos) u ≡ nat_le nanos (u * 1000)
-rounded_by nanos u = grind (arith, nat_tests)
-
-abbrev samples_of : List Level → List Sample
-samples_of [] = []
-samples_of (l ∷ ls) = record { at = rounded l.since; low = l.low } ∷ samples_of ls
-
-sampled_so : (b : Bool) (ls : List Level) (u : ℕ) → level_in b (samples_of ls) u ≡ level_of b ls u
-sampled_so b [] u = refl
-sampled_so b (l ∷ ls) u =
-    ap (λ t. level_in (if t then l.low else b) (samples_of ls) u) (rounded_by l.since u) ∙ sampled_so (if nat_le l.since (u * 1000) then l.low else b) ls u
+use Rattle.capture_csv.specs.declared.reader.CsvReader.{CsvReader}
 
 -- ---- a later end
 
@@ -61,7 +46,7 @@ in_limit false at h = omega arith
 -- ---- a row
 
 -- it is led on, by a level
-record Goes (old : Reader) (step : Step Reader) (first : Time) (l : Level) : Type 0 where
+record Goes (old : CsvReader) (step : Step CsvReader) (first : Time) (l : Level) : Type 0 where
   first_is : step.state.first ≡ Some first
   column : step.state.column ≡ old.column
   is_low : step.state.is_low ≡ l.low
@@ -72,16 +57,16 @@ record Goes (old : Reader) (step : Step Reader) (first : Time) (l : Level) : Typ
       → Records old.track (option_to_list step.edge ++ edges) (record { at = rounded l.since; low = l.low } ∷ samples) end
 
 -- a row led on has a level
-record GoesOn (old : Reader) (step : Step Reader) (row : Row) : Type 0 where
+record GoesOn (old : CsvReader) (step : Step CsvReader) (row : Row) : Type 0 where
   nanos : ℕ
   reported : since (or_first old.first row.time) row.time ≡ Some nanos
   goes : Goes old step (or_first old.first row.time) (record { since = nanos; low = row.low })
 
-abbrev GoesBy : Reader → Stepped → Row → Type 0
+abbrev GoesBy : CsvReader → Stepped → Row → Type 0
 GoesBy old (Err c) row = Unit {0}
 GoesBy old (Ok step) row = GoesOn old step row
 
-row_goes : (r : Reader) (row : Row) → GoesBy r (with_row row r) row
+row_goes : (r : CsvReader) (row : Row) → GoesBy r (with_row row r) row
 row_goes r row = by (since (or_first r.first row.time) row.time) refl
   where
     moves : (nanos : ℕ) → since (or_first r.first row.time) row.time ≡ Some nanos → nanos ≤ 2000000000000000 → (o : Option Moved) → track_move (rounded nanos) r.track ≡ o
@@ -117,12 +102,12 @@ row_goes r row = by (since (or_first r.first row.time) row.time) refl
 -- ---- a file
 
 -- what is read from a reader on, whose last row was at this time
-record Ran (r : Reader) (e : Captured) (time : ℕ) (rows : List Row) : Type 0 where
+record Ran (r : CsvReader) (e : Captured) (time : ℕ) (rows : List Row) : Type 0 where
   records : Records r.track e.edges (samples_of (levels_of r.first rows)) e.end
   end : e.end ≡ end_by time r.is_low r.is_again (levels_of r.first rows)
   early : e.end ≤ 2000000000000
 
-run_more : (r : Reader) (step : Step Reader) (e f : Captured) (time : ℕ) (row : Row) (rows : List Row) → (g : GoesOn r step row) → Ran step.state f g.nanos rows
+run_more : (r : CsvReader) (step : Step CsvReader) (e f : Captured) (time : ℕ) (row : Row) (rows : List Row) → (g : GoesOn r step row) → Ran step.state f g.nanos rows
     → e ≡ record { edges = option_to_list step.edge ++ f.edges; end = f.end } → Ran r e time (row ∷ rows)
 run_more r step e f time row rows g ran is =
     let first = or_first r.first row.time in
@@ -139,7 +124,7 @@ run_more r step e f time row rows g ran is =
       early = ran.early;
     })
 
-lines_ran : (number : ℕ) (lines : List (List ℕ)) (r : Reader) (e : Captured) (time : ℕ) → r.track.at ≡ rounded time → r.track.at ≤ 2000000000000 → lines_read csv_form number lines r ≡ Ok e
+lines_ran : (number : ℕ) (lines : List (List ℕ)) (r : CsvReader) (e : Captured) (time : ℕ) → r.track.at ≡ rounded time → r.track.at ≤ 2000000000000 → lines_read csv_form number lines r ≡ Ok e
     → Ran r e time (rows_in r.column lines)
 lines_ran number [] r e time at early h =
     let is : record { edges = option_to_list (last_edge r.track); end = end_of r } ≡ e = cc in
@@ -153,15 +138,15 @@ lines_ran number (line ∷ lines) r e time at early h =
     by (row_of r.column line) o (without_word (word_at_fault r.column line) (took line r) o.step o.took)
     (λ s f t a l k. lines_ran (number + 1) lines s f t a l k)
   where
-    row_on : (row : Row) (o : Onward Reader csv_form number line lines r e) → GoesOn r o.step row
-        → ((s : Reader) (f : Captured) (t : ℕ) → s.track.at ≡ rounded t → s.track.at ≤ 2000000000000 → lines_read csv_form (number + 1) lines s ≡ Ok f → Ran s f t (rows_in s.column lines))
+    row_on : (row : Row) (o : Onward CsvReader csv_form number line lines r e) → GoesOn r o.step row
+        → ((s : CsvReader) (f : Captured) (t : ℕ) → s.track.at ≡ rounded t → s.track.at ≤ 2000000000000 → lines_read csv_form (number + 1) lines s ≡ Ok f → Ran s f t (rows_in s.column lines))
         → Ran r e time (row ∷ rows_in r.column lines)
     row_on row o g ih =
         let ran = ih o.step.state o.rest g.nanos g.goes.at g.goes.early o.read in
         run_more r o.step e o.rest time row (rows_in r.column lines) g (subst (λ c. Ran o.step.state o.rest g.nanos (rows_in c lines)) g.goes.column ran) o.is
 
-    by : (row : Option Row) (o : Onward Reader csv_form number line lines r e) → took_by row r ≡ Ok o.step
-        → ((s : Reader) (f : Captured) (t : ℕ) → s.track.at ≡ rounded t → s.track.at ≤ 2000000000000 → lines_read csv_form (number + 1) lines s ≡ Ok f → Ran s f t (rows_in s.column lines))
+    by : (row : Option Row) (o : Onward CsvReader csv_form number line lines r e) → took_by row r ≡ Ok o.step
+        → ((s : CsvReader) (f : Captured) (t : ℕ) → s.track.at ≡ rounded t → s.track.at ≤ 2000000000000 → lines_read csv_form (number + 1) lines s ≡ Ok f → Ran s f t (rows_in s.column lines))
         → Ran r e time (option_to_list row ++ rows_in r.column lines)
     by None o stepped ih = cc
     by (Some row) o stepped ih = row_on row o (subst (λ (st : Stepped). GoesBy r st row) stepped (row_goes r row)) ih
@@ -189,17 +174,10 @@ read_is_capture signal text e h = let s = csv_files_are_sampled signal text e h 
 
 -- ---- line by line
 
-rounded_whole : (at : ℕ) → at ≡ rounded (at * 1000)
-rounded_whole at = omega arith
-
 pub csv_lines_go_on : CsvLinesGoOn
 csv_lines_go_on number lines r e early h =
     let ran = lines_ran number lines r e (r.track.at * 1000) (rounded_whole r.track.at) early h in
     (ran.records.turn, ran.records.ends, ran.records.late, ran.early)
-
-edge_by : (edge : Option Edge) (edges : List Edge) (end limit : ℕ) → EndBy end (option_to_list edge ++ edges) → end ≤ limit → IfSome edge (λ e. e.at ≤ limit)
-edge_by None edges end limit ends l = tt
-edge_by (Some e) edges end limit ends l = let at = ends.0 in omega arith
 
 pub csv_lines_are_early : CsvLinesAreEarly
 csv_lines_are_early line r step early h = by (row_of r.column line) h

@@ -1,13 +1,14 @@
 -- Comma-separated values as Saleae's Logic exports them: a line of names, of which the first is that of the time, and then a
 -- row a change: seconds with decimals, perhaps below zero, or the time of the day; and a level a channel.
-use Rattle.std.specs.Prelude.{◌≡◌, ℕ, suc, zero, ◌+◌, ◌-◌, ◌*◌, ◌/◌, ◌==◌, ◌&&◌, ◌||◌, not, min, Bool, true, false, nat_lt, nat_le, if◌then◌else◌, List, [], ◌∷◌, length, take, drop, slice_index, codes, Option, Some, None, Result, Ok, Err}
+use Rattle.std.specs.Prelude.{◌≡◌, ℕ, suc, zero, ◌+◌, ◌-◌, ◌*◌, ◌==◌, ◌&&◌, ◌||◌, not, min, Bool, true, false, nat_lt, nat_le, if◌then◌else◌, List, [], ◌∷◌, length, take, drop, slice_index, codes, Option, Some, None, Result, Ok, Err}
 use Rattle.std.specs.Option.{is_none, is_some}
-use Rattle.std.specs.List.{position_or_len, slice_split}
+use Rattle.std.specs.List.{slice_split}
 use Rattle.std.specs.Str.{bytes_eq}
 use Rattle.line_wave.specs.Bounds.{latest_instant}
 use Rattle.text_core.specs.Lines.{lines_of}
 use Rattle.text_core.specs.Number.{number_of}
 use Rattle.capture_core.specs.Edges.{Captured}
+use Rattle.capture_core.specs.Seconds.{dot_in, instant_of}
 use Rattle.capture_core.specs.Track.{Moved, first_track as line_begun, differ, track_move, with_level}
 use Rattle.capture_core.specs.Reading.{Form, Step, at_word, lines_read}
 use Rattle.capture_core.specs.declared.fault.Cause.{Cause}
@@ -16,7 +17,7 @@ use Rattle.capture_core.specs.declared.fault.CaptureFault.{CaptureFault}
 use Rattle.capture_csv.specs.Clock.{clock_fraction, clock_seconds, cut_decimals}
 use Rattle.capture_csv.specs.declared.row.Row.{Row}
 use Rattle.capture_csv.specs.declared.row.Time.{Time}
-use Rattle.capture_csv.specs.declared.reader.Reader.{Reader}
+use Rattle.capture_csv.specs.declared.reader.CsvReader.{CsvReader}
 
 -- ---- fields
 
@@ -61,9 +62,6 @@ abbrev pub nanos_by : Option ℕ → Option ℕ → Option ℕ
 nanos_by None nanos = None
 nanos_by (Some whole) None = None
 nanos_by (Some whole) (Some nanos) = if nat_lt 9999999999 whole || nat_lt 999999999 nanos then None else Some (whole * 1000000000 + nanos)
-
-abbrev pub dot_in : List ℕ → ℕ
-dot_in text = position_or_len (λ b. b == 46) text
 
 -- whole seconds of ten digits at most, and perhaps a dot and decimals, in nanoseconds
 abbrev pub nanos_of : List ℕ → Option ℕ
@@ -127,19 +125,15 @@ apart false false first nanos = less first nanos
 abbrev pub since : Time → Time → Option ℕ
 since first time = apart first.is_below time.is_below first.nanos time.nanos
 
--- in microseconds, rounded up, within the limit of a capture
-abbrev pub instant_of : ℕ → Option ℕ
-instant_of nanos = if nat_lt 2000000000000000 nanos then None else Some ((nanos + 999) / 1000)
-
 -- ---- where a reader stands
 
-abbrev pub first_reader : ℕ → Reader
+abbrev pub first_reader : ℕ → CsvReader
 first_reader column = record { column = column; first = None; is_again = true; is_low = false; track = line_begun }
 
 abbrev pub Stepped : Type 0
-Stepped = Result (Step Reader) Cause
+Stepped = Result (Step CsvReader) Cause
 
-abbrev pub moved_by : Time → Option Moved → Bool → Reader → Stepped
+abbrev pub moved_by : Time → Option Moved → Bool → CsvReader → Stepped
 moved_by first None low r = Err cause.Order
 moved_by first (Some m) low r =
     Ok (record {
@@ -147,11 +141,11 @@ moved_by first (Some m) low r =
       edge = m.edge;
     })
 
-abbrev pub moved_to : Time → Option ℕ → Bool → Reader → Stepped
+abbrev pub moved_to : Time → Option ℕ → Bool → CsvReader → Stepped
 moved_to first None low r = Err cause.Late
 moved_to first (Some u) low r = moved_by first (track_move u r.track) low r
 
-abbrev pub since_by : Time → Option ℕ → Bool → Reader → Stepped
+abbrev pub since_by : Time → Option ℕ → Bool → CsvReader → Stepped
 since_by first None low r = Err cause.Order
 since_by first (Some nanos) low r = moved_to first (instant_of nanos) low r
 
@@ -160,14 +154,14 @@ abbrev pub or_first : Option Time → Time → Time
 or_first None time = time
 or_first (Some first) time = first
 
-abbrev pub with_row : Row → Reader → Stepped
+abbrev pub with_row : Row → CsvReader → Stepped
 with_row row r = since_by (or_first r.first row.time) (since (or_first r.first row.time) row.time) row.low r
 
-abbrev pub took_by : Option Row → Reader → Stepped
+abbrev pub took_by : Option Row → CsvReader → Stepped
 took_by None r = Err cause.Word
 took_by (Some row) r = with_row row r
 
-abbrev pub took : List ℕ → Reader → Stepped
+abbrev pub took : List ℕ → CsvReader → Stepped
 took line r = took_by (row_of r.column line) r
 
 -- ---- a file
@@ -176,7 +170,7 @@ took line r = took_by (row_of r.column line) r
 abbrev pub ends_after : Bool → ℕ → ℕ
 ends_after is_again at = if is_again then at else min (at + 10000) latest_instant
 
-abbrev pub end_of : Reader → ℕ
+abbrev pub end_of : CsvReader → ℕ
 end_of r = ends_after r.is_again r.track.at
 
 -- the word at fault of a row that is refused: its level, where that is none after a time, and else its time
@@ -187,7 +181,7 @@ abbrev pub word_at_fault : ℕ → List ℕ → ℕ
 word_at_fault column line = fault_in column (fields_of (without_return line))
 
 -- a line is taken as it stands
-abbrev pub csv_form : Form Reader
+abbrev pub csv_form : Form CsvReader
 csv_form = record {
   is_gap = λ byte. false;
   took = λ number line r. at_word (word_at_fault r.column line) (took line r);

@@ -1,21 +1,17 @@
 -- The line that a file reports: at an instant it has the level of the last row at or before it. Times are nanoseconds here,
 -- counted from the first row, and nothing is said of edges and faults.
-use Rattle.std.specs.Prelude.{◌≡◌, ℕ, ◌+◌, ◌*◌, ◌/◌, ◌≤◌, not, Bool, true, false, nat_le, if◌then◌else◌, List, [], ◌∷◌, ◌++◌, Option, Some, None, IfSome, Ok}
+use Rattle.std.specs.Prelude.{◌≡◌, ℕ, ◌+◌, ◌/◌, ◌≤◌, not, Bool, true, false, List, [], ◌∷◌, ◌++◌, Option, Some, None, IfSome, Ok}
 use Rattle.std.specs.Option.{option_to_list}
 use Rattle.text_core.specs.Lines.{lines_of}
 use Rattle.line_wave.specs.Bounds.{latest_instant}
 use Rattle.capture_core.specs.Edges.{AreInTurn, Captured, EndBy, IsCapture, line_of_edges}
 use Rattle.capture_core.specs.Reading.{Step, lines_read}
 use Rattle.capture_core.specs.Track.{differ}
+use Rattle.capture_core.specs.Samples.{Level, level_of}
 use Rattle.capture_csv.specs.Csv.{column_of, csv_form, edges_in, ends_after, or_first, row_of, since, took}
 use Rattle.capture_csv.specs.declared.row.Row.{Row}
 use Rattle.capture_csv.specs.declared.row.Time.{Time}
-use Rattle.capture_csv.specs.declared.reader.Reader.{Reader}
-
--- from a time on, counted from the first row, the line is low or not
-pub record Level : Type 0 where
-  pub since : ℕ
-  pub low : Bool
+use Rattle.capture_csv.specs.declared.reader.CsvReader.{CsvReader}
 
 -- the rows of a column
 abbrev pub rows_in : ℕ → List (List ℕ) → List Row
@@ -39,11 +35,6 @@ abbrev pub levels_of : Option Time → List Row → List Level
 levels_of first [] = []
 levels_of first (row ∷ rows) = option_to_list (level_reported (since (or_first first row.time) row.time) row.low) ++ levels_of (Some (or_first first row.time)) rows
 
--- the last level that is not after the first instant of microsecond u counts
-abbrev pub level_of : Bool → List Level → ℕ → Bool
-level_of is_low [] u = is_low
-level_of is_low (l ∷ ls) u = level_of (if nat_le l.since (u * 1000) then l.low else is_low) ls u
-
 -- the end, by the time of the last level, and whether that was told again
 abbrev pub end_by : ℕ → Bool → Bool → List Level → ℕ
 end_by time is_low is_again [] = ends_after is_again ((time + 999) / 1000)
@@ -64,10 +55,10 @@ CsvFilesAreSampled = (signal text : List ℕ) (e : Captured) → edges_in signal
 -- What is left of a file that is read goes on from where the reader stands: edges in turn, and an end that is not before them,
 -- within the limit.
 abbrev pub CsvLinesGoOn : Type 0
-CsvLinesGoOn = (number : ℕ) (lines : List (List ℕ)) (r : Reader) (e : Captured) → r.track.at ≤ latest_instant → lines_read csv_form number lines r ≡ Ok e
+CsvLinesGoOn = (number : ℕ) (lines : List (List ℕ)) (r : CsvReader) (e : Captured) → r.track.at ≤ latest_instant → lines_read csv_form number lines r ≡ Ok e
     → AreInTurn r.track.was_low r.track.at e.edges × EndBy e.end e.edges × (r.track.at ≤ e.end) × (e.end ≤ latest_instant)
 
 -- The reader, and the edge that is known by a row, stay within the limit.
 abbrev pub CsvLinesAreEarly : Type 0
-CsvLinesAreEarly = (line : List ℕ) (r : Reader) (step : Step Reader) → r.track.at ≤ latest_instant → took line r ≡ Ok step
+CsvLinesAreEarly = (line : List ℕ) (r : CsvReader) (step : Step CsvReader) → r.track.at ≤ latest_instant → took line r ≡ Ok step
     → (step.state.track.at ≤ latest_instant) × IfSome step.edge (λ e. e.at ≤ latest_instant)

@@ -13,6 +13,6 @@ mod writing;
 pub use laws::{
     csv_files_are_read_back, csv_files_are_sampled, csv_lines_are_early, csv_lines_go_on,
 };
-pub use reader::Reader as CsvReader;
+pub use reader::CsvReader;
 pub use reading::{column_of, read_csv};
 pub use writing::{add_changes, add_head, add_last};

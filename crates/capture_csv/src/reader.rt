@@ -1,8 +1,8 @@
 //! A reader of rows.
 ghost use Rattle.std.specs.Prelude.{◌≡◌};
 
-use crate::row::{Row, Time, instant_of, row_of, since, word_at_fault};
-use capture_core::{Cause, Slip, TakesWords, Track, no_gap};
+use crate::row::{Row, Time, row_of, since, word_at_fault};
+use capture_core::{Cause, Slip, TakesWords, Track, instant_of, no_gap};
 use line_wave::{Edge, LATEST_INSTANT};
 
 /// How long a capture goes on after its last row, in microseconds, since the form has no end.
@@ -10,7 +10,7 @@ const ENDS_AFTER: u64 = 10_000;
 
 /// A reader of the rows of a file.
 #[derive(Clone, Copy, Debug)]
-pub struct Reader {
+pub struct CsvReader {
     /// The column of the wire; that of the time is 0.
     column: usize,
     /// The time of the first row.
@@ -22,7 +22,7 @@ pub struct Reader {
     track: Track,
 }
 
-impl Reader {
+impl CsvReader {
     ghost use Rattle.capture_core.specs.Reading.{Takes};
     ghost use Rattle.capture_csv.specs.Csv.{first_reader, with_row, moved_to, took};
 
@@ -30,7 +30,7 @@ impl Reader {
     pub fn new(column: usize) -> Self
         ensures { result ≡ first_reader column }
     {
-        Reader {
+        CsvReader {
             column,
             first: None,
             is_again: true,
@@ -83,8 +83,8 @@ impl Reader {
     }
 }
 
-impl<'a> TakesWords<'a> for Reader {
-    ghost use Rattle.capture_csv.specs.declared.reader.Reader.{Reader as ReaderOf};
+impl<'a> TakesWords<'a> for CsvReader {
+    ghost use Rattle.capture_csv.specs.declared.reader.CsvReader.{CsvReader as ReaderOf};
     ghost use Rattle.capture_csv.specs.Csv.{csv_form};
 
     ghost State = { ReaderOf };

@@ -4,7 +4,7 @@ ghost use Rattle.capture_core.specs.Reading.{Gives, GivesEdges};
 ghost use Rattle.capture_csv.specs.Csv.{column_of, edges_in};
 
 use crate::fields::{column_in, first_field, without_return};
-use crate::reader::Reader;
+use crate::reader::CsvReader;
 use capture_core::{Capture, CaptureError, CaptureFault, Cause, read_lines};
 use line_wave::Edge;
 use std::alloc::Global;
@@ -38,7 +38,7 @@ fn read_edges(alloc: Global, signal: &[u8], text: &[u8]) -> Result<(Vec<Edge>, u
     };
     match column_of(line, signal) {
         None => Err(no_signal()),
-        Some(column) => read_lines(alloc, &mut Reader::new(column), 2, rest),
+        Some(column) => read_lines(alloc, &mut CsvReader::new(column), 2, rest),
     }
 }
 

@@ -1,10 +1,9 @@
 //! A row: a time and a level.
 ghost use Rattle.std.specs.Prelude.{◌≡◌, ◌+◌, ◌*◌, ◌<◌};
-ghost use Rattle.capture_csv.specs.Csv.{clock_of, field_at, fields_of, instant_of, level_by, level_of, nanos_by, nanos_of, row_of, seconds_of, signed_time, since, time_in, time_of, word_at_fault};
+ghost use Rattle.capture_csv.specs.Csv.{clock_of, field_at, fields_of, level_by, level_of, nanos_by, nanos_of, row_of, seconds_of, signed_time, since, time_in, time_of, word_at_fault};
 
 use crate::clock::{clock_fraction, clock_seconds, cut_decimals};
 use crate::fields::{field_at, field_without_space, first_field, without_return};
-use line_wave::LATEST_INSTANT;
 use text_core::{after, before, byte_at, len_before, number_in};
 
 /// The most whole seconds of a time.
@@ -155,14 +154,4 @@ pub fn since(first: Time, time: Time) -> Option<u128>
         (true, true) => zero_to_first.checked_sub(zero_to_time),
         (false, false) => zero_to_time.checked_sub(zero_to_first),
     }
-}
-
-/// The microseconds of a time after the first one, rounded up, within the limit.
-pub fn instant_of(since: u128) -> Option<u64>
-    ensures { result ≡ instant_of since }
-{
-    if since > u128::from(LATEST_INSTANT) * 1_000 {
-        return None;
-    }
-    Some(((since + 999) / 1_000) as u64)
 }

@@ -31,7 +31,8 @@ use Rattle.room_run.specs.OneRun.{rounds_of_line, rounds_reported}
 use Rattle.room_run.proofs.WholeLine as runs
 use Rattle.room_run.proofs.OneRun.{runs_close_soon, texts_have_one_run, traces_have_parts}
 use Rattle.capture_laws.specs.Formats.{IsReadAs, LinesAreReadBack, LinesOfRunsHaveTheirReadings, MonitorsReportTracesInAll}
-use Rattle.capture_laws.proofs.ReadBack.{EndsBy, edge_files_are_read_back, ends_by, lines_of_parts, lines_of_rounds, over_by_script, same_line}
+use Rattle.capture_core.proofs.Ends.{EndsBy, ends_by}
+use Rattle.capture_laws.proofs.ReadBack.{edge_files_are_read_back, lines_of_parts, lines_of_rounds, over_by_script, same_line}
 
 -- ---- a line that rounds make
 

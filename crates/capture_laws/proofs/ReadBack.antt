@@ -1,7 +1,6 @@
 -- A run's edge file is read back.
 use Rattle.std.proofs.Common.{◌≡◌, ℕ, ◌+◌, ◌-◌, ◌<◌, ◌≤◌, ◌==◌, ◌&&◌, ◌||◌, not, max, Bool, true, false, cond, nat_lt, nat_le, List, [], ◌∷◌, ◌++◌, length, map, Result, Ok, codes, refl, sym, ap, ◌∙◌, arith, append_assoc}
 use Rattle.std.proofs.Math.Path.{fun_ext}
-use Rattle.std.proofs.lemmas.Bool.{false≢true}
 use Rattle.std.proofs.lemmas.Bool.Decides.{nat_tests}
 use Rattle.std.specs.Fmt.{decimal}
 use Rattle.line_wave.specs.declared.Stretch.{Stretch}
@@ -31,6 +30,7 @@ use Rattle.capture_core.specs.Edges.{level_at}
 use Rattle.capture_monitor.specs.declared.edge_file.EdgeLine.{EdgeLine}
 use Rattle.capture_monitor.specs.declared.edge_file.EdgeLine.TheVariants.{Edge as EdgeLineOf, End}
 use Rattle.capture_laws.specs.Capture.{part_monitored, EdgeFilesAreReadBack, FilesOfRunsHaveTheirReadings, MonitorsReportTraces}
+use Rattle.capture_core.proofs.Ends.{EndsBy, ends_by}
 use Rattle.capture_core.proofs.Texts.{line_before}
 use Rattle.capture_laws.proofs.Texts.{IsWithout, more_without, one_without, timed, timed_line, timed_plain, timed_reported}
 
@@ -86,11 +86,6 @@ stretch_before s ss more = parted (decimal s.from) (decimal s.to) (edge_lines ss
 end_text : (end : ℕ) → end_line end ≡ timed end (codes "end") ++ 10 ∷ []
 end_text end = sym (append_assoc (decimal end) (codes " end") (codes "\n"))
 
--- no stretch goes past the end
-abbrev pub EndsBy : ℕ → List Stretch → Type 0
-EndsBy end [] = Unit {0}
-EndsBy end (s ∷ ss) = (s.to ≤ end) × EndsBy end ss
-
 read_back : (ss : List Stretch) (end number from : ℕ) → IsWaveFrom from ss → EndsBy end ss → from ≤ end + 1 → end ≤ latest_instant
     → edges_read (lines_of (edge_lines ss ++ end_line end)) number false from ≡ Ok (record { edges = edges_of ss; end = end })
 read_back [] end number from wave by after low = rw (end_text end) (end_read_back end number from low after)
@@ -132,31 +127,6 @@ same_line (s ∷ ss) from u wave =
     let early : nat_lt u s.from ≡ true → line_of ss u ≡ false = λ h.
     later ss (s.to + 1) u wave.2 (let w = wave.1 in let l = less u s.from h in omega arith) in
     rw (at_or_after s.from u) (pick (nat_lt u s.from) (nat_lt u s.to) (level_at false (edges_of ss) u) (line_of ss u) again early)
-
--- ---- the end
-
-or_left : (a b : Bool) → (a || b) ≡ false → a ≡ false
-or_left true b h = cc
-or_left false b h = refl
-
-or_right : (a b : Bool) → (a || b) ≡ false → b ≡ false
-or_right true b h = cc
-or_right false b h = h
-
-low_last : (s : Stretch) → s.from < s.to → covers s (s.to - 1) ≡ true
-low_last s h = grind (arith, nat_tests)
-
-by_end : (b : Bool) (to end : ℕ) → nat_le to end ≡ b → (end < to → ⊥) → to ≤ end
-by_end true to end e h = grind (arith, nat_tests)
-by_end false to end e h = absurd (h (grind (arith, nat_tests)))
-
-pub ends_by : (ss : List Stretch) (from end : ℕ) → IsWaveFrom from ss → ((u : ℕ) → end ≤ u → line_of ss u ≡ false) → EndsBy end ss
-ends_by [] from end wave over = tt
-ends_by (s ∷ ss) from end wave over = (
-  by_end (nat_le s.to end) s.to end refl
-      (λ h. false≢true (sym (or_left (covers s (s.to - 1)) (line_of ss (s.to - 1)) (over (s.to - 1) (let w = wave.1 in omega arith))) ∙ low_last s wave.1)),
-  ends_by ss (s.to + 1) end wave.2 (λ u h. or_right (covers s u) (line_of ss u) (over u h)),
-)
 
 pub edge_files_are_read_back : EdgeFilesAreReadBack
 edge_files_are_read_back ss end wave over low = record {

@@ -1,10 +1,9 @@
 -- The pin file of a line is read back.
-use Rattle.std.proofs.Common.{◌≡◌, ℕ, suc, ◌+◌, ◌-◌, ◌*◌, ◌/◌, ◌%◌, ◌<◌, ◌≤◌, ◌==◌, ◌||◌, not, Bool, true, false, cond, nat_lt, nat_le, List, [], ◌∷◌, ◌++◌, length, take, drop, Option, Some, None, Result, Ok, Err, codes, refl, sym, ap, subst, ◌∙◌, arith, append-nil, append_assoc}
+use Rattle.std.proofs.Common.{◌≡◌, ℕ, ◌+◌, ◌-◌, ◌*◌, ◌/◌, ◌%◌, ◌<◌, ◌≤◌, ◌==◌, not, Bool, true, false, cond, nat_lt, List, [], ◌∷◌, ◌++◌, length, take, drop, Option, Some, None, Result, Ok, Err, codes, refl, sym, ap, subst, ◌∙◌, arith, append-nil, append_assoc}
 use Rattle.std.proofs.Math.Seq.{take-append_seam, drop-append-add}
 use Rattle.std.specs.Fmt.{decimal}
 use Rattle.std.specs.List.{flat_map, list_all}
 use Rattle.std.specs.Option.{option_to_list}
-use Rattle.std.specs.Char.{digit_value}
 use Rattle.std.specs.Str.Parse.{AllDigits}
 use Rattle.std.proofs.lemmas.Fmt.{decimal_is_IsNumeral, decimal_nonempty}
 use Rattle.std.proofs.lemmas.Bool.{false≢true}
@@ -12,45 +11,26 @@ use Rattle.std.proofs.lemmas.Bool.Decides.{nat_tests}
 use Rattle.std.proofs.lemmas.List.Elements.{All-append}
 use Rattle.line_wave.specs.declared.Edge.{Edge}
 use Rattle.line_wave.specs.declared.Stretch.{Stretch}
-use Rattle.line_wave.specs.Line.{covers, line_of, IsWaveFrom}
+use Rattle.line_wave.specs.Line.{IsWaveFrom}
 use Rattle.text_core.specs.Lines.{is_skipped, lines_of}
 use Rattle.capture_core.specs.Edges.{Captured, edges_of}
-use Rattle.capture_core.specs.Seconds.{nine_digits}
+use Rattle.capture_core.specs.Seconds.{dot_in, instant_of, nine_digits}
 use Rattle.capture_core.proofs.Decimals.{decimals_again}
 use Rattle.capture_core.proofs.Moving.{due, move_kept as moving_kept, move_reported as moving_reported, move_same as moving_same, track_at}
 use Rattle.capture_core.proofs.Numbers.{number_again, some_length}
-use Rattle.capture_core.proofs.Texts.{Lacks as LacksEach, digits_lack as each_digits_lack, line_before, shown as each_shown}
+use Rattle.capture_core.proofs.Bytes.{Lacks, digits_lack, dot_at, no_byte, shown}
+use Rattle.capture_core.proofs.Ends.{EndsBy, ends_by}
+use Rattle.capture_core.proofs.Texts.{line_before}
 use Rattle.capture_core.specs.Reading.{at_word, lines_read, with_edges}
 use Rattle.capture_core.specs.declared.fault.CaptureFault.{CaptureFault}
 use Rattle.capture_pin.proofs.Sampled.{alone, whole}
-use Rattle.capture_pin.specs.Pin.{first_reader, code_of, dot_in, event_by, event_by_start, event_cut, event_of, fraction_of, after_event, instant_of, moved_by, moved_to, nanos_by, pin_form, took, word_at_fault}
+use Rattle.capture_pin.specs.Pin.{first_reader, code_of, event_by, event_by_start, event_cut, event_of, fraction_of, after_event, moved_by, moved_to, nanos_by, pin_form, took, word_at_fault}
 use Rattle.capture_pin.specs.Text.{event_line, event_text, head, round_text, stretch_text, PinFilesAreReadBack}
-use Rattle.capture_pin.specs.declared.reader.Reader.{Reader}
-
--- ---- bytes
-
-abbrev Lacks : ℕ → List ℕ → Type 0
-Lacks b bytes = LacksEach (λ c. c == b) bytes
-
-no_byte : (b c : ℕ) → digit_value c < 10 → b < 48 → (c == b) ≡ false
-no_byte b c h low = grind (arith, nat_tests)
-
-digits_lack : (b : ℕ) (ds : List ℕ) → b < 48 → AllDigits 10 ds → Lacks b ds
-digits_lack b ds low h = each_digits_lack (λ c. c == b) ds (λ c d. no_byte b c d low) h
-
-shown : (b : ℕ) (line : List ℕ) → list_all (λ c. not (c == b)) line ≡ true → Lacks b line
-shown b line h = each_shown (λ c. c == b) line h
-
-dot_at : (xs r : List ℕ) → Lacks 46 xs → dot_in (xs ++ 46 ∷ r) ≡ length xs
-dot_at [] r h = refl
-dot_at (x ∷ xs) r h =
-    let other : (x == 46) ≡ false = h 0 x (omega arith) in
-    let more : dot_in (xs ++ 46 ∷ r) ≡ length xs = dot_at xs r (λ k d low. h (suc k) d (omega (arith, low))) in
-    rw other (omega (arith, more))
+use Rattle.capture_pin.specs.declared.reader.PinReader.{PinReader}
 
 -- ---- lines
 
-line_in : (number : ℕ) (line rest : List ℕ) (t u : Reader) (edge : Option Edge) → Lacks 10 line → took line t ≡ Ok (record { state = u; edge = edge })
+line_in : (number : ℕ) (line rest : List ℕ) (t u : PinReader) (edge : Option Edge) → Lacks 10 line → took line t ≡ Ok (record { state = u; edge = edge })
     → lines_read pin_form number (lines_of (line ++ 10 ∷ rest)) t ≡ with_edges (option_to_list edge) (lines_read pin_form (number + 1) (lines_of rest) u)
 line_in number line rest t u edge plain h =
     ap (λ lines. lines_read pin_form number lines t) (line_before line rest plain)
@@ -61,14 +41,14 @@ line_in number line rest t u edge plain h =
 fraction_ok : (n : ℕ) → n < 1000000 → fraction_of (nine_digits n) ≡ Some (n * 1000)
 fraction_ok n h = decimals_again n h
 
-instant_ok : (t : ℕ) → t ≤ 2000000000000 → instant_of 0 (t / 1000000 * 1000000000 + t % 1000000 * 1000) ≡ Some t
+instant_ok : (t : ℕ) → t ≤ 2000000000000 → instant_of (t / 1000000 * 1000000000 + t % 1000000 * 1000) ≡ Some t
 instant_ok t h =
     let whole : t / 1000000 * 1000000000 + t % 1000000 * 1000 ≡ t * 1000 = omega arith in
     let low : nat_lt 2000000000000000 (t * 1000 - 0) ≡ false = grind (arith, nat_tests) in
     let up : (t * 1000 - 0 + 999) / 1000 ≡ t = omega arith in
-    ap (instant_of 0) whole ∙ rw low (ap Some up)
+    ap instant_of whole ∙ rw low (ap Some up)
 
-abbrev stood : ℕ → Bool → Bool → Reader
+abbrev stood : ℕ → Bool → Bool → PinReader
 stood at was_low is_low = record { start = 0; track = track_at at was_low is_low }
 
 skipped_by : (ds more : List ℕ) → 0 < length ds → AllDigits 10 ds → is_skipped (ds ++ more) ≡ false
@@ -114,10 +94,10 @@ event_stood t level low at was is early code =
     ∙ ap (λ c. event_by_start c (record { nanos = t / 1000000 * 1000000000 + t % 1000000 * 1000; low = Some low }) (stood at was is)) (none_before (t / 1000000 * 1000000000 + t % 1000000 * 1000))
     ∙ ap (λ i. moved_to i (Some low) (stood at was is)) (instant_ok t early))
 
-event_taken : (t level : ℕ) (low : Bool) (k : Reader) → k ≡ stood k.track.at k.track.was_low k.track.is_low → t ≤ 2000000000000 → ((nanos : ℕ) → event_by (Some nanos) (code_of (level ∷ [])) ≡ Some (record { nanos = nanos; low = Some low }))
+event_taken : (t level : ℕ) (low : Bool) (k : PinReader) → k ≡ stood k.track.at k.track.was_low k.track.is_low → t ≤ 2000000000000 → ((nanos : ℕ) → event_by (Some nanos) (code_of (level ∷ [])) ≡ Some (record { nanos = nanos; low = Some low }))
     → took (event_line t level) k ≡ moved_to (Some t) (Some low) k
 event_taken t level low k zero early code =
-    subst (λ (k : Reader). took (event_line t level) k ≡ moved_to (Some t) (Some low) k) (sym zero) (event_stood t level low k.track.at k.track.was_low k.track.is_low early code)
+    subst (λ (k : PinReader). took (event_line t level) k ≡ moved_to (Some t) (Some low) k) (sym zero) (event_stood t level low k.track.at k.track.was_low k.track.is_low early code)
 
 fall_code : (nanos : ℕ) → event_by (Some nanos) (code_of (48 ∷ [])) ≡ Some (record { nanos = nanos; low = Some true })
 fall_code nanos = refl
@@ -141,7 +121,7 @@ fall_move t at true after = move_reported t at false true (omega (arith, after))
 fall_move t at false after = move_kept t at false true after
 
 -- an event's line, before what follows
-reported_line : (number t level : ℕ) (low : Bool) (more : List ℕ) (k u : Reader) (edge : Option Edge) → k ≡ stood k.track.at k.track.was_low k.track.is_low → t ≤ 2000000000000 → (level == 10) ≡ false
+reported_line : (number t level : ℕ) (low : Bool) (more : List ℕ) (k u : PinReader) (edge : Option Edge) → k ≡ stood k.track.at k.track.was_low k.track.is_low → t ≤ 2000000000000 → (level == 10) ≡ false
     → ((nanos : ℕ) → event_by (Some nanos) (code_of (level ∷ [])) ≡ Some (record { nanos = nanos; low = Some low }))
     → moved_to (Some t) (Some low) k ≡ Ok (record { state = u; edge = edge })
     → lines_read pin_form number (lines_of (event_line t level ++ 10 ∷ more)) k ≡ with_edges (option_to_list edge) (lines_read pin_form (number + 1) (lines_of more) u)
@@ -194,10 +174,6 @@ again_reads u at true more edges end after low rest number = by (nat_lt at u) re
         ∙ ap (with_edges []) (rest true (λ h. refl) (λ h. same) (number + 1)))
 
 -- ---- rounds
-
-abbrev EndsBy : ℕ → List Stretch → Type 0
-EndsBy end [] = Unit {0}
-EndsBy end (s ∷ ss) = (s.to ≤ end) × EndsBy end ss
 
 abbrev flat : List (List Stretch) → List Stretch
 flat rounds = flat_map (λ ss. ss) rounds
@@ -258,7 +234,7 @@ rounds_read ((s ∷ ss) ∷ rs) at b end wave by after low zero = λ number.
 
 -- ---- the head
 
-head_line : (number : ℕ) (line rest : List ℕ) (t u : Reader) → list_all (λ c. not (c == 10)) line ≡ true → took line t ≡ Ok (record { state = u; edge = None })
+head_line : (number : ℕ) (line rest : List ℕ) (t u : PinReader) → list_all (λ c. not (c == 10)) line ≡ true → took line t ≡ Ok (record { state = u; edge = None })
     → lines_read pin_form number (lines_of (line ++ 10 ∷ rest)) t ≡ lines_read pin_form (number + 1) (lines_of rest) u
 head_line number line rest t u all h = line_in number line rest t u None (shown 10 line all) h ∙ same (lines_read pin_form (number + 1) (lines_of rest) u)
   where
@@ -266,7 +242,7 @@ head_line number line rest t u all h = line_in number line rest t u None (shown 
     same (Ok e) = refl
     same (Err f) = refl
 
-abbrev still : Reader
+abbrev still : PinReader
 still = stood 0 false false
 
 head_read : (more : List ℕ) → lines_read pin_form 1 (lines_of (head ++ more)) first_reader ≡ lines_read pin_form 8 (lines_of more) still
@@ -286,29 +262,6 @@ head_read more =
     ∙ head_line 7 (codes "0.000000000 1") more still still refl refl
 
 -- ---- the end
-
-or_left : (a b : Bool) → (a || b) ≡ false → a ≡ false
-or_left true b h = h
-or_left false b h = refl
-
-or_right : (a b : Bool) → (a || b) ≡ false → b ≡ false
-or_right true b h = absurd (false≢true (sym h))
-or_right false b h = h
-
-low_last : (s : Stretch) → s.from < s.to → covers s (s.to - 1) ≡ true
-low_last s h = grind (arith, nat_tests)
-
-by_end : (b : Bool) (to end : ℕ) → nat_le to end ≡ b → (end < to → ⊥) → to ≤ end
-by_end true to end e h = grind (arith, nat_tests)
-by_end false to end e h = absurd (h (grind (arith, nat_tests)))
-
-ends_by : (ss : List Stretch) (from end : ℕ) → IsWaveFrom from ss → ((u : ℕ) → end ≤ u → line_of ss u ≡ false) → EndsBy end ss
-ends_by [] from end wave high = tt
-ends_by (s ∷ ss) from end wave high = (
-  by_end (nat_le s.to end) s.to end refl
-      (λ h. false≢true (sym (or_left (covers s (s.to - 1)) (line_of ss (s.to - 1)) (high (s.to - 1) (let w = wave.1 in omega arith))) ∙ low_last s wave.1)),
-  ends_by ss (s.to + 1) end wave.2 (λ u h. or_right (covers s u) (line_of ss u) (high u h)),
-)
 
 pub pin_files_are_read_back : PinFilesAreReadBack
 pin_files_are_read_back rounds end wave high low =

@@ -1,46 +1,27 @@
 -- A pin file that is read is its line, sampled.
-use Rattle.std.proofs.Common.{◌≡◌, ℕ, ◌+◌, ◌-◌, ◌*◌, ◌/◌, ◌≤◌, Bool, true, false, nat_lt, nat_le, if◌then◌else◌, List, [], ◌∷◌, ◌++◌, Option, Some, None, IfSome, Result, Ok, Err, refl, sym, ap, subst, ◌∙◌, arith}
+use Rattle.std.proofs.Common.{◌≡◌, ℕ, ◌+◌, ◌-◌, ◌*◌, ◌≤◌, Bool, true, false, nat_lt, if◌then◌else◌, List, [], ◌∷◌, ◌++◌, Option, Some, None, Ok, Err, refl, sym, ap, subst, ◌∙◌, arith}
 use Rattle.std.specs.Option.{option_to_list}
 use Rattle.std.proofs.lemmas.Bool.Decides.{nat_tests}
 use Rattle.line_wave.specs.declared.Edge.{Edge}
 use Rattle.text_core.specs.Lines.{lines_of, is_skipped}
-use Rattle.capture_core.specs.Edges.{Captured, EndBy, IsCapture}
-use Rattle.capture_core.specs.Samples.{Sample, level_in}
+use Rattle.capture_core.specs.Edges.{Captured, IsCapture}
+use Rattle.capture_core.specs.Samples.{Level, Sample}
 use Rattle.capture_core.specs.Track.{Moved, last_edge, track_move}
 use Rattle.capture_core.specs.declared.track.Track.{Track}
+use Rattle.capture_core.proofs.Ends.{edge_by}
+use Rattle.capture_core.proofs.Levels.{rounded, rounded_whole, samples_both, samples_of, sampled_so}
 use Rattle.capture_core.proofs.Recording.{Records, moved_at, records_capture, records_end, records_level, records_line, records_moved}
 use Rattle.capture_core.specs.Reading.{Step, lines_read}
 pub use Rattle.capture_core.proofs.Passing.{alone, onward, whole, without_word}
 use Rattle.capture_pin.specs.Pin.{Stepped, first_reader, edges_in, event_by_start, event_of, after_event, track_with_level, moved_by, moved_to, pin_form, reader_with_start, start_in_comment, took, word_at_fault}
-use Rattle.capture_pin.specs.Sampling.{Level, PinFilesAreSampled, PinLinesAreEarly, PinLinesGoOn, event_in, last_time, level_by, level_of, level_reported, levels_in, or_start, start_after, time_by}
+use Rattle.capture_pin.specs.Sampling.{PinFilesAreSampled, PinLinesAreEarly, PinLinesGoOn, event_in, last_time, level_by, level_reported, levels_in, or_start, start_after, time_by}
 use Rattle.capture_pin.specs.declared.line.Event.{Event}
-use Rattle.capture_pin.specs.declared.reader.Reader.{Reader}
-
--- ---- nanoseconds and microseconds
-
-abbrev rounded : ℕ → ℕ
-rounded since = (since + 999) / 1000
-
-rounded_by : (since u : ℕ) → nat_le (rounded since) u ≡ nat_le since (u * 1000)
-rounded_by since u = grind (arith, nat_tests)
-
-abbrev samples_of : List Level → List Sample
-samples_of [] = []
-samples_of (l ∷ ls) = record { at = rounded l.since; low = l.low } ∷ samples_of ls
-
-samples_both : (a b : List Level) → samples_of (a ++ b) ≡ samples_of a ++ samples_of b
-samples_both [] b = refl
-samples_both (l ∷ a) b = ap (λ ss. record { at = rounded l.since; low = l.low } ∷ ss) (samples_both a b)
-
-sampled_so : (b : Bool) (ls : List Level) (u : ℕ) → level_in b (samples_of ls) u ≡ level_of b ls u
-sampled_so b [] u = refl
-sampled_so b (l ∷ ls) u =
-    ap (λ t. level_in (if t then l.low else b) (samples_of ls) u) (rounded_by l.since u) ∙ sampled_so (if nat_le l.since (u * 1000) then l.low else b) ls u
+use Rattle.capture_pin.specs.declared.reader.PinReader.{PinReader}
 
 -- ---- a line
 
 -- it is led on: from a start, at a time, with a level or none
-record Goes (old : Track) (step : Step Reader) (start time : ℕ) (level : Option Level) : Type 0 where
+record Goes (old : Track) (step : Step PinReader) (start time : ℕ) (level : Option Level) : Type 0 where
   start_is : step.state.start ≡ start
   at : step.state.track.at ≡ rounded time
   early : step.state.track.at ≤ 2000000000000
@@ -51,7 +32,7 @@ abbrev GoesBy : Track → Stepped → ℕ → ℕ → Option Level → Type 0
 GoesBy old (Err c) start time level = Unit {0}
 GoesBy old (Ok step) start time level = Goes old step start time level
 
-event_goes : (r : Reader) (e : Event) → GoesBy r.track (after_event (Some e) r) r.start (e.nanos - r.start) (level_reported (e.nanos - r.start) e.low)
+event_goes : (r : PinReader) (e : Event) → GoesBy r.track (after_event (Some e) r) r.start (e.nanos - r.start) (level_reported (e.nanos - r.start) e.low)
 event_goes r e = by (nat_lt e.nanos r.start)
   where
     reported : (low : Option Bool) (m : Moved) → track_move (rounded (e.nanos - r.start)) r.track ≡ Some m → e.nanos - r.start ≤ 2000000000000000
@@ -89,7 +70,7 @@ event_goes r e = by (nat_lt e.nanos r.start)
     by true = tt
     by false = late (nat_lt 2000000000000000 (e.nanos - r.start)) refl
 
-line_goes : (r : Reader) (line : List ℕ) (time : ℕ) → r.track.at ≡ rounded time → r.track.at ≤ 2000000000000
+line_goes : (r : PinReader) (line : List ℕ) (time : ℕ) → r.track.at ≡ rounded time → r.track.at ≤ 2000000000000
     → GoesBy r.track (took line r) (start_after line r.start) (time_by r.start (event_in line) time) (level_by r.start (event_in line))
 line_goes r line time at early = by (is_skipped line)
   where
@@ -109,12 +90,12 @@ line_goes r line time at early = by (is_skipped line)
 
 -- ---- a file
 
-record Ran (r : Reader) (e : Captured) (time : ℕ) (lines : List (List ℕ)) : Type 0 where
+record Ran (r : PinReader) (e : Captured) (time : ℕ) (lines : List (List ℕ)) : Type 0 where
   records : Records r.track e.edges (samples_of (levels_in r.start lines)) e.end
   end : e.end ≡ rounded (last_time time r.start lines)
   early : e.end ≤ 2000000000000
 
-run_more : (r : Reader) (step : Step Reader) (e f : Captured) (time : ℕ) (line : List ℕ) (lines : List (List ℕ))
+run_more : (r : PinReader) (step : Step PinReader) (e f : Captured) (time : ℕ) (line : List ℕ) (lines : List (List ℕ))
     → Goes r.track step (start_after line r.start) (time_by r.start (event_in line) time) (level_by r.start (event_in line))
     → Ran step.state f (time_by r.start (event_in line) time) lines → e ≡ record { edges = option_to_list step.edge ++ f.edges; end = f.end } → Ran r e time (line ∷ lines)
 run_more r step e f time line lines g ran is =
@@ -126,7 +107,7 @@ run_more r step e f time line lines g ran is =
       early = ran.early;
     })
 
-lines_ran : (number : ℕ) (lines : List (List ℕ)) (r : Reader) (e : Captured) (time : ℕ) → r.track.at ≡ rounded time → r.track.at ≤ 2000000000000 → lines_read pin_form number lines r ≡ Ok e → Ran r e time lines
+lines_ran : (number : ℕ) (lines : List (List ℕ)) (r : PinReader) (e : Captured) (time : ℕ) → r.track.at ≡ rounded time → r.track.at ≤ 2000000000000 → lines_read pin_form number lines r ≡ Ok e → Ran r e time lines
 lines_ran number [] r e time at early h =
     let is : record { edges = option_to_list (last_edge r.track); end = r.track.at } ≡ e = cc in
     subst (λ (e : Captured). Ran r e time []) is (record { records = records_end r.track; end = at; early = early })
@@ -152,17 +133,10 @@ read_is_capture text e h = let s = pin_files_are_sampled text e h in s.capture
 
 -- ---- line by line
 
-rounded_whole : (at : ℕ) → at ≡ rounded (at * 1000)
-rounded_whole at = omega arith
-
 pub pin_lines_go_on : PinLinesGoOn
 pin_lines_go_on number lines r e early h =
     let ran = lines_ran number lines r e (r.track.at * 1000) (rounded_whole r.track.at) early h in
     (ran.records.turn, ran.records.ends, ran.records.late, ran.early)
-
-edge_by : (edge : Option Edge) (edges : List Edge) (end limit : ℕ) → EndBy end (option_to_list edge ++ edges) → end ≤ limit → IfSome edge (λ e. e.at ≤ limit)
-edge_by None edges end limit ends l = tt
-edge_by (Some e) edges end limit ends l = let at = ends.0 in omega arith
 
 pub pin_lines_are_early : PinLinesAreEarly
 pin_lines_are_early line r step early h =

@@ -2,7 +2,7 @@
 use Rattle.std.specs.Prelude.{ℕ, ◌+◌, ◌++◌, ◌&&◌, Bool, false, nat_le, if◌then◌else◌, List, [], ◌∷◌, drop, Option, Some, None}
 use Rattle.text_core.specs.Lines.{is_skipped}
 use Rattle.text_core.specs.Number.{number_of}
-use Rattle.capture_pin.specs.Pin.{dot_in}
+use Rattle.capture_core.specs.Seconds.{dot_in}
 
 abbrev pub is_lost_code : Option ℕ → Bool
 is_lost_code None = false

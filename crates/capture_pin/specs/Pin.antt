@@ -1,13 +1,13 @@
 -- A file of pin events as cec-ctl stores it (v4l-utils, `--store-pin`): a line an event, of which those of the CEC pin
 -- give the level of the bus; lines that are empty or begin with `#` are passed over, but for the start that they give.
-use Rattle.std.specs.Prelude.{◌≡◌, ℕ, ◌+◌, ◌-◌, ◌*◌, ◌/◌, ◌==◌, ◌&&◌, ◌||◌, Bool, true, false, nat_lt, nat_le, if◌then◌else◌, List, [], ◌∷◌, length, take, drop, slice_index, codes, Option, Some, None, Result, Ok, Err}
+use Rattle.std.specs.Prelude.{◌≡◌, ℕ, ◌+◌, ◌-◌, ◌*◌, ◌==◌, ◌&&◌, ◌||◌, Bool, true, false, nat_lt, nat_le, if◌then◌else◌, List, [], ◌∷◌, length, take, drop, slice_index, codes, Option, Some, None, Result, Ok, Err}
 use Rattle.std.specs.Option.{is_none, is_some}
 use Rattle.std.specs.List.{position_or_len}
 use Rattle.std.specs.Str.{bytes_eq}
 use Rattle.text_core.specs.Lines.{lines_of, is_skipped}
 use Rattle.text_core.specs.Number.{number_of}
 use Rattle.capture_core.specs.Edges.{Captured}
-use Rattle.capture_core.specs.Seconds.{decimals_of}
+use Rattle.capture_core.specs.Seconds.{decimals_of, dot_in, instant_of}
 use Rattle.capture_core.specs.Track.{Moved, first_track as line_begun, track_move, with_level}
 use Rattle.capture_core.specs.Reading.{Form, Step, at_word, lines_read}
 use Rattle.capture_core.specs.declared.fault.Cause.{Cause}
@@ -15,7 +15,7 @@ use Rattle.capture_core.specs.declared.fault.Cause.TheVariants as cause
 use Rattle.capture_core.specs.declared.fault.CaptureFault.{CaptureFault}
 use Rattle.capture_core.specs.declared.track.Track.{Track}
 use Rattle.capture_pin.specs.declared.line.Event.{Event}
-use Rattle.capture_pin.specs.declared.reader.Reader.{Reader}
+use Rattle.capture_pin.specs.declared.reader.PinReader.{PinReader}
 
 -- ---- a line
 
@@ -48,18 +48,11 @@ event_by None low = None
 event_by (Some nanos) None = None
 event_by (Some nanos) (Some low) = Some (record { nanos = nanos; low = low })
 
-abbrev pub dot_in : List ℕ → ℕ
-dot_in text = position_or_len (λ b. b == 46) text
-
 abbrev pub event_cut : List ℕ → List ℕ → Option Event
 event_cut seconds rest = if slice_index rest 9 == 32 then event_by (nanos_of seconds (take 9 rest)) (code_of (drop 10 rest)) else None
 
 abbrev pub event_of : List ℕ → Option Event
 event_of line = event_cut (take (dot_in line) line) (drop (dot_in line + 1) line)
-
--- microseconds from the start on, rounded up, within the limit of a capture
-abbrev pub instant_of : ℕ → ℕ → Option ℕ
-instant_of start nanos = if nat_lt 2000000000000000 (nanos - start) then None else Some ((nanos - start + 999) / 1000)
 
 abbrev pub word_start : List ℕ → Option ℕ
 word_start word = nanos_of (take (dot_in word) word) (drop (dot_in word + 1) word)
@@ -70,39 +63,39 @@ start_in_comment line = if bytes_eq (take 18 line) (codes "# start_monotonic ") 
 
 -- ---- where a reader stands
 
-abbrev pub first_reader : Reader
+abbrev pub first_reader : PinReader
 first_reader = record { start = 0; track = line_begun }
 
 abbrev pub Stepped : Type 0
-Stepped = Result (Step Reader) Cause
+Stepped = Result (Step PinReader) Cause
 
 abbrev pub track_with_level : Option Bool → Track → Track
 track_with_level None t = t
 track_with_level (Some low) t = with_level low t
 
-abbrev pub moved_by : Option Moved → Option Bool → Reader → Stepped
+abbrev pub moved_by : Option Moved → Option Bool → PinReader → Stepped
 moved_by None low r = Err cause.Order
 moved_by (Some m) low r = Ok (record { state = record { start = r.start; track = track_with_level low m.track }; edge = m.edge })
 
 -- an event of another pin is a time alone
-abbrev pub moved_to : Option ℕ → Option Bool → Reader → Stepped
+abbrev pub moved_to : Option ℕ → Option Bool → PinReader → Stepped
 moved_to None low r = Err cause.Late
 moved_to (Some u) low r = moved_by (track_move u r.track) low r
 
 -- no event comes before the start
-abbrev pub event_by_start : Bool → Event → Reader → Stepped
+abbrev pub event_by_start : Bool → Event → PinReader → Stepped
 event_by_start true e r = Err cause.Order
-event_by_start false e r = moved_to (instant_of r.start e.nanos) e.low r
+event_by_start false e r = moved_to (instant_of (e.nanos - r.start)) e.low r
 
-abbrev pub after_event : Option Event → Reader → Stepped
+abbrev pub after_event : Option Event → PinReader → Stepped
 after_event None r = Err cause.Word
 after_event (Some e) r = event_by_start (nat_lt e.nanos r.start) e r
 
-abbrev pub reader_with_start : Option ℕ → Reader → Reader
+abbrev pub reader_with_start : Option ℕ → PinReader → PinReader
 reader_with_start None r = r
 reader_with_start (Some start) r = record r { start = start }
 
-abbrev pub took : List ℕ → Reader → Stepped
+abbrev pub took : List ℕ → PinReader → Stepped
 took line r = if is_skipped line then Ok (record { state = reader_with_start (start_in_comment line) r; edge = None }) else after_event (event_of line) r
 
 -- ---- a file
@@ -115,7 +108,7 @@ abbrev pub word_at_fault : List ℕ → ℕ
 word_at_fault line = if is_some (word_start (take (space_in line) line)) && is_none (code_of (drop (space_in line + 1) line)) then 1 else 0
 
 -- a line is taken as it stands; a file ends with its last event
-abbrev pub pin_form : Form Reader
+abbrev pub pin_form : Form PinReader
 pin_form = record {
   is_gap = λ byte. false;
   took = λ number line r. at_word (word_at_fault line) (took line r);

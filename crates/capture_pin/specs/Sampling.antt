@@ -1,19 +1,15 @@
 -- The line that a pin file reports: at an instant it has the level of the last event of the CEC pin at or before it. Times
 -- are nanoseconds here, and nothing is said of edges and faults.
-use Rattle.std.specs.Prelude.{◌≡◌, ℕ, ◌+◌, ◌-◌, ◌*◌, ◌/◌, ◌≤◌, Bool, false, nat_le, if◌then◌else◌, List, [], ◌∷◌, ◌++◌, Option, Some, None, IfSome, Ok}
+use Rattle.std.specs.Prelude.{◌≡◌, ℕ, ◌+◌, ◌-◌, ◌/◌, ◌≤◌, Bool, false, if◌then◌else◌, List, [], ◌∷◌, ◌++◌, Option, Some, None, IfSome, Ok}
 use Rattle.std.specs.Option.{option_to_list}
 use Rattle.text_core.specs.Lines.{lines_of, is_skipped}
 use Rattle.line_wave.specs.Bounds.{latest_instant}
 use Rattle.capture_core.specs.Edges.{AreInTurn, Captured, EndBy, IsCapture, line_of_edges}
+use Rattle.capture_core.specs.Samples.{Level, level_of}
 use Rattle.capture_core.specs.Reading.{Step, lines_read}
 use Rattle.capture_pin.specs.Pin.{edges_in, event_of, pin_form, start_in_comment, took}
 use Rattle.capture_pin.specs.declared.line.Event.{Event}
-use Rattle.capture_pin.specs.declared.reader.Reader.{Reader}
-
--- from a time on, counted from the start, the line is low or not
-pub record Level : Type 0 where
-  pub since : ℕ
-  pub low : Bool
+use Rattle.capture_pin.specs.declared.reader.PinReader.{PinReader}
 
 abbrev pub or_start : Option ℕ → ℕ → ℕ
 or_start None start = start
@@ -48,11 +44,6 @@ abbrev pub last_time : ℕ → ℕ → List (List ℕ) → ℕ
 last_time time start [] = time
 last_time time start (line ∷ lines) = last_time (time_by start (event_in line) time) (start_after line start) lines
 
--- the last level that is not after the first instant of microsecond u counts
-abbrev pub level_of : Bool → List Level → ℕ → Bool
-level_of is_low [] u = is_low
-level_of is_low (l ∷ ls) u = level_of (if nat_le l.since (u * 1000) then l.low else is_low) ls u
-
 pub record IsSampled (text : List ℕ) (e : Captured) : Type 0 where
   pub line : (u : ℕ) → line_of_edges e.edges u ≡ level_of false (levels_in 0 (lines_of text)) u
   pub end : e.end ≡ (last_time 0 0 (lines_of text) + 999) / 1000
@@ -68,10 +59,10 @@ PinFilesAreSampled = (text : List ℕ) (e : Captured) → edges_in text ≡ Ok e
 -- What is left of a file that is read goes on from where the reader stands: edges in turn, and an end that is not before them,
 -- within the limit.
 abbrev pub PinLinesGoOn : Type 0
-PinLinesGoOn = (number : ℕ) (lines : List (List ℕ)) (r : Reader) (e : Captured) → r.track.at ≤ latest_instant → lines_read pin_form number lines r ≡ Ok e
+PinLinesGoOn = (number : ℕ) (lines : List (List ℕ)) (r : PinReader) (e : Captured) → r.track.at ≤ latest_instant → lines_read pin_form number lines r ≡ Ok e
     → AreInTurn r.track.was_low r.track.at e.edges × EndBy e.end e.edges × (r.track.at ≤ e.end) × (e.end ≤ latest_instant)
 
 -- The reader, and the edge that is known by a line, stay within the limit.
 abbrev pub PinLinesAreEarly : Type 0
-PinLinesAreEarly = (line : List ℕ) (r : Reader) (step : Step Reader) → r.track.at ≤ latest_instant → took line r ≡ Ok step
+PinLinesAreEarly = (line : List ℕ) (r : PinReader) (step : Step PinReader) → r.track.at ≤ latest_instant → took line r ≡ Ok step
     → (step.state.track.at ≤ latest_instant) × IfSome step.edge (λ e. e.at ≤ latest_instant)

@@ -14,7 +14,7 @@ pub use laws::{
     pin_files_are_read_back, pin_files_are_sampled, pin_lines_are_early, pin_lines_go_on,
 };
 pub use lost::lost_lines;
-pub use reader::Reader as PinReader;
+pub use reader::PinReader;
 pub use reading::read_pin;
 pub use round::add_round;
 pub use writing::{add_fall, add_head, add_rise};

@@ -1,9 +1,8 @@
 //! A line of a file of pin events.
 ghost use Rattle.std.specs.Prelude.{◌≡◌, ◌+◌, ◌*◌, ◌<◌};
-ghost use Rattle.capture_pin.specs.Pin.{code_of, event_cut, event_of, fraction_of, instant_of, nanos_of, start_in_comment, word_at_fault, word_start};
+ghost use Rattle.capture_pin.specs.Pin.{code_of, event_cut, event_of, fraction_of, nanos_of, start_in_comment, word_at_fault, word_start};
 
 use capture_core::decimals_in;
-use line_wave::LATEST_INSTANT;
 use text_core::{after, before, byte_at, len_before, number_in};
 
 /// What a line says.
@@ -68,17 +67,6 @@ pub fn event_of(line: &[u8]) -> Option<Event>
 {
     let dot = len_before(line, b'.');
     event_cut(before(line, dot), after(line, dot + 1))
-}
-
-/// The microseconds from the start to an event that does not come before it, rounded up, within the limit.
-pub fn instant_of(start: u128, nanos: u128) -> Option<u64>
-    ensures { result ≡ instant_of start nanos }
-{
-    let since = nanos.saturating_sub(start);
-    if since > u128::from(LATEST_INSTANT) * 1_000 {
-        return None;
-    }
-    Some(((since + 999) / 1_000) as u64)
 }
 
 // A time in seconds, a dot and nine digits.

@@ -1,20 +1,20 @@
 //! A reader of a file of pin events, line by line.
 ghost use Rattle.std.specs.Prelude.{◌≡◌, Some};
 
-use crate::line::{Event, event_of, instant_of, start_in_comment, word_at_fault};
-use capture_core::{Cause, Slip, TakesWords, Track, no_gap};
+use crate::line::{Event, event_of, start_in_comment, word_at_fault};
+use capture_core::{Cause, Slip, TakesWords, Track, instant_of, no_gap};
 use line_wave::Edge;
 use text_core::is_skipped;
 
 /// A reader of the lines of a file.
 #[derive(Clone, Copy, Debug)]
-pub struct Reader {
+pub struct PinReader {
     /// The time from which instants are counted, in nanoseconds.
     start: u128,
     track: Track,
 }
 
-impl Reader {
+impl PinReader {
     ghost use Rattle.capture_core.specs.Reading.{Takes};
     ghost use Rattle.capture_pin.specs.Pin.{after_event, first_reader, moved_to, took};
 
@@ -22,7 +22,7 @@ impl Reader {
     pub fn new() -> Self
         ensures { result ≡ first_reader }
     {
-        Reader {
+        PinReader {
             start: 0,
             track: Track::new(),
         }
@@ -53,7 +53,7 @@ impl Reader {
         if event.nanos < self.start {
             return Err(Cause::Order);
         }
-        self.go_to(instant_of(self.start, event.nanos), event.low)
+        self.go_to(instant_of(event.nanos - self.start), event.low)
     }
 
     // Takes the next line, and returns the edge that is known by it.
@@ -73,8 +73,8 @@ impl Reader {
     }
 }
 
-impl<'a> TakesWords<'a> for Reader {
-    ghost use Rattle.capture_pin.specs.declared.reader.Reader.{Reader as ReaderOf};
+impl<'a> TakesWords<'a> for PinReader {
+    ghost use Rattle.capture_pin.specs.declared.reader.PinReader.{PinReader as ReaderOf};
     ghost use Rattle.capture_pin.specs.Pin.{pin_form};
 
     ghost State = { ReaderOf };

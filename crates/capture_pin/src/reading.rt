@@ -2,7 +2,7 @@
 ghost use Rattle.capture_core.specs.Reading.{Gives};
 ghost use Rattle.capture_pin.specs.Pin.{edges_in};
 
-use crate::reader::Reader;
+use crate::reader::PinReader;
 use capture_core::{Capture, CaptureError, read_lines};
 use std::alloc::Global;
 
@@ -16,6 +16,6 @@ use std::alloc::Global;
 pub fn read_pin(alloc: Global, text: &[u8]) -> Result<Capture, CaptureError>
     ensures { Gives result (edges_in text.now) }
 {
-    let (edges, end) = read_lines(alloc, &mut Reader::new(), 1, text)?;
+    let (edges, end) = read_lines(alloc, &mut PinReader::new(), 1, text)?;
     Ok(Capture::new(edges, end))
 }

@@ -1,16 +1,16 @@
 -- The dump of a line is read back.
-use Rattle.std.proofs.Common.{◌≡◌, ℕ, ◌+◌, ◌-◌, ◌<◌, ◌≤◌, ◌==◌, ◌||◌, not, Bool, true, false, cond, nat_lt, nat_le, List, [], ◌∷◌, ◌++◌, length, Option, Some, None, Result, Ok, Err, codes, refl, sym, ap, ◌∙◌, arith, append-nil}
+use Rattle.std.proofs.Common.{◌≡◌, ℕ, ◌+◌, ◌-◌, ◌<◌, ◌≤◌, ◌==◌, not, Bool, true, false, cond, nat_lt, nat_le, List, [], ◌∷◌, ◌++◌, length, Option, Some, None, Result, Ok, Err, codes, refl, sym, ap, ◌∙◌, arith, append-nil}
 use Rattle.std.specs.Fmt.{decimal}
 use Rattle.std.specs.List.{list_all}
 use Rattle.std.specs.Option.{option_to_list}
-use Rattle.std.proofs.lemmas.Bool.{false≢true}
 use Rattle.std.proofs.lemmas.Bool.Decides.{nat_tests}
 use Rattle.line_wave.specs.declared.Edge.{Edge}
 use Rattle.line_wave.specs.declared.Stretch.{Stretch}
-use Rattle.line_wave.specs.Line.{covers, line_of, IsWaveFrom}
+use Rattle.line_wave.specs.Line.{IsWaveFrom}
 use Rattle.text_core.specs.Lines.{lines_of}
 use Rattle.capture_core.specs.Edges.{Captured, edges_of}
 use Rattle.capture_core.specs.Track.{first_track as line_begun}
+use Rattle.capture_core.proofs.Ends.{EndsBy, ends_by}
 use Rattle.capture_core.proofs.Moving.{due, move_kept, move_reported, move_same, track_at}
 use Rattle.capture_core.proofs.Numbers.{number_again, some_length}
 use Rattle.capture_core.proofs.Texts.{Lacks, line_before, shown}
@@ -117,11 +117,6 @@ parted (x ∷ a) b e m = ap (λ l. x ∷ l) (parted a b e m)
 stretch_before : (s : Stretch) (ss : List Stretch) (more : List ℕ)
     → changes (s ∷ ss) ++ more ≡ time_line s.from ++ 10 ∷ (value_line 48 ++ 10 ∷ (time_line s.to ++ 10 ∷ (value_line 49 ++ 10 ∷ (changes ss ++ more))))
 stretch_before s ss more = ap (λ l. 35 ∷ l) (parted (decimal s.from) (decimal s.to) (changes ss) more)
-
--- no stretch goes past the end
-abbrev EndsBy : ℕ → List Stretch → Type 0
-EndsBy end [] = Unit {0}
-EndsBy end (s ∷ ss) = (s.to ≤ end) × EndsBy end ss
 
 -- the last time
 end_reported : (number at end : ℕ) (b : Bool) → at ≤ end → end ≤ 2000000000000
@@ -241,29 +236,6 @@ head_reported more =
     ∙ head_line 10 (codes "$end") more (stood 0 false false) (stood 0 false false) refl head_10
 
 -- ---- the end
-
-or_left : (a b : Bool) → (a || b) ≡ false → a ≡ false
-or_left true b h = h
-or_left false b h = refl
-
-or_right : (a b : Bool) → (a || b) ≡ false → b ≡ false
-or_right true b h = absurd (false≢true (sym h))
-or_right false b h = h
-
-low_last : (s : Stretch) → s.from < s.to → covers s (s.to - 1) ≡ true
-low_last s h = grind (arith, nat_tests)
-
-by_end : (b : Bool) (to end : ℕ) → nat_le to end ≡ b → (end < to → ⊥) → to ≤ end
-by_end true to end e h = grind (arith, nat_tests)
-by_end false to end e h = absurd (h (grind (arith, nat_tests)))
-
-ends_by : (ss : List Stretch) (from end : ℕ) → IsWaveFrom from ss → ((u : ℕ) → end ≤ u → line_of ss u ≡ false) → EndsBy end ss
-ends_by [] from end wave over = tt
-ends_by (s ∷ ss) from end wave over = (
-  by_end (nat_le s.to end) s.to end refl
-      (λ h. false≢true (sym (or_left (covers s (s.to - 1)) (line_of ss (s.to - 1)) (over (s.to - 1) (let w = wave.1 in omega arith))) ∙ low_last s wave.1)),
-  ends_by ss (s.to + 1) end wave.2 (λ u h. or_right (covers s u) (line_of ss u) (over u h)),
-)
 
 pub dumps_are_read_back : DumpsAreReadBack
 dumps_are_read_back ss end wave over low =

@@ -20,7 +20,7 @@ use Rattle.capture_vcd.specs.declared.reader.Field.{Field}
 use Rattle.capture_vcd.specs.declared.reader.Field.TheVariants as field
 use Rattle.capture_vcd.specs.declared.reader.Section.{Section}
 use Rattle.capture_vcd.specs.declared.reader.Section.TheVariants as section
-use Rattle.capture_vcd.specs.declared.reader.Reader.{Reader}
+use Rattle.capture_vcd.specs.declared.reader.VcdReader.{VcdReader}
 
 -- ---- words
 
@@ -46,7 +46,7 @@ pub record State : Type 0 where
   pub is_data : Bool
   pub track : Track
 
-abbrev pub state_of_reader : Reader → State
+abbrev pub state_of_reader : VcdReader → State
 state_of_reader r = record {
   name = r.name.now;
   section = r.section;

@@ -90,7 +90,7 @@ fn vector_value(word: &[u8]) -> Option<bool>
 
 /// A reader of the words of a dump.
 #[derive(Clone, Copy, Debug)]
-pub struct Reader<'a> {
+pub struct VcdReader<'a> {
     /// The name of the wire; an empty one stands for any.
     name: &'a [u8],
     section: Section,
@@ -104,7 +104,7 @@ pub struct Reader<'a> {
     track: Track,
 }
 
-impl<'a> Reader<'a> {
+impl<'a> VcdReader<'a> {
     ghost use Rattle.capture_core.specs.Reading.{Takes};
     ghost use Rattle.capture_vcd.specs.Dump.{first_state, after_name, change, definition, free, in_field, in_section, keyword, end_of_definitions, scalar, scale_begun, scale_made, state_of_reader, after_time, took, after_value};
     ghost use Rattle.capture_vcd.specs.Scale.{counted_word};
@@ -113,7 +113,7 @@ impl<'a> Reader<'a> {
     pub fn new(name: &'a [u8]) -> Self
         ensures { state_of_reader result ≡ first_state name.now }
     {
-        Reader {
+        VcdReader {
             name,
             section: Section::Free,
             scale: None,
@@ -339,7 +339,7 @@ impl<'a> Reader<'a> {
     }
 }
 
-impl<'a> TakesWords<'a> for Reader<'a> {
+impl<'a> TakesWords<'a> for VcdReader<'a> {
     ghost use Rattle.capture_vcd.specs.Dump.{State as StateOf, dump_form, state_of_reader};
 
     ghost State = { StateOf };

@@ -2,7 +2,7 @@
 ghost use Rattle.capture_core.specs.Reading.{Gives};
 ghost use Rattle.capture_vcd.specs.Dump.{edges_in};
 
-use crate::reader::Reader;
+use crate::reader::VcdReader;
 use capture_core::{Capture, CaptureError, read_lines};
 use std::alloc::Global;
 
@@ -16,6 +16,6 @@ use std::alloc::Global;
 pub fn read_vcd(alloc: Global, name: &[u8], text: &[u8]) -> Result<Capture, CaptureError>
     ensures { Gives result (edges_in name.now text.now) }
 {
-    let (edges, end) = read_lines(alloc, &mut Reader::new(name), 1, text)?;
+    let (edges, end) = read_lines(alloc, &mut VcdReader::new(name), 1, text)?;
     Ok(Capture::new(edges, end))
 }

@@ -14,7 +14,7 @@ use Rattle.capture_core.specs.declared.fault.Slip.{Slip}
 use Rattle.capture_core.proofs.Passing.{alone, whole, without_word}
 use Rattle.capture_pin.specs.Pin.{pin_form, took, word_at_fault}
 use Rattle.capture_pin.specs.Sampling.{PinLinesAreEarly, PinLinesGoOn}
-use Rattle.capture_pin.specs.declared.reader.Reader.{Reader as PinReader}
+use Rattle.capture_pin.specs.declared.reader.PinReader.{PinReader}
 use Rattle.capture_monitor.specs.EdgeFile.{EdgeFile, EdgeLinesGoOn, edge_line_of, edges_read, end_read, is_in_turn, read_line, with_edge, word_past}
 use Rattle.capture_monitor.specs.declared.edge_file.EdgeFault.{EdgeFault}
 use Rattle.capture_monitor.specs.declared.edge_file.EdgeFault.TheVariants as fault
@@ -24,7 +24,7 @@ use Rattle.capture_forms.specs.Captures.{of_edges}
 use Rattle.capture_csv.specs.Csv.{column_of, column_read, csv_form, named_read}
 use Rattle.capture_csv.specs.Csv.{first_reader as first_rows, took as row_took, word_at_fault as row_at_fault}
 use Rattle.capture_csv.specs.Sampling.{CsvLinesAreEarly, CsvLinesGoOn}
-use Rattle.capture_csv.specs.declared.reader.Reader.{Reader as CsvReader}
+use Rattle.capture_csv.specs.declared.reader.CsvReader.{CsvReader}
 use Rattle.follow_core.specs.Lines.{EndsLines, IsEarly, TakesLine, after_line, after_said, file_left, from_by, from_of, lines_left, names_left, rows_by, rows_left, took_line}
 use Rattle.follow_core.specs.declared.edge_lines.EdgeReader.{EdgeReader}
 use Rattle.follow_core.specs.declared.lines.CaptureLines.{CaptureLines}

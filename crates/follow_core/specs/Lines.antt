@@ -10,7 +10,7 @@ use Rattle.capture_core.specs.declared.fault.Cause.TheVariants as cause
 use Rattle.capture_core.specs.declared.fault.CaptureFault.{CaptureFault}
 use Rattle.capture_csv.specs.Csv.{column_of, csv_form, named_read}
 use Rattle.capture_csv.specs.Csv.{first_reader as first_rows}
-use Rattle.capture_csv.specs.declared.reader.Reader.{Reader as CsvReader}
+use Rattle.capture_csv.specs.declared.reader.CsvReader.{CsvReader}
 use Rattle.capture_pin.specs.Pin.{first_reader, pin_form}
 use Rattle.capture_monitor.specs.EdgeFile.{EdgeFile, edge_line_of, edges_read, end_read, is_in_turn, word_out_of_turn, word_past}
 use Rattle.capture_monitor.specs.declared.edge_file.EdgeLine.{EdgeLine}

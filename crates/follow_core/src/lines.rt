@@ -1,7 +1,6 @@
 //! The lines of a capture, taken as they come.
 ghost use Rattle.std.specs.Prelude.{◌≡◌, ◌≤◌, List, IfErr, IfOk, IfSome, OnOk, ℕ};
 ghost use Rattle.line_wave.specs.Bounds.{latest_instant};
-ghost use Rattle.capture_core.specs.Reading.{fault_at};
 ghost use Rattle.capture_csv.specs.Csv.{column_of};
 ghost use Rattle.follow_core.specs.Lines.{EndsLines, TakesLine, no_signal, rows_by};
 ghost use Rattle.follow_core.specs.declared.lines.CaptureLines.TheVariants.{Pin, Rows};
@@ -43,16 +42,6 @@ pub enum CaptureLines {
     Rows(CsvReader),
 }
 
-fn fault_at(line: u64, slip: Slip) -> CaptureFault
-    ensures { result ≡ fault_at line slip }
-{
-    CaptureFault {
-        line,
-        cause: slip.cause,
-        word: slip.word,
-    }
-}
-
 // Takes a line of a file of pin events.
 fn take_pin(reader: &mut PinReader, number: u64, line: &[u8]) -> Result<Option<Edge>, CaptureFault>
     requires early { reader.old.track.at ≤ latest_instant }
@@ -65,7 +54,7 @@ fn take_pin(reader: &mut PinReader, number: u64, line: &[u8]) -> Result<Option<E
     pin_lines_are_early();
     match reader.take(0, line) {
         Ok(edge) => Ok(edge),
-        Err(slip) => Err(fault_at(number, slip)),
+        Err(slip) => Err(slip.on_line(number)),
     }
 }
 
@@ -104,7 +93,7 @@ fn take_row(reader: &mut CsvReader, number: u64, line: &[u8]) -> Result<Option<E
     csv_lines_are_early();
     match reader.take(0, line) {
         Ok(edge) => Ok(edge),
-        Err(slip) => Err(fault_at(number, slip)),
+        Err(slip) => Err(slip.on_line(number)),
     }
 }
 
@@ -119,7 +108,10 @@ fn end_rows(reader: &CsvReader, number: u64) -> Result<Last, CaptureFault>
     // No effect at run time. The proof reads from it that the end is within the limit.
     csv_lines_go_on();
     match reader.end() {
-        Err(cause) => Err(fault_at(number, Slip { cause, word: 0 })),
+        Err(cause) => {
+            let slip = Slip { cause, word: 0 };
+            Err(slip.on_line(number))
+        }
         Ok(end) => Ok(Last {
             edge: reader.track().last(),
             end,

@@ -10,4 +10,4 @@ pub returns-in-Ok-clause-early : goal.returns-in-Ok-clause-early
 returns-in-Ok-clause-early c = rows_end_early c.csv_lines_go_on.ensures c.args.reader.now c.in-Ok.end c.requires.early (sym c.in-Ok.ensures)
 
 pub returns-in-Err-clause-ends : goal.returns-in-Err-clause-ends
-returns-in-Err-clause-ends c = rows_end_not c.args.reader.now c.args.number c.fault_at.result c.in-Err.cause (sym c.in-Err.ensures)
+returns-in-Err-clause-ends c = rows_end_not c.args.reader.now c.args.number c.on_line.result c.in-Err.cause (sym c.in-Err.ensures)

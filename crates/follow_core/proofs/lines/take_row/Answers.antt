@@ -16,4 +16,4 @@ returns-in-Ok-clause-edge c =
     e.1
 
 pub returns-in-Err-clause-takes : goal.returns-in-Err-clause-takes
-returns-in-Err-clause-takes c = λ signal. row_refuses signal c.args.reader.now c.take.new.self c.args.number c.args.line.now c.in-Err.slip c.fault_at.result c.in-Err.ensures (sym c.fault_at.ensures)
+returns-in-Err-clause-takes c = λ signal. row_refuses signal c.args.reader.now c.take.new.self c.args.number c.args.line.now c.in-Err.slip c.on_line.result c.in-Err.ensures (sym c.on_line.ensures)
