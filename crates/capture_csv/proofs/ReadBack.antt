@@ -24,6 +24,7 @@ use Rattle.capture_core.proofs.Moving.{due, track_at}
 use Rattle.capture_core.proofs.Numbers.{number_again}
 use Rattle.capture_core.proofs.Bytes.{Lacks, digits_lack, dot_at, no_byte, shown}
 use Rattle.capture_core.proofs.Ends.{EndsBy, ends_by}
+use Rattle.capture_core.proofs.Texts as texts
 use Rattle.capture_core.proofs.Texts.{line_before}
 use Rattle.capture_core.specs.Reading.{at_word, lines_read, with_edges}
 use Rattle.capture_core.specs.declared.fault.CaptureFault.{CaptureFault}

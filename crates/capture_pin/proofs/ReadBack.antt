@@ -41,12 +41,12 @@ line_in number line rest t u edge plain h =
 fraction_ok : (n : ℕ) → n < 1000000 → fraction_of (nine_digits n) ≡ Some (n * 1000)
 fraction_ok n h = decimals_again n h
 
-instant_ok : (t : ℕ) → t ≤ 2000000000000 → instant_of (t / 1000000 * 1000000000 + t % 1000000 * 1000) ≡ Some t
+instant_ok : (t : ℕ) → t ≤ 2000000000000 → instant_of (t / 1000000 * 1000000000 + t % 1000000 * 1000 - 0) ≡ Some t
 instant_ok t h =
     let whole : t / 1000000 * 1000000000 + t % 1000000 * 1000 ≡ t * 1000 = omega arith in
     let low : nat_lt 2000000000000000 (t * 1000 - 0) ≡ false = grind (arith, nat_tests) in
     let up : (t * 1000 - 0 + 999) / 1000 ≡ t = omega arith in
-    ap instant_of whole ∙ rw low (ap Some up)
+    ap (λ nanos. instant_of (nanos - 0)) whole ∙ rw low (ap Some up)
 
 abbrev stood : ℕ → Bool → Bool → PinReader
 stood at was_low is_low = record { start = 0; track = track_at at was_low is_low }
