@@ -9,21 +9,21 @@ use Rattle.line_frames.specs.declared.Ending.{Ending}
 use Rattle.line_reading.specs.Readings.{Listed, readings_of}
 use Rattle.capture_core.specs.Edges.{Captured, line_of_edges}
 use Rattle.audit_widths.specs.declared.low.Low.{Low as LowOf}
-use Rattle.audit_widths.specs.declared.misfit.Kind.{Kind}
-use Rattle.audit_widths.specs.declared.misfit.Kind.TheVariants.{Low, Total}
+use Rattle.audit_widths.specs.declared.misfit.SlotWidth.{SlotWidth}
+use Rattle.audit_widths.specs.declared.misfit.SlotWidth.TheVariants.{Low, Total}
 use Rattle.audit_widths.specs.declared.misfit.Misfit.{Misfit}
 use Rattle.audit_widths.specs.declared.spread.Spread.{Spread}
 use Rattle.audit_widths.specs.declared.spread.Widths.{Widths}
 use Rattle.audit_widths.specs.Misfits.{drive_within, fits, low_misfit, total_misfit, window}
 use Rattle.audit_remarks.specs.declared.attempts.Failure.{Failure}
-use Rattle.audit_remarks.specs.declared.counts.Count.{Count}
+use Rattle.audit_remarks.specs.declared.counts.FrameCount.{FrameCount}
 use Rattle.audit_remarks.specs.declared.free.TooSoon.{TooSoon}
 use Rattle.message_hex.specs.Remark.{abort_reasons, audio_rates, deck_states, device_types, first_of, more_names, more_words, operand_remark, place_of, play_modes, powers, record_sources, record_states, timer_cleared, tuner_requests, user_controls, versions}
 use Rattle.message_table.specs.WordSets.{NamedByte, word_of}
 use Rattle.message_text.specs.FrameText.{opcode_text}
 use Rattle.line_frames.specs.Blocks.{frame_in}
 use Rattle.capture_monitor.specs.Watch.{reading_as}
-use Rattle.audit_remarks.specs.declared.header.Head.{Head}
+use Rattle.audit_remarks.specs.declared.header.FrameHead.{FrameHead}
 use Rattle.audit_remarks.specs.Header.{head_read}
 use Rattle.audit_core.proofs.OneLine.{PlainIf, plain_opcode, shown, worded}
 use Rattle.audit_remarks.specs.declared.messages.Missing.{Missing}
@@ -31,7 +31,7 @@ use Rattle.audit_remarks.specs.declared.messages.Receivers.{Receivers}
 use Rattle.audit_remarks.specs.declared.messages.Receivers.TheVariants.{OneDevice, AllDevices}
 use Rattle.audit_remarks.specs.declared.requests.Request.{Request}
 use Rattle.audit_remarks.specs.Messages.{missed_receivers, missing_operands}
-use Rattle.audit_remarks.specs.declared.series.Series.{Series}
+use Rattle.audit_remarks.specs.declared.series.BadStartSeries.{BadStartSeries}
 use Rattle.audit_remarks.specs.declared.sources.Mention.{Mention}
 use Rattle.audit_core.specs.Lines.{answer_text, answered_text, answers_text, claim_text, claims_text, count_text, counts_text, drive_text, drive_word, failure_text, failure_word, head_line, head_text, if_answered, if_given_up, if_late, kind_text, late_text, limit_word, misfit_line, misfit_text, misfits_text, missing_text, moved_text, named_text, receivers_text, request_text, series_text, soon_text, spread_text, timing_text, unfinished_text, widths_text, within_text}
 use Rattle.audit_remarks.specs.Attempts.{failure_of, tries_again}
@@ -88,7 +88,7 @@ more_remarks {a} {b} x y = record {
 
 -- ---- notes
 
-head_lines : (h : Head) (o : Option ℕ) → AreRemarks (head_line h o)
+head_lines : (h : FrameHead) (o : Option ℕ) → AreRemarks (head_line h o)
 head_lines h None =
     one_remark (head_line h None) (refl, refl, lit (codes "read ") refl (closed_more (nibble_text (h.initiator % 16)) (plain_nibble (h.initiator % 16)) (lit (codes ">") refl (closed_more (nibble_text (h.destination % 16)) (plain_nibble (h.destination % 16)) closed))))
 head_lines h (Some opcode) =
@@ -98,7 +98,7 @@ head_lines h (Some opcode) =
       lit (codes "read ") refl (closed_more (nibble_text (h.initiator % 16)) (plain_nibble (h.initiator % 16)) (lit (codes ">") refl (closed_more (nibble_text (h.destination % 16)) (plain_nibble (h.destination % 16)) (lit (codes " ") refl (closed_more (opcode_text opcode) (plain_opcode opcode) closed))))),
     )
 
-head_remarks : (o : Option Head) → AreRemarks (head_text o)
+head_remarks : (o : Option FrameHead) → AreRemarks (head_text o)
 head_remarks None = no_remarks
 head_remarks (Some h) = head_lines h h.opcode
 
@@ -147,7 +147,7 @@ notes x = more_remarks (head_remarks (head_read x.reported.ending x.reported.bit
 
 -- ---- each kind of remark
 
-series_remarks : (o : Option Series) → AreRemarks (series_text o)
+series_remarks : (o : Option BadStartSeries) → AreRemarks (series_text o)
 series_remarks None = no_remarks
 series_remarks (Some s) = one_remark (series_text (Some s)) (refl, refl, lit (codes "after ") refl (dec s.count (lit (codes " bad-start since ") refl (dec s.since closed))))
 
@@ -155,7 +155,7 @@ soon_remarks : (o : Option TooSoon) → AreRemarks (soon_text o)
 soon_remarks None = no_remarks
 soon_remarks (Some s) = one_remark (soon_text (Some s)) (refl, refl, lit (codes "free ") refl (dec s.free (lit (codes " of ") refl (dec s.due closed))))
 
-plain_kind : (k : Kind) → IsPlain (kind_text k)
+plain_kind : (k : SlotWidth) → IsPlain (kind_text k)
 plain_kind Low = plain_codes (codes " low ") refl
 plain_kind Total = plain_codes (codes " total ") refl
 
@@ -294,11 +294,11 @@ timing_remarks : (timing : Bool) (w : Widths) → AreRemarks (timing_text timing
 timing_remarks true w = widths_remarks w
 timing_remarks false w = no_remarks
 
-abbrev count_line : ℕ → Count → List ℕ
+abbrev count_line : ℕ → FrameCount → List ℕ
 count_line initiator c =
     codes "  from " ++ (nibble_text (initiator % 16) ++ (codes ": " ++ (decimal c.taken ++ (codes " taken, " ++ (decimal c.untaken ++ (codes " not taken, " ++ (decimal c.broken ++ codes " broken\n")))))))
 
-count_remarks : (initiator : ℕ) (c : Count) → AreRemarks (count_text initiator c)
+count_remarks : (initiator : ℕ) (c : FrameCount) → AreRemarks (count_text initiator c)
 count_remarks initiator c = by ((c.taken == 0) && ((c.untaken == 0) && (c.broken == 0)))
   where
     line : AreRemarks (count_line initiator c)
@@ -312,7 +312,7 @@ count_remarks initiator c = by ((c.taken == 0) && ((c.untaken == 0) && (c.broken
     by true = no_remarks
     by false = line
 
-counts_remarks : (initiator : ℕ) (counts : List Count) → AreRemarks (counts_text initiator counts)
+counts_remarks : (initiator : ℕ) (counts : List FrameCount) → AreRemarks (counts_text initiator counts)
 counts_remarks initiator [] = no_remarks
 counts_remarks initiator (c ∷ counts) = more_remarks (count_remarks initiator c) (counts_remarks (initiator + 1) counts)
 
@@ -324,7 +324,7 @@ summary_remarks end t =
 
 -- ---- below a reading
 
-folded_remarks : (s : Series) (x : Listed) (lows : List LowOf) → AreRemarks (reading_misfits s x lows)
+folded_remarks : (s : BadStartSeries) (x : Listed) (lows : List LowOf) → AreRemarks (reading_misfits s x lows)
 folded_remarks s x lows = by (is_folded s x.reported.ending)
   where
     by : (b : Bool) → AreRemarks (if b then [] else misfits_text x.reported.ending x.reported.bits 0 lows)

@@ -18,10 +18,10 @@ use Rattle.capture_monitor.specs.Watch.{listed_line, reading_as}
 use Rattle.audit_remarks.specs.declared.attempts.Attempts.{Attempts}
 use Rattle.audit_core.specs.declared.auditor.Auditor.{Auditor}
 use Rattle.audit_core.specs.declared.whole.WholeAudit.{WholeAudit}
-use Rattle.audit_remarks.specs.declared.counts.Count.{Count}
+use Rattle.audit_remarks.specs.declared.counts.FrameCount.{FrameCount}
 use Rattle.audit_remarks.specs.declared.free.Previous.{Previous}
 use Rattle.audit_remarks.specs.declared.requests.Request.{Request}
-use Rattle.audit_remarks.specs.declared.series.Series.{Series}
+use Rattle.audit_remarks.specs.declared.series.BadStartSeries.{BadStartSeries}
 use Rattle.audit_remarks.specs.declared.sources.Sources.{Sources}
 use Rattle.audit_remarks.specs.Attempts.{after_attempt, failure_of, no_attempts, tries_again}
 use Rattle.audit_remarks.specs.Counts.{no_counts, with_reading}
@@ -41,11 +41,11 @@ pub record Tape : Type 0 where
   pub place : List Edge
   pub previous : Previous
   pub attempts : Attempts
-  pub series : Series
+  pub series : BadStartSeries
   pub waiting : List Request
   pub places : List (Option Phys)
   pub sources : Sources
-  pub counts : List Count
+  pub counts : List FrameCount
   pub widths : Widths
 
 -- of a capture of which these edges are left
@@ -74,10 +74,10 @@ abbrev pub lows_of : Listed → List Edge → List Low
 lows_of x edges = lows_before (falls_until x.reported.ending x.reported.at) edges
 
 -- the widths that are out of their windows: of bad starts in a row those of the first one
-abbrev pub is_folded : Series → Ending → Bool
+abbrev pub is_folded : BadStartSeries → Ending → Bool
 is_folded s ending = is_bad_start ending && nat_lt 0 s.count
 
-abbrev pub reading_misfits : Series → Listed → List Low → List ℕ
+abbrev pub reading_misfits : BadStartSeries → Listed → List Low → List ℕ
 reading_misfits s x lows = if is_folded s x.reported.ending then [] else misfits_text x.reported.ending x.reported.bits 0 lows
 
 -- the low drive that may follow it

@@ -6,22 +6,22 @@ use Rattle.text_core.specs.declared.phys.Phys.{Phys}
 use Rattle.text_core.specs.Piece.{hex_text, nibble_text, phys_text}
 use Rattle.line_frames.specs.declared.Ending.{Ending}
 use Rattle.audit_widths.specs.declared.low.Low.{Low as LowOf}
-use Rattle.audit_widths.specs.declared.misfit.Kind.{Kind}
-use Rattle.audit_widths.specs.declared.misfit.Kind.TheVariants.{Low, Total}
+use Rattle.audit_widths.specs.declared.misfit.SlotWidth.{SlotWidth}
+use Rattle.audit_widths.specs.declared.misfit.SlotWidth.TheVariants.{Low, Total}
 use Rattle.audit_widths.specs.declared.misfit.Misfit.{Misfit}
 use Rattle.audit_widths.specs.declared.spread.Spread.{Spread}
 use Rattle.audit_widths.specs.declared.spread.Widths.{Widths}
 use Rattle.audit_widths.specs.Misfits.{fits, low_misfit, total_misfit, window}
 use Rattle.audit_remarks.specs.declared.attempts.Failure.{Failure}
-use Rattle.audit_remarks.specs.declared.counts.Count.{Count}
+use Rattle.audit_remarks.specs.declared.counts.FrameCount.{FrameCount}
 use Rattle.audit_remarks.specs.declared.free.TooSoon.{TooSoon}
 use Rattle.message_text.specs.FrameText.{opcode_text}
-use Rattle.audit_remarks.specs.declared.header.Head.{Head}
+use Rattle.audit_remarks.specs.declared.header.FrameHead.{FrameHead}
 use Rattle.audit_remarks.specs.declared.messages.Missing.{Missing}
 use Rattle.audit_remarks.specs.declared.messages.Receivers.{Receivers}
 use Rattle.audit_remarks.specs.declared.messages.Receivers.TheVariants.{OneDevice, AllDevices}
 use Rattle.audit_remarks.specs.declared.requests.Request.{Request}
-use Rattle.audit_remarks.specs.declared.series.Series.{Series}
+use Rattle.audit_remarks.specs.declared.series.BadStartSeries.{BadStartSeries}
 use Rattle.audit_remarks.specs.declared.sources.Mention.{Mention}
 use Rattle.audit_remarks.specs.Requests.{is_answer, is_given_up, is_late, waited}
 use Rattle.audit_remarks.specs.Sources.{is_unreported}
@@ -34,19 +34,19 @@ named_text None = []
 named_text (Some name) = concat (codes "  # " ∷ name ∷ codes "\n" ∷ [])
 
 -- a reading that ends after whole blocks: `  read 0>8`, `  read 4>0 image-view-on`
-abbrev pub head_line : Head → Option ℕ → List ℕ
+abbrev pub head_line : FrameHead → Option ℕ → List ℕ
 head_line h None = concat (codes "  read " ∷ nibble_text (h.initiator % 16) ∷ codes ">" ∷ nibble_text (h.destination % 16) ∷ codes "\n" ∷ [])
 head_line h (Some opcode) =
     concat (codes "  read " ∷ nibble_text (h.initiator % 16) ∷ codes ">" ∷ nibble_text (h.destination % 16) ∷ codes " " ∷ opcode_text opcode ∷ codes "\n" ∷ [])
 
-abbrev pub head_text : Option Head → List ℕ
+abbrev pub head_text : Option FrameHead → List ℕ
 head_text None = []
 head_text (Some h) = head_line h h.opcode
 
 -- ---- times and blocks
 
 -- bad starts in a row, folded: `  after 7 bad-start since 1000`
-abbrev pub series_text : Option Series → List ℕ
+abbrev pub series_text : Option BadStartSeries → List ℕ
 series_text None = []
 series_text (Some s) = concat (codes "  after " ∷ decimal s.count ∷ codes " bad-start since " ∷ decimal s.since ∷ codes "\n" ∷ [])
 
@@ -55,7 +55,7 @@ abbrev pub soon_text : Option TooSoon → List ℕ
 soon_text None = []
 soon_text (Some s) = concat (codes "  free " ∷ decimal s.free ∷ codes " of " ∷ decimal s.due ∷ codes "\n" ∷ [])
 
-abbrev pub kind_text : Kind → List ℕ
+abbrev pub kind_text : SlotWidth → List ℕ
 kind_text Low = codes " low "
 kind_text Total = codes " total "
 
@@ -190,12 +190,12 @@ timing_text false w = []
 -- ---- frames of each initiator
 
 -- `  from 4: 12 taken, 1 not taken, 2 broken`; nothing of who sent none
-abbrev pub count_text : ℕ → Count → List ℕ
+abbrev pub count_text : ℕ → FrameCount → List ℕ
 count_text initiator c =
     if (c.taken == 0) && ((c.untaken == 0) && (c.broken == 0)) then []
     else concat (codes "  from " ∷ nibble_text (initiator % 16) ∷ codes ": " ∷ decimal c.taken ∷ codes " taken, " ∷ decimal c.untaken ∷ codes " not taken, " ∷ decimal c.broken ∷ codes " broken\n" ∷ [])
 
 -- of the initiators from one on
-abbrev pub counts_text : ℕ → List Count → List ℕ
+abbrev pub counts_text : ℕ → List FrameCount → List ℕ
 counts_text initiator [] = []
 counts_text initiator (c ∷ counts) = count_text initiator c ++ counts_text (initiator + 1) counts

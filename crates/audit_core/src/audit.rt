@@ -4,7 +4,7 @@ ghost use Rattle.capture_monitor.specs.Joined.{captured_by};
 ghost use Rattle.audit_core.specs.Audit.{audit_text, audit_text_of};
 ghost use Rattle.audit_core.specs.Progress.{WritesText};
 
-use crate::progress::Progress;
+use crate::progress::TextProgress;
 use crate::whole::WholeAudit;
 use capture_core::Capture;
 use capture_monitor::Monitor;
@@ -57,7 +57,7 @@ pub fn audit_capture_by<S: Sink>(
     let edges = capture.edges();
     let mut monitor = Monitor::with_windows(windows);
     let mut auditor = WholeAudit::new(edges);
-    let mut progress = Progress::new();
+    let mut progress = TextProgress::new();
     for edge in edges {
         let reading = monitor.edge(*edge);
         auditor.hear(&reading, options.timing, &mut progress, out);

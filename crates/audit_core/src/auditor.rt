@@ -15,10 +15,10 @@ use crate::lines::{
     write_misfits, write_missing, write_moved, write_named, write_receivers, write_series,
     write_soon, write_unfinished, write_widths, write_within,
 };
-use crate::progress::Progress;
+use crate::progress::TextProgress;
 use arrayvec::ArrayVec;
 use audit_remarks::{
-    Attempts, Counts, Places, Previous, Series, Sources, Waiting, after_frame, count_reading,
+    Attempts, Counts, Places, Previous, BadStartSeries, Sources, Waiting, after_frame, count_reading,
     delivered_frame, head_read, is_bad_start, missed_receivers, missing_operands, moved_from,
     no_counts, no_places, note_report, sender, unfinished,
 };
@@ -33,7 +33,7 @@ use text_core::{Piece, Sink};
 pub(crate) struct Auditor {
     previous: Previous,
     attempts: Attempts,
-    series: Series,
+    series: BadStartSeries,
     waiting: Waiting,
     places: Places,
     sources: Sources,
@@ -97,7 +97,7 @@ fn named_of(reading: &Reading) -> Option<&'static str>
 }
 
 // What was read, in words.
-fn write_notes<S: Sink>(reading: &Reading, progress: &mut Progress, out: &mut S)
+fn write_notes<S: Sink>(reading: &Reading, progress: &mut TextProgress, out: &mut S)
     ensures { WritesOn (S.contents out.old) (S.contents out.new) (S.is_stuck out.old) (S.is_stuck out.new) (notes_text (listed_as reading.now)) progress.old.so_far progress.new.so_far }
 {
     write_head(head_read(reading.ending, &reading.bits), progress, out);
@@ -105,17 +105,17 @@ fn write_notes<S: Sink>(reading: &Reading, progress: &mut Progress, out: &mut S)
 }
 
 // Whether a reading's widths are left out: it is a bad start after another one.
-fn is_folded(series: Series, ending: Ending) -> bool
+fn is_folded(series: BadStartSeries, ending: Ending) -> bool
     ensures { result ≡ is_folded series ending }
 {
     is_bad_start(ending) && series.count > 0
 }
 
 fn write_reading_misfits<S: Sink>(
-    series: Series,
+    series: BadStartSeries,
     reading: &Reading,
     lows: &[Low],
-    progress: &mut Progress,
+    progress: &mut TextProgress,
     out: &mut S,
 )
     requires { length lows.now ≤ most_sent }
@@ -143,7 +143,7 @@ fn write_reading_widths<S: Sink>(
     timing: bool,
     reading: &Reading,
     lows: &[Low],
-    progress: &mut Progress,
+    progress: &mut TextProgress,
     out: &mut S,
 )
     requires { length lows.now ≤ most_sent }
@@ -164,7 +164,7 @@ impl Auditor {
         Auditor {
             previous: Previous::new(),
             attempts: Attempts::new(),
-            series: Series::new(),
+            series: BadStartSeries::new(),
             waiting: Waiting::new(),
             places: no_places(),
             sources: Sources::new(),
@@ -180,7 +180,7 @@ impl Auditor {
         edges: &[Edge],
         lows: &[Low],
         frame: &[u8],
-        progress: &mut Progress,
+        progress: &mut TextProgress,
         out: &mut S,
     )
         requires lows { lows.now ≡ lows_of (listed_as reading.now) edges.now }
@@ -206,7 +206,7 @@ impl Auditor {
     }
 
     // What there is to remark of what a frame says.
-    fn write_frame<S: Sink>(&self, frame: &[u8], progress: &mut Progress, out: &mut S)
+    fn write_frame<S: Sink>(&self, frame: &[u8], progress: &mut TextProgress, out: &mut S)
         ensures { WritesOn (S.contents out.old) (S.contents out.new) (S.is_stuck out.old) (S.is_stuck out.new)
             (frame_text (tape_at [] self.now) frame.now) progress.old.so_far progress.new.so_far }
     {
@@ -228,7 +228,7 @@ impl Auditor {
         lows: &[Low],
         frame: &[u8],
         timing: bool,
-        progress: &mut Progress,
+        progress: &mut TextProgress,
         out: &mut S,
     )
         requires lows { lows.now ≡ lows_of (listed_as reading.now) edges.now }
@@ -266,7 +266,7 @@ impl Auditor {
         reading: &Reading,
         edges: &[Edge],
         timing: bool,
-        progress: &mut Progress,
+        progress: &mut TextProgress,
         out: &mut S,
     )
         ensures kept { tape_at edges.now self.new ≡ tape_after (listed_as reading.now) (tape_at edges.now self.old) }
@@ -280,7 +280,7 @@ impl Auditor {
     }
 
     /// Writes what there is to say of all readings up to an end.
-    pub(crate) fn summarize<S: Sink>(&self, end: u64, progress: &mut Progress, out: &mut S)
+    pub(crate) fn summarize<S: Sink>(&self, end: u64, progress: &mut TextProgress, out: &mut S)
         ensures { WritesOn (S.contents out.old) (S.contents out.new) (S.is_stuck out.old) (S.is_stuck out.new)
             (summary_text end (tape_at [] self.now)) progress.old.so_far progress.new.so_far }
     {

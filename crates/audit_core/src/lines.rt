@@ -5,11 +5,11 @@ ghost use Rattle.message_table.specs.Table.{name_of};
 ghost use Rattle.audit_core.specs.Lines.{answer_text, answers_text, answered_text, claim_text, claims_text, count_text, counts_text, drive_text, drive_word, failure_text, failure_word, head_line, head_text, if_answered, if_given_up, if_late, kind_text, late_text, limit_word, misfit_line, misfit_text, misfits_text, missing_text, moved_text, named_text, named_text, receivers_text, receivers_word, request_text, series_text, soon_text, spread_text, unfinished_text, unless_reported, widths_text, within_text};
 ghost use Rattle.audit_core.specs.Progress.{WritesOn};
 
-use crate::progress::Progress;
+use crate::progress::TextProgress;
 use audit_remarks::{
-    Count, Failure, Head, Mention, Missing, Receivers, Request, Series, Sources, TooSoon,
+    FrameCount, Failure, FrameHead, Mention, Missing, Receivers, Request, BadStartSeries, Sources, TooSoon,
 };
-use audit_widths::{DRIVE, Kind, Low, Misfit, Spread, Widths, low_misfit, total_misfit};
+use audit_widths::{DRIVE, SlotWidth, Low, Misfit, Spread, Widths, low_misfit, total_misfit};
 use line_frames::Ending;
 use message_table::name;
 use text_core::{Phys, Piece, Sink};
@@ -20,7 +20,7 @@ const ATTEMPTS: u64 = 6;
 /// Writes what the standard calls what a line leaves as bytes.
 pub(crate) fn write_named<S: Sink>(
     named: Option<&'static str>,
-    progress: &mut Progress,
+    progress: &mut TextProgress,
     out: &mut S,
 )
     ensures { WritesOn (S.contents out.old) (S.contents out.new) (S.is_stuck out.old) (S.is_stuck out.new) (named_text (option_copied named.entry)) progress.old.so_far progress.new.so_far }
@@ -34,7 +34,7 @@ pub(crate) fn write_named<S: Sink>(
     );
 }
 
-fn write_header<S: Sink>(head: Head, progress: &mut Progress, out: &mut S)
+fn write_header<S: Sink>(head: FrameHead, progress: &mut TextProgress, out: &mut S)
     ensures { WritesOn (S.contents out.old) (S.contents out.new) (S.is_stuck out.old) (S.is_stuck out.new) (head_line head None) progress.old.so_far progress.new.so_far }
 {
     progress.line(
@@ -50,10 +50,10 @@ fn write_header<S: Sink>(head: Head, progress: &mut Progress, out: &mut S)
 }
 
 fn write_head_of_name<S: Sink>(
-    head: Head,
+    head: FrameHead,
     opcode: u8,
     text: &str,
-    progress: &mut Progress,
+    progress: &mut TextProgress,
     out: &mut S,
 )
     requires { name_of opcode ≡ Some text.now }
@@ -73,7 +73,7 @@ fn write_head_of_name<S: Sink>(
     );
 }
 
-fn write_head_of_byte<S: Sink>(head: Head, opcode: u8, progress: &mut Progress, out: &mut S)
+fn write_head_of_byte<S: Sink>(head: FrameHead, opcode: u8, progress: &mut TextProgress, out: &mut S)
     requires { name_of opcode ≡ None }
     ensures { WritesOn (S.contents out.old) (S.contents out.new) (S.is_stuck out.old) (S.is_stuck out.new) (head_line head (Some opcode)) progress.old.so_far progress.new.so_far }
 {
@@ -91,7 +91,7 @@ fn write_head_of_byte<S: Sink>(head: Head, opcode: u8, progress: &mut Progress, 
     );
 }
 
-fn write_head_line<S: Sink>(head: Head, opcode: u8, progress: &mut Progress, out: &mut S)
+fn write_head_line<S: Sink>(head: FrameHead, opcode: u8, progress: &mut TextProgress, out: &mut S)
     ensures { WritesOn (S.contents out.old) (S.contents out.new) (S.is_stuck out.old) (S.is_stuck out.new) (head_line head (Some opcode)) progress.old.so_far progress.new.so_far }
 {
     match name(opcode) {
@@ -100,7 +100,7 @@ fn write_head_line<S: Sink>(head: Head, opcode: u8, progress: &mut Progress, out
     }
 }
 
-fn write_head_by<S: Sink>(head: Head, opcode: Option<u8>, progress: &mut Progress, out: &mut S)
+fn write_head_by<S: Sink>(head: FrameHead, opcode: Option<u8>, progress: &mut TextProgress, out: &mut S)
     ensures { WritesOn (S.contents out.old) (S.contents out.new) (S.is_stuck out.old) (S.is_stuck out.new) (head_line head opcode) progress.old.so_far progress.new.so_far }
 {
     match opcode {
@@ -110,7 +110,7 @@ fn write_head_by<S: Sink>(head: Head, opcode: Option<u8>, progress: &mut Progres
 }
 
 /// Writes the header and the opcode of a reading that ends after whole blocks.
-pub(crate) fn write_head<S: Sink>(head: Option<Head>, progress: &mut Progress, out: &mut S)
+pub(crate) fn write_head<S: Sink>(head: Option<FrameHead>, progress: &mut TextProgress, out: &mut S)
     ensures { WritesOn (S.contents out.old) (S.contents out.new) (S.is_stuck out.old) (S.is_stuck out.new) (head_text head) progress.old.so_far progress.new.so_far }
 {
     let Some(head) = head else {
@@ -119,7 +119,7 @@ pub(crate) fn write_head<S: Sink>(head: Option<Head>, progress: &mut Progress, o
     write_head_by(head, head.opcode, progress, out);
 }
 
-pub(crate) fn write_series<S: Sink>(series: Option<Series>, progress: &mut Progress, out: &mut S)
+pub(crate) fn write_series<S: Sink>(series: Option<BadStartSeries>, progress: &mut TextProgress, out: &mut S)
     ensures { WritesOn (S.contents out.old) (S.contents out.new) (S.is_stuck out.old) (S.is_stuck out.new) (series_text series) progress.old.so_far progress.new.so_far }
 {
     let Some(series) = series else {
@@ -137,7 +137,7 @@ pub(crate) fn write_series<S: Sink>(series: Option<Series>, progress: &mut Progr
     );
 }
 
-pub(crate) fn write_soon<S: Sink>(soon: Option<TooSoon>, progress: &mut Progress, out: &mut S)
+pub(crate) fn write_soon<S: Sink>(soon: Option<TooSoon>, progress: &mut TextProgress, out: &mut S)
     ensures { WritesOn (S.contents out.old) (S.contents out.new) (S.is_stuck out.old) (S.is_stuck out.new) (soon_text soon) progress.old.so_far progress.new.so_far }
 {
     let Some(soon) = soon else {
@@ -155,16 +155,16 @@ pub(crate) fn write_soon<S: Sink>(soon: Option<TooSoon>, progress: &mut Progress
     );
 }
 
-fn kind_word(kind: Kind) -> &'static str
+fn kind_word(kind: SlotWidth) -> &'static str
     ensures { result.now ≡ kind_text kind }
 {
     match kind {
-        Kind::Low => " low ",
-        Kind::Total => " total ",
+        SlotWidth::Low => " low ",
+        SlotWidth::Total => " total ",
     }
 }
 
-fn write_misfit_line<S: Sink>(misfit: Misfit, progress: &mut Progress, out: &mut S)
+fn write_misfit_line<S: Sink>(misfit: Misfit, progress: &mut TextProgress, out: &mut S)
     ensures { WritesOn (S.contents out.old) (S.contents out.new) (S.is_stuck out.old) (S.is_stuck out.new) (misfit_line misfit) progress.old.so_far progress.new.so_far }
 {
     if misfit.slot == 0 {
@@ -204,7 +204,7 @@ fn write_misfit_line<S: Sink>(misfit: Misfit, progress: &mut Progress, out: &mut
     );
 }
 
-fn write_misfit<S: Sink>(misfit: Option<Misfit>, progress: &mut Progress, out: &mut S)
+fn write_misfit<S: Sink>(misfit: Option<Misfit>, progress: &mut TextProgress, out: &mut S)
     ensures { WritesOn (S.contents out.old) (S.contents out.new) (S.is_stuck out.old) (S.is_stuck out.new) (misfit_text misfit) progress.old.so_far progress.new.so_far }
 {
     let Some(misfit) = misfit else {
@@ -219,7 +219,7 @@ pub(crate) fn write_misfits<S: Sink>(
     bits: &[bool],
     slot: u64,
     lows: &[Low],
-    progress: &mut Progress,
+    progress: &mut TextProgress,
     out: &mut S,
 )
     requires { slot + length lows.now < 1000 }
@@ -244,7 +244,7 @@ fn drive_word(width: u64) -> &'static str
     }
 }
 
-pub(crate) fn write_drive<S: Sink>(drive: Option<u64>, progress: &mut Progress, out: &mut S)
+pub(crate) fn write_drive<S: Sink>(drive: Option<u64>, progress: &mut TextProgress, out: &mut S)
     ensures { WritesOn (S.contents out.old) (S.contents out.new) (S.is_stuck out.old) (S.is_stuck out.new) (drive_text drive) progress.old.so_far progress.new.so_far }
 {
     let Some(width) = drive else {
@@ -260,7 +260,7 @@ pub(crate) fn write_drive<S: Sink>(drive: Option<u64>, progress: &mut Progress, 
     );
 }
 
-pub(crate) fn write_within<S: Sink>(drive: Option<u64>, progress: &mut Progress, out: &mut S)
+pub(crate) fn write_within<S: Sink>(drive: Option<u64>, progress: &mut TextProgress, out: &mut S)
     ensures { WritesOn (S.contents out.old) (S.contents out.new) (S.is_stuck out.old) (S.is_stuck out.new) (within_text drive) progress.old.so_far progress.new.so_far }
 {
     let Some(width) = drive else {
@@ -276,7 +276,7 @@ pub(crate) fn write_within<S: Sink>(drive: Option<u64>, progress: &mut Progress,
     );
 }
 
-pub(crate) fn write_unfinished<S: Sink>(block: Option<usize>, progress: &mut Progress, out: &mut S)
+pub(crate) fn write_unfinished<S: Sink>(block: Option<usize>, progress: &mut TextProgress, out: &mut S)
     ensures { WritesOn (S.contents out.old) (S.contents out.new) (S.is_stuck out.old) (S.is_stuck out.new) (unfinished_text block) progress.old.so_far progress.new.so_far }
 {
     let Some(block) = block else {
@@ -312,7 +312,7 @@ fn limit_word(attempt: u64) -> &'static str
     }
 }
 
-pub(crate) fn write_failure<S: Sink>(failure: Option<Failure>, progress: &mut Progress, out: &mut S)
+pub(crate) fn write_failure<S: Sink>(failure: Option<Failure>, progress: &mut TextProgress, out: &mut S)
     ensures { WritesOn (S.contents out.old) (S.contents out.new) (S.is_stuck out.old) (S.is_stuck out.new) (failure_text failure) progress.old.so_far progress.new.so_far }
 {
     let Some(failure) = failure else {
@@ -333,7 +333,7 @@ pub(crate) fn write_failure<S: Sink>(failure: Option<Failure>, progress: &mut Pr
 pub(crate) fn write_moved<S: Sink>(
     initiator: u8,
     before: Option<Phys>,
-    progress: &mut Progress,
+    progress: &mut TextProgress,
     out: &mut S,
 )
     ensures { WritesOn (S.contents out.old) (S.contents out.new) (S.is_stuck out.old) (S.is_stuck out.new) (moved_text initiator before) progress.old.so_far progress.new.so_far }
@@ -364,7 +364,7 @@ fn receivers_word(receivers: Receivers) -> &'static str
 
 pub(crate) fn write_receivers<S: Sink>(
     receivers: Option<Receivers>,
-    progress: &mut Progress,
+    progress: &mut TextProgress,
     out: &mut S,
 )
     ensures { WritesOn (S.contents out.old) (S.contents out.new) (S.is_stuck out.old) (S.is_stuck out.new) (receivers_text receivers) progress.old.so_far progress.new.so_far }
@@ -375,7 +375,7 @@ pub(crate) fn write_receivers<S: Sink>(
     progress.line(out, &[Piece::Text(receivers_word(receivers))]);
 }
 
-pub(crate) fn write_missing<S: Sink>(missing: Option<Missing>, progress: &mut Progress, out: &mut S)
+pub(crate) fn write_missing<S: Sink>(missing: Option<Missing>, progress: &mut TextProgress, out: &mut S)
     ensures { WritesOn (S.contents out.old) (S.contents out.new) (S.is_stuck out.old) (S.is_stuck out.new) (missing_text missing) progress.old.so_far progress.new.so_far }
 {
     let Some(missing) = missing else {
@@ -393,7 +393,7 @@ pub(crate) fn write_missing<S: Sink>(missing: Option<Missing>, progress: &mut Pr
     );
 }
 
-fn write_claim<S: Sink>(sources: &Sources, claim: Mention, progress: &mut Progress, out: &mut S)
+fn write_claim<S: Sink>(sources: &Sources, claim: Mention, progress: &mut TextProgress, out: &mut S)
     ensures { WritesOn (S.contents out.old) (S.contents out.new) (S.is_stuck out.old) (S.is_stuck out.new) (unless_reported sources.now.reported.items claim) progress.old.so_far progress.new.so_far }
 {
     if !sources.is_unreported(claim.phys) {
@@ -415,7 +415,7 @@ fn write_claim<S: Sink>(sources: &Sources, claim: Mention, progress: &mut Progre
 pub(crate) fn write_claims<S: Sink>(
     sources: &Sources,
     claims: &[Mention],
-    progress: &mut Progress,
+    progress: &mut TextProgress,
     out: &mut S,
 )
     ensures { WritesOn (S.contents out.old) (S.contents out.new) (S.is_stuck out.old) (S.is_stuck out.new) (claims_text sources.now.reported.items claims.now) progress.old.so_far progress.new.so_far }
@@ -427,7 +427,7 @@ pub(crate) fn write_claims<S: Sink>(
     write_claims(sources, claims, progress, out);
 }
 
-fn write_request<S: Sink>(request: Request, progress: &mut Progress, out: &mut S)
+fn write_request<S: Sink>(request: Request, progress: &mut TextProgress, out: &mut S)
     ensures { WritesOn (S.contents out.old) (S.contents out.new) (S.is_stuck out.old) (S.is_stuck out.new) (request_text request) progress.old.so_far progress.new.so_far }
 {
     progress.line(
@@ -446,7 +446,7 @@ fn write_request<S: Sink>(request: Request, progress: &mut Progress, out: &mut S
     );
 }
 
-fn write_if_late<S: Sink>(begin: u64, request: Request, progress: &mut Progress, out: &mut S)
+fn write_if_late<S: Sink>(begin: u64, request: Request, progress: &mut TextProgress, out: &mut S)
     ensures { WritesOn (S.contents out.old) (S.contents out.new) (S.is_stuck out.old) (S.is_stuck out.new) (if_late begin request) progress.old.so_far progress.new.so_far }
 {
     if !request.is_late(begin) {
@@ -459,7 +459,7 @@ fn write_if_given_up<S: Sink>(
     begin: u64,
     frame: &[u8],
     request: Request,
-    progress: &mut Progress,
+    progress: &mut TextProgress,
     out: &mut S,
 )
     ensures { WritesOn (S.contents out.old) (S.contents out.new) (S.is_stuck out.old) (S.is_stuck out.new) (if_given_up begin frame.now request) progress.old.so_far progress.new.so_far }
@@ -470,7 +470,7 @@ fn write_if_given_up<S: Sink>(
     write_request(request, progress, out);
 }
 
-fn write_answered<S: Sink>(wait: u64, progress: &mut Progress, out: &mut S)
+fn write_answered<S: Sink>(wait: u64, progress: &mut TextProgress, out: &mut S)
     ensures { WritesOn (S.contents out.old) (S.contents out.new) (S.is_stuck out.old) (S.is_stuck out.new) (answered_text wait) progress.old.so_far progress.new.so_far }
 {
     progress.line(
@@ -483,7 +483,7 @@ fn write_answered<S: Sink>(wait: u64, progress: &mut Progress, out: &mut S)
     );
 }
 
-fn write_if_answered<S: Sink>(begin: u64, request: Request, progress: &mut Progress, out: &mut S)
+fn write_if_answered<S: Sink>(begin: u64, request: Request, progress: &mut TextProgress, out: &mut S)
     ensures { WritesOn (S.contents out.old) (S.contents out.new) (S.is_stuck out.old) (S.is_stuck out.new) (if_answered begin request) progress.old.so_far progress.new.so_far }
 {
     if !request.is_late(begin) {
@@ -496,7 +496,7 @@ fn write_answer<S: Sink>(
     begin: u64,
     frame: &[u8],
     request: Request,
-    progress: &mut Progress,
+    progress: &mut TextProgress,
     out: &mut S,
 )
     ensures { WritesOn (S.contents out.old) (S.contents out.new) (S.is_stuck out.old) (S.is_stuck out.new) (answer_text begin frame.now request) progress.old.so_far progress.new.so_far }
@@ -514,7 +514,7 @@ pub(crate) fn write_answers<S: Sink>(
     begin: u64,
     frame: &[u8],
     waiting: &[Request],
-    progress: &mut Progress,
+    progress: &mut TextProgress,
     out: &mut S,
 )
     ensures { WritesOn (S.contents out.old) (S.contents out.new) (S.is_stuck out.old) (S.is_stuck out.new) (answers_text begin frame.now waiting.now) progress.old.so_far progress.new.so_far }
@@ -530,7 +530,7 @@ pub(crate) fn write_answers<S: Sink>(
 pub(crate) fn write_late<S: Sink>(
     begin: u64,
     waiting: &[Request],
-    progress: &mut Progress,
+    progress: &mut TextProgress,
     out: &mut S,
 )
     ensures { WritesOn (S.contents out.old) (S.contents out.new) (S.is_stuck out.old) (S.is_stuck out.new) (late_text begin waiting.now) progress.old.so_far progress.new.so_far }
@@ -542,7 +542,7 @@ pub(crate) fn write_late<S: Sink>(
     write_late(begin, waiting, progress, out);
 }
 
-fn write_spread<S: Sink>(name: &str, spread: Spread, progress: &mut Progress, out: &mut S)
+fn write_spread<S: Sink>(name: &str, spread: Spread, progress: &mut TextProgress, out: &mut S)
     ensures { WritesOn (S.contents out.old) (S.contents out.new) (S.is_stuck out.old) (S.is_stuck out.new) (spread_text name.now spread) progress.old.so_far progress.new.so_far }
 {
     if spread.count == 0 {
@@ -565,7 +565,7 @@ fn write_spread<S: Sink>(name: &str, spread: Spread, progress: &mut Progress, ou
 }
 
 /// The widths of readings, a line for each kind of which there are some.
-pub(crate) fn write_widths<S: Sink>(widths: Widths, progress: &mut Progress, out: &mut S)
+pub(crate) fn write_widths<S: Sink>(widths: Widths, progress: &mut TextProgress, out: &mut S)
     ensures { WritesOn (S.contents out.old) (S.contents out.new) (S.is_stuck out.old) (S.is_stuck out.new) (widths_text widths) progress.old.so_far progress.new.so_far }
 {
     write_spread("  start low ", widths.start_low, progress, out);
@@ -575,7 +575,7 @@ pub(crate) fn write_widths<S: Sink>(widths: Widths, progress: &mut Progress, out
     write_spread("  bit total ", widths.total, progress, out);
 }
 
-fn write_count<S: Sink>(initiator: u8, count: Count, progress: &mut Progress, out: &mut S)
+fn write_count<S: Sink>(initiator: u8, count: FrameCount, progress: &mut TextProgress, out: &mut S)
     ensures { WritesOn (S.contents out.old) (S.contents out.new) (S.is_stuck out.old) (S.is_stuck out.new) (count_text initiator count) progress.old.so_far progress.new.so_far }
 {
     if count.taken == 0 && count.untaken == 0 && count.broken == 0 {
@@ -600,8 +600,8 @@ fn write_count<S: Sink>(initiator: u8, count: Count, progress: &mut Progress, ou
 /// Writes the counts of the initiators from one on, a line for each that sent a frame.
 pub(crate) fn write_counts<S: Sink>(
     initiator: u8,
-    counts: &[Count],
-    progress: &mut Progress,
+    counts: &[FrameCount],
+    progress: &mut TextProgress,
     out: &mut S,
 )
     requires { initiator + length counts.now ≤ 16 }

@@ -11,7 +11,7 @@ use text_core::{Piece, Sink, WriteFault, counted, cut_at, write_line};
 
 /// How far a text is written: its length so far, or where it was cut off. Once it is cut off nothing more is put.
 #[derive(Debug, Drop)]
-pub(crate) struct Progress {
+pub(crate) struct TextProgress {
     so_far: Result<u128, WriteFault>,
 }
 
@@ -25,12 +25,12 @@ fn length_after(written: u128, line: Result<u128, WriteFault>) -> Result<u128, W
     }
 }
 
-impl Progress {
+impl TextProgress {
     /// Of a text of which nothing is written yet.
     pub(crate) fn new() -> Self
         ensures { result.so_far ≡ Ok 0 }
     {
-        Progress { so_far: Ok(0) }
+        TextProgress { so_far: Ok(0) }
     }
 
     /// Writes a line, part by part.

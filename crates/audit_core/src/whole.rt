@@ -6,7 +6,7 @@ ghost use Rattle.audit_core.specs.Audit.{after, after_all, come_to, first_tape, 
 ghost use Rattle.audit_core.specs.Progress.{WritesOn};
 
 use crate::auditor::Auditor;
-use crate::progress::Progress;
+use crate::progress::TextProgress;
 use audit_widths::Cursor;
 use line_frames::Reading;
 use line_wave::Edge;
@@ -43,7 +43,7 @@ impl<'a> WholeAudit<'a> {
         &mut self,
         reading: &Reading,
         timing: bool,
-        progress: &mut Progress,
+        progress: &mut TextProgress,
         out: &mut S,
     )
         ensures kept { tape_of self.new ≡ after (listed_as reading.now) (tape_of self.old) }
@@ -61,7 +61,7 @@ impl<'a> WholeAudit<'a> {
         &mut self,
         reading: &Option<Reading>,
         timing: bool,
-        progress: &mut Progress,
+        progress: &mut TextProgress,
         out: &mut S,
     )
         ensures kept { tape_of self.new ≡ after_all (tape_of self.old) (option_to_list (option_map listed_as reading.now)) }
@@ -75,7 +75,7 @@ impl<'a> WholeAudit<'a> {
     }
 
     /// Writes what there is to say of all readings up to an end.
-    pub(crate) fn summarize<S: Sink>(&self, end: u64, progress: &mut Progress, out: &mut S)
+    pub(crate) fn summarize<S: Sink>(&self, end: u64, progress: &mut TextProgress, out: &mut S)
         ensures { WritesOn (S.contents out.old) (S.contents out.new) (S.is_stuck out.old) (S.is_stuck out.new)
             (summary_text end (tape_of self.now)) progress.old.so_far progress.new.so_far }
     {

@@ -1,7 +1,7 @@
 -- The first line at fault, where faults are of two kinds.
 use Rattle.std.proofs.Common.{◌≡◌, ℕ, ◌+◌, ◌≤◌, Bool, true, false, nat_lt, List, [], ◌∷◌, Option, Some, None, ap, refl, cond, arith, lt-ltb, le-ltb}
 use Rattle.expect_text.specs.Faults.{fault_or, line_fault as expectation_fault, faults_from as expectations_from}
-use Rattle.expect_text.specs.declared.fault.LineFault.{LineFault}
+use Rattle.expect_text.specs.declared.fault.ExpectLineFault.{ExpectLineFault}
 use Rattle.expect_text.specs.declared.faults.ExpectFault.{ExpectFault}
 use Rattle.audit_expect.specs.Lines.{line_fault}
 use Rattle.audit_expect.specs.Faults.{earlier, faults_from, kinds_from, or_else}
@@ -11,7 +11,7 @@ abbrev NotBefore : ℕ → Option ExpectFault → Type 0
 NotBefore number None = Unit {0}
 NotBefore number (Some fault) = number ≤ fault.line
 
-not_before : (number : ℕ) (fault : Option LineFault) (next : Option ExpectFault) → NotBefore (number + 1) next → NotBefore number (fault_or number fault next)
+not_before : (number : ℕ) (fault : Option ExpectLineFault) (next : Option ExpectFault) → NotBefore (number + 1) next → NotBefore number (fault_or number fault next)
 not_before number None None h = tt
 not_before number None (Some later) h = omega (arith, h)
 not_before number (Some fault) next h = omega arith
@@ -28,7 +28,7 @@ expectations_not_before text number (line ∷ lines) =
 choose : (b c : Bool) (x y : ExpectFault) → b ≡ c → (cond b (Some x) (Some y)) ≡ cond c (Some x) (Some y)
 choose b c x y e = ap (λ v. cond v (Some x) (Some y)) e
 
-joined : (number : ℕ) (own other : Option LineFault) (kinds expectations all : Option ExpectFault) → NotBefore (number + 1) kinds → NotBefore (number + 1) expectations
+joined : (number : ℕ) (own other : Option ExpectLineFault) (kinds expectations all : Option ExpectFault) → NotBefore (number + 1) kinds → NotBefore (number + 1) expectations
     → earlier kinds expectations ≡ all → earlier (fault_or number own kinds) (fault_or number other expectations) ≡ fault_or number (or_else own other) all
 joined number None None kinds expectations all k e is = is
 joined number None (Some other) None expectations all k e is = refl

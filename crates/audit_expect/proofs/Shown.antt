@@ -3,7 +3,7 @@ use Rattle.std.proofs.Common.{◌≡◌, ℕ, zero, suc, ◌+◌, ◌-◌, ◌||
 use Rattle.std.specs.List.{flat_map, list_any}
 use Rattle.audit_lines.specs.Kinds.{is_remark, kind_of}
 use Rattle.expect_run.specs.Report.{Report, shown_line}
-use Rattle.audit_expect.specs.Wanted.{Wanted, is_any_wanted, wanted_of, with_wanted, with_wanted_lines}
+use Rattle.audit_expect.specs.Wanted.{WantedRemarks, is_any_wanted, wanted_of, with_wanted, with_wanted_lines}
 
 abbrev pub shown : ℕ → List (List ℕ) → List ℕ
 shown n lines = flat_map shown_line (take n (filter (λ line. is_remark (kind_of line)) lines))
@@ -38,7 +38,7 @@ or_right : (a b : Bool) → (a || b) ≡ false → b ≡ false
 or_right true b h = cc
 or_right false b h = h
 
-unwanted : (audit : List (List ℕ)) (r : Report) (number : ℕ) (line : List ℕ) (o : Option Wanted) → is_some o ≡ false → with_wanted audit r number line o ≡ r
+unwanted : (audit : List (List ℕ)) (r : Report) (number : ℕ) (line : List ℕ) (o : Option WantedRemarks) → is_some o ≡ false → with_wanted audit r number line o ≡ r
 unwanted audit r number line None h = refl
 unwanted audit r number line (Some wanted) h = cc
 

@@ -2,12 +2,12 @@
 use Rattle.std.specs.Prelude.{ℕ, ◌+◌, nat_lt, if◌then◌else◌, List, [], ◌∷◌, Option, Some, None}
 use Rattle.text_core.specs.Lines.{lines_of}
 use Rattle.expect_text.specs.Faults.{fault_or, line_fault as expectation_fault}
-use Rattle.expect_text.specs.declared.fault.LineFault.{LineFault}
+use Rattle.expect_text.specs.declared.fault.ExpectLineFault.{ExpectLineFault}
 use Rattle.expect_text.specs.declared.faults.ExpectFault.{ExpectFault}
 use Rattle.audit_expect.specs.Lines.{line_fault}
 use Rattle.audit_expect.specs.Wanted.{plain_text, wanted_faults}
 
-abbrev pub or_else : Option LineFault → Option LineFault → Option LineFault
+abbrev pub or_else : Option ExpectLineFault → Option ExpectLineFault → Option ExpectLineFault
 or_else None next = next
 or_else (Some fault) next = Some fault
 

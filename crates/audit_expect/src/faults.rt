@@ -11,7 +11,7 @@ ghost use Rattle.audit_expect.specs.Faults.{earlier, first_fault, kinds_from, re
 
 use crate::wanted::wanted_fault_in;
 use expect_text::{
-    ExpectCause, ExpectFault, LineFault, after_label, at_word, exact_number, unlabelled,
+    ExpectCause, ExpectFault, ExpectLineFault, after_label, at_word, exact_number, unlabelled,
 };
 use std::alloc::{AllocError, Global};
 use text_core::{first_line, first_word, is_skipped};
@@ -76,7 +76,7 @@ pub(crate) fn instant_of(line: &[u8]) -> Option<u64>
     }
 }
 
-fn time_fault(word: usize, time: Option<u64>) -> Option<LineFault>
+fn time_fault(word: usize, time: Option<u64>) -> Option<ExpectLineFault>
     ensures { result ≡ time_fault word time }
 {
     match time {
@@ -85,7 +85,7 @@ fn time_fault(word: usize, time: Option<u64>) -> Option<LineFault>
     }
 }
 
-fn named_fault(rest: Option<&[u8]>) -> Option<LineFault>
+fn named_fault(rest: Option<&[u8]>) -> Option<ExpectLineFault>
     ensures { result ≡ named_fault (words_after (option_copied rest.entry)) }
 {
     let Some(text) = rest else {
@@ -105,7 +105,7 @@ fn named_fault(rest: Option<&[u8]>) -> Option<LineFault>
     }
 }
 
-fn event_fault(rest: Option<&[u8]>) -> Option<LineFault>
+fn event_fault(rest: Option<&[u8]>) -> Option<ExpectLineFault>
     ensures { result ≡ event_fault (words_after (option_copied rest.entry)) }
 {
     let Some(text) = rest else {
@@ -123,7 +123,7 @@ fn event_fault(rest: Option<&[u8]>) -> Option<LineFault>
     }
 }
 
-fn instant_fault(label: Option<&[u8]>, rest: Option<&[u8]>) -> Option<LineFault>
+fn instant_fault(label: Option<&[u8]>, rest: Option<&[u8]>) -> Option<ExpectLineFault>
     ensures { result ≡ instant_fault (option_copied label.entry) (words_after (option_copied rest.entry)) }
 {
     match label {
@@ -139,7 +139,7 @@ fn is_of_run(rest: Option<&[u8]>) -> bool
     has_verb(b"refused", rest) || has_verb(b"state", rest)
 }
 
-fn expectation_fault(label: Option<&[u8]>, rest: Option<&[u8]>) -> Option<LineFault>
+fn expectation_fault(label: Option<&[u8]>, rest: Option<&[u8]>) -> Option<ExpectLineFault>
     ensures { result ≡ option_map (after_label (option_copied label.entry)) (expectation_fault (words_after (option_copied rest.entry))) }
 {
     if is_of_run(rest) {
@@ -149,7 +149,7 @@ fn expectation_fault(label: Option<&[u8]>, rest: Option<&[u8]>) -> Option<LineFa
     }
 }
 
-fn verb_fault(label: Option<&[u8]>, verb: &[u8]) -> LineFault
+fn verb_fault(label: Option<&[u8]>, verb: &[u8]) -> ExpectLineFault
     ensures { result ≡ verb_fault (option_copied label.entry) verb.now }
 {
     match label {
@@ -179,7 +179,7 @@ fn is_passed(label: Option<&[u8]>, verb: &[u8]) -> bool
     }
 }
 
-fn kind_fault(label: Option<&[u8]>, rest: Option<&[u8]>) -> Option<LineFault>
+fn kind_fault(label: Option<&[u8]>, rest: Option<&[u8]>) -> Option<ExpectLineFault>
     ensures { result ≡ kind_fault (option_copied label.entry) (words_after (option_copied rest.entry)) }
 {
     let Some(text) = rest else {
@@ -197,7 +197,7 @@ fn kind_fault(label: Option<&[u8]>, rest: Option<&[u8]>) -> Option<LineFault>
     }
 }
 
-fn line_fault(line: &[u8]) -> Option<LineFault>
+fn line_fault(line: &[u8]) -> Option<ExpectLineFault>
     ensures { result ≡ line_fault line.now }
 {
     if is_skipped(line) {

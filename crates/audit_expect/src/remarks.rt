@@ -6,7 +6,7 @@ ghost use Rattle.audit_core.specs.Audit.{audit_text};
 ghost use Rattle.expect_run.specs.Report.{report_as, shown_line};
 ghost use Rattle.audit_expect.specs.Wanted.{holds_of, is_met, meets, shown_remarks, wanted_as, wanted_of, with_wanted, with_wanted_lines};
 
-use crate::wanted::{Wanted, is_any_wanted, wanted_of};
+use crate::wanted::{WantedRemarks, is_any_wanted, wanted_of};
 use audit_core::{AuditOptions, audit_capture};
 use audit_lines::{has_remark, kind_of};
 use capture_core::Capture;
@@ -47,12 +47,12 @@ fn is_any_met(audit: &[u8], pattern: &[u8]) -> bool
     false
 }
 
-fn holds_of(audit: &[u8], wanted: Wanted) -> bool
+fn holds_of(audit: &[u8], wanted: WantedRemarks) -> bool
     ensures { result ≡ holds_of (lines_of audit.now) (wanted_as wanted.entry) }
 {
     match wanted {
-        Wanted::NoRemark => !has_remark(audit),
-        Wanted::Remark(pattern) => is_any_met(audit, pattern),
+        WantedRemarks::NoRemark => !has_remark(audit),
+        WantedRemarks::Remark(pattern) => is_any_met(audit, pattern),
     }
 }
 

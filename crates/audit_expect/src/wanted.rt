@@ -5,15 +5,15 @@ ghost use Rattle.text_core.specs.Lines.{lines_of};
 ghost use Rattle.expect_text.specs.Form.{is_open_ended, is_pattern, stars};
 ghost use Rattle.audit_expect.specs.Wanted.{is_any_wanted, is_called, lone_fault, pattern_fault, plain_line, plain_text, remark_kinds, wanted_as, wanted_by, wanted_fault, wanted_faults, wanted_of};
 
-use audit_lines::Kind;
-use expect_text::{ExpectCause, ExpectFault, LineFault, at_word, fits};
+use audit_lines::AuditLine;
+use expect_text::{ExpectCause, ExpectFault, ExpectLineFault, at_word, fits};
 use json_trace::{after_word, word};
 use std::alloc::{AllocError, Global};
 use text_core::{byte_at, first_line};
 
 /// What a line expects of the remarks of an audit.
 #[derive(Clone, Copy, Debug)]
-pub(crate) enum Wanted<'a> {
+pub(crate) enum WantedRemarks<'a> {
     /// That there is none.
     NoRemark,
     /// That some remark meets a pattern.
@@ -21,20 +21,20 @@ pub(crate) enum Wanted<'a> {
 }
 
 /// The kinds of remarks.
-const REMARKS: &[Kind] = &[
-    Kind::NoAnswer,
-    Kind::LateAnswer,
-    Kind::Free,
-    Kind::StartLow,
-    Kind::StartTotal,
-    Kind::BitLow,
-    Kind::BitTotal,
-    Kind::LowDrive,
-    Kind::DriveWithin,
-    Kind::Unfinished,
-    Kind::LastAttempt,
-    Kind::Receivers,
-    Kind::Operands,
+const REMARKS: &[AuditLine] = &[
+    AuditLine::NoAnswer,
+    AuditLine::LateAnswer,
+    AuditLine::Free,
+    AuditLine::StartLow,
+    AuditLine::StartTotal,
+    AuditLine::BitLow,
+    AuditLine::BitTotal,
+    AuditLine::LowDrive,
+    AuditLine::DriveWithin,
+    AuditLine::Unfinished,
+    AuditLine::LastAttempt,
+    AuditLine::Receivers,
+    AuditLine::Operands,
 ];
 
 /// The most bytes of a pattern.
@@ -43,20 +43,20 @@ const PATTERN_MOST: usize = 160;
 /// The most `*` of a pattern.
 const STARS_MOST: usize = 4;
 
-fn wanted_by<'a>(how: &[u8], rest: &'a [u8]) -> Option<Wanted<'a>>
+fn wanted_by<'a>(how: &[u8], rest: &'a [u8]) -> Option<WantedRemarks<'a>>
     ensures { option_map wanted_as result ≡ wanted_by how.now rest.now }
 {
     if how == b"no-remark".as_slice() {
-        Some(Wanted::NoRemark)
+        Some(WantedRemarks::NoRemark)
     } else if how == b"remark".as_slice() {
-        Some(Wanted::Remark(rest))
+        Some(WantedRemarks::Remark(rest))
     } else {
         None
     }
 }
 
 /// What a line expects of remarks.
-pub(crate) fn wanted_of(line: &[u8]) -> Option<Wanted<'_>>
+pub(crate) fn wanted_of(line: &[u8]) -> Option<WantedRemarks<'_>>
     ensures { option_map wanted_as result ≡ wanted_of line.now }
 {
     if word(line) == b"expect".as_slice() {
@@ -155,7 +155,7 @@ fn is_pattern(text: &[u8]) -> bool
 }
 
 // Whether one of these kinds is called so.
-fn is_called(pattern: &[u8], kinds: &[Kind]) -> bool
+fn is_called(pattern: &[u8], kinds: &[AuditLine]) -> bool
     ensures { result ≡ is_called pattern.now kinds.now }
 {
     let mut rest = kinds;
@@ -175,7 +175,7 @@ fn is_remark_called(pattern: &[u8]) -> bool
     is_called(pattern, REMARKS)
 }
 
-fn pattern_fault(pattern: &[u8]) -> Option<LineFault>
+fn pattern_fault(pattern: &[u8]) -> Option<ExpectLineFault>
     ensures { result ≡ pattern_fault pattern.now }
 {
     if pattern.is_empty() {
@@ -190,7 +190,7 @@ fn pattern_fault(pattern: &[u8]) -> Option<LineFault>
 }
 
 // Whether nothing stands after `no-remark`.
-fn lone_fault(line: &[u8]) -> Option<LineFault>
+fn lone_fault(line: &[u8]) -> Option<ExpectLineFault>
     ensures { result ≡ lone_fault line.now }
 {
     if line == b"expect no-remark".as_slice() {
@@ -200,14 +200,14 @@ fn lone_fault(line: &[u8]) -> Option<LineFault>
     }
 }
 
-fn wanted_fault(line: &[u8]) -> Option<LineFault>
+fn wanted_fault(line: &[u8]) -> Option<ExpectLineFault>
     ensures { result ≡ wanted_fault line.now (wanted_of line.now) }
 {
     match wanted_of(line) {
         None => None,
         Some(wanted) => match wanted {
-            Wanted::NoRemark => lone_fault(line),
-            Wanted::Remark(pattern) => pattern_fault(pattern),
+            WantedRemarks::NoRemark => lone_fault(line),
+            WantedRemarks::Remark(pattern) => pattern_fault(pattern),
         },
     }
 }

@@ -3,13 +3,13 @@ use Rattle.std.specs.Prelude.{ℕ, zero, suc, ◌-◌, Bool, not, if◌then◌el
 use Rattle.std.specs.Str.{bytes_eq}
 use Rattle.json_trace.specs.Columns.{field}
 use Rattle.json_trace.specs.Parts.{after_byte, after_word, before_byte, word}
-use Rattle.json_trace.specs.declared.values.Shape.{Shape}
-use Rattle.json_trace.specs.declared.values.Shape.TheVariants.{Number, Text}
-use Rattle.audit_lines.specs.declared.kind.Kind.{Kind}
-use Rattle.audit_lines.specs.declared.kind.Kind.TheVariants.{BadStarts, NoAnswer, LateAnswer, Free, StartLow, StartTotal, BitLow, BitTotal, LowDrive, DriveWithin, Unfinished, Attempt, LastAttempt, Moved, Operands, Unreported, Read, Word, Sender, Widths}
-use Rattle.audit_json.specs.declared.fields.Field.{Field}
-use Rattle.audit_json.specs.declared.fields.Part.{Part}
-use Rattle.audit_json.specs.declared.fields.Part.TheVariants as parts
+use Rattle.json_trace.specs.declared.values.ValueShape.{ValueShape}
+use Rattle.json_trace.specs.declared.values.ValueShape.TheVariants.{Number, Text}
+use Rattle.audit_lines.specs.declared.kind.AuditLine.{AuditLine}
+use Rattle.audit_lines.specs.declared.kind.AuditLine.TheVariants.{BadStarts, NoAnswer, LateAnswer, Free, StartLow, StartTotal, BitLow, BitTotal, LowDrive, DriveWithin, Unfinished, Attempt, LastAttempt, Moved, Operands, Unreported, Read, Word, Sender, Widths}
+use Rattle.audit_json.specs.declared.fields.AuditField.{AuditField}
+use Rattle.audit_json.specs.declared.fields.ValuePart.{ValuePart}
+use Rattle.audit_json.specs.declared.fields.ValuePart.TheVariants as parts
 
 -- ---- where a value stands
 
@@ -25,7 +25,7 @@ abbrev pub verdict_of : List ℕ → List ℕ
 verdict_of word = if bytes_eq word (codes "not") then codes "nack" else codes "refused"
 
 -- the part of a text that is the value
-abbrev pub part_of : Part → List ℕ → List ℕ
+abbrev pub part_of : ValuePart → List ℕ → List ℕ
 part_of parts.Word text = word text
 part_of parts.TwoWords text = two_words text
 part_of parts.BeforeComma text = before_byte 44 (word text)
@@ -39,11 +39,11 @@ part_of parts.Verdict text = verdict_of (word text)
 -- a field by itself
 pub record FieldParts : Type 0 where
   pub name : List ℕ
-  pub shape : Shape
+  pub shape : ValueShape
   pub place : ℕ
-  pub part : Part
+  pub part : ValuePart
 
-abbrev pub field_parts : Field → FieldParts
+abbrev pub field_parts : AuditField → FieldParts
 field_parts f = record { name = f.name.now; shape = f.shape; place = f.place; part = f.part }
 
 abbrev pub value : FieldParts → List ℕ → List ℕ
@@ -186,7 +186,7 @@ is_refused text = not (bytes_eq (word (text_at text 2)) (codes "not"))
 abbrev pub block_fields : List ℕ → List FieldParts
 block_fields text = if is_refused text then refused_fields else untaken_fields
 
-abbrev pub fields_of : Kind → List ℕ → List FieldParts
+abbrev pub fields_of : AuditLine → List ℕ → List FieldParts
 fields_of BadStarts text = bad_start_fields
 fields_of NoAnswer text = no_answer_fields
 fields_of LateAnswer text = late_answer_fields

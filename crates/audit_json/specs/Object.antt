@@ -3,39 +3,39 @@ use Rattle.std.specs.Prelude.{◌≡◌, ℕ, Bool, true, false, ◌||◌, if◌
 use Rattle.json_trace.specs.Columns.{field}
 use Rattle.json_trace.specs.Object.{AreInOrder, IsReported, object, type_field}
 use Rattle.json_trace.specs.ReadBack.{line_of}
-use Rattle.json_trace.specs.declared.values.Shape.TheVariants.{Text}
+use Rattle.json_trace.specs.declared.values.ValueShape.TheVariants.{Text}
 use Rattle.audit_lines.specs.Kinds.{is_remark, kind_of, name_of, section_of}
-use Rattle.audit_lines.specs.declared.kind.Kind.{Kind}
-use Rattle.audit_lines.specs.declared.kind.Kind.TheVariants.{Reading, Summary, Sender, Widths}
+use Rattle.audit_lines.specs.declared.kind.AuditLine.{AuditLine}
+use Rattle.audit_lines.specs.declared.kind.AuditLine.TheVariants.{Reading, Summary, Sender, Widths}
 use Rattle.audit_json.specs.Fields.{fields_of, values}
 
-abbrev pub is_reading : Kind → Bool
+abbrev pub is_reading : AuditLine → Bool
 is_reading Reading = true
 is_reading kind = false
 
 -- what belongs to no reading, or to all
-abbrev pub is_note : Kind → Bool
+abbrev pub is_note : AuditLine → Bool
 is_note Summary = false
 is_note Sender = false
 is_note Widths = false
 is_note kind = true
 
 -- what the standard has otherwise is a remark, what else is said of a reading a note
-abbrev pub type_of : Kind → List ℕ
+abbrev pub type_of : AuditLine → List ℕ
 type_of kind = if is_remark kind then codes "remark" else if is_note kind then codes "note" else name_of kind
 
 -- of a remark and of a note its kind and its section of HDMI 1.4, CEC
-abbrev pub named_fields : Kind → List ℕ
+abbrev pub named_fields : AuditLine → List ℕ
 named_fields kind = field (type_of kind) Text (name_of kind) ++ field (codes "section") Text (section_of kind)
 
-abbrev pub kind_fields : Kind → List ℕ
+abbrev pub kind_fields : AuditLine → List ℕ
 kind_fields kind = if is_note kind then named_fields kind else []
 
-abbrev pub said_by : Kind → List ℕ → List ℕ
+abbrev pub said_by : AuditLine → List ℕ → List ℕ
 said_by kind text = type_field (type_of kind) ++ kind_fields kind ++ values (fields_of kind text) text
 
 -- what the object of a line has after the line
-pub record IsBody (kind : Kind) (line body : List ℕ) : Type 0 where
+pub record IsBody (kind : AuditLine) (line body : List ℕ) : Type 0 where
   pub reading : is_reading kind ≡ true → IsReported line body
   pub said : is_reading kind ≡ false → body ≡ said_by kind (drop 2 line)
 

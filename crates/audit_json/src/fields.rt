@@ -3,13 +3,13 @@ ghost use Rattle.std.specs.Prelude.{◌≡◌, map};
 ghost use Rattle.text_core.specs.Adds.{Adds};
 ghost use Rattle.audit_json.specs.Fields.{block_fields, field_parts, fields_of, is_refused, part_of, text_at, two_words, values, verdict_of};
 
-use audit_lines::Kind;
-use json_trace::{Shape, add_field, after_byte, after_word, before_byte, word};
+use audit_lines::AuditLine;
+use json_trace::{ValueShape, add_field, after_byte, after_word, before_byte, word};
 use text_core::{Counted, Sink, after, before};
 
 /// Which part of a text is the value.
 #[derive(Clone, Copy, Debug)]
-pub enum Part {
+pub enum ValuePart {
     /// Its first word.
     Word,
     /// Its first two words.
@@ -29,27 +29,27 @@ pub enum Part {
 
 /// A field: its name, how its value is written, and which part that is of what stands from a word on, counted from 0.
 #[derive(Clone, Copy, Debug)]
-pub struct Field {
+pub struct AuditField {
     pub name: &'static str,
-    pub shape: Shape,
+    pub shape: ValueShape,
     pub place: u64,
-    pub part: Part,
+    pub part: ValuePart,
 }
 
 macro_rules! fields {
     ($($name:literal $shape:ident $place:literal $part:ident;)*) => {
-        &[$(Field { name: $name, shape: Shape::$shape, place: $place, part: Part::$part },)*]
+        &[$(AuditField { name: $name, shape: ValueShape::$shape, place: $place, part: ValuePart::$part },)*]
     };
 }
 
 /// `after 7 bad-start since 1000`
-const BAD_STARTS: &[Field] = fields! {
+const BAD_STARTS: &[AuditField] = fields! {
     "count" Number 1 Word;
     "since" Number 4 Word;
 };
 
 /// `no answer to 4>0 8f of 1051150`
-const NO_ANSWER: &[Field] = fields! {
+const NO_ANSWER: &[AuditField] = fields! {
     "initiator" Text 3 Initiator;
     "destination" Text 3 Destination;
     "opcode" Text 4 Word;
@@ -57,26 +57,26 @@ const NO_ANSWER: &[Field] = fields! {
 };
 
 /// `answered after 1199000, at most 1000000`
-const LATE_ANSWER: &[Field] = fields! {
+const LATE_ANSWER: &[AuditField] = fields! {
     "wait" Number 2 BeforeComma;
     "most" Number 5 Word;
 };
 
 /// `free 7199 of 7200`
-const FREE: &[Field] = fields! {
+const FREE: &[AuditField] = fields! {
     "width" Number 1 Word;
     "due" Number 3 Word;
 };
 
 /// `start low 3400 not 3500..3900`
-const START: &[Field] = fields! {
+const START: &[AuditField] = fields! {
     "width" Number 2 Word;
     "least" Number 4 Least;
     "most" Number 4 Most;
 };
 
 /// `slot 13 block 2 bit 3 low 870 not 400..800`
-const BIT: &[Field] = fields! {
+const BIT: &[AuditField] = fields! {
     "slot" Number 1 Word;
     "block" Number 3 Word;
     "bit" Number 5 Word;
@@ -86,24 +86,24 @@ const BIT: &[Field] = fields! {
 };
 
 /// `low drive 3600`, `low drive 3000 not 3360..3840`
-const LOW_DRIVE: &[Field] = fields! {
+const LOW_DRIVE: &[AuditField] = fields! {
     "width" Number 2 Word;
     "least" Number 4 Least;
     "most" Number 4 Most;
 };
 
 /// `low drive for 3700`
-const DRIVE_WITHIN: &[Field] = fields! {
+const DRIVE_WITHIN: &[AuditField] = fields! {
     "width" Number 3 Word;
 };
 
 /// `ends after block 1 without EOM`
-const UNFINISHED: &[Field] = fields! {
+const UNFINISHED: &[AuditField] = fields! {
     "block" Number 3 Word;
 };
 
 /// `block 1 not acknowledged, attempt 2`, and with more than are allowed ` of at most 6`
-const UNTAKEN: &[Field] = fields! {
+const UNTAKEN: &[AuditField] = fields! {
     "block" Number 1 Word;
     "verdict" Text 2 Verdict;
     "attempt" Number 5 Word;
@@ -111,7 +111,7 @@ const UNTAKEN: &[Field] = fields! {
 };
 
 /// `block 1 refused, attempt 2`, and with more than are allowed ` of at most 6`
-const REFUSED: &[Field] = fields! {
+const REFUSED: &[AuditField] = fields! {
     "block" Number 1 Word;
     "verdict" Text 2 Verdict;
     "attempt" Number 4 Word;
@@ -119,37 +119,37 @@ const REFUSED: &[Field] = fields! {
 };
 
 /// `1 reported 1.0.0.0 before`
-const MOVED: &[Field] = fields! {
+const MOVED: &[AuditField] = fields! {
     "initiator" Text 0 Word;
     "before" Text 2 Word;
 };
 
 /// `operands 1, at least 2`
-const OPERANDS: &[Field] = fields! {
+const OPERANDS: &[AuditField] = fields! {
     "count" Number 1 BeforeComma;
     "least" Number 4 Word;
 };
 
 /// `nobody reported 2.0.0.0 of 599150`
-const UNREPORTED: &[Field] = fields! {
+const UNREPORTED: &[AuditField] = fields! {
     "address" Text 2 Word;
     "at" Number 4 Word;
 };
 
 /// `read 4>0 image-view-on`
-const READ: &[Field] = fields! {
+const READ: &[AuditField] = fields! {
     "initiator" Text 1 Initiator;
     "destination" Text 1 Destination;
     "opcode" Text 2 Word;
 };
 
 /// `# give-features`
-const WORD: &[Field] = fields! {
+const WORD: &[AuditField] = fields! {
     "word" Text 1 Word;
 };
 
 /// `from 4: 12 taken, 1 not taken, 2 broken`
-const SENDER: &[Field] = fields! {
+const SENDER: &[AuditField] = fields! {
     "initiator" Text 1 BeforeColon;
     "taken" Number 2 Word;
     "not_taken" Number 4 Word;
@@ -157,7 +157,7 @@ const SENDER: &[Field] = fields! {
 };
 
 /// `zero low 1490..1512 mean 1501 of 14`
-const WIDTHS: &[Field] = fields! {
+const WIDTHS: &[AuditField] = fields! {
     "kind" Text 0 TwoWords;
     "least" Number 2 Least;
     "greatest" Number 2 Most;
@@ -165,7 +165,7 @@ const WIDTHS: &[Field] = fields! {
     "count" Number 6 Word;
 };
 
-const NONE: &[Field] = fields! {};
+const NONE: &[AuditField] = fields! {};
 
 // What stands from a word on, counted from 0.
 #[tactic(auto, using(crate::proofs::Valued::at_first, crate::proofs::Valued::at_next))]
@@ -198,19 +198,19 @@ fn verdict_of(word: &[u8]) -> &[u8]
     }
 }
 
-fn part_of(part: Part, text: &[u8]) -> &[u8]
+fn part_of(part: ValuePart, text: &[u8]) -> &[u8]
     ensures { result.now ≡ part_of part text.now }
 {
     match part {
-        Part::Word => word(text),
-        Part::TwoWords => two_words(text),
-        Part::BeforeComma => before_byte(b',', word(text)),
-        Part::BeforeColon => before_byte(b':', word(text)),
-        Part::Least => before_byte(b'.', word(text)),
-        Part::Most => after(after_byte(b'.', word(text)), 1),
-        Part::Initiator => before_byte(b'>', word(text)),
-        Part::Destination => after_byte(b'>', word(text)),
-        Part::Verdict => verdict_of(word(text)),
+        ValuePart::Word => word(text),
+        ValuePart::TwoWords => two_words(text),
+        ValuePart::BeforeComma => before_byte(b',', word(text)),
+        ValuePart::BeforeColon => before_byte(b':', word(text)),
+        ValuePart::Least => before_byte(b'.', word(text)),
+        ValuePart::Most => after(after_byte(b'.', word(text)), 1),
+        ValuePart::Initiator => before_byte(b'>', word(text)),
+        ValuePart::Destination => after_byte(b'>', word(text)),
+        ValuePart::Verdict => verdict_of(word(text)),
     }
 }
 
@@ -221,40 +221,40 @@ fn is_refused(text: &[u8]) -> bool
     word(text_at(text, 2)) != b"not".as_slice()
 }
 
-fn block_fields(text: &[u8]) -> &'static [Field]
+fn block_fields(text: &[u8]) -> &'static [AuditField]
     ensures { map field_parts result.now ≡ block_fields text.now }
 {
     if is_refused(text) { REFUSED } else { UNTAKEN }
 }
 
 // The fields of a line of a kind, by what it says.
-fn fields_of(kind: Kind, text: &[u8]) -> &'static [Field]
+fn fields_of(kind: AuditLine, text: &[u8]) -> &'static [AuditField]
     ensures { map field_parts result.now ≡ fields_of kind text.now }
 {
     match kind {
-        Kind::BadStarts => BAD_STARTS,
-        Kind::NoAnswer => NO_ANSWER,
-        Kind::LateAnswer => LATE_ANSWER,
-        Kind::Free => FREE,
-        Kind::StartLow | Kind::StartTotal => START,
-        Kind::BitLow | Kind::BitTotal => BIT,
-        Kind::LowDrive => LOW_DRIVE,
-        Kind::DriveWithin => DRIVE_WITHIN,
-        Kind::Unfinished => UNFINISHED,
-        Kind::Attempt | Kind::LastAttempt => block_fields(text),
-        Kind::Moved => MOVED,
-        Kind::Operands => OPERANDS,
-        Kind::Unreported => UNREPORTED,
-        Kind::Read => READ,
-        Kind::Word => WORD,
-        Kind::Sender => SENDER,
-        Kind::Widths => WIDTHS,
-        Kind::Reading | Kind::Receivers | Kind::Summary => NONE,
+        AuditLine::BadStarts => BAD_STARTS,
+        AuditLine::NoAnswer => NO_ANSWER,
+        AuditLine::LateAnswer => LATE_ANSWER,
+        AuditLine::Free => FREE,
+        AuditLine::StartLow | AuditLine::StartTotal => START,
+        AuditLine::BitLow | AuditLine::BitTotal => BIT,
+        AuditLine::LowDrive => LOW_DRIVE,
+        AuditLine::DriveWithin => DRIVE_WITHIN,
+        AuditLine::Unfinished => UNFINISHED,
+        AuditLine::Attempt | AuditLine::LastAttempt => block_fields(text),
+        AuditLine::Moved => MOVED,
+        AuditLine::Operands => OPERANDS,
+        AuditLine::Unreported => UNREPORTED,
+        AuditLine::Read => READ,
+        AuditLine::Word => WORD,
+        AuditLine::Sender => SENDER,
+        AuditLine::Widths => WIDTHS,
+        AuditLine::Reading | AuditLine::Receivers | AuditLine::Summary => NONE,
     }
 }
 
 // Adds these fields of a text.
-fn add_fields<S: Sink>(out: &mut Counted<'_, S>, fields: &[Field], text: &[u8])
+fn add_fields<S: Sink>(out: &mut Counted<'_, S>, fields: &[AuditField], text: &[u8])
     ensures { Adds out.old out.new (values (map field_parts fields.now) text.now) }
 {
     let [field, fields @ ..] = fields else {
@@ -270,7 +270,7 @@ fn add_fields<S: Sink>(out: &mut Counted<'_, S>, fields: &[Field], text: &[u8])
 }
 
 /// Adds the values of a line of a kind, by what it says.
-pub(crate) fn add_values<S: Sink>(out: &mut Counted<'_, S>, kind: Kind, text: &[u8])
+pub(crate) fn add_values<S: Sink>(out: &mut Counted<'_, S>, kind: AuditLine, text: &[u8])
     ensures { Adds out.old out.new (values (fields_of kind text.now) text.now) }
 {
     add_fields(out, fields_of(kind, text), text);

@@ -2,27 +2,27 @@
 ghost use Rattle.std.specs.Prelude.{◌≡◌, ℕ, List};
 ghost use Rattle.text_core.specs.Adds.{Adds};
 ghost use Rattle.json_trace.specs.Columns.{field};
-ghost use Rattle.json_trace.specs.declared.values.Shape.TheVariants.{Text};
+ghost use Rattle.json_trace.specs.declared.values.ValueShape.TheVariants.{Text};
 ghost use Rattle.audit_json.specs.Object.{IsAuditObject, IsBody, is_note, is_reading, kind_fields, named_fields, said_by, type_of};
 
 use crate::fields::add_values;
-use audit_lines::{Kind, kind_of};
-use json_trace::{Shape, add_field, add_quoted, add_reported, add_type};
+use audit_lines::{AuditLine, kind_of};
+use json_trace::{ValueShape, add_field, add_quoted, add_reported, add_type};
 use text_core::{Counted, Sink, after};
 
-fn is_reading(kind: Kind) -> bool
+fn is_reading(kind: AuditLine) -> bool
     ensures { result ≡ is_reading kind }
 {
-    matches!(kind, Kind::Reading)
+    matches!(kind, AuditLine::Reading)
 }
 
-fn is_note(kind: Kind) -> bool
+fn is_note(kind: AuditLine) -> bool
     ensures { result ≡ is_note kind }
 {
-    !matches!(kind, Kind::Summary | Kind::Sender | Kind::Widths)
+    !matches!(kind, AuditLine::Summary | AuditLine::Sender | AuditLine::Widths)
 }
 
-fn type_of(kind: Kind) -> &'static str
+fn type_of(kind: AuditLine) -> &'static str
     ensures { result.now ≡ type_of kind }
 {
     if kind.is_remark() {
@@ -37,10 +37,10 @@ fn type_of(kind: Kind) -> &'static str
 fn add_text<S: Sink>(out: &mut Counted<'_, S>, name: &str, text: &str)
     ensures { Adds out.old out.new (field name.now Text text.now) }
 {
-    add_field(out, name, Shape::Text, text.as_bytes());
+    add_field(out, name, ValueShape::Text, text.as_bytes());
 }
 
-fn add_named<S: Sink>(out: &mut Counted<'_, S>, kind: Kind)
+fn add_named<S: Sink>(out: &mut Counted<'_, S>, kind: AuditLine)
     ensures { Adds out.old out.new (named_fields kind) }
 {
     add_text(out, type_of(kind), kind.name());
@@ -49,7 +49,7 @@ fn add_named<S: Sink>(out: &mut Counted<'_, S>, kind: Kind)
 
 // Adds the kind of a remark or a note, and its section.
 #[tactic(auto, using(text_core::proofs::Adding::nothing))]
-fn add_name<S: Sink>(out: &mut Counted<'_, S>, kind: Kind)
+fn add_name<S: Sink>(out: &mut Counted<'_, S>, kind: AuditLine)
     ensures { Adds out.old out.new (kind_fields kind) }
 {
     if is_note(kind) {
@@ -58,7 +58,7 @@ fn add_name<S: Sink>(out: &mut Counted<'_, S>, kind: Kind)
 }
 
 // Adds what a line of a kind says, by what stands after its two spaces.
-fn add_said<S: Sink>(out: &mut Counted<'_, S>, kind: Kind, text: &[u8])
+fn add_said<S: Sink>(out: &mut Counted<'_, S>, kind: AuditLine, text: &[u8])
     ensures { Adds out.old out.new (said_by kind text.now) }
 {
     add_type(out, type_of(kind));
@@ -66,7 +66,7 @@ fn add_said<S: Sink>(out: &mut Counted<'_, S>, kind: Kind, text: &[u8])
     add_values(out, kind, text);
 }
 
-fn add_body<S: Sink>(out: &mut Counted<'_, S>, kind: Kind, line: &[u8])
+fn add_body<S: Sink>(out: &mut Counted<'_, S>, kind: AuditLine, line: &[u8])
     ensures { (body : List ℕ) × IsBody kind line.now body × Adds out.old out.new body }
 {
     if is_reading(kind) {

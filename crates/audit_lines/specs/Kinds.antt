@@ -4,8 +4,8 @@ use Rattle.std.specs.Prelude.{ℕ, Bool, true, false, not, ◌||◌, if◌then�
 use Rattle.std.specs.List.{list_any}
 use Rattle.std.specs.Str.{bytes_eq}
 use Rattle.json_trace.specs.Parts.{after_word, word}
-use Rattle.audit_lines.specs.declared.kind.Kind.{Kind}
-use Rattle.audit_lines.specs.declared.kind.Kind.TheVariants.{Reading, BadStarts, NoAnswer, LateAnswer, Free, StartLow, StartTotal, BitLow, BitTotal, LowDrive, DriveWithin, Unfinished, Attempt, LastAttempt, Moved, Receivers, Operands, Unreported, Read, Word, Summary, Sender, Widths}
+use Rattle.audit_lines.specs.declared.kind.AuditLine.{AuditLine}
+use Rattle.audit_lines.specs.declared.kind.AuditLine.TheVariants.{Reading, BadStarts, NoAnswer, LateAnswer, Free, StartLow, StartTotal, BitLow, BitTotal, LowDrive, DriveWithin, Unfinished, Attempt, LastAttempt, Moved, Receivers, Operands, Unreported, Read, Word, Summary, Sender, Widths}
 
 -- ---- by words
 
@@ -13,22 +13,22 @@ abbrev pub after_two : List ℕ → List ℕ
 after_two text = after_word (after_word text)
 
 -- `start low W not A..B`; of widths ` mean ` stands there
-abbrev pub start_kind : List ℕ → List ℕ → Kind
+abbrev pub start_kind : List ℕ → List ℕ → AuditLine
 start_kind part fourth = if not (bytes_eq fourth (codes "not")) then Widths else if bytes_eq part (codes "low") then StartLow else StartTotal
 
 -- `slot S block B bit K low W not A..B`
-abbrev pub slot_kind : List ℕ → Kind
+abbrev pub slot_kind : List ℕ → AuditLine
 slot_kind part = if bytes_eq part (codes "low") then BitLow else BitTotal
 
 -- `low drive W`, `low drive for W`
-abbrev pub drive_kind : List ℕ → Kind
+abbrev pub drive_kind : List ℕ → AuditLine
 drive_kind part = if bytes_eq part (codes "for") then DriveWithin else LowDrive
 
 -- `block B refused, attempt A of at most 6`, `block B not acknowledged, attempt A of at most 6`
-abbrev pub block_kind : List ℕ → List ℕ → Kind
+abbrev pub block_kind : List ℕ → List ℕ → AuditLine
 block_kind sixth seventh = if bytes_eq sixth (codes "of") || bytes_eq seventh (codes "of") then LastAttempt else Attempt
 
-abbrev pub kind_by : List ℕ → List ℕ → List ℕ → List ℕ → List ℕ → List ℕ → Kind
+abbrev pub kind_by : List ℕ → List ℕ → List ℕ → List ℕ → List ℕ → List ℕ → AuditLine
 kind_by first second third fourth sixth seventh =
     if bytes_eq first (codes "after") then BadStarts
     else if bytes_eq first (codes "no") then NoAnswer
@@ -49,18 +49,18 @@ kind_by first second third fourth sixth seventh =
     else if bytes_eq second (codes "reported") then Moved
     else Widths
 
-abbrev pub kind_in : List ℕ → Kind
+abbrev pub kind_in : List ℕ → AuditLine
 kind_in rest =
     kind_by (word rest) (word (after_word rest)) (word (after_two rest)) (word (after_word (after_two rest))) (word (after_word (after_two (after_two rest))))
     (word (after_two (after_two (after_two rest))))
 
 -- a line that begins with two spaces; any other is a reading's
-abbrev pub kind_of : List ℕ → Kind
+abbrev pub kind_of : List ℕ → AuditLine
 kind_of line = if bytes_eq (take 2 line) (codes "  ") then kind_in (drop 2 line) else Reading
 
 -- ---- the table
 
-abbrev pub name_of : Kind → List ℕ
+abbrev pub name_of : AuditLine → List ℕ
 name_of Reading = codes "reading"
 name_of BadStarts = codes "bad-starts"
 name_of NoAnswer = codes "no-answer"
@@ -85,7 +85,7 @@ name_of Summary = codes "summary"
 name_of Sender = codes "sender"
 name_of Widths = codes "widths"
 
-abbrev pub section_of : Kind → List ℕ
+abbrev pub section_of : AuditLine → List ℕ
 section_of NoAnswer = codes "9.2"
 section_of LateAnswer = codes "9.2"
 section_of Free = codes "9.1"
@@ -105,7 +105,7 @@ section_of Unreported = codes "11.2"
 section_of _ = []
 
 -- A block that nobody takes, a device that moves, an address that nobody reported in this capture and bad starts are no faults.
-abbrev pub is_remark : Kind → Bool
+abbrev pub is_remark : AuditLine → Bool
 is_remark NoAnswer = true
 is_remark LateAnswer = true
 is_remark Free = true

@@ -7,7 +7,7 @@ use text_core::{after, before};
 
 /// What a line of an audit says.
 #[derive(Clone, Copy, Debug, PartialEq, Eq)]
-pub enum Kind {
+pub enum AuditLine {
     /// A reading, as a monitor writes it.
     Reading,
     /// How many bad starts in a row came before.
@@ -59,45 +59,45 @@ fn after_two(text: &[u8]) -> &[u8]
     after_word(after_word(text))
 }
 
-fn start_kind(part: &[u8], third: &[u8]) -> Kind
+fn start_kind(part: &[u8], third: &[u8]) -> AuditLine
     ensures { result ≡ start_kind part.now third.now }
 {
     if third != b"not".as_slice() {
-        Kind::Widths
+        AuditLine::Widths
     } else if part == b"low".as_slice() {
-        Kind::StartLow
+        AuditLine::StartLow
     } else {
-        Kind::StartTotal
+        AuditLine::StartTotal
     }
 }
 
-fn slot_kind(part: &[u8]) -> Kind
+fn slot_kind(part: &[u8]) -> AuditLine
     ensures { result ≡ slot_kind part.now }
 {
     if part == b"low".as_slice() {
-        Kind::BitLow
+        AuditLine::BitLow
     } else {
-        Kind::BitTotal
+        AuditLine::BitTotal
     }
 }
 
-fn drive_kind(part: &[u8]) -> Kind
+fn drive_kind(part: &[u8]) -> AuditLine
     ensures { result ≡ drive_kind part.now }
 {
     if part == b"for".as_slice() {
-        Kind::DriveWithin
+        AuditLine::DriveWithin
     } else {
-        Kind::LowDrive
+        AuditLine::LowDrive
     }
 }
 
-fn block_kind(sixth: &[u8], seventh: &[u8]) -> Kind
+fn block_kind(sixth: &[u8], seventh: &[u8]) -> AuditLine
     ensures { result ≡ block_kind sixth.now seventh.now }
 {
     if sixth == b"of".as_slice() || seventh == b"of".as_slice() {
-        Kind::LastAttempt
+        AuditLine::LastAttempt
     } else {
-        Kind::Attempt
+        AuditLine::Attempt
     }
 }
 
@@ -109,17 +109,17 @@ fn kind_by(
     fourth: &[u8],
     sixth: &[u8],
     seventh: &[u8],
-) -> Kind
+) -> AuditLine
     ensures { result ≡ kind_by first.now second.now third.now fourth.now sixth.now seventh.now }
 {
     if first == b"after".as_slice() {
-        Kind::BadStarts
+        AuditLine::BadStarts
     } else if first == b"no".as_slice() {
-        Kind::NoAnswer
+        AuditLine::NoAnswer
     } else if first == b"answered".as_slice() {
-        Kind::LateAnswer
+        AuditLine::LateAnswer
     } else if first == b"free".as_slice() {
-        Kind::Free
+        AuditLine::Free
     } else if first == b"start".as_slice() {
         start_kind(second, fourth)
     } else if first == b"slot".as_slice() {
@@ -127,31 +127,31 @@ fn kind_by(
     } else if first == b"low".as_slice() {
         drive_kind(third)
     } else if first == b"ends".as_slice() {
-        Kind::Unfinished
+        AuditLine::Unfinished
     } else if first == b"block".as_slice() {
         block_kind(sixth, seventh)
     } else if first == b"to".as_slice() {
-        Kind::Receivers
+        AuditLine::Receivers
     } else if first == b"operands".as_slice() {
-        Kind::Operands
+        AuditLine::Operands
     } else if first == b"nobody".as_slice() {
-        Kind::Unreported
+        AuditLine::Unreported
     } else if first == b"read".as_slice() {
-        Kind::Read
+        AuditLine::Read
     } else if first == b"#".as_slice() {
-        Kind::Word
+        AuditLine::Word
     } else if first == b"all".as_slice() {
-        Kind::Summary
+        AuditLine::Summary
     } else if first == b"from".as_slice() {
-        Kind::Sender
+        AuditLine::Sender
     } else if second == b"reported".as_slice() {
-        Kind::Moved
+        AuditLine::Moved
     } else {
-        Kind::Widths
+        AuditLine::Widths
     }
 }
 
-fn kind_in(rest: &[u8]) -> Kind
+fn kind_in(rest: &[u8]) -> AuditLine
     ensures { result ≡ kind_in rest.now }
 {
     let two = after_two(rest);
@@ -167,12 +167,12 @@ fn kind_in(rest: &[u8]) -> Kind
 }
 
 /// The kind of a line: one that begins with two spaces goes by its words, any other is a reading's.
-pub fn kind_of(line: &[u8]) -> Kind
+pub fn kind_of(line: &[u8]) -> AuditLine
     ensures { result ≡ kind_of line.now }
 {
     if before(line, 2) == b"  ".as_slice() {
         kind_in(after(line, 2))
     } else {
-        Kind::Reading
+        AuditLine::Reading
     }
 }

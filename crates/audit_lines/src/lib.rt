@@ -6,5 +6,5 @@ mod kind;
 mod table;
 mod text;
 
-pub use kind::{Kind, kind_of};
+pub use kind::{AuditLine, kind_of};
 pub use text::has_remark;

@@ -2,37 +2,37 @@
 ghost use Rattle.std.specs.Prelude.{◌≡◌};
 ghost use Rattle.audit_lines.specs.Kinds.{is_remark, name_of, section_of};
 
-use crate::kind::Kind;
+use crate::kind::AuditLine;
 
-impl Kind {
+impl AuditLine {
     /// What it is called.
     pub fn name(self) -> &'static str
         ensures { result.now ≡ name_of self }
     {
         match self {
-            Kind::Reading => "reading",
-            Kind::BadStarts => "bad-starts",
-            Kind::NoAnswer => "no-answer",
-            Kind::LateAnswer => "late-answer",
-            Kind::Free => "free",
-            Kind::StartLow => "start-low",
-            Kind::StartTotal => "start-total",
-            Kind::BitLow => "bit-low",
-            Kind::BitTotal => "bit-total",
-            Kind::LowDrive => "low-drive",
-            Kind::DriveWithin => "drive-within",
-            Kind::Unfinished => "unfinished",
-            Kind::Attempt => "attempt",
-            Kind::LastAttempt => "too-many-attempts",
-            Kind::Moved => "moved",
-            Kind::Receivers => "receivers",
-            Kind::Operands => "operands",
-            Kind::Unreported => "nobody-there",
-            Kind::Read => "read",
-            Kind::Word => "word",
-            Kind::Summary => "summary",
-            Kind::Sender => "sender",
-            Kind::Widths => "widths",
+            AuditLine::Reading => "reading",
+            AuditLine::BadStarts => "bad-starts",
+            AuditLine::NoAnswer => "no-answer",
+            AuditLine::LateAnswer => "late-answer",
+            AuditLine::Free => "free",
+            AuditLine::StartLow => "start-low",
+            AuditLine::StartTotal => "start-total",
+            AuditLine::BitLow => "bit-low",
+            AuditLine::BitTotal => "bit-total",
+            AuditLine::LowDrive => "low-drive",
+            AuditLine::DriveWithin => "drive-within",
+            AuditLine::Unfinished => "unfinished",
+            AuditLine::Attempt => "attempt",
+            AuditLine::LastAttempt => "too-many-attempts",
+            AuditLine::Moved => "moved",
+            AuditLine::Receivers => "receivers",
+            AuditLine::Operands => "operands",
+            AuditLine::Unreported => "nobody-there",
+            AuditLine::Read => "read",
+            AuditLine::Word => "word",
+            AuditLine::Summary => "summary",
+            AuditLine::Sender => "sender",
+            AuditLine::Widths => "widths",
         }
     }
 
@@ -41,23 +41,23 @@ impl Kind {
         ensures { result.now ≡ section_of self }
     {
         match self {
-            Kind::NoAnswer | Kind::LateAnswer => "9.2",
-            Kind::Free => "9.1",
-            Kind::StartLow | Kind::StartTotal => "5.2.1",
-            Kind::BitLow | Kind::BitTotal => "5.2.2",
-            Kind::LowDrive | Kind::DriveWithin => "7.4",
-            Kind::Unfinished | Kind::Attempt => "6.1.2",
-            Kind::LastAttempt => "7.1",
-            Kind::Moved => "10.1",
-            Kind::Receivers | Kind::Operands => "13",
-            Kind::Unreported => "11.2",
-            Kind::Reading
-            | Kind::BadStarts
-            | Kind::Read
-            | Kind::Word
-            | Kind::Summary
-            | Kind::Sender
-            | Kind::Widths => "",
+            AuditLine::NoAnswer | AuditLine::LateAnswer => "9.2",
+            AuditLine::Free => "9.1",
+            AuditLine::StartLow | AuditLine::StartTotal => "5.2.1",
+            AuditLine::BitLow | AuditLine::BitTotal => "5.2.2",
+            AuditLine::LowDrive | AuditLine::DriveWithin => "7.4",
+            AuditLine::Unfinished | AuditLine::Attempt => "6.1.2",
+            AuditLine::LastAttempt => "7.1",
+            AuditLine::Moved => "10.1",
+            AuditLine::Receivers | AuditLine::Operands => "13",
+            AuditLine::Unreported => "11.2",
+            AuditLine::Reading
+            | AuditLine::BadStarts
+            | AuditLine::Read
+            | AuditLine::Word
+            | AuditLine::Summary
+            | AuditLine::Sender
+            | AuditLine::Widths => "",
         }
     }
 
@@ -67,29 +67,29 @@ impl Kind {
         ensures { result ≡ is_remark self }
     {
         match self {
-            Kind::NoAnswer
-            | Kind::LateAnswer
-            | Kind::Free
-            | Kind::StartLow
-            | Kind::StartTotal
-            | Kind::BitLow
-            | Kind::BitTotal
-            | Kind::LowDrive
-            | Kind::DriveWithin
-            | Kind::Unfinished
-            | Kind::LastAttempt
-            | Kind::Receivers
-            | Kind::Operands => true,
-            Kind::Reading
-            | Kind::BadStarts
-            | Kind::Attempt
-            | Kind::Moved
-            | Kind::Unreported
-            | Kind::Read
-            | Kind::Word
-            | Kind::Summary
-            | Kind::Sender
-            | Kind::Widths => false,
+            AuditLine::NoAnswer
+            | AuditLine::LateAnswer
+            | AuditLine::Free
+            | AuditLine::StartLow
+            | AuditLine::StartTotal
+            | AuditLine::BitLow
+            | AuditLine::BitTotal
+            | AuditLine::LowDrive
+            | AuditLine::DriveWithin
+            | AuditLine::Unfinished
+            | AuditLine::LastAttempt
+            | AuditLine::Receivers
+            | AuditLine::Operands => true,
+            AuditLine::Reading
+            | AuditLine::BadStarts
+            | AuditLine::Attempt
+            | AuditLine::Moved
+            | AuditLine::Unreported
+            | AuditLine::Read
+            | AuditLine::Word
+            | AuditLine::Summary
+            | AuditLine::Sender
+            | AuditLine::Widths => false,
         }
     }
 }

@@ -8,7 +8,7 @@ use Rattle.line_frames.specs.declared.Ending.{Ending}
 use Rattle.line_reading.specs.Readings.{Listed}
 use Rattle.audit_widths.specs.Spreads.{sum_of}
 use Rattle.audit_remarks.specs.declared.attempts.Attempts.{Attempts}
-use Rattle.audit_remarks.specs.declared.attempts.Earlier.{Earlier}
+use Rattle.audit_remarks.specs.declared.attempts.LastFrame.{LastFrame}
 use Rattle.audit_remarks.specs.declared.attempts.Failure.{Failure}
 use Rattle.audit_remarks.specs.Free.{is_bad_start}
 use Rattle.audit_remarks.specs.Header.{failed_block, initiator_of, is_delivered, is_poll, is_to_all, seeks_address}
@@ -36,14 +36,14 @@ abbrev pub since_with : Attempts → ℕ → ℕ → ℕ
 since_with a begin free = if nat_lt free 12000 then a.since else begin
 
 -- which attempt a reading of these bits is, from 1
-abbrev pub attempt_after : ℕ → List Bool → Option Earlier → ℕ
+abbrev pub attempt_after : ℕ → List Bool → Option LastFrame → ℕ
 attempt_after since bits None = 1
 attempt_after since bits (Some e) = if not e.taken && (nat_le since e.begin && repeats e.bits.items bits) then sum_of e.attempt 1 else 1
 
 abbrev pub attempt_of : Attempts → ℕ → ℕ → List Bool → ℕ
 attempt_of a begin free bits = attempt_after (since_with a begin free) bits (slice_index_or a.last (initiator_of bits) None)
 
-abbrev pub earlier_of : Attempts → Listed → ℕ → Earlier
+abbrev pub earlier_of : Attempts → Listed → ℕ → LastFrame
 earlier_of a x free = record {
   begin = x.begin;
   bits = record { items = x.reported.bits };
@@ -59,7 +59,7 @@ after_attempt a x free =
     else record { since = since_with a x.begin free; last = slice_set a.last (initiator_of x.reported.bits) (Some (earlier_of a x free)) }
 
 -- whether the last frame of a reading's initiator was not taken, so that it may try again
-abbrev pub is_untaken : Option Earlier → Bool
+abbrev pub is_untaken : Option LastFrame → Bool
 is_untaken None = false
 is_untaken (Some e) = not e.taken
 

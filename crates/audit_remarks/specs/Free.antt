@@ -6,8 +6,8 @@ use Rattle.line_frames.specs.declared.Ending.{Ending}
 use Rattle.line_frames.specs.declared.Ending.TheVariants.{BadStart, Short}
 use Rattle.line_reading.specs.Readings.{Listed}
 use Rattle.audit_widths.specs.declared.low.Low.{Low}
-use Rattle.audit_remarks.specs.declared.free.Before.{Before}
-use Rattle.audit_remarks.specs.declared.free.Before.TheVariants.{Nothing, Somebody, Frame}
+use Rattle.audit_remarks.specs.declared.free.EarlierSender.{EarlierSender}
+use Rattle.audit_remarks.specs.declared.free.EarlierSender.TheVariants.{Nothing, Somebody, Frame}
 use Rattle.audit_remarks.specs.declared.free.Previous.{Previous}
 use Rattle.audit_remarks.specs.declared.free.TooSoon.{TooSoon}
 use Rattle.audit_remarks.specs.Header.{initiator_of, is_delivered, seeks_address}
@@ -31,7 +31,7 @@ final_by _ at last = last
 abbrev pub final_bit : Listed → List Low → ℕ
 final_bit x lows = final_by x.reported.ending x.reported.at (last_fall x.begin lows)
 
-abbrev pub before_of : Ending → List Bool → Before
+abbrev pub before_of : Ending → List Bool → EarlierSender
 before_of ending bits = if is_known bits then Frame (initiator_of bits) (is_delivered ending bits) else Somebody
 
 abbrev pub is_bad_start : Ending → Bool
@@ -58,7 +58,7 @@ abbrev pub due_after : ℕ → Bool → ℕ → Bool → ℕ
 due_after initiator taken next again =
     if initiator == next then (if taken then 16800 else 7200) else if again || nat_lt initiator next then 7200 else 12000
 
-abbrev pub free_due : Before → List Bool → Bool → ℕ
+abbrev pub free_due : EarlierSender → List Bool → Bool → ℕ
 free_due Nothing bits again = 0
 free_due Somebody bits again = 7200
 free_due (Frame initiator taken) bits again = if is_known bits then due_after initiator taken (initiator_of bits) again else 7200

@@ -6,7 +6,7 @@ use Rattle.line_frames.specs.Blocks.{bit_value}
 use Rattle.line_frames.specs.declared.Ending.{Ending}
 use Rattle.line_frames.specs.declared.Ending.TheVariants.{Silent, Long}
 use Rattle.message_text.specs.ReadingText.{is_complete}
-use Rattle.audit_remarks.specs.declared.header.Head.{Head}
+use Rattle.audit_remarks.specs.declared.header.FrameHead.{FrameHead}
 use Rattle.line_reading.specs.Reading.{first_in}
 use Rattle.line_reading.specs.Sending.{bit_read}
 
@@ -70,8 +70,8 @@ unfinished ending bits = if is_unfinished ending bits then Some (length bits / 1
 abbrev pub opcode_read : List Bool → Option ℕ
 opcode_read bits = if nat_lt (length bits) 20 then None else Some (nibble_at bits 10 * 16 + nibble_at bits 14)
 
-abbrev pub head_of : List Bool → Head
+abbrev pub head_of : List Bool → FrameHead
 head_of bits = record { initiator = initiator_of bits; destination = destination_of bits; opcode = opcode_read bits }
 
-abbrev pub head_read : Ending → List Bool → Option Head
+abbrev pub head_read : Ending → List Bool → Option FrameHead
 head_read ending bits = if is_complete ending || nat_lt (length bits) 10 then None else Some (head_of bits)

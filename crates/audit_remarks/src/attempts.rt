@@ -16,7 +16,7 @@ const LULL: u64 = 12_000;
 
 /// The last frame of an initiator: where it began, its bits, whether it was taken, and which attempt it was.
 #[derive(Debug, Drop)]
-pub struct Earlier {
+pub struct LastFrame {
     begin: u64,
     bits: ArrayVec<bool, 160>,
     taken: bool,
@@ -28,7 +28,7 @@ pub struct Earlier {
 pub struct Attempts {
     // where the frames began between which the line was never free for five bit periods
     since: u64,
-    last: [Option<Earlier>; 16],
+    last: [Option<LastFrame>; 16],
 }
 
 /// A block that nobody acknowledged, or somebody refused.
@@ -63,7 +63,7 @@ fn repeats(earlier: &[bool], bits: &[bool]) -> bool
     !(is_poll(earlier) || is_poll(bits)) && same_from(0, earlier, bits)
 }
 
-fn attempt_after(since: u64, bits: &[bool], last: &Option<Earlier>) -> u64
+fn attempt_after(since: u64, bits: &[bool], last: &Option<LastFrame>) -> u64
     ensures { result ≡ attempt_after since bits.now last.now }
 {
     match last {
@@ -78,7 +78,7 @@ fn attempt_after(since: u64, bits: &[bool], last: &Option<Earlier>) -> u64
     }
 }
 
-fn is_untaken(last: &Option<Earlier>) -> bool
+fn is_untaken(last: &Option<LastFrame>) -> bool
     ensures { result ≡ is_untaken last.now }
 {
     match last {
@@ -163,7 +163,7 @@ impl Attempts {
         if reading.bits.len() < HEADER || seeks_address(&reading.bits) {
             return;
         }
-        self.last[initiator_of(&reading.bits) as usize] = Some(Earlier {
+        self.last[initiator_of(&reading.bits) as usize] = Some(LastFrame {
             begin: reading.begin,
             bits: copied(&reading.bits),
             taken: is_delivered(reading.ending, &reading.bits),

@@ -8,7 +8,7 @@ use line_frames::Ending;
 /// How many frames were taken, were not acknowledged or were refused, and broke. A reading that the end of the capture cuts
 /// off is none of these, unless a block of it had failed.
 #[derive(Clone, Copy, Debug, PartialEq, Eq)]
-pub struct Count {
+pub struct FrameCount {
     pub taken: u64,
     pub untaken: u64,
     pub broken: u64,
@@ -25,8 +25,8 @@ fn is_cut_off(ending: Ending) -> bool
     }
 }
 
-impl Count {
-    const NONE: Count = Count {
+impl FrameCount {
+    const NONE: FrameCount = FrameCount {
         taken: 0,
         untaken: 0,
         broken: 0,
@@ -47,13 +47,13 @@ impl Count {
 }
 
 /// The counts of the initiators 0 to 15.
-pub type Counts = [Count; 16];
+pub type Counts = [FrameCount; 16];
 
 /// Of no frame.
 pub fn no_counts() -> Counts
     ensures { result ≡ no_counts }
 {
-    [Count::NONE; 16]
+    [FrameCount::NONE; 16]
 }
 
 /// A reading has come.

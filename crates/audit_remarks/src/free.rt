@@ -16,7 +16,7 @@ const PRESENT_INITIATOR: u64 = 16_800;
 
 /// Who sent a frame.
 #[derive(Clone, Copy, Debug, PartialEq, Eq)]
-pub enum Before {
+pub enum EarlierSender {
     /// There was none.
     Nothing,
     /// Its sender is not known.
@@ -28,7 +28,7 @@ pub enum Before {
 /// The frame before a reading.
 #[derive(Clone, Copy, Debug, PartialEq, Eq)]
 pub struct Previous {
-    frame: Before,
+    frame: EarlierSender,
     // where its final bit began
     final_bit: u64,
 }
@@ -92,14 +92,14 @@ fn final_bit(reading: &Reading, lows: &[Low]) -> u64
     final_by(reading.ending, reading.at, last_fall(reading.begin, lows))
 }
 
-impl Before {
+impl EarlierSender {
     fn free_due(self, bits: &[bool], again: bool) -> u64
         ensures { result ≡ free_due self bits.now again }
     {
         match self {
-            Before::Nothing => 0,
-            Before::Somebody => RETRY,
-            Before::Frame(initiator, taken) => {
+            EarlierSender::Nothing => 0,
+            EarlierSender::Somebody => RETRY,
+            EarlierSender::Frame(initiator, taken) => {
                 if !is_known(bits) {
                     return RETRY;
                 }
@@ -113,9 +113,9 @@ impl Before {
         ensures { result ≡ before_of ending bits.now }
     {
         if is_known(bits) {
-            Before::Frame(initiator_of(bits), is_delivered(ending, bits))
+            EarlierSender::Frame(initiator_of(bits), is_delivered(ending, bits))
         } else {
-            Before::Somebody
+            EarlierSender::Somebody
         }
     }
 }
@@ -126,7 +126,7 @@ impl Previous {
         ensures { result ≡ no_previous }
     {
         Previous {
-            frame: Before::Nothing,
+            frame: EarlierSender::Nothing,
             final_bit: 0,
         }
     }
@@ -158,7 +158,7 @@ impl Previous {
             return self;
         }
         Previous {
-            frame: Before::of(reading.ending, &reading.bits),
+            frame: EarlierSender::of(reading.ending, &reading.bits),
             final_bit: final_bit(reading, lows),
         }
     }

@@ -11,7 +11,7 @@ pub(crate) const BLOCK: usize = 10;
 
 /// What is read of a frame: its header, and its opcode, if that was read.
 #[derive(Clone, Copy, Debug, PartialEq, Eq)]
-pub struct Head {
+pub struct FrameHead {
     pub initiator: u8,
     pub destination: u8,
     pub opcode: Option<u8>,
@@ -167,10 +167,10 @@ fn opcode_read(bits: &[bool]) -> Option<u8>
     Some(nibble_at(bits, BLOCK) * 16 + nibble_at(bits, BLOCK + 4))
 }
 
-fn head_of(bits: &[bool]) -> Head
+fn head_of(bits: &[bool]) -> FrameHead
     ensures { result ≡ head_of bits.now }
 {
-    Head {
+    FrameHead {
         initiator: initiator_of(bits),
         destination: destination_of(bits),
         opcode: opcode_read(bits),
@@ -178,7 +178,7 @@ fn head_of(bits: &[bool]) -> Head
 }
 
 /// What is read of a frame that was not read whole, where at least its header was (CEC 6.1).
-pub fn head_read(ending: Ending, bits: &[bool]) -> Option<Head>
+pub fn head_read(ending: Ending, bits: &[bool]) -> Option<FrameHead>
     ensures { result ≡ head_read ending bits.now }
 {
     if is_complete(ending) || bits.len() < BLOCK {

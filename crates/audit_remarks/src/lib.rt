@@ -15,12 +15,12 @@ mod series;
 mod sources;
 
 pub use attempts::{Attempts, Failure};
-pub use counts::{Count, Counts, count_reading, no_counts};
+pub use counts::{FrameCount, Counts, count_reading, no_counts};
 pub use frames::{delivered_frame, sender};
 pub use free::{Previous, TooSoon, is_bad_start};
-pub use header::{Head, head_read, unfinished};
+pub use header::{FrameHead, head_read, unfinished};
 pub use messages::{Missing, Receivers, missed_receivers, missing_operands};
 pub use places::{Places, moved_from, no_places, note_report};
 pub use requests::{Request, WAITING, Waiting, after_frame};
-pub use series::Series;
+pub use series::BadStartSeries;
 pub use sources::{Mention, Sources};

@@ -7,21 +7,21 @@ use line_frames::Ending;
 
 /// How many bad starts there were in a row, and where the first one began.
 #[derive(Clone, Copy, Debug, PartialEq, Eq)]
-pub struct Series {
+pub struct BadStartSeries {
     pub count: u64,
     pub since: u64,
 }
 
-impl Series {
+impl BadStartSeries {
     /// Of none.
     pub fn new() -> Self
         ensures { result ≡ no_series }
     {
-        Series { count: 0, since: 0 }
+        BadStartSeries { count: 0, since: 0 }
     }
 
     /// The series that a reading ends, where it was one of two or more.
-    pub fn over(self, ending: Ending) -> Option<Series>
+    pub fn over(self, ending: Ending) -> Option<BadStartSeries>
         ensures { result ≡ series_over self ending }
     {
         if is_bad_start(ending) || self.count <= 1 {
@@ -35,10 +35,10 @@ impl Series {
         ensures { result ≡ after_start self ending begin }
     {
         if !is_bad_start(ending) {
-            return Series::new();
+            return BadStartSeries::new();
         }
         let is_first = self.count == 0;
-        Series {
+        BadStartSeries {
             count: self.count.saturating_add(1),
             since: if is_first { begin } else { self.since },
         }

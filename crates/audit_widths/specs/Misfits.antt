@@ -6,20 +6,20 @@ use Rattle.line_frames.specs.declared.Ending.TheVariants.{Complete, Short, Long}
 use Rattle.line_reading.specs.declared.times.Span.{Span}
 use Rattle.line_reading.specs.Windows.{standard}
 use Rattle.audit_widths.specs.declared.low.Low.{Low as LowOf}
-use Rattle.audit_widths.specs.declared.misfit.Window.{Window}
-use Rattle.audit_widths.specs.declared.misfit.Kind.{Kind}
-use Rattle.audit_widths.specs.declared.misfit.Kind.TheVariants.{Low, Total}
+use Rattle.audit_widths.specs.declared.misfit.WidthWindow.{WidthWindow}
+use Rattle.audit_widths.specs.declared.misfit.SlotWidth.{SlotWidth}
+use Rattle.audit_widths.specs.declared.misfit.SlotWidth.TheVariants.{Low, Total}
 use Rattle.audit_widths.specs.declared.misfit.Misfit.{Misfit}
 
-abbrev pub window : ℕ → ℕ → Window
+abbrev pub window : ℕ → ℕ → WidthWindow
 window least greatest = record { least = least; greatest = greatest }
 
 -- the same as the rule of reading has it
-abbrev pub window_of : Span → Window
+abbrev pub window_of : Span → WidthWindow
 window_of s = window s.least s.most
 
 -- within it, its ends too
-abbrev pub fits : Window → ℕ → Bool
+abbrev pub fits : WidthWindow → ℕ → Bool
 fits w width = nat_le w.least width && nat_le width w.greatest
 
 -- ---- windows
@@ -29,16 +29,16 @@ abbrev pub slot_bit : List Bool → ℕ → Bool
 slot_bit bits slot = slice_index_or bits (slot - 1) true
 
 -- slot 0 is the start bit (CEC 5.2.1); a 1 is low for 600, a 0 for 1,500, both within 200 (CEC 5.2.2)
-abbrev pub low_window : List Bool → ℕ → Window
+abbrev pub low_window : List Bool → ℕ → WidthWindow
 low_window bits slot = if slot == 0 then window_of standard.start_low else if slot_bit bits slot then window 400 800 else window 1300 1700
 
-abbrev pub total_window : ℕ → Window
+abbrev pub total_window : ℕ → WidthWindow
 total_window slot = if slot == 0 then window_of standard.start_total else window_of standard.bit_total
 
 -- ---- what is out of them
 
 -- a width that does not fit
-abbrev pub misfit_of : ℕ → Kind → Window → ℕ → Option Misfit
+abbrev pub misfit_of : ℕ → SlotWidth → WidthWindow → ℕ → Option Misfit
 misfit_of slot kind w width = if fits w width then None else Some (record { slot = slot; kind = kind; micros = width; window = w })
 
 -- how long the line was low; nothing is said where the capture ends before its rise

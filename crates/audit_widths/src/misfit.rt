@@ -7,40 +7,40 @@ use line_frames::Ending;
 use line_reading::STANDARD;
 
 /// The start bit's low period, and the whole of it (CEC 5.2.1).
-const START_LOW: Window = Window {
+const START_LOW: WidthWindow = WidthWindow {
     least: STANDARD.start_low.least,
     greatest: STANDARD.start_low.most,
 };
 
-const START_TOTAL: Window = Window {
+const START_TOTAL: WidthWindow = WidthWindow {
     least: STANDARD.start_total.least,
     greatest: STANDARD.start_total.most,
 };
 
 /// The low periods of a 1 and of a 0, and the whole of a bit (CEC 5.2.2).
-const ONE_LOW: Window = Window {
+const ONE_LOW: WidthWindow = WidthWindow {
     least: 400,
     greatest: 800,
 };
 
-const ZERO_LOW: Window = Window {
+const ZERO_LOW: WidthWindow = WidthWindow {
     least: 1_300,
     greatest: 1_700,
 };
 
-const BIT_TOTAL: Window = Window {
+const BIT_TOTAL: WidthWindow = WidthWindow {
     least: STANDARD.bit_total.least,
     greatest: STANDARD.bit_total.most,
 };
 
 /// The low drive with which a message is broken (CEC 7.4): 1.4 to 1.6 nominal bit periods.
-pub const DRIVE: Window = Window {
+pub const DRIVE: WidthWindow = WidthWindow {
     least: 3_360,
     greatest: 3_840,
 };
 
 /// A low drive that begins while the line is low, with what is low before it: at most a bit's low period (CEC 5.2.2, 7.4).
-const DRIVE_WITHIN: Window = Window {
+const DRIVE_WITHIN: WidthWindow = WidthWindow {
     least: 3_360,
     greatest: 5_540,
 };
@@ -50,14 +50,14 @@ const FREE: u64 = 7_200;
 
 /// A width's window, its ends too, in microseconds.
 #[derive(Clone, Copy, Debug, PartialEq, Eq)]
-pub struct Window {
+pub struct WidthWindow {
     pub least: u64,
     pub greatest: u64,
 }
 
 /// What of a slot is measured.
 #[derive(Clone, Copy, Debug, PartialEq, Eq)]
-pub enum Kind {
+pub enum SlotWidth {
     /// From its fall to its rise.
     Low,
     /// From its fall to the next one.
@@ -69,13 +69,13 @@ pub enum Kind {
 pub struct Misfit {
     /// The slot, from 1, or 0 for the start bit.
     pub slot: u64,
-    pub kind: Kind,
+    pub kind: SlotWidth,
     /// The width, in microseconds.
     pub micros: u64,
-    pub window: Window,
+    pub window: WidthWindow,
 }
 
-impl Window {
+impl WidthWindow {
     /// Whether a width is within it.
     pub fn fits(self, width: u64) -> bool
         ensures { result ≡ fits self width }
@@ -91,7 +91,7 @@ pub(crate) fn slot_bit(bits: &[bool], slot: u64) -> bool
     bits.get((slot - 1) as usize).copied().unwrap_or(true)
 }
 
-fn low_window(bits: &[bool], slot: u64) -> Window
+fn low_window(bits: &[bool], slot: u64) -> WidthWindow
     requires { slot < 1000 }
     ensures { result ≡ low_window bits.now slot }
 {
@@ -104,13 +104,13 @@ fn low_window(bits: &[bool], slot: u64) -> Window
     }
 }
 
-fn total_window(slot: u64) -> Window
+fn total_window(slot: u64) -> WidthWindow
     ensures { result ≡ total_window slot }
 {
     if slot == 0 { START_TOTAL } else { BIT_TOTAL }
 }
 
-fn misfit_of(slot: u64, kind: Kind, window: Window, width: u64) -> Option<Misfit>
+fn misfit_of(slot: u64, kind: SlotWidth, window: WidthWindow, width: u64) -> Option<Misfit>
     ensures { result ≡ misfit_of slot kind window width }
 {
     if window.fits(width) {
@@ -133,7 +133,7 @@ pub fn low_misfit(bits: &[bool], slot: u64, low: Low) -> Option<Misfit>
         None => None,
         Some(rise) => misfit_of(
             slot,
-            Kind::Low,
+            SlotWidth::Low,
             low_window(bits, slot),
             rise.saturating_sub(low.fall),
         ),
@@ -167,7 +167,7 @@ pub fn total_misfit(ending: Ending, bits: &[bool], slot: u64, low: Low) -> Optio
             if !is_total(ending, bits.len() as u64, slot, total) {
                 return None;
             }
-            misfit_of(slot, Kind::Total, total_window(slot), total)
+            misfit_of(slot, SlotWidth::Total, total_window(slot), total)
         }
     }
 }

@@ -13,8 +13,8 @@ use Rattle.capture_monitor.specs.declared.reading.EdgeError.{EdgeError}
 use Rattle.capture_monitor.specs.declared.reading.EdgeError.TheVariants as edge
 use Rattle.capture_pin.specs.Pin.{edges_in as pin_edges}
 use Rattle.capture_vcd.specs.Dump.{edges_in as vcd_edges}
-use Rattle.capture_forms.specs.declared.form.Form.{Form}
-use Rattle.capture_forms.specs.declared.form.Form.TheVariants.{Edges, Vcd, Pin, Csv}
+use Rattle.capture_forms.specs.declared.form.CaptureForm.{CaptureForm}
+use Rattle.capture_forms.specs.declared.form.CaptureForm.TheVariants.{Edges, Vcd, Pin, Csv}
 
 -- ---- edge files
 
@@ -34,7 +34,7 @@ edge_error edge.Memory = Memory
 -- ---- what a text is read as
 
 -- a signal has a name in a dump and in comma-separated values
-abbrev pub capture_in : Form → List ℕ → List ℕ → Result Captured CaptureFault
+abbrev pub capture_in : CaptureForm → List ℕ → List ℕ → Result Captured CaptureFault
 capture_in Edges signal text = of_edges (file_of text)
 capture_in Vcd signal text = vcd_edges signal text
 capture_in Pin signal text = pin_edges text

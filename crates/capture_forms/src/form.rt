@@ -6,7 +6,7 @@ use text_core::{before, byte_at, first_line, len_before, number_in};
 
 /// The form of a capture.
 #[derive(Clone, Copy, Debug, PartialEq, Eq)]
-pub enum Form {
+pub enum CaptureForm {
     /// An edge file, as `run --edges` writes it.
     Edges,
     /// A Value Change Dump.
@@ -26,30 +26,30 @@ fn has_names(line: &[u8]) -> bool
 }
 
 // The form of a capture with this first line.
-fn form_of_line(line: &[u8]) -> Form
+fn form_of_line(line: &[u8]) -> CaptureForm
     ensures { result ≡ form_of_line line.now }
 {
     if byte_at(line, 0) == b'$' || before(line, 5) == b"META ".as_slice() {
-        Form::Vcd
+        CaptureForm::Vcd
     } else if before(line, 21) == b"# cec-ctl --store-pin".as_slice() {
-        Form::Pin
+        CaptureForm::Pin
     } else if has_names(line) {
-        Form::Csv
+        CaptureForm::Csv
     } else {
-        Form::Edges
+        CaptureForm::Edges
     }
 }
 
-impl Form {
+impl CaptureForm {
     /// The form of a capture, by its first line: `$..` and `META ..` begin a dump, `# cec-ctl --store-pin` a file of pin
     /// events, and a line with a comma and no number before it comma-separated values, where it does not begin with `#`.
     /// All else is an edge file.
-    pub fn of(text: &[u8]) -> Form
+    pub fn of(text: &[u8]) -> CaptureForm
         ensures { result ≡ form_of text.now }
     {
         match first_line(text) {
             Some((line, _)) => form_of_line(line),
-            None => Form::Edges,
+            None => CaptureForm::Edges,
         }
     }
 }

@@ -9,7 +9,7 @@ mod reading;
 mod writing;
 
 pub use capture_core::{CaptureError, CaptureFault, Cause};
-pub use form::Form;
+pub use form::CaptureForm;
 pub use format::Format;
 pub use reading::read_capture;
 pub use writing::{add_end, add_round, add_start};

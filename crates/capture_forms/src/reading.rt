@@ -4,7 +4,7 @@ ghost use Rattle.capture_core.specs.Reading.{Gives};
 ghost use Rattle.capture_forms.specs.Captures.{capture_in, of_edges};
 
 use crate::causes::edge_error;
-use crate::form::Form;
+use crate::form::CaptureForm;
 use capture_core::{Capture, CaptureError};
 use capture_csv::read_csv;
 use capture_monitor::read_edges;
@@ -29,16 +29,16 @@ fn edges(alloc: Global, text: &[u8]) -> Result<Capture, CaptureError>
 /// The first line at fault, counted from 1, or no memory.
 pub fn read_capture(
     alloc: Global,
-    form: Form,
+    form: CaptureForm,
     signal: &[u8],
     text: &[u8],
 ) -> Result<Capture, CaptureError>
     ensures { Gives result (capture_in form signal.now text.now) }
 {
     match form {
-        Form::Edges => edges(alloc, text),
-        Form::Vcd => read_vcd(alloc, signal, text),
-        Form::Pin => read_pin(alloc, text),
-        Form::Csv => read_csv(alloc, signal, text),
+        CaptureForm::Edges => edges(alloc, text),
+        CaptureForm::Vcd => read_vcd(alloc, signal, text),
+        CaptureForm::Pin => read_pin(alloc, text),
+        CaptureForm::Csv => read_csv(alloc, signal, text),
     }
 }

@@ -1,6 +1,6 @@
 //! A capture whose slow rises chatter.
 use capture_core::Capture;
-use capture_forms::{Form, read_capture};
+use capture_forms::{CaptureForm, read_capture};
 use capture_monitor::watch_capture;
 use capture_smooth::smooth_edges;
 use std::process::Abort;
@@ -49,7 +49,7 @@ fn polls(rt: &(impl Abort + AllocGlobal)) -> Capture {
         push_poll(rt, &mut text, poll.saturating_mul(60_000));
     }
     push(rt, &mut text, 1_100_000, "end");
-    read_capture(rt.alloc(), Form::Edges, b"".as_slice(), text.as_bytes()).expect(rt, "a capture")
+    read_capture(rt.alloc(), CaptureForm::Edges, b"".as_slice(), text.as_bytes()).expect(rt, "a capture")
 }
 
 /// How many readings of a capture are polls that nobody acknowledged.

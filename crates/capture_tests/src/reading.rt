@@ -1,7 +1,7 @@
 //! What captures are read as.
 use crate::rows::ROWS;
 use capture_core::Capture;
-use capture_forms::{CaptureError, Form, read_capture};
+use capture_forms::{CaptureError, CaptureForm, read_capture};
 use capture_monitor::watch_from_idle;
 use capture_pin::lost_lines;
 use capture_smooth::smooth_edges;
@@ -36,13 +36,13 @@ fn capture_text(rt: &(impl Abort + AllocGlobal), capture: &Capture) -> String {
 }
 
 /// The form of a word, or that of the text.
-fn form_of(word: &str, text: &str) -> Form {
+fn form_of(word: &str, text: &str) -> CaptureForm {
     match word {
-        "edges" | "smooth" => Form::Edges,
-        "vcd" => Form::Vcd,
-        "pin" => Form::Pin,
-        "csv" => Form::Csv,
-        _ => Form::of(text.as_bytes()),
+        "edges" | "smooth" => CaptureForm::Edges,
+        "vcd" => CaptureForm::Vcd,
+        "pin" => CaptureForm::Pin,
+        "csv" => CaptureForm::Csv,
+        _ => CaptureForm::of(text.as_bytes()),
     }
 }
 
@@ -95,7 +95,7 @@ fn lost_text(rt: &(impl Abort + AllocGlobal), text: &str) -> String {
 
 /// The readings of an edge file, from idle on.
 fn idle_text(rt: &(impl Abort + AllocGlobal), text: &str) -> String {
-    let read = read_capture(rt.alloc(), Form::Edges, b"".as_slice(), text.as_bytes());
+    let read = read_capture(rt.alloc(), CaptureForm::Edges, b"".as_slice(), text.as_bytes());
     let capture = read.expect(rt, "a capture");
     let mut out = Vec::new(rt.alloc());
     watch_from_idle(&capture, &mut Writes::new(&mut out)).expect(rt, "memory");

@@ -1,5 +1,5 @@
 //! What is written, over writers that take one byte a call and that fail at each byte.
-use capture_forms::{Form, read_capture};
+use capture_forms::{CaptureForm, read_capture};
 use capture_monitor::watch_capture;
 use line_wave::Stretch;
 use std::io::{self, ErrorKind, Write};
@@ -76,7 +76,7 @@ const STRETCHES: &[Stretch] = &[
 const CAPTURE: &str = "1000 0\n4499 1\n9000 0\n12700 1\n13000 end\n";
 
 fn watch(rt: &(impl Abort + AllocGlobal), out: &mut Out<'_>) -> Result<(), WriteFault> {
-    let capture = read_capture(rt.alloc(), Form::Edges, b"".as_slice(), CAPTURE.as_bytes()).expect(
+    let capture = read_capture(rt.alloc(), CaptureForm::Edges, b"".as_slice(), CAPTURE.as_bytes()).expect(
         rt,
         "a capture",
     );

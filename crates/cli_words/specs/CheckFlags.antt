@@ -7,8 +7,8 @@ use Rattle.cli_words.specs.Micros.{micros_of}
 use Rattle.cli_words.specs.MonFlags.{form_of, has_names}
 use Rattle.cli_words.specs.declared.check_flags.CheckFlags.{CheckFlags}
 use Rattle.cli_words.specs.declared.choice.Asked.{Asked}
-use Rattle.cli_words.specs.declared.choice.Choice.{Choice}
-use Rattle.cli_words.specs.declared.choice.Choice.TheVariants.{Check, CheckCapture, Json}
+use Rattle.cli_words.specs.declared.choice.CommandChoice.{CommandChoice}
+use Rattle.cli_words.specs.declared.choice.CommandChoice.TheVariants.{Check, CheckCapture, Json}
 use Rattle.cli_words.specs.declared.choice.Form.{Form}
 use Rattle.cli_words.specs.declared.choice.Objects.TheVariants as objects
 use Rattle.cli_words.specs.declared.choice.TestView.{TestView}
@@ -76,28 +76,28 @@ abbrev pub has_capture_flag : CheckFlags → Bool
 has_capture_flag flags = is_some flags.form || flags.named || is_some flags.glitch
 
 -- the report of a test of a capture, or its objects
-abbrev pub capture_choice : Bool → Option Form → ℕ → Choice
+abbrev pub capture_choice : Bool → Option Form → ℕ → CommandChoice
 capture_choice true form glitch = Json (objects.CaptureTest form glitch)
 capture_choice false form glitch = CheckCapture form glitch
 
 -- a report of a capture alone is written, and wires of some forms have no names
-abbrev pub of_capture : CheckFlags → Option Choice
+abbrev pub of_capture : CheckFlags → Option CommandChoice
 of_capture flags =
     if flags.plain || flags.trace || flags.progress || (flags.named && not (has_names flags.form)) then None
     else Some (capture_choice flags.json flags.form (unwrap_or flags.glitch 0))
 
 -- what is written of a test of a run; objects are those of its report, with its trace or without
-abbrev pub run_choice : Bool → TestView → Option Choice
+abbrev pub run_choice : Bool → TestView → Option CommandChoice
 run_choice true Report = Some (Json (objects.Test false))
 run_choice true Progress = None
 run_choice true Traced = Some (Json (objects.Test true))
 run_choice true Plain = None
 run_choice false view = Some (Check view)
 
-abbrev pub of_run : CheckFlags → Option Choice
+abbrev pub of_run : CheckFlags → Option CommandChoice
 of_run flags = if has_capture_flag flags then None else option_and_then (run_choice flags.json) (option_and_then (with_progress flags.progress) (test_view flags.plain flags.trace))
 
-abbrev pub check_choice : CheckFlags → Option Choice
+abbrev pub check_choice : CheckFlags → Option CommandChoice
 check_choice flags = if flags.capture then of_capture flags else of_run flags
 
 -- what they ask for

@@ -10,21 +10,21 @@ use Rattle.edid_merge.specs.declared.table.Table.{Table}
 use Rattle.cli_words.specs.Joined.{joined}
 use Rattle.cli_words.specs.Rows.{rows_of}
 use Rattle.cli_words.specs.declared.choice.Asked.{Asked}
-use Rattle.cli_words.specs.declared.choice.Choice.TheVariants.{Edid}
-use Rattle.cli_words.specs.declared.choice.Reading.TheVariants as readings
+use Rattle.cli_words.specs.declared.choice.CommandChoice.TheVariants.{Edid}
+use Rattle.cli_words.specs.declared.choice.EdidReading.TheVariants as readings
 use Rattle.cli_words.specs.declared.choice.Recipient.{Recipient}
 use Rattle.cli_words.specs.declared.choice.Recipient.TheVariants.{Own, At, Port}
 use Rattle.cli_words.specs.declared.choice.Sound.{Sound}
 use Rattle.cli_words.specs.declared.choice.Sound.TheVariants.{Kept, Amplified, Spoken}
 use Rattle.cli_words.specs.declared.choice.Source.{Source}
 use Rattle.cli_words.specs.declared.choice.Source.TheVariants as sources
-use Rattle.cli_words.specs.declared.choice.Shape.{Shape}
-use Rattle.cli_words.specs.declared.choice.Shape.TheVariants as shapes
+use Rattle.cli_words.specs.declared.choice.EdidShape.{EdidShape}
+use Rattle.cli_words.specs.declared.choice.EdidShape.TheVariants as shapes
 use Rattle.cli_words.specs.declared.choice.View.{View}
 use Rattle.cli_words.specs.declared.choice.View.TheVariants.{Whole, Meaning, Findings, Address, Readout}
 use Rattle.cli_words.specs.declared.edid_flags.EdidFlags.{EdidFlags}
-use Rattle.cli_words.specs.declared.edid_flags.Wanted.{Wanted}
-use Rattle.cli_words.specs.declared.edid_flags.Wanted.TheVariants as wants
+use Rattle.cli_words.specs.declared.edid_flags.EdidOutput.{EdidOutput}
+use Rattle.cli_words.specs.declared.edid_flags.EdidOutput.TheVariants as wants
 use Rattle.cli_words.specs.declared.edid_flags.EdidValue.{EdidValue}
 use Rattle.cli_words.specs.declared.edid_flags.EdidValue.TheVariants as values
 
@@ -119,7 +119,7 @@ abbrev pub edid_place : EdidFlags → Option Recipient
 edid_place flags = option_and_then (λ sound. place_by flags.address flags.port sound) (edid_sound flags.amplified flags.spoken)
 
 -- how an EDID is written where no flag says it: that of a text as hex, and else as its text
-abbrev pub own_shape : Source → Shape
+abbrev pub own_shape : Source → EdidShape
 own_shape sources.Text = shapes.Hex
 own_shape sources.Words = shapes.Hex
 own_shape sources.Bytes = shapes.Text
@@ -146,7 +146,7 @@ edid_source flags =
     else one_source flags.source flags.nth
 
 -- what is written
-abbrev pub edid_view : Option Wanted → Recipient → Shape → View
+abbrev pub edid_view : Option EdidOutput → Recipient → EdidShape → View
 edid_view None place shape = Whole place shape
 edid_view (Some wants.Raw) place shape = Whole place shapes.Bytes
 edid_view (Some wants.Check) place shape = Findings place

@@ -9,8 +9,8 @@ use Rattle.cli_words.specs.LiveFlags.{live_asked, live_flags}
 use Rattle.cli_words.specs.MonFlags.{mon_asked, mon_flags}
 use Rattle.cli_words.specs.RunFlags.{run_asked, run_flags}
 use Rattle.cli_words.specs.declared.choice.Asked.{Asked}
-use Rattle.cli_words.specs.declared.choice.Choice.{Choice}
-use Rattle.cli_words.specs.declared.choice.Choice.TheVariants as choices
+use Rattle.cli_words.specs.declared.choice.CommandChoice.{CommandChoice}
+use Rattle.cli_words.specs.declared.choice.CommandChoice.TheVariants as choices
 use Rattle.cli_words.specs.declared.subcommand.Subcommand.{Subcommand}
 use Rattle.cli_words.specs.declared.subcommand.Subcommand.TheVariants.{Run, Check, Step, Live, Asm, Dis, Lay, Mon, Edid}
 
@@ -29,7 +29,7 @@ subcommand_of word =
     else None
 
 -- `--explain` and no other flag
-abbrev pub only_explained : Choice → List (List ℕ) → Option Asked
+abbrev pub only_explained : CommandChoice → List (List ℕ) → Option Asked
 only_explained choice [] = Some (record { choice = choice; explains = false })
 only_explained choice (word ∷ []) = if bytes_eq word (codes "--explain") then Some (record { choice = choice; explains = true }) else None
 only_explained choice words = None

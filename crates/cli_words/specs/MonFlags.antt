@@ -6,15 +6,15 @@ use Rattle.text_core.specs.Number.{number_of}
 use Rattle.cli_words.specs.Joined.{joined}
 use Rattle.cli_words.specs.Micros.{micros_of}
 use Rattle.cli_words.specs.declared.choice.Asked.{Asked}
-use Rattle.cli_words.specs.declared.choice.Choice.{Choice}
-use Rattle.cli_words.specs.declared.choice.Choice.TheVariants.{Mon, Follow, Json}
+use Rattle.cli_words.specs.declared.choice.CommandChoice.{CommandChoice}
+use Rattle.cli_words.specs.declared.choice.CommandChoice.TheVariants.{Mon, Follow, Json}
 use Rattle.cli_words.specs.declared.choice.Objects.TheVariants as objects
 use Rattle.cli_words.specs.declared.choice.Form.{Form}
 use Rattle.cli_words.specs.declared.choice.Form.TheVariants.{Edges, Vcd, Pin, Csv}
-use Rattle.cli_words.specs.declared.choice.LineForm.{LineForm}
-use Rattle.cli_words.specs.declared.choice.LineForm.TheVariants as line_forms
-use Rattle.cli_words.specs.declared.choice.Report.{Report}
-use Rattle.cli_words.specs.declared.choice.Report.TheVariants.{Audit, FromIdle, Readings}
+use Rattle.cli_words.specs.declared.choice.FollowForm.{FollowForm}
+use Rattle.cli_words.specs.declared.choice.FollowForm.TheVariants as line_forms
+use Rattle.cli_words.specs.declared.choice.CaptureReport.{CaptureReport}
+use Rattle.cli_words.specs.declared.choice.CaptureReport.TheVariants.{Audit, FromIdle, Readings}
 use Rattle.cli_words.specs.declared.mon_flags.MonFlags.{MonFlags}
 use Rattle.cli_words.specs.declared.mon_flags.MonValue.{MonValue}
 use Rattle.cli_words.specs.declared.mon_flags.MonValue.TheVariants.{From, Signal, Glitch, Margin}
@@ -90,25 +90,25 @@ has_names (Some form) = false
 
 -- What is written of the capture, where a flag says it. An audit is of the whole capture; with the widths of its parts it is one
 -- with `--audit` or without. Nothing but an audit is strict.
-abbrev pub mon_report : Option Report → Bool → Bool → Bool → Option (Option Report)
+abbrev pub mon_report : Option CaptureReport → Bool → Bool → Bool → Option (Option CaptureReport)
 mon_report start false timing false = Some start
 mon_report start false timing true = None
 mon_report None true timing strict = Some (Some (Audit timing strict))
 mon_report (Some start) true timing strict = None
 
 -- what is done with the capture
-abbrev pub mon_choice : Bool → Option Form → ℕ → ℕ → Bool → Bool → Option Report → Choice
+abbrev pub mon_choice : Bool → Option Form → ℕ → ℕ → Bool → Bool → Option CaptureReport → CommandChoice
 mon_choice true form glitch margin inverted folded report = Json (objects.Capture form glitch margin inverted report)
 mon_choice false form glitch margin inverted folded report = Mon form glitch margin inverted folded report
 
 -- the form of a capture that is read line by line, which is not guessed
-abbrev pub line_form : Option Form → Option LineForm
+abbrev pub line_form : Option Form → Option FollowForm
 line_form (Some Edges) = Some line_forms.Edges
 line_form (Some Pin) = Some line_forms.Pin
 line_form (Some Csv) = Some line_forms.Csv
 line_form form = None
 
-abbrev pub is_from_idle : Option Report → Bool
+abbrev pub is_from_idle : Option CaptureReport → Bool
 is_from_idle (Some FromIdle) = true
 is_from_idle start = false
 
@@ -117,7 +117,7 @@ abbrev pub goes_further : MonFlags → Bool
 goes_further flags = is_some flags.glitch || flags.inverted || is_from_idle flags.start || flags.audit || flags.timing || flags.strict || flags.folded || flags.json
 
 -- the readings of a capture as they come
-abbrev pub follow_choice : MonFlags → Option Choice
+abbrev pub follow_choice : MonFlags → Option CommandChoice
 follow_choice flags = if goes_further flags then None else option_map (λ form. Follow form (unwrap_or flags.margin 0)) (line_form flags.form)
 
 -- a value is missing, a wire has no name, or objects are asked for of lines that are folded

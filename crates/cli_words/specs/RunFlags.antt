@@ -4,8 +4,8 @@ use Rattle.std.specs.Option.{option_map}
 use Rattle.std.specs.Str.{bytes_eq}
 use Rattle.cli_words.specs.Joined.{joined}
 use Rattle.cli_words.specs.declared.choice.Asked.{Asked}
-use Rattle.cli_words.specs.declared.choice.Choice.{Choice}
-use Rattle.cli_words.specs.declared.choice.Choice.TheVariants.{Run, Json}
+use Rattle.cli_words.specs.declared.choice.CommandChoice.{CommandChoice}
+use Rattle.cli_words.specs.declared.choice.CommandChoice.TheVariants.{Run, Json}
 use Rattle.cli_words.specs.declared.choice.Objects.TheVariants as objects
 use Rattle.cli_words.specs.declared.choice.Listing.{Listing}
 use Rattle.cli_words.specs.declared.choice.Listing.TheVariants.{Trace, Edges, Vcd, Pin, Csv, Drives, Named}
@@ -74,7 +74,7 @@ with_drives false true listing = None
 with_drives false false listing = listing
 
 -- what is done with the run
-abbrev pub run_choice : Bool → Bool → Listing → Bool → Choice
+abbrev pub run_choice : Bool → Bool → Listing → Bool → CommandChoice
 run_choice true true listing strict = Json (objects.Room strict)
 run_choice true false listing strict = Json (objects.Trace strict)
 run_choice false room listing strict = Run listing strict

@@ -2,7 +2,7 @@
 ghost use Rattle.std.specs.Prelude.{◌≡◌, map, string_bytes, option_and_then};
 ghost use Rattle.cli_words.specs.CheckFlags.{capture_choice, check_asked, check_choice, check_flags, has_capture_flag, of_capture, of_run, run_choice, test_view, waited_check, with_check_flag, with_check_value, with_check_word, with_progress};
 
-use crate::choice::{Asked, Choice, Form, Objects, TestView};
+use crate::choice::{Asked, CommandChoice, Form, Objects, TestView};
 use crate::joined::joined;
 use crate::micros::micros_of;
 use crate::mon_flags::{MonValue, form_of, has_names};
@@ -177,18 +177,18 @@ fn has_capture_flag(flags: &CheckFlags) -> bool
 }
 
 // The report of a test of a capture, or its objects.
-fn capture_choice(json: bool, form: Option<Form>, glitch: u64) -> Choice
+fn capture_choice(json: bool, form: Option<Form>, glitch: u64) -> CommandChoice
     ensures { result ≡ capture_choice json form glitch }
 {
     if json {
-        Choice::Json(Objects::CaptureTest { form, glitch })
+        CommandChoice::Json(Objects::CaptureTest { form, glitch })
     } else {
-        Choice::CheckCapture { form, glitch }
+        CommandChoice::CheckCapture { form, glitch }
     }
 }
 
 // A report of a capture alone is written.
-fn of_capture(flags: &CheckFlags) -> Option<Choice>
+fn of_capture(flags: &CheckFlags) -> Option<CommandChoice>
     ensures { result ≡ of_capture flags.now }
 {
     if flags.plain || flags.trace || flags.progress || (flags.named && !has_names(flags.form)) {
@@ -198,18 +198,18 @@ fn of_capture(flags: &CheckFlags) -> Option<Choice>
 }
 
 // What is written of a test of a run. Objects are those of its report, with its trace or without.
-fn run_choice(json: bool, view: TestView) -> Option<Choice>
+fn run_choice(json: bool, view: TestView) -> Option<CommandChoice>
     ensures { result ≡ run_choice json view }
 {
     match view {
-        TestView::Report if json => Some(Choice::Json(Objects::Test { traced: false })),
-        TestView::Traced if json => Some(Choice::Json(Objects::Test { traced: true })),
+        TestView::Report if json => Some(CommandChoice::Json(Objects::Test { traced: false })),
+        TestView::Traced if json => Some(CommandChoice::Json(Objects::Test { traced: true })),
         _ if json => None,
-        view => Some(Choice::Check(view)),
+        view => Some(CommandChoice::Check(view)),
     }
 }
 
-fn of_run(flags: &CheckFlags) -> Option<Choice>
+fn of_run(flags: &CheckFlags) -> Option<CommandChoice>
     ensures { result ≡ of_run flags.now }
 {
     if has_capture_flag(flags) {
@@ -220,7 +220,7 @@ fn of_run(flags: &CheckFlags) -> Option<Choice>
     run_choice(flags.json, view)
 }
 
-fn check_choice(flags: &CheckFlags) -> Option<Choice>
+fn check_choice(flags: &CheckFlags) -> Option<CommandChoice>
     ensures { result ≡ check_choice flags.now }
 {
     if flags.capture {

@@ -36,7 +36,7 @@ pub enum Form {
 
 /// The form of a capture that is read line by line.
 #[derive(Clone, Copy, Debug)]
-pub enum LineForm {
+pub enum FollowForm {
     /// An edge file.
     Edges,
     /// Pin events of cec-ctl.
@@ -47,7 +47,7 @@ pub enum LineForm {
 
 /// What is written of a capture.
 #[derive(Clone, Copy, Debug)]
-pub enum Report {
+pub enum CaptureReport {
     /// Its readings.
     Readings,
     /// Those from where the line was first idle, as of a capture that begins in the middle of a frame.
@@ -91,7 +91,7 @@ pub enum Objects {
         glitch: u64,
         margin: u64,
         inverted: bool,
-        report: Option<Report>,
+        report: Option<CaptureReport>,
     },
     /// The lines of the report of a test of a run, with its trace after it or without.
     Test {
@@ -122,7 +122,7 @@ pub enum Source {
 
 /// How the bytes of an EDID are read.
 #[derive(Clone, Copy, Debug)]
-pub enum Reading {
+pub enum EdidReading {
     /// As they stand.
     Strict,
     /// With the count of extensions that the HDMI Forum's override of it has.
@@ -155,7 +155,7 @@ pub enum Recipient {
 
 /// How an EDID is written.
 #[derive(Clone, Copy, Debug)]
-pub enum Shape {
+pub enum EdidShape {
     /// Its text.
     Text,
     /// Its bytes, as one line of hex.
@@ -168,7 +168,7 @@ pub enum Shape {
 #[derive(Clone, Copy, Debug)]
 pub enum View {
     /// The EDID for a device.
-    Whole(Recipient, Shape),
+    Whole(Recipient, EdidShape),
     /// Its text for a device, and below each line what it means.
     Meaning(Recipient),
     /// The rules that it breaks.
@@ -181,7 +181,7 @@ pub enum View {
 
 /// What the words of a command line ask for.
 #[derive(Clone, Copy, Debug)]
-pub enum Choice {
+pub enum CommandChoice {
     /// A run of a topology and a script. Where it is strict, an event that is refused is a fault.
     Run {
         listing: Listing,
@@ -219,11 +219,11 @@ pub enum Choice {
         margin: u64,
         inverted: bool,
         folded: bool,
-        report: Option<Report>,
+        report: Option<CaptureReport>,
     },
     /// The readings of a capture in this form as they come, line by line; the windows are so many microseconds wider, 300 at most.
     Follow {
-        form: LineForm,
+        form: FollowForm,
         margin: u64,
     },
     /// Lines of a run or of a capture, as objects.
@@ -231,7 +231,7 @@ pub enum Choice {
     /// An EDID.
     Edid {
         source: Source,
-        reading: Reading,
+        reading: EdidReading,
         view: View,
     },
 }
@@ -239,7 +239,7 @@ pub enum Choice {
 /// What a command line asks for.
 #[derive(Clone, Copy, Debug)]
 pub struct Asked {
-    pub choice: Choice,
+    pub choice: CommandChoice,
     /// Whether faults are explained, and runs counted, on standard error.
     pub explains: bool,
 }

@@ -2,7 +2,7 @@
 ghost use Rattle.std.specs.Prelude.{◌≡◌, map, string_bytes};
 ghost use Rattle.cli_words.specs.DisFlags.{dis_asked, dis_flags, one_dis_flag};
 
-use crate::choice::{Asked, Choice};
+use crate::choice::{Asked, CommandChoice};
 
 /// The flags that `dis` was given.
 #[derive(Clone, Copy)]
@@ -51,7 +51,7 @@ pub fn dis_asked(flags: DisFlags) -> Asked
     ensures { result ≡ dis_asked flags }
 {
     Asked {
-        choice: Choice::Dis {
+        choice: CommandChoice::Dis {
             meaning: flags.meaning,
         },
         explains: flags.explains,

@@ -2,7 +2,7 @@
 ghost use Rattle.std.specs.Prelude.{◌≡◌, map, string_bytes, option_and_then};
 ghost use Rattle.cli_words.specs.EdidFlags.{amplified_of, edid_asked, edid_flags, edid_place, edid_sound, edid_source, edid_view, nth_of, one_source, own_shape, pair_source, place_by, port_of, spoken_of, waited_edid, with_edid_flag, with_edid_value, with_edid_word};
 
-use crate::choice::{Asked, Choice, Reading, Recipient, Shape, Sound, Source, View};
+use crate::choice::{Asked, CommandChoice, EdidReading, Recipient, EdidShape, Sound, Source, View};
 use crate::joined::joined;
 use crate::rows::rows_of;
 use edid_merge::Table;
@@ -21,7 +21,7 @@ pub enum EdidValue {
 
 /// A flag of `edid` that says what is written.
 #[derive(Clone, Copy, Debug)]
-pub enum Wanted {
+pub enum EdidOutput {
     Raw,
     Meaning,
     Check,
@@ -37,8 +37,8 @@ pub struct EdidFlags {
     /// Which of the EDIDs of a dump is read.
     pub nth: Option<u64>,
     /// What `--eeodb` or `--as-source` says of how it is read.
-    pub reading: Option<Reading>,
-    pub wanted: Option<Wanted>,
+    pub reading: Option<EdidReading>,
+    pub wanted: Option<EdidOutput>,
     pub address: Option<Phys>,
     pub port: Option<u8>,
     pub amplified: bool,
@@ -175,31 +175,31 @@ fn with_edid_flag(flags: EdidFlags, word: &str) -> Option<EdidFlags>
             ..flags
         }),
         "--eeodb" if flags.reading.is_none() => Some(EdidFlags {
-            reading: Some(Reading::Overridden),
+            reading: Some(EdidReading::Overridden),
             ..flags
         }),
         "--as-source" if flags.reading.is_none() => Some(EdidFlags {
-            reading: Some(Reading::AsSource),
+            reading: Some(EdidReading::AsSource),
             ..flags
         }),
         "--raw" if flags.wanted.is_none() => Some(EdidFlags {
-            wanted: Some(Wanted::Raw),
+            wanted: Some(EdidOutput::Raw),
             ..flags
         }),
         "--check" if flags.wanted.is_none() => Some(EdidFlags {
-            wanted: Some(Wanted::Check),
+            wanted: Some(EdidOutput::Check),
             ..flags
         }),
         "--meaning" if flags.wanted.is_none() => Some(EdidFlags {
-            wanted: Some(Wanted::Meaning),
+            wanted: Some(EdidOutput::Meaning),
             ..flags
         }),
         "--only-address" if flags.wanted.is_none() => Some(EdidFlags {
-            wanted: Some(Wanted::OnlyAddress),
+            wanted: Some(EdidOutput::OnlyAddress),
             ..flags
         }),
         "--ddc" if flags.wanted.is_none() => Some(EdidFlags {
-            wanted: Some(Wanted::Ddc),
+            wanted: Some(EdidOutput::Ddc),
             ..flags
         }),
         "--address" if flags.address.is_none() => Some(EdidFlags {
@@ -306,12 +306,12 @@ fn edid_place(flags: &EdidFlags) -> Option<Recipient>
 }
 
 // How an EDID is written where no flag says it: that of a text as hex, and else as its text.
-fn own_shape(source: Source) -> Shape
+fn own_shape(source: Source) -> EdidShape
     ensures { result ≡ own_shape source }
 {
     match source {
-        Source::Text | Source::Words => Shape::Hex,
-        Source::Bytes | Source::Dump { .. } | Source::Pair { .. } => Shape::Text,
+        Source::Text | Source::Words => EdidShape::Hex,
+        Source::Bytes | Source::Dump { .. } | Source::Pair { .. } => EdidShape::Text,
     }
 }
 
@@ -359,16 +359,16 @@ fn edid_source(flags: &EdidFlags) -> Option<Source>
 }
 
 // What is written.
-fn edid_view(wanted: Option<Wanted>, place: Recipient, shape: Shape) -> View
+fn edid_view(wanted: Option<EdidOutput>, place: Recipient, shape: EdidShape) -> View
     ensures { result ≡ edid_view wanted place shape }
 {
     match wanted {
         None => View::Whole(place, shape),
-        Some(Wanted::Raw) => View::Whole(place, Shape::Bytes),
-        Some(Wanted::Check) => View::Findings(place),
-        Some(Wanted::Meaning) => View::Meaning(place),
-        Some(Wanted::OnlyAddress) => View::Address(place),
-        Some(Wanted::Ddc) => View::Readout(place),
+        Some(EdidOutput::Raw) => View::Whole(place, EdidShape::Bytes),
+        Some(EdidOutput::Check) => View::Findings(place),
+        Some(EdidOutput::Meaning) => View::Meaning(place),
+        Some(EdidOutput::OnlyAddress) => View::Address(place),
+        Some(EdidOutput::Ddc) => View::Readout(place),
     }
 }
 
@@ -382,9 +382,9 @@ pub fn edid_asked(flags: &EdidFlags) -> Option<Asked>
     let source = edid_source(flags)?;
     let place = edid_place(flags)?;
     let view = edid_view(flags.wanted, place, own_shape(source));
-    let reading = flags.reading.unwrap_or(Reading::Strict);
+    let reading = flags.reading.unwrap_or(EdidReading::Strict);
     Some(Asked {
-        choice: Choice::Edid {
+        choice: CommandChoice::Edid {
             source,
             reading,
             view,

@@ -15,7 +15,7 @@ mod run_flags;
 mod subcommand;
 
 pub use choice::{
-    Asked, Choice, Form, LineForm, Listing, Objects, Reading, Recipient, Report, Shape, Sound,
+    Asked, CommandChoice, Form, FollowForm, Listing, Objects, EdidReading, Recipient, CaptureReport, EdidShape, Sound,
     Source, TestView, View,
 };
 pub use line::asked_by;

@@ -3,7 +3,7 @@ ghost use Rattle.std.specs.Prelude.{◌≡◌, map, string_bytes};
 ghost use Rattle.cli_words.specs.Line.{asked_after, asked_as, asked_by, asked_of, asked_with, before_end, only_explained};
 
 use crate::check_flags::{CheckFlags, check_asked, check_flags};
-use crate::choice::{Asked, Choice};
+use crate::choice::{Asked, CommandChoice};
 use crate::dis_flags::{DisFlags, dis_asked, dis_flags};
 use crate::edid_flags::{EdidFlags, edid_asked, edid_flags};
 use crate::live_flags::{LiveFlags, live_asked, live_flags};
@@ -12,7 +12,7 @@ use crate::run_flags::{RunFlags, run_asked, run_flags};
 use crate::subcommand::{Subcommand, subcommand_of};
 
 // What a subcommand asks for that has no flag but `--explain`.
-fn only_explained(choice: Choice, words: &[String]) -> Option<Asked>
+fn only_explained(choice: CommandChoice, words: &[String]) -> Option<Asked>
     ensures { result ≡ only_explained choice (map string_bytes words.now) }
 {
     match words {
@@ -35,11 +35,11 @@ fn asked_of(subcommand: Subcommand, words: &[String]) -> Option<Asked>
     match subcommand {
         Subcommand::Run => run_asked(&run_flags(RunFlags::NONE, words)?),
         Subcommand::Check => check_asked(&check_flags(CheckFlags::NONE, words)?),
-        Subcommand::Step => only_explained(Choice::Step, words),
+        Subcommand::Step => only_explained(CommandChoice::Step, words),
         Subcommand::Live => Some(live_asked(live_flags(LiveFlags::NONE, words)?)),
-        Subcommand::Asm => only_explained(Choice::Asm, words),
+        Subcommand::Asm => only_explained(CommandChoice::Asm, words),
         Subcommand::Dis => Some(dis_asked(dis_flags(DisFlags::NONE, words)?)),
-        Subcommand::Lay => only_explained(Choice::Lay, words),
+        Subcommand::Lay => only_explained(CommandChoice::Lay, words),
         Subcommand::Mon => mon_asked(&mon_flags(MonFlags::NONE, words)?),
         Subcommand::Edid => edid_asked(&edid_flags(EdidFlags::NONE, words)?),
     }

@@ -2,7 +2,7 @@
 ghost use Rattle.std.specs.Prelude.{◌≡◌, map, string_bytes};
 ghost use Rattle.cli_words.specs.LiveFlags.{live_asked, live_flags, one_live_flag};
 
-use crate::choice::{Asked, Choice};
+use crate::choice::{Asked, CommandChoice};
 
 /// The flags that `live` was given.
 #[derive(Clone, Copy)]
@@ -51,7 +51,7 @@ pub fn live_asked(flags: LiveFlags) -> Asked
     ensures { result ≡ live_asked flags }
 {
     Asked {
-        choice: Choice::Live { json: flags.json },
+        choice: CommandChoice::Live { json: flags.json },
         explains: flags.explains,
     }
 }

@@ -2,7 +2,7 @@
 ghost use Rattle.std.specs.Prelude.{◌≡◌, map, string_bytes, Some, None, MatchOption, option_and_then};
 ghost use Rattle.cli_words.specs.MonFlags.{follow_choice, form_of, goes_further, has_names, is_from_idle, line_form, margin_of, is_misfit, joined_signal, mon_asked, mon_choice, mon_flags, mon_report, signal_in, waited_mon, with_mon_flag, with_mon_value, with_mon_word};
 
-use crate::choice::{Asked, Choice, Form, LineForm, Objects, Report};
+use crate::choice::{Asked, CommandChoice, Form, FollowForm, Objects, CaptureReport};
 use crate::joined::joined;
 use crate::micros::micros_of;
 use text_core::{after, before, number_in};
@@ -29,7 +29,7 @@ pub struct MonFlags {
     pub margin: Option<u64>,
     pub inverted: bool,
     /// The readings that `--from-start` or `--from-idle` asks for.
-    pub start: Option<Report>,
+    pub start: Option<CaptureReport>,
     pub audit: bool,
     pub timing: bool,
     pub strict: bool,
@@ -148,11 +148,11 @@ fn with_mon_flag(flags: MonFlags, word: &str) -> Option<MonFlags>
             ..flags
         }),
         "--from-start" if flags.start.is_none() => Some(MonFlags {
-            start: Some(Report::Readings),
+            start: Some(CaptureReport::Readings),
             ..flags
         }),
         "--from-idle" if flags.start.is_none() => Some(MonFlags {
-            start: Some(Report::FromIdle),
+            start: Some(CaptureReport::FromIdle),
             ..flags
         }),
         "--audit" if !flags.audit => Some(MonFlags {
@@ -230,17 +230,17 @@ pub fn has_names(form: Option<Form>) -> bool
 
 // What is written of the capture, where a flag says it. An audit is of the whole capture, and an audit alone is strict.
 fn mon_report(
-    start: Option<Report>,
+    start: Option<CaptureReport>,
     audited: bool,
     timing: bool,
     strict: bool,
-) -> Option<Option<Report>>
+) -> Option<Option<CaptureReport>>
     ensures { result ≡ mon_report start audited timing strict }
 {
     match start {
         Some(_) if audited || strict => None,
         Some(start) => Some(Some(start)),
-        None if audited => Some(Some(Report::Audit { timing, strict })),
+        None if audited => Some(Some(CaptureReport::Audit { timing, strict })),
         None if strict => None,
         None => Some(None),
     }
@@ -254,12 +254,12 @@ fn mon_choice(
     margin: u64,
     inverted: bool,
     folded: bool,
-    report: Option<Report>,
-) -> Choice
+    report: Option<CaptureReport>,
+) -> CommandChoice
     ensures { result ≡ mon_choice json form glitch margin inverted folded report }
 {
     if json {
-        Choice::Json(Objects::Capture {
+        CommandChoice::Json(Objects::Capture {
             form,
             glitch,
             margin,
@@ -267,7 +267,7 @@ fn mon_choice(
             report,
         })
     } else {
-        Choice::Mon {
+        CommandChoice::Mon {
             form,
             glitch,
             margin,
@@ -279,21 +279,21 @@ fn mon_choice(
 }
 
 // The form of a capture that is read line by line. It is not guessed.
-fn line_form(form: Option<Form>) -> Option<LineForm>
+fn line_form(form: Option<Form>) -> Option<FollowForm>
     ensures { result ≡ line_form form }
 {
     match form {
-        Some(Form::Edges) => Some(LineForm::Edges),
-        Some(Form::Pin) => Some(LineForm::Pin),
-        Some(Form::Csv) => Some(LineForm::Csv),
+        Some(Form::Edges) => Some(FollowForm::Edges),
+        Some(Form::Pin) => Some(FollowForm::Pin),
+        Some(Form::Csv) => Some(FollowForm::Csv),
         Some(Form::Vcd) | None => None,
     }
 }
 
-fn is_from_idle(start: Option<Report>) -> bool
+fn is_from_idle(start: Option<CaptureReport>) -> bool
     ensures { result ≡ is_from_idle start }
 {
-    matches!(start, Some(Report::FromIdle))
+    matches!(start, Some(CaptureReport::FromIdle))
 }
 
 // Whether a flag asks for something else than all readings of the edges as they are.
@@ -311,14 +311,14 @@ fn goes_further(flags: &MonFlags) -> bool
 }
 
 // The readings of a capture as they come.
-fn follow_choice(flags: &MonFlags) -> Option<Choice>
+fn follow_choice(flags: &MonFlags) -> Option<CommandChoice>
     ensures { result ≡ follow_choice flags.now }
 {
     if goes_further(flags) {
         return None;
     }
     let form = line_form(flags.form)?;
-    Some(Choice::Follow {
+    Some(CommandChoice::Follow {
         form,
         margin: flags.margin.unwrap_or(0),
     })

@@ -2,7 +2,7 @@
 ghost use Rattle.std.specs.Prelude.{◌≡◌, map, option_and_then, string_bytes};
 ghost use Rattle.cli_words.specs.RunFlags.{line_listing, one_run_flag, run_asked, run_choice, run_flags, waited_run, with_run_value, with_run_word};
 
-use crate::choice::{Asked, Choice, Listing, Objects};
+use crate::choice::{Asked, CommandChoice, Listing, Objects};
 use crate::joined::joined;
 
 /// The flags that `run` was given.
@@ -140,15 +140,15 @@ pub fn run_flags(flags: RunFlags, words: &[String]) -> Option<RunFlags>
 }
 
 // What is done with a run.
-fn run_choice(json: bool, room: bool, listing: Listing, strict: bool) -> Choice
+fn run_choice(json: bool, room: bool, listing: Listing, strict: bool) -> CommandChoice
     ensures { result ≡ run_choice json room listing strict }
 {
     if json && room {
-        Choice::Json(Objects::Room { strict })
+        CommandChoice::Json(Objects::Room { strict })
     } else if json {
-        Choice::Json(Objects::Trace { strict })
+        CommandChoice::Json(Objects::Trace { strict })
     } else {
-        Choice::Run { listing, strict }
+        CommandChoice::Run { listing, strict }
     }
 }
 

@@ -10,7 +10,7 @@ use Rattle.expect_judge.specs.Told.{EventLine, RoundLine, event_as, round_in, ro
 use Rattle.expect_judge.specs.Seen.{end_by, ends_seen}
 use Rattle.expect_judge.specs.Named.{is_named}
 use Rattle.expect_judge.specs.Index.{ends_among, entry, event_of, event_on, or_event}
-use Rattle.expect_judge.specs.declared.seen.Span.{Span}
+use Rattle.expect_judge.specs.declared.seen.TimeSpan.{TimeSpan}
 use Rattle.expect_judge.specs.declared.reported.EventLine.{EventLine as EventRead}
 
 -- ---- rounds
@@ -25,7 +25,7 @@ after_none {X} {Y} g f none (x ∷ xs) = by (g x) (after_none g f none xs)
     by None more = ap (λ o. cons_option o (filter_map (λ x. f (g x)) xs)) none ∙ more
     by (Some y) more = ap (cons_option (f (Some y))) more
 
-pub same_ends : (trace pattern : List ℕ) (span : Span) (rounds : List RoundLine) → rounds ≡ rounds_of trace → ends_among rounds span pattern ≡ ends_seen trace span pattern
+pub same_ends : (trace pattern : List ℕ) (span : TimeSpan) (rounds : List RoundLine) → rounds ≡ rounds_of trace → ends_among rounds span pattern ≡ ends_seen trace span pattern
 same_ends trace pattern span rounds is =
     ap (filter_map (λ r. end_by span pattern (Some r))) is ∙ sym (after_none (λ line. round_in (words_of line)) (end_by span pattern) refl (lines_of trace))
 

@@ -5,7 +5,7 @@ use Rattle.text_core.specs.Words.{words_of}
 use Rattle.expect_judge.specs.Told.{RoundLine, round_as, round_in}
 use Rattle.expect_judge.specs.Seen.{end_by, end_seen, is_seen}
 use Rattle.expect_judge.specs.Index.{lines_among}
-use Rattle.expect_judge.specs.declared.seen.Span.{Span}
+use Rattle.expect_judge.specs.declared.seen.TimeSpan.{TimeSpan}
 use Rattle.expect_judge.specs.declared.reported.RoundLine.{RoundLine as RoundRead}
 use Rattle.expect_judge.proofs.Ordered.{one_among, with_line}
 
@@ -30,7 +30,7 @@ joined : (b : Bool) (r : RoundRead) (lines more : List (List ℕ)) → with_line
 joined true r lines more = refl
 joined false r lines more = refl
 
-among_pushed : (r : RoundRead) (old : List RoundRead) (span : Span) (pattern : List ℕ) → lines_among (old ++ r ∷ []) span pattern ≡ lines_among old span pattern ++ lines_among (r ∷ []) span pattern
+among_pushed : (r : RoundRead) (old : List RoundRead) (span : TimeSpan) (pattern : List ℕ) → lines_among (old ++ r ∷ []) span pattern ≡ lines_among old span pattern ++ lines_among (r ∷ []) span pattern
 among_pushed r [] span pattern = refl
 among_pushed r (x ∷ xs) span pattern =
     one_among x (xs ++ r ∷ []) span pattern
@@ -42,7 +42,7 @@ seen_so : (b : Bool) (at : ℕ) → is_some (if b then Some at else None) ≡ b
 seen_so true at = refl
 seen_so false at = refl
 
-own_line : (r : RoundRead) (line : List ℕ) (rest : List (List ℕ)) (span : Span) (pattern : List ℕ) → Some (round_as r) ≡ round_in (words_of line) → r.line.now ≡ line
+own_line : (r : RoundRead) (line : List ℕ) (rest : List (List ℕ)) (span : TimeSpan) (pattern : List ℕ) → Some (round_as r) ≡ round_in (words_of line) → r.line.now ≡ line
     → lines_among (r ∷ []) span pattern ++ filter (λ text. is_some (end_seen span pattern text)) rest ≡ filter (λ text. is_some (end_seen span pattern text)) (line ∷ rest)
 own_line r line rest span pattern is same =
     ap (λ ls. ls ++ others) (one_among r [] span pattern)
@@ -56,7 +56,7 @@ own_line r line rest span pattern is same =
     by true = ap (λ l. l ∷ others) same
     by false = refl
 
-pub lines_pushed : (r : RoundRead) (line : List ℕ) (old new : List RoundRead) (lines rest whole : List (List ℕ)) (span : Span) (pattern : List ℕ) → new ≡ old ++ r ∷ [] → Some (round_as r) ≡ round_in (words_of line)
+pub lines_pushed : (r : RoundRead) (line : List ℕ) (old new : List RoundRead) (lines rest whole : List (List ℕ)) (span : TimeSpan) (pattern : List ℕ) → new ≡ old ++ r ∷ [] → Some (round_as r) ≡ round_in (words_of line)
     → r.line.now ≡ line → lines ≡ line ∷ rest → lines_among old span pattern ++ filter (λ text. is_some (end_seen span pattern text)) lines ≡ whole
     → lines_among new span pattern ++ filter (λ text. is_some (end_seen span pattern text)) rest ≡ whole
 lines_pushed r line old new lines rest whole span pattern made is same split before =

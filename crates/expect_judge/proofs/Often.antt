@@ -7,7 +7,7 @@ use Rattle.text_core.specs.Words.{words_of}
 use Rattle.expect_judge.specs.Told.{RoundLine, round_in}
 use Rattle.expect_judge.specs.Seen.{is_seen, end_by, end_seen, ends_seen}
 use Rattle.expect_judge.specs.Laws.{LargerSpansHold, NeverIsTheContrary, OnceIsSome}
-use Rattle.expect_judge.specs.declared.seen.Span.{Span}
+use Rattle.expect_judge.specs.declared.seen.TimeSpan.{TimeSpan}
 
 is_true : (b c : Bool) → Some b ≡ Some c → b ≡ c
 is_true b c e = search rules
@@ -32,7 +32,7 @@ once_is_some trace pattern span = once_at (length (ends_seen trace span pattern)
 
 -- ---- larger spans
 
-still_seen : (small large : Span) (pattern : List ℕ) (r : RoundLine) → large.from ≤ small.from → small.to ≤ large.to
+still_seen : (small large : TimeSpan) (pattern : List ℕ) (r : RoundLine) → large.from ≤ small.from → small.to ≤ large.to
     → is_seen small pattern r ≡ true → is_seen large pattern r ≡ true
 still_seen small large pattern r from to seen = grind (arith, common_steps)
 
@@ -42,12 +42,12 @@ more_or_as_many None (Some b) xs ys h l = omega arith
 more_or_as_many (Some a) None xs ys h l = search rules
 more_or_as_many (Some a) (Some b) xs ys h l = omega arith
 
-seen_still : (small large : Span) (pattern : List ℕ) (r : Option RoundLine) → large.from ≤ small.from → small.to ≤ large.to
+seen_still : (small large : TimeSpan) (pattern : List ℕ) (r : Option RoundLine) → large.from ≤ small.from → small.to ≤ large.to
     → is_some (end_by small pattern r) ≡ true → is_some (end_by large pattern r) ≡ true
 seen_still small large pattern None from to h = h
 seen_still small large pattern (Some r) from to h = grind (arith, common_steps)
 
-as_many : (small large : Span) (pattern : List ℕ) (lines : List (List ℕ)) → large.from ≤ small.from → small.to ≤ large.to
+as_many : (small large : TimeSpan) (pattern : List ℕ) (lines : List (List ℕ)) → large.from ≤ small.from → small.to ≤ large.to
     → length (filter_map (end_seen small pattern) lines) ≤ length (filter_map (end_seen large pattern) lines)
 as_many small large pattern [] from to = omega arith
 as_many small large pattern (line ∷ lines) from to =

@@ -5,20 +5,20 @@ use Rattle.std.specs.List.{filter_map}
 use Rattle.text_core.specs.Lines.{lines_of}
 use Rattle.expect_judge.specs.Told.{EventLine, RoundLine, event_as, round_as}
 use Rattle.expect_judge.specs.Seen.{end_by, end_seen, is_seen}
-use Rattle.expect_judge.specs.declared.seen.Span.{Span}
+use Rattle.expect_judge.specs.declared.seen.TimeSpan.{TimeSpan}
 use Rattle.expect_judge.specs.declared.reported.EventLine.{EventLine as EventRead}
 use Rattle.expect_judge.specs.declared.reported.RoundLine.{RoundLine as RoundRead}
 
 -- the ends of those of these rounds that are seen, in order
-abbrev pub ends_among : List RoundLine → Span → List ℕ → List ℕ
+abbrev pub ends_among : List RoundLine → TimeSpan → List ℕ → List ℕ
 ends_among rounds span pattern = filter_map (λ r. end_by span pattern (Some r)) rounds
 
 -- the lines of those of these rounds that are seen, in order
-abbrev pub lines_among : List RoundRead → Span → List ℕ → List (List ℕ)
+abbrev pub lines_among : List RoundRead → TimeSpan → List ℕ → List (List ℕ)
 lines_among rounds span pattern = map (λ r. r.line.now) (filter (λ r. is_seen span pattern (round_as r)) rounds)
 
 -- the lines of a trace whose rounds are seen
-abbrev pub lines_seen : List ℕ → Span → List ℕ → List (List ℕ)
+abbrev pub lines_seen : List ℕ → TimeSpan → List ℕ → List (List ℕ)
 lines_seen trace span pattern = filter (λ line. is_some (end_seen span pattern line)) (lines_of trace)
 
 -- a round began and ended no later than the next one

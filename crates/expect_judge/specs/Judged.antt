@@ -6,19 +6,19 @@ use Rattle.std.specs.List.{list_all, list_any}
 use Rattle.text_core.specs.Lines.{lines_of}
 use Rattle.text_core.specs.Words.{words_of}
 use Rattle.expect_text.specs.Line.{onset_in, unlabelled_words}
-use Rattle.expect_text.specs.Form.{Form, Window, form_in}
-use Rattle.expect_text.specs.Form.Form.{Other, Rounds, State, Refused}
-use Rattle.expect_text.specs.Form.Window.{Within, From}
+use Rattle.expect_text.specs.Form.{ExpectLine, ExpectWindow, form_in}
+use Rattle.expect_text.specs.Form.ExpectLine.{Other, Rounds, State, Refused}
+use Rattle.expect_text.specs.Form.ExpectWindow.{Within, From}
 use Rattle.expect_text.specs.Faults.{line_of_label, event_meant}
-use Rattle.expect_text.specs.declared.fault.LineFault.{LineFault}
+use Rattle.expect_text.specs.declared.fault.ExpectLineFault.{ExpectLineFault}
 use Rattle.expect_text.specs.declared.form.Quantity.{Quantity}
 use Rattle.expect_text.specs.declared.form.Quantity.TheVariants.{AtLeastOnce, Never, Once}
 use Rattle.expect_judge.specs.Told.{EventLine, event_at, refusal_in, state_words}
 use Rattle.expect_judge.specs.Named.{is_labelled}
 use Rattle.expect_judge.specs.Seen.{ends_seen, first_of}
-use Rattle.expect_judge.specs.declared.seen.Span.{Span}
+use Rattle.expect_judge.specs.declared.seen.TimeSpan.{TimeSpan}
 use Rattle.expect_judge.specs.declared.judge.Judged.{Judged}
-use Rattle.expect_judge.specs.declared.judge.Finding.{Finding as FindingRead}
+use Rattle.expect_judge.specs.declared.judge.JudgedLine.{JudgedLine as FindingRead}
 
 -- ---- windows
 
@@ -28,12 +28,12 @@ instant_at at None = None
 instant_at at (Some line) = at line
 
 -- a window that begins at an instant; its end is at most 2 ^ 64 - 1
-abbrev pub span_from : ℕ → Option ℕ → Option Span
+abbrev pub span_from : ℕ → Option ℕ → Option TimeSpan
 span_from duration None = None
 span_from duration (Some at) = Some (record { from = at; to = min (at + duration) (2 ^ 64 - 1) })
 
 -- a label without an instant leaves no span
-abbrev pub span_of : List ℕ → (ℕ → Option ℕ) → Window → Option Span
+abbrev pub span_of : List ℕ → (ℕ → Option ℕ) → ExpectWindow → Option TimeSpan
 span_of script at (Within duration name) = span_from duration (instant_at at (line_of_label script name))
 span_of script at (From from to) = Some (record { from = from; to = to })
 
@@ -45,7 +45,7 @@ holds_by Never count = count == 0
 holds_by Once count = count == 1
 
 -- its instant is the end of the first round that meets it, where it holds
-abbrev pub rounds_by : Quantity → Span → ℕ → Option ℕ → Judged
+abbrev pub rounds_by : Quantity → TimeSpan → ℕ → Option ℕ → Judged
 rounds_by quantity span count first = record {
   holds = Some (holds_by quantity count);
   at = if holds_by quantity count then first else None;
@@ -57,7 +57,7 @@ rounds_by quantity span count first = record {
 abbrev pub failure : Judged
 failure = record { holds = Some false; at = None; span = None; count = 0 }
 
-abbrev pub rounds_judged : List ℕ → Quantity → List ℕ → Option Span → Judged
+abbrev pub rounds_judged : List ℕ → Quantity → List ℕ → Option TimeSpan → Judged
 rounds_judged trace quantity pattern None = failure
 rounds_judged trace quantity pattern (Some span) =
     rounds_by quantity span (length (ends_seen trace span pattern)) (first_of (ends_seen trace span pattern))
@@ -122,7 +122,7 @@ abbrev pub nothing : Judged
 nothing = record { holds = None; at = None; span = None; count = 0 }
 
 -- of a line that may have a label and be a pulse
-abbrev pub form_judged : List ℕ → List ℕ → List ℕ → (ℕ → Option ℕ) → ℕ → Bool → Option ℕ → Result Form LineFault → Judged
+abbrev pub form_judged : List ℕ → List ℕ → List ℕ → (ℕ → Option ℕ) → ℕ → Bool → Option ℕ → Result ExpectLine ExpectLineFault → Judged
 form_judged script trace state at number named onset (Err cause) = failure
 form_judged script trace state at number named onset (Ok Other) = if named then other_judged trace number onset else nothing
 form_judged script trace state at number named onset (Ok (Rounds quantity window pattern)) = rounds_judged trace quantity pattern (span_of script at window)
@@ -153,30 +153,30 @@ verdicts_of script trace states = lines_judged script trace (λ line. None) 1 (l
 -- ---- expectations alone
 
 -- what is found of a line that expects something: its number, and the state line that it speaks of
-pub record Finding : Type 0 where
+pub record JudgedLine : Type 0 where
   pub line : ℕ
   pub judged : Judged
   pub state : List ℕ
 
-abbrev pub finding_as : FindingRead → Finding
+abbrev pub finding_as : FindingRead → JudgedLine
 finding_as f = record { line = f.line; judged = f.judged; state = f.state.now }
 
-abbrev pub or_more : ℕ → List ℕ → Judged → Option Bool → List Finding → List Finding
+abbrev pub or_more : ℕ → List ℕ → Judged → Option Bool → List JudgedLine → List JudgedLine
 or_more number state j None more = more
 or_more number state j (Some holds) more = record { line = number; judged = j; state = state } ∷ more
 
 -- those of lines that expect something, of lines with these state lines, of which the first has this number
-abbrev pub findings_from : ℕ → List (List ℕ) → List Judged → List Finding
+abbrev pub findings_from : ℕ → List (List ℕ) → List Judged → List JudgedLine
 findings_from number [] js = []
 findings_from number (state ∷ states) [] = []
 findings_from number (state ∷ states) (j ∷ js) = or_more number state j j.holds (findings_from (number + 1) states js)
 
-abbrev pub findings_of : List ℕ → List ℕ → List (List ℕ) → List Finding
+abbrev pub findings_of : List ℕ → List ℕ → List (List ℕ) → List JudgedLine
 findings_of script trace states = findings_from 1 states (verdicts_of script trace states)
 
 -- ---- state lines
 
-abbrev pub is_state_form : Result Form LineFault → Bool
+abbrev pub is_state_form : Result ExpectLine ExpectLineFault → Bool
 is_state_form (Err cause) = false
 is_state_form (Ok Other) = false
 is_state_form (Ok (Rounds quantity window pattern)) = false
@@ -208,7 +208,7 @@ abbrev pub is_number : ℕ → Option ℕ → Bool
 is_number number None = false
 is_number number (Some line) = line == number
 
-abbrev pub form_expects : List ℕ → ℕ → ℕ → Result Form LineFault → Bool
+abbrev pub form_expects : List ℕ → ℕ → ℕ → Result ExpectLine ExpectLineFault → Bool
 form_expects script own number (Err cause) = false
 form_expects script own number (Ok Other) = false
 form_expects script own number (Ok (Rounds quantity window pattern)) = false

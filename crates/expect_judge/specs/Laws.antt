@@ -2,18 +2,18 @@
 use Rattle.std.specs.Prelude.{◌≡◌, ℕ, ◌≤◌, true, false, List, Some}
 use Rattle.expect_text.specs.declared.form.Quantity.TheVariants.{AtLeastOnce, Never, Once}
 use Rattle.expect_judge.specs.Judged.{rounds_judged}
-use Rattle.expect_judge.specs.declared.seen.Span.{Span}
+use Rattle.expect_judge.specs.declared.seen.TimeSpan.{TimeSpan}
 
 -- `none` fails where the plain form holds, in the same span, and holds where that fails
 pub record NeverIsTheContrary : Type 0 where
-  pub fails : (trace pattern : List ℕ) (span : Span) → (rounds_judged trace AtLeastOnce pattern (Some span)).holds ≡ Some true → (rounds_judged trace Never pattern (Some span)).holds ≡ Some false
-  pub holds : (trace pattern : List ℕ) (span : Span) → (rounds_judged trace AtLeastOnce pattern (Some span)).holds ≡ Some false → (rounds_judged trace Never pattern (Some span)).holds ≡ Some true
+  pub fails : (trace pattern : List ℕ) (span : TimeSpan) → (rounds_judged trace AtLeastOnce pattern (Some span)).holds ≡ Some true → (rounds_judged trace Never pattern (Some span)).holds ≡ Some false
+  pub holds : (trace pattern : List ℕ) (span : TimeSpan) → (rounds_judged trace AtLeastOnce pattern (Some span)).holds ≡ Some false → (rounds_judged trace Never pattern (Some span)).holds ≡ Some true
 
 -- where `once` holds, the plain form does
 abbrev pub OnceIsSome : Type 0
-OnceIsSome = (trace pattern : List ℕ) (span : Span) → (rounds_judged trace Once pattern (Some span)).holds ≡ Some true → (rounds_judged trace AtLeastOnce pattern (Some span)).holds ≡ Some true
+OnceIsSome = (trace pattern : List ℕ) (span : TimeSpan) → (rounds_judged trace Once pattern (Some span)).holds ≡ Some true → (rounds_judged trace AtLeastOnce pattern (Some span)).holds ≡ Some true
 
 -- an expectation that holds goes on to hold in a larger span
 abbrev pub LargerSpansHold : Type 0
-LargerSpansHold = (trace pattern : List ℕ) (small large : Span) → large.from ≤ small.from → small.to ≤ large.to
+LargerSpansHold = (trace pattern : List ℕ) (small large : TimeSpan) → large.from ≤ small.from → small.to ≤ large.to
     → (rounds_judged trace AtLeastOnce pattern (Some small)).holds ≡ Some true → (rounds_judged trace AtLeastOnce pattern (Some large)).holds ≡ Some true

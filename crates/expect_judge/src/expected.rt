@@ -3,7 +3,7 @@ ghost use Rattle.std.specs.Prelude.{◌≡◌, ◌||◌, ℕ, IfOk, OnOk, nat_eq
 ghost use Rattle.std.specs.HashSet.{contains};
 ghost use Rattle.expect_judge.specs.Judged.{is_number, is_refusal_expected, line_expects};
 
-use expect_text::{Form, Labels, form_in, unlabelled};
+use expect_text::{ExpectLine, Labels, form_in, unlabelled};
 use std::alloc::{AllocError, Global};
 use std::collections::HashSet;
 use text_core::first_line;
@@ -43,10 +43,10 @@ fn note_line(
     match form_in(unlabelled(line).rest) {
         Err(_) => Ok(()),
         Ok(form) => match form {
-            Form::Refused { label, .. } => note(lines, labels.event_meant(own, label)),
-            Form::Other => Ok(()),
-            Form::Rounds { .. } => Ok(()),
-            Form::State { .. } => Ok(()),
+            ExpectLine::Refused { label, .. } => note(lines, labels.event_meant(own, label)),
+            ExpectLine::Other => Ok(()),
+            ExpectLine::Rounds { .. } => Ok(()),
+            ExpectLine::State { .. } => Ok(()),
         },
     }
 }

@@ -9,7 +9,7 @@ ghost use Rattle.expect_judge.specs.Index.{are_in_order, entry, event_of, event_
 
 use crate::named::NamedLines;
 use crate::reported::{EventLine, RoundLine, event_at, event_in, round_in};
-use crate::seen::{Seen, Span, are_in_order, rounds_seen};
+use crate::seen::{Seen, TimeSpan, are_in_order, rounds_seen};
 use std::alloc::{AllocError, Global};
 use std::collections::HashMap;
 use text_core::first_line;
@@ -34,7 +34,7 @@ pub(crate) fn all_rounds<'a>(
     trace: &'a [u8],
 ) -> Result<Vec<RoundLine<'a>>, AllocError>
     ensures rounds { IfOk result (λ rounds. map round_as rounds.items ≡ rounds_of trace.now) }
-    ensures lines { IfOk result (λ rounds. (span : Span) (pattern : List ℕ) → lines_among rounds.items span pattern ≡ lines_seen trace.now span pattern) }
+    ensures lines { IfOk result (λ rounds. (span : TimeSpan) (pattern : List ℕ) → lines_among rounds.items span pattern ≡ lines_seen trace.now span pattern) }
 {
     let mut rounds = Vec::new(alloc);
     let mut rest = trace;
@@ -125,7 +125,7 @@ impl<'a> Index<'a> {
     }
 
     /// How many rounds began and ended within the span and meet the pattern, and the end of the first.
-    pub fn rounds_seen(&self, span: Span, pattern: &[u8]) -> Seen
+    pub fn rounds_seen(&self, span: TimeSpan, pattern: &[u8]) -> Seen
         ensures count { result.count ≡ length (ends_seen self.now.trace.now span pattern.now) }
         ensures first { result.first ≡ first_of (ends_seen self.now.trace.now span pattern.now) }
     {

@@ -11,8 +11,8 @@ ghost use Rattle.expect_judge.specs.Judged.{event_instant, failure, finding_as, 
 use crate::index::Index;
 use crate::named::is_labelled;
 use crate::reported::{EventLine, refusal_in, state_words};
-use crate::seen::Span;
-use expect_text::{Form, Labels, Quantity, Window, form_in, onset_in, unlabelled};
+use crate::seen::TimeSpan;
+use expect_text::{ExpectLine, Labels, Quantity, ExpectWindow, form_in, onset_in, unlabelled};
 use std::alloc::{AllocError, Global};
 use std::collections::HashMap;
 use text_core::{first_line, first_word};
@@ -26,14 +26,14 @@ pub struct Judged {
     /// expectation.
     pub at: Option<u64>,
     /// The span of time in which rounds were looked at.
-    pub span: Option<Span>,
+    pub span: Option<TimeSpan>,
     /// How many of them meet the pattern.
     pub count: u64,
 }
 
 /// What is found of a line that expects something.
 #[derive(Clone, Copy, Debug)]
-pub struct Finding<'a> {
+pub struct JudgedLine<'a> {
     pub line: u64,
     pub judged: Judged,
     /// The state line that it speaks of; empty where it speaks of none.
@@ -72,24 +72,24 @@ fn instant_at(instants: &HashMap<u64, u64>, line: Option<u64>) -> Option<u64>
     instants.get(&line).copied()
 }
 
-fn span_from(duration: u64, at: Option<u64>) -> Option<Span>
+fn span_from(duration: u64, at: Option<u64>) -> Option<TimeSpan>
     ensures { result ≡ span_from duration at }
 {
     let at = at?;
-    Some(Span {
+    Some(TimeSpan {
         from: at,
         to: at.saturating_add(duration),
     })
 }
 
-fn span_of(labels: &Labels<'_>, instants: &HashMap<u64, u64>, window: Window) -> Option<Span>
+fn span_of(labels: &Labels<'_>, instants: &HashMap<u64, u64>, window: ExpectWindow) -> Option<TimeSpan>
     ensures { result ≡ span_of labels.now.script.now (λ number. get nat_eq instants.now number) (window_of window.entry) }
 {
     match window {
-        Window::Within { duration, label } => {
+        ExpectWindow::Within { duration, label } => {
             span_from(duration, instant_at(instants, labels.line_of(label)))
         }
-        Window::From { from, to } => Some(Span { from, to }),
+        ExpectWindow::From { from, to } => Some(TimeSpan { from, to }),
     }
 }
 
@@ -107,7 +107,7 @@ fn rounds_judged(
     index: &Index<'_>,
     quantity: Quantity,
     pattern: &[u8],
-    span: Option<Span>,
+    span: Option<TimeSpan>,
 ) -> Judged
     ensures { result ≡ rounds_judged index.now.trace.now quantity pattern.now span }
 {
@@ -266,20 +266,20 @@ fn line_judged(
     match form_in(unlabelled(line).rest) {
         Err(_) => failure(),
         Ok(form) => match form {
-            Form::Other => {
+            ExpectLine::Other => {
                 if is_labelled(line) {
                     other_judged(index, number, onset_in(unlabelled(line).rest))
                 } else {
                     nothing()
                 }
             }
-            Form::Rounds {
+            ExpectLine::Rounds {
                 quantity,
                 window,
                 pattern,
             } => rounds_judged(index, quantity, pattern, span_of(labels, instants, window)),
-            Form::State { words, .. } => state_judged(state, words),
-            Form::Refused { label, word } => { refused_judged(labels, index, number, label, word) }
+            ExpectLine::State { words, .. } => state_judged(state, words),
+            ExpectLine::Refused { label, word } => { refused_judged(labels, index, number, label, word) }
         },
     }
 }
@@ -291,10 +291,10 @@ pub fn is_of_state(line: &[u8]) -> bool
     match form_in(unlabelled(line).rest) {
         Err(_) => false,
         Ok(form) => match form {
-            Form::Other => false,
-            Form::Rounds { .. } => false,
-            Form::State { .. } => true,
-            Form::Refused { .. } => false,
+            ExpectLine::Other => false,
+            ExpectLine::Rounds { .. } => false,
+            ExpectLine::State { .. } => true,
+            ExpectLine::Refused { .. } => false,
         },
     }
 }
@@ -346,7 +346,7 @@ fn note_instant(
 // Adds what is found of a line, where it expects something.
 #[tactic(auto, using(crate::proofs::Judging::none_found, crate::proofs::Judging::one_found))]
 fn add_finding<'a>(
-    found: &mut Vec<Finding<'a>>,
+    found: &mut Vec<JudgedLine<'a>>,
     line: u64,
     judged: Judged,
     state: &'a [u8],
@@ -356,7 +356,7 @@ fn add_finding<'a>(
     let Some(_) = judged.holds else {
         return Ok(());
     };
-    found.push(Finding {
+    found.push(JudgedLine {
         line,
         judged,
         state,
@@ -371,7 +371,7 @@ fn judged_by<'a>(
     labels: &Labels<'_>,
     index: &Index<'_>,
     states: &'a [Vec<u8>],
-) -> Result<Vec<Finding<'a>>, AllocError>
+) -> Result<Vec<JudgedLine<'a>>, AllocError>
     ensures { IfOk result (λ found. map finding_as found.items ≡ findings_of labels.now.script.now index.now.trace.now (states_for (lines_of labels.now.script.now) (map (λ state. state.items) states.now))) }
 {
     let mut instants = HashMap::new(alloc);
@@ -403,7 +403,7 @@ pub fn all_judged<'a>(
     labels: &Labels<'_>,
     trace: &[u8],
     states: &'a [Vec<u8>],
-) -> Result<Vec<Finding<'a>>, AllocError>
+) -> Result<Vec<JudgedLine<'a>>, AllocError>
     ensures { IfOk result (λ found. map finding_as found.items ≡ findings_of labels.now.script.now trace.now (states_for (lines_of labels.now.script.now) (map (λ state. state.items) states.now))) }
 {
     let index = Index::new(alloc, labels.script, trace)?;

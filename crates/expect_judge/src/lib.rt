@@ -11,9 +11,9 @@ mod rounds;
 mod seen;
 
 pub use expected::Expected;
-pub use judge::{Finding, Judged, all_judged, is_of_state};
+pub use judge::{JudgedLine, Judged, all_judged, is_of_state};
 pub use laws::{larger_spans_hold, never_is_the_contrary, once_is_some};
 pub use named::NamedLines;
 pub use reported::{EventLine, RoundLine, event_in, refusal_in, round_in, state_line};
 pub use rounds::RoundLines;
-pub use seen::{Span, end_seen, is_seen};
+pub use seen::{TimeSpan, end_seen, is_seen};

@@ -3,7 +3,7 @@ ghost use Rattle.std.specs.Prelude.{◌≡◌, ◌==◌, ◌&&◌, ◌||◌, ℕ
 ghost use Rattle.std.specs.HashSet.{contains};
 ghost use Rattle.expect_judge.specs.Named.{is_labelled, is_named, is_of_above, names_line};
 
-use expect_text::{Form, form_in, unlabelled};
+use expect_text::{ExpectLine, form_in, unlabelled};
 use std::alloc::{AllocError, Global};
 use std::collections::HashSet;
 use text_core::first_line;
@@ -30,10 +30,10 @@ fn is_of_above(line: &[u8]) -> bool
     match form_in(unlabelled(line).rest) {
         Err(_) => false,
         Ok(form) => match form {
-            Form::Refused { label, .. } => label.is_none(),
-            Form::Other => false,
-            Form::Rounds { .. } => false,
-            Form::State { .. } => false,
+            ExpectLine::Refused { label, .. } => label.is_none(),
+            ExpectLine::Other => false,
+            ExpectLine::Rounds { .. } => false,
+            ExpectLine::State { .. } => false,
         },
     }
 }

@@ -1,11 +1,11 @@
 //! The rounds of a trace with their lines, of which those in a span are found by halves.
 ghost use Rattle.std.specs.Prelude.{◌≡◌, true, List, ℕ, IfOk};
 ghost use Rattle.expect_judge.specs.Index.{are_in_order, lines_among, lines_seen};
-ghost use Rattle.expect_judge.specs.declared.seen.Span.{Span};
+ghost use Rattle.expect_judge.specs.declared.seen.TimeSpan.{TimeSpan};
 
 use crate::index::all_rounds;
 use crate::reported::RoundLine;
-use crate::seen::{Span, are_in_order, first_place, last_place};
+use crate::seen::{TimeSpan, are_in_order, first_place, last_place};
 use std::alloc::{AllocError, Global};
 
 /// A trace, with its rounds in order.
@@ -15,12 +15,12 @@ pub struct RoundLines<'a> {
     rounds: Vec<RoundLine<'a>>,
     /// Whether the rounds began and ended one after another.
     in_order: bool,
-    ghost lines_are: { (span : Span) (pattern : List ℕ) → lines_among rounds.items span pattern ≡ lines_seen trace.now span pattern },
+    ghost lines_are: { (span : TimeSpan) (pattern : List ℕ) → lines_among rounds.items span pattern ≡ lines_seen trace.now span pattern },
     ghost order_is: { in_order ≡ true → are_in_order rounds.items ≡ true },
 }
 
 // Those of these rounds, which are in order, that can be in a span.
-fn in_span<'a, 'b>(rounds: &'b [RoundLine<'a>], span: Span) -> &'b [RoundLine<'a>]
+fn in_span<'a, 'b>(rounds: &'b [RoundLine<'a>], span: TimeSpan) -> &'b [RoundLine<'a>]
     requires { are_in_order rounds.now ≡ true }
     ensures { (pattern : List ℕ) → lines_among result.now span pattern ≡ lines_among rounds.now span pattern }
 {
@@ -48,7 +48,7 @@ impl<'a> RoundLines<'a> {
     }
 
     /// Rounds of the trace, in order, with all that are in a span: no others, where each began and ended no later than the next one.
-    pub fn within(&self, span: Span) -> &[RoundLine<'a>]
+    pub fn within(&self, span: TimeSpan) -> &[RoundLine<'a>]
         ensures { (pattern : List ℕ) → lines_among result.now span pattern ≡ lines_seen self.now.trace.now span pattern }
     {
         if self.in_order {

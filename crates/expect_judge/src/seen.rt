@@ -9,7 +9,7 @@ use expect_text::meets;
 
 /// A span of time, in microseconds.
 #[derive(Clone, Copy, Debug, PartialEq, Eq)]
-pub struct Span {
+pub struct TimeSpan {
     pub from: u64,
     pub to: u64,
 }
@@ -22,14 +22,14 @@ pub struct Seen {
 }
 
 /// Whether a round began and ended within the span and what its line says meets the pattern.
-pub fn is_seen(span: Span, pattern: &[u8], round: &RoundLine) -> bool
+pub fn is_seen(span: TimeSpan, pattern: &[u8], round: &RoundLine) -> bool
     ensures { result ≡ is_seen span pattern.now (round_as round.now) }
 {
     span.from <= round.begin && round.at <= span.to && meets(pattern, round.reported)
 }
 
 /// The end of a line's round, where it began and ended within the span and what its line says meets the pattern.
-pub fn end_seen(span: Span, pattern: &[u8], line: &[u8]) -> Option<u64>
+pub fn end_seen(span: TimeSpan, pattern: &[u8], line: &[u8]) -> Option<u64>
     ensures { result ≡ end_seen span pattern.now line.now }
 {
     let round = round_in(line)?;
@@ -74,7 +74,7 @@ pub(crate) fn are_in_order(rounds: &[RoundLine<'_>]) -> bool
 }
 
 // Whether the round at a place of these, which are in order, began before the span. Then none up to it is seen.
-fn began_before(rounds: &[RoundLine<'_>], place: usize, span: Span) -> bool
+fn began_before(rounds: &[RoundLine<'_>], place: usize, span: TimeSpan) -> bool
     requires in_order { are_in_order rounds.now ≡ true }
     requires within { place < length rounds.now }
     ensures ends { result ≡ true → (pattern : List ℕ) → ends_among (map round_as (drop (place + 1) rounds.now)) span pattern ≡ ends_among (map round_as rounds.now) span pattern }
@@ -84,7 +84,7 @@ fn began_before(rounds: &[RoundLine<'_>], place: usize, span: Span) -> bool
 }
 
 // Whether the round at a place of these, which are in order, ended after the span. Then none from it on is seen.
-fn ended_after(rounds: &[RoundLine<'_>], place: usize, span: Span) -> bool
+fn ended_after(rounds: &[RoundLine<'_>], place: usize, span: TimeSpan) -> bool
     requires in_order { are_in_order rounds.now ≡ true }
     requires within { place < length rounds.now }
     ensures { result ≡ true → (pattern : List ℕ) → lines_among (take place rounds.now) span pattern ≡ lines_among rounds.now span pattern }
@@ -93,7 +93,7 @@ fn ended_after(rounds: &[RoundLine<'_>], place: usize, span: Span) -> bool
 }
 
 /// The place of the first of these rounds, which are in order, that did not begin before the span: found by halves.
-pub(crate) fn first_place(rounds: &[RoundLine<'_>], span: Span) -> usize
+pub(crate) fn first_place(rounds: &[RoundLine<'_>], span: TimeSpan) -> usize
     requires { are_in_order rounds.now ≡ true }
     ensures within { result ≤ length rounds.now }
     ensures same { (pattern : List ℕ) → ends_among (map round_as (drop result rounds.now)) span pattern ≡ ends_among (map round_as rounds.now) span pattern }
@@ -115,7 +115,7 @@ pub(crate) fn first_place(rounds: &[RoundLine<'_>], span: Span) -> usize
 }
 
 /// The place of the first of these rounds, which are in order, that ended after the span, or past the last: found by halves.
-pub(crate) fn last_place(rounds: &[RoundLine<'_>], span: Span) -> usize
+pub(crate) fn last_place(rounds: &[RoundLine<'_>], span: TimeSpan) -> usize
     requires { are_in_order rounds.now ≡ true }
     ensures within { result ≤ length rounds.now }
     ensures lines { (pattern : List ℕ) → lines_among (take result rounds.now) span pattern ≡ lines_among rounds.now span pattern }
@@ -134,7 +134,7 @@ pub(crate) fn last_place(rounds: &[RoundLine<'_>], span: Span) -> usize
 }
 
 // How many of these rounds, which are in order, are seen: those after the first that ended after the span are not looked at.
-fn seen_until(rounds: &[RoundLine<'_>], span: Span, pattern: &[u8]) -> Seen
+fn seen_until(rounds: &[RoundLine<'_>], span: TimeSpan, pattern: &[u8]) -> Seen
     requires { are_in_order rounds.now ≡ true }
     ensures count { result.count ≡ length (ends_among (map round_as rounds.now) span pattern.now) }
     ensures first { result.first ≡ first_of (ends_among (map round_as rounds.now) span pattern.now) }
@@ -162,7 +162,7 @@ fn seen_until(rounds: &[RoundLine<'_>], span: Span, pattern: &[u8]) -> Seen
 }
 
 // How many of these rounds, which are in order, are seen, and the end of the first.
-fn rounds_in_order_seen(rounds: &[RoundLine<'_>], span: Span, pattern: &[u8]) -> Seen
+fn rounds_in_order_seen(rounds: &[RoundLine<'_>], span: TimeSpan, pattern: &[u8]) -> Seen
     requires { are_in_order rounds.now ≡ true }
     ensures count { result.count ≡ length (ends_among (map round_as rounds.now) span pattern.now) }
     ensures first { result.first ≡ first_of (ends_among (map round_as rounds.now) span pattern.now) }
@@ -172,7 +172,7 @@ fn rounds_in_order_seen(rounds: &[RoundLine<'_>], span: Span, pattern: &[u8]) ->
 }
 
 // How many of these rounds are seen, and the end of the first.
-fn all_seen(rounds: &[RoundLine<'_>], span: Span, pattern: &[u8]) -> Seen
+fn all_seen(rounds: &[RoundLine<'_>], span: TimeSpan, pattern: &[u8]) -> Seen
     ensures count { result.count ≡ length (ends_among (map round_as rounds.now) span pattern.now) }
     ensures first { result.first ≡ first_of (ends_among (map round_as rounds.now) span pattern.now) }
 {
@@ -194,7 +194,7 @@ fn all_seen(rounds: &[RoundLine<'_>], span: Span, pattern: &[u8]) -> Seen
 pub(crate) fn rounds_seen(
     rounds: &[RoundLine<'_>],
     in_order: bool,
-    span: Span,
+    span: TimeSpan,
     pattern: &[u8],
 ) -> Seen
     requires { in_order ≡ true → are_in_order rounds.now ≡ true }

@@ -4,9 +4,9 @@ use Rattle.std.specs.Io.KnownBytes.{Appends}
 use Rattle.text_core.specs.Lines.{lines_of}
 use Rattle.text_core.specs.Words.{words_of}
 use Rattle.expect_text.specs.Line.{unlabelled_words, cut_script, plain_script}
-use Rattle.expect_text.specs.Form.{Form, form_in}
-use Rattle.expect_text.specs.Form.Form.{Other, Rounds, State, Refused}
-use Rattle.expect_text.specs.declared.fault.LineFault.{LineFault}
+use Rattle.expect_text.specs.Form.{ExpectLine, form_in}
+use Rattle.expect_text.specs.Form.ExpectLine.{Other, Rounds, State, Refused}
+use Rattle.expect_text.specs.declared.fault.ExpectLineFault.{ExpectLineFault}
 use Rattle.expect_text.specs.Faults.{first_fault}
 use Rattle.expect_text.specs.Names.{has_names}
 use Rattle.room_run.specs.HeldTrace.{TextsHaveOneHeldTrace}
@@ -39,7 +39,7 @@ reports script t u xs ys e f = ap (λ b. report script b xs) e ∙ ap (report sc
 
 -- ---- states
 
-one_state : TextsHaveOneTrace → (topology plain : List ℕ) (form : Result Form LineFault) (x y : List ℕ) → IsStateOf topology plain form x → IsStateOf topology plain form y → x ≡ y
+one_state : TextsHaveOneTrace → (topology plain : List ℕ) (form : Result ExpectLine ExpectLineFault) (x y : List ℕ) → IsStateOf topology plain form x → IsStateOf topology plain form y → x ≡ y
 one_state law topology plain (Ok (State time device words)) x y h k =
     let same = law topology (cut_script time plain) h.trace k.trace h.totals k.totals h.run k.run in
     h.state_is ∙ ap (λ t. state_line t device) same.0 ∙ sym k.state_is

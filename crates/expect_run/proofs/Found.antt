@@ -4,7 +4,7 @@ use Rattle.std.proofs.lemmas.Bool.Decides.{nat_tests}
 use Rattle.text_core.specs.Lines.{lines_of}
 use Rattle.expect_judge.specs.Judged.{finding_as, findings_from, findings_of, or_more, states_for, verdicts_of}
 use Rattle.expect_judge.specs.declared.judge.Judged.{Judged}
-use Rattle.expect_judge.specs.declared.judge.Finding.{Finding as FindingRead}
+use Rattle.expect_judge.specs.declared.judge.JudgedLine.{JudgedLine as FindingRead}
 use Rattle.expect_run.specs.Report.{Report, report, report_by, report_start, report_with_plan, tests, tests_by, with_findings, with_found, with_line, with_lines, with_refusals}
 
 itself : (n : ℕ) → (n == n) ≡ true

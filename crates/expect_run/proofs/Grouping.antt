@@ -7,7 +7,7 @@ use Rattle.std.proofs.lemmas.List.{map-append}
 use Rattle.std.proofs.lemmas.List.Folds.{list_any-append}
 use Rattle.expect_text.specs.Names.{meets}
 use Rattle.expect_judge.specs.Told.{RoundLine}
-use Rattle.expect_judge.specs.declared.seen.Span.{Span}
+use Rattle.expect_judge.specs.declared.seen.TimeSpan.{TimeSpan}
 use Rattle.expect_run.specs.Kept.{Watch, is_within, watch_as}
 use Rattle.expect_run.specs.Groups.{hull_from, is_known_met, is_known_within, no_span, widened}
 use Rattle.expect_run.specs.declared.group.Group.{Group}
@@ -15,21 +15,21 @@ use Rattle.expect_run.specs.declared.watch.Watch.{Watch as WatchRead}
 
 -- ---- the span of a group
 
-still_in : (hull span : Span) (r : RoundLine) → is_within (Some hull) r ≡ true → is_within (Some (widened hull (Some span))) r ≡ true
+still_in : (hull span : TimeSpan) (r : RoundLine) → is_within (Some hull) r ≡ true → is_within (Some (widened hull (Some span))) r ≡ true
 still_in hull span r h = grind (arith, common_steps)
 
-also_in : (hull span : Span) (r : RoundLine) → is_within (Some span) r ≡ true → is_within (Some (widened hull (Some span))) r ≡ true
+also_in : (hull span : TimeSpan) (r : RoundLine) → is_within (Some span) r ≡ true → is_within (Some (widened hull (Some span))) r ≡ true
 also_in hull span r h = grind (arith, common_steps)
 
-in_wider : (hull : Span) (o : Option Span) (r : RoundLine) → is_within (Some hull) r ≡ true → is_within (Some (widened hull o)) r ≡ true
+in_wider : (hull : TimeSpan) (o : Option TimeSpan) (r : RoundLine) → is_within (Some hull) r ≡ true → is_within (Some (widened hull o)) r ≡ true
 in_wider hull None r h = h
 in_wider hull (Some span) r h = still_in hull span r h
 
-known_in : (hull : Span) (o : Option Span) (r : RoundLine) → is_known_within o r ≡ true → is_within (Some (widened hull o)) r ≡ true
+known_in : (hull : TimeSpan) (o : Option TimeSpan) (r : RoundLine) → is_known_within o r ≡ true → is_within (Some (widened hull o)) r ≡ true
 known_in hull None r h = absurd (false≢true h)
 known_in hull (Some span) r h = also_in hull span r h
 
-in_all : (hull : Span) (watches : List Watch) (r : RoundLine) → is_within (Some hull) r ≡ true → is_within (Some (hull_from hull watches)) r ≡ true
+in_all : (hull : TimeSpan) (watches : List Watch) (r : RoundLine) → is_within (Some hull) r ≡ true → is_within (Some (hull_from hull watches)) r ≡ true
 in_all hull [] r h = h
 in_all hull (w ∷ watches) r h = in_all (widened hull w.span) watches r (in_wider hull w.span r h)
 
@@ -37,7 +37,7 @@ left_and : (a b : Bool) → (a && b) ≡ true → a ≡ true
 left_and true b h = refl
 left_and false b h = h
 
-met_in : (hull : Span) (watches : List Watch) (r : RoundLine) → list_any (is_known_met r) watches ≡ true → is_within (Some (hull_from hull watches)) r ≡ true
+met_in : (hull : TimeSpan) (watches : List Watch) (r : RoundLine) → list_any (is_known_met r) watches ≡ true → is_within (Some (hull_from hull watches)) r ≡ true
 met_in hull [] r h = absurd (false≢true h)
 met_in hull (w ∷ watches) r h = by (is_known_met r w) refl h (λ k. met_in (widened hull w.span) watches r k)
   where
@@ -47,11 +47,11 @@ met_in hull (w ∷ watches) r h = by (is_known_met r w) refl h (λ k. met_in (wi
     by false e k more = more k
 
 -- a round outside it meets none
-pub none_in : (hull : Span) (watches : List Watch) (r : RoundLine) → hull ≡ hull_from no_span watches → is_within (Some hull) r ≡ false → list_any (is_known_met r) watches ≡ false
+pub none_in : (hull : TimeSpan) (watches : List Watch) (r : RoundLine) → hull ≡ hull_from no_span watches → is_within (Some hull) r ≡ false → list_any (is_known_met r) watches ≡ false
 none_in hull watches r is h = by (list_any (is_known_met r) watches) refl
   where
     by : (b : Bool) → list_any (is_known_met r) watches ≡ b → b ≡ false
-    by true e = absurd (false≢true (sym h ∙ ap (λ (s : Span). is_within (Some s) r) is ∙ met_in no_span watches r e))
+    by true e = absurd (false≢true (sym h ∙ ap (λ (s : TimeSpan). is_within (Some s) r) is ∙ met_in no_span watches r e))
     by false e = refl
 
 -- ---- groups

@@ -11,20 +11,20 @@ use Rattle.text_core.specs.Number.{number_of}
 use Rattle.text_core.specs.Words.{words_of}
 use Rattle.expect_text.specs.Names.{meets}
 use Rattle.expect_text.specs.Line.{onset_in, unlabelled_words}
-use Rattle.expect_text.specs.Form.{Form, Window, expectation_in, form_in}
-use Rattle.expect_text.specs.Form.Form.{Other, Rounds, State, Refused}
-use Rattle.expect_text.specs.Form.Window.{Within, From}
+use Rattle.expect_text.specs.Form.{ExpectLine, ExpectWindow, expectation_in, form_in}
+use Rattle.expect_text.specs.Form.ExpectLine.{Other, Rounds, State, Refused}
+use Rattle.expect_text.specs.Form.ExpectWindow.{Within, From}
 use Rattle.expect_text.specs.Faults.{event_above, event_labelled, is_event_at, line_of_label}
-use Rattle.expect_text.specs.declared.fault.LineFault.{LineFault}
+use Rattle.expect_text.specs.declared.fault.ExpectLineFault.{ExpectLineFault}
 use Rattle.expect_text.specs.declared.form.Quantity.{Quantity}
 use Rattle.expect_judge.specs.Told.{EventLine, RoundLine, event_at, event_in, refusal_in, round_in}
 use Rattle.expect_judge.specs.Named.{form_is_of_above, is_labelled, is_named, is_of_above, name_lines, names_line}
 use Rattle.expect_judge.proofs.Naming.{label_names}
 use Rattle.expect_judge.specs.Seen.{end_by, end_seen, ends_seen, first_of, is_seen}
-use Rattle.expect_judge.specs.Judged.{Finding, event_instant, finding_as, findings_from, findings_of, form_judged, instant_at, is_word, noted, or_more, verdicts_of, line_judged, lines_judged, of_instant, refusal_at, refusal_by, rounds_by, rounds_judged, span_from, span_of, states_for}
-use Rattle.expect_judge.specs.declared.seen.Span.{Span}
+use Rattle.expect_judge.specs.Judged.{JudgedLine, event_instant, finding_as, findings_from, findings_of, form_judged, instant_at, is_word, noted, or_more, verdicts_of, line_judged, lines_judged, of_instant, refusal_at, refusal_by, rounds_by, rounds_judged, span_from, span_of, states_for}
+use Rattle.expect_judge.specs.declared.seen.TimeSpan.{TimeSpan}
 use Rattle.expect_judge.specs.declared.judge.Judged.{Judged}
-use Rattle.expect_judge.specs.declared.judge.Finding.{Finding as FindingRead}
+use Rattle.expect_judge.specs.declared.judge.JudgedLine.{JudgedLine as FindingRead}
 use Rattle.expect_run.specs.Report.{Report, report_start, report_with_plan, form_remarks, report, seen_line, shown_round, shown_text, span_remarks, report_by, with_event, with_found, with_line, with_lines, with_refusals, with_remarks, with_test, with_word}
 use Rattle.expect_run.specs.Kept.{Watch, are_timed, has_failed, is_at, is_event_kept, is_kept, is_line_timed, is_met, is_other_kept, is_timed, is_unmet, kept, known_from, known_span, labelled_time, longest_wait, time_at, time_in, times_from, watch_by, watch_of, watches_of}
 use Rattle.expect_run.proofs.Found.{report_again}
@@ -127,11 +127,11 @@ kept_event script number named (line ∷ lines) = by (is_kept script line) refl 
         ∙ sym (find_given number (event_in (words_of line)) (filter_map (λ text. event_in (words_of text)) lines))
 
 -- a round that is seen is what one of these looks for
-abbrev SpanCovered : List Watch → List ℕ → Option Span → Type 0
+abbrev SpanCovered : List Watch → List ℕ → Option TimeSpan → Type 0
 SpanCovered all pattern None = Unit {0}
 SpanCovered all pattern (Some span) = (r : RoundLine) → is_seen span pattern r ≡ true → list_any (is_met r) all ≡ true
 
-unseen : (all : List Watch) (words : List (List ℕ)) (span : Span) (pattern : List ℕ) → SpanCovered all pattern (Some span) → (o : Option RoundLine) → is_other_kept all words o ≡ false
+unseen : (all : List Watch) (words : List (List ℕ)) (span : TimeSpan) (pattern : List ℕ) → SpanCovered all pattern (Some span) → (o : Option RoundLine) → is_other_kept all words o ≡ false
     → end_by span pattern o ≡ None
 unseen all words span pattern covers None h = refl
 unseen all words span pattern covers (Some r) h = by (is_seen span pattern r) refl
@@ -140,7 +140,7 @@ unseen all words span pattern covers (Some r) h = by (is_seen span pattern r) re
     by true e = absurd (false≢true (sym h ∙ covers r e))
     by false e = refl
 
-not_seen : (script : List ℕ) (span : Span) (pattern : List ℕ) → SpanCovered (watches_of script) pattern (Some span) → (line : List ℕ) → is_kept script line ≡ false → end_seen span pattern line ≡ None
+not_seen : (script : List ℕ) (span : TimeSpan) (pattern : List ℕ) → SpanCovered (watches_of script) pattern (Some span) → (line : List ℕ) → is_kept script line ≡ false → end_seen span pattern line ≡ None
 not_seen script span pattern covers line h =
     unseen (watches_of script) (words_of line) span pattern covers (round_in (words_of line))
     (right_of (is_event_kept script (event_in (words_of line))) (is_other_kept (watches_of script) (words_of line) (round_in (words_of line))) h)
@@ -148,7 +148,7 @@ not_seen script span pattern covers line h =
 -- ---- lines of a script
 
 -- what an expectation looks for is looked for, and its line has no time; the event of the line above that it speaks of is kept
-abbrev FormCovered : List ℕ → ℕ → Result Form LineFault → Type 0
+abbrev FormCovered : List ℕ → ℕ → Result ExpectLine ExpectLineFault → Type 0
 FormCovered script number (Err cause) = Unit {0}
 FormCovered script number (Ok Other) = Unit {0}
 FormCovered script number (Ok (Rounds quantity window pattern)) =
@@ -181,7 +181,7 @@ or_first true b h = refl
 or_first false b h = absurd (false≢true h)
 
 -- an expectation has no time
-no_time : (words : List (List ℕ)) (quantity : Quantity) (window : Window) (pattern : List ℕ) → form_in words ≡ Ok (Rounds quantity window pattern) → time_in words ≡ None
+no_time : (words : List (List ℕ)) (quantity : Quantity) (window : ExpectWindow) (pattern : List ℕ) → form_in words ≡ Ok (Rounds quantity window pattern) → time_in words ≡ None
 no_time [] quantity window pattern h = refl
 no_time (verb ∷ []) quantity window pattern h = refl
 no_time (verb ∷ time ∷ words) quantity window pattern h = by (bytes_eq verb (codes "expect")) refl h
@@ -190,7 +190,7 @@ no_time (verb ∷ time ∷ words) quantity window pattern h = by (bytes_eq verb 
     by true e k = ap (λ (word : List ℕ). time_in (word ∷ time ∷ words)) ((bytes_eq-Decides verb (codes "expect")).0 e)
     by false e k = cc
 
-no_labelled_time : (line : List ℕ) (quantity : Quantity) (window : Window) (pattern : List ℕ) → form_in (unlabelled_words (words_of line)) ≡ Ok (Rounds quantity window pattern) → labelled_time line ≡ None
+no_labelled_time : (line : List ℕ) (quantity : Quantity) (window : ExpectWindow) (pattern : List ℕ) → form_in (unlabelled_words (words_of line)) ≡ Ok (Rounds quantity window pattern) → labelled_time line ≡ None
 no_labelled_time line quantity window pattern h = by (is_labelled line)
   where
     by : (b : Bool) → (if b then time_in (unlabelled_words (words_of line)) else None) ≡ None
@@ -244,18 +244,18 @@ covered script number (line ∷ lines) h names times = (
     more r None k = k
     more r (Some w) k = ap (λ b. is_met r w || b) k ∙ or_so (is_met r w)
 
-    first : (f : Result Form LineFault) → form_in (unlabelled_words (words_of line)) ≡ f → FormCovered script number f
+    first : (f : Result ExpectLine ExpectLineFault) → form_in (unlabelled_words (words_of line)) ≡ f → FormCovered script number f
     first (Err cause) e = tt
     first (Ok Other) e = tt
     first (Ok (Rounds quantity window pattern)) e = (
-      λ r k. h r (ap (λ (g : Result Form LineFault). list_any (is_met r) (cons_option (watch_by script (time_at script) g) watched)) e ∙ ap (λ b. b || list_any (is_met r) watched) k),
+      λ r k. h r (ap (λ (g : Result ExpectLine ExpectLineFault). list_any (is_met r) (cons_option (watch_by script (time_at script) g) watched)) e ∙ ap (λ b. b || list_any (is_met r) watched) k),
       times number (omega arith) ∙ ap (λ (b : Bool). if b then labelled_time line else times_from (number + 1) lines number) (itself number)
           ∙ no_labelled_time line quantity window pattern e,
     )
     first (Ok (State time device words)) e = tt
     first (Ok (Refused None word)) e =
         names (number - 1) (or_first (names_line number line (number - 1)) (name_lines (number + 1) lines (number - 1))
-        (ap (λ b. (is_labelled line && (number == number - 1)) || b) (ap (λ (g : Result Form LineFault). form_is_of_above g && (number - 1 == number - 1)) e ∙ itself (number - 1))
+        (ap (λ b. (is_labelled line && (number == number - 1)) || b) (ap (λ (g : Result ExpectLine ExpectLineFault). form_is_of_above g && (number - 1 == number - 1)) e ∙ itself (number - 1))
         ∙ or_so (is_labelled line && (number == number - 1))))
     first (Ok (Refused (Some name) word)) e = tt
 
@@ -327,7 +327,7 @@ joined false b c h = h
 shorter : (a b most : ℕ) → a ≤ b → min a most ≤ min b most
 shorter a b most h = grind (arith, nat_tests)
 
-wider : (small large : Span) (pattern : List ℕ) (r : RoundLine) → large.from ≤ small.from → small.to ≤ large.to → is_seen small pattern r ≡ true
+wider : (small large : TimeSpan) (pattern : List ℕ) (r : RoundLine) → large.from ≤ small.from → small.to ≤ large.to → is_seen small pattern r ≡ true
     → is_met r (record { span = Some large; pattern = pattern }) ≡ true
 wider small large pattern r from to seen = grind (arith, common_steps)
 
@@ -356,7 +356,7 @@ module _ (script : List ℕ) (at : ℕ → Option ℕ) (near : AreNear script at
       by None e = tt
       by (Some instant) e = λ r seen. covers r (met instant e r seen (time_at script line) refl)
 
-  window_covered : (window : Window) (pattern : List ℕ)
+  window_covered : (window : ExpectWindow) (pattern : List ℕ)
       → ((r : RoundLine) → is_met r (record { span = known_span script (time_at script) window; pattern = pattern }) ≡ true → list_any (is_met r) (watches_of script) ≡ true)
       → SpanCovered (watches_of script) pattern (span_of script at window)
   window_covered (Within duration name) pattern covers = label_covered duration pattern (line_of_label script name) covers
@@ -369,20 +369,20 @@ abbrev of_refusal : List ℕ → Option (List ℕ) → Judged
 of_refusal word refusal = record { holds = Some (is_word word refusal); at = None; span = None; count = 0 }
 
 -- a test that is met, and those after it
-met_by : (number : ℕ) (state : List ℕ) (j : Judged) (o : Option Bool) → j.holds ≡ o → (more : List Finding) → list_any (λ f. is_unmet f.judged) (or_more number state j o more) ≡ false
+met_by : (number : ℕ) (state : List ℕ) (j : Judged) (o : Option Bool) → j.holds ≡ o → (more : List JudgedLine) → list_any (λ f. is_unmet f.judged) (or_more number state j o more) ≡ false
     → (is_unmet j ≡ false) × (list_any (λ f. is_unmet f.judged) more ≡ false)
 met_by number state j None e more h = (ap (λ o. has_failed o && is_some j.span && (j.count == 0)) e, h)
 met_by number state j (Some holds) e more h =
-    (left_of (is_unmet j) (list_any (λ (f : Finding). is_unmet f.judged) more) h, right_of (is_unmet j) (list_any (λ (f : Finding). is_unmet f.judged) more) h)
+    (left_of (is_unmet j) (list_any (λ (f : JudgedLine). is_unmet f.judged) more) h, right_of (is_unmet j) (list_any (λ (f : JudgedLine). is_unmet f.judged) more) h)
 
 module _ (script few trace : List ℕ) (are : lines_of few ≡ filter (is_kept script) (lines_of trace)) (timed : are_timed script (lines_of trace) ≡ true) where
   same_event : (number : ℕ) → is_named script number ≡ true → event_at few number ≡ event_at trace number
   same_event number named = ap (λ (ls : List (List ℕ)). find (of_line number) (filter_map (λ line. event_in (words_of line)) ls)) are ∙ kept_event script number named (lines_of trace)
 
-  same_ends : (span : Span) (pattern : List ℕ) → SpanCovered (watches_of script) pattern (Some span) → ends_seen few span pattern ≡ ends_seen trace span pattern
+  same_ends : (span : TimeSpan) (pattern : List ℕ) → SpanCovered (watches_of script) pattern (Some span) → ends_seen few span pattern ≡ ends_seen trace span pattern
   same_ends span pattern covers = ap (filter_map (end_seen span pattern)) are ∙ kept_given (is_kept script) (end_seen span pattern) (not_seen script span pattern covers) (lines_of trace)
 
-  rounds_same : (quantity : Quantity) (pattern : List ℕ) (o : Option Span) → SpanCovered (watches_of script) pattern o → rounds_judged few quantity pattern o ≡ rounds_judged trace quantity pattern o
+  rounds_same : (quantity : Quantity) (pattern : List ℕ) (o : Option TimeSpan) → SpanCovered (watches_of script) pattern o → rounds_judged few quantity pattern o ≡ rounds_judged trace quantity pattern o
   rounds_same quantity pattern None covers = refl
   rounds_same quantity pattern (Some span) covers = ap (λ (ends : List ℕ). rounds_by quantity span (length ends) (first_of ends)) (same_ends span pattern covers)
 
@@ -400,7 +400,7 @@ module _ (script few trace : List ℕ) (are : lines_of few ≡ filter (is_kept s
       by true = ap refusal_by (same_event (number - 1) named)
       by false = refl
 
-  form_same : (state : List ℕ) (at : ℕ → Option ℕ) → AreNear script at → (number : ℕ) (named : Bool) (onset : Option ℕ) (f : Result Form LineFault) → FormCovered script number f
+  form_same : (state : List ℕ) (at : ℕ → Option ℕ) → AreNear script at → (number : ℕ) (named : Bool) (onset : Option ℕ) (f : Result ExpectLine ExpectLineFault) → FormCovered script number f
       → (named ≡ true → is_named script number ≡ true) → form_judged script few state at number named onset f ≡ form_judged script trace state at number named onset f
   form_same state at near number named onset (Err cause) c names = refl
   form_same state at near number true None (Ok Other) c names = ap (λ (o : Option EventLine). of_instant (event_instant o)) (same_event number (names refl))
@@ -413,7 +413,7 @@ module _ (script few trace : List ℕ) (are : lines_of few ≡ filter (is_kept s
   form_same state at near number named onset (Ok (Refused (Some name) word)) c names = ap (of_refusal word) (refusals_same name)
 
   -- the instant of a line is near its time
-  form_near : (state : List ℕ) (at : ℕ → Option ℕ) (number : ℕ) (named : Bool) (onset : Option ℕ) (f : Result Form LineFault) → FormCovered script number f → OnsetCovered script number onset
+  form_near : (state : List ℕ) (at : ℕ → Option ℕ) (number : ℕ) (named : Bool) (onset : Option ℕ) (f : Result ExpectLine ExpectLineFault) → FormCovered script number f → OnsetCovered script number onset
       → (instant time : ℕ) → (form_judged script trace state at number named onset f).at ≡ Some instant → time_at script number ≡ Some time → IsNear time instant
   form_near state at number named onset (Err cause) c o instant time h k = cc
   form_near state at number true None (Ok Other) c o instant time h k = found_near script number instant time k (lines_of trace) timed h
@@ -441,25 +441,25 @@ module _ (script few trace : List ℕ) (are : lines_of few ≡ filter (is_kept s
 
   -- ---- what is shown
 
-  shown_same : (span : Span) (pattern : List ℕ) → SpanCovered (watches_of script) pattern (Some span) → shown_text few span pattern ≡ shown_text trace span pattern
+  shown_same : (span : TimeSpan) (pattern : List ℕ) → SpanCovered (watches_of script) pattern (Some span) → shown_text few span pattern ≡ shown_text trace span pattern
   shown_same span pattern covers =
       ap (λ (ls : List (List ℕ)). flat_map shown_round (take 8 ls))
       (ap (filter (λ line. is_some (end_seen span pattern line))) are
       ∙ kept_passes (is_kept script) (λ line. is_some (end_seen span pattern line)) (λ line h. ap is_some (not_seen script span pattern covers line h)) (lines_of trace))
 
-  seen_same : (pattern : List ℕ) (count : ℕ) (span : Span) → SpanCovered (watches_of script) pattern (Some span) → (count == 0) ≡ false → span_remarks few pattern count (Some span) ≡ span_remarks trace pattern count (Some span)
+  seen_same : (pattern : List ℕ) (count : ℕ) (span : TimeSpan) → SpanCovered (watches_of script) pattern (Some span) → (count == 0) ≡ false → span_remarks few pattern count (Some span) ≡ span_remarks trace pattern count (Some span)
   seen_same pattern count span covers h =
       ap (λ t. seen_line count span ++ t)
       (ap (λ b. shown_text few span (if b then codes "*" else pattern)) h ∙ shown_same span pattern covers ∙ sym (ap (λ b. shown_text trace span (if b then codes "*" else pattern)) h))
 
-  span_same : (quantity : Quantity) (pattern : List ℕ) (o : Option Span) → SpanCovered (watches_of script) pattern o
+  span_same : (quantity : Quantity) (pattern : List ℕ) (o : Option TimeSpan) → SpanCovered (watches_of script) pattern o
       → (is_some (rounds_judged trace quantity pattern o).span && ((rounds_judged trace quantity pattern o).count == 0)) ≡ false
       → span_remarks few pattern (rounds_judged trace quantity pattern o).count (rounds_judged trace quantity pattern o).span
       ≡ span_remarks trace pattern (rounds_judged trace quantity pattern o).count (rounds_judged trace quantity pattern o).span
   span_same quantity pattern None covers h = refl
   span_same quantity pattern (Some span) covers h = seen_same pattern (length (ends_seen trace span pattern)) span covers h
 
-  remarks_same : (state : List ℕ) (at : ℕ → Option ℕ) → AreNear script at → (number : ℕ) (named : Bool) (onset : Option ℕ) (f : Result Form LineFault) → FormCovered script number f
+  remarks_same : (state : List ℕ) (at : ℕ → Option ℕ) → AreNear script at → (number : ℕ) (named : Bool) (onset : Option ℕ) (f : Result ExpectLine ExpectLineFault) → FormCovered script number f
       → (is_some (form_judged script trace state at number named onset f).span && ((form_judged script trace state at number named onset f).count == 0)) ≡ false
       → form_remarks few state (form_judged script trace state at number named onset f) f ≡ form_remarks trace state (form_judged script trace state at number named onset f) f
   remarks_same state at near number named onset (Err cause) c h = refl
@@ -519,7 +519,7 @@ events_same script r (line ∷ lines) =
 no_instant : (script : List ℕ) → AreNear script (λ line. None)
 no_instant script number instant time h k = cc
 
-enough : (script few trace : List ℕ) (states : List (List ℕ)) (found : List Finding) (r : Report) → found ≡ findings_of script few states
+enough : (script few trace : List ℕ) (states : List (List ℕ)) (found : List JudgedLine) (r : Report) → found ≡ findings_of script few states
     → list_any (λ f. is_unmet f.judged) found ≡ false → r ≡ report_by script few found → lines_of few ≡ kept script (lines_of trace) → are_timed script (lines_of trace) ≡ true
     → r ≡ report script trace states
 enough script few trace states found r is h made are timed =
@@ -528,7 +528,7 @@ enough script few trace states found r is h made are timed =
     let c = covered script 1 all (λ r k. k) (λ other k. k) (λ other k. refl) in
     let js : verdicts_of script few states ≡ verdicts_of script trace states = lines_same script few trace are timed (λ line. None) 1 all states near c in
     let met : list_any (λ f. is_unmet f.judged) (findings_of script trace states) ≡ false =
-    ap (λ (vs : List Judged). list_any (λ (f : Finding). is_unmet f.judged) (findings_from 1 states vs)) (sym js) ∙ ap (list_any (λ (f : Finding). is_unmet f.judged)) (sym is) ∙ h in
+    ap (λ (vs : List Judged). list_any (λ (f : JudgedLine). is_unmet f.judged) (findings_from 1 states vs)) (sym js) ∙ ap (list_any (λ (f : JudgedLine). is_unmet f.judged)) (sym is) ∙ h in
     let tests : with_lines few report_start 1 all states (verdicts_of script few states) ≡ with_lines trace report_start 1 all states (verdicts_of script trace states) =
     ap (with_lines few report_start 1 all states) js ∙ tests_same script few trace are timed report_start (λ line. None) 1 all states near c met in
     made ∙ ap (report_by script few) is ∙ report_again script few states (verdicts_of script few states)
@@ -543,5 +543,5 @@ pub kept_is_enough : (script few trace : List ℕ) (states : List (List ℕ)) (f
     → r ≡ report script trace (states_for (lines_of script) states)
 kept_is_enough script few trace states found looked lent r is first h second made are timed =
     enough script few trace (states_for (lines_of script) states) (map finding_as found) r is
-    (ap (λ (fs : List FindingRead). list_any (λ (f : Finding). is_unmet f.judged) (map finding_as fs)) (sym first) ∙ h)
+    (ap (λ (fs : List FindingRead). list_any (λ (f : JudgedLine). is_unmet f.judged) (map finding_as fs)) (sym first) ∙ h)
     (made ∙ ap (λ (fs : List FindingRead). report_by script few (map finding_as fs)) second) are timed

@@ -9,7 +9,7 @@ use Rattle.text_core.specs.Words.{words_of, text_of}
 use Rattle.capture_core.proofs.Texts.{Lacks, more_lack, none_lack}
 use Rattle.room_script.specs.Fault.{at_word}
 use Rattle.room_script.specs.Script.{Course, Notes, ScriptFault, AreLinesRead, Gives, GivesScript, IsLineRead, IsScriptRead, course_at_end, error_at, fault_at, no_notes}
-use Rattle.room_script.specs.declared.fault.LineFault.{LineFault}
+use Rattle.room_script.specs.declared.fault.ScriptLineFault.{ScriptLineFault}
 use Rattle.room_script.specs.declared.script.ScriptCause.TheVariants.{End}
 use Rattle.room_script.specs.declared.script.ScriptError.TheVariants as errors
 use Rattle.room_script.specs.declared.script.ScriptLineError.{ScriptLineError}
@@ -81,7 +81,7 @@ begun tree script notes is =
     subst (λ (n : Notes). Leads tree script (lines_of script) 1 n × AreSound (length tree) n × HoldsFew n) (sym is)
     (first_lead tree script, sound_start (length tree), omega arith)
 
-read_again : (tree : List Node) (line text : List ℕ) (number waiting : ℕ) (notes : Notes) (read : Result Notes LineFault) → text ≡ plain_part line → waiting ≡ length notes.pulses
+read_again : (tree : List Node) (line text : List ℕ) (number waiting : ℕ) (notes : Notes) (read : Result Notes ScriptLineFault) → text ≡ plain_part line → waiting ≡ length notes.pulses
     → IsLineRead tree notes waiting number text read → IsLineRead tree notes (length notes.pulses) number (plain_part line) read
 read_again tree line text number waiting notes read part wait h =
     subst (λ (w : ℕ). IsLineRead tree notes w number (plain_part line) read) wait (subst (λ (t : List ℕ). IsLineRead tree notes waiting number t read) part h)

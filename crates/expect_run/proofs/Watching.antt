@@ -7,7 +7,7 @@ use Rattle.std.proofs.lemmas.Slice.Eq.{bytes_eq-Decides}
 use denote.Ref.{Bor}
 use Rattle.expect_text.specs.Names.{meets}
 use Rattle.expect_judge.specs.Told.{RoundLine}
-use Rattle.expect_judge.specs.declared.seen.Span.{Span}
+use Rattle.expect_judge.specs.declared.seen.TimeSpan.{TimeSpan}
 use Rattle.expect_run.specs.Kept.{Watch, is_met, is_within}
 use Rattle.expect_run.specs.Groups.{is_known_met, is_known_within, is_sought}
 
@@ -111,7 +111,7 @@ mixed false true false d = refl
 mixed false false c d = refl
 
 -- a span is known or not
-either : (o : Option Span) (r : RoundLine) (b : Bool) → ((is_none o && b) || (is_known_within o r && b)) ≡ (is_within o r && b)
+either : (o : Option TimeSpan) (r : RoundLine) (b : Bool) → ((is_none o && b) || (is_known_within o r && b)) ≡ (is_within o r && b)
 either None r b = sym (or_not b)
 either (Some span) r b = refl
 

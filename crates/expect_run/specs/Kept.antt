@@ -10,15 +10,15 @@ use Rattle.text_core.specs.Words.{words_of}
 use Rattle.expect_text.specs.Names.{meets}
 use Rattle.expect_text.specs.Line.{unlabelled_words, has_verb}
 use Rattle.expect_text.specs.Faults.{line_of_label}
-use Rattle.expect_text.specs.Form.{Form, Window, form_in}
-use Rattle.expect_text.specs.Form.Form.{Other, Rounds, State, Refused}
-use Rattle.expect_text.specs.Form.Window.{Within, From}
-use Rattle.expect_text.specs.declared.fault.LineFault.{LineFault}
+use Rattle.expect_text.specs.Form.{ExpectLine, ExpectWindow, form_in}
+use Rattle.expect_text.specs.Form.ExpectLine.{Other, Rounds, State, Refused}
+use Rattle.expect_text.specs.Form.ExpectWindow.{Within, From}
+use Rattle.expect_text.specs.declared.fault.ExpectLineFault.{ExpectLineFault}
 use Rattle.expect_judge.specs.Told.{EventLine, RoundLine, event_in, refusal_in, round_in}
 use Rattle.expect_judge.specs.Named.{is_labelled, is_named}
 use Rattle.expect_judge.specs.Judged.{instant_at}
 use Rattle.expect_judge.specs.declared.judge.Judged.{Judged}
-use Rattle.expect_judge.specs.declared.seen.Span.{Span}
+use Rattle.expect_judge.specs.declared.seen.TimeSpan.{TimeSpan}
 use Rattle.expect_run.specs.declared.watch.Watch.{Watch as WatchRead}
 
 -- ---- the times of events
@@ -64,24 +64,24 @@ are_timed script lines = list_all (is_line_timed script) lines
 -- ---- what is looked for
 
 -- from the time of a label on, or later by a wait
-abbrev pub known_from : ℕ → Option ℕ → Option Span
+abbrev pub known_from : ℕ → Option ℕ → Option TimeSpan
 known_from duration None = None
 known_from duration (Some time) = Some (record { from = time; to = min (time + duration + longest_wait) (2 ^ 64 - 1) })
 
 -- the span that a window lies in, where it is known before the run, by the times of lines: of an expectation's label it is not
-abbrev pub known_span : List ℕ → (ℕ → Option ℕ) → Window → Option Span
+abbrev pub known_span : List ℕ → (ℕ → Option ℕ) → ExpectWindow → Option TimeSpan
 known_span script times (Within duration name) = known_from duration (instant_at times (line_of_label script name))
 known_span script times (From from to) = Some (record { from = from; to = to })
 
 -- what an expectation of rounds looks for, and the span in which it can be met, where that is known
 pub record Watch : Type 0 where
-  pub span : Option Span
+  pub span : Option TimeSpan
   pub pattern : List ℕ
 
 abbrev pub watch_as : WatchRead → Watch
 watch_as w = record { span = w.span; pattern = w.pattern.now }
 
-abbrev pub watch_by : List ℕ → (ℕ → Option ℕ) → Result Form LineFault → Option Watch
+abbrev pub watch_by : List ℕ → (ℕ → Option ℕ) → Result ExpectLine ExpectLineFault → Option Watch
 watch_by script times (Err cause) = None
 watch_by script times (Ok Other) = None
 watch_by script times (Ok (Rounds quantity window pattern)) = Some (record { span = known_span script times window; pattern = pattern })
@@ -98,7 +98,7 @@ watches_by script other = filter_map (watch_of script (time_at other)) (lines_of
 abbrev pub watches_of : List ℕ → List Watch
 watches_of script = watches_by script script
 
-abbrev pub is_within : Option Span → RoundLine → Bool
+abbrev pub is_within : Option TimeSpan → RoundLine → Bool
 is_within None r = true
 is_within (Some span) r = nat_le span.from r.begin && nat_le r.at span.to
 

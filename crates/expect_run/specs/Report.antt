@@ -6,13 +6,13 @@ use Rattle.std.specs.List.{concat, flat_map, list_all}
 use Rattle.text_core.specs.Lines.{lines_of}
 use Rattle.text_core.specs.Words.{words_of}
 use Rattle.expect_text.specs.Line.{unlabelled_words}
-use Rattle.expect_text.specs.Form.{Form, form_in}
-use Rattle.expect_text.specs.Form.Form.{Other, Rounds, State, Refused}
-use Rattle.expect_text.specs.declared.fault.LineFault.{LineFault}
+use Rattle.expect_text.specs.Form.{ExpectLine, form_in}
+use Rattle.expect_text.specs.Form.ExpectLine.{Other, Rounds, State, Refused}
+use Rattle.expect_text.specs.declared.fault.ExpectLineFault.{ExpectLineFault}
 use Rattle.expect_judge.specs.Told.{EventLine, event_in, refusal_in}
 use Rattle.expect_judge.specs.Seen.{end_seen}
-use Rattle.expect_judge.specs.Judged.{Finding, verdicts_of, is_refusal_expected}
-use Rattle.expect_judge.specs.declared.seen.Span.{Span}
+use Rattle.expect_judge.specs.Judged.{JudgedLine, verdicts_of, is_refusal_expected}
+use Rattle.expect_judge.specs.declared.seen.TimeSpan.{TimeSpan}
 use Rattle.expect_judge.specs.declared.judge.Judged.{Judged}
 use Rattle.expect_run.specs.declared.report.ReportDraft.{ReportDraft}
 
@@ -52,7 +52,7 @@ with_test r holds line front text = record {
 -- ---- what stands below a test that failed
 
 -- the first eight lines of rounds that are seen
-abbrev pub shown_rounds : List ℕ → Span → List ℕ → List (List ℕ)
+abbrev pub shown_rounds : List ℕ → TimeSpan → List ℕ → List (List ℕ)
 shown_rounds trace span pattern = take 8 (filter (λ line. is_some (end_seen span pattern line)) (lines_of trace))
 
 abbrev pub shown_line : List ℕ → List ℕ
@@ -72,19 +72,19 @@ bare_length (b ∷ bs) = if (b == 32) && is_holders bs then 0 else bare_length b
 unfoldable pub shown_round : List ℕ → List ℕ
 shown_round line = shown_line (take (bare_length line) line)
 
-abbrev pub shown_text : List ℕ → Span → List ℕ → List ℕ
+abbrev pub shown_text : List ℕ → TimeSpan → List ℕ → List ℕ
 shown_text trace span pattern = flat_map shown_round (shown_rounds trace span pattern)
 
-abbrev pub seen_line : ℕ → Span → List ℕ
+abbrev pub seen_line : ℕ → TimeSpan → List ℕ
 seen_line count span = concat (codes "# seen " ∷ decimal count ∷ codes " from " ∷ decimal span.from ∷ codes " to " ∷ decimal span.to ∷ codes "\n" ∷ [])
 
 -- the window and the rounds in it that meet the pattern, or, where none does, the rounds in it
-abbrev pub span_remarks : List ℕ → List ℕ → ℕ → Option Span → List ℕ
+abbrev pub span_remarks : List ℕ → List ℕ → ℕ → Option TimeSpan → List ℕ
 span_remarks trace pattern count None = codes "# no instant\n"
 span_remarks trace pattern count (Some span) = seen_line count span ++ shown_text trace span (if count == 0 then codes "*" else pattern)
 
 -- the state line, where a state was expected
-abbrev pub form_remarks : List ℕ → List ℕ → Judged → Result Form LineFault → List ℕ
+abbrev pub form_remarks : List ℕ → List ℕ → Judged → Result ExpectLine ExpectLineFault → List ℕ
 form_remarks trace state j (Err cause) = []
 form_remarks trace state j (Ok Other) = []
 form_remarks trace state j (Ok (Rounds quantity window pattern)) = span_remarks trace pattern j.count j.span
@@ -115,7 +115,7 @@ with_lines trace r number (line ∷ lines) (state ∷ states) [] = r
 with_lines trace r number (line ∷ lines) (state ∷ states) (j ∷ js) = with_lines trace (with_line trace state r number line j) (number + 1) lines states js
 
 -- the same by what is found of the lines that expect something
-abbrev pub with_findings : List ℕ → Report → ℕ → List (List ℕ) → List Finding → Report
+abbrev pub with_findings : List ℕ → Report → ℕ → List (List ℕ) → List JudgedLine → Report
 with_findings trace r number [] fs = r
 with_findings trace r number (line ∷ lines) [] = r
 with_findings trace r number (line ∷ lines) (f ∷ fs) =
@@ -153,10 +153,10 @@ abbrev pub found_tests : List ℕ → List ℕ → List (List ℕ) → List Judg
 found_tests script trace states found = with_refusals script (with_lines trace report_start 1 (lines_of script) states found) (lines_of trace)
 
 -- the same by what is found of the lines that expect something
-abbrev pub tests_by : List ℕ → List ℕ → List Finding → Report
+abbrev pub tests_by : List ℕ → List ℕ → List JudgedLine → Report
 tests_by script trace fs = with_refusals script (with_findings trace report_start 1 (lines_of script) fs) (lines_of trace)
 
-abbrev pub report_by : List ℕ → List ℕ → List Finding → Report
+abbrev pub report_by : List ℕ → List ℕ → List JudgedLine → Report
 report_by script trace fs = report_with_plan (tests_by script trace fs)
 
 -- the tests of a script, by the trace of its run and, of each line, the state line that it speaks of

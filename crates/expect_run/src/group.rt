@@ -7,7 +7,7 @@ ghost use Rattle.expect_run.specs.Kept.{is_within, watch_as};
 ghost use Rattle.expect_run.specs.Groups.{hull_from, is_known_met, no_span, widened};
 
 use crate::watch::Watch;
-use expect_judge::{RoundLine, Span};
+use expect_judge::{RoundLine, TimeSpan};
 use expect_text::meets;
 use std::alloc::{AllocError, Global};
 
@@ -17,12 +17,12 @@ const GROUP_MOST: usize = 32;
 /// Some that stand one after another, and a span in which their known spans lie.
 #[derive(Drop)]
 pub(crate) struct Group<'a> {
-    hull: Span,
+    hull: TimeSpan,
     pub watches: Vec<Watch<'a>>,
     ghost hull_is: { hull ≡ hull_from no_span (map watch_as watches.items) },
 }
 
-fn is_in(span: Span, round: &RoundLine) -> bool
+fn is_in(span: TimeSpan, round: &RoundLine) -> bool
     ensures { result ≡ is_within (Some span) (round_as round.now) }
 {
     span.from <= round.begin && round.at <= span.to
@@ -51,12 +51,12 @@ fn is_any_known_met(watches: &[Watch<'_>], round: &RoundLine) -> bool
     false
 }
 
-fn widened(hull: Span, span: Option<Span>) -> Span
+fn widened(hull: TimeSpan, span: Option<TimeSpan>) -> TimeSpan
     ensures { result ≡ widened hull span }
 {
     match span {
         None => hull,
-        Some(span) => Span {
+        Some(span) => TimeSpan {
             from: hull.from.min(span.from),
             to: hull.to.max(span.to),
         },
@@ -64,10 +64,10 @@ fn widened(hull: Span, span: Option<Span>) -> Span
 }
 
 // The span of the known spans of these.
-fn hull_of(watches: &[Watch<'_>]) -> Span
+fn hull_of(watches: &[Watch<'_>]) -> TimeSpan
     ensures { result ≡ hull_from no_span (map watch_as watches.now) }
 {
-    let mut hull = Span {
+    let mut hull = TimeSpan {
         from: u64::MAX,
         to: 0,
     };

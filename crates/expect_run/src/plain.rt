@@ -11,11 +11,11 @@ use text_core::first_line;
 
 /// The plain script of a script, read line by line.
 #[derive(Clone, Copy)]
-pub(crate) struct PlainLines<'a> {
+pub(crate) struct PlainScriptLines<'a> {
     pub script: &'a [u8],
 }
 
-impl ScriptSource for PlainLines<'_> {
+impl ScriptSource for PlainScriptLines<'_> {
     ghost text = { λ lines. plain_script lines.script.now };
 
     fn parse(&self, alloc: Global, topology: &Topology) -> Result<Script, ScriptError> {

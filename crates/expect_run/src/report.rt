@@ -12,10 +12,10 @@ ghost use Rattle.expect_run.specs.Report.{report_start, report_with_plan, escape
 
 use crate::held::Held;
 use expect_judge::{
-    EventLine, Expected, Finding, Judged, RoundLine, RoundLines, Span, all_judged, event_in,
+    EventLine, Expected, JudgedLine, Judged, RoundLine, RoundLines, TimeSpan, all_judged, event_in,
     is_seen, refusal_in,
 };
-use expect_text::{Form, Labels, form_in, unlabelled};
+use expect_text::{ExpectLine, Labels, form_in, unlabelled};
 use std::alloc::{AllocError, Global};
 use text_core::{Piece, first_line, put_all, write_pieces};
 
@@ -164,7 +164,7 @@ fn append_shown_round(out: &mut Held, line: &[u8]) -> Result<(), AllocError>
 fn append_first(
     out: &mut Held,
     rounds: &[RoundLine<'_>],
-    span: Span,
+    span: TimeSpan,
     pattern: &[u8],
 ) -> Result<(), AllocError>
     ensures { OnOk result (out.new.bytes.items ≡ out.old.bytes.items ++ flat_map shown_round (take 8 (lines_among rounds.now span pattern.now))) }
@@ -188,7 +188,7 @@ fn append_first(
 fn append_shown(
     out: &mut Held,
     rounds: &RoundLines<'_>,
-    span: Span,
+    span: TimeSpan,
     pattern: &[u8],
 ) -> Result<(), AllocError>
     ensures { OnOk result (out.new.bytes.items ≡ out.old.bytes.items ++ shown_text rounds.now.trace.now span pattern.now) }
@@ -209,7 +209,7 @@ fn append_span(
     rounds: &RoundLines<'_>,
     pattern: &[u8],
     count: u64,
-    span: Option<Span>,
+    span: Option<TimeSpan>,
 ) -> Result<(), AllocError>
     ensures { OnOk result (out.new.bytes.items ≡ out.old.bytes.items ++ span_remarks rounds.now.trace.now pattern.now count span) }
 {
@@ -244,10 +244,10 @@ fn append_remarks(
     match form_in(unlabelled(line).rest) {
         Err(_) => Ok(()),
         Ok(form) => match form {
-            Form::Other => Ok(()),
-            Form::Refused { .. } => Ok(()),
-            Form::State { .. } => append_shown_line(out, state),
-            Form::Rounds { pattern, .. } => {
+            ExpectLine::Other => Ok(()),
+            ExpectLine::Refused { .. } => Ok(()),
+            ExpectLine::State { .. } => append_shown_line(out, state),
+            ExpectLine::Rounds { pattern, .. } => {
                 append_span(out, rounds, pattern, judged.count, judged.span)
             }
         },
@@ -280,7 +280,7 @@ fn add_lines(
     draft: &mut ReportDraft,
     script: &[u8],
     rounds: &RoundLines<'_>,
-    found: &[Finding<'_>],
+    found: &[JudgedLine<'_>],
 ) -> Result<(), AllocError>
     ensures { OnOk result (report_as draft.new ≡ with_findings rounds.now.trace.now (report_as draft.old) 1 (lines_of script.now) (map finding_as found.now)) }
 {
@@ -380,7 +380,7 @@ fn is_unmet(judged: &Judged) -> bool
     }
 }
 
-fn is_any_unmet(found: &[Finding<'_>]) -> bool
+fn is_any_unmet(found: &[JudgedLine<'_>]) -> bool
     ensures { result ≡ list_any (λ finding. is_unmet finding.judged) (map finding_as found.now) }
 {
     let mut rest = found;
@@ -398,7 +398,7 @@ fn tests_found(
     alloc: Global,
     labels: &Labels<'_>,
     trace: &[u8],
-    found: &[Finding<'_>],
+    found: &[JudgedLine<'_>],
 ) -> Result<ReportDraft, AllocError>
     ensures { IfOk result (λ draft. report_as draft ≡ tests_by labels.now.script.now trace.now (map finding_as found.now)) }
 {
@@ -415,7 +415,7 @@ fn report_found(
     alloc: Global,
     labels: &Labels<'_>,
     trace: &[u8],
-    found: &[Finding<'_>],
+    found: &[JudgedLine<'_>],
 ) -> Result<ReportDraft, AllocError>
     ensures { IfOk result (λ draft. report_as draft ≡ report_by labels.now.script.now trace.now (map finding_as found.now)) }
 {

@@ -6,7 +6,7 @@ ghost use Rattle.room_run.specs.Emulate.{IsReported};
 ghost use Rattle.expect_run.specs.Check.{IsTraceFor};
 ghost use Rattle.expect_run.specs.States.{IsTraced};
 
-use crate::plain::PlainLines;
+use crate::plain::PlainScriptLines;
 use expect_text::has_names;
 use room_run::emulate::{EmulateError, emulate_from};
 use room_run::{Totals, emulate_held, texts_have_traces};
@@ -31,7 +31,7 @@ pub(crate) fn emulate_for<S: Sink>(
 {
     // No effect at run time. The proof reads from it that the plain script has a trace.
     texts_have_traces();
-    let plain = PlainLines { script };
+    let plain = PlainScriptLines { script };
     if has_names(script) {
         emulate_held(alloc, topology, &plain, out)
     } else {

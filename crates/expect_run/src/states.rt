@@ -9,7 +9,7 @@ ghost use Rattle.expect_run.specs.States.{AreStates, IsStateAt, IsStateRead, IsT
 
 use crate::sieve::{Patterns, Sieve};
 use expect_judge::{is_of_state, state_line};
-use expect_text::{Form, cut_script, form_in, plain_script, unlabelled};
+use expect_text::{ExpectLine, cut_script, form_in, plain_script, unlabelled};
 use room_run::emulate::{EmulateError, emulate};
 use room_script::one_script;
 use std::alloc::{AllocError, Global};
@@ -63,12 +63,12 @@ fn state_for(
     match form_in(unlabelled(line).rest) {
         Err(_) => Ok(None),
         Ok(form) => match form {
-            Form::State { time, device, .. } => {
+            ExpectLine::State { time, device, .. } => {
                 Ok(Some(state_at(alloc, topology, plain, time, device)?))
             }
-            Form::Other => Ok(None),
-            Form::Rounds { .. } => Ok(None),
-            Form::Refused { .. } => Ok(None),
+            ExpectLine::Other => Ok(None),
+            ExpectLine::Rounds { .. } => Ok(None),
+            ExpectLine::Refused { .. } => Ok(None),
         },
     }
 }

@@ -9,38 +9,38 @@ ghost use Rattle.expect_run.specs.Groups.{is_sought};
 ghost use Rattle.expect_run.specs.Kept.{known_from, known_span, time_at, watch_as, watch_of, watches_by};
 
 use crate::times::{LONGEST_WAIT, Times};
-use expect_judge::Span;
-use expect_text::{Form, Labels, Window, form_in, meets, unlabelled};
+use expect_judge::TimeSpan;
+use expect_text::{ExpectLine, Labels, ExpectWindow, form_in, meets, unlabelled};
 use std::alloc::{AllocError, Global};
 use text_core::first_line;
 
 /// What an expectation of rounds looks for, and the span in which it can be met, where that is known.
 #[derive(Clone, Copy)]
 pub(crate) struct Watch<'a> {
-    pub span: Option<Span>,
+    pub span: Option<TimeSpan>,
     pub pattern: &'a [u8],
 }
 
 // The span from a time on, or later by a wait.
-fn known_from(duration: u64, time: Option<u64>) -> Option<Span>
+fn known_from(duration: u64, time: Option<u64>) -> Option<TimeSpan>
     ensures { result ≡ known_from duration time }
 {
     let time = time?;
-    Some(Span {
+    Some(TimeSpan {
         from: time,
         to: time.saturating_add(duration).saturating_add(LONGEST_WAIT),
     })
 }
 
 // The span that a window lies in, where it is known.
-fn known_span(labels: &Labels<'_>, times: &Times<'_>, window: Window) -> Option<Span>
+fn known_span(labels: &Labels<'_>, times: &Times<'_>, window: ExpectWindow) -> Option<TimeSpan>
     ensures { result ≡ known_span labels.now.script.now (time_at times.now.script.now) (window_of window.entry) }
 {
     match window {
-        Window::Within { duration, label } => {
+        ExpectWindow::Within { duration, label } => {
             known_from(duration, times.of_line(labels.line_of(label)))
         }
-        Window::From { from, to } => Some(Span { from, to }),
+        ExpectWindow::From { from, to } => Some(TimeSpan { from, to }),
     }
 }
 
@@ -51,8 +51,8 @@ fn watch_of<'a>(labels: &Labels<'_>, times: &Times<'_>, line: &'a [u8]) -> Optio
     match form_in(unlabelled(line).rest) {
         Err(_) => None,
         Ok(form) => match form {
-            Form::Other => None,
-            Form::Rounds {
+            ExpectLine::Other => None,
+            ExpectLine::Rounds {
                 window,
                 pattern,
                 ..
@@ -60,8 +60,8 @@ fn watch_of<'a>(labels: &Labels<'_>, times: &Times<'_>, line: &'a [u8]) -> Optio
                 span: known_span(labels, times, window),
                 pattern,
             }),
-            Form::State { .. } => None,
-            Form::Refused { .. } => None,
+            ExpectLine::State { .. } => None,
+            ExpectLine::Refused { .. } => None,
         },
     }
 }

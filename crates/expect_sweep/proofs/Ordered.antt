@@ -5,7 +5,7 @@ use Rattle.std.proofs.Math.Nat.{mod-add-div}
 use Rattle.std.proofs.lemmas.Bool.Decides.{nat_tests}
 use Rattle.text_core.specs.Number.{number_of}
 use Rattle.expect_sweep.specs.Order.{Clock, between, are_apart, are_times_apart, is_crossed, keeps_order, last_of}
-use Rattle.expect_sweep.specs.Series.{IsSeries, Series, instants_from, instants_of, is_range}
+use Rattle.expect_sweep.specs.Series.{IsSeries, InstantSeries, instants_from, instants_of, is_range}
 use Rattle.expect_sweep.specs.declared.order.Apart.{Apart}
 use Rattle.expect_sweep.specs.declared.order.Apart.TheVariants.{AnyOrder, After, Before}
 
@@ -50,13 +50,13 @@ falling_any P falls from step (suc n) =
     ap (λ b. P from || b) (falling_any P falls (from + step) step n) ∙ or_left (P from) (P (from + step)) (falls from (from + step) le)
 
 -- of a series
-last_is : (s : Series) → IsSeries s → s.from + (s.to - s.from) / s.step * s.step ≡ last_of s
+last_is : (s : InstantSeries) → IsSeries s → s.from + (s.to - s.from) / s.step * s.step ≡ last_of s
 last_is s is = omega (arith, is.forward, mod-add-div (s.to - s.from) s.step)
 
-from_last : (s : Series) → s.from ≤ s.to → s.from ≤ last_of s
+from_last : (s : InstantSeries) → s.from ≤ s.to → s.from ≤ last_of s
 from_last s forward = omega (arith, forward, remainder_within (s.to - s.from) s.step)
 
-any_of : (s : Series) → IsSeries s → (P : ℕ → Bool) → Rises P ⊎ Falls P → list_any P (instants_of s) ≡ (P s.from || P (last_of s))
+any_of : (s : InstantSeries) → IsSeries s → (P : ℕ → Bool) → Rises P ⊎ Falls P → list_any P (instants_of s) ≡ (P s.from || P (last_of s))
 any_of s is P (inl rises) =
     let n : (s.to - s.from) / s.step + 1 ≡ suc ((s.to - s.from) / s.step) = omega arith in
     ap (λ k. list_any P (instants_from s.from s.step k)) n ∙ rising_any P rises s.from s.step ((s.to - s.from) / s.step) ∙ ap P (last_is s is)
@@ -100,6 +100,6 @@ either_way true other ranged = second_by (between other.kind ranged.kind) (is_ra
 either_way false other ranged = first_by (between ranged.kind other.kind) (is_range ranged.word) (number_of ranged.word) (number_of other.word)
 
 -- at some instant it is so exactly where it is at the first one or at the last
-pub crossed_at_ends : (s : Series) → IsSeries s → (is_above : Bool) (other ranged : Clock)
+pub crossed_at_ends : (s : InstantSeries) → IsSeries s → (is_above : Bool) (other ranged : Clock)
     → is_crossed s is_above other ranged ≡ (not (keeps_order is_above other ranged s.from) || not (keeps_order is_above other ranged (last_of s)))
 crossed_at_ends s is is_above other ranged = any_of s is (λ t. not (keeps_order is_above other ranged t)) (either_way is_above other ranged)

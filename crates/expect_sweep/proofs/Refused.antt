@@ -1,7 +1,7 @@
 -- A script that is refused at an instant of its series.
 use Rattle.std.proofs.Common.{◌≡◌, ℕ, suc, ◌+◌, ◌-◌, ◌/◌, ◌<◌, ◌≤◌, Bool, List, [], ◌∷◌, ap, sym, subst, ◌∙◌, arith}
 use Rattle.std.proofs.lemmas.List.Elements.{All-nil}
-use Rattle.expect_sweep.specs.Series.{Series, instants_from, instants_of}
+use Rattle.expect_sweep.specs.Series.{InstantSeries, instants_from, instants_of}
 use Rattle.expect_sweep.specs.Stretches.{StretchesDraft}
 use Rattle.expect_sweep.specs.Sweep.{AreVerdictsAt, IsFirstRefusal, IsRefusalAt, IsSeriesReported}
 use Rattle.expect_sweep.specs.declared.sweeping.SweepError.{SweepError}
@@ -9,7 +9,7 @@ use Rattle.expect_sweep.specs.declared.sweeping.SweepError.TheVariants.{NoRange,
 use Rattle.expect_sweep.proofs.Stretching.{IsDraft, over_before}
 
 -- at the first one
-pub refused_first : (topology script : List ℕ) (s : Series) (at : ℕ) (error : SweepError) → at ≡ s.from → IsRefusalAt topology script at error → IsSeriesReported topology script s error
+pub refused_first : (topology script : List ℕ) (s : InstantSeries) (at : ℕ) (error : SweepError) → at ≡ s.from → IsRefusalAt topology script at error → IsSeriesReported topology script s error
 refused_first topology script s at (At instant error) is h = subst (λ t. IsFirstRefusal topology script s t error) (sym h.0) (record {
   before = [];
   after = instants_from (s.from + s.step) s.step ((s.to - s.from) / s.step);
@@ -28,7 +28,7 @@ refused_first topology script s at (Range fault) is h = absurd h
 refused_first topology script s at (Write count) is h = absurd h
 
 -- at a later one
-refused_next : (topology script : List ℕ) (s : Series) (d : StretchesDraft) (error : SweepError) → 0 < s.step → d.last.last ≤ s.to → s.step ≤ s.to - d.last.last
+refused_next : (topology script : List ℕ) (s : InstantSeries) (d : StretchesDraft) (error : SweepError) → 0 < s.step → d.last.last ≤ s.to → s.step ≤ s.to - d.last.last
     → IsRefusalAt topology script (d.last.last + s.step) error → IsDraft (AreVerdictsAt topology script) s d → IsSeriesReported topology script s error
 refused_next topology script s d (At instant error) moves within room h is =
     let o = over_before (AreVerdictsAt topology script) s d moves within room is in
@@ -38,7 +38,7 @@ refused_next topology script s d NoRange moves within room h is = absurd h
 refused_next topology script s d (Range fault) moves within room h is = absurd h
 refused_next topology script s d (Write count) moves within room h is = absurd h
 
-pub refused_later : (topology script : List ℕ) (s : Series) (d : StretchesDraft) (at step to : ℕ) (error : SweepError) → step ≡ s.step → to ≡ s.to → d.last.last ≡ at → 0 < s.step → at ≤ to → step ≤ to - at
+pub refused_later : (topology script : List ℕ) (s : InstantSeries) (d : StretchesDraft) (at step to : ℕ) (error : SweepError) → step ≡ s.step → to ≡ s.to → d.last.last ≡ at → 0 < s.step → at ≤ to → step ≤ to - at
     → IsRefusalAt topology script (at + step) error → IsDraft (AreVerdictsAt topology script) s d → IsSeriesReported topology script s error
 refused_later topology script s d at step to error step_is to_is last moves within room h is =
     let t : at + step ≡ d.last.last + s.step = omega (arith, step_is, last) in

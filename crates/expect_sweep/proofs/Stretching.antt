@@ -6,13 +6,13 @@ use Rattle.std.proofs.lemmas.List.Elements.{All-append, All-cons, All-head, All-
 use Rattle.std.proofs.lemmas.List.Folds.{list_all-append}
 use Rattle.std.proofs.lemmas.Grind.{flat_map-append}
 use Rattle.std.proofs.lemmas.List.{map-append}
-use Rattle.expect_sweep.specs.Series.{Series, instants_from, instants, instants_of}
+use Rattle.expect_sweep.specs.Series.{InstantSeries, instants_from, instants, instants_of}
 use Rattle.expect_sweep.specs.Stretches.{AreStretches, DifferInTurn, StretchesDraft, IsFound, Stretch, all_hold, are_all_ok, are_same, first_draft, draft_at_end, instants_in, longer, next, stretch_line, stretches_text, with_instant}
 use lib.Pointwise.{pointwise_decides}
 use Rattle.expect_sweep.proofs.Instants.{counted_next, counted_none, instants_more, one_instant}
 
 -- A draft of the instants of a series up to the last one of its last stretch.
-pub record IsDraft (Found : ℕ → List Bool → Type 0) (s : Series) (d : StretchesDraft) : Type 0 where
+pub record IsDraft (Found : ℕ → List Bool → Type 0) (s : InstantSeries) (d : StretchesDraft) : Type 0 where
   pub before : List Stretch
   pub count : ℕ
   pub grid : d.last.last ≡ d.last.first + count * s.step
@@ -57,7 +57,7 @@ booleans false false = (λ e. refl, λ e. refl)
 
 -- ---- the first instant
 
-pub begun_is : (Found : ℕ → List Bool → Type 0) (s : Series) (vs : List Bool) → 0 < s.step → Found s.from vs → IsDraft Found s (first_draft s.from vs)
+pub begun_is : (Found : ℕ → List Bool → Type 0) (s : InstantSeries) (vs : List Bool) → 0 < s.step → Found s.from vs → IsDraft Found s (first_draft s.from vs)
 begun_is Found s vs moves found = record {
   before = [];
   count = 0;
@@ -92,13 +92,13 @@ length-push [] x = refl
 length-push (y ∷ xs) x = ap (λ n. suc n) (length-push xs x)
 
 -- the instants so far, and the next one
-further : (Found : ℕ → List Bool → Type 0) (s : Series) (d : StretchesDraft) → 0 < s.step → (is : IsDraft Found s d)
+further : (Found : ℕ → List Bool → Type 0) (s : InstantSeries) (d : StretchesDraft) → 0 < s.step → (is : IsDraft Found s d)
     → flat_map (instants_in s.step) is.before ++ (instants_in s.step d.last ++ (d.last.last + s.step) ∷ []) ≡ instants s.step s.from (d.last.last + s.step)
 further Found s d moves is =
     sym (append_assoc (flat_map (instants_in s.step) is.before) (instants_in s.step d.last) ((d.last.last + s.step) ∷ [])) ∙ ap (λ ts. ts ++ (d.last.last + s.step) ∷ []) is.front
     ∙ sym (instants_more s.step s.from is.passed d.last.last moves is.reach)
 
-longer_is : (Found : ℕ → List Bool → Type 0) (s : Series) (d : StretchesDraft) → 0 < s.step → d.last.last ≤ s.to → s.step ≤ s.to - d.last.last → Found (d.last.last + s.step) d.last.verdicts
+longer_is : (Found : ℕ → List Bool → Type 0) (s : InstantSeries) (d : StretchesDraft) → 0 < s.step → d.last.last ≤ s.to → s.step ≤ s.to - d.last.last → Found (d.last.last + s.step) d.last.verdicts
     → IsDraft Found s d → IsDraft Found s (longer d (d.last.last + s.step))
 longer_is Found s d moves within room found is = record {
   before = is.before;
@@ -128,7 +128,7 @@ longer_is Found s d moves within room found is = record {
       ∙ append_assoc (instants_in s.step d.last) ((d.last.last + s.step) ∷ []) (instants_from (d.last.last + s.step + s.step) s.step ((s.to - (d.last.last + s.step)) / s.step))
       ∙ ap (λ ts. instants_in s.step d.last ++ ts) (sym (counted_next s.step d.last.last s.to moves within room))
 
-next_is : (Found : ℕ → List Bool → Type 0) (s : Series) (d : StretchesDraft) (vs : List Bool) → 0 < s.step → d.last.last ≤ s.to → s.step ≤ s.to - d.last.last → Found (d.last.last + s.step) vs
+next_is : (Found : ℕ → List Bool → Type 0) (s : InstantSeries) (d : StretchesDraft) (vs : List Bool) → 0 < s.step → d.last.last ≤ s.to → s.step ≤ s.to - d.last.last → Found (d.last.last + s.step) vs
     → d.last.verdicts ≢ vs → IsDraft Found s d → IsDraft Found s (next d (d.last.last + s.step) vs)
 next_is Found s d vs moves within room found differs is = record {
   before = is.before ++ d.last ∷ [];
@@ -160,7 +160,7 @@ next_is Found s d vs moves within room found differs is = record {
       ∙ ap (λ ts. ts ++ instants_from (d.last.last + s.step) s.step ((s.to - d.last.last) / s.step)) (flat_map_push (instants_in s.step) is.before d.last)
       ∙ append_assoc (flat_map (instants_in s.step) is.before) (instants_in s.step d.last) (instants_from (d.last.last + s.step) s.step ((s.to - d.last.last) / s.step))
 
-by_same : (Found : ℕ → List Bool → Type 0) (s : Series) (d : StretchesDraft) (vs : List Bool) (same : Bool) → 0 < s.step → d.last.last ≤ s.to → s.step ≤ s.to - d.last.last → Found (d.last.last + s.step) vs
+by_same : (Found : ℕ → List Bool → Type 0) (s : InstantSeries) (d : StretchesDraft) (vs : List Bool) (same : Bool) → 0 < s.step → d.last.last ≤ s.to → s.step ≤ s.to - d.last.last → Found (d.last.last + s.step) vs
     → (same ≡ true → d.last.verdicts ≡ vs) → (d.last.verdicts ≡ vs → same ≡ true) → IsDraft Found s d
     → IsDraft Found s (cond same (longer d (d.last.last + s.step)) (next d (d.last.last + s.step) vs))
 by_same Found s d vs true moves within room found equal reported is =
@@ -168,7 +168,7 @@ by_same Found s d vs true moves within room found equal reported is =
 by_same Found s d vs false moves within room found equal reported is =
     next_is Found s d vs moves within room found (λ e. absurd (true≢false (sym (reported e)))) is
 
-pub more_is : (Found : ℕ → List Bool → Type 0) (s : Series) (d : StretchesDraft) (vs : List Bool) → 0 < s.step → d.last.last ≤ s.to → s.step ≤ s.to - d.last.last → Found (d.last.last + s.step) vs
+pub more_is : (Found : ℕ → List Bool → Type 0) (s : InstantSeries) (d : StretchesDraft) (vs : List Bool) → 0 < s.step → d.last.last ≤ s.to → s.step ≤ s.to - d.last.last → Found (d.last.last + s.step) vs
     → IsDraft Found s d → IsDraft Found s (with_instant d (d.last.last + s.step) vs)
 more_is Found s d vs moves within room found is =
     let decides = pointwise_decides (λ x y. booleans x y) d.last.verdicts vs in
@@ -176,7 +176,7 @@ more_is Found s d vs moves within room found is =
 
 -- ---- the last instant
 
-pub ended_is : (Found : ℕ → List Bool → Type 0) (s : Series) (d : StretchesDraft) → 0 < s.step → s.to - d.last.last < s.step → IsDraft Found s d
+pub ended_is : (Found : ℕ → List Bool → Type 0) (s : InstantSeries) (d : StretchesDraft) → 0 < s.step → s.to - d.last.last < s.step → IsDraft Found s d
     → (stretches : List Stretch) × AreStretches Found s stretches × ((draft_at_end d).text ≡ stretches_text stretches) × (d.holds ≡ all_hold stretches)
 ended_is Found s d moves last is = (is.before ++ d.last ∷ [], are, ap (λ t. t ++ stretch_line d.last) is.text ∙ sym (flat_map_push stretch_line is.before d.last), is.holds ∙ sym (all_hold_push is.before d.last)) where
   all : flat_map (instants_in s.step) (is.before ++ d.last ∷ []) ≡ instants_of s
@@ -202,7 +202,7 @@ over Found step (x ∷ xs) h =
     (over Found step xs (All-tail (IsFound Found step) x xs h))
 
 -- those before the next instant
-pub over_before : (Found : ℕ → List Bool → Type 0) (s : Series) (d : StretchesDraft) → 0 < s.step → d.last.last ≤ s.to → s.step ≤ s.to - d.last.last → IsDraft Found s d
+pub over_before : (Found : ℕ → List Bool → Type 0) (s : InstantSeries) (d : StretchesDraft) → 0 < s.step → d.last.last ≤ s.to → s.step ≤ s.to - d.last.last → IsDraft Found s d
     → (before after : List ℕ) × (instants_of s ≡ before ++ (d.last.last + s.step) ∷ after) × All (λ t. (vs : List Bool) × Found t vs) before
 over_before Found s d moves within room is = (
   flat_map (instants_in s.step) (is.before ++ d.last ∷ []),
@@ -217,7 +217,7 @@ over_before Found s d moves within room is = (
 
 -- ---- as they are made
 
-pub draft_begun : (Found : ℕ → List Bool → Type 0) (s : Series) (d : StretchesDraft) (at : ℕ) (vs : List Bool) → at ≡ s.from → d ≡ first_draft at vs → 0 < s.step → Found at vs → IsDraft Found s d
+pub draft_begun : (Found : ℕ → List Bool → Type 0) (s : InstantSeries) (d : StretchesDraft) (at : ℕ) (vs : List Bool) → at ≡ s.from → d ≡ first_draft at vs → 0 < s.step → Found at vs → IsDraft Found s d
 draft_begun Found s d at vs is made moves found =
     subst (IsDraft Found s) (sym (made ∙ ap (λ t. first_draft t vs) is)) (begun_is Found s vs moves (subst (λ t. Found t vs) is found))
 
@@ -228,7 +228,7 @@ last_by d t vs false = refl
 pub last_is : (d e : StretchesDraft) (t : ℕ) (vs : List Bool) → e ≡ with_instant d t vs → e.last.last ≡ t
 last_is d e t vs made = ap (λ (x : StretchesDraft). x.last.last) made ∙ last_by d t vs (are_same d.last.verdicts vs)
 
-pub draft_more : (Found : ℕ → List Bool → Type 0) (s : Series) (d e : StretchesDraft) (at step to : ℕ) (vs : List Bool) → step ≡ s.step → to ≡ s.to → d.last.last ≡ at → e ≡ with_instant d (at + step) vs
+pub draft_more : (Found : ℕ → List Bool → Type 0) (s : InstantSeries) (d e : StretchesDraft) (at step to : ℕ) (vs : List Bool) → step ≡ s.step → to ≡ s.to → d.last.last ≡ at → e ≡ with_instant d (at + step) vs
     → 0 < s.step → at ≤ to → step ≤ to - at → Found (at + step) vs → IsDraft Found s d → IsDraft Found s e
 draft_more Found s d e at step to vs step_is to_is last made moves within room found is =
     let t : at + step ≡ d.last.last + s.step = omega (arith, step_is, last) in
@@ -236,7 +236,7 @@ draft_more Found s d e at step to vs step_is to_is last made moves within room f
     let more : s.step ≤ s.to - d.last.last = omega (arith, step_is, to_is, last, room) in
     subst (IsDraft Found s) (sym (made ∙ ap (λ u. with_instant d u vs) t)) (more_is Found s d vs moves before more (subst (λ u. Found u vs) t found) is)
 
-pub draft_ended : (Found : ℕ → List Bool → Type 0) (s : Series) (d e : StretchesDraft) (at step to : ℕ) → step ≡ s.step → to ≡ s.to → d.last.last ≡ at → e ≡ draft_at_end d
+pub draft_ended : (Found : ℕ → List Bool → Type 0) (s : InstantSeries) (d e : StretchesDraft) (at step to : ℕ) → step ≡ s.step → to ≡ s.to → d.last.last ≡ at → e ≡ draft_at_end d
     → 0 < s.step → to - at < step → IsDraft Found s d
     → (stretches : List Stretch) × AreStretches Found s stretches × (e.text ≡ stretches_text stretches) × (e.holds ≡ all_hold stretches)
 draft_ended Found s d e at step to step_is to_is last made moves none is =

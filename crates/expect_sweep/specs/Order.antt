@@ -13,11 +13,11 @@ use Rattle.line_wave.specs.Bounds.{widest_pull}
 use Rattle.expect_text.specs.Line.{unlabelled_words}
 use Rattle.expect_sweep.specs.Places.{next_place}
 use Rattle.expect_sweep.specs.Script.{is_range_at, range_of}
-use Rattle.expect_sweep.specs.Series.{Series, instants_of, is_range}
+use Rattle.expect_sweep.specs.Series.{InstantSeries, instants_of, is_range}
 use Rattle.expect_sweep.specs.declared.order.Clock.{Clock as ClockRead}
 use Rattle.expect_sweep.specs.declared.order.RangeLine.{RangeLine as RangeLineRead}
-use Rattle.expect_sweep.specs.declared.order.Kind.{Kind}
-use Rattle.expect_sweep.specs.declared.order.Kind.TheVariants.{Event, Pulse, Pull, Low, High, End, State}
+use Rattle.expect_sweep.specs.declared.order.TimedLine.{TimedLine}
+use Rattle.expect_sweep.specs.declared.order.TimedLine.TheVariants.{Event, Pulse, Pull, Low, High, End, State}
 use Rattle.expect_sweep.specs.declared.order.Apart.{Apart}
 use Rattle.expect_sweep.specs.declared.order.Apart.TheVariants.{AnyOrder, After, Before}
 use Rattle.expect_sweep.specs.declared.places.WordRole.{WordRole}
@@ -29,7 +29,7 @@ use Rattle.expect_sweep.specs.declared.series.RangeCause.TheVariants.{Crosses}
 
 -- what comes at a time, and the word of that time
 pub record Clock : Type 0 where
-  pub kind : Kind
+  pub kind : TimedLine
   pub word : List ℕ
 
 abbrev pub clock_as : ClockRead → Clock
@@ -48,7 +48,7 @@ state_clock [] = None
 state_clock (time ∷ words) = Some (record { kind = State; word = time })
 
 -- the level of a pin, by the words after its time
-abbrev pub level_in : List (List ℕ) → Kind
+abbrev pub level_in : List (List ℕ) → TimedLine
 level_in [] = Low
 level_in (level ∷ words) = if bytes_eq level (codes "1") then High else Low
 
@@ -76,7 +76,7 @@ time_at t word = if is_range word then Some t else number_of word
 
 -- how a line and one below it stand in time: the second one comes so long after the first, or not after it; a wider pulse than 65,535
 -- counts as one of that width, and a wider pull than the widest as one a microsecond wider
-abbrev pub between : Kind → Kind → Apart
+abbrev pub between : TimedLine → TimedLine → Apart
 between Event Event = After 0
 between Event End = After 1
 between (Pulse width) (Pulse other) = After (min width 65535 + 25000)
@@ -152,16 +152,16 @@ keeps_order true other ranged t = are_times_apart (between other.kind ranged.kin
 keeps_order false other ranged t = are_times_apart (between ranged.kind other.kind) (time_at t ranged.word) (number_of other.word)
 
 -- at some instant of the series it is not
-abbrev pub is_crossed : Series → Bool → Clock → Clock → Bool
+abbrev pub is_crossed : InstantSeries → Bool → Clock → Clock → Bool
 is_crossed s is_above other ranged = list_any (λ t. not (keeps_order is_above other ranged t)) (instants_of s)
 
-abbrev pub is_crossed_by : Series → Bool → Option Clock → Option Clock → Bool
+abbrev pub is_crossed_by : InstantSeries → Bool → Option Clock → Option Clock → Bool
 is_crossed_by s is_above None ranged = false
 is_crossed_by s is_above (Some other) None = false
 is_crossed_by s is_above (Some other) (Some ranged) = is_crossed s is_above other ranged
 
 -- the first of these lines, of which the first has this number, that is another line and not in order with it at each instant
-abbrev pub crossed_from : Series → RangeLine → ℕ → List (List ℕ) → Option ℕ
+abbrev pub crossed_from : InstantSeries → RangeLine → ℕ → List (List ℕ) → Option ℕ
 crossed_from s ranged number [] = None
 crossed_from s ranged number (line ∷ lines) =
     if is_crossed_by s (nat_lt number ranged.line) (clock_of line) ranged.clock && not (number == ranged.line) then Some number
@@ -171,31 +171,31 @@ abbrev pub crossing_at : RangeLine → Option ℕ → Option RangeFault
 crossing_at ranged None = None
 crossing_at ranged (Some other) = Some (record { line = ranged.line; cause = Crosses other; word = ranged.word })
 
-abbrev pub crossing_by : List ℕ → Series → Option RangeLine → Option RangeFault
+abbrev pub crossing_by : List ℕ → InstantSeries → Option RangeLine → Option RangeFault
 crossing_by script s None = None
 crossing_by script s (Some ranged) = crossing_at ranged (crossed_from s ranged 1 (lines_of script))
 
 -- an instant of the range breaks the order of the script
-abbrev pub crossing : List ℕ → Series → Option RangeFault
+abbrev pub crossing : List ℕ → InstantSeries → Option RangeFault
 crossing script s = crossing_by script s (range_line script)
 
 -- ---- ranges that keep the order
 
-abbrev pub unless_crossing : Series → Option RangeFault → Result (Option Series) RangeFault
+abbrev pub unless_crossing : InstantSeries → Option RangeFault → Result (Option InstantSeries) RangeFault
 unless_crossing s None = Ok (Some s)
 unless_crossing s (Some fault) = Err fault
 
-abbrev pub ordered : List ℕ → Result (Option Series) RangeFault → Result (Option Series) RangeFault
+abbrev pub ordered : List ℕ → Result (Option InstantSeries) RangeFault → Result (Option InstantSeries) RangeFault
 ordered script (Err fault) = Err fault
 ordered script (Ok None) = Ok None
 ordered script (Ok (Some s)) = unless_crossing s (crossing script s)
 
 -- the range of a script, each instant of which keeps its order; else why not
-abbrev pub ordered_range : List ℕ → Result (Option Series) RangeFault
+abbrev pub ordered_range : List ℕ → Result (Option InstantSeries) RangeFault
 ordered_range script = ordered script (range_of script)
 
 -- ---- parts
 
 -- the last instant
-abbrev pub last_of : Series → ℕ
+abbrev pub last_of : InstantSeries → ℕ
 last_of s = s.to - (s.to - s.from) % s.step

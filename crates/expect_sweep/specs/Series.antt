@@ -7,12 +7,12 @@ use Rattle.text_core.specs.Number.{number_of}
 use Rattle.expect_sweep.specs.declared.series.RangeCause.{RangeCause}
 use Rattle.expect_sweep.specs.declared.series.RangeCause.TheVariants.{Number, Order, Range}
 
-pub record Series : Type 0 where
+pub record InstantSeries : Type 0 where
   pub from : ℕ
   pub to : ℕ
   pub step : ℕ
 
-pub record IsSeries (s : Series) : Type 0 where
+pub record IsSeries (s : InstantSeries) : Type 0 where
   pub forward : s.from ≤ s.to
   pub early : s.to ≤ latest_event
   pub moves : 0 < s.step
@@ -28,7 +28,7 @@ instants_from from step (suc n) = from ∷ instants_from (from + step) step n
 abbrev pub instants : ℕ → ℕ → ℕ → List ℕ
 instants step from to = instants_from from step ((to - from) / step + 1)
 
-abbrev pub instants_of : Series → List ℕ
+abbrev pub instants_of : InstantSeries → List ℕ
 instants_of s = instants s.step s.from s.to
 
 -- ---- words
@@ -62,22 +62,22 @@ steps_between from to step = (to - from) / step
 abbrev pub most_instants : ℕ
 most_instants = 1000000
 
-abbrev pub series_to : ℕ → ℕ → ℕ → Result Series RangeCause
+abbrev pub series_to : ℕ → ℕ → ℕ → Result InstantSeries RangeCause
 series_to from to step =
     if nat_lt to from then Err Order
     else if nat_lt (steps_between from to step) most_instants then Ok (record { from = from; to = to; step = step })
     else Err Range
 
-abbrev pub series_by : Option ℕ → Option ℕ → Option ℕ → Result Series RangeCause
+abbrev pub series_by : Option ℕ → Option ℕ → Option ℕ → Result InstantSeries RangeCause
 series_by None to step = Err Number
 series_by (Some from) None step = Err Number
 series_by (Some from) (Some to) None = Err Number
 series_by (Some from) (Some to) (Some step) = series_to from to step
 
 -- `U` or `U/S`
-abbrev pub series_until : Option ℕ → List ℕ → Result Series RangeCause
+abbrev pub series_until : Option ℕ → List ℕ → Result InstantSeries RangeCause
 series_until from text = series_by from (time_in_range (number_of (take (place_of 47 text) text))) (step_at text (place_of 47 text))
 
 -- a range: `T..U` or `T..U/S`
-abbrev pub series_in : List ℕ → Result Series RangeCause
+abbrev pub series_in : List ℕ → Result InstantSeries RangeCause
 series_in word = series_until (time_in_range (number_of (take (place_of 46 word) word))) (drop (place_of 46 word + 2) word)

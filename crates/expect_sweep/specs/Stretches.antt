@@ -4,7 +4,7 @@ use Rattle.std.specs.Bool.{beq}
 use Rattle.std.specs.Cmp.Lexicographic.{pointwise}
 use Rattle.std.specs.Fmt.{decimal}
 use Rattle.std.specs.List.{All, concat, flat_map, list_all}
-use Rattle.expect_sweep.specs.Series.{Series, instants, instants_of}
+use Rattle.expect_sweep.specs.Series.{InstantSeries, instants, instants_of}
 use Rattle.expect_sweep.specs.declared.stretches.StretchesDraft.{StretchesDraft as DraftMade}
 
 -- from its first instant to its last, and the verdicts of each
@@ -27,7 +27,7 @@ DifferInTurn (vs ∷ ws ∷ more) = (vs ≢ ws) × DifferInTurn (ws ∷ more)
 
 -- The longest stretches of a series: their instants, one stretch after another, are those of the series, each once and in order; at
 -- each of them the verdicts of its stretch are found; and the verdicts of neighbours differ.
-pub record AreStretches (Found : ℕ → List Bool → Type 0) (s : Series) (stretches : List Stretch) : Type 0 where
+pub record AreStretches (Found : ℕ → List Bool → Type 0) (s : InstantSeries) (stretches : List Stretch) : Type 0 where
   pub whole : flat_map (instants_in s.step) stretches ≡ instants_of s
   pub found : All (IsFound Found s.step) stretches
   pub longest : DifferInTurn (map (λ x. x.verdicts) stretches)

@@ -7,7 +7,7 @@ use Rattle.expect_run.specs.Check.{AreVerdictsOf, IsVerdictReported}
 use Rattle.expect_run.specs.declared.checking.CheckError.{CheckError}
 use Rattle.expect_sweep.specs.Order.{ordered_range}
 use Rattle.expect_sweep.specs.Script.{script_at}
-use Rattle.expect_sweep.specs.Series.{Series, instants_of}
+use Rattle.expect_sweep.specs.Series.{InstantSeries, instants_of}
 use Rattle.expect_sweep.specs.Stretches.{AreStretches, StretchesDraft, Stretch, all_hold, stretches_text}
 use Rattle.expect_sweep.specs.declared.sweeping.SweepError.{SweepError}
 use Rattle.expect_sweep.specs.declared.sweeping.SweepError.TheVariants.{NoRange, Range, At, Write, Memory}
@@ -18,7 +18,7 @@ AreVerdictsAt topology script t verdicts = AreVerdictsOf topology (script_at t s
 
 -- a script with a range, and its stretches
 pub record IsSweepOf (topology script : List ℕ) (stretches : List Stretch) : Type 0 where
-  pub series : Series
+  pub series : InstantSeries
   pub range : ordered_range script ≡ Ok (Some series)
   pub are : AreStretches (AreVerdictsAt topology script) series stretches
 
@@ -27,7 +27,7 @@ abbrev pub IsSwept : List ℕ → List ℕ → Option (List ℕ) → Option (Lis
 IsSwept topology script old new holds = (stretches : List Stretch) × IsSweepOf topology script stretches × (holds ≡ all_hold stretches) × Appends old new (stretches_text stretches)
 
 -- the script is refused at an instant of a series, and at none before
-pub record IsFirstRefusal (topology script : List ℕ) (s : Series) (instant : ℕ) (error : CheckError) : Type 0 where
+pub record IsFirstRefusal (topology script : List ℕ) (s : InstantSeries) (instant : ℕ) (error : CheckError) : Type 0 where
   pub before : List ℕ
   pub after : List ℕ
   pub place : instants_of s ≡ before ++ instant ∷ after
@@ -35,7 +35,7 @@ pub record IsFirstRefusal (topology script : List ℕ) (s : Series) (instant : �
   pub reported : IsVerdictReported topology (script_at instant script) error
 
 abbrev pub IsRefusedAt : List ℕ → List ℕ → ℕ → CheckError → Type 0
-IsRefusedAt topology script instant error = (s : Series) × (ordered_range script ≡ Ok (Some s)) × IsFirstRefusal topology script s instant error
+IsRefusedAt topology script instant error = (s : InstantSeries) × (ordered_range script ≡ Ok (Some s)) × IsFirstRefusal topology script s instant error
 
 -- when each refusal comes; of memory nothing is said
 abbrev pub IsSweepReported : List ℕ → List ℕ → SweepError → Type 0
@@ -72,7 +72,7 @@ IsRefusalAt topology script t NoRange = ⊥
 IsRefusalAt topology script t (Range fault) = ⊥
 IsRefusalAt topology script t (Write count) = ⊥
 
-abbrev pub IsSeriesReported : List ℕ → List ℕ → Series → SweepError → Type 0
+abbrev pub IsSeriesReported : List ℕ → List ℕ → InstantSeries → SweepError → Type 0
 IsSeriesReported topology script s (At instant error) = IsFirstRefusal topology script s instant error
 IsSeriesReported topology script s Memory = Unit {0}
 IsSeriesReported topology script s NoRange = ⊥
@@ -80,6 +80,6 @@ IsSeriesReported topology script s (Range fault) = ⊥
 IsSeriesReported topology script s (Write count) = ⊥
 
 -- the lines of all stretches
-abbrev pub IsSweptDraft : List ℕ → List ℕ → Series → StretchesDraft → Type 0
+abbrev pub IsSweptDraft : List ℕ → List ℕ → InstantSeries → StretchesDraft → Type 0
 IsSweptDraft topology script s d =
     (stretches : List Stretch) × AreStretches (AreVerdictsAt topology script) s stretches × (d.text ≡ stretches_text stretches) × (d.holds ≡ all_hold stretches)

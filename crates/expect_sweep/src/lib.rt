@@ -9,7 +9,7 @@ mod series;
 mod stretches;
 mod sweeping;
 
-pub use progress::{Hearer, Progress, Silent};
+pub use progress::{ProgressHearer, SweepProgress, SilentProgress};
 pub use script::RangeFault;
 pub use series::RangeCause;
 pub use sweeping::{SweepError, sweep};

@@ -7,14 +7,14 @@ ghost use Rattle.expect_sweep.specs.Order.{between, are_apart, are_times_apart, 
 
 use crate::places::WordRole;
 use crate::script::{RangeFault, is_range_at, range_of};
-use crate::series::{RangeCause, Series, is_range};
+use crate::series::{RangeCause, InstantSeries, is_range};
 use expect_text::unlabelled;
 use line_wave::WIDEST_PULL;
 use text_core::{first_line, first_word, number_in};
 
 /// What a line of a script says that has a place in time.
 #[derive(Clone, Copy)]
-pub(crate) enum Kind {
+pub(crate) enum TimedLine {
     /// `at T ..`.
     Event,
     /// `pulse T WIDTH`, of this width.
@@ -44,7 +44,7 @@ pub(crate) enum Apart {
 /// What a line says, and the word of its time.
 #[derive(Clone, Copy)]
 pub(crate) struct Clock<'a> {
-    kind: Kind,
+    kind: TimedLine,
     word: &'a [u8],
 }
 
@@ -86,17 +86,17 @@ fn width_in(rest: Option<&[u8]>) -> u64
 }
 
 // The level of the pin, by the words after its time.
-fn level_in(rest: Option<&[u8]>) -> Kind
+fn level_in(rest: Option<&[u8]>) -> TimedLine
     ensures { result ≡ level_in (words_after (option_copied rest.entry)) }
 {
     let Some(rest) = rest else {
-        return Kind::Low;
+        return TimedLine::Low;
     };
     let (level, _others) = first_word(rest);
     if level == b"1".as_slice() {
-        Kind::High
+        TimedLine::High
     } else {
-        Kind::Low
+        TimedLine::Low
     }
 }
 
@@ -105,7 +105,7 @@ fn state_clock(rest: Option<&[u8]>) -> Option<Clock<'_>>
 {
     let (word, _others) = first_word(rest?);
     Some(Clock {
-        kind: Kind::State,
+        kind: TimedLine::State,
         word,
     })
 }
@@ -118,17 +118,17 @@ fn clock_in(rest: Option<&[u8]>) -> Option<Clock<'_>>
     let (word, others) = first_word(rest?);
     if verb == b"at".as_slice() {
         Some(Clock {
-            kind: Kind::Event,
+            kind: TimedLine::Event,
             word,
         })
     } else if verb == b"pulse".as_slice() {
         Some(Clock {
-            kind: Kind::Pulse(width_in(others)),
+            kind: TimedLine::Pulse(width_in(others)),
             word,
         })
     } else if verb == b"pull".as_slice() {
         Some(Clock {
-            kind: Kind::Pull(width_in(others)),
+            kind: TimedLine::Pull(width_in(others)),
             word,
         })
     } else if verb == b"pin".as_slice() {
@@ -138,7 +138,7 @@ fn clock_in(rest: Option<&[u8]>) -> Option<Clock<'_>>
         })
     } else if verb == b"end".as_slice() {
         Some(Clock {
-            kind: Kind::End,
+            kind: TimedLine::End,
             word,
         })
     } else if verb == b"expect".as_slice() && word == b"state".as_slice() {
@@ -165,30 +165,30 @@ fn time_at(instant: u64, word: &[u8]) -> Option<u64>
     }
 }
 
-fn between(above: Kind, below: Kind) -> Apart
+fn between(above: TimedLine, below: TimedLine) -> Apart
     ensures { result ≡ between above below }
 {
     match (above, below) {
-        (Kind::Event, Kind::Event) => Apart::After(0),
-        (Kind::Event, Kind::End) => Apart::After(1),
-        (Kind::Pulse(width), Kind::Pulse(_)) => Apart::After(width.min(WIDTH_MOST) + LEAST_GAP),
-        (Kind::Pulse(width), Kind::Pull(_)) => Apart::After(width.min(WIDTH_MOST) + LEAST_HIGH),
-        (Kind::Pull(width), Kind::Pulse(_)) => Apart::After(width.min(PULL_WIDTH_MOST) + LEAST_GAP),
-        (Kind::Pull(width), Kind::Pull(_)) => Apart::After(width.min(PULL_WIDTH_MOST) + LEAST_HIGH),
-        (Kind::Pulse(width), Kind::Low) => Apart::After(width.min(WIDTH_MOST) + LEAST_HIGH),
-        (Kind::Pulse(width), Kind::High) => Apart::After(width.min(WIDTH_MOST)),
-        (Kind::Pull(width), Kind::Low) => Apart::After(width.min(PULL_WIDTH_MOST) + LEAST_HIGH),
-        (Kind::Pull(width), Kind::High) => Apart::After(width.min(PULL_WIDTH_MOST)),
-        (Kind::Low, Kind::High) => Apart::After(LEAST_LEVEL),
-        (Kind::High, Kind::Low) => Apart::After(LEAST_LEVEL),
-        (Kind::Low, Kind::Low) => Apart::After(0),
-        (Kind::Low, Kind::Pulse(_)) => Apart::After(0),
-        (Kind::Low, Kind::Pull(_)) => Apart::After(0),
-        (Kind::High, Kind::High) => Apart::After(0),
-        (Kind::High, Kind::Pulse(_)) => Apart::After(0),
-        (Kind::High, Kind::Pull(_)) => Apart::After(0),
-        (Kind::End, Kind::State) => Apart::Before,
-        (Kind::State, Kind::End) => Apart::After(0),
+        (TimedLine::Event, TimedLine::Event) => Apart::After(0),
+        (TimedLine::Event, TimedLine::End) => Apart::After(1),
+        (TimedLine::Pulse(width), TimedLine::Pulse(_)) => Apart::After(width.min(WIDTH_MOST) + LEAST_GAP),
+        (TimedLine::Pulse(width), TimedLine::Pull(_)) => Apart::After(width.min(WIDTH_MOST) + LEAST_HIGH),
+        (TimedLine::Pull(width), TimedLine::Pulse(_)) => Apart::After(width.min(PULL_WIDTH_MOST) + LEAST_GAP),
+        (TimedLine::Pull(width), TimedLine::Pull(_)) => Apart::After(width.min(PULL_WIDTH_MOST) + LEAST_HIGH),
+        (TimedLine::Pulse(width), TimedLine::Low) => Apart::After(width.min(WIDTH_MOST) + LEAST_HIGH),
+        (TimedLine::Pulse(width), TimedLine::High) => Apart::After(width.min(WIDTH_MOST)),
+        (TimedLine::Pull(width), TimedLine::Low) => Apart::After(width.min(PULL_WIDTH_MOST) + LEAST_HIGH),
+        (TimedLine::Pull(width), TimedLine::High) => Apart::After(width.min(PULL_WIDTH_MOST)),
+        (TimedLine::Low, TimedLine::High) => Apart::After(LEAST_LEVEL),
+        (TimedLine::High, TimedLine::Low) => Apart::After(LEAST_LEVEL),
+        (TimedLine::Low, TimedLine::Low) => Apart::After(0),
+        (TimedLine::Low, TimedLine::Pulse(_)) => Apart::After(0),
+        (TimedLine::Low, TimedLine::Pull(_)) => Apart::After(0),
+        (TimedLine::High, TimedLine::High) => Apart::After(0),
+        (TimedLine::High, TimedLine::Pulse(_)) => Apart::After(0),
+        (TimedLine::High, TimedLine::Pull(_)) => Apart::After(0),
+        (TimedLine::End, TimedLine::State) => Apart::Before,
+        (TimedLine::State, TimedLine::End) => Apart::After(0),
         _ => Apart::AnyOrder,
     }
 }
@@ -230,7 +230,7 @@ fn keeps_order(is_above: bool, other: Clock<'_>, ranged: Clock<'_>, instant: u64
 
 // Whether it is out of order at some instant of the range: it is at the first one or the last, then.
 #[tactic(auto, using(crate::proofs::Ordered::crossed_at_ends))]
-fn is_crossed(series: &Series, is_above: bool, other: Clock<'_>, ranged: Clock<'_>) -> bool
+fn is_crossed(series: &InstantSeries, is_above: bool, other: Clock<'_>, ranged: Clock<'_>) -> bool
     ensures { result ≡ is_crossed series.now is_above (clock_as other.entry) (clock_as ranged.entry) }
 {
     !keeps_order(is_above, other, ranged, series.from())
@@ -238,7 +238,7 @@ fn is_crossed(series: &Series, is_above: bool, other: Clock<'_>, ranged: Clock<'
 }
 
 fn is_crossed_by(
-    series: &Series,
+    series: &InstantSeries,
     is_above: bool,
     other: Option<Clock<'_>>,
     ranged: Option<Clock<'_>>,
@@ -304,7 +304,7 @@ fn range_line(script: &[u8]) -> Option<RangeLine<'_>>
 }
 
 // The first other line with which the line of the range is out of order at some instant.
-fn crossed(script: &[u8], series: &Series, ranged: RangeLine<'_>) -> Option<u64>
+fn crossed(script: &[u8], series: &InstantSeries, ranged: RangeLine<'_>) -> Option<u64>
     ensures { result ≡ crossed_from series.now (range_line_as ranged.entry) 1 (lines_of script.now) }
 {
     let mut rest = script;
@@ -322,7 +322,7 @@ fn crossed(script: &[u8], series: &Series, ranged: RangeLine<'_>) -> Option<u64>
 }
 
 // Why a range breaks the order of a script.
-fn crossing(script: &[u8], series: &Series) -> Option<RangeFault>
+fn crossing(script: &[u8], series: &InstantSeries) -> Option<RangeFault>
     ensures { result ≡ crossing script.now series.now }
 {
     let Some(ranged) = range_line(script) else {
@@ -338,7 +338,7 @@ fn crossing(script: &[u8], series: &Series) -> Option<RangeFault>
     }
 }
 
-fn unless_crossing(script: &[u8], series: Series) -> Result<Option<Series>, RangeFault>
+fn unless_crossing(script: &[u8], series: InstantSeries) -> Result<Option<InstantSeries>, RangeFault>
     ensures { result ≡ unless_crossing series (crossing script.now series) }
 {
     match crossing(script, &series) {
@@ -353,7 +353,7 @@ fn unless_crossing(script: &[u8], series: Series) -> Result<Option<Series>, Rang
 ///
 /// The first line whose range is none, or is the second one; then that of a range with an instant at which its line is out of order
 /// with another one: its number, and that of the first such line.
-pub(crate) fn ordered_range(script: &[u8]) -> Result<Option<Series>, RangeFault>
+pub(crate) fn ordered_range(script: &[u8]) -> Result<Option<InstantSeries>, RangeFault>
     ensures { result ≡ ordered_range script.now }
 {
     match range_of(script) {

@@ -7,7 +7,7 @@ const TOLD_EACH: u64 = 1000;
 
 /// How far a sweep is.
 #[derive(Clone, Copy, Debug, Drop, PartialEq, Eq)]
-pub struct Progress {
+pub struct SweepProgress {
     /// How many instants are done, from the first one on.
     pub done: u64,
     /// How many instants the range has.
@@ -17,33 +17,33 @@ pub struct Progress {
 }
 
 /// Hears how far a sweep is.
-pub trait Hearer {
-    ghost use Rattle.expect_sweep.specs.declared.progress.Progress.{Progress};
+pub trait ProgressHearer {
+    ghost use Rattle.expect_sweep.specs.declared.progress.SweepProgress.{SweepProgress};
 
     /// To hear it leads it from one state to another.
-    ghost hears: { Self → Progress → Self → Type 0 };
+    ghost hears: { Self → SweepProgress → Self → Type 0 };
 
     /// The sweep is so far.
-    fn hear(&mut self, progress: Progress)
+    fn hear(&mut self, progress: SweepProgress)
         ensures { hears self.old progress self.new };
 }
 
 /// Hears nothing.
 #[derive(Drop)]
-pub struct Silent;
+pub struct SilentProgress;
 
-impl Hearer for Silent {
+impl ProgressHearer for SilentProgress {
     ghost hears = { λ r p s. Unit {0} };
 
-    fn hear(&mut self, _progress: Progress) {}
+    fn hear(&mut self, _progress: SweepProgress) {}
 }
 
 /// Tells how far a sweep is that has more instants.
-pub(crate) fn tell<H: Hearer>(hearer: &mut H, done: u64, count: u64, stretches: u64)
+pub(crate) fn tell<H: ProgressHearer>(hearer: &mut H, done: u64, count: u64, stretches: u64)
     ensures { IsTold H.hears (done % told_each == 0) hearer.old (record { done = done; count = count; stretches = stretches }) hearer.new }
 {
     if done % TOLD_EACH == 0 {
-        hearer.hear(Progress {
+        hearer.hear(SweepProgress {
             done,
             count,
             stretches,

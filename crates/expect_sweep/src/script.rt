@@ -5,7 +5,7 @@ ghost use Rattle.text_core.specs.Words.{words_after, words_of};
 ghost use Rattle.expect_sweep.specs.Script.{is_range_at, line_at, mark_before, range_of, script_at, with_range, with_word, word_at, words_ranged};
 
 use crate::places::WordRole;
-use crate::series::{RangeCause, Series, is_range, series_in};
+use crate::series::{RangeCause, InstantSeries, is_range, series_in};
 use std::alloc::{AllocError, Global};
 use text_core::{first_line, first_word};
 use thiserror::Error;
@@ -30,9 +30,9 @@ pub(crate) fn is_range_at(place: WordRole, word: &[u8]) -> bool
 fn with_range(
     number: u64,
     index: usize,
-    seen: Option<Series>,
-    found: Result<Series, RangeCause>,
-) -> Result<Option<Series>, RangeFault>
+    seen: Option<InstantSeries>,
+    found: Result<InstantSeries, RangeCause>,
+) -> Result<Option<InstantSeries>, RangeFault>
     ensures { result ≡ with_range number index seen found }
 {
     match found {
@@ -56,9 +56,9 @@ fn with_word(
     number: u64,
     index: usize,
     place: WordRole,
-    seen: Option<Series>,
+    seen: Option<InstantSeries>,
     word: &[u8],
-) -> Result<Option<Series>, RangeFault>
+) -> Result<Option<InstantSeries>, RangeFault>
     ensures { result ≡ with_word number index place seen word.now }
 {
     if is_range_at(place, word) {
@@ -71,9 +71,9 @@ fn with_word(
 #[tactic(auto, using(crate::proofs::Words::few_words))]
 fn words_ranged(
     number: u64,
-    seen: Option<Series>,
+    seen: Option<InstantSeries>,
     line: &[u8],
-) -> Result<Option<Series>, RangeFault>
+) -> Result<Option<InstantSeries>, RangeFault>
     ensures { result ≡ words_ranged number 0 WordRole.Begin seen (words_of line.now) }
 {
     let mut rest = Some(line);
@@ -98,7 +98,7 @@ fn words_ranged(
 /// # Errors
 ///
 /// The first line whose range is none, or is the second one.
-pub(crate) fn range_of(script: &[u8]) -> Result<Option<Series>, RangeFault>
+pub(crate) fn range_of(script: &[u8]) -> Result<Option<InstantSeries>, RangeFault>
     ensures { result ≡ range_of script.now }
 {
     let mut rest = script;

@@ -30,23 +30,23 @@ const MOST_INSTANTS: u64 = 1_000_000;
 
 /// The instants from one to another, one every so many microseconds.
 #[derive(Debug, Drop)]
-pub(crate) struct Series {
+pub(crate) struct InstantSeries {
     from: u64,
     to: u64,
     step: u64,
 }
 
-impl Model for Series {
-    ghost use Rattle.expect_sweep.specs.Series.{IsSeries, Series};
+impl Model for InstantSeries {
+    ghost use Rattle.expect_sweep.specs.Series.{IsSeries, InstantSeries};
 
-    ghost Value = { Series };
+    ghost Value = { InstantSeries };
 
     ghost view = { λ s. record { from = s.from; to = s.to; step = s.step } };
 
     ghost invariant = { λ s. IsSeries (record { from = s.from; to = s.to; step = s.step }) };
 }
 
-impl Series {
+impl InstantSeries {
     ghost use Rattle.expect_sweep.specs.Order.{last_of};
     ghost use Rattle.expect_sweep.specs.Series.{IsSeries, instants_of};
 
@@ -148,21 +148,21 @@ fn steps_between(from: u64, to: u64, step: u64) -> u64
     (to - from) / step
 }
 
-fn series_to(from: u64, to: u64, step: u64) -> Result<Series, RangeCause>
+fn series_to(from: u64, to: u64, step: u64) -> Result<InstantSeries, RangeCause>
     requires { (to ≤ latest_event) × (0 < step) }
     ensures { result ≡ series_to from to step }
 {
     if to < from {
         Err(RangeCause::Order)
     } else if steps_between(from, to, step) < MOST_INSTANTS {
-        Ok(Series { from, to, step })
+        Ok(InstantSeries { from, to, step })
     } else {
         Err(RangeCause::Range)
     }
 }
 
 // Up to a time, with a step or without.
-fn series_until(from: Option<u64>, text: &[u8]) -> Result<Series, RangeCause>
+fn series_until(from: Option<u64>, text: &[u8]) -> Result<InstantSeries, RangeCause>
     ensures { result ≡ series_until from text.now }
 {
     let slash = len_before(text, b'/');
@@ -183,7 +183,7 @@ fn series_until(from: Option<u64>, text: &[u8]) -> Result<Series, RangeCause>
 /// # Errors
 ///
 /// The first cause.
-pub(crate) fn series_in(word: &[u8]) -> Result<Series, RangeCause>
+pub(crate) fn series_in(word: &[u8]) -> Result<InstantSeries, RangeCause>
     ensures { result ≡ series_in word.now }
 {
     let point = len_before(word, b'.');

@@ -7,9 +7,9 @@ ghost use Rattle.expect_sweep.specs.Stretches.{draft_as};
 ghost use Rattle.expect_sweep.specs.Sweep.{AreVerdictsAt, IsRefusalAt, IsSweepCut, IsSweepReported, IsSwept, IsSweptDraft, IsSeriesReported, is_write};
 
 use crate::order::ordered_range;
-use crate::progress::{Hearer, tell};
+use crate::progress::{ProgressHearer, tell};
 use crate::script::{RangeFault, script_at};
-use crate::series::Series;
+use crate::series::InstantSeries;
 use crate::stretches::StretchesDraft;
 use expect_run::{CheckError, verdicts};
 use std::alloc::Global;
@@ -57,11 +57,11 @@ fn verdicts_at(
 }
 
 // The stretches of a series.
-fn swept<H: Hearer>(
+fn swept<H: ProgressHearer>(
     alloc: Global,
     topology: &[u8],
     script: &[u8],
-    series: &Series,
+    series: &InstantSeries,
     hearer: &mut H,
 ) -> Result<StretchesDraft, SweepError>
     ensures ok { IfOk result (λ draft. IsSweptDraft topology.now script.now series.now (draft_as draft)) }
@@ -105,7 +105,7 @@ fn swept<H: Hearer>(
 ///
 /// No range, or the first line whose range is refused, before the first run; the first instant at which the script is refused, and why: then nothing
 /// was written. A failed write: then the front of the lines was written, as long as it reports.
-pub fn sweep<S: Sink, H: Hearer>(
+pub fn sweep<S: Sink, H: ProgressHearer>(
     alloc: Global,
     topology: &[u8],
     script: &[u8],

@@ -5,8 +5,8 @@ use Rattle.line_frames.specs.declared.Ending.TheVariants.{Short, Silent, BadStar
 use Rattle.message_table.specs.Table.{operands_of}
 use Rattle.expect_text.specs.Parts.{is_met}
 use Rattle.expect_text.specs.Said.{any_below, header_parts, is_complete_met, is_ending_met, is_opcode_met, is_operand_met, is_poll_met, is_said, opcode_parts, raw_parts, verdict_parts, worded_parts}
-use Rattle.expect_text.specs.declared.part.Part.{Part}
-use Rattle.expect_text.specs.declared.part.Part.TheVariants.{Byte, Many, Opcode}
+use Rattle.expect_text.specs.declared.part.PatternPart.{PatternPart}
+use Rattle.expect_text.specs.declared.part.PatternPart.TheVariants.{Byte, Many, Opcode}
 use Rattle.expect_text.specs.declared.part.Class.TheVariants.{Any}
 use Rattle.expect_text.proofs.Meeting.{needs_front}
 
@@ -53,7 +53,7 @@ said_is pattern =
 module _ (is_broadcast : Bool) (pattern : List ℕ) where
   no_operand : (code : ℕ) (last_bit : Bool) → is_met (opcode_parts is_broadcast code ++ Many Any ∷ []) pattern ≡ false → is_operand_met is_broadcast code pattern last_bit ≡ false
   no_operand code last_bit none =
-      none_among (λ (operands : List Part). is_met (opcode_parts is_broadcast code ++ (operands ++ verdict_parts is_broadcast last_bit)) pattern)
+      none_among (λ (operands : List PatternPart). is_met (opcode_parts is_broadcast code ++ (operands ++ verdict_parts is_broadcast last_bit)) pattern)
       (λ operands. needs_front (opcode_parts is_broadcast code) (operands ++ verdict_parts is_broadcast last_bit) pattern none) (raw_parts ∷ worded_parts (operands_of code))
 
   no_opcode_at : (code : ℕ) → is_met (opcode_parts is_broadcast code ++ Many Any ∷ []) pattern ≡ false → is_opcode_met is_broadcast pattern code ≡ false

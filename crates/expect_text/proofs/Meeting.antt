@@ -10,8 +10,8 @@ use Rattle.expect_text.specs.Fits.{fits, in_word, after_byte as fits_byte}
 use Rattle.expect_text.specs.Parts.{IsTextOf, after_byte, after_many, after_one, after_set, after_text, after_word, has, is_met}
 use Rattle.expect_text.specs.declared.part.Class.{Class}
 use Rattle.expect_text.specs.declared.part.Class.TheVariants as classes
-use Rattle.expect_text.specs.declared.part.Part.{Part}
-use Rattle.expect_text.specs.declared.part.Part.TheVariants.{Byte, One, Many, Word, Opcode}
+use Rattle.expect_text.specs.declared.part.PatternPart.{PatternPart}
+use Rattle.expect_text.specs.declared.part.PatternPart.TheVariants.{Byte, One, Many, Word, Opcode}
 
 -- ---- truth
 
@@ -258,7 +258,7 @@ pub by_set : (set : WordSet) (met : List ℕ → Bool) (pattern : List ℕ) (wor
 unfolding after_set
 by_set set met pattern words same = ap (λ (ws : List NamedByte). after_word ws met pattern) same
 
-pub decides : (parts : List Part) → Decides (is_met parts) (IsTextOf parts)
+pub decides : (parts : List PatternPart) → Decides (is_met parts) (IsTextOf parts)
 unfolding after_set
 decides [] = record {
   only = λ pattern text t f. subst (λ x. fits pattern x ≡ true) t f;
@@ -290,7 +290,7 @@ decides (Opcode code ∷ parts) = let same = text_decides (is_met parts) (IsText
 -- ---- a front that no text has
 
 -- any text that begins with such a front
-front_of : (front rest : List Part) (text : List ℕ) → IsTextOf (front ++ rest) text → IsTextOf (front ++ Many classes.Any ∷ []) text
+front_of : (front rest : List PatternPart) (text : List ℕ) → IsTextOf (front ++ rest) text → IsTextOf (front ++ Many classes.Any ∷ []) text
 front_of [] rest text t = (text, [], all_any text, sym (append_none text), refl)
 front_of (Byte b ∷ front) rest text t = (t.0, t.1, front_of front rest t.0 t.2)
 front_of (One class ∷ front) rest text t = (t.0, t.1, t.2, t.3, front_of front rest t.1 t.4)
@@ -299,7 +299,7 @@ front_of (Word set ∷ front) rest text t = (t.0, t.1, t.2, t.3, t.4, front_of f
 front_of (Opcode code ∷ front) rest text t = (t.0, t.1, front_of front rest t.0 t.2)
 
 -- where no text with this front meets a pattern, none of more parts does
-pub needs_front : (front rest : List Part) (pattern : List ℕ) → is_met (front ++ Many classes.Any ∷ []) pattern ≡ false → is_met (front ++ rest) pattern ≡ false
+pub needs_front : (front rest : List PatternPart) (pattern : List ℕ) → is_met (front ++ Many classes.Any ∷ []) pattern ≡ false → is_met (front ++ rest) pattern ≡ false
 needs_front front rest pattern none = by (is_met (front ++ rest) pattern) refl
   where
     by : (b : Bool) → is_met (front ++ rest) pattern ≡ b → b ≡ false

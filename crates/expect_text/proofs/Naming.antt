@@ -2,23 +2,23 @@
 use Rattle.std.proofs.Common.{◌≡◌, ◌∙◌, ◌&&◌, ℕ, Bool, true, true≢false, codes, List, [], ◌∷◌, Option, Some, None, ap, refl, sym}
 use Rattle.expect_text.specs.Fits.{fits}
 use Rattle.expect_text.specs.Laws.{NamesAreMet}
-use Rattle.expect_text.specs.Names.{Named, for_byte, for_first, for_name, for_names, is_meetable, named_in, with_byte}
+use Rattle.expect_text.specs.Names.{NamedPattern, for_byte, for_first, for_name, for_names, is_meetable, named_in, with_byte}
 use Rattle.expect_text.specs.Said.{IsSaid, is_said}
 use Rattle.expect_text.proofs.Meeting.{and_both, either, first_of, or_left, or_right, second_of}
 use Rattle.expect_text.proofs.Saying.{patterns_are_met}
 
-first_by : (may_be : List ℕ → ℕ → Bool) (is_so : List ℕ → Bool) (pattern : List ℕ) (n : Option Named) → named_in pattern ≡ n → for_first may_be is_so pattern ≡ for_name may_be is_so pattern n
+first_by : (may_be : List ℕ → ℕ → Bool) (is_so : List ℕ → Bool) (pattern : List ℕ) (n : Option NamedPattern) → named_in pattern ≡ n → for_first may_be is_so pattern ≡ for_name may_be is_so pattern n
 unfolding for_first
 first_by may_be is_so pattern n e = ap (for_name may_be is_so pattern) e
 
-names_by : (may_be : List ℕ → ℕ → Bool) (is_so : List ℕ → Bool) (pattern : List ℕ) (n : Option Named) → named_in pattern ≡ n → for_names may_be is_so pattern ≡ for_name may_be (for_first may_be is_so) pattern n
+names_by : (may_be : List ℕ → ℕ → Bool) (is_so : List ℕ → Bool) (pattern : List ℕ) (n : Option NamedPattern) → named_in pattern ≡ n → for_names may_be is_so pattern ≡ for_name may_be (for_first may_be is_so) pattern n
 unfolding for_names
 names_by may_be is_so pattern n e = first_by may_be (for_first may_be is_so) pattern n e
 
 pub names_none : (may_be : List ℕ → ℕ → Bool) (is_so : List ℕ → Bool) (pattern : List ℕ) → named_in pattern ≡ None → for_names may_be is_so pattern ≡ is_so pattern
 names_none may_be is_so pattern e = names_by may_be is_so pattern None e ∙ first_by may_be is_so pattern None e
 
-pub names_some : (may_be : List ℕ → ℕ → Bool) (is_so : List ℕ → Bool) (pattern : List ℕ) (n : Named) → named_in pattern ≡ Some n
+pub names_some : (may_be : List ℕ → ℕ → Bool) (is_so : List ℕ → Bool) (pattern : List ℕ) (n : NamedPattern) → named_in pattern ≡ Some n
     → for_names may_be is_so pattern ≡ for_byte may_be (for_first may_be is_so) n (codes "0123456789abcde")
 names_some may_be is_so pattern n e = names_by may_be is_so pattern (Some n) e
 
@@ -29,7 +29,7 @@ abbrev Reached : (List ℕ → ℕ → Bool) → (List ℕ → Bool) → ((List 
 Reached may_be is_so whole = (r : List ℕ) × (is_so r ≡ true)
     × ((other : List ℕ → ℕ → Bool) (is : List ℕ → Bool) → ((name : List ℕ) (b : ℕ) → may_be name b ≡ true → other name b ≡ true) → is r ≡ true → whole other is ≡ true)
 
-by_byte : (may_be : List ℕ → ℕ → Bool) (is_so : List ℕ → Bool) (n : Named) (bytes : List ℕ) → for_byte may_be is_so n bytes ≡ true
+by_byte : (may_be : List ℕ → ℕ → Bool) (is_so : List ℕ → Bool) (n : NamedPattern) (bytes : List ℕ) → for_byte may_be is_so n bytes ≡ true
     → Reached may_be is_so (λ other is. for_byte other is n bytes)
 by_byte may_be is_so n [] h = absurd (true≢false (sym h))
 by_byte may_be is_so n (b ∷ bytes) h = either (may_be n.name b && is_so (with_byte n b)) (for_byte may_be is_so n bytes) h
@@ -43,7 +43,7 @@ by_byte may_be is_so n (b ∷ bytes) h = either (may_be n.name b && is_so (with_
     let r = by_byte may_be is_so n bytes e in
     (r.0, r.1, λ other is wider k. or_right (other n.name b && is (with_byte n b)) (for_byte other is n bytes) (r.2 other is wider k)))
 
-by_name : (may_be : List ℕ → ℕ → Bool) (is_so : List ℕ → Bool) (pattern : List ℕ) (n : Option Named) → for_name may_be is_so pattern n ≡ true
+by_name : (may_be : List ℕ → ℕ → Bool) (is_so : List ℕ → Bool) (pattern : List ℕ) (n : Option NamedPattern) → for_name may_be is_so pattern n ≡ true
     → Reached may_be is_so (λ other is. for_name other is pattern n)
 by_name may_be is_so pattern None h = (pattern, h, λ other is wider k. k)
 by_name may_be is_so pattern (Some n) h = by_byte may_be is_so n (codes "0123456789abcde") h

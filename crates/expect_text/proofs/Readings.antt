@@ -23,15 +23,15 @@ use Rattle.message_text.specs.ReadingText.{bit_digit, verdict_by}
 use Rattle.expect_text.specs.Laws.{ReadingsAreSaid, bits_said, frame_said}
 use Rattle.expect_text.specs.Parts.{IsTextOf, has}
 use Rattle.expect_text.specs.Said.{IsSaid, bitless_parts, bits_parts, ending_word, header_parts, literal, opcode_parts, operand_parts, quoted_parts, raw_parts, sender_parts, verdict_parts, worded_parts}
-use Rattle.expect_text.specs.declared.part.Part.{Part}
-use Rattle.expect_text.specs.declared.part.Part.TheVariants.{Byte, One, Many, Word, Opcode}
+use Rattle.expect_text.specs.declared.part.PatternPart.{PatternPart}
+use Rattle.expect_text.specs.declared.part.PatternPart.TheVariants.{Byte, One, Many, Word, Opcode}
 use Rattle.expect_text.specs.declared.part.Class.TheVariants.{Hex, Directed, Digit, Bit, Unspaced}
 use Rattle.expect_text.proofs.Meeting.{and_both, first_of, second_of, append_none}
 
 -- ---- parts
 
 -- one text after another
-pub texts_after : (xs ys : List Part) (t u : List ℕ) → IsTextOf xs t → IsTextOf ys u → IsTextOf (xs ++ ys) (t ++ u)
+pub texts_after : (xs ys : List PatternPart) (t u : List ℕ) → IsTextOf xs t → IsTextOf ys u → IsTextOf (xs ++ ys) (t ++ u)
 texts_after [] ys t u s r = subst (λ (x : List ℕ). IsTextOf ys (x ++ u)) (sym s) r
 texts_after (Byte b ∷ xs) ys t u s r = (s.0 ++ u, ap (λ (x : List ℕ). x ++ u) s.1, texts_after xs ys s.0 u s.2 r)
 texts_after (One class ∷ xs) ys t u s r = (s.0, s.1 ++ u, s.2, ap (λ (x : List ℕ). x ++ u) s.3, texts_after xs ys s.1 u s.4 r)
@@ -72,7 +72,7 @@ pub low : (b : ℕ) → b % 16 < 16
 low b = grind (arith, common_steps)
 
 -- two hex digits before other parts
-pub two_digits : (parts : List Part) (b : ℕ) (more : List ℕ) → nat_lt b 256 ≡ true → IsTextOf parts more → IsTextOf (One Hex ∷ One Hex ∷ parts) (hex_text b ++ more)
+pub two_digits : (parts : List PatternPart) (b : ℕ) (more : List ℕ) → nat_lt b 256 ≡ true → IsTextOf parts more → IsTextOf (One Hex ∷ One Hex ∷ parts) (hex_text b ++ more)
 two_digits parts b more h t = (digit (b / 16), digit (b % 16) ∷ more, hex_digit (b / 16) (high b h), refl, (digit (b % 16), more, hex_digit (b % 16) (low b), refl, t))
 
 pub all_hex : (xs : List ℕ) → are_bytes xs ≡ true → list_all (has Hex) (flat_map hex_text xs) ≡ true
@@ -105,7 +105,7 @@ word_at (w ∷ words) byte text e = by (w.code == byte) e (word_at words byte te
     by false k later = let r = later k in (suc r.0, r.1, r.2, r.3)
 
 -- a word of a set after a space, before other parts
-word_before : (set : WordSet) (byte : ℕ) (parts : List Part) (t more : List ℕ) → spaced_word set byte ≡ Some t → IsTextOf parts more → IsTextOf (Byte 32 ∷ Word set ∷ parts) (t ++ more)
+word_before : (set : WordSet) (byte : ℕ) (parts : List PatternPart) (t more : List ℕ) → spaced_word set byte ≡ Some t → IsTextOf parts more → IsTextOf (Byte 32 ∷ Word set ∷ parts) (t ++ more)
 word_before set byte parts t more e r = by (word_of (words_of set) byte) refl e
   where
     by : (o : Option (List ℕ)) → word_of (words_of set) byte ≡ o → option_map (λ (w : List ℕ). 32 ∷ w) o ≡ Some t → IsTextOf (Byte 32 ∷ Word set ∷ parts) (t ++ more)
@@ -197,7 +197,7 @@ operand_is operand.Address (a ∷ b ∷ c ∷ xs) t h e = none_some t e
 
 -- words of a row
 abbrev Worded : Operands → List ℕ → Type 0
-Worded form t = (place : ℕ) × (parts : List Part) × (slice_get (worded_parts form) place ≡ Some parts) × IsTextOf parts t
+Worded form t = (place : ℕ) × (parts : List PatternPart) × (slice_get (worded_parts form) place ≡ Some parts) × IsTextOf parts t
 
 bytes_taken : (n : ℕ) (xs : List ℕ) → are_bytes xs ≡ true → are_bytes (take n xs) ≡ true
 bytes_taken zero xs h = refl
@@ -302,10 +302,10 @@ worded (operands.WordAndText set) (byte ∷ x ∷ xs) t h e = word_and_text_is s
 
 -- the text of operands, in words or as they are
 operands_are : (form : Operands) (xs : List ℕ) → are_bytes xs ≡ true
-    → (place : ℕ) × (parts : List Part) × (slice_get (raw_parts ∷ worded_parts form) place ≡ Some parts) × IsTextOf parts (operands_text form xs)
+    → (place : ℕ) × (parts : List PatternPart) × (slice_get (raw_parts ∷ worded_parts form) place ≡ Some parts) × IsTextOf parts (operands_text form xs)
 operands_are form xs h = by (operand_words form xs) refl
   where
-    by : (o : Option (List ℕ)) → operand_words form xs ≡ o → (place : ℕ) × (parts : List Part) × (slice_get (raw_parts ∷ worded_parts form) place ≡ Some parts) × IsTextOf parts (unwrap_or o (raw_text xs))
+    by : (o : Option (List ℕ)) → operand_words form xs ≡ o → (place : ℕ) × (parts : List PatternPart) × (slice_get (raw_parts ∷ worded_parts form) place ≡ Some parts) × IsTextOf parts (unwrap_or o (raw_text xs))
     by None k = (0, raw_parts, refl, (58 ∷ flat_map hex_text xs, refl, (flat_map hex_text xs, refl, (flat_map hex_text xs, [], all_hex xs h, sym (append_none (flat_map hex_text xs)), refl))))
     by (Some t) k = let r = worded form xs t h k in (suc r.0, r.1, r.2, r.3)
 

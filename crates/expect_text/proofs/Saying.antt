@@ -9,7 +9,7 @@ use Rattle.expect_text.specs.Fits.{fits}
 use Rattle.expect_text.specs.Laws.{PatternsAreMet}
 use Rattle.expect_text.specs.Parts.{is_met}
 use Rattle.expect_text.specs.Said.{IsEndingSaid, IsFrameSaid, IsPollSaid, IsSaid, any_below, bitless_parts, bits_parts, header_parts, is_complete_met, is_ending_met, is_opcode_met, is_operand_met, is_poll_met, is_said, opcode_parts, raw_parts, verdict_parts, worded_parts}
-use Rattle.expect_text.specs.declared.part.Part.{Part}
+use Rattle.expect_text.specs.declared.part.PatternPart.{PatternPart}
 use Rattle.expect_text.proofs.Meeting.{any_only, any_some, decides, either, or_left, or_right}
 
 -- ---- numbers
@@ -82,7 +82,7 @@ module _ (pattern : List ℕ) where
   frame_only text (is_broadcast, last_bit, code, place, operands, l, e, t) f =
       let met = (decides (opcode_parts is_broadcast code ++ (operands ++ verdict_parts is_broadcast last_bit))).only pattern text t f in
       complete_of is_broadcast (opcode_of is_broadcast code l (operand_of is_broadcast last_bit code
-      (any_only (λ (operands : List Part). is_met (opcode_parts is_broadcast code ++ (operands ++ verdict_parts is_broadcast last_bit)) pattern) (raw_parts ∷ worded_parts (operands_of code)) place operands e met)))
+      (any_only (λ (operands : List PatternPart). is_met (opcode_parts is_broadcast code ++ (operands ++ verdict_parts is_broadcast last_bit)) pattern) (raw_parts ∷ worded_parts (operands_of code)) place operands e met)))
 
   ending_only : (text : List ℕ) → IsEndingSaid text → fits pattern text ≡ true → is_said pattern ≡ true
   ending_only text (ending, inl t) f =
@@ -102,7 +102,7 @@ module _ (pattern : List ℕ) where
 
   operand_some : (is_broadcast last_bit : Bool) (code : ℕ) → code < 256 → is_operand_met is_broadcast code pattern last_bit ≡ true → Met
   operand_some is_broadcast last_bit code l h =
-      let a = any_some (λ (operands : List Part). is_met (opcode_parts is_broadcast code ++ (operands ++ verdict_parts is_broadcast last_bit)) pattern) (raw_parts ∷ worded_parts (operands_of code)) h in
+      let a = any_some (λ (operands : List PatternPart). is_met (opcode_parts is_broadcast code ++ (operands ++ verdict_parts is_broadcast last_bit)) pattern) (raw_parts ∷ worded_parts (operands_of code)) h in
       let r = (decides (opcode_parts is_broadcast code ++ (a.1 ++ verdict_parts is_broadcast last_bit))).some pattern a.3 in
       (r.0, inr (inl (is_broadcast, last_bit, code, a.0, a.1, l, a.2, r.1)), r.2)
 

@@ -12,10 +12,10 @@ use Rattle.expect_text.specs.Parts.{IsTextOf, has}
 use Rattle.expect_text.specs.StateTest.{by_front, by_many, by_one, fields, is_bare, is_empty, is_of_field, is_pair, is_second, is_state_word, is_text, is_text_or_dash, is_value}
 use Rattle.expect_text.specs.StateWords.{IsBare, IsDash, IsField, IsPair, IsStateWord, IsUnit, IsValue, key, note_parts, number_parts, physical_parts, value_of}
 use Rattle.expect_text.specs.declared.part.Class.TheVariants.{Hex}
-use Rattle.expect_text.specs.declared.part.Part.{Part}
-use Rattle.expect_text.specs.declared.part.Part.TheVariants.{Byte, One, Many, Word, Opcode}
-use Rattle.expect_text.specs.declared.state_words.Field.{Field}
-use Rattle.expect_text.specs.declared.state_words.Field.TheVariants.{Active, Path, Deck, Menu, Audio, Volume, Mute, Arc, Selected, Language, Osd, Held, Heard, Sub, Queue, Dropped}
+use Rattle.expect_text.specs.declared.part.PatternPart.{PatternPart}
+use Rattle.expect_text.specs.declared.part.PatternPart.TheVariants.{Byte, One, Many, Word, Opcode}
+use Rattle.expect_text.specs.declared.state_words.StateField.{StateField}
+use Rattle.expect_text.specs.declared.state_words.StateField.TheVariants.{Active, Path, Deck, Menu, Audio, Volume, Mute, Arc, Selected, Language, Osd, Held, Heard, Sub, Queue, Dropped}
 use Rattle.expect_text.specs.declared.state_words.Value.{Value}
 use Rattle.expect_text.specs.declared.state_words.Value.TheVariants as value
 use Rattle.expect_text.proofs.Meeting.{and_both, either, first_of, or_left, or_right, second_of}
@@ -37,7 +37,7 @@ text_itself x y h = (bytes_eq-Decides x y).1 h
 -- ---- texts of parts
 
 -- none is a word of a set or an opcode
-abbrev is_plain : List Part → Bool
+abbrev is_plain : List PatternPart → Bool
 is_plain [] = true
 is_plain (Byte b ∷ parts) = is_plain parts
 is_plain (One class ∷ parts) = is_plain parts
@@ -72,7 +72,7 @@ many_have may_be test (b ∷ bs) more h k =
     or_right (test (b ∷ (bs ++ more))) (may_be b && by_many may_be test (bs ++ more))
     (and_both (may_be b) (by_many may_be test (bs ++ more)) (first_of (may_be b) (list_all may_be bs) h) (many_have may_be test bs more (second_of (may_be b) (list_all may_be bs) h) k))
 
-text_found : (parts : List Part) → is_plain parts ≡ true → Found (is_text parts) (IsTextOf parts)
+text_found : (parts : List PatternPart) → is_plain parts ≡ true → Found (is_text parts) (IsTextOf parts)
 text_found [] p [] h = refl
 text_found [] p (x ∷ xs) h = absurd (true≢false (sym h))
 text_found (Byte b ∷ parts) p [] h = absurd (true≢false (sym h))
@@ -85,7 +85,7 @@ text_found (Many class ∷ parts) p text h = many_found (has class) (is_text par
 text_found (Word set ∷ parts) p text h = absurd (true≢false (sym h))
 text_found (Opcode code ∷ parts) p text h = absurd (true≢false (sym h))
 
-text_have : (parts : List Part) → is_plain parts ≡ true → Have (is_text parts) (IsTextOf parts)
+text_have : (parts : List PatternPart) → is_plain parts ≡ true → Have (is_text parts) (IsTextOf parts)
 text_have [] p text h = ap is_empty h
 text_have (Byte b ∷ parts) p text h =
     ap (by_one (λ x. x == b) (is_text parts)) h.1 ∙ and_both (b == b) (is_text parts h.0) (itself b) (text_have parts p h.0 h.2)
@@ -97,11 +97,11 @@ text_have (Word set ∷ parts) p text h = absurd (true≢false (sym p))
 text_have (Opcode code ∷ parts) p text h = absurd (true≢false (sym p))
 
 -- or `-`
-dashed_found : (parts : List Part) → is_plain parts ≡ true → (text : List ℕ) → is_text_or_dash parts text ≡ true → IsTextOf parts text ⊎ IsDash text
+dashed_found : (parts : List PatternPart) → is_plain parts ≡ true → (text : List ℕ) → is_text_or_dash parts text ≡ true → IsTextOf parts text ⊎ IsDash text
 dashed_found parts p text h =
     either (is_text parts text) (bytes_eq text (codes "-")) h (λ k. inl (text_found parts p text k)) (λ k. inr (same_text text (codes "-") k))
 
-dashed_have : (parts : List Part) → is_plain parts ≡ true → (text : List ℕ) → IsTextOf parts text ⊎ IsDash text → is_text_or_dash parts text ≡ true
+dashed_have : (parts : List PatternPart) → is_plain parts ≡ true → (text : List ℕ) → IsTextOf parts text ⊎ IsDash text → is_text_or_dash parts text ≡ true
 dashed_have parts p text (inl h) = or_left (is_text parts text) (bytes_eq text (codes "-")) (text_have parts p text h)
 dashed_have parts p text (inr h) = or_right (is_text parts text) (bytes_eq text (codes "-")) (text_itself text (codes "-") h)
 
@@ -161,7 +161,7 @@ any_at test [] place x e h = cc
 any_at test (y ∷ ys) zero x e h = let same : y ≡ x = cc in or_left (test y) (list_any test ys) (ap test same ∙ h)
 any_at test (y ∷ ys) (suc n) x e h = or_right (test y) (list_any test ys) (any_at test ys n x e h)
 
-is_any : (word : List ℕ) (field : Field) → is_of_field word field ≡ true → list_any (is_of_field word) fields ≡ true
+is_any : (word : List ℕ) (field : StateField) → is_of_field word field ≡ true → list_any (is_of_field word) fields ≡ true
 is_any word Active h = any_at (is_of_field word) fields 0 Active refl h
 is_any word Path h = any_at (is_of_field word) fields 1 Path refl h
 is_any word Deck h = any_at (is_of_field word) fields 2 Deck refl h

@@ -10,12 +10,12 @@ use Rattle.text_core.specs.Words.{words_of}
 use Rattle.text_core.specs.Number.{number_of}
 use Rattle.expect_text.specs.Line.{label_in, unlabelled_words, is_event, is_labelable}
 use Rattle.expect_text.specs.Fault.{after_label, at_word}
-use Rattle.expect_text.specs.Form.{Form, Window, form_in, in_window}
-use Rattle.expect_text.specs.Names.{Named, is_meetable, named_in, unmet_word}
+use Rattle.expect_text.specs.Form.{ExpectLine, ExpectWindow, form_in, in_window}
+use Rattle.expect_text.specs.Names.{NamedPattern, is_meetable, named_in, unmet_word}
 use Rattle.expect_text.specs.StateTest.{strange_word}
-use Rattle.expect_text.specs.Form.Form.{Other, Rounds, State, Refused}
-use Rattle.expect_text.specs.Form.Window.{Within, From}
-use Rattle.expect_text.specs.declared.fault.LineFault.{LineFault}
+use Rattle.expect_text.specs.Form.ExpectLine.{Other, Rounds, State, Refused}
+use Rattle.expect_text.specs.Form.ExpectWindow.{Within, From}
+use Rattle.expect_text.specs.declared.fault.ExpectLineFault.{ExpectLineFault}
 use Rattle.expect_text.specs.declared.form.ExpectCause.TheVariants.{Word, Name, Label, Order, Unmet}
 use Rattle.expect_text.specs.declared.form.Quantity.{Quantity}
 use Rattle.expect_text.specs.declared.faults.ExpectFault.{ExpectFault}
@@ -109,15 +109,15 @@ ends_before script time = list_any (λ line. is_past time (end_in (unlabelled_wo
 
 -- ---- lines at fault
 
-abbrev pub window_fault : List ℕ → ℕ → Quantity → Window → Option LineFault
+abbrev pub window_fault : List ℕ → ℕ → Quantity → ExpectWindow → Option ExpectLineFault
 window_fault script number quantity (Within duration name) = if is_above number (line_of_label script name) then None else Some (in_window quantity 3 Label)
 window_fault script number quantity (From from to) = if nat_lt to from then Some (in_window quantity 3 Order) else None
 
 -- no line of a round meets the pattern
-abbrev pub pattern_fault : Quantity → List ℕ → Option LineFault
+abbrev pub pattern_fault : Quantity → List ℕ → Option ExpectLineFault
 pattern_fault quantity pattern = if is_meetable pattern then None else Some (in_window quantity (4 + unmet_word pattern) Unmet)
 
-abbrev pub or_fault : Option LineFault → Option LineFault → Option LineFault
+abbrev pub or_fault : Option ExpectLineFault → Option ExpectLineFault → Option ExpectLineFault
 or_fault None other = other
 or_fault (Some fault) other = Some fault
 
@@ -132,49 +132,49 @@ refusal_word None = 2
 refusal_word (Some name) = 3
 
 -- there is no such event above, or no event is refused with this word
-abbrev pub refusal_fault : List ℕ → ℕ → Option (List ℕ) → List ℕ → Option LineFault
+abbrev pub refusal_fault : List ℕ → ℕ → Option (List ℕ) → List ℕ → Option ExpectLineFault
 refusal_fault script number name word =
     if is_above number (event_meant script number name) then (if is_refusal word then None else Some (at_word (refusal_word name) Unmet)) else Some (at_word 2 Label)
 
 -- no state line has one of the words
-abbrev pub strange_fault : Option ℕ → Option LineFault
+abbrev pub strange_fault : Option ℕ → Option ExpectLineFault
 strange_fault None = None
 strange_fault (Some word) = Some (at_word word Unmet)
 
 -- the script ends before the time, or a word is in no state line
-abbrev pub state_fault : List ℕ → ℕ → List (List ℕ) → Option LineFault
+abbrev pub state_fault : List ℕ → ℕ → List (List ℕ) → Option ExpectLineFault
 state_fault script time words = if ends_before script time then Some (at_word 2 Order) else strange_fault (strange_word words)
 
-abbrev pub form_fault : List ℕ → ℕ → Form → Option LineFault
+abbrev pub form_fault : List ℕ → ℕ → ExpectLine → Option ExpectLineFault
 form_fault script number Other = None
 form_fault script number (Rounds quantity window pattern) = or_fault (window_fault script number quantity window) (pattern_fault quantity pattern)
 form_fault script number (State time device words) = state_fault script time words
 form_fault script number (Refused name word) = refusal_fault script number name word
 
 -- a name of a pattern that is not declared, and then one after it
-abbrev pub is_strange_name : List ℕ → Option Named → Bool
+abbrev pub is_strange_name : List ℕ → Option NamedPattern → Bool
 is_strange_name topology None = false
 is_strange_name topology (Some n) = not (is_declared topology n.name)
 
-abbrev pub has_strange_name : List ℕ → Option Named → Bool
+abbrev pub has_strange_name : List ℕ → Option NamedPattern → Bool
 has_strange_name topology None = false
 has_strange_name topology (Some n) = not (is_declared topology n.name) || is_strange_name topology (named_in n.rest)
 
 -- it names a device that is not declared
-abbrev pub is_strange : List ℕ → Form → Bool
+abbrev pub is_strange : List ℕ → ExpectLine → Bool
 is_strange topology Other = false
 is_strange topology (Rounds quantity window pattern) = has_strange_name topology (named_in pattern)
 is_strange topology (State time device words) = not (is_declared topology device)
 is_strange topology (Refused name word) = false
 
 -- the word that names it
-abbrev pub strange_at : Form → LineFault
+abbrev pub strange_at : ExpectLine → ExpectLineFault
 strange_at Other = at_word 3 Name
 strange_at (Rounds quantity window pattern) = in_window quantity 4 Name
 strange_at (State time device words) = at_word 3 Name
 strange_at (Refused name word) = at_word 3 Name
 
-abbrev pub fault_by : List ℕ → List ℕ → ℕ → Option (List ℕ) → Result Form LineFault → Option LineFault
+abbrev pub fault_by : List ℕ → List ℕ → ℕ → Option (List ℕ) → Result ExpectLine ExpectLineFault → Option ExpectLineFault
 fault_by topology script number label (Err fault) = Some (after_label label fault)
 fault_by topology script number label (Ok form) =
     if is_strange topology form then Some (after_label label (strange_at form))
@@ -182,15 +182,15 @@ fault_by topology script number label (Ok form) =
     else Some (at_word 1 Label)
 
 -- what a line says without its label, which stands before no other line
-abbrev pub labelled_form : Option (List ℕ) → List (List ℕ) → Result Form LineFault
+abbrev pub labelled_form : Option (List ℕ) → List (List ℕ) → Result ExpectLine ExpectLineFault
 labelled_form None words = form_in words
 labelled_form (Some name) words = if is_labelable words then form_in words else Err (at_word 0 Word)
 
 -- why a line is refused, and its word at fault
-abbrev pub line_fault : List ℕ → List ℕ → ℕ → List ℕ → Option LineFault
+abbrev pub line_fault : List ℕ → List ℕ → ℕ → List ℕ → Option ExpectLineFault
 line_fault topology script number line = fault_by topology script number (label_in (words_of line)) (labelled_form (label_in (words_of line)) (unlabelled_words (words_of line)))
 
-abbrev pub fault_or : ℕ → Option LineFault → Option ExpectFault → Option ExpectFault
+abbrev pub fault_or : ℕ → Option ExpectLineFault → Option ExpectFault → Option ExpectFault
 fault_or number None next = next
 fault_or number (Some fault) next = Some (record { line = number; cause = fault.cause; word = fault.word })
 

@@ -5,22 +5,22 @@ use Rattle.std.specs.List.{list_any}
 use Rattle.text_core.specs.Lines.{lines_of}
 use Rattle.text_core.specs.Words.{words_of}
 use Rattle.expect_text.specs.Fits.{fits}
-use Rattle.expect_text.specs.Form.{Form, form_in}
-use Rattle.expect_text.specs.Form.Form.{Other, Rounds, State, Refused}
+use Rattle.expect_text.specs.Form.{ExpectLine, form_in}
+use Rattle.expect_text.specs.Form.ExpectLine.{Other, Rounds, State, Refused}
 use Rattle.expect_text.specs.Line.{unlabelled_words}
 use Rattle.expect_text.specs.Said.{is_said}
-use Rattle.expect_text.specs.declared.fault.LineFault.{LineFault}
-use Rattle.expect_text.specs.declared.named.Named.{Named as NamedRead}
+use Rattle.expect_text.specs.declared.fault.ExpectLineFault.{ExpectLineFault}
+use Rattle.expect_text.specs.declared.named.NamedPattern.{NamedPattern as NamedRead}
 
 -- ---- the first name of a pattern
 
 -- what stands before its `@`, the name, and what stands after it
-pub record Named : Type 0 where
+pub record NamedPattern : Type 0 where
   pub front : List ℕ
   pub name : List ℕ
   pub rest : List ℕ
 
-abbrev pub named_as : NamedRead → Named
+abbrev pub named_as : NamedRead → NamedPattern
 named_as n = record { front = n.front.now; name = n.name.now; rest = n.rest.now }
 
 -- the place of the first `@` of the first word
@@ -34,29 +34,29 @@ name_length [] = 0
 name_length (b ∷ bs) = if (b == 62) || (b == 32) then 0 else name_length bs + 1
 
 -- a name goes up to a `>`, a space, or the end
-abbrev pub named_after : List ℕ → List ℕ → Named
+abbrev pub named_after : List ℕ → List ℕ → NamedPattern
 named_after front text = record { front = front; name = take (name_length text) text; rest = drop (name_length text) text }
 
-abbrev pub named_at : List ℕ → Option ℕ → Option Named
+abbrev pub named_at : List ℕ → Option ℕ → Option NamedPattern
 named_at pattern None = None
 named_at pattern (Some place) = Some (named_after (take place pattern) (drop 1 (drop place pattern)))
 
 -- a pattern has at most 160 bytes
-unfoldable pub named_in : List ℕ → Option Named
+unfoldable pub named_in : List ℕ → Option NamedPattern
 named_in pattern = if nat_le (length pattern) 160 then named_at pattern (at_place pattern) else None
 
 -- ---- addresses in the place of names
 
 -- with this byte in the place of the name
-abbrev pub with_byte : Named → ℕ → List ℕ
+abbrev pub with_byte : NamedPattern → ℕ → List ℕ
 with_byte n b = n.front ++ b ∷ n.rest
 
 -- one of these bytes that may stand for the name makes the pattern so
-abbrev pub for_byte : (List ℕ → ℕ → Bool) → (List ℕ → Bool) → Named → List ℕ → Bool
+abbrev pub for_byte : (List ℕ → ℕ → Bool) → (List ℕ → Bool) → NamedPattern → List ℕ → Bool
 for_byte may_be is_so n bytes = list_any (λ b. may_be n.name b && is_so (with_byte n b)) bytes
 
 -- an address of a device is below 15
-abbrev pub for_name : (List ℕ → ℕ → Bool) → (List ℕ → Bool) → List ℕ → Option Named → Bool
+abbrev pub for_name : (List ℕ → ℕ → Bool) → (List ℕ → Bool) → List ℕ → Option NamedPattern → Bool
 for_name may_be is_so pattern None = is_so pattern
 for_name may_be is_so pattern (Some n) = for_byte may_be is_so n (codes "0123456789abcde")
 
@@ -118,7 +118,7 @@ unmet_word pattern = unmet_from pattern 0 0 pattern
 
 -- ---- scripts with names
 
-abbrev pub form_has_name : Result Form LineFault → Bool
+abbrev pub form_has_name : Result ExpectLine ExpectLineFault → Bool
 form_has_name (Err cause) = false
 form_has_name (Ok Other) = false
 form_has_name (Ok (Rounds quantity window pattern)) = is_some (named_in pattern)

@@ -7,8 +7,8 @@ use Rattle.message_text.specs.FrameText.{is_letter, is_text_byte, opcode_text}
 use Rattle.expect_text.specs.Fits.{fits}
 use Rattle.expect_text.specs.declared.part.Class.{Class}
 use Rattle.expect_text.specs.declared.part.Class.TheVariants.{Hex, Directed, Digit, Bit, Letter, Quotable, Unspaced, Any}
-use Rattle.expect_text.specs.declared.part.Part.{Part}
-use Rattle.expect_text.specs.declared.part.Part.TheVariants.{Byte, One, Many, Word, Opcode}
+use Rattle.expect_text.specs.declared.part.PatternPart.{PatternPart}
+use Rattle.expect_text.specs.declared.part.PatternPart.TheVariants.{Byte, One, Many, Word, Opcode}
 
 abbrev pub is_digit : ℕ → Bool
 is_digit b = nat_le 48 b && nat_le b 57
@@ -27,7 +27,7 @@ has Any b = true
 -- ---- the texts of some parts
 
 -- a byte, one byte of a class, any number of bytes of a class, a word of a set, or an opcode's name
-abbrev pub IsTextOf : List Part → List ℕ → Type 0
+abbrev pub IsTextOf : List PatternPart → List ℕ → Type 0
 IsTextOf [] text = text ≡ []
 IsTextOf (Byte b ∷ parts) text = (more : List ℕ) × (text ≡ b ∷ more) × IsTextOf parts more
 IsTextOf (One class ∷ parts) text = (b : ℕ) × (more : List ℕ) × (has class b ≡ true) × (text ≡ b ∷ more) × IsTextOf parts more
@@ -64,7 +64,7 @@ unfoldable pub after_set : WordSet → (List ℕ → Bool) → List ℕ → Bool
 after_set set met pattern = after_word (words_of set) met pattern
 
 -- a text of these parts meets the pattern
-abbrev pub is_met : List Part → List ℕ → Bool
+abbrev pub is_met : List PatternPart → List ℕ → Bool
 is_met [] pattern = fits pattern []
 is_met (Byte b ∷ parts) pattern = after_byte b (is_met parts) pattern
 is_met (One class ∷ parts) pattern = after_one (has class) true (is_met parts) pattern
@@ -78,7 +78,7 @@ abbrev pub all_bytes : List NamedByte → ℕ
 all_bytes [] = 0
 all_bytes (w ∷ words) = 1 + length w.text + all_bytes words
 
-abbrev pub weight : List Part → ℕ
+abbrev pub weight : List PatternPart → ℕ
 weight [] = 0
 weight (Byte b ∷ parts) = 1 + weight parts
 weight (One class ∷ parts) = 1 + weight parts

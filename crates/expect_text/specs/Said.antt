@@ -12,16 +12,16 @@ use Rattle.message_table.specs.declared.operand.Operands.{Operands}
 use Rattle.message_table.specs.declared.operand.Operands.TheVariants as operands
 use Rattle.message_text.specs.ReadingText.{verdict_by}
 use Rattle.expect_text.specs.Parts.{IsTextOf, is_met}
-use Rattle.expect_text.specs.declared.part.Part.{Part}
-use Rattle.expect_text.specs.declared.part.Part.TheVariants.{Byte, One, Many, Word, Opcode}
+use Rattle.expect_text.specs.declared.part.PatternPart.{PatternPart}
+use Rattle.expect_text.specs.declared.part.PatternPart.TheVariants.{Byte, One, Many, Word, Opcode}
 use Rattle.expect_text.specs.declared.part.Class.TheVariants.{Hex, Directed, Digit, Bit, Letter, Quotable, Unspaced}
 
-abbrev pub literal : List ℕ → List Part
+abbrev pub literal : List ℕ → List PatternPart
 literal text = map Byte text
 
 -- ---- operands, each after a space
 
-abbrev pub operand_parts : Operand → List Part
+abbrev pub operand_parts : Operand → List PatternPart
 operand_parts operand.Byte = Byte 32 ∷ One Hex ∷ One Hex ∷ []
 operand_parts (operand.Word set) = Byte 32 ∷ Word set ∷ []
 operand_parts operand.Language = Byte 32 ∷ One Letter ∷ One Letter ∷ One Letter ∷ []
@@ -29,15 +29,15 @@ operand_parts operand.Vendor = Byte 32 ∷ One Hex ∷ One Hex ∷ One Hex ∷ O
 operand_parts operand.Address = Byte 32 ∷ One Hex ∷ Byte 46 ∷ One Hex ∷ Byte 46 ∷ One Hex ∷ Byte 46 ∷ One Hex ∷ []
 
 -- a text in quotes
-abbrev pub quoted_parts : List Part
+abbrev pub quoted_parts : List PatternPart
 quoted_parts = Byte 32 ∷ Byte 34 ∷ Many Quotable ∷ Byte 34 ∷ []
 
 -- operands as they are
-abbrev pub raw_parts : List Part
+abbrev pub raw_parts : List PatternPart
 raw_parts = Byte 32 ∷ Byte 58 ∷ Many Hex ∷ []
 
 -- the words of operands that fit their row
-abbrev pub worded_parts : Operands → List (List Part)
+abbrev pub worded_parts : Operands → List (List PatternPart)
 worded_parts operands.Raw = []
 worded_parts operands.Nothing = [] ∷ []
 worded_parts (operands.One only) = operand_parts only ∷ []
@@ -50,19 +50,19 @@ worded_parts (operands.WordAndText set) = (Byte 32 ∷ Word set ∷ []) ∷ (Byt
 -- ---- lines
 
 -- initiator and destination
-unfoldable pub header_parts : Bool → List Part
+unfoldable pub header_parts : Bool → List PatternPart
 header_parts is_broadcast = One Hex ∷ Byte 62 ∷ (if is_broadcast then Byte 102 else One Directed) ∷ []
 
 -- who went on to the end, and who did not
-abbrev pub sender_parts : List Part
+abbrev pub sender_parts : List PatternPart
 sender_parts = literal (codes " by ") ++ Many Unspaced ∷ (literal (codes " out ") ++ Many Unspaced ∷ [])
 
 -- what stands after a frame
-unfoldable pub verdict_parts : Bool → Bool → List Part
+unfoldable pub verdict_parts : Bool → Bool → List PatternPart
 verdict_parts is_broadcast last_bit = literal (verdict_by is_broadcast last_bit) ++ sender_parts
 
 -- a header and an opcode
-unfoldable pub opcode_parts : Bool → ℕ → List Part
+unfoldable pub opcode_parts : Bool → ℕ → List PatternPart
 opcode_parts is_broadcast code = header_parts is_broadcast ++ Byte 32 ∷ Opcode code ∷ []
 
 -- the word of an ending and the bits that were read, `-` for none
@@ -73,10 +73,10 @@ ending_word BadStart = codes "bad-start "
 ending_word Long = codes "long "
 ending_word _ = codes "open "
 
-unfoldable pub bitless_parts : Ending → List Part
+unfoldable pub bitless_parts : Ending → List PatternPart
 bitless_parts ending = literal (ending_word ending) ++ Byte 45 ∷ sender_parts
 
-unfoldable pub bits_parts : Ending → List Part
+unfoldable pub bits_parts : Ending → List PatternPart
 bits_parts ending = literal (ending_word ending) ++ One Bit ∷ Many Bit ∷ sender_parts
 
 -- a complete reading of a header alone, one with an opcode and its operands, and one that is not complete
@@ -84,7 +84,7 @@ abbrev pub IsPollSaid : List ℕ → Type 0
 IsPollSaid text = (is_broadcast last_bit : Bool) × IsTextOf (header_parts is_broadcast ++ verdict_parts is_broadcast last_bit) text
 
 abbrev pub IsFrameSaid : List ℕ → Type 0
-IsFrameSaid text = (is_broadcast last_bit : Bool) × (code place : ℕ) × (operands : List Part) × (code < 256)
+IsFrameSaid text = (is_broadcast last_bit : Bool) × (code place : ℕ) × (operands : List PatternPart) × (code < 256)
     × (slice_get (raw_parts ∷ worded_parts (operands_of code)) place ≡ Some operands)
     × IsTextOf (opcode_parts is_broadcast code ++ (operands ++ verdict_parts is_broadcast last_bit)) text
 

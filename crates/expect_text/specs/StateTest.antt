@@ -5,11 +5,11 @@ use Rattle.std.specs.List.{list_any}
 use Rattle.text_core.specs.Kind.{kind_named}
 use Rattle.expect_text.specs.Parts.{has}
 use Rattle.expect_text.specs.StateWords.{key, note_parts, number_parts, physical_parts, value_of}
-use Rattle.expect_text.specs.declared.part.Part.{Part}
-use Rattle.expect_text.specs.declared.part.Part.TheVariants.{Byte, One, Many, Word, Opcode}
+use Rattle.expect_text.specs.declared.part.PatternPart.{PatternPart}
+use Rattle.expect_text.specs.declared.part.PatternPart.TheVariants.{Byte, One, Many, Word, Opcode}
 use Rattle.expect_text.specs.declared.part.Class.TheVariants.{Hex}
-use Rattle.expect_text.specs.declared.state_words.Field.{Field}
-use Rattle.expect_text.specs.declared.state_words.Field.TheVariants.{Active, Path, Deck, Menu, Audio, Volume, Mute, Arc, Selected, Language, Osd, Held, Heard, Sub, Queue, Dropped}
+use Rattle.expect_text.specs.declared.state_words.StateField.{StateField}
+use Rattle.expect_text.specs.declared.state_words.StateField.TheVariants.{Active, Path, Deck, Menu, Audio, Volume, Mute, Arc, Selected, Language, Osd, Held, Heard, Sub, Queue, Dropped}
 use Rattle.expect_text.specs.declared.state_words.Value.{Value}
 use Rattle.expect_text.specs.declared.state_words.Value.TheVariants as value
 
@@ -29,7 +29,7 @@ abbrev pub by_many : (ℕ → Bool) → (List ℕ → Bool) → List ℕ → Boo
 by_many may_be is_rest [] = is_rest []
 by_many may_be is_rest (b ∷ bs) = is_rest (b ∷ bs) || (may_be b && by_many may_be is_rest bs)
 
-abbrev pub is_text : List Part → List ℕ → Bool
+abbrev pub is_text : List PatternPart → List ℕ → Bool
 is_text [] text = is_empty text
 is_text (Byte b ∷ parts) text = by_one (λ x. x == b) (is_text parts) text
 is_text (One class ∷ parts) text = by_one (has class) (is_text parts) text
@@ -42,7 +42,7 @@ is_text (Opcode code ∷ parts) text = false
 abbrev pub is_dash : List ℕ → Bool
 is_dash text = bytes_eq text (codes "-")
 
-abbrev pub is_text_or_dash : List Part → List ℕ → Bool
+abbrev pub is_text_or_dash : List PatternPart → List ℕ → Bool
 is_text_or_dash parts text = is_text parts text || is_dash text
 
 abbrev pub is_value : Value → List ℕ → Bool
@@ -60,10 +60,10 @@ abbrev pub by_front : List ℕ → (List ℕ → Bool) → List ℕ → Bool
 by_front [] is_rest text = is_rest text
 by_front (b ∷ bs) is_rest text = by_one (λ x. x == b) (by_front bs is_rest) text
 
-abbrev pub fields : List Field
+abbrev pub fields : List StateField
 fields = Active ∷ Path ∷ Deck ∷ Menu ∷ Audio ∷ Volume ∷ Mute ∷ Arc ∷ Selected ∷ Language ∷ Osd ∷ Held ∷ Heard ∷ Sub ∷ Queue ∷ Dropped ∷ []
 
-abbrev pub is_of_field : List ℕ → Field → Bool
+abbrev pub is_of_field : List ℕ → StateField → Bool
 is_of_field word field = by_front (key field) (is_value (value_of field)) word
 
 -- `+`, and one address or none

@@ -4,23 +4,23 @@ use Rattle.std.specs.Prelude.{◌≡◌, ℕ, ◌⊎◌, codes, List, [], ◌∷
 use Rattle.text_core.specs.Kind.{kind_word}
 use Rattle.text_core.specs.declared.kind.Kind.{Kind}
 use Rattle.expect_text.specs.Parts.{IsTextOf}
-use Rattle.expect_text.specs.declared.part.Part.{Part}
-use Rattle.expect_text.specs.declared.part.Part.TheVariants.{Byte, One, Many}
+use Rattle.expect_text.specs.declared.part.PatternPart.{PatternPart}
+use Rattle.expect_text.specs.declared.part.PatternPart.TheVariants.{Byte, One, Many}
 use Rattle.expect_text.specs.declared.part.Class.TheVariants.{Digit, Hex}
-use Rattle.expect_text.specs.declared.state_words.Field.{Field}
-use Rattle.expect_text.specs.declared.state_words.Field.TheVariants.{Active, Path, Deck, Menu, Audio, Volume, Mute, Arc, Selected, Language, Osd, Held, Heard, Sub, Queue, Dropped}
+use Rattle.expect_text.specs.declared.state_words.StateField.{StateField}
+use Rattle.expect_text.specs.declared.state_words.StateField.TheVariants.{Active, Path, Deck, Menu, Audio, Volume, Mute, Arc, Selected, Language, Osd, Held, Heard, Sub, Queue, Dropped}
 use Rattle.expect_text.specs.declared.state_words.Value.{Value}
 use Rattle.expect_text.specs.declared.state_words.Value.TheVariants as value
 
 -- ---- values
 
-abbrev pub physical_parts : List Part
+abbrev pub physical_parts : List PatternPart
 physical_parts = One Hex ∷ Byte 46 ∷ One Hex ∷ Byte 46 ∷ One Hex ∷ Byte 46 ∷ One Hex ∷ []
 
-abbrev pub note_parts : List Part
+abbrev pub note_parts : List PatternPart
 note_parts = One Hex ∷ Byte 58 ∷ One Hex ∷ One Hex ∷ Byte 58 ∷ One Hex ∷ One Hex ∷ []
 
-abbrev pub number_parts : List Part
+abbrev pub number_parts : List PatternPart
 number_parts = One Digit ∷ Many Digit ∷ []
 
 -- what stands for no value
@@ -39,7 +39,7 @@ IsValue value.Count text = IsTextOf number_parts text
 
 -- ---- fields
 
-abbrev pub key : Field → List ℕ
+abbrev pub key : StateField → List ℕ
 key Active = codes "active="
 key Path = codes "path="
 key Deck = codes "deck="
@@ -57,7 +57,7 @@ key Sub = codes "sub="
 key Queue = codes "queue="
 key Dropped = codes "dropped="
 
-abbrev pub value_of : Field → Value
+abbrev pub value_of : StateField → Value
 value_of Active = value.Physical
 value_of Path = value.Physical
 value_of Deck = value.Byte
@@ -76,7 +76,7 @@ value_of Queue = value.Count
 value_of Dropped = value.Count
 
 abbrev pub IsField : List ℕ → Type 0
-IsField word = (field : Field) × (text : List ℕ) × (word ≡ key field ++ text) × IsValue (value_of field) text
+IsField word = (field : StateField) × (text : List ℕ) × (word ≡ key field ++ text) × IsValue (value_of field) text
 
 -- ---- words without a key
 

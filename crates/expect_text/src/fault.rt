@@ -8,20 +8,20 @@ use crate::form::ExpectCause;
 /// Why the line of a label or an expectation is refused, and the word at fault, counted from 0; where a word is missing, the
 /// number that it would have.
 #[derive(Clone, Copy, Debug, Drop, PartialEq, Eq)]
-pub struct LineFault {
+pub struct ExpectLineFault {
     pub cause: ExpectCause,
     pub word: usize,
 }
 
 /// A word at fault.
-pub fn at_word(word: usize, cause: ExpectCause) -> LineFault
+pub fn at_word(word: usize, cause: ExpectCause) -> ExpectLineFault
     ensures { result ≡ at_word word cause }
 {
-    LineFault { cause, word }
+    ExpectLineFault { cause, word }
 }
 
 /// The same word of a line with its label before it, which takes two words.
-pub fn after_label(label: Option<&[u8]>, fault: LineFault) -> LineFault
+pub fn after_label(label: Option<&[u8]>, fault: ExpectLineFault) -> ExpectLineFault
     ensures { IsNear fault → result ≡ after_label (option_copied label.entry) fault }
 {
     match label {

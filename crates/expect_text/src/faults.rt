@@ -9,11 +9,11 @@ ghost use Rattle.expect_text.specs.Names.{named_as};
 ghost use Rattle.expect_text.specs.StateTest.{strange_word};
 ghost use Rattle.expect_text.specs.Faults.{declared_in, end_in, ends_before, first_fault, form_fault, has_strange_name, is_above, is_declared, is_line, is_named, is_own_label, is_past, is_refusal, is_strange, is_strange_name, labelled_form, line_fault, or_fault, pattern_fault, refusal_fault, refusal_word, state_fault, strange_at, strange_fault, window_fault};
 
-use crate::fault::{LineFault, after_label, at_word};
-use crate::form::{ExpectCause, Form, Quantity, Window, form_in, in_window};
+use crate::fault::{ExpectLineFault, after_label, at_word};
+use crate::form::{ExpectCause, ExpectLine, Quantity, ExpectWindow, form_in, in_window};
 use crate::labels::Labels;
 use crate::line::{is_labelable, unlabelled};
-use crate::named::Named;
+use crate::named::NamedPattern;
 use crate::names::{is_meetable, named_in, unmet_word};
 use crate::state_words::strange_word;
 use std::alloc::{AllocError, Global};
@@ -130,20 +130,20 @@ fn window_fault(
     labels: &Labels<'_>,
     number: u64,
     quantity: Quantity,
-    window: Window,
-) -> Option<LineFault>
+    window: ExpectWindow,
+) -> Option<ExpectLineFault>
     ensures value { result ≡ window_fault labels.now.script.now number quantity (window_of window.entry) }
     ensures near { IfSome result IsNear }
 {
     match window {
-        Window::Within { label, .. } => {
+        ExpectWindow::Within { label, .. } => {
             if is_above(number, labels.line_of(label)) {
                 None
             } else {
                 Some(in_window(quantity, 3, ExpectCause::Label))
             }
         }
-        Window::From { from, to } => {
+        ExpectWindow::From { from, to } => {
             if to < from {
                 Some(in_window(quantity, 3, ExpectCause::Order))
             } else {
@@ -153,7 +153,7 @@ fn window_fault(
     }
 }
 
-fn pattern_fault(quantity: Quantity, pattern: &[u8]) -> Option<LineFault>
+fn pattern_fault(quantity: Quantity, pattern: &[u8]) -> Option<ExpectLineFault>
     ensures value { result ≡ pattern_fault quantity pattern.now }
     ensures near { IfSome result IsNear }
 {
@@ -168,9 +168,9 @@ fn rounds_fault(
     labels: &Labels<'_>,
     number: u64,
     quantity: Quantity,
-    window: Window,
+    window: ExpectWindow,
     pattern: &[u8],
-) -> Option<LineFault>
+) -> Option<ExpectLineFault>
     ensures value { result ≡ or_fault (window_fault labels.now.script.now number quantity (window_of window.entry)) (pattern_fault quantity pattern.now) }
     ensures near { IfSome result IsNear }
 {
@@ -212,7 +212,7 @@ fn refusal_fault(
     number: u64,
     label: Option<&[u8]>,
     word: &[u8],
-) -> Option<LineFault>
+) -> Option<ExpectLineFault>
     ensures value { result ≡ refusal_fault labels.now.script.now number (option_copied label.entry) word.now }
     ensures near { IfSome result IsNear }
 {
@@ -225,7 +225,7 @@ fn refusal_fault(
     }
 }
 
-fn strange_fault(words: &[u8]) -> Option<LineFault>
+fn strange_fault(words: &[u8]) -> Option<ExpectLineFault>
     ensures value { result ≡ strange_fault (strange_word (words_of words.now)) }
     ensures near { IfSome result IsNear }
 {
@@ -235,7 +235,7 @@ fn strange_fault(words: &[u8]) -> Option<LineFault>
     }
 }
 
-fn state_fault(script: &[u8], time: u64, words: &[u8]) -> Option<LineFault>
+fn state_fault(script: &[u8], time: u64, words: &[u8]) -> Option<ExpectLineFault>
     ensures value { result ≡ state_fault script.now time (words_of words.now) }
     ensures near { IfSome result IsNear }
 {
@@ -246,23 +246,23 @@ fn state_fault(script: &[u8], time: u64, words: &[u8]) -> Option<LineFault>
     }
 }
 
-fn form_fault(labels: &Labels<'_>, number: u64, form: Form) -> Option<LineFault>
+fn form_fault(labels: &Labels<'_>, number: u64, form: ExpectLine) -> Option<ExpectLineFault>
     ensures value { result ≡ form_fault labels.now.script.now number (form_as form.entry) }
     ensures near { IfSome result IsNear }
 {
     match form {
-        Form::Other => None,
-        Form::Rounds {
+        ExpectLine::Other => None,
+        ExpectLine::Rounds {
             quantity,
             window,
             pattern,
         } => rounds_fault(labels, number, quantity, window, pattern),
-        Form::State { time, words, .. } => state_fault(labels.script, time, words),
-        Form::Refused { label, word } => refusal_fault(labels, number, label, word),
+        ExpectLine::State { time, words, .. } => state_fault(labels.script, time, words),
+        ExpectLine::Refused { label, word } => refusal_fault(labels, number, label, word),
     }
 }
 
-fn is_strange_name(topology: &[u8], named: Option<Named>) -> bool
+fn is_strange_name(topology: &[u8], named: Option<NamedPattern>) -> bool
     ensures { result ≡ is_strange_name topology.now (option_map named_as named.entry) }
 {
     match named {
@@ -271,7 +271,7 @@ fn is_strange_name(topology: &[u8], named: Option<Named>) -> bool
     }
 }
 
-fn has_strange_name(topology: &[u8], named: Option<Named>) -> bool
+fn has_strange_name(topology: &[u8], named: Option<NamedPattern>) -> bool
     ensures { result ≡ has_strange_name topology.now (option_map named_as named.entry) }
 {
     match named {
@@ -283,32 +283,32 @@ fn has_strange_name(topology: &[u8], named: Option<Named>) -> bool
 }
 
 // Whether a form names a device that is not declared.
-fn is_strange(topology: &[u8], form: Form) -> bool
+fn is_strange(topology: &[u8], form: ExpectLine) -> bool
     ensures { result ≡ is_strange topology.now (form_as form.entry) }
 {
     match form {
-        Form::Other => false,
-        Form::Rounds { pattern, .. } => has_strange_name(topology, named_in(pattern)),
-        Form::State { device, .. } => !is_declared(topology, device),
-        Form::Refused { .. } => false,
+        ExpectLine::Other => false,
+        ExpectLine::Rounds { pattern, .. } => has_strange_name(topology, named_in(pattern)),
+        ExpectLine::State { device, .. } => !is_declared(topology, device),
+        ExpectLine::Refused { .. } => false,
     }
 }
 
 // The word that names it.
-fn strange_at(form: Form) -> LineFault
+fn strange_at(form: ExpectLine) -> ExpectLineFault
     ensures value { result ≡ strange_at (form_as form.entry) }
     ensures near { IsNear result }
 {
     match form {
-        Form::Other => at_word(3, ExpectCause::Name),
-        Form::Rounds { quantity, .. } => in_window(quantity, 4, ExpectCause::Name),
-        Form::State { .. } => at_word(3, ExpectCause::Name),
-        Form::Refused { .. } => at_word(3, ExpectCause::Name),
+        ExpectLine::Other => at_word(3, ExpectCause::Name),
+        ExpectLine::Rounds { quantity, .. } => in_window(quantity, 4, ExpectCause::Name),
+        ExpectLine::State { .. } => at_word(3, ExpectCause::Name),
+        ExpectLine::Refused { .. } => at_word(3, ExpectCause::Name),
     }
 }
 
 // The same word of a line with its label before it, where one is at fault.
-fn any_after_label(label: Option<&[u8]>, fault: Option<LineFault>) -> Option<LineFault>
+fn any_after_label(label: Option<&[u8]>, fault: Option<ExpectLineFault>) -> Option<ExpectLineFault>
     requires near { IfSome fault IsNear }
     ensures { result ≡ option_map (after_label (option_copied label.entry)) fault }
 {
@@ -319,7 +319,7 @@ fn any_after_label(label: Option<&[u8]>, fault: Option<LineFault>) -> Option<Lin
 }
 
 // What a line says without its label, which stands before no other line than an expectation, an event or a pulse.
-fn labelled_form<'a>(label: Option<&[u8]>, rest: Option<&'a [u8]>) -> Result<Form<'a>, LineFault>
+fn labelled_form<'a>(label: Option<&[u8]>, rest: Option<&'a [u8]>) -> Result<ExpectLine<'a>, ExpectLineFault>
     ensures is { IsForm (labelled_form (option_copied label.entry) (words_after (option_copied rest.entry))) result }
     ensures near { IfErr result IsNear }
 {
@@ -329,7 +329,7 @@ fn labelled_form<'a>(label: Option<&[u8]>, rest: Option<&'a [u8]>) -> Result<For
     form_in(rest)
 }
 
-fn line_fault(topology: &[u8], labels: &Labels<'_>, number: u64, line: &[u8]) -> Option<LineFault>
+fn line_fault(topology: &[u8], labels: &Labels<'_>, number: u64, line: &[u8]) -> Option<ExpectLineFault>
     ensures { result ≡ line_fault topology.now labels.now.script.now number line.now }
 {
     let line = unlabelled(line);

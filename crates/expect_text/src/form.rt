@@ -6,7 +6,7 @@ ghost use Rattle.text_core.specs.Number.{number_of};
 ghost use Rattle.expect_text.specs.Fault.{IsNear};
 ghost use Rattle.expect_text.specs.Form.{AreParts, IsEarly, IsForm, between_by, empty_from, exact_number, expectation_in, form_in, in_window, is_open_ended, lacking, or_lacking, is_pattern, parts_as, parts_in, pattern_by, pattern_in, refused_in, rounds_between, rounds_in, second_in, stars, state_at_time, state_in, window_word, within, within_by};
 
-use crate::fault::{LineFault, at_word};
+use crate::fault::{ExpectLineFault, at_word};
 use line_wave::LATEST_EVENT;
 use text_core::{byte_at, first_word, number_in};
 use thiserror::Error;
@@ -55,7 +55,7 @@ pub enum Quantity {
 
 /// The time in which rounds are looked at, in microseconds.
 #[derive(Clone, Copy, Debug)]
-pub enum Window<'a> {
+pub enum ExpectWindow<'a> {
     /// So long from the instant of a label on.
     Within { duration: u64, label: &'a [u8] },
     /// From one time to another.
@@ -64,13 +64,13 @@ pub enum Window<'a> {
 
 /// What a line of a script says, without its label.
 #[derive(Clone, Copy, Debug)]
-pub enum Form<'a> {
+pub enum ExpectLine<'a> {
     /// It is no expectation.
     Other,
     /// Rounds of the window that meet the pattern.
     Rounds {
         quantity: Quantity,
-        window: Window<'a>,
+        window: ExpectWindow<'a>,
         pattern: &'a [u8],
     },
     /// The words are among those of the device's state line, had the run ended at this time; after `not` none of them is.
@@ -107,7 +107,7 @@ fn window_word(quantity: Quantity) -> usize
 }
 
 /// The word at fault that stands so many after the first one of a window.
-pub(crate) fn in_window(quantity: Quantity, after: usize, cause: ExpectCause) -> LineFault
+pub(crate) fn in_window(quantity: Quantity, after: usize, cause: ExpectCause) -> ExpectLineFault
     requires few { after < 2 ^ 63 + 8 }
     ensures value { result ≡ in_window quantity after cause }
     ensures near { IsNear result }
@@ -159,7 +159,7 @@ fn pattern_by<'a>(
     first: &'a [u8],
     second: &'a [u8],
     pattern: &'a [u8],
-) -> Result<Parts<'a>, LineFault>
+) -> Result<Parts<'a>, ExpectLineFault>
     ensures is { AreParts (pattern_by quantity first.now second.now pattern.now) result }
     ensures near { IfErr result IsNear }
 {
@@ -179,7 +179,7 @@ fn pattern_in<'a>(
     first: &'a [u8],
     second: &'a [u8],
     rest: Option<&'a [u8]>,
-) -> Result<Parts<'a>, LineFault>
+) -> Result<Parts<'a>, ExpectLineFault>
     ensures is { AreParts (pattern_in quantity first.now second.now (words_after (option_copied rest.entry))) result }
     ensures near { IfErr result IsNear }
 {
@@ -193,7 +193,7 @@ fn second_in<'a>(
     quantity: Quantity,
     first: &'a [u8],
     rest: Option<&'a [u8]>,
-) -> Result<Parts<'a>, LineFault>
+) -> Result<Parts<'a>, ExpectLineFault>
     ensures is { AreParts (second_in quantity first.now (words_after (option_copied rest.entry))) result }
     ensures near { IfErr result IsNear }
 {
@@ -209,7 +209,7 @@ fn parts_in<'a>(
     quantity: Quantity,
     joint: &[u8],
     rest: Option<&'a [u8]>,
-) -> Result<Parts<'a>, LineFault>
+) -> Result<Parts<'a>, ExpectLineFault>
     ensures is { AreParts (parts_in quantity joint.now (words_after (option_copied rest.entry))) result }
     ensures near { IfErr result IsNear }
 {
@@ -228,7 +228,7 @@ fn parts_in<'a>(
     }
 }
 
-fn within<'a>(quantity: Quantity, parts: &Parts<'a>) -> Result<Form<'a>, LineFault>
+fn within<'a>(quantity: Quantity, parts: &Parts<'a>) -> Result<ExpectLine<'a>, ExpectLineFault>
     ensures is { IsForm (within quantity (exact_number parts.now.first.now) (parts_as parts.now)) result }
     ensures early { IfOk result IsEarly }
     ensures near { IfErr result IsNear }
@@ -236,9 +236,9 @@ fn within<'a>(quantity: Quantity, parts: &Parts<'a>) -> Result<Form<'a>, LineFau
     let Some(duration) = exact_number(parts.first) else {
         return Err(in_window(quantity, 1, ExpectCause::Number));
     };
-    Ok(Form::Rounds {
+    Ok(ExpectLine::Rounds {
         quantity,
-        window: Window::Within {
+        window: ExpectWindow::Within {
             duration,
             label: parts.second,
         },
@@ -246,7 +246,7 @@ fn within<'a>(quantity: Quantity, parts: &Parts<'a>) -> Result<Form<'a>, LineFau
     })
 }
 
-fn rounds_between<'a>(quantity: Quantity, parts: &Parts<'a>) -> Result<Form<'a>, LineFault>
+fn rounds_between<'a>(quantity: Quantity, parts: &Parts<'a>) -> Result<ExpectLine<'a>, ExpectLineFault>
     ensures is { IsForm (rounds_between quantity (exact_number parts.now.first.now) (exact_number parts.now.second.now) (parts_as parts.now)) result }
     ensures early { IfOk result IsEarly }
     ensures near { IfErr result IsNear }
@@ -257,14 +257,14 @@ fn rounds_between<'a>(quantity: Quantity, parts: &Parts<'a>) -> Result<Form<'a>,
     let Some(to) = exact_number(parts.second) else {
         return Err(in_window(quantity, 3, ExpectCause::Number));
     };
-    Ok(Form::Rounds {
+    Ok(ExpectLine::Rounds {
         quantity,
-        window: Window::From { from, to },
+        window: ExpectWindow::From { from, to },
         pattern: parts.pattern,
     })
 }
 
-fn within_in<'a>(quantity: Quantity, rest: Option<&'a [u8]>) -> Result<Form<'a>, LineFault>
+fn within_in<'a>(quantity: Quantity, rest: Option<&'a [u8]>) -> Result<ExpectLine<'a>, ExpectLineFault>
     ensures is { IsForm (within_by quantity (parts_in quantity (codes "of") (words_after (option_copied rest.entry)))) result }
     ensures early { IfOk result IsEarly }
     ensures near { IfErr result IsNear }
@@ -275,7 +275,7 @@ fn within_in<'a>(quantity: Quantity, rest: Option<&'a [u8]>) -> Result<Form<'a>,
     }
 }
 
-fn between_in<'a>(quantity: Quantity, rest: Option<&'a [u8]>) -> Result<Form<'a>, LineFault>
+fn between_in<'a>(quantity: Quantity, rest: Option<&'a [u8]>) -> Result<ExpectLine<'a>, ExpectLineFault>
     ensures is { IsForm (between_by quantity (parts_in quantity (codes "to") (words_after (option_copied rest.entry)))) result }
     ensures early { IfOk result IsEarly }
     ensures near { IfErr result IsNear }
@@ -286,7 +286,7 @@ fn between_in<'a>(quantity: Quantity, rest: Option<&'a [u8]>) -> Result<Form<'a>
     }
 }
 
-fn rounds_in<'a>(quantity: Quantity, rest: Option<&'a [u8]>) -> Result<Form<'a>, LineFault>
+fn rounds_in<'a>(quantity: Quantity, rest: Option<&'a [u8]>) -> Result<ExpectLine<'a>, ExpectLineFault>
     ensures is { IsForm (rounds_in quantity (words_after (option_copied rest.entry))) result }
     ensures early { IfOk result IsEarly }
     ensures near { IfErr result IsNear }
@@ -354,7 +354,7 @@ fn bad_word(text: &[u8]) -> Option<usize>
     }
 }
 
-fn state_at_time<'a>(time: &[u8], device: &'a [u8], words: &'a [u8]) -> Result<Form<'a>, LineFault>
+fn state_at_time<'a>(time: &[u8], device: &'a [u8], words: &'a [u8]) -> Result<ExpectLine<'a>, ExpectLineFault>
     ensures is { IsForm (state_at_time (number_of time.now) device.now (words_of words.now)) result }
     ensures early { IfOk result IsEarly }
     ensures near { IfErr result IsNear }
@@ -365,7 +365,7 @@ fn state_at_time<'a>(time: &[u8], device: &'a [u8], words: &'a [u8]) -> Result<F
             if time > LATEST_EVENT {
                 Err(at_word(2, ExpectCause::Number))
             } else {
-                Ok(Form::State {
+                Ok(ExpectLine::State {
                     time,
                     device,
                     words,
@@ -375,7 +375,7 @@ fn state_at_time<'a>(time: &[u8], device: &'a [u8], words: &'a [u8]) -> Result<F
     }
 }
 
-fn state_in<'a>(rest: Option<&'a [u8]>) -> Result<Form<'a>, LineFault>
+fn state_in<'a>(rest: Option<&'a [u8]>) -> Result<ExpectLine<'a>, ExpectLineFault>
     ensures is { IsForm (state_in (words_after (option_copied rest.entry))) result }
     ensures early { IfOk result IsEarly }
     ensures near { IfErr result IsNear }
@@ -398,7 +398,7 @@ fn state_in<'a>(rest: Option<&'a [u8]>) -> Result<Form<'a>, LineFault>
     }
 }
 
-fn refused_in<'a>(rest: Option<&'a [u8]>) -> Result<Form<'a>, LineFault>
+fn refused_in<'a>(rest: Option<&'a [u8]>) -> Result<ExpectLine<'a>, ExpectLineFault>
     ensures is { IsForm (refused_in (words_after (option_copied rest.entry))) result }
     ensures early { IfOk result IsEarly }
     ensures near { IfErr result IsNear }
@@ -408,14 +408,14 @@ fn refused_in<'a>(rest: Option<&'a [u8]>) -> Result<Form<'a>, LineFault>
     };
     let (first, rest) = first_word(text);
     let Some(text) = rest else {
-        return Ok(Form::Refused {
+        return Ok(ExpectLine::Refused {
             label: None,
             word: first,
         });
     };
     let (word, rest) = first_word(text);
     match rest {
-        None => Ok(Form::Refused {
+        None => Ok(ExpectLine::Refused {
             label: Some(first),
             word,
         }),
@@ -426,7 +426,7 @@ fn refused_in<'a>(rest: Option<&'a [u8]>) -> Result<Form<'a>, LineFault>
     }
 }
 
-fn expectation_in<'a>(rest: Option<&'a [u8]>) -> Result<Form<'a>, LineFault>
+fn expectation_in<'a>(rest: Option<&'a [u8]>) -> Result<ExpectLine<'a>, ExpectLineFault>
     ensures is { IsForm (expectation_in (words_after (option_copied rest.entry))) result }
     ensures early { IfOk result IsEarly }
     ensures near { IfErr result IsNear }
@@ -453,7 +453,7 @@ fn expectation_in<'a>(rest: Option<&'a [u8]>) -> Result<Form<'a>, LineFault>
 /// # Errors
 ///
 /// The first cause, and the word at fault in the line without its label.
-pub fn form_in<'a>(rest: Option<&'a [u8]>) -> Result<Form<'a>, LineFault>
+pub fn form_in<'a>(rest: Option<&'a [u8]>) -> Result<ExpectLine<'a>, ExpectLineFault>
     ensures is { IsForm (form_in (words_after (option_copied rest.entry))) result }
     ensures early { IfOk result IsEarly }
     ensures near { IfErr result IsNear }
@@ -465,6 +465,6 @@ pub fn form_in<'a>(rest: Option<&'a [u8]>) -> Result<Form<'a>, LineFault>
     if verb == b"expect".as_slice() {
         expectation_in(others)
     } else {
-        Ok(Form::Other)
+        Ok(ExpectLine::Other)
     }
 }

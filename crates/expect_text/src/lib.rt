@@ -14,13 +14,13 @@ mod pattern;
 mod said;
 mod state_words;
 
-pub use fault::{LineFault, after_label, at_word};
+pub use fault::{ExpectLineFault, after_label, at_word};
 pub use faults::{ExpectFault, fault_among, first_fault};
-pub use form::{ExpectCause, Form, Quantity, Window, exact_number, form_in};
+pub use form::{ExpectCause, ExpectLine, Quantity, ExpectWindow, exact_number, form_in};
 pub use labels::Labels;
 pub use laws::{names_are_met, patterns_are_met, readings_are_said, state_words_are_met};
 pub use line::{Labelled, cut_script, onset_in, plain_part, plain_script, unlabelled};
-pub use named::Named;
+pub use named::NamedPattern;
 pub use names::{has_names, is_meetable, meets, named_in};
 pub use pattern::fits;
 pub use said::is_said;

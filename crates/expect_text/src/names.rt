@@ -7,9 +7,9 @@ ghost use Rattle.expect_text.specs.Fits.{fits};
 ghost use Rattle.expect_text.specs.Said.{is_said};
 ghost use Rattle.expect_text.specs.Names.{after_front, at_place, for_byte, for_first, has_name, has_names, holds_in, is_held_after, is_meetable, last_from, meets, name_length, named_after, named_as, named_in, unmet_from, unmet_word, with_byte};
 
-use crate::form::{Form, form_in};
+use crate::form::{ExpectLine, form_in};
 use crate::line::unlabelled;
-use crate::named::Named;
+use crate::named::NamedPattern;
 use crate::pattern::fits;
 use crate::said::is_said;
 use arrayvec::ArrayVec;
@@ -50,17 +50,17 @@ fn name_length(text: &[u8]) -> usize
 }
 
 // The name with which a text begins, after this front.
-fn named_after<'a>(front: &'a [u8], text: &'a [u8]) -> Named<'a>
+fn named_after<'a>(front: &'a [u8], text: &'a [u8]) -> NamedPattern<'a>
     requires { length front.now + length text.now < 160 }
     ensures { named_as result ≡ named_after front.now text.now }
 {
     let (name, rest) = text.split_at(name_length(text));
-    Named { front, name, rest }
+    NamedPattern { front, name, rest }
 }
 
 /// The first name of a pattern, where it has one.
 #[tactic(auto, unfolding(crate::specs::Names::named_in))]
-pub fn named_in(pattern: &[u8]) -> Option<Named<'_>>
+pub fn named_in(pattern: &[u8]) -> Option<NamedPattern<'_>>
     ensures { option_map named_as result ≡ named_in pattern.now }
 {
     if pattern.len() > MOST {
@@ -76,7 +76,7 @@ pub fn named_in(pattern: &[u8]) -> Option<Named<'_>>
     }
 }
 
-fn with_byte(named: &Named<'_>, byte: u8) -> ArrayVec<u8, 160>
+fn with_byte(named: &NamedPattern<'_>, byte: u8) -> ArrayVec<u8, 160>
     ensures { result.items ≡ with_byte (named_as named.now) byte }
 {
     let mut pattern = ArrayVec::new();
@@ -139,7 +139,7 @@ fn holds_in(word: &[u8], name: &[u8], byte: u8) -> bool
 // ---- patterns that a line meets
 
 // Whether a pattern fits with one of these bytes, each of an address that the device holds, in the place of the name.
-fn fits_by(word: &[u8], named: &Named<'_>, bytes: &[u8], text: &[u8]) -> bool
+fn fits_by(word: &[u8], named: &NamedPattern<'_>, bytes: &[u8], text: &[u8]) -> bool
     ensures { result ≡ for_byte (holds_in word.now) (λ p. fits p text.now) (named_as named.now) bytes.now }
 {
     match bytes {
@@ -162,7 +162,7 @@ fn fits_first(word: &[u8], pattern: &[u8], text: &[u8]) -> bool
 }
 
 // The same of a pattern that has another name after that one.
-fn meets_by(word: &[u8], named: &Named<'_>, bytes: &[u8], text: &[u8]) -> bool
+fn meets_by(word: &[u8], named: &NamedPattern<'_>, bytes: &[u8], text: &[u8]) -> bool
     ensures { result ≡ for_byte (holds_in word.now) (for_first (holds_in word.now) (λ p. fits p text.now)) (named_as named.now) bytes.now }
 {
     match bytes {
@@ -189,7 +189,7 @@ pub fn meets(pattern: &[u8], text: &[u8]) -> bool
 // ---- patterns that some line meets
 
 // Whether a pattern can be met with one of these bytes in the place of the name.
-fn said_by(named: &Named<'_>, bytes: &[u8]) -> bool
+fn said_by(named: &NamedPattern<'_>, bytes: &[u8]) -> bool
     ensures { result ≡ for_byte (λ name b. true) is_said (named_as named.now) bytes.now }
 {
     match bytes {
@@ -209,7 +209,7 @@ fn said_first(pattern: &[u8]) -> bool
 }
 
 // The same of a pattern that has another name after that one.
-fn meetable_by(named: &Named<'_>, bytes: &[u8]) -> bool
+fn meetable_by(named: &NamedPattern<'_>, bytes: &[u8]) -> bool
     ensures { result ≡ for_byte (λ name b. true) (for_first (λ name b. true) is_said) (named_as named.now) bytes.now }
 {
     match bytes {
@@ -259,10 +259,10 @@ fn has_name(line: &[u8]) -> bool
     match form_in(unlabelled(line).rest) {
         Err(_) => false,
         Ok(form) => match form {
-            Form::Other => false,
-            Form::Rounds { pattern, .. } => named_in(pattern).is_some(),
-            Form::State { .. } => false,
-            Form::Refused { .. } => false,
+            ExpectLine::Other => false,
+            ExpectLine::Rounds { pattern, .. } => named_in(pattern).is_some(),
+            ExpectLine::State { .. } => false,
+            ExpectLine::Refused { .. } => false,
         },
     }
 }

@@ -31,7 +31,7 @@ pub enum Class {
 
 /// A part of a text.
 #[derive(Clone, Copy, Debug, Drop, PartialEq, Eq)]
-pub enum Part {
+pub enum PatternPart {
     Byte(u8),
     /// One byte of a class.
     One(Class),
@@ -43,9 +43,9 @@ pub enum Part {
     Opcode(u8),
 }
 
-impl Default for Part {
+impl Default for PatternPart {
     fn default() -> Self {
-        Part::Byte(0)
+        PatternPart::Byte(0)
     }
 }
 
@@ -67,7 +67,7 @@ pub(crate) fn has(class: Class, byte: u8) -> bool
 
 // Whether this text and then one of the parts meets the pattern.
 #[cycle(meeting)]
-fn is_met_after(text: &[u8], parts: &[Part], pattern: &[u8]) -> bool
+fn is_met_after(text: &[u8], parts: &[PatternPart], pattern: &[u8]) -> bool
     ensures { result ≡ after_text text.now (is_met parts.now) pattern.now }
 {
     match text {
@@ -85,7 +85,7 @@ fn is_met_after(text: &[u8], parts: &[Part], pattern: &[u8]) -> bool
 
 // Whether one of these words and then a text of the parts meets the pattern.
 #[cycle(meeting)]
-fn is_met_by_word(words: &[NamedByte], parts: &[Part], pattern: &[u8]) -> bool
+fn is_met_by_word(words: &[NamedByte], parts: &[PatternPart], pattern: &[u8]) -> bool
     ensures { result ≡ after_word (map word_in_code words.now) (is_met parts.now) pattern.now }
 {
     match words {
@@ -99,7 +99,7 @@ fn is_met_by_word(words: &[NamedByte], parts: &[Part], pattern: &[u8]) -> bool
 
 // Whether a word of the set and then one of the parts meets the pattern.
 #[cycle(meeting)]
-fn is_met_by_set(set: WordSet, parts: &[Part], pattern: &[u8]) -> bool
+fn is_met_by_set(set: WordSet, parts: &[PatternPart], pattern: &[u8]) -> bool
     ensures { result ≡ after_set set (is_met parts.now) pattern.now }
 {
     is_met_by_word(set.words(), parts, pattern)
@@ -130,7 +130,7 @@ fn opcode_text(code: u8) -> ArrayVec<u8, 32>
 
 // Whether the name of an opcode and then one of the parts meets the pattern.
 #[cycle(meeting)]
-fn is_met_by_opcode(code: u8, parts: &[Part], pattern: &[u8]) -> bool
+fn is_met_by_opcode(code: u8, parts: &[PatternPart], pattern: &[u8]) -> bool
     ensures { result ≡ after_text (opcode_text code) (is_met parts.now) pattern.now }
 {
     is_met_after(&opcode_text(code), parts, pattern)
@@ -138,31 +138,31 @@ fn is_met_by_opcode(code: u8, parts: &[Part], pattern: &[u8]) -> bool
 
 /// Whether a text of these parts meets the pattern.
 #[cycle(meeting)]
-pub(crate) fn is_met(parts: &[Part], pattern: &[u8]) -> bool
+pub(crate) fn is_met(parts: &[PatternPart], pattern: &[u8]) -> bool
     ensures { result ≡ is_met parts.now pattern.now }
 {
     match parts {
         [] => fits(pattern, &[]),
-        [Part::Byte(byte), others @ ..] => match pattern {
+        [PatternPart::Byte(byte), others @ ..] => match pattern {
             [] => *byte == b' ',
             [b'*', rest @ ..] => {
                 is_met(parts, rest) || (*byte != b' ' && is_met(others, pattern))
             }
             [due, rest @ ..] => *byte == *due && is_met(others, rest),
         },
-        [Part::One(class), others @ ..] => match pattern {
+        [PatternPart::One(class), others @ ..] => match pattern {
             [] => has(*class, b' '),
             [b'*', rest @ ..] => is_met(parts, rest) || is_met(others, pattern),
             [due, rest @ ..] => has(*class, *due) && is_met(others, rest),
         },
-        [Part::Many(class), others @ ..] => match pattern {
+        [PatternPart::Many(class), others @ ..] => match pattern {
             [] => is_met(others, pattern) || has(*class, b' '),
             [due, rest @ ..] => {
                 is_met(others, pattern)
                     || ((*due == b'*' || has(*class, *due)) && is_met(parts, rest))
             }
         },
-        [Part::Word(set), others @ ..] => is_met_by_set(*set, others, pattern),
-        [Part::Opcode(code), others @ ..] => is_met_by_opcode(*code, others, pattern),
+        [PatternPart::Word(set), others @ ..] => is_met_by_set(*set, others, pattern),
+        [PatternPart::Opcode(code), others @ ..] => is_met_by_opcode(*code, others, pattern),
     }
 }

@@ -4,20 +4,20 @@ ghost use Rattle.std.specs.List.{list_any};
 ghost use Rattle.message_table.specs.Table.{operands_of};
 ghost use Rattle.message_text.specs.ReadingText.{verdict_by};
 ghost use Rattle.expect_text.specs.Parts.{is_met};
-ghost use Rattle.expect_text.specs.declared.part.Part.TheVariants.{Many};
+ghost use Rattle.expect_text.specs.declared.part.PatternPart.TheVariants.{Many};
 ghost use Rattle.expect_text.specs.declared.part.Class.TheVariants.{Any, Digit};
 ghost use Rattle.expect_text.specs.Said.{any_below, bitless_parts, bits_parts, ending_word, header_parts, is_complete_met, is_ending_met, is_opcode_met, is_operand_met, is_poll_met, is_said, literal, opcode_parts, operand_parts, quoted_parts, raw_parts, sender_parts, verdict_parts, worded_parts};
 
-use crate::part::{Class, Part, is_met};
+use crate::part::{Class, PatternPart, is_met};
 use arrayvec::ArrayVec;
 use line_frames::Ending;
 use message_table::{Operand, Operands, operands_of};
 
 /// A few parts of a line.
-type Parts = ArrayVec<Part, 48>;
+type Parts = ArrayVec<PatternPart, 48>;
 
 /// All parts of a line.
-type LineParts = ArrayVec<Part, 128>;
+type LineParts = ArrayVec<PatternPart, 128>;
 
 // These bytes, each a part.
 fn literal(text: &[u8]) -> Parts
@@ -27,12 +27,12 @@ fn literal(text: &[u8]) -> Parts
 {
     let mut parts = ArrayVec::new();
     for byte in text {
-        parts.push(Part::Byte(*byte));
+        parts.push(PatternPart::Byte(*byte));
     }
     parts
 }
 
-fn parts_of(parts: &[Part]) -> Parts
+fn parts_of(parts: &[PatternPart]) -> Parts
     requires { length parts.now ≤ 48 }
     ensures { result.items ≡ parts.now }
 {
@@ -41,7 +41,7 @@ fn parts_of(parts: &[Part]) -> Parts
     items
 }
 
-fn both(front: &[Part], back: &[Part]) -> Parts
+fn both(front: &[PatternPart], back: &[PatternPart]) -> Parts
     requires { length front.now + length back.now ≤ 48 }
     ensures { result.items ≡ front.now ++ back.now }
 {
@@ -51,7 +51,7 @@ fn both(front: &[Part], back: &[Part]) -> Parts
 }
 
 // Whether a text of these parts, one after another, meets the pattern.
-fn is_met_in_turn(front: &[Part], middle: &[Part], back: &[Part], pattern: &[u8]) -> bool
+fn is_met_in_turn(front: &[PatternPart], middle: &[PatternPart], back: &[PatternPart], pattern: &[u8]) -> bool
     requires { length front.now + length middle.now + length back.now ≤ 128 }
     ensures { result ≡ is_met (front.now ++ (middle.now ++ back.now)) pattern.now }
 {
@@ -66,13 +66,13 @@ fn operand_parts(operand: Operand) -> Parts
     ensures value { result.items ≡ operand_parts operand }
     ensures few { length result.items ≤ 8 }
 {
-    let space = Part::Byte(b' ');
-    let hex = Part::One(Class::Hex);
-    let letter = Part::One(Class::Letter);
-    let dot = Part::Byte(b'.');
+    let space = PatternPart::Byte(b' ');
+    let hex = PatternPart::One(Class::Hex);
+    let letter = PatternPart::One(Class::Letter);
+    let dot = PatternPart::Byte(b'.');
     match operand {
         Operand::Byte => parts_of(&[space, hex, hex]),
-        Operand::Word(set) => parts_of(&[space, Part::Word(set)]),
+        Operand::Word(set) => parts_of(&[space, PatternPart::Word(set)]),
         Operand::Language => parts_of(&[space, letter, letter, letter]),
         Operand::Vendor => parts_of(&[space, hex, hex, hex, hex, hex, hex]),
         Operand::Address => parts_of(&[space, hex, dot, hex, dot, hex, dot, hex]),
@@ -83,17 +83,17 @@ fn quoted_parts() -> Parts
     ensures { result.items ≡ quoted_parts }
 {
     parts_of(&[
-        Part::Byte(b' '),
-        Part::Byte(b'"'),
-        Part::Many(Class::Quotable),
-        Part::Byte(b'"'),
+        PatternPart::Byte(b' '),
+        PatternPart::Byte(b'"'),
+        PatternPart::Many(Class::Quotable),
+        PatternPart::Byte(b'"'),
     ])
 }
 
 fn raw_parts() -> Parts
     ensures { result.items ≡ raw_parts }
 {
-    parts_of(&[Part::Byte(b' '), Part::Byte(b':'), Part::Many(Class::Hex)])
+    parts_of(&[PatternPart::Byte(b' '), PatternPart::Byte(b':'), PatternPart::Many(Class::Hex)])
 }
 
 fn volume_parts(word: &[u8]) -> Parts
@@ -102,12 +102,12 @@ fn volume_parts(word: &[u8]) -> Parts
     ensures few { length result.items ≤ 9 }
 {
     let mut parts = literal(word);
-    parts.push(Part::Many(Class::Digit));
+    parts.push(PatternPart::Many(Class::Digit));
     parts
 }
 
 // Whether a line with one of the operands that fit their row meets the pattern, with these parts before and after them.
-fn is_worded_met(front: &[Part], operands: Operands, back: &[Part], pattern: &[u8]) -> bool
+fn is_worded_met(front: &[PatternPart], operands: Operands, back: &[PatternPart], pattern: &[u8]) -> bool
     requires front { length front.now ≤ 40 }
     requires back { length back.now ≤ 32 }
     ensures { result ≡ list_any (λ operands. is_met (front.now ++ (operands ++ back.now)) pattern.now) (worded_parts operands) }
@@ -130,7 +130,7 @@ fn is_worded_met(front: &[Part], operands: Operands, back: &[Part], pattern: &[u
         }
         Operands::Text => is_met_in_turn(front, &quoted_parts(), back, pattern),
         Operands::WordAndText(set) => {
-            let word = parts_of(&[Part::Byte(b' '), Part::Word(set)]);
+            let word = parts_of(&[PatternPart::Byte(b' '), PatternPart::Word(set)]);
             let both = both(&word, &quoted_parts());
             is_met_in_turn(front, &word, back, pattern)
                 || is_met_in_turn(front, &both, back, pattern)
@@ -145,11 +145,11 @@ fn header_parts(is_broadcast: bool) -> Parts
     ensures few { length result.items ≤ 3 }
 {
     let destination = if is_broadcast {
-        Part::Byte(b'f')
+        PatternPart::Byte(b'f')
     } else {
-        Part::One(Class::Directed)
+        PatternPart::One(Class::Directed)
     };
-    parts_of(&[Part::One(Class::Hex), Part::Byte(b'>'), destination])
+    parts_of(&[PatternPart::One(Class::Hex), PatternPart::Byte(b'>'), destination])
 }
 
 // A header and an opcode.
@@ -160,7 +160,7 @@ fn opcode_parts(is_broadcast: bool, code: u8) -> Parts
 {
     both(
         &header_parts(is_broadcast),
-        &[Part::Byte(b' '), Part::Opcode(code)],
+        &[PatternPart::Byte(b' '), PatternPart::Opcode(code)],
     )
 }
 
@@ -169,7 +169,7 @@ fn sender_parts() -> Parts
     ensures value { result.items ≡ sender_parts }
     ensures few { length result.items ≤ 11 }
 {
-    let anybody = Part::Many(Class::Unspaced);
+    let anybody = PatternPart::Many(Class::Unspaced);
     let mut parts = literal(b" by ");
     parts.push(anybody);
     let _ = parts.try_extend_from_slice(&literal(b" out "));
@@ -202,11 +202,11 @@ fn verdict_parts(is_broadcast: bool, last_bit: bool) -> Parts
 }
 
 // Whether a text that begins with these parts meets the pattern.
-fn is_front_met(front: &[Part], pattern: &[u8]) -> bool
+fn is_front_met(front: &[PatternPart], pattern: &[u8]) -> bool
     requires { length front.now ≤ 5 }
     ensures { result ≡ is_met (front.now ++ (Many Any ∷ [])) pattern.now }
 {
-    is_met(&both(front, &[Part::Many(Class::Any)]), pattern)
+    is_met(&both(front, &[PatternPart::Many(Class::Any)]), pattern)
 }
 
 // Whether the line of a frame with this opcode and verdict meets the pattern.
@@ -290,8 +290,8 @@ fn is_ending_met(pattern: &[u8], ending: Ending) -> bool
 {
     let word = literal(ending_word(ending));
     let senders = sender_parts();
-    let dash = [Part::Byte(b'-')];
-    let bits = [Part::One(Class::Bit), Part::Many(Class::Bit)];
+    let dash = [PatternPart::Byte(b'-')];
+    let bits = [PatternPart::One(Class::Bit), PatternPart::Many(Class::Bit)];
     is_met_in_turn(&word, &bits, &senders, pattern)
         || is_met_in_turn(&word, &dash, &senders, pattern)
 }

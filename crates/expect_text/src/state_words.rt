@@ -5,12 +5,12 @@ ghost use Rattle.text_core.specs.Words.{words_of};
 ghost use Rattle.expect_text.specs.StateWords.{key, value_of};
 ghost use Rattle.expect_text.specs.StateTest.{by_front, fields, is_bare, is_dash, is_of_field, is_pair, is_second, is_state_word, is_text, is_text_or_dash, is_value, strange_from, strange_word};
 
-use crate::part::{Class, Part, has};
+use crate::part::{Class, PatternPart, has};
 use text_core::{Kind, first_word};
 
 /// A field of a state line: a key with its value.
 #[derive(Clone, Copy, Debug, PartialEq, Eq)]
-pub(crate) enum Field {
+pub(crate) enum StateField {
     Active,
     Path,
     Deck,
@@ -50,78 +50,78 @@ pub(crate) enum Value {
     Count,
 }
 
-const PHYSICAL: &[Part] = &[
-    Part::One(Class::Hex),
-    Part::Byte(b'.'),
-    Part::One(Class::Hex),
-    Part::Byte(b'.'),
-    Part::One(Class::Hex),
-    Part::Byte(b'.'),
-    Part::One(Class::Hex),
+const PHYSICAL: &[PatternPart] = &[
+    PatternPart::One(Class::Hex),
+    PatternPart::Byte(b'.'),
+    PatternPart::One(Class::Hex),
+    PatternPart::Byte(b'.'),
+    PatternPart::One(Class::Hex),
+    PatternPart::Byte(b'.'),
+    PatternPart::One(Class::Hex),
 ];
 
-const NOTE: &[Part] = &[
-    Part::One(Class::Hex),
-    Part::Byte(b':'),
-    Part::One(Class::Hex),
-    Part::One(Class::Hex),
-    Part::Byte(b':'),
-    Part::One(Class::Hex),
-    Part::One(Class::Hex),
+const NOTE: &[PatternPart] = &[
+    PatternPart::One(Class::Hex),
+    PatternPart::Byte(b':'),
+    PatternPart::One(Class::Hex),
+    PatternPart::One(Class::Hex),
+    PatternPart::Byte(b':'),
+    PatternPart::One(Class::Hex),
+    PatternPart::One(Class::Hex),
 ];
 
-const NUMBER: &[Part] = &[Part::One(Class::Digit), Part::Many(Class::Digit)];
+const NUMBER: &[PatternPart] = &[PatternPart::One(Class::Digit), PatternPart::Many(Class::Digit)];
 
-const NIBBLE: &[Part] = &[Part::One(Class::Hex)];
+const NIBBLE: &[PatternPart] = &[PatternPart::One(Class::Hex)];
 
-const BYTE: &[Part] = &[Part::One(Class::Hex), Part::One(Class::Hex)];
+const BYTE: &[PatternPart] = &[PatternPart::One(Class::Hex), PatternPart::One(Class::Hex)];
 
-const HEX: &[Part] = &[
-    Part::One(Class::Hex),
-    Part::One(Class::Hex),
-    Part::Many(Class::Hex),
+const HEX: &[PatternPart] = &[
+    PatternPart::One(Class::Hex),
+    PatternPart::One(Class::Hex),
+    PatternPart::Many(Class::Hex),
 ];
 
-impl Field {
-    const ALL: &'static [Field] = &[
-        Field::Active,
-        Field::Path,
-        Field::Deck,
-        Field::Menu,
-        Field::Audio,
-        Field::Volume,
-        Field::Mute,
-        Field::Arc,
-        Field::Selected,
-        Field::Language,
-        Field::Osd,
-        Field::Held,
-        Field::Heard,
-        Field::Sub,
-        Field::Queue,
-        Field::Dropped,
+impl StateField {
+    const ALL: &'static [StateField] = &[
+        StateField::Active,
+        StateField::Path,
+        StateField::Deck,
+        StateField::Menu,
+        StateField::Audio,
+        StateField::Volume,
+        StateField::Mute,
+        StateField::Arc,
+        StateField::Selected,
+        StateField::Language,
+        StateField::Osd,
+        StateField::Held,
+        StateField::Heard,
+        StateField::Sub,
+        StateField::Queue,
+        StateField::Dropped,
     ];
 
     fn key(self) -> &'static [u8]
         ensures { result.now ≡ key self }
     {
         match self {
-            Field::Active => b"active=",
-            Field::Path => b"path=",
-            Field::Deck => b"deck=",
-            Field::Menu => b"menu=",
-            Field::Audio => b"audio=",
-            Field::Volume => b"volume=",
-            Field::Mute => b"mute=",
-            Field::Arc => b"arc=",
-            Field::Selected => b"sel=",
-            Field::Language => b"lang=",
-            Field::Osd => b"osd=",
-            Field::Held => b"held=",
-            Field::Heard => b"heard=",
-            Field::Sub => b"sub=",
-            Field::Queue => b"queue=",
-            Field::Dropped => b"dropped=",
+            StateField::Active => b"active=",
+            StateField::Path => b"path=",
+            StateField::Deck => b"deck=",
+            StateField::Menu => b"menu=",
+            StateField::Audio => b"audio=",
+            StateField::Volume => b"volume=",
+            StateField::Mute => b"mute=",
+            StateField::Arc => b"arc=",
+            StateField::Selected => b"sel=",
+            StateField::Language => b"lang=",
+            StateField::Osd => b"osd=",
+            StateField::Held => b"held=",
+            StateField::Heard => b"heard=",
+            StateField::Sub => b"sub=",
+            StateField::Queue => b"queue=",
+            StateField::Dropped => b"dropped=",
         }
     }
 
@@ -129,39 +129,39 @@ impl Field {
         ensures { result ≡ value_of self }
     {
         match self {
-            Field::Active | Field::Path => Value::Physical,
-            Field::Deck | Field::Held => Value::Byte,
-            Field::Menu | Field::Audio | Field::Mute | Field::Arc => Value::Switch,
-            Field::Volume | Field::Selected => Value::Number,
-            Field::Language | Field::Osd => Value::Hex,
-            Field::Heard => Value::Note,
-            Field::Sub => Value::Nibble,
-            Field::Queue | Field::Dropped => Value::Count,
+            StateField::Active | StateField::Path => Value::Physical,
+            StateField::Deck | StateField::Held => Value::Byte,
+            StateField::Menu | StateField::Audio | StateField::Mute | StateField::Arc => Value::Switch,
+            StateField::Volume | StateField::Selected => Value::Number,
+            StateField::Language | StateField::Osd => Value::Hex,
+            StateField::Heard => Value::Note,
+            StateField::Sub => Value::Nibble,
+            StateField::Queue | StateField::Dropped => Value::Count,
         }
     }
 }
 
 // Whether a text is one of these parts, none of which is a word of a set or an opcode.
-fn is_text(parts: &[Part], text: &[u8]) -> bool
+fn is_text(parts: &[PatternPart], text: &[u8]) -> bool
     ensures { result ≡ is_text parts.now text.now }
 {
     match parts {
         [] => text.is_empty(),
-        [Part::Byte(due), others @ ..] => match text {
+        [PatternPart::Byte(due), others @ ..] => match text {
             [] => false,
             [byte, rest @ ..] => *byte == *due && is_text(others, rest),
         },
-        [Part::One(class), others @ ..] => match text {
+        [PatternPart::One(class), others @ ..] => match text {
             [] => false,
             [byte, rest @ ..] => has(*class, *byte) && is_text(others, rest),
         },
-        [Part::Many(class), others @ ..] => match text {
+        [PatternPart::Many(class), others @ ..] => match text {
             [] => is_text(others, text),
             [byte, rest @ ..] => {
                 is_text(others, text) || (has(*class, *byte) && is_text(parts, rest))
             }
         },
-        [Part::Word(_), ..] | [Part::Opcode(_), ..] => false,
+        [PatternPart::Word(_), ..] | [PatternPart::Opcode(_), ..] => false,
     }
 }
 
@@ -171,7 +171,7 @@ fn is_dash(text: &[u8]) -> bool
     text == b"-".as_slice()
 }
 
-fn is_text_or_dash(parts: &[Part], text: &[u8]) -> bool
+fn is_text_or_dash(parts: &[PatternPart], text: &[u8]) -> bool
     ensures { result ≡ is_text_or_dash parts.now text.now }
 {
     is_text(parts, text) || is_dash(text)
@@ -205,14 +205,14 @@ fn is_value_after(front: &[u8], value: Value, word: &[u8]) -> bool
     }
 }
 
-fn is_of_field(word: &[u8], field: Field) -> bool
+fn is_of_field(word: &[u8], field: StateField) -> bool
     ensures { result ≡ is_of_field word.now field }
 {
     is_value_after(field.key(), field.value(), word)
 }
 
 // Whether a word is one of these fields with its value.
-fn is_of_any(word: &[u8], fields: &[Field]) -> bool
+fn is_of_any(word: &[u8], fields: &[StateField]) -> bool
     ensures { result ≡ list_any (is_of_field word.now) fields.now }
 {
     match fields {
@@ -225,7 +225,7 @@ fn is_of_any(word: &[u8], fields: &[Field]) -> bool
 fn is_field(word: &[u8]) -> bool
     ensures { result ≡ list_any (is_of_field word.now) fields }
 {
-    is_of_any(word, Field::ALL)
+    is_of_any(word, StateField::ALL)
 }
 
 fn is_second(text: &[u8]) -> bool

@@ -1,6 +1,6 @@
 //! What is said of EDIDs.
 use explain_lists::Draft;
-use explain_marks::Place;
+use explain_marks::InputLine;
 use rules_explain::explain_no_hdmi;
 use std::alloc::AllocError;
 
@@ -31,7 +31,7 @@ fn add_lack_of(draft: &mut Draft, bytes: &[u8]) {
 }
 
 /// Why the EDID of a topology's line has no HDMI block.
-pub fn add_lack(draft: &mut Draft, place: Place<'_>) {
+pub fn add_lack(draft: &mut Draft, place: InputLine<'_>) {
     if let Some(digits) = place.line.strip_prefix(b"edid ") {
         if let Ok(bytes) = hex::decode(draft.alloc(), digits) {
             add_lack_of(draft, &bytes);

@@ -8,7 +8,7 @@ use edid_text_lines::WORD_TEXTS;
 use explain_forms::{add_meant, add_right_forms, add_slip};
 use explain_lists::Draft;
 use explain_marks::{
-    Fault, Gaps, Input, Mark, Place, Slip, gaps_of, is_line_end, label_words, marked,
+    InputFault, Gaps, Input, Mark, InputLine, WordSlip, gaps_of, is_line_end, label_words, marked,
     place_in_session, place_of, plain, slip_of, span_of, word_at,
 };
 use rules_explain::lacks_line_feed;
@@ -53,7 +53,7 @@ fn add_hints(draft: &mut Draft, hints: &[Option<&'static str>]) {
 }
 
 // What stands before a line. Returns its length. A line that the fault counts in its part of the input is counted anew.
-fn add_head(draft: &mut Draft, place: Place<'_>) -> usize {
+fn add_head(draft: &mut Draft, place: InputLine<'_>) -> usize {
     let begin = draft.len();
     let number = place.number;
     if place.before > 0 {
@@ -65,7 +65,7 @@ fn add_head(draft: &mut Draft, place: Place<'_>) -> usize {
 }
 
 // The number and the text of a line, and the mark below its words.
-fn add_shown(draft: &mut Draft, place: Place<'_>, line: &str, gaps: Gaps, mark: Option<Mark>) {
+fn add_shown(draft: &mut Draft, place: InputLine<'_>, line: &str, gaps: Gaps, mark: Option<Mark>) {
     let before = add_head(draft, place);
     let end = if place.line.len() > COLUMNS {
         " ..\n"
@@ -82,13 +82,13 @@ fn add_shown(draft: &mut Draft, place: Place<'_>, line: &str, gaps: Gaps, mark: 
 fn add_word(
     draft: &mut Draft,
     what: Input,
-    place: Place<'_>,
-    fault: Fault,
+    place: InputLine<'_>,
+    fault: InputFault,
     line: &str,
     mark: Mark,
 ) {
     let labels = match fault {
-        Fault::Script { .. } => label_words(what, line),
+        InputFault::Script { .. } => label_words(what, line),
         _ => 0,
     };
     let own = if labels > 0 { plain(what, line) } else { line };
@@ -106,7 +106,7 @@ fn add_word(
 
 // A line as it is shown, with its mark, what is odd about it, and what it would have to look like. Returns whether what would be
 // right in place of any such fault is of no use then.
-fn add_marked(draft: &mut Draft, what: Input, place: Place<'_>, fault: Fault, line: &str) -> bool {
+fn add_marked(draft: &mut Draft, what: Input, place: InputLine<'_>, fault: InputFault, line: &str) -> bool {
     let mark = marked(what, fault, line);
     add_shown(draft, place, line, gaps_of(fault), mark);
     add_hints(draft, of_line(place.line, line).as_slice());
@@ -116,7 +116,7 @@ fn add_marked(draft: &mut Draft, what: Input, place: Place<'_>, fault: Fault, li
     }
     let is_said = add_right_forms(draft, what, place, fault, line);
     match (mark, slip) {
-        (Some(_), Some(found)) if found.slip == Slip::NoName => {}
+        (Some(_), Some(found)) if found.slip == WordSlip::NoName => {}
         (Some(mark), _) => add_word(draft, what, place, fault, line, mark),
         (None, _) => {}
     }
@@ -124,21 +124,21 @@ fn add_marked(draft: &mut Draft, what: Input, place: Place<'_>, fault: Fault, li
 }
 
 // Whether all that is wrong with a line of an EDID's text is that no line feed ends it.
-fn is_unended(place: Place<'_>, fault: Fault, line: &str) -> bool {
+fn is_unended(place: InputLine<'_>, fault: InputFault, line: &str) -> bool {
     let is_last = place.number >= place.input.split(is_line_end).count();
     let is_known = WORD_TEXTS.contains(&word_at(line, 0).unwrap_or(""));
-    matches!(fault, Fault::TextSyntax { .. }) && is_last && is_known && lacks_line_feed(place.input)
+    matches!(fault, InputFault::TextSyntax { .. }) && is_last && is_known && lacks_line_feed(place.input)
 }
 
 // What there is to say of a line that is shown so. Returns whether what would be right in place of any such fault is of no use.
-fn add_line(draft: &mut Draft, what: Input, place: Place<'_>, fault: Fault, line: &str) -> bool {
+fn add_line(draft: &mut Draft, what: Input, place: InputLine<'_>, fault: InputFault, line: &str) -> bool {
     if is_unended(place, fault, line) {
         add_shown(draft, place, line, Gaps::Spaces, None);
         return true;
     }
     let is_said = add_marked(draft, what, place, fault, line);
     match fault {
-        Fault::NoScriptLine if !line.trim_ascii_start().starts_with("s") => {
+        InputFault::NoScriptLine if !line.trim_ascii_start().starts_with("s") => {
             draft.add_line("above this line the line `script` is missing");
         }
         _ => {}
@@ -147,7 +147,7 @@ fn add_line(draft: &mut Draft, what: Input, place: Place<'_>, fault: Fault, line
 }
 
 // The line of a fault. Returns whether what would be right in place of any such fault is of no use.
-fn add_place(draft: &mut Draft, what: Input, place: Place<'_>, fault: Fault) -> bool {
+fn add_place(draft: &mut Draft, what: Input, place: InputLine<'_>, fault: InputFault) -> bool {
     match shown(draft.alloc(), place.line) {
         Ok(line) => add_line(draft, what, place, fault, line.as_str()),
         Err(AllocError) => {
@@ -158,31 +158,31 @@ fn add_place(draft: &mut Draft, what: Input, place: Place<'_>, fault: Fault) -> 
 }
 
 // What is odd about an input that is to be the bytes of an EDID.
-fn add_edid_hints(draft: &mut Draft, fault: Fault, input: &[u8]) {
+fn add_edid_hints(draft: &mut Draft, fault: InputFault, input: &[u8]) {
     add_hints(draft, of_edid(input).as_slice());
-    if matches!(fault, Fault::Edid(EdidError::Length)) && !looks_like_dump(input) {
+    if matches!(fault, InputFault::Edid(EdidError::Length)) && !looks_like_dump(input) {
         add_length(draft, input.len());
     }
 }
 
 // Whether a fault is none of the input, or of too little of it to look at the whole.
-fn is_of_program(fault: Fault) -> bool {
+fn is_of_program(fault: InputFault) -> bool {
     matches!(
         fault,
-        Fault::NoStepsLine
-            | Fault::NoRange
-            | Fault::InputTooLong
-            | Fault::LineTooLong
-            | Fault::Read
-            | Fault::Write
-            | Fault::Memory
-            | Fault::NotUtf8
-            | Fault::Dump(_)
+        InputFault::NoStepsLine
+            | InputFault::NoRange
+            | InputFault::InputTooLong
+            | InputFault::LineTooLong
+            | InputFault::Read
+            | InputFault::Write
+            | InputFault::Memory
+            | InputFault::NotUtf8
+            | InputFault::Dump(_)
     )
 }
 
 // What is odd about the input.
-fn add_input_hints(draft: &mut Draft, what: Input, fault: Fault, input: &[u8]) {
+fn add_input_hints(draft: &mut Draft, what: Input, fault: InputFault, input: &[u8]) {
     match what {
         _ if is_of_program(fault) => {}
         Input::Session => {}
@@ -204,7 +204,7 @@ fn add_input_hints(draft: &mut Draft, what: Input, fault: Fault, input: &[u8]) {
 pub fn explain(
     alloc: Global,
     what: Input,
-    fault: Fault,
+    fault: InputFault,
     input: &[u8],
 ) -> Result<String, AllocError> {
     let mut draft = Draft::new(alloc);
@@ -216,7 +216,7 @@ pub fn explain(
     if !is_said {
         draft.add_line(right(fault));
     }
-    if let (Fault::NoHdmiBlock, Some(place)) = (fault, place) {
+    if let (InputFault::NoHdmiBlock, Some(place)) = (fault, place) {
         add_lack(&mut draft, place);
     }
     add_input_hints(&mut draft, what, fault, input);
@@ -231,7 +231,7 @@ pub fn explain(
 /// Where memory runs out.
 pub fn explain_line(
     alloc: Global,
-    fault: Fault,
+    fault: InputFault,
     topology: &[u8],
     number: u64,
     line: &[u8],

@@ -4,7 +4,7 @@ use edid_base::BaseError;
 use edid_core::EdidError;
 use edid_dump::DumpError;
 use expect_text::ExpectCause;
-use explain_marks::{Fault, RangeSlip};
+use explain_marks::{InputFault, RangeSlip};
 use message_hex::DisCause;
 use message_lay::LayCause;
 use message_text::AssembleError;
@@ -224,55 +224,55 @@ fn of_dump(error: DumpError) -> &'static str {
 }
 
 /// What would be right in place of a fault.
-pub fn right(fault: Fault) -> &'static str {
+pub fn right(fault: InputFault) -> &'static str {
     match fault {
-        Fault::Topology { cause, .. } => of_topology(cause),
-        Fault::Script { cause, .. } => of_script(cause),
-        Fault::Past { .. } => {
+        InputFault::Topology { cause, .. } => of_topology(cause),
+        InputFault::Script { cause, .. } => of_script(cause),
+        InputFault::Past { .. } => {
             "T is the horizon or later: the number after `=` in the last answer"
         }
-        Fault::Expectation { cause, .. } => of_expectation(cause),
-        Fault::Range { cause, .. } => of_range(cause),
-        Fault::Steps { .. } => {
+        InputFault::Expectation { cause, .. } => of_expectation(cause),
+        InputFault::Range { cause, .. } => of_range(cause),
+        InputFault::Steps { .. } => {
             "XX is an opcode, two hex digits in lower case; NAME has a `device` line in the topology; words stand one space apart"
         }
-        Fault::Frame { cause, .. } => of_frame(cause),
-        Fault::Hex { cause, .. } => of_hex(cause),
-        Fault::Lay { cause, .. } => of_laid(cause),
-        Fault::Capture { cause, .. } => of_capture(cause),
-        Fault::Edid(error) => of_edid(error),
-        Fault::NoHdmiBlock => {
+        InputFault::Frame { cause, .. } => of_frame(cause),
+        InputFault::Hex { cause, .. } => of_hex(cause),
+        InputFault::Lay { cause, .. } => of_laid(cause),
+        InputFault::Capture { cause, .. } => of_capture(cause),
+        InputFault::Edid(error) => of_edid(error),
+        InputFault::NoHdmiBlock => {
             "the EDID of a television has a data block of HDMI, with a physical address for its ports to pass on"
         }
-        Fault::NoPort => "a device has ports 1 to 15",
-        Fault::TextSyntax { .. } => {
+        InputFault::NoPort => "a device has ports 1 to 15",
+        InputFault::TextSyntax { .. } => {
             "here another line has to stand: `edid --help` shows the lines in their order; each has its word and all its fields, and ends with a line feed"
         }
-        Fault::TextField { .. } => {
+        InputFault::TextField { .. } => {
             "a field is out of its range or not spelled as it should be: numbers are decimal with no zero before them, hex is lower case"
         }
-        Fault::Dump(error) => of_dump(error),
-        Fault::NoScriptLine => {
+        InputFault::Dump(error) => of_dump(error),
+        InputFault::NoScriptLine => {
             "a line `script`, and nothing else on it, parts the topology from the script"
         }
-        Fault::NoStepsLine => {
+        InputFault::NoStepsLine => {
             "a line `steps`, and nothing else on it, parts the script from the commands"
         }
-        Fault::NoCaptureLine => {
+        InputFault::NoCaptureLine => {
             "a line `capture`, and nothing else on it, parts the expectations from the capture"
         }
-        Fault::NoRange => "no time of the script is a range, as `at 5..9 press tv power`",
-        Fault::InputTooLong => {
+        InputFault::NoRange => "no time of the script is a range, as `at 5..9 press tv power`",
+        InputFault::InputTooLong => {
             "standard input has at most 1048576 bytes, a capture with `--from` 67108864"
         }
-        Fault::LineTooLong => "a line of a session has at most 4096 bytes",
-        Fault::Read => {
+        InputFault::LineTooLong => "a line of a session has at most 4096 bytes",
+        InputFault::Read => {
             "standard input is not to be read: is it open, and is it a file and no folder?"
         }
-        Fault::Write => {
+        InputFault::Write => {
             "standard output takes no more: is the disk full, or the reader gone? What was written before is the front of the output"
         }
-        Fault::Memory => "the system gave no more memory",
-        Fault::NotUtf8 => "the words of the command line are UTF-8",
+        InputFault::Memory => "the system gave no more memory",
+        InputFault::NotUtf8 => "the words of the command line are UTF-8",
     }
 }

@@ -4,7 +4,7 @@ use crate::wanted::add_nearest_of;
 use expect_text::ExpectCause;
 use explain_lists::Draft;
 use explain_marks::{
-    EXPECTATIONS, Place, REFUSALS, REMARKS, is_line_end, is_word, labelled_by, wanted_at,
+    EXPECTATIONS, InputLine, REFUSALS, REMARKS, is_line_end, is_word, labelled_by, wanted_at,
     without_label, word_at, word_count,
 };
 use explain_near::{
@@ -90,7 +90,7 @@ fn add_nearest_of_round(draft: &mut Draft, line: &str, word: &str) {
 }
 
 // The first label that a word may have been meant for. Returns whether there is one.
-fn add_nearest_label(draft: &mut Draft, place: Place<'_>, word: &str) -> bool {
+fn add_nearest_label(draft: &mut Draft, place: InputLine<'_>, word: &str) -> bool {
     let above = place.number.saturating_sub(1);
     for line in place.input.split(is_line_end).take(above) {
         if let Some(name) = labelled_by(line) {
@@ -103,7 +103,7 @@ fn add_nearest_label(draft: &mut Draft, place: Place<'_>, word: &str) -> bool {
 }
 
 // The line above that has a label already. Returns whether there is one.
-fn add_labelled(draft: &mut Draft, place: Place<'_>, word: &str) -> bool {
+fn add_labelled(draft: &mut Draft, place: InputLine<'_>, word: &str) -> bool {
     let above = place.number.saturating_sub(1);
     let mut number = 0usize;
     for line in place.input.split(is_line_end).take(above) {
@@ -126,7 +126,7 @@ fn before_label(is_first: bool) -> &'static str {
 }
 
 // The labels of the lines above. Returns whether there are some.
-fn add_labels(draft: &mut Draft, place: Place<'_>) -> bool {
+fn add_labels(draft: &mut Draft, place: InputLine<'_>) -> bool {
     let above = place.number.saturating_sub(1);
     let mut is_first = true;
     for line in place.input.split(is_line_end).take(above) {
@@ -150,7 +150,7 @@ fn add_nearest_refusal(draft: &mut Draft, line: &str, word: &str) -> bool {
 }
 
 // What a label may have been meant for.
-fn of_label(draft: &mut Draft, place: Place<'_>, line: &str, word: &str) {
+fn of_label(draft: &mut Draft, place: InputLine<'_>, line: &str, word: &str) {
     let _ = add_labelled(draft, place, word)
         || add_nearest_label(draft, place, word)
         || add_nearest_refusal(draft, line, word)
@@ -233,7 +233,7 @@ fn of_word(draft: &mut Draft, line: &str, word: &str, number: usize) {
 /// What a word of an expectation, by its number in the line, may have been meant for.
 pub fn add_expected_meant(
     draft: &mut Draft,
-    place: Place<'_>,
+    place: InputLine<'_>,
     cause: ExpectCause,
     line: &str,
     number: usize,

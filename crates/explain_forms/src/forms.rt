@@ -7,7 +7,7 @@ use crate::room::{add_field_count, add_lack_of_room};
 use expect_text::ExpectCause;
 use explain_lists::Draft;
 use explain_marks::{
-    Fault, Input, LAID, Place, REFUSALS, REMARKS, SCRIPT, SESSION, STEPS, TEST, TOPOLOGY, as_form,
+    InputFault, Input, LAID, InputLine, REFUSALS, REMARKS, SCRIPT, SESSION, STEPS, TEST, TOPOLOGY, as_form,
     fitting, forms_of, frame_start, is_word, missing, most_fitting, plain, slip_of, without_label,
     word_at, word_count,
 };
@@ -69,7 +69,7 @@ fn add_script_forms(draft: &mut Draft, what: Input, line: &str) {
 fn add_script_line(
     draft: &mut Draft,
     what: Input,
-    place: Place<'_>,
+    place: InputLine<'_>,
     line: &str,
     word: usize,
 ) -> bool {
@@ -127,7 +127,7 @@ fn add_topology(draft: &mut Draft, cause: TopologyCause, line: &str) {
 fn add_script(
     draft: &mut Draft,
     what: Input,
-    place: Place<'_>,
+    place: InputLine<'_>,
     cause: ScriptCause,
     line: &str,
     word: usize,
@@ -147,7 +147,7 @@ fn add_script(
 }
 
 // The forms of a line of expectations. Where a word slipped, none is missing at its end.
-fn add_expectation_forms(draft: &mut Draft, what: Input, fault: Fault, line: &str) {
+fn add_expectation_forms(draft: &mut Draft, what: Input, fault: InputFault, line: &str) {
     let own = as_form(what, line);
     match slip_of(fault, line) {
         Some(_) => add_fitting(draft, forms_of(what), own),
@@ -201,7 +201,7 @@ fn add_remarks(draft: &mut Draft, line: &str) -> bool {
 fn add_expectation(
     draft: &mut Draft,
     what: Input,
-    fault: Fault,
+    fault: InputFault,
     cause: ExpectCause,
     line: &str,
 ) -> bool {
@@ -221,7 +221,7 @@ fn add_expectation(
 
 // What the fields of a line of an EDID's text are, or that its extension has no room for it. Returns whether more would be of no
 // use.
-fn add_fields(draft: &mut Draft, place: Place<'_>, line: &str) -> bool {
+fn add_fields(draft: &mut Draft, place: InputLine<'_>, line: &str) -> bool {
     if add_lack_of_room(draft, place) {
         return true;
     }
@@ -238,51 +238,51 @@ fn add_fields(draft: &mut Draft, place: Place<'_>, line: &str) -> bool {
 pub fn add_right_forms(
     draft: &mut Draft,
     what: Input,
-    place: Place<'_>,
-    fault: Fault,
+    place: InputLine<'_>,
+    fault: InputFault,
     line: &str,
 ) -> bool {
     match fault {
-        Fault::Topology { cause, .. } => add_topology(draft, cause, line),
-        Fault::Script { cause, word, .. } => {
+        InputFault::Topology { cause, .. } => add_topology(draft, cause, line),
+        InputFault::Script { cause, word, .. } => {
             let line = plain(what, line);
             return add_script(draft, what, place, cause, line, word);
         }
-        Fault::Expectation { cause, .. } => {
+        InputFault::Expectation { cause, .. } => {
             return add_expectation(draft, what, fault, cause, line);
         }
-        Fault::Steps { .. } => add_forms(draft, STEPS, line),
-        Fault::Frame { cause, .. } => add_frame(draft, cause, line, 0),
-        Fault::Lay {
+        InputFault::Steps { .. } => add_forms(draft, STEPS, line),
+        InputFault::Frame { cause, .. } => add_frame(draft, cause, line, 0),
+        InputFault::Lay {
             cause: LayCause::Frame(cause),
             word,
             ..
         } => add_frame(draft, cause, line, frame_start(cause, word)),
-        Fault::Lay {
+        InputFault::Lay {
             cause: LayCause::Word | LayCause::Number,
             ..
         } => add_forms(draft, LAID, line),
-        Fault::TextField { .. } => return add_fields(draft, place, line),
-        Fault::TextSyntax { .. } => return add_field_count(draft, line),
-        Fault::Past { .. }
-        | Fault::Range { .. }
-        | Fault::Hex { .. }
-        | Fault::Lay { .. }
-        | Fault::Capture { .. }
-        | Fault::Edid(_)
-        | Fault::NoHdmiBlock
-        | Fault::NoPort
-        | Fault::Dump(_)
-        | Fault::NoScriptLine
-        | Fault::NoStepsLine
-        | Fault::NoCaptureLine
-        | Fault::NoRange
-        | Fault::InputTooLong
-        | Fault::LineTooLong
-        | Fault::Read
-        | Fault::Write
-        | Fault::Memory
-        | Fault::NotUtf8 => {}
+        InputFault::TextField { .. } => return add_fields(draft, place, line),
+        InputFault::TextSyntax { .. } => return add_field_count(draft, line),
+        InputFault::Past { .. }
+        | InputFault::Range { .. }
+        | InputFault::Hex { .. }
+        | InputFault::Lay { .. }
+        | InputFault::Capture { .. }
+        | InputFault::Edid(_)
+        | InputFault::NoHdmiBlock
+        | InputFault::NoPort
+        | InputFault::Dump(_)
+        | InputFault::NoScriptLine
+        | InputFault::NoStepsLine
+        | InputFault::NoCaptureLine
+        | InputFault::NoRange
+        | InputFault::InputTooLong
+        | InputFault::LineTooLong
+        | InputFault::Read
+        | InputFault::Write
+        | InputFault::Memory
+        | InputFault::NotUtf8 => {}
     }
     false
 }

@@ -1,7 +1,7 @@
 //! What would be right in place of a key.
 use crate::forms::add_missing;
 use explain_lists::{Draft, add_key_lines, add_keys_of, add_set, taken_by};
-use explain_marks::{Place, is_value, is_word, kind_of, word_at, word_count};
+use explain_marks::{InputLine, is_value, is_word, kind_of, word_at, word_count};
 use message_table::WordSet;
 use text_core::Kind;
 
@@ -25,7 +25,7 @@ fn add_keys(draft: &mut Draft, name: &str, word: &str) -> bool {
 }
 
 // The keys of the device of a line. Returns whether it is known.
-fn add_keys_of_line(draft: &mut Draft, place: Place<'_>, line: &str) -> bool {
+fn add_keys_of_line(draft: &mut Draft, place: InputLine<'_>, line: &str) -> bool {
     let Some(name) = word_at(line, 3) else {
         return false;
     };
@@ -69,7 +69,7 @@ fn add_values(draft: &mut Draft, line: &str, word: usize) -> bool {
 }
 
 /// What would be right in place of a word of a key, by its number in a line. Returns whether more would be of no use.
-pub fn add_key(draft: &mut Draft, place: Place<'_>, line: &str, word: usize) -> bool {
+pub fn add_key(draft: &mut Draft, place: InputLine<'_>, line: &str, word: usize) -> bool {
     if word == KEY {
         add_keys_of_line(draft, place, line)
     } else {

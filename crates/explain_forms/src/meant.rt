@@ -5,12 +5,12 @@ use crate::keys::is_of_key;
 use crate::names::{add_header_name_meant, add_name_meant, add_named_header};
 use crate::topology::add_topology_meant;
 use crate::wanted::add_nearest_of;
-use capture_forms::{Cause, Form};
+use capture_forms::{Cause, CaptureForm};
 use device_features::KeyWord;
 use edid_text_lines::WORD_TEXTS;
 use explain_lists::Draft;
 use explain_marks::{
-    EXPECTATIONS, Fault, Input, LAID, NETWORK, Place, SESSION, SESSION_ALONE, STEPS, is_number,
+    EXPECTATIONS, InputFault, Input, LAID, NETWORK, InputLine, SESSION, SESSION_ALONE, STEPS, is_number,
     is_word, most_fitting, word_at,
 };
 use explain_near::{add_near, add_nearest, add_number, add_other, add_set_meant, add_suggestion};
@@ -184,7 +184,7 @@ fn of_script_number(draft: &mut Draft, line: &str, word: &str, number: usize) {
 }
 
 // What a name of a script may have been meant for: a word, or one in the header of a frame.
-fn of_script_name(draft: &mut Draft, place: Place<'_>, line: &str, word: &str, number: usize) {
+fn of_script_name(draft: &mut Draft, place: InputLine<'_>, line: &str, word: &str, number: usize) {
     if number == 4 && is_word(line, 2, "send") {
         add_header_name_meant(draft, place, word);
     } else {
@@ -195,7 +195,7 @@ fn of_script_name(draft: &mut Draft, place: Place<'_>, line: &str, word: &str, n
 // What the frame of a script may have been meant for.
 fn of_script_frame(
     draft: &mut Draft,
-    place: Place<'_>,
+    place: InputLine<'_>,
     cause: AssembleError,
     line: &str,
     word: &str,
@@ -210,7 +210,7 @@ fn of_script_frame(
 fn of_script(
     draft: &mut Draft,
     what: Input,
-    place: Place<'_>,
+    place: InputLine<'_>,
     cause: ScriptCause,
     line: &str,
     number: usize,
@@ -244,7 +244,7 @@ fn add_opcode(draft: &mut Draft, word: &str) {
 }
 
 // What a word of a step may have been meant for.
-fn of_step(draft: &mut Draft, place: Place<'_>, line: &str, word: &str, number: usize) {
+fn of_step(draft: &mut Draft, place: InputLine<'_>, line: &str, word: &str, number: usize) {
     if number == 2 && is_word(line, 1, "opcode") {
         add_opcode(draft, word);
     } else if is_word(line, 0, "show") && number == 1 || is_word(line, 1, "device") && number == 2 {
@@ -272,8 +272,8 @@ fn of_edge(draft: &mut Draft, word: &str, number: usize) {
 pub fn add_meant(
     draft: &mut Draft,
     what: Input,
-    place: Place<'_>,
-    fault: Fault,
+    place: InputLine<'_>,
+    fault: InputFault,
     line: &str,
     number: usize,
 ) {
@@ -281,52 +281,52 @@ pub fn add_meant(
         return;
     };
     match fault {
-        Fault::Topology { cause, .. } => add_topology_meant(draft, place, cause, line, number),
-        Fault::Script { cause, .. } => of_script(draft, what, place, cause, line, number),
-        Fault::Expectation { cause, .. } => {
+        InputFault::Topology { cause, .. } => add_topology_meant(draft, place, cause, line, number),
+        InputFault::Script { cause, .. } => of_script(draft, what, place, cause, line, number),
+        InputFault::Expectation { cause, .. } => {
             add_expected_meant(draft, place, cause, line, number);
         }
-        Fault::Steps { .. } => of_step(draft, place, line, word, number),
-        Fault::Frame { cause, .. } => add_frame_meant(draft, cause, line, number),
-        Fault::Lay {
+        InputFault::Steps { .. } => of_step(draft, place, line, word, number),
+        InputFault::Frame { cause, .. } => add_frame_meant(draft, cause, line, number),
+        InputFault::Lay {
             cause: LayCause::Number,
             ..
         } => add_number(draft, word),
-        Fault::Lay {
+        InputFault::Lay {
             cause: LayCause::Frame(AssembleError::Address),
             ..
         } if add_nearest_of(draft, LAID, word) => {}
-        Fault::Lay {
+        InputFault::Lay {
             cause: LayCause::Frame(cause),
             ..
         } => add_frame_meant(draft, cause, line, number),
-        Fault::TextSyntax { .. } => {
+        InputFault::TextSyntax { .. } => {
             let _ = add_nearest(draft, WORD_TEXTS, word);
         }
-        Fault::Capture {
-            form: Form::Edges,
+        InputFault::Capture {
+            form: CaptureForm::Edges,
             cause: Cause::Line,
             ..
         } => of_edge(draft, word, number),
-        Fault::Past { .. }
-        | Fault::Range { .. }
-        | Fault::Hex { .. }
-        | Fault::Lay { .. }
-        | Fault::Capture { .. }
-        | Fault::Edid(_)
-        | Fault::NoHdmiBlock
-        | Fault::NoPort
-        | Fault::TextField { .. }
-        | Fault::Dump(_)
-        | Fault::NoScriptLine
-        | Fault::NoStepsLine
-        | Fault::NoCaptureLine
-        | Fault::NoRange
-        | Fault::InputTooLong
-        | Fault::LineTooLong
-        | Fault::Read
-        | Fault::Write
-        | Fault::Memory
-        | Fault::NotUtf8 => {}
+        InputFault::Past { .. }
+        | InputFault::Range { .. }
+        | InputFault::Hex { .. }
+        | InputFault::Lay { .. }
+        | InputFault::Capture { .. }
+        | InputFault::Edid(_)
+        | InputFault::NoHdmiBlock
+        | InputFault::NoPort
+        | InputFault::TextField { .. }
+        | InputFault::Dump(_)
+        | InputFault::NoScriptLine
+        | InputFault::NoStepsLine
+        | InputFault::NoCaptureLine
+        | InputFault::NoRange
+        | InputFault::InputTooLong
+        | InputFault::LineTooLong
+        | InputFault::Read
+        | InputFault::Write
+        | InputFault::Memory
+        | InputFault::NotUtf8 => {}
     }
 }

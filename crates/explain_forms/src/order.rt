@@ -1,6 +1,6 @@
 //! Which line of a script is earlier than which.
 use explain_lists::Draft;
-use explain_marks::{Place, is_line_end, without_label, word_at};
+use explain_marks::{InputLine, is_line_end, without_label, word_at};
 
 /// What an event's line begins with.
 const EVENT: &str = "at ";
@@ -55,7 +55,7 @@ fn end_of(line: &[u8], of_events: bool) -> Option<u64> {
 }
 
 // The last line of the script before one, that is an event, or a pulse, a pull or one of the pin.
-fn last_before(place: Place<'_>, of_events: bool) -> Option<Earlier> {
+fn last_before(place: InputLine<'_>, of_events: bool) -> Option<Earlier> {
     let mut last = None;
     let mut number = 0usize;
     let above = place.number.saturating_sub(1);
@@ -76,7 +76,7 @@ fn last_before(place: Place<'_>, of_events: bool) -> Option<Earlier> {
 }
 
 // Of an event that is earlier than the last one above.
-fn add_earlier_event(draft: &mut Draft, place: Place<'_>) {
+fn add_earlier_event(draft: &mut Draft, place: InputLine<'_>) {
     let number = place.number;
     if let (Some(instant), Some(last)) = (
         number_after(place.line, EVENT, 0),
@@ -108,7 +108,7 @@ fn add_earlier_level(draft: &mut Draft, number: usize, instant: u64, last: Earli
 }
 
 // Of a pulse that begins before the last one above ends, or a pull that does not begin after that end.
-fn add_earlier_low(draft: &mut Draft, place: Place<'_>) {
+fn add_earlier_low(draft: &mut Draft, place: InputLine<'_>) {
     let number = place.number;
     let Some(last) = last_before(place, false) else {
         return;
@@ -141,7 +141,7 @@ fn add_earlier_low(draft: &mut Draft, place: Place<'_>) {
 }
 
 /// Says which line's time is earlier than which, of a line of a script that is out of order.
-pub fn add_order(draft: &mut Draft, place: Place<'_>) {
+pub fn add_order(draft: &mut Draft, place: InputLine<'_>) {
     if end_of(place.line, false).is_some() {
         add_earlier_low(draft, place);
     } else {

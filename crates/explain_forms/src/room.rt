@@ -1,7 +1,7 @@
 //! The lines of an EDID's text: how many fields they have, and the room that they take in an extension.
 use edid_text_lines::{Form, word_of};
 use explain_lists::Draft;
-use explain_marks::{Place, is_line_end, word_at};
+use explain_marks::{InputLine, is_line_end, word_at};
 use text_core::spaces_unquoted;
 
 /// The bytes of an extension for its data blocks and timings: 127, without the first four.
@@ -57,7 +57,7 @@ fn after_line(taken: Option<usize>, line: &[u8]) -> Option<usize> {
 }
 
 // The bytes that the lines above stand for in the extension of a line, where it is one with data blocks.
-fn taken_above(place: Place<'_>) -> Option<usize> {
+fn taken_above(place: InputLine<'_>) -> Option<usize> {
     let mut taken = None;
     let above = place.number.saturating_sub(1);
     for line in place.input.split(is_line_end).take(above) {
@@ -67,12 +67,12 @@ fn taken_above(place: Place<'_>) -> Option<usize> {
 }
 
 // The bytes that a line itself stands for.
-fn own_size(place: Place<'_>) -> Option<usize> {
+fn own_size(place: InputLine<'_>) -> Option<usize> {
     size_of(str::from_utf8(place.line).ok()?)
 }
 
 /// Whether a line's extension has no room for it, which is then said.
-pub fn add_lack_of_room(draft: &mut Draft, place: Place<'_>) -> bool {
+pub fn add_lack_of_room(draft: &mut Draft, place: InputLine<'_>) -> bool {
     let (Some(above), Some(own)) = (taken_above(place), own_size(place)) else {
         return false;
     };

@@ -1,7 +1,7 @@
 //! What the words of a topology's line may have been meant for, and what stands in their way.
 use crate::names::{add_name_meant, add_taken};
 use explain_lists::Draft;
-use explain_marks::{Place, is_line_end, kind_of, ports_of, word_at};
+use explain_marks::{InputLine, is_line_end, kind_of, ports_of, word_at};
 use explain_near::{add_near, add_nearest, add_number, add_other, add_suggestion};
 use room_script::TopologyCause;
 use text_core::Kind;
@@ -58,7 +58,7 @@ const OTHER_VERBS: &[(&str, &str)] = &[
 const EVENTS: &[&str] = &["press", "release", "unplug", "send", "hold", "drop"];
 
 // What a name of a topology's line may have been meant for, by its line.
-fn of_topology_name(draft: &mut Draft, place: Place<'_>, word: &str) {
+fn of_topology_name(draft: &mut Draft, place: InputLine<'_>, word: &str) {
     if place.line.starts_with(b"plug ") {
         add_name_meant(draft, place, word);
     } else {
@@ -123,7 +123,7 @@ fn of_topology_word(draft: &mut Draft, word: &str, number: usize) {
 }
 
 // The PORTS of a device of a topology.
-fn add_ports(draft: &mut Draft, place: Place<'_>, name: &str) {
+fn add_ports(draft: &mut Draft, place: InputLine<'_>, name: &str) {
     match ports_of(place, name) {
         Some("0") => draft.add_all(&["  `", name, "` has no ports\n"]),
         Some(ports) => draft.add_all(&["  `", name, "` has the ports 1 to ", ports, "\n"]),
@@ -132,7 +132,7 @@ fn add_ports(draft: &mut Draft, place: Place<'_>, name: &str) {
 }
 
 // The line above that plugs into a port, with its number.
-fn add_plugged(draft: &mut Draft, place: Place<'_>, parent: &str, port: &str) {
+fn add_plugged(draft: &mut Draft, place: InputLine<'_>, parent: &str, port: &str) {
     let above = place.number.saturating_sub(1);
     let mut number = 0usize;
     for line in place.input.split(is_line_end).take(above) {
@@ -149,7 +149,7 @@ fn add_plugged(draft: &mut Draft, place: Place<'_>, parent: &str, port: &str) {
 }
 
 // The line above that plugs a device in, or that it is the television.
-fn add_not_loose(draft: &mut Draft, place: Place<'_>, child: &str) {
+fn add_not_loose(draft: &mut Draft, place: InputLine<'_>, child: &str) {
     if kind_of(place, child) == Some("tv") {
         return draft.add_all(&["  `", child, "` is the root: it is in no port\n"]);
     }
@@ -177,7 +177,7 @@ fn add_digits(draft: &mut Draft, word: &str) {
 }
 
 // What stands in the way of a line that plugs a device in.
-fn of_plug(draft: &mut Draft, place: Place<'_>, cause: TopologyCause, line: &str) {
+fn of_plug(draft: &mut Draft, place: InputLine<'_>, cause: TopologyCause, line: &str) {
     let (Some(child), Some(parent), Some(port)) = (
         word_at(line, 1),
         word_at(line, 2),
@@ -206,7 +206,7 @@ fn add_port_number(draft: &mut Draft, word: &str) {
 /// What a word of a topology may have been meant for, by its number in the line.
 pub fn add_topology_meant(
     draft: &mut Draft,
-    place: Place<'_>,
+    place: InputLine<'_>,
     cause: TopologyCause,
     line: &str,
     number: usize,

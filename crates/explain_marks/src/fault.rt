@@ -1,5 +1,5 @@
 //! The faults of inputs, as the libraries return them.
-use capture_forms::{Cause, Form};
+use capture_forms::{Cause, CaptureForm};
 use edid_core::EdidError;
 use edid_dump::DumpError;
 use expect_text::ExpectCause;
@@ -43,7 +43,7 @@ pub enum RangeSlip {
 /// Why the program did not do what it was asked. Lines count from 1 in their part of the input, words from 0 in their line;
 /// where a word is missing, its number is the one that it would have.
 #[derive(Clone, Copy, Debug)]
-pub enum Fault {
+pub enum InputFault {
     /// A line of a topology.
     Topology {
         line: u64,
@@ -96,7 +96,7 @@ pub enum Fault {
     },
     /// A line of a capture in this form, which parts its words.
     Capture {
-        form: Form,
+        form: CaptureForm,
         line: u64,
         cause: Cause,
         word: usize,

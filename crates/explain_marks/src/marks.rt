@@ -1,11 +1,11 @@
 //! Which words of a line are at fault.
 use crate::edges::in_line;
 use crate::expectations::{after_label, label_words};
-use crate::fault::{Fault, Input};
+use crate::fault::{InputFault, Input};
 use crate::grammar::{SESSION_ALONE, most_fitting};
 use crate::slips::slip_of;
 use crate::words::{Gaps, word_at};
-use capture_forms::{Cause, Form};
+use capture_forms::{Cause, CaptureForm};
 use expect_text::ExpectCause;
 use message_lay::LayCause;
 use message_text::AssembleError;
@@ -120,23 +120,23 @@ fn in_expectation(cause: ExpectCause, word: usize) -> Option<Mark> {
 }
 
 // A line of a capture. Where no name is the signal's, all names are at fault.
-fn in_capture(form: Form, cause: Cause, word: usize, line: &str) -> Option<Mark> {
+fn in_capture(form: CaptureForm, cause: Cause, word: usize, line: &str) -> Option<Mark> {
     match form {
-        Form::Edges if cause == Cause::Line => in_line(line, word),
-        Form::Csv if cause == Cause::Signal => from(word),
-        Form::Edges | Form::Vcd | Form::Pin | Form::Csv => one(word),
+        CaptureForm::Edges if cause == Cause::Line => in_line(line, word),
+        CaptureForm::Csv if cause == Cause::Signal => from(word),
+        CaptureForm::Edges | CaptureForm::Vcd | CaptureForm::Pin | CaptureForm::Csv => one(word),
     }
 }
 
 /// What parts the words of a fault's line.
-pub fn gaps_of(fault: Fault) -> Gaps {
+pub fn gaps_of(fault: InputFault) -> Gaps {
     match fault {
-        Fault::Capture {
-            form: Form::Vcd,
+        InputFault::Capture {
+            form: CaptureForm::Vcd,
             ..
         } => Gaps::Blanks,
-        Fault::Capture {
-            form: Form::Csv,
+        InputFault::Capture {
+            form: CaptureForm::Csv,
             ..
         } => Gaps::Commas,
         _ => Gaps::Spaces,
@@ -170,43 +170,43 @@ fn in_line_of_script(what: Input, cause: ScriptCause, word: usize, line: &str) -
 }
 
 // The words at fault where nothing else slipped.
-fn told(what: Input, fault: Fault, line: &str) -> Option<Mark> {
+fn told(what: Input, fault: InputFault, line: &str) -> Option<Mark> {
     match fault {
-        Fault::Topology { word, .. } => one(word),
-        Fault::Script { cause, word, .. } => in_line_of_script(what, cause, word, line),
-        Fault::Past { word, .. } => one(word),
-        Fault::Expectation { cause, word, .. } => in_expectation(cause, word),
-        Fault::Range { word, .. } => one(word),
-        Fault::Steps { word, .. } => one(word),
-        Fault::Frame { cause, .. } => in_frame(cause),
-        Fault::Lay { cause, word, .. } => in_laid(cause, word),
-        Fault::Capture {
+        InputFault::Topology { word, .. } => one(word),
+        InputFault::Script { cause, word, .. } => in_line_of_script(what, cause, word, line),
+        InputFault::Past { word, .. } => one(word),
+        InputFault::Expectation { cause, word, .. } => in_expectation(cause, word),
+        InputFault::Range { word, .. } => one(word),
+        InputFault::Steps { word, .. } => one(word),
+        InputFault::Frame { cause, .. } => in_frame(cause),
+        InputFault::Lay { cause, word, .. } => in_laid(cause, word),
+        InputFault::Capture {
             form,
             cause,
             word,
             ..
         } => in_capture(form, cause, word, line),
-        Fault::Edid(_) | Fault::NoHdmiBlock => from(1),
-        Fault::TextField { word, .. } => in_text(line, word),
-        Fault::TextSyntax { .. } => one(0),
-        Fault::Hex { .. }
-        | Fault::NoPort
-        | Fault::Dump(_)
-        | Fault::NoScriptLine
-        | Fault::NoStepsLine
-        | Fault::NoCaptureLine
-        | Fault::NoRange
-        | Fault::InputTooLong
-        | Fault::LineTooLong
-        | Fault::Read
-        | Fault::Write
-        | Fault::Memory
-        | Fault::NotUtf8 => None,
+        InputFault::Edid(_) | InputFault::NoHdmiBlock => from(1),
+        InputFault::TextField { word, .. } => in_text(line, word),
+        InputFault::TextSyntax { .. } => one(0),
+        InputFault::Hex { .. }
+        | InputFault::NoPort
+        | InputFault::Dump(_)
+        | InputFault::NoScriptLine
+        | InputFault::NoStepsLine
+        | InputFault::NoCaptureLine
+        | InputFault::NoRange
+        | InputFault::InputTooLong
+        | InputFault::LineTooLong
+        | InputFault::Read
+        | InputFault::Write
+        | InputFault::Memory
+        | InputFault::NotUtf8 => None,
     }
 }
 
 /// The words at fault of a fault's line, as it is shown: those that slipped, or else those that the fault tells.
-pub fn marked(what: Input, fault: Fault, line: &str) -> Option<Mark> {
+pub fn marked(what: Input, fault: InputFault, line: &str) -> Option<Mark> {
     match slip_of(fault, line) {
         Some(found) => Some(found.mark),
         None => told(what, fault, line),

@@ -1,9 +1,9 @@
 //! Where in an input a fault stands.
-use crate::fault::{Fault, Input};
+use crate::fault::{InputFault, Input};
 
 /// A line of an input, with its number from 1.
 #[derive(Clone, Copy)]
-pub struct Place<'a> {
+pub struct InputLine<'a> {
     pub input: &'a [u8],
     /// How many lines stand before the part in which the line is.
     pub before: usize,
@@ -18,11 +18,11 @@ pub fn is_line_end(byte: &u8) -> bool {
 }
 
 // The line of this number, from 1, after some others.
-fn line_of(input: &[u8], before: usize, line: u64) -> Option<Place<'_>> {
+fn line_of(input: &[u8], before: usize, line: u64) -> Option<InputLine<'_>> {
     let number = before.saturating_add(usize::try_from(line).ok()?);
     let index = number.checked_sub(1)?;
     let line = input.split(is_line_end).nth(index)?;
-    Some(Place {
+    Some(InputLine {
         input,
         before,
         number,
@@ -49,12 +49,12 @@ fn is_like_any(line: &[u8], texts: &[&str]) -> bool {
 }
 
 // The first line that begins like one of some texts.
-fn find_like<'a>(input: &'a [u8], texts: &[&str]) -> Option<Place<'a>> {
+fn find_like<'a>(input: &'a [u8], texts: &[&str]) -> Option<InputLine<'a>> {
     let mut number = 0usize;
     for line in input.split(is_line_end) {
         number = number.saturating_add(1);
         if is_like_any(line, texts) {
-            return Some(Place {
+            return Some(InputLine {
                 input,
                 before: 0,
                 number,
@@ -66,7 +66,7 @@ fn find_like<'a>(input: &'a [u8], texts: &[&str]) -> Option<Place<'a>> {
 }
 
 // The line that was meant to part an input, or else the first line that stands after it in other inputs.
-fn find_parting<'a>(input: &'a [u8], parting: &str, later: &[&str]) -> Option<Place<'a>> {
+fn find_parting<'a>(input: &'a [u8], parting: &str, later: &[&str]) -> Option<InputLine<'a>> {
     match find_like(input, &[parting]) {
         Some(place) => Some(place),
         None => find_like(input, later),
@@ -112,7 +112,7 @@ fn before_expectations(what: Input, input: &[u8]) -> usize {
 }
 
 // The `edid` line of a topology.
-fn edid_line(what: Input, input: &[u8]) -> Option<Place<'_>> {
+fn edid_line(what: Input, input: &[u8]) -> Option<InputLine<'_>> {
     match what {
         Input::Network | Input::Test => find_like(input, &["edid "]),
         _ => None,
@@ -120,10 +120,10 @@ fn edid_line(what: Input, input: &[u8]) -> Option<Place<'_>> {
 }
 
 /// A line of a session, the one of this number after the line `script`. Of what came before only the topology is known.
-pub fn place_in_session<'a>(topology: &'a [u8], number: u64, line: &'a [u8]) -> Place<'a> {
+pub fn place_in_session<'a>(topology: &'a [u8], number: u64, line: &'a [u8]) -> InputLine<'a> {
     // The topology's last line has an end, so that there is one more than it has lines: for the line `script`.
     let before = topology.split(is_line_end).count();
-    Place {
+    InputLine {
         input: topology,
         before,
         number: before.saturating_add(usize::try_from(number).unwrap_or(usize::MAX)),
@@ -132,46 +132,46 @@ pub fn place_in_session<'a>(topology: &'a [u8], number: u64, line: &'a [u8]) -> 
 }
 
 /// Where a fault stands in a whole input.
-pub fn place_of(input: &[u8], what: Input, fault: Fault) -> Option<Place<'_>> {
+pub fn place_of(input: &[u8], what: Input, fault: InputFault) -> Option<InputLine<'_>> {
     if what == Input::Session {
         return None;
     }
     match fault {
-        Fault::Topology {
+        InputFault::Topology {
             cause: room_script::TopologyCause::NoRoot,
             ..
         } => None,
-        Fault::Topology { line, .. } => line_of(input, 0, line),
-        Fault::Script { line, .. } | Fault::Range { line, .. } | Fault::Past { line, .. } => {
+        InputFault::Topology { line, .. } => line_of(input, 0, line),
+        InputFault::Script { line, .. } | InputFault::Range { line, .. } | InputFault::Past { line, .. } => {
             line_of(input, before_script(input), line)
         }
-        Fault::Expectation { line, .. } => line_of(input, before_expectations(what, input), line),
-        Fault::Steps { line, .. } => line_of(input, before_steps(input), line),
-        Fault::Capture { line, .. } => line_of(input, before_capture(what, input), line),
-        Fault::Frame { line, .. }
-        | Fault::Hex { line, .. }
-        | Fault::Lay { line, .. }
-        | Fault::TextSyntax { line }
-        | Fault::TextField { line, .. } => line_of(input, 0, line),
-        Fault::Edid(_) | Fault::NoHdmiBlock => edid_line(what, input),
-        Fault::NoScriptLine => find_parting(
+        InputFault::Expectation { line, .. } => line_of(input, before_expectations(what, input), line),
+        InputFault::Steps { line, .. } => line_of(input, before_steps(input), line),
+        InputFault::Capture { line, .. } => line_of(input, before_capture(what, input), line),
+        InputFault::Frame { line, .. }
+        | InputFault::Hex { line, .. }
+        | InputFault::Lay { line, .. }
+        | InputFault::TextSyntax { line }
+        | InputFault::TextField { line, .. } => line_of(input, 0, line),
+        InputFault::Edid(_) | InputFault::NoHdmiBlock => edid_line(what, input),
+        InputFault::NoScriptLine => find_parting(
             input,
             "script",
             &[
                 "at ", "pulse ", "pull ", "pin ", "end ", "label ", "expect ",
             ],
         ),
-        Fault::NoStepsLine => find_parting(input, "steps", &["edge", "round", "until ", "show "]),
-        Fault::NoCaptureLine => find_parting(input, "capture", &[]),
-        Fault::NoPort
-        | Fault::Dump(_)
-        | Fault::NoRange
-        | Fault::InputTooLong
-        | Fault::LineTooLong
-        | Fault::Read
-        | Fault::Write
-        | Fault::Memory
-        | Fault::NotUtf8 => None,
+        InputFault::NoStepsLine => find_parting(input, "steps", &["edge", "round", "until ", "show "]),
+        InputFault::NoCaptureLine => find_parting(input, "capture", &[]),
+        InputFault::NoPort
+        | InputFault::Dump(_)
+        | InputFault::NoRange
+        | InputFault::InputTooLong
+        | InputFault::LineTooLong
+        | InputFault::Read
+        | InputFault::Write
+        | InputFault::Memory
+        | InputFault::NotUtf8 => None,
     }
 }
 
@@ -187,7 +187,7 @@ pub fn declared_by(line: &[u8]) -> Option<&str> {
 }
 
 /// The PORTS of a device that a line above a place declares.
-pub fn ports_of<'a>(place: Place<'a>, name: &str) -> Option<&'a str> {
+pub fn ports_of<'a>(place: InputLine<'a>, name: &str) -> Option<&'a str> {
     let above = place.number.saturating_sub(1);
     for line in place.input.split(is_line_end).take(above) {
         if declared_by(line) == Some(name) {
@@ -198,7 +198,7 @@ pub fn ports_of<'a>(place: Place<'a>, name: &str) -> Option<&'a str> {
 }
 
 /// The word of the kind of a device that a line above a place declares.
-pub fn kind_of<'a>(place: Place<'a>, name: &str) -> Option<&'a str> {
+pub fn kind_of<'a>(place: InputLine<'a>, name: &str) -> Option<&'a str> {
     let above = place.number.saturating_sub(1);
     for line in place.input.split(is_line_end).take(above) {
         if declared_by(line) == Some(name) {

@@ -1,6 +1,6 @@
 //! Slips that make another word of a line at fault than the one that was written wrong.
 use crate::expectations::without_label;
-use crate::fault::Fault;
+use crate::fault::InputFault;
 use crate::grammar::REFUSALS;
 use crate::marks::{Mark, is_word};
 use crate::words::{word_at, word_count};
@@ -11,7 +11,7 @@ use text_core::Kind;
 
 /// What slipped.
 #[derive(Clone, Copy, Debug, PartialEq, Eq)]
-pub enum Slip {
+pub enum WordSlip {
     /// Two spaces stand side by side.
     Gap,
     /// `at` stands before a time that takes none.
@@ -33,7 +33,7 @@ pub enum Slip {
 /// A slip, and its words.
 #[derive(Clone, Copy)]
 pub struct Slipped {
-    pub slip: Slip,
+    pub slip: WordSlip,
     pub mark: Mark,
 }
 
@@ -41,7 +41,7 @@ pub struct Slipped {
 const EVENT_WORDS: &[&str] = &["press", "release", "plug", "unplug", "send", "hold", "drop"];
 
 // Words of a line, by their numbers after its label.
-fn at_words(slip: Slip, first: usize, last: usize) -> Option<Slipped> {
+fn at_words(slip: WordSlip, first: usize, last: usize) -> Option<Slipped> {
     Some(Slipped {
         slip,
         mark: Mark { first, last },
@@ -79,12 +79,12 @@ fn is_event_word(word: Option<&str>) -> bool {
 
 fn in_event(line: &str) -> Option<Slipped> {
     if is_event_word(word_at(line, 1)) {
-        return at_words(Slip::NoTime, 1, 1);
+        return at_words(WordSlip::NoTime, 1, 1);
     }
     let is_of_key = is_word(line, 2, "press") || is_word(line, 2, "release");
     let has_name = word_at(line, 4).is_some() && !is_key(word_at(line, 4));
     if is_of_key && is_key(word_at(line, 3)) && has_name {
-        return at_words(Slip::KeyFirst, 3, 4);
+        return at_words(WordSlip::KeyFirst, 3, 4);
     }
     None
 }
@@ -99,8 +99,8 @@ fn begins_with_letter(word: &str) -> bool {
 // Of `expect state T NAME WORD`.
 fn in_state(line: &str) -> Option<Slipped> {
     match word_at(line, 2) {
-        Some("at") => at_words(Slip::StrayAt, 2, 2),
-        Some(word) if begins_with_letter(word) => at_words(Slip::NoTime, 2, 2),
+        Some("at") => at_words(WordSlip::StrayAt, 2, 2),
+        Some(word) if begins_with_letter(word) => at_words(WordSlip::NoTime, 2, 2),
         _ => None,
     }
 }
@@ -109,7 +109,7 @@ fn in_state(line: &str) -> Option<Slipped> {
 fn in_window(line: &str, within: usize) -> Option<Slipped> {
     let after = within.saturating_add(1);
     if is_word(line, after, "of") {
-        at_words(Slip::NoDuration, after, after)
+        at_words(WordSlip::NoDuration, after, after)
     } else {
         None
     }
@@ -119,7 +119,7 @@ fn in_window(line: &str, within: usize) -> Option<Slipped> {
 fn in_refusal(line: &str) -> Option<Slipped> {
     let word = word_at(line, 2)?;
     if REFUSALS.contains(&word) && word_count(line) == 3 {
-        at_words(Slip::NoName, 2, 2)
+        at_words(WordSlip::NoName, 2, 2)
     } else {
         None
     }
@@ -139,7 +139,7 @@ fn in_expected(line: &str) -> Option<Slipped> {
 fn in_label(line: &str) -> Option<Slipped> {
     match (word_at(line, 0), word_at(line, 1)) {
         (Some("label"), Some("at" | "pulse" | "pull" | "pin" | "expect")) => {
-            at_words(Slip::NoName, 1, 1)
+            at_words(WordSlip::NoName, 1, 1)
         }
         _ => None,
     }
@@ -150,7 +150,7 @@ fn in_line(line: &str) -> Option<Slipped> {
     match word_at(line, 0) {
         Some("at") => in_event(line),
         Some("pulse" | "pull" | "pin" | "end") if is_word(line, 1, "at") => {
-            at_words(Slip::StrayAt, 1, 1)
+            at_words(WordSlip::StrayAt, 1, 1)
         }
         Some("expect") => in_expected(line),
         _ => None,
@@ -174,7 +174,7 @@ fn in_script(line: &str, labels: usize, word: usize) -> Option<Slipped> {
 fn before(line: &str, word: usize) -> Option<Slipped> {
     let gap = gap_in(line)?;
     if gap < word {
-        at_words(Slip::Gap, gap, gap)
+        at_words(WordSlip::Gap, gap, gap)
     } else {
         None
     }
@@ -202,11 +202,11 @@ fn begins_with_digit(word: Option<&str>) -> bool {
 fn in_topology(line: &str) -> Option<Slipped> {
     match word_at(line, 0) {
         Some("device") if is_kind(word_at(line, 3)) && begins_with_digit(word_at(line, 2)) => {
-            at_words(Slip::PortsFirst, 2, 3)
+            at_words(WordSlip::PortsFirst, 2, 3)
         }
         Some("plug") => match word_at(line, 2) {
             Some("to" | "into" | "in" | "on" | "at") if word_count(line) == 5 => {
-                at_words(Slip::StrayWord, 2, 2)
+                at_words(WordSlip::StrayWord, 2, 2)
             }
             _ => None,
         },
@@ -251,12 +251,12 @@ fn of_expectation(line: &str, cause: ExpectCause, word: usize) -> Option<Slipped
 }
 
 /// The slip of a fault's line, as it is shown.
-pub fn slip_of(fault: Fault, line: &str) -> Option<Slipped> {
+pub fn slip_of(fault: InputFault, line: &str) -> Option<Slipped> {
     match fault {
-        Fault::Topology { cause, word, .. } => of_topology(line, cause, word),
-        Fault::Script { cause, word, .. } => of_script(line, cause, word),
-        Fault::Expectation { cause, word, .. } => of_expectation(line, cause, word),
-        Fault::Steps { word, .. } | Fault::Lay { word, .. } => before(line, word),
+        InputFault::Topology { cause, word, .. } => of_topology(line, cause, word),
+        InputFault::Script { cause, word, .. } => of_script(line, cause, word),
+        InputFault::Expectation { cause, word, .. } => of_expectation(line, cause, word),
+        InputFault::Steps { word, .. } | InputFault::Lay { word, .. } => before(line, word),
         _ => None,
     }
 }

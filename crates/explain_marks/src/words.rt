@@ -2,7 +2,7 @@
 
 /// Columns of a line, from 0, up to `end`.
 #[derive(Clone, Copy)]
-pub struct Span {
+pub struct ColumnSpan {
     pub begin: usize,
     pub end: usize,
 }
@@ -38,15 +38,15 @@ impl Gaps {
 }
 
 // Columns from one up to another. An empty word has one column.
-fn columns(begin: usize, start: usize, end: usize) -> Span {
-    Span {
+fn columns(begin: usize, start: usize, end: usize) -> ColumnSpan {
+    ColumnSpan {
         begin,
         end: end.max(start.saturating_add(1)),
     }
 }
 
 /// Where words of a line stand, from one on up to another, or up to the last one. Where the line has not so many, there is none.
-pub fn span_of(line: &[u8], gaps: Gaps, first: usize, last: usize) -> Option<Span> {
+pub fn span_of(line: &[u8], gaps: Gaps, first: usize, last: usize) -> Option<ColumnSpan> {
     let mut word = 0usize;
     let mut start = 0usize;
     let mut begin = (first == 0).then_some(0usize);

@@ -9,8 +9,8 @@ use Rattle.std.proofs.lemmas.List.Splits.{length-slice_split}
 use Rattle.text_core.specs.Lines.{lines_of, without_empty_end}
 use Rattle.line_reading.specs.declared.times.Windows.{Windows}
 use Rattle.live_incoming.specs.Incoming.{IsNext, IsWhole, longest_line}
-use Rattle.live_incoming.specs.declared.incoming.LineFault.{LineFault}
-use Rattle.live_incoming.specs.declared.incoming.LineFault.TheVariants as line_fault
+use Rattle.live_incoming.specs.declared.incoming.IncomingFault.{IncomingFault}
+use Rattle.live_incoming.specs.declared.incoming.IncomingFault.TheVariants as line_fault
 use Rattle.follow_core.specs.Follow.{Follows, HoldsNothing, HaveCome, IsHandedOn, IsOfWriting, line_error}
 use Rattle.follow_core.specs.declared.error.FollowError.{FollowError}
 use Rattle.follow_core.specs.declared.error.FollowError.TheVariants.{Capture, Read, TooLong, Write}
@@ -68,7 +68,7 @@ long_line (Some xs) (Some ys) (Some zs) past front come whole long takes =
 
 -- ---- no line was read
 
-pub line_fails : (form : LineForm) (signal : List ℕ) (win : Windows) (known now next before after : Option (List ℕ)) (f : Follower) (number : ℕ) (line : List ℕ) (fault : LineFault) → Going form signal win known now before after f number
+pub line_fails : (form : LineForm) (signal : List ℕ) (win : Windows) (known now next before after : Option (List ℕ)) (f : Follower) (number : ℕ) (line : List ℕ) (fault : IncomingFault) → Going form signal win known now before after f number
     → IsNext now next line (Err fault) → Follows form signal win known before after (Err (line_error fault))
 line_fails form signal win known now next before after f number line line_fault.Read g h = record {
   past = g.past;
@@ -92,7 +92,7 @@ lines_run_out form signal win known now before after f number g last = record {
 
 -- ---- nothing is held back
 
-pub line_handed : (fault : LineFault) (error : FollowError) (pending : List ℕ) → error ≡ line_error fault → pending ≡ [] → IsHandedOn error pending
+pub line_handed : (fault : IncomingFault) (error : FollowError) (pending : List ℕ) → error ≡ line_error fault → pending ≡ [] → IsHandedOn error pending
 line_handed line_fault.Read error pending is none = subst (λ (e : FollowError). IsHandedOn e pending) (sym is) none
 line_handed line_fault.TooLong error pending is none = subst (λ (e : FollowError). IsHandedOn e pending) (sym is) none
 

@@ -19,7 +19,7 @@ use Rattle.capture_monitor.proofs.ReadBy.{ended_first}
 use Rattle.follow_core.specs.Follow.{HasTold, IsFollowed, IsFront, IsWhole, NoneBefore, TellsCalm, TellsEdge, heard_text, text_of}
 use Rattle.follow_core.specs.Lines.{EndsLines, IsEarly, TakesLine, from_of, lines_captured, lines_left}
 use Rattle.follow_core.specs.declared.follower.Follower.{Follower}
-use Rattle.follow_core.specs.declared.follower.Heard.{Heard}
+use Rattle.follow_core.specs.declared.follower.EndedReadings.{EndedReadings}
 use Rattle.follow_core.specs.declared.lines.CaptureLines.{CaptureLines}
 use Rattle.follow_core.specs.declared.lines.Last.{Last}
 use Rattle.follow_core.specs.declared.lines.LineForm.{LineForm}
@@ -223,7 +223,7 @@ followed_front form signal win past number f text w = λ rest c left h.
     (front.0, ap (text_of win) d.2 ∙ front.1)
 
 -- of what is left after a line
-pub line_followed : (form : LineForm) (signal : List ℕ) (win : Windows) (past : List (List ℕ)) (number : ℕ) (line : List ℕ) (old mid new taken : Follower) (edge : Option Edge) (heard : Heard) (one two : Option Listed) (from : ℕ) (text : List ℕ)
+pub line_followed : (form : LineForm) (signal : List ℕ) (win : Windows) (past : List (List ℕ)) (number : ℕ) (line : List ℕ) (old mid new taken : Follower) (edge : Option Edge) (heard : EndedReadings) (one two : Option Listed) (from : ℕ) (text : List ℕ)
     → IsFollowed form signal win past number old text → taken.monitor ≡ old.monitor → taken.known ≡ old.known → TakesLine signal old.lines number line (Ok edge) taken.lines
     → ((rest : List (List ℕ)) (c : Captured) → lines_left signal taken.lines (number + 1) rest ≡ Ok c → NoneBefore from c.edges × (from ≤ c.end + 1))
     → TellsEdge taken edge one mid → TellsCalm mid from two new → heard_text heard ≡ reported_text one ++ reported_text two
@@ -269,7 +269,7 @@ line_refused form signal win past number line old lines fault text w takes rest 
 
 -- ---- the end
 
-pub end_followed : (form : LineForm) (signal : List ℕ) (win : Windows) (past : List (List ℕ)) (number : ℕ) (f mid : Follower) (last : Last) (heard : Heard) (one two : Option Listed) (text : List ℕ) → IsFollowed form signal win past number f text
+pub end_followed : (form : LineForm) (signal : List ℕ) (win : Windows) (past : List (List ℕ)) (number : ℕ) (f mid : Follower) (last : Last) (heard : EndedReadings) (one two : Option Listed) (text : List ℕ) → IsFollowed form signal win past number f text
     → EndsLines f.lines number (Ok last) → TellsEdge f last.edge one mid → FollowsEndBy win mid.monitor last.end two → heard_text heard ≡ reported_text one ++ reported_text two
     → IsWhole form signal win past (text ++ heard_text heard)
 end_followed form signal win past number f mid last heard one two text w ends edge follows is = record {

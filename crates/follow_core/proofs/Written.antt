@@ -18,7 +18,7 @@ use Rattle.follow_core.specs.Lines.{form_as, lines_captured}
 use Rattle.follow_core.specs.declared.error.FollowError.{FollowError}
 use Rattle.follow_core.specs.declared.error.FollowError.TheVariants.{Capture, Read, TooLong, Write}
 use Rattle.follow_core.specs.declared.follower.Follower.{Follower}
-use Rattle.follow_core.specs.declared.follower.Heard.{Heard}
+use Rattle.follow_core.specs.declared.follower.EndedReadings.{EndedReadings}
 use Rattle.follow_core.specs.declared.lines.LineForm.{LineForm}
 use Rattle.follow_core.specs.declared.lines.LineForm.TheVariants as forms
 use Rattle.follow_core.proofs.Telling.{followed_front}
@@ -51,7 +51,7 @@ front_less more form signal win past text front rest is so_far h = λ left c all
     let f = h left c all read in
     (rest ++ f.0, f.1 ∙ ap (λ t. (so_far ++ t) ++ f.0) is ∙ ap (λ t. t ++ f.0) (sym (append_assoc so_far front rest)) ∙ append_assoc (so_far ++ front) rest f.0)
 
-pub hears : (signal : List ℕ) (number : ℕ) (line : List ℕ) (old new : Follower) (heard : Heard) (before after : Option (List ℕ)) (result : Result (Unit {0}) FollowError) → HearsLine signal number line old (Ok heard) new → IsPrompt new
+pub hears : (signal : List ℕ) (number : ℕ) (line : List ℕ) (old new : Follower) (heard : EndedReadings) (before after : Option (List ℕ)) (result : Result (Unit {0}) FollowError) → HearsLine signal number line old (Ok heard) new → IsPrompt new
     → Puts before after (heard_text heard) result → IsOfWriting result → Hears signal number line old new before after result
 hears signal number line old new heard before after (Ok done) h prompt put writes = record { text = heard_text heard; put = put; followed = h; prompt = prompt }
 hears signal number line old new heard before after (Err (Capture fault)) h prompt put writes = absurd writes
@@ -77,7 +77,7 @@ whole_front form signal win past text w = λ rest c none read.
     let is : w.capture ≡ c = cc in
     ([], ap (text_of win) (sym is) ∙ w.all ∙ sym (append-nil text))
 
-pub ends : (number : ℕ) (f : Follower) (heard : Heard) (before after : Option (List ℕ)) (result : Result (Unit {0}) FollowError) → HearsEnd number f (Ok heard) → Puts before after (heard_text heard) result
+pub ends : (number : ℕ) (f : Follower) (heard : EndedReadings) (before after : Option (List ℕ)) (result : Result (Unit {0}) FollowError) → HearsEnd number f (Ok heard) → Puts before after (heard_text heard) result
     → IsOfWriting result → Ends number f before after result
 ends number f heard before after (Ok done) h put writes = record { text = heard_text heard; put = put; all = h }
 ends number f heard before after (Err (Capture fault)) h put writes = absurd writes

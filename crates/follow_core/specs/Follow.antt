@@ -15,14 +15,14 @@ use Rattle.capture_monitor.specs.Watch.{readings_text, reported_text}
 use Rattle.capture_monitor.specs.declared.monitor.Monitor.{Monitor as Watcher}
 use Rattle.capture_forms.specs.Captures.{capture_in}
 use Rattle.live_incoming.specs.Incoming.{longest_line}
-use Rattle.live_incoming.specs.declared.incoming.LineFault.{LineFault}
-use Rattle.live_incoming.specs.declared.incoming.LineFault.TheVariants as line_fault
+use Rattle.live_incoming.specs.declared.incoming.IncomingFault.{IncomingFault}
+use Rattle.live_incoming.specs.declared.incoming.IncomingFault.TheVariants as line_fault
 use Rattle.line_reading.specs.Readings.{Listed}
 use Rattle.line_reading.specs.Reports.{listed_as}
 use Rattle.follow_core.specs.Lines.{IsEarly, form_as, from_of, lines_captured, lines_left}
 use Rattle.follow_core.specs.declared.lines.LineForm.{LineForm}
 use Rattle.follow_core.specs.declared.follower.Follower.{Follower}
-use Rattle.follow_core.specs.declared.follower.Heard.{Heard}
+use Rattle.follow_core.specs.declared.follower.EndedReadings.{EndedReadings}
 use Rattle.follow_core.specs.declared.error.FollowError.{FollowError}
 use Rattle.follow_core.specs.declared.error.FollowError.TheVariants.{Capture, Read, TooLong, Write}
 use Rattle.std.specs.Option.{option_map, option_to_list}
@@ -60,7 +60,7 @@ IsPrompt f = from_of f.lines ≤ f.known
 abbrev pub IsReady : Follower → Type 0
 IsReady f = IsEarly f.lines × (f.known ≤ latest_instant + 1)
 
-abbrev pub heard_text : Heard → List ℕ
+abbrev pub heard_text : EndedReadings → List ℕ
 heard_text h = reported_text (option_map listed_as h.first) ++ reported_text (option_map listed_as h.second)
 
 -- an edge is told, if there is one
@@ -83,7 +83,7 @@ pub record TellsCalm (old : Follower) (from : ℕ) (reported : Option Listed) (n
       → HasTold windows new.monitor new.known low edges end (text ++ reported_text reported)
 
 -- a line has come
-abbrev pub HearsLine : List ℕ → ℕ → List ℕ → Follower → Result Heard CaptureFault → Follower → Type 0
+abbrev pub HearsLine : List ℕ → ℕ → List ℕ → Follower → Result EndedReadings CaptureFault → Follower → Type 0
 HearsLine signal number line old (Ok heard) new = (form : LineForm) (windows : Windows) (past : List (List ℕ)) (text : List ℕ) → IsFollowed form signal windows past number old text
     → IsFollowed form signal windows (past ++ line ∷ []) (number + 1) new (text ++ heard_text heard)
 HearsLine signal number line old (Err fault) new = (form : LineForm) (windows : Windows) (past : List (List ℕ)) (text : List ℕ) → IsFollowed form signal windows past number old text
@@ -95,7 +95,7 @@ pub record IsWhole (form : LineForm) (signal : List ℕ) (windows : Windows) (li
   pub read : lines_captured form signal lines ≡ Ok capture
   pub all : text_of windows capture ≡ text
 
-abbrev pub HearsEnd : ℕ → Follower → Result Heard CaptureFault → Type 0
+abbrev pub HearsEnd : ℕ → Follower → Result EndedReadings CaptureFault → Type 0
 HearsEnd number f (Ok heard) = (form : LineForm) (signal : List ℕ) (windows : Windows) (past : List (List ℕ)) (text : List ℕ) → IsFollowed form signal windows past number f text
     → IsWhole form signal windows past (text ++ heard_text heard)
 HearsEnd number f (Err fault) = (form : LineForm) (signal : List ℕ) (windows : Windows) (past : List (List ℕ)) (text : List ℕ) → IsFollowed form signal windows past number f text
@@ -274,7 +274,7 @@ abbrev pub HoldsNothing : Result (Unit {0}) FollowError → List ℕ → List �
 HoldsNothing result old new = IfErr result (λ error. old ≡ [] → IsHandedOn error new)
 
 -- why no line was read
-abbrev pub line_error : LineFault → FollowError
+abbrev pub line_error : IncomingFault → FollowError
 line_error line_fault.Read = Read
 line_error line_fault.TooLong = TooLong
 

@@ -17,8 +17,8 @@ use Rattle.capture_monitor.specs.declared.edge_file.EdgeLine.{EdgeLine}
 use Rattle.capture_monitor.specs.declared.edge_file.EdgeLine.TheVariants.{Edge, End}
 use Rattle.capture_monitor.specs.declared.edge_file.EdgeFault.{EdgeFault}
 use Rattle.capture_forms.specs.Captures.{of_edges}
-use Rattle.capture_forms.specs.declared.form.Form.{Form}
-use Rattle.capture_forms.specs.declared.form.Form.TheVariants as form
+use Rattle.capture_forms.specs.declared.form.CaptureForm.{CaptureForm}
+use Rattle.capture_forms.specs.declared.form.CaptureForm.TheVariants as form
 use Rattle.follow_core.specs.declared.edge_lines.EdgeReader.{EdgeReader}
 use Rattle.follow_core.specs.declared.lines.CaptureLines.{CaptureLines}
 use Rattle.follow_core.specs.declared.lines.CaptureLines.TheVariants.{File, Pin, Names, Rows}
@@ -84,7 +84,7 @@ names_left signal number (line ∷ lines) = rows_left (number + 1) lines (rows_b
 
 -- ---- a capture in one of the forms
 
-abbrev pub form_as : LineForm → Form
+abbrev pub form_as : LineForm → CaptureForm
 form_as forms.Edges = form.Edges
 form_as forms.Pin = form.Pin
 form_as forms.Csv = form.Csv

@@ -16,7 +16,7 @@ use line_wave::Edge;
 
 /// What has ended by a line: two readings at most.
 #[derive(Debug, Drop)]
-pub struct Heard {
+pub struct EndedReadings {
     pub first: Option<Reading>,
     pub second: Option<Reading>,
 }
@@ -87,7 +87,7 @@ impl Follower {
     /// # Errors
     ///
     /// The line is at fault.
-    pub fn line(&mut self, signal: &[u8], number: u64, line: &[u8]) -> Result<Heard, CaptureFault>
+    pub fn line(&mut self, signal: &[u8], number: u64, line: &[u8]) -> Result<EndedReadings, CaptureFault>
         requires ready { IsReady self.old }
         ensures hears { HearsLine signal.now number line.now self.old result self.new }
         ensures place { IfErr result (λ fault. fault.line ≡ number) }
@@ -102,7 +102,7 @@ impl Follower {
         let first = self.edge(edge);
         let lines = self.lines;
         let second = self.calm(lines.from());
-        Ok(Heard { first, second })
+        Ok(EndedReadings { first, second })
     }
 
     /// No line is left: answers what is left of the readings, the one that is open at the end too. This number is that of the line
@@ -111,7 +111,7 @@ impl Follower {
     /// # Errors
     ///
     /// The end is missing.
-    pub fn end(self, number: u64) -> Result<Heard, CaptureFault>
+    pub fn end(self, number: u64) -> Result<EndedReadings, CaptureFault>
         requires ready { IsReady self }
         ensures hears { HearsEnd number self result }
         ensures place { IfErr result (λ fault. fault.line ≡ number) }
@@ -122,7 +122,7 @@ impl Follower {
             Ok(last) => {
                 let first = follower.edge(last.edge);
                 let second = follower.monitor.finish(last.end);
-                Ok(Heard { first, second })
+                Ok(EndedReadings { first, second })
             }
         }
     }

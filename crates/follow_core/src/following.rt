@@ -9,12 +9,12 @@ ghost use Rattle.capture_monitor.specs.Watch.{reported_text};
 ghost use Rattle.follow_core.specs.Follow.{Ends, Follows, HoldsNothing, Hears, IsOfWriting, IsReady, Puts, heard_text, line_error};
 
 use crate::error::FollowError;
-use crate::follower::{Follower, Heard};
+use crate::follower::{Follower, EndedReadings};
 use crate::lines::LineForm;
 use arrayvec::ArrayVec;
 use line_frames::Reading;
 use line_reading::Windows;
-use live_incoming::{LineFault, Lines};
+use live_incoming::{IncomingFault, Lines};
 use message_text::write_reading;
 use std::io::Read;
 use text_core::{Buffered, Sink, WriteFault};
@@ -36,7 +36,7 @@ fn write_one<S: Sink>(reading: &Option<Reading>, out: &mut S) -> Result<(), Writ
 }
 
 // Writes what has ended, up to a fault.
-fn write_both<S: Sink>(heard: &Heard, out: &mut S) -> Result<(), WriteFault>
+fn write_both<S: Sink>(heard: &EndedReadings, out: &mut S) -> Result<(), WriteFault>
     ensures { Puts (S.contents out.old) (S.contents out.new) (heard_text heard.now) result }
 {
     match write_one(&heard.first, out) {
@@ -57,7 +57,7 @@ fn stopped<S: Sink>(fault: WriteFault, out: &mut Buffered<S>) -> FollowError
 }
 
 // Writes what has ended, and hands it on.
-fn write_heard<S: Sink>(heard: &Heard, out: &mut Buffered<S>) -> Result<(), FollowError>
+fn write_heard<S: Sink>(heard: &EndedReadings, out: &mut Buffered<S>) -> Result<(), FollowError>
     ensures put { Puts (⟦<Buffered<S> as Sink>⟧.contents out.old) (⟦<Buffered<S> as Sink>⟧.contents out.new) (heard_text heard.now) result }
     ensures handed { OnOk result (pending out.new ≡ []) }
     ensures writing { IsOfWriting result }
@@ -72,12 +72,12 @@ fn write_heard<S: Sink>(heard: &Heard, out: &mut Buffered<S>) -> Result<(), Foll
 }
 
 // Why no line could be read.
-fn line_error(fault: LineFault) -> FollowError
+fn line_error(fault: IncomingFault) -> FollowError
     ensures { result ≡ line_error fault }
 {
     match fault {
-        LineFault::Read => FollowError::Read,
-        LineFault::TooLong => FollowError::TooLong,
+        IncomingFault::Read => FollowError::Read,
+        IncomingFault::TooLong => FollowError::TooLong,
     }
 }
 

@@ -3,7 +3,7 @@ ghost use Rattle.std.specs.Prelude.{◌≤◌, ◌<◌};
 ghost use Rattle.library_run.specs.Checking.{IsCheckRefused, IsReportPut};
 
 use library_answers::Answer;
-use library_run::{Counts, put_report};
+use library_run::{TestCounts, put_report};
 use std::alloc::Global;
 
 /// Runs a script without its labels and expectations on a topology, and puts the report into the room whether the run is as
@@ -17,7 +17,7 @@ pub extern "C" fn hdminet_check(
     topology: &[u8],
     script: &[u8],
     room: &mut [u8],
-    counts: &mut Counts,
+    counts: &mut TestCounts,
 ) -> Answer
     ensures done { result.code ≤ 1 → IsReportPut topology.now script.now room.old room.new counts.new result }
     ensures refused { 1 < result.code → IsCheckRefused topology.now script.now room.old room.new counts.old counts.new result }

@@ -11,7 +11,7 @@ ghost use Rattle.library_wire.specs.Heard.{heard_code, instant_of, instant_refus
 ghost use Rattle.library_wire.specs.Receiver.{HasHeard, IsNoReceiver, IsRunning, IsStart};
 
 use library_wire::{
-    Heard, Instant, ReadingParts, receiver_hear, receiver_new, receiver_running, receiver_wakes_at,
+    InstantHeard, Instant, ReadingParts, receiver_hear, receiver_new, receiver_running, receiver_wakes_at,
 };
 use line_reading::ReceiverParts;
 
@@ -34,7 +34,7 @@ pub extern "C" fn hdminet_receiver_hear(
     t: u64,
     is_low: bool,
     reading: &mut ReadingParts,
-) -> Heard
+) -> InstantHeard
     ensures hears { (r : ReceiverValue) → ArePartsOf r receiver.old → t ≤ latest_heard
         → HasHeard r t is_low result receiver.new reading.old reading.new }
     ensures spoilt { IsNoReceiver receiver.old → (result ≡ heard_code State) × (receiver.new ≡ receiver.old) × (reading.new ≡ reading.old) }

@@ -6,32 +6,32 @@ use Rattle.json_trace.specs.Columns.{field, field_lead, fields}
 use Rattle.json_trace.specs.Object.{AreInOrder, IsObject, IsReported, object, type_field}
 use Rattle.json_trace.specs.Parts.{after_word, word}
 use Rattle.json_trace.specs.ReadBack.{line_of}
-use Rattle.json_trace.specs.declared.values.Shape.{Shape}
-use Rattle.json_trace.specs.declared.values.Shape.TheVariants.{Number, Text}
-use Rattle.json_live.specs.declared.object.Kind.{Kind}
-use Rattle.json_live.specs.declared.object.Kind.TheVariants.{Horizon, Shown, Refusal, Edge, Trace}
+use Rattle.json_trace.specs.declared.values.ValueShape.{ValueShape}
+use Rattle.json_trace.specs.declared.values.ValueShape.TheVariants.{Number, Text}
+use Rattle.json_live.specs.declared.object.SessionLine.{SessionLine}
+use Rattle.json_live.specs.declared.object.SessionLine.TheVariants.{Horizon, Shown, Refusal, Edge, Trace}
 
 -- ---- which line it is: by its mark, and of an answer by the word after it
 
-abbrev pub kind_by : List ℕ → List ℕ → Kind
+abbrev pub kind_by : List ℕ → List ℕ → SessionLine
 kind_by first second =
     if bytes_eq first (codes "=") then (if bytes_eq second (codes "state") then Shown else Horizon)
     else if bytes_eq first (codes "!") then Refusal
     else if bytes_eq first (codes "~") then Edge
     else Trace
 
-abbrev pub kind_of : List ℕ → Kind
+abbrev pub kind_of : List ℕ → SessionLine
 kind_of line = kind_by (word line) (word (after_word line))
 
 -- ---- what it says, by what stands after its mark
 
-abbrev pub horizon_fields : List (List ℕ × Shape)
+abbrev pub horizon_fields : List (List ℕ × ValueShape)
 horizon_fields = (codes "at", Number) ∷ []
 
-abbrev pub refusal_fields : List (List ℕ × Shape)
+abbrev pub refusal_fields : List (List ℕ × ValueShape)
 refusal_fields = (codes "script_line", Number) ∷ []
 
-abbrev pub edge_fields : List (List ℕ × Shape)
+abbrev pub edge_fields : List (List ℕ × ValueShape)
 edge_fields = (codes "at", Number) ∷ (codes "level", Number) ∷ []
 
 abbrev pub truth : Bool → List ℕ
@@ -50,7 +50,7 @@ refusal_body rest = type_field (codes "refusal") ++ fields refusal_fields rest +
 abbrev pub edge_body : List ℕ → List ℕ
 edge_body rest = type_field (codes "edge") ++ fields edge_fields rest
 
-abbrev pub IsBody : Kind → List ℕ → List ℕ → Type 0
+abbrev pub IsBody : SessionLine → List ℕ → List ℕ → Type 0
 IsBody Horizon line body = body ≡ horizon_body (after_word line)
 IsBody Shown line body = IsReported (after_word line) body
 IsBody Refusal line body = body ≡ refusal_body (after_word line)

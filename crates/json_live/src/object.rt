@@ -4,18 +4,18 @@ ghost use Rattle.std.specs.Str.{bytes_eq};
 ghost use Rattle.text_core.specs.Adds.{Adds};
 ghost use Rattle.json_trace.specs.Columns.{field};
 ghost use Rattle.json_trace.specs.Parts.{after_word};
-ghost use Rattle.json_trace.specs.declared.values.Shape.TheVariants.{Text};
+ghost use Rattle.json_trace.specs.declared.values.ValueShape.TheVariants.{Text};
 ghost use Rattle.json_live.specs.Object.{IsBody, IsLiveObject, edge_body, horizon_body, kind_by, kind_of, refusal_body, truth};
 
 use json_trace::{
-    Column, Shape, add_field, add_fields, add_lead, add_quoted, add_reported, add_type, after_word,
+    JsonField, ValueShape, add_field, add_fields, add_lead, add_quoted, add_reported, add_type, after_word,
     word,
 };
 use text_core::{Counted, Sink};
 
 /// Which line of a session it is.
 #[derive(Clone, Copy, Debug)]
-pub enum Kind {
+pub enum SessionLine {
     /// `= H`, `= H idle`: the answer that a line is taken.
     Horizon,
     /// `= state ..`: the answer with the state of a device.
@@ -29,48 +29,48 @@ pub enum Kind {
 }
 
 /// After `=`: the instant in microseconds.
-const HORIZON: &[Column] = &[Column {
+const HORIZON: &[JsonField] = &[JsonField {
     name: "at",
-    shape: Shape::Number,
+    shape: ValueShape::Number,
 }];
 
 /// After `!`.
-const REFUSAL: &[Column] = &[Column {
+const REFUSAL: &[JsonField] = &[JsonField {
     name: "script_line",
-    shape: Shape::Number,
+    shape: ValueShape::Number,
 }];
 
 /// After `~`: the instant in microseconds, and the level from then on.
-const EDGE: &[Column] = &[
-    Column {
+const EDGE: &[JsonField] = &[
+    JsonField {
         name: "at",
-        shape: Shape::Number,
+        shape: ValueShape::Number,
     },
-    Column {
+    JsonField {
         name: "level",
-        shape: Shape::Number,
+        shape: ValueShape::Number,
     },
 ];
 
-fn kind_by(first: &[u8], second: &[u8]) -> Kind
+fn kind_by(first: &[u8], second: &[u8]) -> SessionLine
     ensures { result ≡ kind_by first.now second.now }
 {
     if first == b"=".as_slice() {
         if second == b"state".as_slice() {
-            Kind::Shown
+            SessionLine::Shown
         } else {
-            Kind::Horizon
+            SessionLine::Horizon
         }
     } else if first == b"!".as_slice() {
-        Kind::Refusal
+        SessionLine::Refusal
     } else if first == b"~".as_slice() {
-        Kind::Edge
+        SessionLine::Edge
     } else {
-        Kind::Trace
+        SessionLine::Trace
     }
 }
 
-fn kind_of(line: &[u8]) -> Kind
+fn kind_of(line: &[u8]) -> SessionLine
     ensures { result ≡ kind_of line.now }
 {
     kind_by(word(line), word(after_word(line)))
@@ -99,7 +99,7 @@ fn add_idle<S: Sink>(out: &mut Counted<'_, S>, rest: &[u8])
 fn add_cause<S: Sink>(out: &mut Counted<'_, S>, rest: &[u8])
     ensures { Adds out.old out.new (field (codes "cause") Text (after_word rest.now)) }
 {
-    add_field(out, "cause", Shape::Text, after_word(rest));
+    add_field(out, "cause", ValueShape::Text, after_word(rest));
 }
 
 // Adds what `= H` and `= H idle` say, by what stands after the mark.
@@ -133,15 +133,15 @@ fn add_edge<S: Sink>(out: &mut Counted<'_, S>, rest: &[u8])
 }
 
 // Adds what a line says.
-fn add_body<S: Sink>(out: &mut Counted<'_, S>, kind: Kind, line: &[u8])
+fn add_body<S: Sink>(out: &mut Counted<'_, S>, kind: SessionLine, line: &[u8])
     ensures { (body : List ℕ) × IsBody kind line.now body × Adds out.old out.new body }
 {
     match kind {
-        Kind::Horizon => add_horizon(out, after_word(line)),
-        Kind::Shown => add_reported(out, after_word(line)),
-        Kind::Refusal => add_refusal(out, after_word(line)),
-        Kind::Edge => add_edge(out, after_word(line)),
-        Kind::Trace => add_reported(out, line),
+        SessionLine::Horizon => add_horizon(out, after_word(line)),
+        SessionLine::Shown => add_reported(out, after_word(line)),
+        SessionLine::Refusal => add_refusal(out, after_word(line)),
+        SessionLine::Edge => add_edge(out, after_word(line)),
+        SessionLine::Trace => add_reported(out, line),
     }
 }
 

@@ -4,7 +4,7 @@ use Rattle.std.proofs.lemmas.Grind.{flat_map-append}
 use Rattle.text_core.specs.Adds.{Adds, Tally}
 use Rattle.text_core.proofs.Adding.{nothing, then}
 use Rattle.json_trace.specs.Values.{code_text, code_texts}
-use Rattle.json_trace.specs.declared.values.Code.TheVariants.{Char}
+use Rattle.json_trace.specs.declared.values.CharValue.TheVariants.{Char}
 use Rattle.json_report.specs.Stretch.{verdict_value, verdicts}
 use Rattle.json_report.specs.TestLine.{is_escape, plain_byte, plain_from}
 

@@ -5,16 +5,16 @@ use Rattle.text_core.specs.Words.{words_of}
 use Rattle.json_trace.specs.Columns.{field, field_lead}
 use Rattle.json_trace.specs.Object.{type_field}
 use Rattle.json_trace.specs.Parts.{after_word, before_byte, word}
-use Rattle.json_trace.specs.declared.values.Shape.TheVariants.{Number}
+use Rattle.json_trace.specs.declared.values.ValueShape.TheVariants.{Number}
 use Rattle.json_report.specs.Object.{IsReportedAs}
 use Rattle.json_report.specs.Stretch.{range_fields, stretch_reported, verdicts_value}
 use Rattle.json_report.specs.TestLine.{place_fields, test_reported, text_fields, truth}
 use Rattle.json_report.specs.Window.{after_two, seen_reported, window_reported}
-use Rattle.json_report.specs.declared.object.Form.{Form}
+use Rattle.json_report.specs.declared.object.ReportLine.{ReportLine}
 
-pub reported_as : (a b : Tally) (form known : Form) (line reported : List ℕ) → form ≡ known → IsReportedAs known line reported → Adds a b reported
+pub reported_as : (a b : Tally) (form known : ReportLine) (line reported : List ℕ) → form ≡ known → IsReportedAs known line reported → Adds a b reported
     → (text : List ℕ) × IsReportedAs form line text × Adds a b text
-reported_as a b form known line reported e is added = (reported, subst (λ (f : Form). IsReportedAs f line reported) (sym e) is, added)
+reported_as a b form known line reported e is added = (reported, subst (λ (f : ReportLine). IsReportedAs f line reported) (sym e) is, added)
 
 -- the text of two that is chosen by a Bool
 pub then_is : (b : Bool) (x y : List ℕ) → b ≡ true → x ≡ (if b then x else y)

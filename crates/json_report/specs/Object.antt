@@ -4,19 +4,19 @@ use Rattle.std.specs.Str.{bytes_eq}
 use Rattle.json_trace.specs.Columns.{field}
 use Rattle.json_trace.specs.Object.{AreInOrder, IsReported, object, type_field}
 use Rattle.json_trace.specs.Parts.{after_word, word}
-use Rattle.json_trace.specs.declared.values.Shape.TheVariants.{Number}
+use Rattle.json_trace.specs.declared.values.ValueShape.TheVariants.{Number}
 use Rattle.json_report.specs.TestLine.{test_reported}
 use Rattle.json_report.specs.Window.{no_window_reported, seen_reported}
 use Rattle.json_report.specs.Stretch.{is_stretch, stretch_reported}
-use Rattle.json_report.specs.declared.object.Form.{Form}
-use Rattle.json_report.specs.declared.object.Form.TheVariants as forms
-use Rattle.json_report.specs.declared.object.Report.{Report}
-use Rattle.json_report.specs.declared.object.Report.TheVariants as reports
+use Rattle.json_report.specs.declared.object.ReportLine.{ReportLine}
+use Rattle.json_report.specs.declared.object.ReportLine.TheVariants as forms
+use Rattle.json_report.specs.declared.object.ReportKind.{ReportKind}
+use Rattle.json_report.specs.declared.object.ReportKind.TheVariants as reports
 
 -- ---- which line it is
 
 -- by the word after `#`; what is none of a report's is one of a trace
-abbrev pub remark_form : List ℕ → Form
+abbrev pub remark_form : List ℕ → ReportLine
 remark_form word =
     if bytes_eq word (codes "seen") then forms.Window
     else if bytes_eq word (codes "no") then forms.NoWindow
@@ -24,7 +24,7 @@ remark_form word =
     else forms.Shown
 
 -- by the first two words, and the first three bytes
-abbrev pub test_form : List ℕ → List ℕ → List ℕ → Form
+abbrev pub test_form : List ℕ → List ℕ → List ℕ → ReportLine
 test_form first second start =
     if bytes_eq first (codes "ok") then forms.Passed
     else if bytes_eq first (codes "not") then forms.Failed
@@ -33,10 +33,10 @@ test_form first second start =
     else if bytes_eq start (codes "1..") then forms.Plan
     else forms.Other
 
-abbrev pub sweep_form : List ℕ → Form
+abbrev pub sweep_form : List ℕ → ReportLine
 sweep_form range = if is_stretch range then forms.Stretch else forms.Other
 
-abbrev pub form_of : Report → List ℕ → Form
+abbrev pub form_of : ReportKind → List ℕ → ReportLine
 form_of reports.Expectations line = test_form (word line) (word (after_word line)) (take 3 line)
 form_of reports.Sweep line = sweep_form (word line)
 
@@ -51,7 +51,7 @@ abbrev pub plan_reported : List ℕ → List ℕ
 plan_reported line = type_field (codes "plan") ++ field (codes "tests") Number (drop 3 line)
 
 -- what stands after the line; of a line of a trace, what its own object has there
-abbrev pub IsReportedAs : Form → List ℕ → List ℕ → Type 0
+abbrev pub IsReportedAs : ReportLine → List ℕ → List ℕ → Type 0
 IsReportedAs forms.Version line reported = reported ≡ version_reported line
 IsReportedAs forms.Passed line reported = reported ≡ test_reported true (after_word line)
 IsReportedAs forms.Failed line reported = reported ≡ test_reported false (after_word (after_word line))
@@ -65,9 +65,9 @@ IsReportedAs forms.Other line reported = reported ≡ type_field (codes "other")
 
 -- ---- the object of a line
 
-abbrev pub IsReportObject : Report → List ℕ → List ℕ → Type 0
+abbrev pub IsReportObject : ReportKind → List ℕ → List ℕ → Type 0
 IsReportObject report line text = (reported : List ℕ) × IsReportedAs (form_of report line) line reported × (text ≡ object line reported)
 
 -- a text is the objects of these lines, in order
-abbrev pub AreReportObjects : Report → List (List ℕ) → List ℕ → Type 0
+abbrev pub AreReportObjects : ReportKind → List (List ℕ) → List ℕ → Type 0
 AreReportObjects report lines text = AreInOrder (IsReportObject report) lines text

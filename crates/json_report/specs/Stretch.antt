@@ -6,7 +6,7 @@ use Rattle.text_core.specs.Words.{words_of}
 use Rattle.json_trace.specs.Columns.{field, field_lead}
 use Rattle.json_trace.specs.Object.{type_field}
 use Rattle.json_trace.specs.Parts.{after_byte, before_byte, word}
-use Rattle.json_trace.specs.declared.values.Shape.TheVariants.{Number}
+use Rattle.json_trace.specs.declared.values.ValueShape.TheVariants.{Number}
 
 abbrev pub first_instant : List ℕ → List ℕ
 first_instant range = before_byte 46 range

@@ -5,7 +5,7 @@ use Rattle.json_trace.specs.Columns.{field, field_lead}
 use Rattle.json_trace.specs.Object.{type_field}
 use Rattle.json_trace.specs.Parts.{after_word, before_byte, word}
 use Rattle.json_trace.specs.Values.{string_text}
-use Rattle.json_trace.specs.declared.values.Shape.TheVariants.{Number, Text}
+use Rattle.json_trace.specs.declared.values.ValueShape.TheVariants.{Number, Text}
 
 -- ---- the text, as the line of the script has it
 

@@ -3,7 +3,7 @@ use Rattle.std.specs.Prelude.{ℕ, codes, List, [], ◌++◌}
 use Rattle.json_trace.specs.Columns.{field}
 use Rattle.json_trace.specs.Object.{type_field}
 use Rattle.json_trace.specs.Parts.{after_word, word}
-use Rattle.json_trace.specs.declared.values.Shape.TheVariants.{Number}
+use Rattle.json_trace.specs.declared.values.ValueShape.TheVariants.{Number}
 
 abbrev pub window_reported : List ℕ → List ℕ → List ℕ → List ℕ
 window_reported seen from to = type_field (codes "window") ++ field (codes "seen") Number seen ++ field (codes "from") Number from ++ field (codes "to") Number to

@@ -10,4 +10,4 @@ mod window;
 
 pub use laws::{one_report_line_an_object, report_lines_are_read_back};
 pub use lines::write_report_objects;
-pub use object::Report;
+pub use object::ReportKind;

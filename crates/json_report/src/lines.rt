@@ -5,11 +5,11 @@ ghost use Rattle.text_core.specs.Lines.{lines_of};
 ghost use Rattle.json_trace.specs.Written.{WritesText};
 ghost use Rattle.json_report.specs.Object.{AreReportObjects};
 
-use crate::object::{Report, add_report_object};
+use crate::object::{ReportKind, add_report_object};
 use text_core::{Counted, Sink, WriteFault, first_line};
 
 // Adds the object of each line.
-fn add_report_objects<S: Sink>(out: &mut Counted<'_, S>, report: Report, text: &[u8])
+fn add_report_objects<S: Sink>(out: &mut Counted<'_, S>, report: ReportKind, text: &[u8])
     ensures { (objects : List ℕ) × AreReportObjects report (lines_of text.now) objects × Adds out.old out.new objects }
 {
     let mut rest = text;
@@ -25,7 +25,7 @@ fn add_report_objects<S: Sink>(out: &mut Counted<'_, S>, report: Report, text: &
 ///
 /// The sink takes no more: then the front of the objects was written, as long as it reports.
 pub fn write_report_objects<S: Sink>(
-    report: Report,
+    report: ReportKind,
     text: &[u8],
     out: &mut S,
 ) -> Result<(), WriteFault>

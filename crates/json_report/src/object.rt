@@ -6,12 +6,12 @@ ghost use Rattle.json_report.specs.Object.{IsReportObject, IsReportedAs, form_of
 use crate::stretch::{add_stretch, is_stretch};
 use crate::test_line::add_test;
 use crate::window::{add_no_window, add_seen};
-use json_trace::{Shape, add_field, add_quoted, add_reported, add_type, after_word, word};
+use json_trace::{ValueShape, add_field, add_quoted, add_reported, add_type, after_word, word};
 use text_core::{Counted, Sink, after, before};
 
 /// Which report the lines are of.
 #[derive(Clone, Copy, Debug)]
-pub enum Report {
+pub enum ReportKind {
     /// Of the expectations of a script, or of a capture.
     Expectations,
     /// Of a sweep.
@@ -20,7 +20,7 @@ pub enum Report {
 
 /// Which line of a report it is.
 #[derive(Clone, Copy, Debug)]
-pub enum Form {
+pub enum ReportLine {
     /// The version of the protocol.
     Version,
     /// A test that holds.
@@ -43,54 +43,54 @@ pub enum Form {
     Other,
 }
 
-fn remark_form(word: &[u8]) -> Form
+fn remark_form(word: &[u8]) -> ReportLine
     ensures { result ≡ remark_form word.now }
 {
     if word == b"seen".as_slice() {
-        Form::Window
+        ReportLine::Window
     } else if word == b"no".as_slice() {
-        Form::NoWindow
+        ReportLine::NoWindow
     } else if word == b"trace".as_slice() {
-        Form::Trace
+        ReportLine::Trace
     } else {
-        Form::Shown
+        ReportLine::Shown
     }
 }
 
-fn test_form(first: &[u8], second: &[u8], start: &[u8]) -> Form
+fn test_form(first: &[u8], second: &[u8], start: &[u8]) -> ReportLine
     ensures { result ≡ test_form first.now second.now start.now }
 {
     if first == b"ok".as_slice() {
-        Form::Passed
+        ReportLine::Passed
     } else if first == b"not".as_slice() {
-        Form::Failed
+        ReportLine::Failed
     } else if first == b"#".as_slice() {
         remark_form(second)
     } else if first == b"TAP".as_slice() {
-        Form::Version
+        ReportLine::Version
     } else if start == b"1..".as_slice() {
-        Form::Plan
+        ReportLine::Plan
     } else {
-        Form::Other
+        ReportLine::Other
     }
 }
 
-fn sweep_form(range: &[u8]) -> Form
+fn sweep_form(range: &[u8]) -> ReportLine
     ensures { result ≡ sweep_form range.now }
 {
     if is_stretch(range) {
-        Form::Stretch
+        ReportLine::Stretch
     } else {
-        Form::Other
+        ReportLine::Other
     }
 }
 
-fn form_of(report: Report, line: &[u8]) -> Form
+fn form_of(report: ReportKind, line: &[u8]) -> ReportLine
     ensures { result ≡ form_of report line.now }
 {
     match report {
-        Report::Expectations => test_form(word(line), word(after_word(line)), before(line, 3)),
-        Report::Sweep => sweep_form(word(line)),
+        ReportKind::Expectations => test_form(word(line), word(after_word(line)), before(line, 3)),
+        ReportKind::Sweep => sweep_form(word(line)),
     }
 }
 
@@ -99,37 +99,37 @@ fn add_version<S: Sink>(out: &mut Counted<'_, S>, line: &[u8])
 {
     let version = word(after_word(after_word(line)));
     add_type(out, "version");
-    add_field(out, "version", Shape::Number, version);
+    add_field(out, "version", ValueShape::Number, version);
 }
 
 fn add_plan<S: Sink>(out: &mut Counted<'_, S>, line: &[u8])
     ensures { Adds out.old out.new (plan_reported line.now) }
 {
     add_type(out, "plan");
-    add_field(out, "tests", Shape::Number, after(line, 3));
+    add_field(out, "tests", ValueShape::Number, after(line, 3));
 }
 
 // Adds what a line of a form reports.
-fn add_reported_as<S: Sink>(out: &mut Counted<'_, S>, form: Form, line: &[u8])
+fn add_reported_as<S: Sink>(out: &mut Counted<'_, S>, form: ReportLine, line: &[u8])
     ensures { (reported : List ℕ) × IsReportedAs form line.now reported
         × Adds out.old out.new reported }
 {
     match form {
-        Form::Version => add_version(out, line),
-        Form::Passed => add_test(out, true, after_word(line)),
-        Form::Failed => add_test(out, false, after_word(after_word(line))),
-        Form::Window => add_seen(out, after_word(after_word(line))),
-        Form::NoWindow => add_no_window(out),
-        Form::Trace => add_type(out, "trace"),
-        Form::Shown => add_reported(out, after_word(line)),
-        Form::Plan => add_plan(out, line),
-        Form::Stretch => add_stretch(out, line),
-        Form::Other => add_type(out, "other"),
+        ReportLine::Version => add_version(out, line),
+        ReportLine::Passed => add_test(out, true, after_word(line)),
+        ReportLine::Failed => add_test(out, false, after_word(after_word(line))),
+        ReportLine::Window => add_seen(out, after_word(after_word(line))),
+        ReportLine::NoWindow => add_no_window(out),
+        ReportLine::Trace => add_type(out, "trace"),
+        ReportLine::Shown => add_reported(out, after_word(line)),
+        ReportLine::Plan => add_plan(out, line),
+        ReportLine::Stretch => add_stretch(out, line),
+        ReportLine::Other => add_type(out, "other"),
     }
 }
 
 /// Adds the object of a line of a report.
-pub(crate) fn add_report_object<S: Sink>(out: &mut Counted<'_, S>, report: Report, line: &[u8])
+pub(crate) fn add_report_object<S: Sink>(out: &mut Counted<'_, S>, report: ReportKind, line: &[u8])
     ensures { (text : List ℕ) × IsReportObject report line.now text
         × Adds out.old out.new text }
 {

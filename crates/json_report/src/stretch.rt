@@ -6,7 +6,7 @@ ghost use Rattle.text_core.specs.Words.{words_after};
 ghost use Rattle.text_core.specs.Adds.{Adds};
 ghost use Rattle.json_report.specs.Stretch.{first_instant, is_stretch, last_instant, range_fields, stretch_reported, verdict_value, verdicts, verdicts_value};
 
-use json_trace::{Shape, add_field, add_lead, add_type, after_byte, before_byte, word};
+use json_trace::{ValueShape, add_field, add_lead, add_type, after_byte, before_byte, word};
 use text_core::{Counted, Sink, first_word, number_in};
 
 fn first_instant(range: &[u8]) -> &[u8]
@@ -79,8 +79,8 @@ fn add_list<S: Sink>(out: &mut Counted<'_, S>, words: Option<&[u8]>)
 fn add_range<S: Sink>(out: &mut Counted<'_, S>, range: &[u8])
     ensures { Adds out.old out.new (range_fields range.now) }
 {
-    add_field(out, "from", Shape::Number, first_instant(range));
-    add_field(out, "to", Shape::Number, last_instant(range));
+    add_field(out, "from", ValueShape::Number, first_instant(range));
+    add_field(out, "to", ValueShape::Number, last_instant(range));
 }
 
 /// Adds what the line of a stretch reports.

@@ -2,10 +2,10 @@
 ghost use Rattle.std.specs.Prelude.{◌≡◌};
 ghost use Rattle.text_core.specs.Adds.{Adds};
 ghost use Rattle.json_trace.specs.Values.{code_texts};
-ghost use Rattle.json_trace.specs.declared.values.Code.TheVariants.{Char};
+ghost use Rattle.json_trace.specs.declared.values.CharValue.TheVariants.{Char};
 ghost use Rattle.json_report.specs.TestLine.{expected_fields, is_escape, place_fields, plain, plain_byte, refused_fields, test_reported, text_fields, truth};
 
-use json_trace::{Shape, add_char, add_field, add_lead, add_type, after_word, before_byte, word};
+use json_trace::{ValueShape, add_char, add_field, add_lead, add_type, after_word, before_byte, word};
 use text_core::{Counted, Sink};
 
 fn is_escape(escaped: bool, byte: u8) -> bool
@@ -49,7 +49,7 @@ fn add_refused<S: Sink>(out: &mut Counted<'_, S>, text: &[u8])
     ensures { Adds out.old out.new (refused_fields text.now) }
 {
     out.add(b",\"expectation\":null");
-    add_field(out, "refused", Shape::Text, after_word(text));
+    add_field(out, "refused", ValueShape::Text, after_word(text));
 }
 
 fn add_expected<S: Sink>(out: &mut Counted<'_, S>, text: &[u8])
@@ -78,7 +78,7 @@ fn add_place<S: Sink>(out: &mut Counted<'_, S>, holds: bool, place: &[u8])
     ensures { Adds out.old out.new (place_fields holds place.now) }
 {
     let line = before_byte(b':', place);
-    add_field(out, "script_line", Shape::Number, line);
+    add_field(out, "script_line", ValueShape::Number, line);
     add_lead(out, "holds");
     out.add(truth(holds));
     add_text(out, after_word(place));
@@ -89,7 +89,7 @@ pub(crate) fn add_test<S: Sink>(out: &mut Counted<'_, S>, holds: bool, rest: &[u
     ensures { Adds out.old out.new (test_reported holds rest.now) }
 {
     add_type(out, "test");
-    add_field(out, "test", Shape::Number, word(rest));
+    add_field(out, "test", ValueShape::Number, word(rest));
     let place = after_word(after_word(after_word(rest)));
     add_place(out, holds, place);
 }

@@ -3,16 +3,16 @@ ghost use Rattle.std.specs.Prelude.{◌≡◌};
 ghost use Rattle.text_core.specs.Adds.{Adds};
 ghost use Rattle.json_report.specs.Window.{after_two, no_window_reported, seen_reported, window_reported};
 
-use json_trace::{Shape, add_field, add_type, after_word, word};
+use json_trace::{ValueShape, add_field, add_type, after_word, word};
 use text_core::{Counted, Sink};
 
 fn add_window<S: Sink>(out: &mut Counted<'_, S>, seen: &[u8], from: &[u8], to: &[u8])
     ensures { Adds out.old out.new (window_reported seen.now from.now to.now) }
 {
     add_type(out, "window");
-    add_field(out, "seen", Shape::Number, seen);
-    add_field(out, "from", Shape::Number, from);
-    add_field(out, "to", Shape::Number, to);
+    add_field(out, "seen", ValueShape::Number, seen);
+    add_field(out, "from", ValueShape::Number, from);
+    add_field(out, "to", ValueShape::Number, to);
 }
 
 fn after_two(text: &[u8]) -> &[u8]

@@ -5,7 +5,7 @@ use Rattle.text_core.specs.Number.{number_of}
 use Rattle.json_trace.specs.Columns.{field}
 use Rattle.json_trace.specs.Object.{IsReported, object}
 use Rattle.json_trace.specs.Parts.{after_word, word}
-use Rattle.json_trace.specs.declared.values.Shape.TheVariants.{Text}
+use Rattle.json_trace.specs.declared.values.ValueShape.TheVariants.{Text}
 
 -- `T event LINE ..`
 abbrev pub is_event : List ℕ → Bool

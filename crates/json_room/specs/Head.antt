@@ -4,13 +4,13 @@ use Rattle.std.specs.Str.{bytes_eq}
 use Rattle.json_trace.specs.Columns.{fields}
 use Rattle.json_trace.specs.Object.{object, type_field}
 use Rattle.json_trace.specs.Parts.{after_word, word}
-use Rattle.json_trace.specs.declared.values.Shape.{Shape}
-use Rattle.json_trace.specs.declared.values.Shape.TheVariants.{Number, Text}
-use Rattle.json_room.specs.declared.head.Head.{Head}
-use Rattle.json_room.specs.declared.head.Head.TheVariants as heads
+use Rattle.json_trace.specs.declared.values.ValueShape.{ValueShape}
+use Rattle.json_trace.specs.declared.values.ValueShape.TheVariants.{Number, Text}
+use Rattle.json_room.specs.declared.head.RoomLine.{RoomLine}
+use Rattle.json_room.specs.declared.head.RoomLine.TheVariants as heads
 
 -- which line it is, by its first word
-abbrev pub head_of : List ℕ → Head
+abbrev pub head_of : List ℕ → RoomLine
 head_of word =
     if bytes_eq word (codes "device") then heads.Device
     else if bytes_eq word (codes "plug") then heads.Plug
@@ -21,7 +21,7 @@ head_of word =
     else heads.Other
 
 -- a line, and what it says after its first word
-abbrev pub said_by : List ℕ → List (List ℕ × Shape) → List ℕ → List ℕ
+abbrev pub said_by : List ℕ → List (List ℕ × ValueShape) → List ℕ → List ℕ
 said_by name columns line = object line (type_field name ++ fields columns (after_word line))
 
 -- `device NAME KIND PORTS`
@@ -48,7 +48,7 @@ pull_body line = said_by (codes "pull") ((codes "at", Number) ∷ (codes "width"
 abbrev pub pin_body : List ℕ → List ℕ
 pin_body line = said_by (codes "pin") ((codes "at", Number) ∷ (codes "level", Number) ∷ []) line
 
-abbrev pub body_of : Head → List ℕ → List ℕ
+abbrev pub body_of : RoomLine → List ℕ → List ℕ
 body_of heads.Device line = device_body line
 body_of heads.Plug line = plug_body line
 body_of heads.Edid line = edid_body line

@@ -4,7 +4,7 @@ ghost use Rattle.text_core.specs.Adds.{Adds};
 ghost use Rattle.json_room.specs.Event.{IsObjectAt, event_fields, first_of, is_event, line_number, more_at, place_of, said, said_fields};
 ghost use Rattle.text_core.specs.Lines.{lines_of};
 
-use json_trace::{Shape, add_field, add_quoted, add_reported, after_word, word};
+use json_trace::{ValueShape, add_field, add_quoted, add_reported, after_word, word};
 use text_core::{Counted, Sink, first_line, number_in};
 
 fn is_event(line: &[u8]) -> bool
@@ -83,9 +83,9 @@ fn said(line: &[u8]) -> &[u8]
 fn add_fields_of<S: Sink>(out: &mut Counted<'_, S>, verb: &[u8], device: &[u8], text: &[u8])
     ensures { Adds out.old out.new (said_fields verb.now device.now text.now) }
 {
-    add_field(out, "verb", Shape::Text, verb);
-    add_field(out, "device", Shape::Text, device);
-    add_field(out, "text", Shape::Text, text);
+    add_field(out, "verb", ValueShape::Text, verb);
+    add_field(out, "device", ValueShape::Text, device);
+    add_field(out, "text", ValueShape::Text, text);
 }
 
 fn add_event<S: Sink>(out: &mut Counted<'_, S>, ahead: &[u8])

@@ -6,12 +6,12 @@ ghost use Rattle.text_core.specs.Adds.{Adds};
 ghost use Rattle.json_room.specs.Head.{device_body, edid_body, head_of, head_text, pin_body, plug_body, pulse_body, pull_body, said_by};
 ghost use Rattle.text_core.specs.Lines.{lines_of};
 
-use json_trace::{Column, Shape, add_fields, add_quoted, add_type, after_word, word};
+use json_trace::{JsonField, ValueShape, add_fields, add_quoted, add_type, after_word, word};
 use text_core::{Counted, Sink, first_line};
 
 /// Which line of a topology or of a script it is.
 #[derive(Clone, Copy, Debug)]
-pub enum Head {
+pub enum RoomLine {
     Device,
     Plug,
     Edid,
@@ -23,89 +23,89 @@ pub enum Head {
 }
 
 /// After `device`.
-const DEVICE: &[Column] = &[
-    Column {
+const DEVICE: &[JsonField] = &[
+    JsonField {
         name: "device",
-        shape: Shape::Text,
+        shape: ValueShape::Text,
     },
-    Column {
+    JsonField {
         name: "kind",
-        shape: Shape::Text,
+        shape: ValueShape::Text,
     },
-    Column {
+    JsonField {
         name: "ports",
-        shape: Shape::Number,
+        shape: ValueShape::Number,
     },
 ];
 
 /// After `plug`.
-const PLUG: &[Column] = &[
-    Column {
+const PLUG: &[JsonField] = &[
+    JsonField {
         name: "device",
-        shape: Shape::Text,
+        shape: ValueShape::Text,
     },
-    Column {
+    JsonField {
         name: "parent",
-        shape: Shape::Text,
+        shape: ValueShape::Text,
     },
-    Column {
+    JsonField {
         name: "port",
-        shape: Shape::Number,
+        shape: ValueShape::Number,
     },
 ];
 
 /// After `edid`.
-const EDID: &[Column] = &[Column {
+const EDID: &[JsonField] = &[JsonField {
     name: "edid",
-    shape: Shape::Text,
+    shape: ValueShape::Text,
 }];
 
 /// After `pulse` and `pull`: microseconds.
-const LOW: &[Column] = &[
-    Column {
+const LOW: &[JsonField] = &[
+    JsonField {
         name: "at",
-        shape: Shape::Number,
+        shape: ValueShape::Number,
     },
-    Column {
+    JsonField {
         name: "width",
-        shape: Shape::Number,
+        shape: ValueShape::Number,
     },
 ];
 
 /// After `pin`: microseconds, and 0 or 1.
-const LEVEL: &[Column] = &[
-    Column {
+const LEVEL: &[JsonField] = &[
+    JsonField {
         name: "at",
-        shape: Shape::Number,
+        shape: ValueShape::Number,
     },
-    Column {
+    JsonField {
         name: "level",
-        shape: Shape::Number,
+        shape: ValueShape::Number,
     },
 ];
 
-fn head_of(word: &[u8]) -> Head
+fn head_of(word: &[u8]) -> RoomLine
     ensures { result ≡ head_of word.now }
 {
     if word == b"device".as_slice() {
-        Head::Device
+        RoomLine::Device
     } else if word == b"plug".as_slice() {
-        Head::Plug
+        RoomLine::Plug
     } else if word == b"edid".as_slice() {
-        Head::Edid
+        RoomLine::Edid
     } else if word == b"pulse".as_slice() {
-        Head::Pulse
+        RoomLine::Pulse
     } else if word == b"pull".as_slice() {
-        Head::Pull
+        RoomLine::Pull
     } else if word == b"pin".as_slice() {
-        Head::Pin
+        RoomLine::Pin
     } else {
-        Head::Other
+        RoomLine::Other
     }
 }
 
 // Adds what a line says after its first word, as the fields of an object of this type.
-fn add_said<S: Sink>(out: &mut Counted<'_, S>, name: &str, columns: &[Column], line: &[u8])
+fn add_said<S: Sink>(out: &mut Counted<'_, S>, name: &str, columns: &[JsonField], line: &[u8])
     ensures { Adds out.old out.new (said_by name.now (map column_parts columns.now) line.now) }
 {
     out.add(b"{\"line\":");
@@ -156,13 +156,13 @@ fn add_head<S: Sink>(out: &mut Counted<'_, S>, line: &[u8])
     ensures { Adds out.old out.new (head_text line.now) }
 {
     match head_of(word(line)) {
-        Head::Device => add_device(out, line),
-        Head::Plug => add_plug(out, line),
-        Head::Edid => add_edid(out, line),
-        Head::Pulse => add_pulse(out, line),
-        Head::Pull => add_pull(out, line),
-        Head::Pin => add_pin(out, line),
-        Head::Other => out.add(b""),
+        RoomLine::Device => add_device(out, line),
+        RoomLine::Plug => add_plug(out, line),
+        RoomLine::Edid => add_edid(out, line),
+        RoomLine::Pulse => add_pulse(out, line),
+        RoomLine::Pull => add_pull(out, line),
+        RoomLine::Pin => add_pin(out, line),
+        RoomLine::Other => out.add(b""),
     }
 }
 

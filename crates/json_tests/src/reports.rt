@@ -1,19 +1,19 @@
 //! Each row of a report through the call that the program makes.
 use crate::objects::{Narrow, holds};
 use crate::report_rows::{ESCAPED, OBJECTS, REPORT, STRETCHES, TESTS};
-use json_report::{Report, write_report_objects};
+use json_report::{ReportKind, write_report_objects};
 use std::process::Abort;
 use text_core::Writes;
 
 /// The objects of a report.
-fn objects(rt: &(impl Abort + AllocGlobal), report: Report, text: &str) -> String {
+fn objects(rt: &(impl Abort + AllocGlobal), report: ReportKind, text: &str) -> String {
     let mut out = Vec::new(rt.alloc());
     write_report_objects(report, text.as_bytes(), &mut Writes::new(&mut out)).expect(rt, "room");
     String::from_utf8(out).expect(rt, "a text")
 }
 
 /// Each line has what stands after its arrow.
-fn are_reported(rt: &(impl Abort + AllocGlobal), report: Report, rows: &str) {
+fn are_reported(rt: &(impl Abort + AllocGlobal), report: ReportKind, rows: &str) {
     for row in rows.lines() {
         let (line, fields) = row.split_once(" => ").expect(rt, row);
         let text = format!(in rt.alloc(); "{line}\n").expect(rt, row);
@@ -25,12 +25,12 @@ fn are_reported(rt: &(impl Abort + AllocGlobal), report: Report, rows: &str) {
 
 #[test]
 fn tests_windows_and_rounds(rt: HostRuntime) {
-    are_reported(&rt, Report::Expectations, TESTS);
+    are_reported(&rt, ReportKind::Expectations, TESTS);
 }
 
 #[test]
 fn stretches(rt: HostRuntime) {
-    are_reported(&rt, Report::Sweep, STRETCHES);
+    are_reported(&rt, ReportKind::Sweep, STRETCHES);
 }
 
 #[test]
@@ -38,15 +38,15 @@ fn escapes_of_tests(rt: HostRuntime) {
     for row in ESCAPED.lines() {
         let (line, want) = row.split_once(" => ").expect(&rt, row);
         let object = format!(in rt.alloc(); "{want}\n").expect(&rt, row);
-        holds(&rt, objects(&rt, Report::Expectations, line) == object, row);
+        holds(&rt, objects(&rt, ReportKind::Expectations, line) == object, row);
     }
 }
 
 #[test]
 fn a_report_line_an_object(rt: HostRuntime) {
-    let reported = objects(&rt, Report::Expectations, REPORT);
+    let reported = objects(&rt, ReportKind::Expectations, REPORT);
     holds(&rt, reported.as_str() == OBJECTS, "a report");
-    let none = objects(&rt, Report::Sweep, "");
+    let none = objects(&rt, ReportKind::Sweep, "");
     holds(&rt, none.as_str() == "", "nothing");
 }
 
@@ -57,7 +57,7 @@ fn is_cut_off(rt: &(impl Abort + AllocGlobal), room: usize) -> bool {
         room,
     };
     let done = write_report_objects(
-        Report::Expectations,
+        ReportKind::Expectations,
         REPORT.as_bytes(),
         &mut Writes::new(&mut out),
     );

@@ -9,12 +9,12 @@ use Rattle.json_trace.specs.Columns.{field, fields, field_lead, reading_fields, 
 use Rattle.json_trace.specs.Object.{AreBytesOf, AreInOrder, reading_start, broken_body, bytes_value, complete_body, complete_fields, frame_fields, frame_in, reading_type, seats, type_field}
 use Rattle.json_trace.specs.Parts.{after_byte, after_word, before_byte, before_last, after_ending, has_seats, reported_in, value_of, word}
 use Rattle.json_trace.specs.Values.{code_text, code_texts, report_value, some_report}
-use Rattle.json_trace.specs.declared.columns.Column.{Column}
-use Rattle.json_trace.specs.declared.values.Code.{Code}
-use Rattle.json_trace.specs.declared.values.Shape.TheVariants.{Text}
+use Rattle.json_trace.specs.declared.columns.JsonField.{JsonField}
+use Rattle.json_trace.specs.declared.values.CharValue.{CharValue}
+use Rattle.json_trace.specs.declared.values.ValueShape.TheVariants.{Text}
 
 -- one character more
-pub coded_more : (code : Code) (text : List ℕ) (i : ℕ) (x : List ℕ) → i < length text → x ≡ code_text code (get_or text i 0)
+pub coded_more : (code : CharValue) (text : List ℕ) (i : ℕ) (x : List ℕ) → i < length text → x ≡ code_text code (get_or text i 0)
     → code_texts code (take i text) ++ x ≡ code_texts code (take (i + 1) text)
 coded_more code text i x h e =
     ap (λ (l : List ℕ). code_texts code (take i text) ++ l) (e ∙ sym (append-nil (code_text code (get_or text i 0))))
@@ -22,13 +22,13 @@ coded_more code text i x h e =
     ∙ ap (code_texts code) (sym (take-suc text i 0 h) ∙ ap (λ (n : ℕ). take n text) (sym (add-one i)))
 
 -- a field, and the rest
-pub fields_more : (columns : List Column) (text first reported rest : List ℕ) (none : Column) → 1 ≤ length columns → first ≡ word text → reported ≡ value_of first → rest ≡ after_word text
+pub fields_more : (columns : List JsonField) (text first reported rest : List ℕ) (none : JsonField) → 1 ≤ length columns → first ≡ word text → reported ≡ value_of first → rest ≡ after_word text
     → field (get_or columns 0 none).name.now (get_or columns 0 none).shape reported ++ fields (map column_parts (drop 1 columns)) rest ≡ fields (map column_parts columns) text
 unfolding fields
 fields_more [] text first reported rest none h e f g = absurd (omega arith)
 fields_more (c ∷ cs) text first reported rest none h e f g = rw (f, e, g) refl
 
-pub fields_none : (columns : List Column) (text : List ℕ) → length columns < 1 → [] ≡ fields (map column_parts columns) text
+pub fields_none : (columns : List JsonField) (text : List ℕ) → length columns < 1 → [] ≡ fields (map column_parts columns) text
 unfolding fields
 fields_none [] text h = refl
 fields_none (c ∷ cs) text h = absurd (omega arith)

@@ -6,7 +6,7 @@ use Rattle.json_trace.specs.Object.{object}
 use Rattle.json_trace.specs.ReadBack.{LinesAreReadBack, OneLineAnObject, digit, line_of, string_from}
 use Rattle.json_trace.specs.ReadBack.StringState.{Char}
 use Rattle.json_trace.specs.Values.{char_text, code_texts}
-use Rattle.json_trace.specs.declared.values.Code.TheVariants as codings
+use Rattle.json_trace.specs.declared.values.CharValue.TheVariants as codings
 
 digit_again : (n : ℕ) → digit (cond (nat_lt n 10) (48 + n) (87 + n)) ≡ n
 digit_again n = grind (arith, nat_tests)

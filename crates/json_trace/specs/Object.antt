@@ -7,9 +7,9 @@ use Rattle.message_text.specs.FrameLines.{IsTextOf}
 use Rattle.json_trace.specs.Columns.{event_fields, field, fields, instant, field_lead, port_fields, reading_fields, state_fields}
 use Rattle.json_trace.specs.Parts.{after_word, before_last, after_ending, has_seats, last_word, losers_in, reported_in, winners_in, word}
 use Rattle.json_trace.specs.Values.{string_text}
-use Rattle.json_trace.specs.declared.object.Form.{Form}
-use Rattle.json_trace.specs.declared.object.Form.TheVariants as forms
-use Rattle.json_trace.specs.declared.values.Shape.TheVariants.{Text, Names, Losers}
+use Rattle.json_trace.specs.declared.object.TraceLine.{TraceLine}
+use Rattle.json_trace.specs.declared.object.TraceLine.TheVariants as forms
+use Rattle.json_trace.specs.declared.values.ValueShape.TheVariants.{Text, Names, Losers}
 
 -- ---- which line it is
 
@@ -18,7 +18,7 @@ is_broken ending =
     bytes_eq ending (codes "short") || bytes_eq ending (codes "silent") || bytes_eq ending (codes "bad-start") || bytes_eq ending (codes "long")
     || bytes_eq ending (codes "open") || bytes_eq ending (codes "joined")
 
-abbrev pub form_by : List ℕ → List ℕ → List ℕ → Form
+abbrev pub form_by : List ℕ → List ℕ → List ℕ → TraceLine
 form_by first second third =
     if bytes_eq first (codes "state") then forms.State
     else if bytes_eq second (codes "port") then forms.Port
@@ -28,7 +28,7 @@ form_by first second third =
     else if is_broken third then forms.Broken
     else forms.Other
 
-abbrev pub form_of : List ℕ → Form
+abbrev pub form_of : List ℕ → TraceLine
 form_of line = form_by (word line) (word (after_word line)) (word (after_word (after_word line)))
 
 -- ---- what it reports
@@ -84,7 +84,7 @@ complete_body bytes line = reading_start line ++ complete_fields bytes (reported
 abbrev pub broken_body : List ℕ → List ℕ
 broken_body line = reading_start line ++ field (codes "bits") Text (reported_in (after_ending line)) ++ seats (after_ending line)
 
-abbrev pub body : Form → Option (List ℕ) → List ℕ → List ℕ
+abbrev pub body : TraceLine → Option (List ℕ) → List ℕ → List ℕ
 body forms.State bytes line = state_body line
 body forms.Port bytes line = port_body line
 body forms.Event bytes line = event_body line

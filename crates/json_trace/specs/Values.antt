@@ -5,10 +5,10 @@ use Rattle.std.specs.Str.{bytes_eq}
 use Rattle.text_core.specs.Piece.{hex_text}
 use Rattle.text_core.specs.Number.{is_numeral}
 use Rattle.json_trace.specs.Parts.{after_byte, before_byte}
-use Rattle.json_trace.specs.declared.values.Shape.{Shape}
-use Rattle.json_trace.specs.declared.values.Shape.TheVariants.{Number, Text, Switch, Names, Losers, Units, Heard}
-use Rattle.json_trace.specs.declared.values.Code.{Code}
-use Rattle.json_trace.specs.declared.values.Code.TheVariants as codings
+use Rattle.json_trace.specs.declared.values.ValueShape.{ValueShape}
+use Rattle.json_trace.specs.declared.values.ValueShape.TheVariants.{Number, Text, Switch, Names, Losers, Units, Heard}
+use Rattle.json_trace.specs.declared.values.CharValue.{CharValue}
+use Rattle.json_trace.specs.declared.values.CharValue.TheVariants as codings
 
 -- a byte of a string: quote and backslash have a backslash before them, a control character is its number, and the others, of which
 -- those from 128 on are parts of characters of UTF-8, stand as they are
@@ -31,13 +31,13 @@ loser_text b = if b == 64 then codes "\",\"slot\":" else if b == 44 then codes "
 abbrev pub unit_text : ℕ → List ℕ
 unit_text b = if b == 43 then codes "," else if b == 45 then codes "null" else 34 ∷ char_text b ++ 34 ∷ []
 
-abbrev pub code_text : Code → ℕ → List ℕ
+abbrev pub code_text : CharValue → ℕ → List ℕ
 code_text codings.Char b = char_text b
 code_text codings.Name b = name_text b
 code_text codings.Loser b = loser_text b
 code_text codings.Unit b = unit_text b
 
-abbrev pub code_texts : Code → List ℕ → List ℕ
+abbrev pub code_texts : CharValue → List ℕ → List ℕ
 code_texts code text = flat_map (code_text code) text
 
 -- a string
@@ -83,7 +83,7 @@ some_report word = report_value (before_byte 58 word) (before_byte 58 (after_byt
 abbrev pub heard_value : List ℕ → List ℕ
 heard_value word = if is_none word then codes "null" else some_report word
 
-abbrev pub value_text : Shape → List ℕ → List ℕ
+abbrev pub value_text : ValueShape → List ℕ → List ℕ
 value_text Number word = number_value word
 value_text Text word = text_value word
 value_text Switch word = switch_value word

@@ -4,50 +4,50 @@ ghost use Rattle.json_trace.specs.Columns.{field, fields, field_lead, column_par
 ghost use Rattle.text_core.specs.Adds.{Adds};
 
 use crate::parts::{after_word, value_of, word};
-use crate::values::{Shape, add_value};
+use crate::values::{ValueShape, add_value};
 use text_core::{Counted, Piece, Sink};
 
 /// A field.
 #[derive(Clone, Copy, Debug)]
-pub struct Column {
+pub struct JsonField {
     pub name: &'static str,
-    pub shape: Shape,
+    pub shape: ValueShape,
 }
 
 macro_rules! columns {
     ($($name:literal $shape:ident;)*) => {
-        &[$(Column { name: $name, shape: Shape::$shape },)*]
+        &[$(JsonField { name: $name, shape: ValueShape::$shape },)*]
     };
 }
 
 /// `T port NAME P HEX`, `T event LINE ..`, `T end`: the instant in microseconds.
-pub const AT: &[Column] = columns! {
+pub const AT: &[JsonField] = columns! {
     "at" Number;
 };
 
 /// After `port`.
-pub const PORT: &[Column] = columns! {
+pub const PORT: &[JsonField] = columns! {
     "device" Text;
     "port" Number;
     "edid" Text;
 };
 
 /// After `event`.
-pub const EVENT: &[Column] = columns! {
+pub const EVENT: &[JsonField] = columns! {
     "script_line" Number;
     "verdict" Text;
     "cause" Text;
 };
 
 /// `START END ENDING`.
-pub const READING: &[Column] = columns! {
+pub const READING: &[JsonField] = columns! {
     "begin" Number;
     "close" Number;
     "ending" Text;
 };
 
 /// After `state`.
-pub const STATE: &[Column] = columns! {
+pub const STATE: &[JsonField] = columns! {
     "device" Text;
     "kind" Text;
     "logical_addresses" Units;
@@ -79,7 +79,7 @@ pub fn add_lead<S: Sink>(out: &mut Counted<'_, S>, name: &str)
 }
 
 /// Adds a field.
-pub fn add_field<S: Sink>(out: &mut Counted<'_, S>, name: &str, shape: Shape, word: &[u8])
+pub fn add_field<S: Sink>(out: &mut Counted<'_, S>, name: &str, shape: ValueShape, word: &[u8])
     ensures { Adds out.old out.new (field name.now shape word.now) }
 {
     add_lead(out, name);
@@ -87,7 +87,7 @@ pub fn add_field<S: Sink>(out: &mut Counted<'_, S>, name: &str, shape: Shape, wo
 }
 
 /// Adds a field for each of the first words, of which one with a name has its value after `=`.
-pub fn add_fields<S: Sink>(out: &mut Counted<'_, S>, columns: &[Column], text: &[u8])
+pub fn add_fields<S: Sink>(out: &mut Counted<'_, S>, columns: &[JsonField], text: &[u8])
     ensures { Adds out.old out.new (fields (map column_parts columns.now) text.now) }
 {
     let [column, columns @ ..] = columns else {

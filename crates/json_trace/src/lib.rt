@@ -9,10 +9,10 @@ mod object;
 mod parts;
 mod values;
 
-pub use columns::{Column, add_field, add_fields, add_lead};
+pub use columns::{JsonField, add_field, add_fields, add_lead};
 pub use held::Held;
 pub use laws::{lines_are_read_back, one_line_an_object};
 pub use lines::{LineObjects, PlainLines, write_objects};
 pub use object::{add_reported, add_type};
 pub use parts::{after_byte, after_word, before_byte, word};
-pub use values::{Shape, add_char, add_quoted};
+pub use values::{ValueShape, add_char, add_quoted};

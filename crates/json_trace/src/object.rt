@@ -8,14 +8,14 @@ use crate::parts::{
     after_ending, after_word, before_last, has_seats, last_word, losers_in, reported_in,
     winners_in, word,
 };
-use crate::values::{Shape, add_quoted};
+use crate::values::{ValueShape, add_quoted};
 use line_frames::Frame;
 use message_text::{assemble, frames_are_whole};
 use text_core::{Counted, Piece, Sink, after, before};
 
 /// Which line of a trace, or of readings, it is.
 #[derive(Clone, Copy, Debug)]
-pub enum Form {
+pub enum TraceLine {
     /// The state of a device.
     State,
     /// The EDID of a port.
@@ -43,27 +43,27 @@ fn is_broken(ending: &[u8]) -> bool
         || ending == b"joined".as_slice()
 }
 
-fn form_by(first: &[u8], second: &[u8], third: &[u8]) -> Form
+fn form_by(first: &[u8], second: &[u8], third: &[u8]) -> TraceLine
     ensures { result ≡ form_by first.now second.now third.now }
 {
     if first == b"state".as_slice() {
-        Form::State
+        TraceLine::State
     } else if second == b"port".as_slice() {
-        Form::Port
+        TraceLine::Port
     } else if second == b"event".as_slice() {
-        Form::Event
+        TraceLine::Event
     } else if second == b"end".as_slice() {
-        Form::End
+        TraceLine::End
     } else if third == b"complete".as_slice() {
-        Form::Complete
+        TraceLine::Complete
     } else if is_broken(third) {
-        Form::Broken
+        TraceLine::Broken
     } else {
-        Form::Other
+        TraceLine::Other
     }
 }
 
-fn form_of(line: &[u8]) -> Form
+fn form_of(line: &[u8]) -> TraceLine
     ensures { result ≡ form_of line.now }
 {
     let second = after_word(line);
@@ -111,8 +111,8 @@ fn add_begun<S: Sink>(out: &mut Counted<'_, S>, line: &[u8])
 fn add_named<S: Sink>(out: &mut Counted<'_, S>, rest: &[u8])
     ensures { Adds out.old out.new (names_fields rest.now) }
 {
-    add_field(out, "by", Shape::Names, winners_in(rest));
-    add_field(out, "out", Shape::Losers, losers_in(rest));
+    add_field(out, "by", ValueShape::Names, winners_in(rest));
+    add_field(out, "out", ValueShape::Losers, losers_in(rest));
 }
 
 // Adds the devices that sent, where the line names them.
@@ -145,10 +145,10 @@ fn add_bytes<S: Sink>(out: &mut Counted<'_, S>, frame: &Option<Frame>)
 fn add_frame<S: Sink>(out: &mut Counted<'_, S>, frame: &Option<Frame>, text: &[u8])
     ensures { Adds out.old out.new (frame_fields frame.now text.now) }
 {
-    add_field(out, "frame", Shape::Text, text);
-    add_field(out, "initiator", Shape::Text, before(text, 1));
+    add_field(out, "frame", ValueShape::Text, text);
+    add_field(out, "initiator", ValueShape::Text, before(text, 1));
     let destination = before(after(text, 2), 1);
-    add_field(out, "destination", Shape::Text, destination);
+    add_field(out, "destination", ValueShape::Text, destination);
     add_lead(out, "bytes");
     add_bytes(out, frame);
 }
@@ -158,7 +158,7 @@ fn add_complete<S: Sink>(out: &mut Counted<'_, S>, frame: &Option<Frame>, report
     ensures { Adds out.old out.new (complete_fields frame.now reported.now) }
 {
     add_frame(out, frame, before_last(reported));
-    add_field(out, "verdict", Shape::Text, last_word(reported));
+    add_field(out, "verdict", ValueShape::Text, last_word(reported));
 }
 
 fn add_state<S: Sink>(out: &mut Counted<'_, S>, line: &[u8])
@@ -207,22 +207,22 @@ fn add_broken<S: Sink>(out: &mut Counted<'_, S>, line: &[u8])
 {
     let rest = after_ending(line);
     add_begun(out, line);
-    add_field(out, "bits", Shape::Text, reported_in(rest));
+    add_field(out, "bits", ValueShape::Text, reported_in(rest));
     add_seats(out, rest);
 }
 
 // Adds what a line reports.
-fn add_body<S: Sink>(out: &mut Counted<'_, S>, form: Form, frame: &Option<Frame>, line: &[u8])
+fn add_body<S: Sink>(out: &mut Counted<'_, S>, form: TraceLine, frame: &Option<Frame>, line: &[u8])
     ensures { Adds out.old out.new (body form frame.now line.now) }
 {
     match form {
-        Form::State => add_state(out, line),
-        Form::Port => add_port(out, line),
-        Form::Event => add_event(out, line),
-        Form::End => add_end(out, line),
-        Form::Complete => add_whole(out, frame, line),
-        Form::Broken => add_broken(out, line),
-        Form::Other => add_type(out, "other"),
+        TraceLine::State => add_state(out, line),
+        TraceLine::Port => add_port(out, line),
+        TraceLine::Event => add_event(out, line),
+        TraceLine::End => add_end(out, line),
+        TraceLine::Complete => add_whole(out, frame, line),
+        TraceLine::Broken => add_broken(out, line),
+        TraceLine::Other => add_type(out, "other"),
     }
 }
 

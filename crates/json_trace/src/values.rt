@@ -9,7 +9,7 @@ use text_core::{Counted, Sink, hex_digit, number_in};
 
 /// How a word is a value.
 #[derive(Clone, Copy, Debug)]
-pub enum Shape {
+pub enum ValueShape {
     /// A number; null for any other word.
     Number,
     /// A string; null for `-`.
@@ -28,7 +28,7 @@ pub enum Shape {
 
 /// What each character of a word becomes.
 #[derive(Clone, Copy, Debug)]
-pub enum Code {
+pub enum CharValue {
     /// The same character of a string.
     Char,
     /// One of a list of names.
@@ -109,14 +109,14 @@ fn unit_text(byte: u8) -> ArrayVec<u8, CODE_MOST>
     }
 }
 
-fn code_text(code: Code, byte: u8) -> ArrayVec<u8, CODE_MOST>
+fn code_text(code: CharValue, byte: u8) -> ArrayVec<u8, CODE_MOST>
     ensures { result.items ≡ code_text code byte }
 {
     match code {
-        Code::Char => char_text(byte),
-        Code::Name => name_text(byte),
-        Code::Loser => loser_text(byte),
-        Code::Unit => unit_text(byte),
+        CharValue::Char => char_text(byte),
+        CharValue::Name => name_text(byte),
+        CharValue::Loser => loser_text(byte),
+        CharValue::Unit => unit_text(byte),
     }
 }
 
@@ -128,7 +128,7 @@ pub fn add_char<S: Sink>(out: &mut Counted<'_, S>, byte: u8)
 }
 
 // Adds what the characters of a word become.
-fn add_coded<S: Sink>(out: &mut Counted<'_, S>, code: Code, text: &[u8])
+fn add_coded<S: Sink>(out: &mut Counted<'_, S>, code: CharValue, text: &[u8])
     ensures { Adds out.old out.new (code_texts code text.now) }
 {
     for byte in text {
@@ -141,7 +141,7 @@ pub fn add_quoted<S: Sink>(out: &mut Counted<'_, S>, text: &[u8])
     ensures { Adds out.old out.new (string_text text.now) }
 {
     out.add(b"\"");
-    add_coded(out, Code::Char, text);
+    add_coded(out, CharValue::Char, text);
     out.add(b"\"");
 }
 
@@ -190,7 +190,7 @@ fn add_some_names<S: Sink>(out: &mut Counted<'_, S>, word: &[u8])
     ensures { Adds out.old out.new (some_names word.now) }
 {
     out.add(b"[\"");
-    add_coded(out, Code::Name, word);
+    add_coded(out, CharValue::Name, word);
     out.add(b"\"]");
 }
 
@@ -208,7 +208,7 @@ fn add_some_losers<S: Sink>(out: &mut Counted<'_, S>, word: &[u8])
     ensures { Adds out.old out.new (some_losers word.now) }
 {
     out.add(b"[{\"device\":\"");
-    add_coded(out, Code::Loser, word);
+    add_coded(out, CharValue::Loser, word);
     out.add(b"}]");
 }
 
@@ -226,7 +226,7 @@ fn add_units<S: Sink>(out: &mut Counted<'_, S>, word: &[u8])
     ensures { Adds out.old out.new (units_value word.now) }
 {
     out.add(b"[");
-    add_coded(out, Code::Unit, word);
+    add_coded(out, CharValue::Unit, word);
     out.add(b"]");
 }
 
@@ -266,16 +266,16 @@ fn add_heard<S: Sink>(out: &mut Counted<'_, S>, word: &[u8])
 }
 
 /// Adds a word as a value.
-pub(crate) fn add_value<S: Sink>(out: &mut Counted<'_, S>, shape: Shape, word: &[u8])
+pub(crate) fn add_value<S: Sink>(out: &mut Counted<'_, S>, shape: ValueShape, word: &[u8])
     ensures { Adds out.old out.new (value_text shape word.now) }
 {
     match shape {
-        Shape::Number => add_number(out, word),
-        Shape::Text => add_text(out, word),
-        Shape::Switch => add_switch(out, word),
-        Shape::Names => add_names(out, word),
-        Shape::Losers => add_losers(out, word),
-        Shape::Units => add_units(out, word),
-        Shape::Heard => add_heard(out, word),
+        ValueShape::Number => add_number(out, word),
+        ValueShape::Text => add_text(out, word),
+        ValueShape::Switch => add_switch(out, word),
+        ValueShape::Names => add_names(out, word),
+        ValueShape::Losers => add_losers(out, word),
+        ValueShape::Units => add_units(out, word),
+        ValueShape::Heard => add_heard(out, word),
     }
 }

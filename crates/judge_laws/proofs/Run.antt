@@ -33,7 +33,7 @@ use Rattle.room_run.proofs.Advance.{round_begins}
 use Rattle.room_driven.specs.Driven.{names_of}
 use Rattle.expect_judge.specs.Seen.{end_by, ends_seen}
 use Rattle.expect_judge.specs.Told.{EventLine, RoundLine, events_of, round_in, rounds_of}
-use Rattle.expect_judge.specs.declared.seen.Span.{Span}
+use Rattle.expect_judge.specs.declared.seen.TimeSpan.{TimeSpan}
 use Rattle.wires_laws.specs.Dumps.{is_word}
 use Rattle.wires_laws.proofs.Head.{name_of}
 use Rattle.driven_laws.specs.Dumps.{names_in}
@@ -229,7 +229,7 @@ of_mapped : {X Y Z : Type 0} (f : X → Y) (h : Y → Option Z) (xs : List X) �
 of_mapped f h [] = refl
 of_mapped f h (x ∷ xs) = ap (cons_option (h (f x))) (of_mapped f h xs)
 
-seen_so : (text pattern : List ℕ) (span : Span) (rs : List RoundReported) → rounds_of text ≡ map round_read rs
+seen_so : (text pattern : List ℕ) (span : TimeSpan) (rs : List RoundReported) → rounds_of text ≡ map round_read rs
     → ends_seen text span pattern ≡ filter_map (λ r. end_by span pattern (Some (round_read r))) rs
 seen_so text pattern span rs e =
     after_none (λ line. round_in (words_of line)) (end_by span pattern) refl (lines_of text) ∙ ap (filter_map (λ r. end_by span pattern (Some r))) e

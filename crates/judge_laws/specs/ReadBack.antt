@@ -21,7 +21,7 @@ use Rattle.room_run.specs.Emulate.{IsTraceOf}
 use Rattle.room_run.specs.OneRun.{rounds_of_trace}
 use Rattle.expect_judge.specs.Seen.{end_by, ends_seen}
 use Rattle.expect_judge.specs.Told.{EventLine, RoundLine, events_of, rounds_of}
-use Rattle.expect_judge.specs.declared.seen.Span.{Span}
+use Rattle.expect_judge.specs.declared.seen.TimeSpan.{TimeSpan}
 
 -- ---- what a run reports
 
@@ -103,7 +103,7 @@ pub record IsReadBack (topology script text : List ℕ) (totals : Totals) (p : I
   pub outcomes : map (λ r. r.outcome) (rounds_reported topology script text totals p) ≡ rounds_of_trace topology script text totals p
   pub events : events_of text ≡ map event_read (events_reported topology script text totals p)
   -- Which of the rounds are seen in a span of time is by these alone.
-  pub seen : (span : Span) (pattern : List ℕ) → ends_seen text span pattern ≡ filter_map (λ r. end_by span pattern (Some (round_read r))) (rounds_reported topology script text totals p)
+  pub seen : (span : TimeSpan) (pattern : List ℕ) → ends_seen text span pattern ≡ filter_map (λ r. end_by span pattern (Some (round_read r))) (rounds_reported topology script text totals p)
   pub in_order : p.course.events ≡ map (λ e. e.event) (events_reported topology script text totals p) ++ p.trace.run.last.events
 
 -- Of every topology and script that are accepted, the script of fewer bytes than 2 ^ 63.

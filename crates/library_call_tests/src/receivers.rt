@@ -3,7 +3,7 @@ use crate::readings::reading_of;
 use crate::rooms::{holds, is_told, number};
 use arrayvec::ArrayVec;
 use library_wire::{
-    Heard, ReadingParts, receiver_hear, receiver_new, receiver_running, receiver_wakes_at,
+    InstantHeard, ReadingParts, receiver_hear, receiver_new, receiver_running, receiver_wakes_at,
 };
 use line_reading::ReceiverParts;
 use line_wave::{Stretch, lay};
@@ -17,7 +17,7 @@ const LATEST: u64 = 3_000_000_000_000;
 struct Listener {
     receiver: ReceiverParts,
     is_low: bool,
-    heard: Heard,
+    heard: InstantHeard,
     reading: ReadingParts,
 }
 
@@ -26,7 +26,7 @@ impl Listener {
         Listener {
             receiver: receiver_new(),
             is_low: false,
-            heard: Heard {
+            heard: InstantHeard {
                 code: 0,
                 kind: 0,
                 ending: 0,
@@ -115,8 +115,8 @@ const HEARD: &str = "\
 1000 4700 5500 6100 .8251 => 0 3 3 false 0
 1000 4499 => 0 3 4 false 0";
 
-fn heard_text(rt: &(impl Abort + AllocGlobal), heard: &Heard) -> String {
-    let Heard {
+fn heard_text(rt: &(impl Abort + AllocGlobal), heard: &InstantHeard) -> String {
+    let InstantHeard {
         code,
         kind,
         ending,

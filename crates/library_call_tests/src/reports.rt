@@ -6,7 +6,7 @@ use edid_core::{EdidCause, EdidError};
 use expect_run::CheckError;
 use expect_text::{ExpectCause, ExpectFault};
 use library_answers::Answer;
-use library_run::{Counts, check_refused, put_readings, put_report, run_refused, watch_refused};
+use library_run::{TestCounts, check_refused, put_readings, put_report, run_refused, watch_refused};
 use room_run::emulate::EmulateError;
 use room_script::{AssembleError, ScriptCause, TopologyCause};
 use std::process::Abort;
@@ -27,7 +27,7 @@ expect state 11 tv on|end 10 => 93 1
 expect state 5 p2 on|end 10 => 82 1";
 
 /// The counts of a report before a call.
-const BEFORE: Counts = Counts {
+const BEFORE: TestCounts = TestCounts {
     count: 7,
     failed: 7,
 };
@@ -95,7 +95,7 @@ end 1500000
 #[test]
 fn reports_are_put_and_counted(rt: HostRuntime) {
     let (topology, script) = (TOPOLOGY.as_bytes(), EXPECTING.as_bytes());
-    let want = Counts {
+    let want = TestCounts {
         count: 2,
         failed: 1,
     };

@@ -3,7 +3,7 @@ use crate::edids::{REFUSED as REFUSED_EDIDS, SILENT};
 use crate::rooms::{UNTOUCHED, first_word, holds, is_put, is_small, number};
 use crate::samples::first_bytes_of;
 use library_answers::Answer;
-use library_run::{Counts, put_edges, put_report, put_trace};
+use library_run::{TestCounts, put_edges, put_report, put_trace};
 use std::alloc::Global;
 use std::process::Abort;
 
@@ -55,7 +55,7 @@ pub(crate) const EDGES: &str = "\
 ";
 
 /// The counts of a report before a call.
-const BEFORE: Counts = Counts {
+const BEFORE: TestCounts = TestCounts {
     count: 7,
     failed: 7,
 };
@@ -69,7 +69,7 @@ enum Call {
 }
 
 /// Makes a call over a room of four bytes, and returns its answer, what then stands in the room, and the counts.
-fn answers(alloc: Global, call: Call, topology: &str, script: &str) -> (Answer, [u8; 4], Counts) {
+fn answers(alloc: Global, call: Call, topology: &str, script: &str) -> (Answer, [u8; 4], TestCounts) {
     let (topology, script) = (topology.as_bytes(), script.as_bytes());
     let mut room = [UNTOUCHED; 4];
     let mut counts = BEFORE;

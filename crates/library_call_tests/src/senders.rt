@@ -1,6 +1,6 @@
 //! A sender whose state its caller keeps, and each number that its calls answer.
 use crate::rooms::{byte, first_word, holds, is_told, number};
-use library_wire::{Heard, sender_begin, sender_heard, sender_next_change, sender_pulls};
+use library_wire::{InstantHeard, sender_begin, sender_heard, sender_next_change, sender_pulls};
 use line_reading::SenderParts;
 use std::process::Abort;
 
@@ -62,11 +62,11 @@ const HEARD: &str = "\
 4 1 0 0 => 5 0 0
 255 1 0 0 => 5 0 0";
 
-fn heard_of(rt: &impl Abort, words: &str) -> Heard {
+fn heard_of(rt: &impl Abort, words: &str) -> InstantHeard {
     let (kind, words) = first_word(words);
     let (ending, words) = first_word(words);
     let (bit, slot) = first_word(words);
-    Heard {
+    InstantHeard {
         code: 0,
         kind: byte(rt, kind),
         ending: byte(rt, ending),
@@ -90,8 +90,8 @@ fn what_is_heard_has_kinds_and_endings(rt: HostRuntime) {
     }
 }
 
-fn nothing_heard() -> Heard {
-    Heard {
+fn nothing_heard() -> InstantHeard {
+    InstantHeard {
         code: 0,
         kind: 0,
         ending: 0,

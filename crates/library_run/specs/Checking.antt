@@ -11,7 +11,7 @@ use Rattle.library_answers.specs.declared.answer.Answer.{Answer}
 use Rattle.library_answers.specs.declared.code.Code.{Code}
 use Rattle.library_answers.specs.declared.code.Code.TheVariants.{Memory, ScriptName, ExpectWord, ExpectNumber, ExpectLabel, ExpectOrder}
 use Rattle.library_run.specs.Run.{run_answer}
-use Rattle.library_run.specs.declared.checking.Counts.{Counts}
+use Rattle.library_run.specs.declared.checking.TestCounts.{TestCounts}
 
 abbrev pub expect_code : ExpectCause → Code
 expect_code expects.Word = ExpectWord
@@ -29,15 +29,15 @@ check_answer (Expect fault) = refusal (expect_code fault.cause) fault.line
 check_answer (Write count) = refusal Memory 0
 check_answer NoMemory = refusal Memory 0
 
-abbrev pub counts_of : Tally → Counts
+abbrev pub counts_of : Tally → TestCounts
 counts_of tally = record { count = tally.count; failed = tally.failed }
 
 -- the report of the script is put into the room, and its tests are counted
-abbrev pub IsReportPut : List ℕ → List ℕ → List ℕ → List ℕ → Counts → Answer → Type 0
+abbrev pub IsReportPut : List ℕ → List ℕ → List ℕ → List ℕ → TestCounts → Answer → Type 0
 IsReportPut topology script old new counts answer =
     (text : List ℕ) × (tally : Tally) × IsChecked topology script (Some []) (Some text) tally × (counts ≡ counts_of tally) × IsPut text old new answer
 
 -- there is no report, for the first cause, and nothing is put or counted
-abbrev pub IsCheckRefused : List ℕ → List ℕ → List ℕ → List ℕ → Counts → Counts → Answer → Type 0
+abbrev pub IsCheckRefused : List ℕ → List ℕ → List ℕ → List ℕ → TestCounts → TestCounts → Answer → Type 0
 IsCheckRefused topology script old new before after answer =
     (cause : CheckError) × IsCheckReported topology script cause × (answer ≡ check_answer cause) × (new ≡ old) × (after ≡ before)

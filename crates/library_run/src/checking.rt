@@ -12,17 +12,17 @@ use std::alloc::Global;
 /// How many tests a report has.
 #[repr(C)]
 #[derive(Clone, Copy, Debug, PartialEq, Eq)]
-pub struct Counts {
+pub struct TestCounts {
     /// All of them, one for each expectation and for each refused event that none expects.
     pub count: u64,
     /// Those that failed.
     pub failed: u64,
 }
 
-fn counts_of(tally: Tally) -> Counts
+fn counts_of(tally: Tally) -> TestCounts
     ensures { result ≡ counts_of tally }
 {
-    Counts {
+    TestCounts {
         count: tally.count,
         failed: tally.failed,
     }
@@ -63,7 +63,7 @@ pub fn put_report(
     topology: &[u8],
     script: &[u8],
     room: &mut [u8],
-    counts: &mut Counts,
+    counts: &mut TestCounts,
 ) -> Answer
     ensures done { result.code ≤ 1 → IsReportPut topology.now script.now room.old room.new counts.new result }
     ensures refused { 1 < result.code → IsCheckRefused topology.now script.now room.old room.new counts.old counts.new result }

@@ -8,6 +8,6 @@ mod held;
 mod run;
 mod watching;
 
-pub use checking::{Counts, check_refused, put_report};
+pub use checking::{TestCounts, check_refused, put_report};
 pub use run::{put_edges, put_trace, run_refused};
 pub use watching::{put_readings, watch_refused};

@@ -9,10 +9,10 @@ use Rattle.line_reading.specs.declared.sender.parts.SenderParts.{SenderParts}
 use Rattle.parts_laws.proofs.Same.{same_receiver, same_sender}
 use Rattle.library_wire.specs.Receiver.{HasHeard}
 use Rattle.library_wire.specs.Sender.{IsReported}
-use Rattle.library_wire.specs.declared.heard.Heard.{Heard}
+use Rattle.library_wire.specs.declared.heard.InstantHeard.{InstantHeard}
 use Rattle.library_wire.specs.declared.readings.ReadingParts.{ReadingParts}
 
-pub heard_as : (was r : Receiver) (old : ReceiverParts) (t : ℕ) (is_low : Bool) (heard : Heard) (new : ReceiverParts) (a b : ReadingParts)
+pub heard_as : (was r : Receiver) (old : ReceiverParts) (t : ℕ) (is_low : Bool) (heard : InstantHeard) (new : ReceiverParts) (a b : ReadingParts)
     → ArePartsOf was old → ArePartsOf r old → HasHeard was t is_low heard new a b → HasHeard r t is_low heard new a b
 heard_as was r old t is_low heard new a b p q h = subst (λ x. HasHeard x t is_low heard new a b) (same_receiver was r old p q) h
 

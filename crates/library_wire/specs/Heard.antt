@@ -7,7 +7,7 @@ use Rattle.line_reading.specs.declared.receiver.Told.TheVariants.{Nothing, Bit, 
 use Rattle.library_answers.specs.Codes.{number_of}
 use Rattle.library_answers.specs.declared.code.Code.{Code}
 use Rattle.library_answers.specs.declared.code.Code.TheVariants.{Done, Absent}
-use Rattle.library_wire.specs.declared.heard.Heard.{Heard}
+use Rattle.library_wire.specs.declared.heard.InstantHeard.{InstantHeard}
 use Rattle.library_wire.specs.declared.heard.Instant.{Instant}
 
 -- ---- how a reading ends
@@ -32,13 +32,13 @@ ending_in n =
 
 -- ---- what an instant reports
 
-abbrev pub heard_of : Told → Heard
+abbrev pub heard_of : Told → InstantHeard
 heard_of Nothing = record { code = 0; kind = 0; ending = 0; bit = false; slot = 0 }
 heard_of (Bit slot value) = record { code = 0; kind = 1; ending = 0; bit = value; slot = slot }
 heard_of (Last value ending) = record { code = 0; kind = 2; ending = ending_number ending; bit = value; slot = 0 }
 heard_of (Ended ending) = record { code = 0; kind = 3; ending = ending_number ending; bit = false; slot = 0 }
 
-abbrev pub reported_in : Heard → Option Told
+abbrev pub reported_in : InstantHeard → Option Told
 reported_in h =
     if h.kind == 0 then Some Nothing
     else if h.kind == 1 then Some (Bit h.slot h.bit)
@@ -47,7 +47,7 @@ reported_in h =
     else None
 
 -- nothing was heard
-abbrev pub heard_code : Code → Heard
+abbrev pub heard_code : Code → InstantHeard
 heard_code code = record { code = number_of code; kind = 0; ending = 0; bit = false; slot = 0 }
 
 -- ---- instants

@@ -13,7 +13,7 @@ use Rattle.library_answers.specs.Codes.{number_of}
 use Rattle.library_answers.specs.declared.code.Code.TheVariants.{Done, Absent}
 use Rattle.library_wire.specs.Heard.{heard_of}
 use Rattle.library_wire.specs.Readings.{IsReadingPut}
-use Rattle.library_wire.specs.declared.heard.Heard.{Heard}
+use Rattle.library_wire.specs.declared.heard.InstantHeard.{InstantHeard}
 use Rattle.library_wire.specs.declared.readings.ReadingParts.{ReadingParts}
 
 -- no receiver keeps this
@@ -26,7 +26,7 @@ IsStart parts = (receiver : Receiver) × ArePartsOf receiver parts × (heard_by 
 
 -- The level at t is noted, and the receiver follows each line that goes on so: what it reports is what t reports of the line,
 -- and a reading that t ends is put in its place.
-pub record HasHeard (was : Receiver) (t : ℕ) (is_low : Bool) (heard : Heard) (new : ReceiverParts) (old_reading new_reading : ReadingParts) : Type 0 where
+pub record HasHeard (was : Receiver) (t : ℕ) (is_low : Bool) (heard : InstantHeard) (new : ReceiverParts) (old_reading new_reading : ReadingParts) : Type 0 where
   pub noted : Receiver
   pub next : Receiver
   pub reported : Told

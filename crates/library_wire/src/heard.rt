@@ -10,7 +10,7 @@ use line_reading::Told;
 /// What an instant told a receiver.
 #[repr(C)]
 #[derive(Clone, Copy, Debug, PartialEq, Eq)]
-pub struct Heard {
+pub struct InstantHeard {
     /// The number of a `Code`: 0 where the receiver heard that instant.
     pub code: u32,
     /// 0 nothing, 1 the bit of a slot, 2 a bit with which the reading ended, 3 that the reading ended.
@@ -63,32 +63,32 @@ pub(crate) fn ending_in(number: u8) -> Option<Ending>
 }
 
 /// What was reported, in plain numbers.
-pub(crate) fn heard_of(reported: Told) -> Heard
+pub(crate) fn heard_of(reported: Told) -> InstantHeard
     ensures { result ≡ heard_of reported }
 {
     match reported {
-        Told::Nothing => Heard {
+        Told::Nothing => InstantHeard {
             code: 0,
             kind: 0,
             ending: 0,
             bit: false,
             slot: 0,
         },
-        Told::Bit(slot, bit) => Heard {
+        Told::Bit(slot, bit) => InstantHeard {
             code: 0,
             kind: 1,
             ending: 0,
             bit,
             slot: slot as u64,
         },
-        Told::Last(bit, ending) => Heard {
+        Told::Last(bit, ending) => InstantHeard {
             code: 0,
             kind: 2,
             ending: ending_number(ending),
             bit,
             slot: 0,
         },
-        Told::Ended(ending) => Heard {
+        Told::Ended(ending) => InstantHeard {
             code: 0,
             kind: 3,
             ending: ending_number(ending),
@@ -99,7 +99,7 @@ pub(crate) fn heard_of(reported: Told) -> Heard
 }
 
 /// What was reported, from plain numbers.
-pub(crate) fn reported_in(heard: Heard) -> Option<Told>
+pub(crate) fn reported_in(heard: InstantHeard) -> Option<Told>
     ensures { result ≡ reported_in heard }
 {
     match heard.kind {
@@ -118,10 +118,10 @@ pub(crate) fn reported_in(heard: Heard) -> Option<Told>
 }
 
 /// Nothing was heard, for this reason.
-pub(crate) fn heard_refused(code: Code) -> Heard
+pub(crate) fn heard_refused(code: Code) -> InstantHeard
     ensures { result ≡ heard_code code }
 {
-    Heard {
+    InstantHeard {
         code: code.number(),
         kind: 0,
         ending: 0,

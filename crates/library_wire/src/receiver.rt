@@ -10,7 +10,7 @@ ghost use Rattle.library_answers.specs.declared.code.Code.TheVariants.{Late, Sta
 ghost use Rattle.library_wire.specs.Heard.{heard_code, instant_of, instant_refused};
 ghost use Rattle.library_wire.specs.Receiver.{HasHeard, IsNoReceiver, IsRunning, IsStart};
 
-use crate::heard::{Heard, Instant, heard_of, heard_refused, instant_of, instant_refused};
+use crate::heard::{InstantHeard, Instant, heard_of, heard_refused, instant_of, instant_refused};
 use crate::readings::{ReadingParts, ended_of, put_reading};
 use library_answers::Code;
 use line_frames::Reading;
@@ -49,7 +49,7 @@ pub fn receiver_hear(
     t: u64,
     is_low: bool,
     reading: &mut ReadingParts,
-) -> Heard
+) -> InstantHeard
     ensures hears { (r : ReceiverValue) → ArePartsOf r receiver.old → t ≤ latest_heard
         → HasHeard r t is_low result receiver.new reading.old reading.new }
     ensures spoilt { IsNoReceiver receiver.old → (result ≡ heard_code State) × (receiver.new ≡ receiver.old) × (reading.new ≡ reading.old) }

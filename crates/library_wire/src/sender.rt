@@ -10,7 +10,7 @@ ghost use Rattle.library_answers.specs.declared.code.Code.TheVariants.{Done, Fra
 ghost use Rattle.library_wire.specs.Heard.{instant_refused, reported_in};
 ghost use Rattle.library_wire.specs.Sender.{HasBegun, IsChange, IsLeft, IsNoSender, IsReported, pull_code, pull_reported};
 
-use crate::heard::{Heard, Instant, instant_of, instant_refused, reported_in};
+use crate::heard::{InstantHeard, Instant, instant_of, instant_refused, reported_in};
 use library_answers::{Code, frame_code};
 use line_frames::Frame;
 use line_reading::{Sender, SenderParts};
@@ -19,7 +19,7 @@ use line_wave::LATEST_HEARD;
 /// Whether a sender pulls the line low.
 #[repr(C)]
 #[derive(Clone, Copy, Debug, PartialEq, Eq)]
-pub struct Pull {
+pub struct SenderPull {
     /// The number of a `Code`: 0 where it is known.
     pub code: u32,
     /// Whether it pulls.
@@ -51,7 +51,7 @@ pub fn sender_begin(sender: &mut SenderParts, bytes: &[u8], t: u64) -> u32
 ///
 /// Refused where the state is no sender's, then where no receiver reports this, and then where `t` is after
 /// 3,000,000,000,000 microseconds: the sender stays as it was.
-pub fn sender_heard(sender: &mut SenderParts, heard: &Heard, t: u64) -> u32
+pub fn sender_heard(sender: &mut SenderParts, heard: &InstantHeard, t: u64) -> u32
     ensures hears { (s : SenderValue) → (reported : ReportedValue) → ArePartsOfSender s sender.old → reported_in heard.now ≡ Some reported → t ≤ latest_heard
         → (result ≡ number_of Done) × IsReported s reported t sender.new }
     ensures spoilt { IsNoSender sender.old → IsLeft State result sender.old sender.new }
@@ -74,10 +74,10 @@ pub fn sender_heard(sender: &mut SenderParts, heard: &Heard, t: u64) -> u32
     Code::Done.number()
 }
 
-fn pull_refused(code: Code) -> Pull
+fn pull_refused(code: Code) -> SenderPull
     ensures { result ≡ pull_code code }
 {
-    Pull {
+    SenderPull {
         code: code.number(),
         is_low: false,
     }
@@ -86,7 +86,7 @@ fn pull_refused(code: Code) -> Pull
 /// Whether the sender pulls the line low in microsecond `t`.
 ///
 /// Refused where the state is no sender's, and then where `t` is after 3,000,000,000,000.
-pub fn sender_pulls(sender: &SenderParts, t: u64) -> Pull
+pub fn sender_pulls(sender: &SenderParts, t: u64) -> SenderPull
     ensures pulls { (s : SenderValue) → ArePartsOfSender s sender.now → t ≤ latest_heard → result ≡ pull_reported (pull_of s t) }
     ensures spoilt { IsNoSender sender.now → result ≡ pull_code State }
     ensures late { (s : SenderValue) → ArePartsOfSender s sender.now → latest_heard < t → result ≡ pull_code Late }
@@ -97,7 +97,7 @@ pub fn sender_pulls(sender: &SenderParts, t: u64) -> Pull
     if t > LATEST_HEARD {
         return pull_refused(Code::Late);
     }
-    Pull {
+    SenderPull {
         code: Code::Done.number(),
         is_low: sender.pulls(t),
     }

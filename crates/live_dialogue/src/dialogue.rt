@@ -7,11 +7,11 @@ ghost use Rattle.live_dialogue.specs.Dialogue.{AreHanded, IsAnswering, IsFirstPu
 ghost use Rattle.live_dialogue.specs.declared.error.SessionError.TheVariants.{Write};
 
 use crate::error::{ScriptEnd, SessionError};
-use crate::hearing::{Hearer, Silent};
+use crate::hearing::{RefusalHearer, SilentRefusals};
 use crate::limits::{LONGEST_LINE, MOST_LINES};
 use crate::opening::{begin, topology_text};
 use arrayvec::ArrayVec;
-use live_incoming::{LineFault, Lines};
+use live_incoming::{IncomingFault, Lines};
 use live_session::{Live, LiveError, Step};
 use std::alloc::Global;
 use std::io::Read;
@@ -61,23 +61,23 @@ fn next_line<R: Read>(
                 })
             }
         }
-        Err(LineFault::TooLong) => Err(SessionError::Script {
+        Err(IncomingFault::TooLong) => Err(SessionError::Script {
             line: number,
             cause: ScriptEnd::TooLong,
         }),
-        Err(LineFault::Read) => Err(SessionError::Read),
+        Err(IncomingFault::Read) => Err(SessionError::Read),
     }
 }
 
 // Has a refused line heard of.
-fn tell<H: Hearer>(step: Step, topology: &[u8], number: u64, line: &[u8], hearer: &mut H) {
+fn tell<H: RefusalHearer>(step: Step, topology: &[u8], number: u64, line: &[u8], hearer: &mut H) {
     if let Step::Refuse(refusal) = step {
         hearer.hear(topology, number, line, refusal);
     }
 }
 
 // Answers a line, the one of this number, and hands the answer on; then a refusal is heard of.
-fn answer_line<S: Sink, H: Hearer>(
+fn answer_line<S: Sink, H: RefusalHearer>(
     live: &mut Live,
     topology: &[u8],
     number: u64,
@@ -103,7 +103,7 @@ fn answer_line<S: Sink, H: Hearer>(
 }
 
 // Answers line after line, up to the end of the script, to which it has not come.
-fn answer<R: Read, S: Sink, H: Hearer>(
+fn answer<R: Read, S: Sink, H: RefusalHearer>(
     live: &mut Live,
     topology: &[u8],
     lines: &mut Lines,
@@ -140,7 +140,7 @@ fn answer<R: Read, S: Sink, H: Hearer>(
 }
 
 // Writes what stands first, and answers line after line.
-fn talk<R: Read, S: Sink, H: Hearer>(
+fn talk<R: Read, S: Sink, H: RefusalHearer>(
     live: &mut Live,
     topology: &[u8],
     lines: &mut Lines,
@@ -177,7 +177,7 @@ pub fn session<R: Read, S: Sink>(
     ensures session { (after : Option (List ℕ)) × IsSession (R.remaining input.old) after (⟦<Buffered<S> as Sink>⟧.contents out.old) (⟦<Buffered<S> as Sink>⟧.contents out.new) result }
     ensures handed { AreHanded ⟦<Buffered<S> as Sink>⟧.is_stuck out.old out.new result }
 {
-    session_heard(alloc, input, out, &mut Silent)
+    session_heard(alloc, input, out, &mut SilentRefusals)
 }
 
 /// [`session`], of which each refused line is heard of once its answer is handed on.
@@ -185,7 +185,7 @@ pub fn session<R: Read, S: Sink>(
 /// # Errors
 ///
 /// Those of [`session`].
-pub fn session_heard<R: Read, S: Sink, H: Hearer>(
+pub fn session_heard<R: Read, S: Sink, H: RefusalHearer>(
     alloc: Global,
     input: &mut R,
     out: &mut Buffered<S>,

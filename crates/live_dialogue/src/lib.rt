@@ -9,4 +9,4 @@ mod opening;
 
 pub use dialogue::{session, session_heard};
 pub use error::{ScriptEnd, SessionError};
-pub use hearing::{Hearer, Silent};
+pub use hearing::{RefusalHearer, SilentRefusals};

@@ -9,7 +9,7 @@ use crate::error::SessionError;
 use crate::limits::{LONGEST_LINE, LONGEST_TOPOLOGY};
 use arrayvec::ArrayVec;
 use edid_core::{RootError, root_on_heap};
-use live_incoming::{LineFault, Lines};
+use live_incoming::{IncomingFault, Lines};
 use live_session::Live;
 use room_script::{TopologyError, parse_topology};
 use std::alloc::{AllocError, Global};
@@ -46,8 +46,8 @@ fn next_line<R: Read>(
                 Err(SessionError::NoScriptLine)
             }
         }
-        Err(LineFault::Read) => Err(SessionError::Read),
-        Err(LineFault::TooLong) => Err(SessionError::TooLong),
+        Err(IncomingFault::Read) => Err(SessionError::Read),
+        Err(IncomingFault::TooLong) => Err(SessionError::TooLong),
     }
 }
 

@@ -9,7 +9,7 @@ use Rattle.std.proofs.lemmas.List.Sums.{split_at_first, passes_at_first}
 use Rattle.std.proofs.lemmas.List.Splits.{slice_split_at, length-slice_split}
 use Rattle.text_core.specs.Lines.{lines_of, without_empty_end}
 use Rattle.live_incoming.specs.Incoming.{IsFilled, IsNext, IsPiece, IsWhole, Leads, text_of_lines, longest_line}
-use Rattle.live_incoming.specs.declared.incoming.Piece.TheVariants.{Nothing, Part, End, Over}
+use Rattle.live_incoming.specs.declared.incoming.LinePiece.TheVariants.{Nothing, Part, End, Over}
 
 -- ---- what is left
 

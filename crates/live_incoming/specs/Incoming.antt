@@ -4,10 +4,10 @@ use Rattle.std.specs.List.{flat_map}
 use Rattle.std.specs.Io.KnownBytes.{Consumes, IsAtEnd, prepend_known}
 use Rattle.text_core.specs.Lines.{lines_of}
 use Rattle.live_incoming.specs.declared.incoming.Lines.{Lines}
-use Rattle.live_incoming.specs.declared.incoming.LineFault.{LineFault}
-use Rattle.live_incoming.specs.declared.incoming.LineFault.TheVariants.{Read, TooLong}
-use Rattle.live_incoming.specs.declared.incoming.Piece.{Piece}
-use Rattle.live_incoming.specs.declared.incoming.Piece.TheVariants.{Nothing, Part, End, Over}
+use Rattle.live_incoming.specs.declared.incoming.IncomingFault.{IncomingFault}
+use Rattle.live_incoming.specs.declared.incoming.IncomingFault.TheVariants.{Read, TooLong}
+use Rattle.live_incoming.specs.declared.incoming.LinePiece.{LinePiece}
+use Rattle.live_incoming.specs.declared.incoming.LinePiece.TheVariants.{Nothing, Part, End, Over}
 
 -- the most bytes of a line, without its end
 abbrev pub longest_line : ℕ
@@ -36,7 +36,7 @@ Leads (Some before) None line = ⊥
 Leads (Some before) (Some after) line = lines_of before ≡ line ∷ lines_of after
 
 -- A line was handed out, or nothing is to come any more, or more than 4,096 bytes have come before an end.
-abbrev pub IsNext : Option (List ℕ) → Option (List ℕ) → List ℕ → Result Bool LineFault → Type 0
+abbrev pub IsNext : Option (List ℕ) → Option (List ℕ) → List ℕ → Result Bool IncomingFault → Type 0
 IsNext old new line (Ok true) = Leads old new line
 IsNext old new line (Ok false) = IsAtEnd old
 IsNext old new line (Err TooLong) = (front : List ℕ) × IsWhole front × (longest_line < length front) × Consumes old new front
@@ -45,12 +45,12 @@ IsNext old new line (Err Read) = Unit {0}
 -- ---- pieces
 
 -- more was read, or none is left
-abbrev pub IsFilled : Option (List ℕ) → Option (List ℕ) → List ℕ → Result Unit LineFault → Type 0
+abbrev pub IsFilled : Option (List ℕ) → Option (List ℕ) → List ℕ → Result Unit IncomingFault → Type 0
 IsFilled old new pending (Ok done) = Consumes old new [] × (pending ≡ [] → IsAtEnd new)
 IsFilled old new pending (Err fault) = Unit {0}
 
 -- what was left, what is left then, and the line before and after a piece of it was handed out
-abbrev pub IsPiece : List ℕ → List ℕ → List ℕ → List ℕ → Piece → Type 0
+abbrev pub IsPiece : List ℕ → List ℕ → List ℕ → List ℕ → LinePiece → Type 0
 IsPiece old new line after Nothing = (old ≡ []) × (new ≡ []) × (after ≡ line)
 IsPiece old new line after Part = (piece : List ℕ) × IsWhole piece × (0 < length piece) × (length line + length piece ≤ longest_line) × (old ≡ piece ++ new) × (after ≡ line ++ piece)
 IsPiece old new line after End = (piece : List ℕ) × IsWhole piece × (old ≡ piece ++ 10 ∷ new) × (after ≡ line ++ piece)

@@ -15,7 +15,7 @@ const READ: usize = 4096;
 
 /// Why no line could be read.
 #[derive(Clone, Copy, Debug, Drop, PartialEq, Eq, Error)]
-pub enum LineFault {
+pub enum IncomingFault {
     #[error("read fault")]
     Read,
     /// More than 4,096 bytes before the line's end.
@@ -24,7 +24,7 @@ pub enum LineFault {
 }
 
 /// What was handed out of the bytes that are left.
-enum Piece {
+enum LinePiece {
     /// Nothing, since none are left.
     Nothing,
     /// All of them, and no end among them.
@@ -75,7 +75,7 @@ impl Lines {
     }
 
     // Reads some more.
-    fn fill<R: Read>(&mut self, input: &mut R) -> Result<(), LineFault>
+    fn fill<R: Read>(&mut self, input: &mut R) -> Result<(), IncomingFault>
         ensures { IsFilled (R.remaining input.old) (to_come self.new (R.remaining input.new)) (bytes_left self.new) result }
     {
         match input.read(&mut self.pending) {
@@ -84,12 +84,12 @@ impl Lines {
                 self.handed = 0;
                 Ok(())
             }
-            Err(_) => Err(LineFault::Read),
+            Err(_) => Err(IncomingFault::Read),
         }
     }
 
     // Reads some more where all was handed out.
-    fn ready<R: Read>(&mut self, input: &mut R) -> Result<(), LineFault>
+    fn ready<R: Read>(&mut self, input: &mut R) -> Result<(), IncomingFault>
         ensures { IsFilled (to_come self.old (R.remaining input.old)) (to_come self.new (R.remaining input.new)) (bytes_left self.new) result }
     {
         if !self.left().is_empty() {
@@ -107,27 +107,27 @@ impl Lines {
     }
 
     // Hands out what is left of the line, as far as it was read.
-    fn piece(&mut self, line: &mut ArrayVec<u8, LONGEST_LINE>) -> Piece
+    fn piece(&mut self, line: &mut ArrayVec<u8, LONGEST_LINE>) -> LinePiece
         ensures { IsPiece (bytes_left self.old) (bytes_left self.new) line.old.items line.new.items result }
     {
         let left = self.left();
         let all = left.len();
         if all == 0 {
-            return Piece::Nothing;
+            return LinePiece::Nothing;
         }
         let count = len_before(left, b'\n');
         let room = line.remaining_capacity();
         if count > room {
             self.hand_out(room + 1);
-            return Piece::Over;
+            return LinePiece::Over;
         }
         add(line, before(left, count));
         if count == all {
             self.hand_out(count);
-            return Piece::Part;
+            return LinePiece::Part;
         }
         self.hand_out(count + 1);
-        Piece::End
+        LinePiece::End
     }
 
     /// Reads the next line, without its end. Returns whether there was one.
@@ -139,20 +139,20 @@ impl Lines {
         &mut self,
         input: &mut R,
         line: &mut ArrayVec<u8, LONGEST_LINE>,
-    ) -> Result<bool, LineFault>
+    ) -> Result<bool, IncomingFault>
         ensures whole { OnOk result (IsWhole line.new.items) }
         ensures next { IsNext (to_come self.old (R.remaining input.old)) (to_come self.new (R.remaining input.new)) line.new.items result }
     {
         line.clear();
         'pieces: loop {
             let Ok(_) = self.ready(input) else {
-                return Err(LineFault::Read);
+                return Err(IncomingFault::Read);
             };
             match self.piece(line) {
-                Piece::Nothing => return Ok(!line.is_empty()),
-                Piece::Part => {}
-                Piece::End => return Ok(true),
-                Piece::Over => return Err(LineFault::TooLong),
+                LinePiece::Nothing => return Ok(!line.is_empty()),
+                LinePiece::Part => {}
+                LinePiece::End => return Ok(true),
+                LinePiece::Over => return Err(IncomingFault::TooLong),
             }
         }
     }

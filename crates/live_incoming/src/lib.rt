@@ -3,4 +3,4 @@
 
 mod incoming;
 
-pub use incoming::{LONGEST_LINE, LineFault, Lines};
+pub use incoming::{LONGEST_LINE, IncomingFault, Lines};

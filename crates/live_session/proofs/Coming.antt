@@ -29,7 +29,7 @@ use Rattle.room_run.specs.declared.run.Turn.TheVariants.{Stop, Apply, Round}
 use Rattle.room_run.specs.Run.{Config, event_turn, first_time, is_by, round_turn, turn_at, turn_of, IsEventTurn, IsTurn, IsTurnBy}
 use Rattle.room_run.specs.RunLine.{rounds_by}
 use Rattle.room_run.specs.Certain.{ComesFrom, IsHeld, IsHeldBy, IsOverBy, LeadsBy, with_more, with_pulses}
-use Rattle.live_session.specs.declared.edges.Span.{Span}
+use Rattle.live_session.specs.declared.edges.InstantRange.{InstantRange}
 use Rattle.live_session.specs.Edges.{edges_reported, pinned, pinned_by}
 use Rattle.live_session.specs.Turns.{AreEdgesOf, LeadsWith, MayCome, certain_until}
 use Rattle.live_session.specs.Told.{edges_in}
@@ -72,7 +72,7 @@ not_stop turn b e f = cc
 
 pub record IsFirst (until : ℕ) (net : NetState) (turn : Turn) (first : List Outcome) : Type 0 where
   pub over : AreOver until first
-  pub edges : (span : Span) (told : List ℕ) → AreEdgesOf span None net turn told → told ≡ edges_reported span (run_wave first)
+  pub edges : (span : InstantRange) (told : List ℕ) → AreEdgesOf span None net turn told → told ≡ edges_reported span (run_wave first)
 
 -- an event is none of the rounds
 not_both : (edid : Option Edid) (until at : ℕ) (xs : List TimedEvent) (c mid there : Config) (line : List ℕ) (events : List TimedEvent) (later : List Stretch) → c.events ≡ xs → turn_at until c ≡ Apply at
@@ -184,7 +184,7 @@ parted lone edid until end (suc n) m c d last text events later os r all comes (
 
 -- ---- and their edges
 
-pub record IsToldOf (edid : Option Edid) (until end : ℕ) (from last : Config) (os : List Outcome) (span : Span) (told : List ℕ) : Type 0 where
+pub record IsToldOf (edid : Option Edid) (until end : ℕ) (from last : Config) (os : List Outcome) (span : InstantRange) (told : List ℕ) : Type 0 where
   pub turns : ℕ
   pub past : List Outcome
   pub rest : List Outcome
@@ -193,10 +193,10 @@ pub record IsToldOf (edid : Option Edid) (until end : ℕ) (from last : Config) 
   pub there : IsRunning from
   pub edges : told ≡ edges_reported span (run_wave past)
 
-pub waves_append : (span : Span) (xs ys : List Outcome) → edges_reported span (run_wave (xs ++ ys)) ≡ edges_reported span (run_wave xs) ++ edges_reported span (run_wave ys)
+pub waves_append : (span : InstantRange) (xs ys : List Outcome) → edges_reported span (run_wave (xs ++ ys)) ≡ edges_reported span (run_wave xs) ++ edges_reported span (run_wave ys)
 waves_append span xs ys = ap (λ w. edges_reported span w) (flat_map-append (λ (o : Outcome). o.wave) xs ys) ∙ edges_append span (run_wave xs) (run_wave ys)
 
-pub told_of_turns : RoundsAreLone → (edid : Option Edid) (span : Span) (until end n m : ℕ) (c d last : Config) (reported text : List ℕ) (events : List TimedEvent) (later : List Stretch) (os : List Outcome) → IsRunning c
+pub told_of_turns : RoundsAreLone → (edid : Option Edid) (span : InstantRange) (until end n m : ℕ) (c d last : Config) (reported text : List ℕ) (events : List TimedEvent) (later : List Stretch) (os : List Outcome) → IsRunning c
     → IsRunning (with_more events later c) → ComesFrom until events later end → (l : LeadsWith edid false span until n c reported text d) → RunsTo edid end m (with_more events later c) os last → turn_at end last ≡ Stop
     → IsToldOf edid until end (with_more events later d) last os span (edges_in edid false span until n c reported text d l)
 told_of_turns lone edid span until end zero m c d last reported text events later os r all comes l runs stops = record {
@@ -520,14 +520,14 @@ comes_after h o (p ∷ os) l c = (let x = c.0 in omega (arith, l, x))
 -- ---- what is told of the turn that is not over
 
 -- the round that is on, or none, has before an instant the line that the run has
-record IsOnLine (span : Span) (pin : Option ℕ) (until : ℕ) (on : List ℕ) (rest : List Outcome) : Type 0 where
+record IsOnLine (span : InstantRange) (pin : Option ℕ) (until : ℕ) (on : List ℕ) (rest : List Outcome) : Type 0 where
   wave : List Stretch
   order : IsWave wave
   on_is : on ≡ edges_reported span (pinned_by pin wave)
   whole : IsWave (run_wave rest)
   agree : Agree until wave (run_wave rest)
 
-on_line : Laws → (edid : Option Edid) (span : Span) (pin : Option ℕ) (until end m : ℕ) (d last : Config) (on : List ℕ) (events : List TimedEvent) (later : List Stretch) (rest : List Outcome) → IsKnown d
+on_line : Laws → (edid : Option Edid) (span : InstantRange) (pin : Option ℕ) (until end m : ℕ) (d last : Config) (on : List ℕ) (events : List TimedEvent) (later : List Stretch) (rest : List Outcome) → IsKnown d
     → IsRunning (with_more events later d) → ComesFrom until events later end → IsHeld until d → AreEdgesOf span pin d.net (turn_at until d) on → RunsTo edid end m (with_more events later d) rest last → turn_at end last ≡ Stop
     → IsOnLine span pin until on rest
 on_line laws edid span pin until end m d last on events later rest known there comes held own runs stops = by (turn_at until d) refl held own
@@ -577,7 +577,7 @@ abbrev pub AreEarly : Option ℕ → ℕ → Type 0
 AreEarly None horizon = Unit {0}
 AreEarly (Some low) horizon = (low ≤ latest_event) × (horizon ≤ latest_event)
 
-pub told_on : Laws → (edid : Option Edid) (pin : Option ℕ) (span : Span) (horizon end m : ℕ) (d last : Config) (on : List ℕ) (events : List TimedEvent) (later : List Stretch) (rest : List Outcome) → IsKnown d
+pub told_on : Laws → (edid : Option Edid) (pin : Option ℕ) (span : InstantRange) (horizon end m : ℕ) (d last : Config) (on : List ℕ) (events : List TimedEvent) (later : List Stretch) (rest : List Outcome) → IsKnown d
     → IsRunning (with_more events later d) → MayCome pin horizon events later end → AreEarly pin horizon → IsHeld (certain_until pin horizon) d → AreEdgesOf span pin d.net (turn_at (certain_until pin horizon) d) on
     → span.until ≤ horizon → RunsTo edid end m (with_more events later d) rest last → turn_at end last ≡ Stop → on ≡ edges_reported span (run_wave rest)
 told_on laws edid None span horizon end m d last on events later rest known there comes early held own within runs stops =

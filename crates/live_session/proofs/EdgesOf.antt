@@ -7,16 +7,16 @@ use Rattle.line_wave.specs.declared.Stretch.{Stretch}
 use Rattle.line_wave.specs.Line.{IsWave, IsWaveFrom, covers, line_of}
 use Rattle.line_rounds.specs.declared.Outcome.{Outcome}
 use Rattle.room_net.specs.Line.{run_wave}
-use Rattle.live_session.specs.declared.edges.Span.{Span}
+use Rattle.live_session.specs.declared.edges.InstantRange.{InstantRange}
 use Rattle.live_session.specs.Edges.{edge_line, edge_reported, edges_reported, stretch_reported}
 use Rattle.live_session.proofs.Moving.{AreLone}
 
-pub edges_append : (span : Span) (xs ys : List Stretch) → edges_reported span (xs ++ ys) ≡ edges_reported span xs ++ edges_reported span ys
+pub edges_append : (span : InstantRange) (xs ys : List Stretch) → edges_reported span (xs ++ ys) ≡ edges_reported span xs ++ edges_reported span ys
 edges_append span xs ys = flat_map-append (stretch_reported span) xs ys
 
 -- ---- past a span, and before it
 
-pub past : (span : Span) (at level : ℕ) → span.until ≤ at → edge_reported span at level ≡ []
+pub past : (span : InstantRange) (at level : ℕ) → span.until ≤ at → edge_reported span at level ≡ []
 past span at level l =
     let e : nat_lt at span.until ≡ false = grind (arith, nat_tests) in
     ap (λ b. if nat_le span.from at && b then edge_line at level else []) e ∙ off (nat_le span.from at)
@@ -25,10 +25,10 @@ past span at level l =
     off true = refl
     off false = refl
 
-pub before : (span : Span) (at level : ℕ) → at < span.from → edge_reported span at level ≡ []
+pub before : (span : InstantRange) (at level : ℕ) → at < span.from → edge_reported span at level ≡ []
 before span at level l = let e : nat_le span.from at ≡ false = grind (arith, nat_tests) in ap (λ b. if b && nat_lt at span.until then edge_line at level else []) e
 
-pub all_past : (span : Span) (from : ℕ) (ss : List Stretch) → IsWaveFrom from ss → span.until ≤ from → edges_reported span ss ≡ []
+pub all_past : (span : InstantRange) (from : ℕ) (ss : List Stretch) → IsWaveFrom from ss → span.until ≤ from → edges_reported span ss ≡ []
 all_past span from [] w l = refl
 all_past span from (s ∷ ss) w l =
     let a : edge_reported span s.from 0 ≡ [] = past span s.from 0 (let x = w.0 in omega (arith, l, x)) in
@@ -46,7 +46,7 @@ not_low : (b : Bool) → b ≡ true → b ≡ false → ⊥
 not_low b e f = cc
 
 -- a line that is high from an instant on has no edge after it
-pub all_before : (span : Span) (a end : ℕ) (ss : List Stretch) → IsWaveFrom a ss → ((u : ℕ) → end ≤ u → line_of ss u ≡ false) → end < span.from → edges_reported span ss ≡ []
+pub all_before : (span : InstantRange) (a end : ℕ) (ss : List Stretch) → IsWaveFrom a ss → ((u : ℕ) → end ≤ u → line_of ss u ≡ false) → end < span.from → edges_reported span ss ≡ []
 all_before span a end [] w high l = refl
 all_before span a end (s ∷ ss) w high l =
     let to : s.to ≤ end = elim (cases_lt end s.to) [

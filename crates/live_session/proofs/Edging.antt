@@ -7,7 +7,7 @@ use Rattle.room_net.specs.Progress.{IsProgress}
 use Rattle.room_net.specs.State.{NetState}
 use Rattle.room_net.specs.Step.{IsNextRound, after_round, seats_of}
 use Rattle.line_wave.specs.declared.Stretch.{Stretch}
-use Rattle.live_session.specs.declared.edges.Span.{Span}
+use Rattle.live_session.specs.declared.edges.InstantRange.{InstantRange}
 use Rattle.live_session.specs.Edges.{edge_line, edge_reported, edges_reported, first_edge, is_in, pinned_by}
 use Rattle.live_session.specs.declared.answer.RefusalCause.TheVariants.{Past}
 use Rattle.live_session.specs.declared.live.Step.{Step}
@@ -35,10 +35,10 @@ edge_in_round net mid begin from until close to pin edge same (o, after, wave, n
 
 -- ---- a span with no instant has no edge
 
-not_in : (span : Span) (at : ℕ) → span.until ≤ span.from → is_in span at ≡ false
+not_in : (span : InstantRange) (at : ℕ) → span.until ≤ span.from → is_in span at ≡ false
 not_in span at empty = grind (arith, nat_tests)
 
-pub no_edges : (span : Span) (wave : List Stretch) → span.until ≤ span.from → edges_reported span wave ≡ []
+pub no_edges : (span : InstantRange) (wave : List Stretch) → span.until ≤ span.from → edges_reported span wave ≡ []
 no_edges span [] empty = refl
 no_edges span (s ∷ wave) empty =
     let none : (at level : ℕ) → edge_reported span at level ≡ [] = λ at level. ap (λ (b : Bool). if b then edge_line at level else []) (not_in span at empty) in

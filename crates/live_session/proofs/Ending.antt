@@ -17,7 +17,7 @@ use Rattle.room_run.specs.Run.{Config, turn_at, IsTurnBy}
 use Rattle.room_run.specs.RunLine.{EdgesAreTheLine, rounds_by}
 use Rattle.room_run.specs.OneRun.{OneRun}
 use Rattle.room_run.specs.HasRun.{RunsHaveTexts}
-use Rattle.live_session.specs.declared.edges.Span.{Span}
+use Rattle.live_session.specs.declared.edges.InstantRange.{InstantRange}
 use Rattle.live_session.specs.declared.live.Step.{Step}
 use Rattle.live_session.specs.declared.live.Step.TheVariants.{Refuse, Idle, Show, Go, Edge, Finish}
 use Rattle.live_session.specs.Command.{command_of}
@@ -34,7 +34,7 @@ use Rattle.live_session.proofs.Wholly.{AreSound, Asked, Reached, SoFar, all_line
 
 -- ---- all turns that are left
 
-own_edges : (edid : Option Edid) (span : Span) (turn : Turn) (c d : Config) (line edges : List ℕ) (t : IsTurnBy (Trace edid) turn c line d) → AreEdgesOf span None c.net turn edges
+own_edges : (edid : Option Edid) (span : InstantRange) (turn : Turn) (c d : Config) (line edges : List ℕ) (t : IsTurnBy (Trace edid) turn c line d) → AreEdgesOf span None c.net turn edges
     → edges ≡ edges_reported span (run_wave (rounds_by (Trace edid) turn c line d t))
 own_edges edid span Stop c d line edges t e = absurd t
 own_edges edid span (Apply at) c d line edges t e = e
@@ -42,7 +42,7 @@ own_edges edid span (Round begin) c d line edges t (o, after, wave, next, e) =
     let same : o ≡ t.0.outcome = same_outcome o t.0.outcome (one_outcome (seats_of c.net begin) begin c.net.pulses o t.0.outcome wave t.0.wave next.round t.0.next.round) in
     e ∙ ap (λ (p : Outcome). edges_reported span p.wave) same ∙ ap (λ (w : List Stretch). edges_reported span w) (sym (append-nil t.0.outcome.wave))
 
-all_told : (edid : Option Edid) (span : Span) (end n m : ℕ) (c d last : Config) (reported text : List ℕ) (os : List Outcome) → (l : LeadsWith edid true span end n c reported text d) → turn_at end d ≡ Stop
+all_told : (edid : Option Edid) (span : InstantRange) (end n m : ℕ) (c d last : Config) (reported text : List ℕ) (os : List Outcome) → (l : LeadsWith edid true span end n c reported text d) → turn_at end d ≡ Stop
     → RunsTo edid end m c os last → turn_at end last ≡ Stop → edges_in edid true span end n c reported text d l ≡ edges_reported span (run_wave os)
 all_told edid span end zero zero c d last reported text os l stops runs ends = ap (λ (xs : List Outcome). edges_reported span (run_wave xs)) (sym runs.0)
 all_told edid span end zero (suc m) c d last reported text os l stops (mid, line, rest, turn, after, e) ends = absurd (no_turn (Trace edid) end c line mid (ap (turn_at end) (sym l.2) ∙ stops) turn)
@@ -57,7 +57,7 @@ all_told edid span end (suc n) (suc m) c d last reported text os (mid, line, edg
 
 -- ---- the line that ends the script
 
-no_pin : (span : Span) (pin : Option ℕ) (net : NetState) (turn : Turn) (on : List ℕ) → pin ≡ None → turn ≡ Stop → AreEdgesOf span pin net turn on → on ≡ []
+no_pin : (span : InstantRange) (pin : Option ℕ) (net : NetState) (turn : Turn) (on : List ℕ) → pin ≡ None → turn ≡ Stop → AreEdgesOf span pin net turn on → on ≡ []
 no_pin span pin net turn on high stops e = subst (λ (p : Option ℕ). AreEdgesOf span p net Stop on) high (subst (λ (t : Turn). AreEdgesOf span pin net t on) stops e)
 
 ended_told : (edid : Option Edid) (end : ℕ) (os : List Outcome) (s asked : Session) (last : Config) (edges : Bool) (first own : List ℕ) (place : Config) → IsLeft edid end s asked [] [] last os → turn_at end last ≡ Stop
@@ -65,7 +65,7 @@ ended_told : (edid : Option Edid) (end : ℕ) (os : List Outcome) (s asked : Ses
     → edges_gone edges true asked first own place goes ≡ edges_reported (record { from = s.horizon; until = 18446744073709551615 }) (run_wave os)
 ended_told edid end os s asked last false first own place w stops lone since high over on goes = cc
 ended_told edid end os s asked last true first own place w stops lone since high over on goes =
-    let span : Span = record { from = asked.since; until = 18446744073709551615 } in
+    let span : InstantRange = record { from = asked.since; until = 18446744073709551615 } in
     let until = certain_until asked.notes.pin asked.horizon in
     let certain : until ≡ end = ap (λ (p : Option ℕ). certain_until p asked.horizon) high ∙ over in
     let runs : RunsTo asked.edid until w.turns asked.place w.rest last =

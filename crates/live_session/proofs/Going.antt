@@ -20,7 +20,7 @@ use Rattle.room_run.specs.Heard.{Hears}
 use Rattle.room_run.proofs.Running.{hears_more}
 use Rattle.room_run.proofs.Whole.{heard_text, trace_by}
 use Rattle.room_run.specs.Certain.{LeadsIf, IsHeldBy}
-use Rattle.live_session.specs.declared.edges.Span.{Span}
+use Rattle.live_session.specs.declared.edges.InstantRange.{InstantRange}
 use Rattle.live_session.specs.Edges.{edges_reported, pinned_by}
 use Rattle.live_session.specs.Session.{Session, span_of}
 use Rattle.live_session.specs.Taken.{IsGone}
@@ -34,7 +34,7 @@ no_more edid false until c last = held_ends (Trace edid) until c last
 no_more edid true until c last = λ line d turn over. no_turn (Trace edid) until c line d last turn
 
 -- the edges of a turn are one text
-edges_one : (span : Span) (pin : Option ℕ) (net : NetState) (turn : Turn) (a b : List ℕ) → AreEdgesOf span pin net turn a → AreEdgesOf span pin net turn b → a ≡ b
+edges_one : (span : InstantRange) (pin : Option ℕ) (net : NetState) (turn : Turn) (a b : List ℕ) → AreEdgesOf span pin net turn a → AreEdgesOf span pin net turn b → a ≡ b
 edges_one span pin net Stop a b e f = e ∙ sym f
 edges_one span pin net (Apply at) a b e f = e ∙ sym f
 edges_one span pin net (Round begin) a b (o, after, wave, next, e) (p, other, wave', next', f) =
@@ -42,7 +42,7 @@ edges_one span pin net (Round begin) a b (o, after, wave, next, e) (p, other, wa
     e ∙ ap (λ (x : Outcome). edges_reported span (pinned_by pin x.wave)) same ∙ sym f
 
 -- some turns that are reported come first in all of them
-begin_with : (edid : Option Edid) (ended : Bool) (span : Span) (until n m : ℕ) (c d last : Config) (reported over whole text : List ℕ) → LeadsWith edid ended span until n c reported over d
+begin_with : (edid : Option Edid) (ended : Bool) (span : InstantRange) (until n m : ℕ) (c d last : Config) (reported over whole text : List ℕ) → LeadsWith edid ended span until n c reported over d
     → LeadsWith edid ended span until m c whole text last → NoTurn (IsReported ended until) (Trace edid) until last
     → (more : ℕ) × (others : List ℕ) × (rest : List ℕ) × LeadsWith edid ended span until more d others rest last × (whole ≡ reported ++ others) × (text ≡ over ++ rest)
 begin_with edid ended span until zero m c d last reported over whole text l w none =
@@ -63,24 +63,24 @@ begin_with edid ended span until (suc n) (suc m) c d last reported over whole te
     )
 
 -- none of them comes after the last
-end_with : (edid : Option Edid) (ended : Bool) (span : Span) (until more : ℕ) (d last : Config) (others rest : List ℕ) → NoTurn (IsReported ended until) (Trace edid) until d → LeadsWith edid ended span until more d others rest last
+end_with : (edid : Option Edid) (ended : Bool) (span : InstantRange) (until more : ℕ) (d last : Config) (others rest : List ℕ) → NoTurn (IsReported ended until) (Trace edid) until d → LeadsWith edid ended span until more d others rest last
     → (others ≡ []) × (rest ≡ []) × (last ≡ d)
 end_with edid ended span until zero d last others rest none l = l
 end_with edid ended span until (suc more) d last others rest none (mid, line, edges, others', rest', turn, is, own, after, e, f) = absurd (none line mid turn is)
 
 -- what is reported of the trace alone
-leads_of : (edid : Option Edid) (ended : Bool) (span : Span) (until n : ℕ) (c d : Config) (reported text : List ℕ) → LeadsWith edid ended span until n c reported text d
+leads_of : (edid : Option Edid) (ended : Bool) (span : InstantRange) (until n : ℕ) (c d : Config) (reported text : List ℕ) → LeadsWith edid ended span until n c reported text d
     → LeadsIf (IsReported ended until) (Trace edid) until n c reported d
 leads_of edid ended span until zero c d reported text l = (l.0, l.2)
 leads_of edid ended span until (suc n) c d reported text (mid, line, edges, others, rest, turn, is, own, after, e, f) =
     (mid, line, others, turn, is, leads_of edid ended span until n mid d others rest after, e)
 
-pub goes_of : (edid : Option Edid) (ended : Bool) (pin : Option ℕ) (span : Span) (until : ℕ) (c d : Config) (reported text : List ℕ) → GoesWith edid ended pin span until c reported text d
+pub goes_of : (edid : Option Edid) (ended : Bool) (pin : Option ℕ) (span : InstantRange) (until : ℕ) (c d : Config) (reported text : List ℕ) → GoesWith edid ended pin span until c reported text d
     → Goes edid ended until c reported d
 goes_of edid ended pin span until c d reported text g = record { turns = g.turns; leads = leads_of edid ended span until g.turns c d reported g.over g.leads; last = g.last }
 
 -- so what is written is one text
-pub goes_one : (edid : Option Edid) (ended : Bool) (pin : Option ℕ) (span : Span) (until : ℕ) (c d e : Config) (reported text other words : List ℕ) → GoesWith edid ended pin span until c reported text d
+pub goes_one : (edid : Option Edid) (ended : Bool) (pin : Option ℕ) (span : InstantRange) (until : ℕ) (c d e : Config) (reported text other words : List ℕ) → GoesWith edid ended pin span until c reported text d
     → GoesWith edid ended pin span until c other words e → (text ≡ words) × (d ≡ e)
 goes_one edid ended pin span until c d e reported text other words a b =
     let go = begin_with edid ended span until a.turns b.turns c d e reported a.over other b.over a.leads b.leads (no_more edid ended until e b.last) in
@@ -144,7 +144,7 @@ heard_is hears ended until c net rest left totals old new goes_on on r split las
 
 -- ---- what is added of them
 
-edges_by : (span : Span) (turn : Turn) (c : Config) (x : Happening) (d : Config) → HappensBy turn c x d → AreEdgesOf span None c.net turn (edges_of span x)
+edges_by : (span : InstantRange) (turn : Turn) (c : Config) (x : Happening) (d : Config) → HappensBy turn c x d → AreEdgesOf span None c.net turn (edges_of span x)
 edges_by span Stop c x d h = absurd h
 edges_by span (Apply at) c x d h = ap (edges_of span) h.is
 edges_by span (Round begin) c x d h = (h.outcome, d.net, h.wave, h.next, ap (edges_of span) h.is)
@@ -152,9 +152,9 @@ edges_by span (Round begin) c x d h = (h.outcome, d.net, h.wave, h.next, ap (edg
 -- what stays from one turn to the next
 record Kept : Type 0 where
   edid : Option Edid
-  span : Span
+  span : InstantRange
 
-pub told_text : {R : Type 0} (hears : R → Happening → R → Type 0) (tally : R → Tally) (edid : R → Option Edid) (span : R → Span)
+pub told_text : {R : Type 0} (hears : R → Happening → R → Type 0) (tally : R → Tally) (edid : R → Option Edid) (span : R → InstantRange)
     → ((r s : R) (x : Happening) → hears r x s → Adds (tally r) (tally s) (text_with (edid r) (span r) x) × (edid s ≡ edid r) × (span s ≡ span r))
     → (xs : List Happening) (r s : R) → Hears hears r xs s → Adds (tally r) (tally s) (flat_map (text_with (edid r) (span r)) xs)
 told_text {R} hears tally edid span one xs r s heard =
@@ -162,13 +162,13 @@ told_text {R} hears tally edid span one xs r s heard =
     let said : Kept → Happening → List ℕ = λ k. text_with k.edid k.span in
     heard_text hears tally keep said (λ r s x h. ((one r s x h).0, λ i. record { edid = (one r s x h).1 i; span = (one r s x h).2 i })) xs r s heard
 
-pub told_from : (old now mid : Tally) (edid passed : Option Edid) (span wide : Span) (xs : List Happening) → now ≡ old → passed ≡ edid → wide ≡ span → Adds now mid (flat_map (text_with passed wide) xs)
+pub told_from : (old now mid : Tally) (edid passed : Option Edid) (span wide : InstantRange) (xs : List Happening) → now ≡ old → passed ≡ edid → wide ≡ span → Adds now mid (flat_map (text_with passed wide) xs)
     → Adds old mid (flat_map (text_with edid span) xs)
 told_from old now mid edid passed span wide xs same e f added =
     subst (λ (t : Tally). Adds t mid (flat_map (text_with edid span) xs)) same
-    (subst (λ (w : Span). Adds now mid (flat_map (text_with edid w) xs)) f (subst (λ (p : Option Edid). Adds now mid (flat_map (text_with p wide) xs)) e added))
+    (subst (λ (w : InstantRange). Adds now mid (flat_map (text_with edid w) xs)) f (subst (λ (p : Option Edid). Adds now mid (flat_map (text_with p wide) xs)) e added))
 
-leads_by : (edid : Option Edid) (ended : Bool) (span : Span) (until : ℕ) (xs : List Happening) (c d : Config) → GoesIf (IsReported ended until) until c xs d
+leads_by : (edid : Option Edid) (ended : Bool) (span : InstantRange) (until : ℕ) (xs : List Happening) (c d : Config) → GoesIf (IsReported ended until) until c xs d
     → LeadsWith edid ended span until (length xs) c (flat_map (text_of edid) xs) (flat_map (text_with edid span) xs) d
 leads_by edid ended span until [] c d goes = (refl, refl, goes)
 leads_by edid ended span until (x ∷ xs) c d (mid, step, held, goes) = (
@@ -197,13 +197,13 @@ comes_last ended until d None stops = last_stop ended until d.net d.events d.tot
 comes_last false until d (Some begin) (turn, late) = subst (IsHeldBy until d.net) (sym turn) late.1
 comes_last true until d (Some begin) (turn, late) = absurd (true≢false late.0)
 
-edges_last : (ended : Bool) (pin : Option ℕ) (span : Span) (until : ℕ) (d : Config) (on : Option ℕ) (edges : List ℕ) → ComesLast ended until d on → AreEdgesOn span pin d.net on edges
+edges_last : (ended : Bool) (pin : Option ℕ) (span : InstantRange) (until : ℕ) (d : Config) (on : Option ℕ) (edges : List ℕ) → ComesLast ended until d on → AreEdgesOn span pin d.net on edges
     → AreEdgesOf span pin d.net (turn_at until d) edges
 edges_last ended pin span until d None edges stops own = subst (λ t. AreEdgesOf span pin d.net t edges) (sym stops) own
 edges_last ended pin span until d (Some begin) edges (turn, late) own = subst (λ t. AreEdgesOf span pin d.net t edges) (sym turn) own
 
 -- what was added of the turns and of the round that is on is what is due, whole or up to a fault
-pub record Added (edid : Option Edid) (ended : Bool) (pin : Option ℕ) (span : Span) (until : ℕ) (c d : Config) (old new : Tally) : Type 0 where
+pub record Added (edid : Option Edid) (ended : Bool) (pin : Option ℕ) (span : InstantRange) (until : ℕ) (c d : Config) (old new : Tally) : Type 0 where
   pub reported : List ℕ
   pub text : List ℕ
   pub place : Config
@@ -211,7 +211,7 @@ pub record Added (edid : Option Edid) (ended : Bool) (pin : Option ℕ) (span : 
   pub added : Adds old new text
   pub stands : new.failed ≡ false → d ≡ place
 
-pub all_added : (edid : Option Edid) (ended : Bool) (pin : Option ℕ) (span : Span) (until : ℕ) (c d : Config) (xs : List Happening) (on : Option ℕ) (edges : List ℕ) (old mid new : Tally)
+pub all_added : (edid : Option Edid) (ended : Bool) (pin : Option ℕ) (span : InstantRange) (until : ℕ) (c d : Config) (xs : List Happening) (on : Option ℕ) (edges : List ℕ) (old mid new : Tally)
     → GoesIf (IsReported ended until) until c xs d → (not mid.failed ≡ true → ComesLast ended until d on) → AreEdgesOn span pin d.net on edges
     → (reported : List ℕ) × (text : List ℕ) × (place : Config) × GoesWith edid ended pin span until c reported text place
     → Adds old mid (flat_map (text_with edid span) xs) → Adds mid new edges → Added edid ended pin span until c d old new
@@ -284,13 +284,13 @@ drop_drop (suc n) m (event ∷ events) = let more : suc n + m ≡ suc (n + m) = 
 
 -- ---- a session that went on
 
-pub gone_is : (edges ended : Bool) (span : Span) (s t : Session) (d : Config) (old new : Tally) → span ≡ span_of edges ended s → t ≡ record s { place = d }
+pub gone_is : (edges ended : Bool) (span : InstantRange) (s t : Session) (d : Config) (old new : Tally) → span ≡ span_of edges ended s → t ≡ record s { place = d }
     → Added s.edid ended s.notes.pin span (certain_until s.notes.pin s.horizon) s.place d old new → IsGone edges ended s t old new
 gone_is edges ended span s t d old new known stands a = record {
   reported = a.reported;
   text = a.text;
   place = a.place;
-  goes = subst (λ (span : Span). GoesWith s.edid ended s.notes.pin span (certain_until s.notes.pin s.horizon) s.place a.reported a.text a.place) known a.goes;
+  goes = subst (λ (span : InstantRange). GoesWith s.edid ended s.notes.pin span (certain_until s.notes.pin s.horizon) s.place a.reported a.text a.place) known a.goes;
   added = a.added;
   stands = λ f. stands ∙ ap (λ (p : Config). let u : Session = record s { place = p } in u) (a.stands f);
   somewhere = (d, stands);

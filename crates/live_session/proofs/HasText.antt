@@ -24,7 +24,7 @@ use Rattle.room_run.specs.declared.run.Turn.{Turn}
 use Rattle.room_run.specs.declared.run.Turn.TheVariants.{Stop, Apply, Round}
 use Rattle.room_run.specs.Run.{Config, turn_at, turn_of, first_time, round_turn, counted_event, counted_round, event_text, round_reported, IsEventTurn, IsTurnBy}
 use Rattle.room_run.specs.Certain.{IsHeldBy}
-use Rattle.live_session.specs.declared.edges.Span.{Span}
+use Rattle.live_session.specs.declared.edges.InstantRange.{InstantRange}
 use Rattle.live_session.specs.Edges.{edges_reported, pinned_by}
 use Rattle.live_session.specs.Turns.{AreAhead, AreEdgesOf, GoesWith, HasEdges, IsReported}
 use Rattle.live_session.proofs.Below.{event_keeps, round_begins, timely_tested, wave_filter}
@@ -87,14 +87,14 @@ begins_before until begin c turn = (round_begins until c.net (first_time c.event
 abbrev size : ℕ → Config → ℕ
 size until c = length c.events + (until - c.net.rest)
 
-abbrev pub HasText : Option Edid → Bool → Option ℕ → Span → ℕ → Config → Type 0
+abbrev pub HasText : Option Edid → Bool → Option ℕ → InstantRange → ℕ → Config → Type 0
 HasText edid ended pin span until c = (reported : List ℕ) × (text : List ℕ) × (place : Config) × GoesWith edid ended pin span until c reported text place
 
 -- smaller ones have a text
-abbrev HaveTexts : Option Edid → Bool → Option ℕ → Span → ℕ → Config → Type 0
+abbrev HaveTexts : Option Edid → Bool → Option ℕ → InstantRange → ℕ → Config → Type 0
 HaveTexts edid ended pin span until c = (d : Config) → size until d < size until c → AreAhead d.net → HasText edid ended pin span until d
 
-in_front : (edid : Option Edid) (ended : Bool) (pin : Option ℕ) (span : Span) (until : ℕ) (c d : Config) (line edges : List ℕ) (turn : Turn) → turn_at until c ≡ turn → IsTurnBy (Trace edid) turn c line d → IsReported ended until turn d
+in_front : (edid : Option Edid) (ended : Bool) (pin : Option ℕ) (span : InstantRange) (until : ℕ) (c d : Config) (line edges : List ℕ) (turn : Turn) → turn_at until c ≡ turn → IsTurnBy (Trace edid) turn c line d → IsReported ended until turn d
     → AreEdgesOf span None c.net turn edges → HasText edid ended pin span until d
     → HasText edid ended pin span until c
 in_front edid ended pin span until c d line edges turn e is over own (reported, text, place, goes) = (
@@ -132,7 +132,7 @@ no_event end at (Some begin) e = by_test (nat_lt begin end) e
     by_test true k = cc
     by_test false k = cc
 
-event_step : (edid : Option Edid) (ended : Bool) (pin : Option ℕ) (span : Span) (until at : ℕ) (c : Config) (events : List TimedEvent) → c.events ≡ events → turn_at until c ≡ Apply at → AreAhead c.net → HaveTexts edid ended pin span until c
+event_step : (edid : Option Edid) (ended : Bool) (pin : Option ℕ) (span : InstantRange) (until at : ℕ) (c : Config) (events : List TimedEvent) → c.events ≡ events → turn_at until c ≡ Apply at → AreAhead c.net → HaveTexts edid ended pin span until c
     → HasText edid ended pin span until c
 event_step edid ended pin span until at c [] same e ahead go = absurd (no_event until at (next_start c.net) (sym (ap (λ (xs : List TimedEvent). turn_of until c.net (first_time xs)) same) ∙ e))
 event_step edid ended pin span until at c (x ∷ xs) same e ahead go =
@@ -143,7 +143,7 @@ event_step edid ended pin span until at c (x ∷ xs) same e ahead go =
     let count : length c.events ≡ suc (length xs) = ap length same in
     in_front edid ended pin span until c d line [] (Apply at) e turn (reported_event ended until at d) refl (go d (omega (arith, count, kept.rest)) (ahead_event at x.event c.net (net_after at x.event c.net) refl ahead))
 
-round_step : (edid : Option Edid) (ended : Bool) (pin : Option ℕ) (span : Span) (until begin : ℕ) (c : Config) → turn_at until c ≡ Round begin → AreAhead c.net → HaveTexts edid ended pin span until c → HasText edid ended pin span until c
+round_step : (edid : Option Edid) (ended : Bool) (pin : Option ℕ) (span : InstantRange) (until begin : ℕ) (c : Config) → turn_at until c ≡ Round begin → AreAhead c.net → HaveTexts edid ended pin span until c → HasText edid ended pin span until c
 round_step edid ended pin span until begin c e ahead go =
     let begins = round_begins until c.net (first_time c.events) begin e in
     let has = rounds_have_outcomes (seats_of c.net begin) begin c.net.pulses ahead.order in
@@ -179,7 +179,7 @@ round_step edid ended pin span until begin c e ahead go =
           )
         ]
 
-some_step : (edid : Option Edid) (ended : Bool) (pin : Option ℕ) (span : Span) (until : ℕ) (c : Config) (turn : Turn) → turn_at until c ≡ turn → AreAhead c.net → HaveTexts edid ended pin span until c → HasText edid ended pin span until c
+some_step : (edid : Option Edid) (ended : Bool) (pin : Option ℕ) (span : InstantRange) (until : ℕ) (c : Config) (turn : Turn) → turn_at until c ≡ turn → AreAhead c.net → HaveTexts edid ended pin span until c → HasText edid ended pin span until c
 some_step edid ended pin span until c Stop e ahead go =
     let on : List ℕ = edges_reported span (pinned_by pin []) in
     ([], on, c, record { turns = zero; over = []; on = on; leads = (refl, refl, refl); last = last_stop ended until c.net c.events c.totals e; on_is = subst (λ t. AreEdgesOf span pin c.net t on) (sym e) refl; text_is = refl })
@@ -188,9 +188,9 @@ some_step edid ended pin span until c (Round begin) e ahead go = round_step edid
 
 -- ---- all turns
 
-has_some : (edid : Option Edid) (ended : Bool) (pin : Option ℕ) (span : Span) (until n : ℕ) (c : Config) → size until c ≤ n → AreAhead c.net → HasText edid ended pin span until c
+has_some : (edid : Option Edid) (ended : Bool) (pin : Option ℕ) (span : InstantRange) (until n : ℕ) (c : Config) → size until c ≤ n → AreAhead c.net → HasText edid ended pin span until c
 has_some edid ended pin span until zero c few ahead = some_step edid ended pin span until c (turn_at until c) refl ahead (λ d l a. absurd (omega (arith, l, few)))
 has_some edid ended pin span until (suc n) c few ahead = some_step edid ended pin span until c (turn_at until c) refl ahead (λ d l a. has_some edid ended pin span until n d (omega (arith, l, few)) a)
 
-pub has_text : (edid : Option Edid) (ended : Bool) (pin : Option ℕ) (span : Span) (until : ℕ) (c : Config) → AreAhead c.net → HasText edid ended pin span until c
+pub has_text : (edid : Option Edid) (ended : Bool) (pin : Option ℕ) (span : InstantRange) (until : ℕ) (c : Config) → AreAhead c.net → HasText edid ended pin span until c
 has_text edid ended pin span until c ahead = has_some edid ended pin span until (size until c) c (omega arith) ahead

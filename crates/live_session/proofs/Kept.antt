@@ -6,11 +6,11 @@ use Rattle.live_incoming.specs.Incoming.{IsWhole}
 use Rattle.live_incoming.proofs.Coming.{lines_again}
 use Rattle.room_script.proofs.Adding.{read_again}
 use Rattle.room_script.specs.Script.{Course, Notes, ScriptFault, IsLineRead, AreLinesRead, course_at_end, no_notes}
-use Rattle.room_script.specs.declared.fault.LineFault.{LineFault}
+use Rattle.room_script.specs.declared.fault.ScriptLineFault.{ScriptLineFault}
 use Rattle.room_run.specs.Run.{Config}
 use Rattle.live_session.specs.declared.answer.RefusalCause.TheVariants.{Past}
-use Rattle.live_session.specs.declared.command.Command.{Command}
-use Rattle.live_session.specs.declared.command.Command.TheVariants as commands
+use Rattle.live_session.specs.declared.command.SessionCommand.{SessionCommand}
+use Rattle.live_session.specs.declared.command.SessionCommand.TheVariants as commands
 use Rattle.live_session.specs.declared.live.Step.{Step}
 use Rattle.live_session.specs.declared.live.Step.TheVariants.{Refuse, Idle, Show, Go, Edge, Finish}
 use Rattle.live_session.specs.Command.{command_of}
@@ -96,12 +96,12 @@ taken_reads s line new false t read e stands =
     keeps None = refl
     keeps (Some end) = refl
 
-noted_reads : (s : Session) (line : List ℕ) (read : Result Notes LineFault) (t : Session) → IsLineRead s.tree s.notes (length s.place.net.pulses) s.lines line read → t ≡ with_standing s (standing_with (standing s) read)
+noted_reads : (s : Session) (line : List ℕ) (read : Result Notes ScriptLineFault) (t : Session) → IsLineRead s.tree s.notes (length s.place.net.pulses) s.lines line read → t ≡ with_standing s (standing_with (standing s) read)
     → Reads s (kept_line commands.Script (step_noted (standing s) read) line) t
 noted_reads s line (Err fault) t is stands = refused_reads s t stands
 noted_reads s line (Ok new) t is stands = taken_reads s line new (is_late (standing s) new) t is refl stands
 
-step_reads : (s : Session) (command : Command) (line : List ℕ) (step : Step) (t : Session) → IsStepBy s command line step t → Reads s (kept_line command step line) t
+step_reads : (s : Session) (command : SessionCommand) (line : List ℕ) (step : Step) (t : Session) → IsStepBy s command line step t → Reads s (kept_line command step line) t
 step_reads s commands.Script line step t (read, is, asks, stands) = subst (λ (step : Step). Reads s (kept_line commands.Script step line) t) (sym asks) (noted_reads s line read t is stands)
 step_reads s commands.Wait line step t (soon, is, asks, stands) = empty_reads s t (subst (λ (t : Session). Stays s t) (sym stands) (wait_stays s soon))
 step_reads s (commands.RunTo time) line step t (asks, stands) = empty_reads s t (subst (λ (t : Session). Stays s t) (sym stands) (to_stays s time))
@@ -170,7 +170,7 @@ kept_whole Go line whole = whole
 kept_whole Edge line whole = whole
 kept_whole Finish line whole = whole
 
-line_whole : (command : Command) (step : Step) (line : List ℕ) → IsWhole line → IsWhole (kept_line command step line)
+line_whole : (command : SessionCommand) (step : Step) (line : List ℕ) → IsWhole line → IsWhole (kept_line command step line)
 line_whole commands.Script step line whole = kept_whole step line whole
 line_whole commands.Wait step line whole = All-nil (λ byte. byte ≢ 10)
 line_whole (commands.RunTo time) step line whole = All-nil (λ byte. byte ≢ 10)

@@ -4,12 +4,12 @@ use Rattle.std.proofs.lemmas.Bool.{cases_lt}
 use Rattle.std.proofs.lemmas.Bool.Decides.{nat_tests}
 use Rattle.line_wave.specs.declared.Stretch.{Stretch}
 use Rattle.line_wave.specs.Line.{IsWaveFrom, covers, line_of}
-use Rattle.live_session.specs.declared.edges.Span.{Span}
+use Rattle.live_session.specs.declared.edges.InstantRange.{InstantRange}
 use Rattle.live_session.specs.Edges.{edge_line, edge_reported, edges_reported}
 
 -- ---- edges past a span
 
-none_past : (span : Span) (at level : ℕ) → span.until ≤ at → edge_reported span at level ≡ []
+none_past : (span : InstantRange) (at level : ℕ) → span.until ≤ at → edge_reported span at level ≡ []
 none_past span at level l =
     let e : nat_lt at span.until ≡ false = grind (arith, nat_tests) in
     ap (λ b. if nat_le span.from at && b then edge_line at level else []) e ∙ off (nat_le span.from at)
@@ -18,7 +18,7 @@ none_past span at level l =
     off true = refl
     off false = refl
 
-all_past : (span : Span) (from : ℕ) (ss : List Stretch) → IsWaveFrom from ss → span.until ≤ from → edges_reported span ss ≡ []
+all_past : (span : InstantRange) (from : ℕ) (ss : List Stretch) → IsWaveFrom from ss → span.until ≤ from → edges_reported span ss ≡ []
 all_past span from [] w l = refl
 all_past span from (s ∷ ss) w l =
     let a : edge_reported span s.from 0 ≡ [] = none_past span s.from 0 (let x = w.0 in omega (arith, l, x)) in
@@ -88,7 +88,7 @@ tails u r s rs ss e w v same t l =
       | inr ge ↦ sym (past_first r rs t (omega (arith, ge))) ∙ same t l ∙ past_first s ss t (omega (arith, ge, e))
     ]
 
-pub same_edges : (span : Span) (u f g : ℕ) (a b : List Stretch) → span.until ≤ u → IsWaveFrom f a → IsWaveFrom g b → Agree u a b → edges_reported span a ≡ edges_reported span b
+pub same_edges : (span : InstantRange) (u f g : ℕ) (a b : List Stretch) → span.until ≤ u → IsWaveFrom f a → IsWaveFrom g b → Agree u a b → edges_reported span a ≡ edges_reported span b
 same_edges span u f g [] [] l w v same = refl
 same_edges span u f g [] (s ∷ ss) l w v same =
     elim (cases_lt s.from u) [

@@ -16,7 +16,7 @@ use Rattle.room_net.specs.Line.{run_wave}
 use Rattle.room_script.specs.Script.{Notes, AreFramedEvents, IsLineRead, last_time}
 use Rattle.room_script.specs.declared.script.ScriptCause.TheVariants.{Name, Number}
 use Rattle.room_script.specs.declared.script.TimedEvent.{TimedEvent}
-use Rattle.room_script.specs.declared.fault.LineFault.{LineFault}
+use Rattle.room_script.specs.declared.fault.ScriptLineFault.{ScriptLineFault}
 use Rattle.room_run.specs.declared.run.Reporting.TheVariants.{Trace, Line}
 use Rattle.capture_forms.specs.declared.format.Format.TheVariants.{Edges}
 use Rattle.room_run.specs.declared.run.Totals.{Totals}
@@ -31,9 +31,9 @@ use Rattle.capture_monitor.specs.EdgeText.{edge_lines}
 use Rattle.room_trace.specs.TraceText.{end_line}
 use Rattle.live_session.specs.declared.answer.RefusalCause.{RefusalCause}
 use Rattle.live_session.specs.declared.answer.RefusalCause.TheVariants.{Script, Past}
-use Rattle.live_session.specs.declared.command.Command.{Command}
-use Rattle.live_session.specs.declared.command.Command.TheVariants as commands
-use Rattle.live_session.specs.declared.edges.Span.{Span}
+use Rattle.live_session.specs.declared.command.SessionCommand.{SessionCommand}
+use Rattle.live_session.specs.declared.command.SessionCommand.TheVariants as commands
+use Rattle.live_session.specs.declared.edges.InstantRange.{InstantRange}
 use Rattle.live_session.specs.declared.live.Step.{Step}
 use Rattle.live_session.specs.declared.live.Step.TheVariants.{Refuse, Idle, Show, Go, Edge, Finish}
 use Rattle.live_session.specs.Command.{command_of}
@@ -137,7 +137,7 @@ still_by (Some end) s t = tt
 come_same : (s t : Session) (word : ℕ) (cause : RefusalCause) → t ≡ s → HasCome (refuse word cause) s t
 come_same s t word cause e = record { came = came_same s t e; still = stays s t e }
 
-come_read : (s : Session) (line : List ℕ) (read : Result Notes LineFault) → IsLineRead s.tree s.notes (length s.place.net.pulses) s.lines line read
+come_read : (s : Session) (line : List ℕ) (read : Result Notes ScriptLineFault) → IsLineRead s.tree s.notes (length s.place.net.pulses) s.lines line read
     → HasCome (step_noted (standing s) read) s (with_standing s (standing_with (standing s) read))
 come_read s line (Err fault) is = come_same s (with_standing s (standing s)) fault.word (Script fault.cause) (same_standing s)
 come_read s line (Ok new) is = by (is_late (standing s) new) refl
@@ -171,7 +171,7 @@ come_edge s (Some until) step t is = by (nat_lt until s.horizon) is
     by false (asks, to, edge, stands) =
         subst (λ (step : Step). HasCome step s t) (sym asks) (subst (λ (t : Session). HasCome Edge s t) (sym stands) (record { came = came_on s (max s.horizon to) s.edges (omega arith); still = tt }))
 
-pub has_come : (s : Session) (command : Command) (line : List ℕ) (step : Step) (t : Session) → IsStepBy s command line step t → HasCome step s t
+pub has_come : (s : Session) (command : SessionCommand) (line : List ℕ) (step : Step) (t : Session) → IsStepBy s command line step t → HasCome step s t
 has_come s commands.Script line step t (read, is, asks, stands) =
     subst (λ (step : Step). HasCome step s t) (sym asks) (subst (λ (t : Session). HasCome (step_noted (standing s) read) s t) (sym stands) (come_read s line read is))
 has_come s commands.Wait line step t (soon, is, asks, stands) =
@@ -277,13 +277,13 @@ pub spans : (a b c from : ℕ) (ss : List Stretch) → IsWaveFrom from ss → a 
 spans a b c from [] w l m = refl
 spans a b c from (s ∷ ss) w l m = by (spans a b c (s.to + 1) ss w.2 l m)
   where
-    one : Span
+    one : InstantRange
     one = record { from = a; until = b }
 
-    two : Span
+    two : InstantRange
     two = record { from = b; until = c }
 
-    both : Span
+    both : InstantRange
     both = record { from = a; until = c }
 
     by : edges_reported one ss ++ edges_reported two ss ≡ edges_reported both ss → edges_reported one (s ∷ ss) ++ edges_reported two (s ∷ ss) ≡ edges_reported both (s ∷ ss)
@@ -315,7 +315,7 @@ spans a b c from (s ∷ ss) w l m = by (spans a b c (s.to + 1) ss w.2 l m)
 
 -- ---- rounds that were over
 
-pub none_past : (span : Span) (until : ℕ) (os : List Outcome) → until ≤ span.from → AreOver until os → AreLone os → edges_reported span (run_wave os) ≡ []
+pub none_past : (span : InstantRange) (until : ℕ) (os : List Outcome) → until ≤ span.from → AreOver until os → AreLone os → edges_reported span (run_wave os) ≡ []
 none_past span until [] l over lone = refl
 none_past span until (o ∷ os) l over lone =
     edges_append span o.wave (run_wave os)
@@ -331,7 +331,7 @@ known_leads : (Holds : Turn → Config → Type 0) (edid : Option Edid) (until n
 known_leads Holds edid until zero c d text l k = subst IsKnown (sym l.1) k
 known_leads Holds edid until (suc n) c d text (mid, line, rest, turn, over, after, e) k = known_leads Holds edid until n mid d rest after (known_turn edid (turn_at until c) c mid line turn k)
 
-known_with : (edid : Option Edid) (ended : Bool) (span : Span) (until n : ℕ) (c d : Config) (reported text : List ℕ) → LeadsWith edid ended span until n c reported text d → IsKnown c → IsKnown d
+known_with : (edid : Option Edid) (ended : Bool) (span : InstantRange) (until n : ℕ) (c d : Config) (reported text : List ℕ) → LeadsWith edid ended span until n c reported text d → IsKnown c → IsKnown d
 known_with edid ended span until zero c d reported text l k = subst IsKnown (sym l.2) k
 known_with edid ended span until (suc n) c d reported text (mid, line, edges, others, rest, turn, over, own, after, e, f) k =
     known_with edid ended span until n mid d others rest after (known_turn edid (turn_at until c) c mid line turn k)
@@ -406,7 +406,7 @@ gone_told : Laws → (edid : Option Edid) (end : ℕ) (os : List Outcome) (s ask
     → edges_gone edges false asked first own place goes ≡ edges_reported (record { from = s.horizon; until = asked.horizon }) (run_wave os)
 gone_told laws edid end os s asked more later last false first own place w stops lone known may early since on goes = cc
 gone_told laws edid end os s asked more later last true first own place w stops lone known may early since on goes =
-    let span : Span = record { from = asked.since; until = asked.horizon } in
+    let span : InstantRange = record { from = asked.since; until = asked.horizon } in
     let until = certain_until asked.notes.pin asked.horizon in
     let comes = comes_from asked.notes.pin asked.horizon end more later may in
     let t = told_of_turns laws.lone asked.edid span until end goes.turns w.turns asked.place place last first goes.over more later w.rest known.running w.there comes goes.leads w.runs stops in

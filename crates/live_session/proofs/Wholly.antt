@@ -10,7 +10,7 @@ use Rattle.edid_core.specs.declared.edid.Edid.{Edid}
 use Rattle.room_net.specs.State.{first_net}
 use Rattle.room_script.specs.Script.{Notes, IsLineRead}
 use Rattle.room_script.specs.declared.script.TimedEvent.{TimedEvent}
-use Rattle.room_script.specs.declared.fault.LineFault.{LineFault}
+use Rattle.room_script.specs.declared.fault.ScriptLineFault.{ScriptLineFault}
 pub use Rattle.room_script.proofs.Sound.{AreSound, line-keeps, sound_start}
 use Rattle.room_run.specs.declared.run.Reporting.TheVariants.{Trace}
 use Rattle.room_run.specs.declared.run.Turn.{Turn}
@@ -18,8 +18,8 @@ use Rattle.room_run.specs.Run.{Config, start, start_reported, end_reported, Lead
 use Rattle.room_run.specs.Certain.{ComesFrom, LeadsIf, LeadsBy, with_more}
 use Rattle.room_script.specs.declared.script.ScriptCause.TheVariants.{Number}
 use Rattle.live_session.specs.declared.answer.RefusalCause.TheVariants.{Script, Past}
-use Rattle.live_session.specs.declared.command.Command.{Command}
-use Rattle.live_session.specs.declared.command.Command.TheVariants as commands
+use Rattle.live_session.specs.declared.command.SessionCommand.{SessionCommand}
+use Rattle.live_session.specs.declared.command.SessionCommand.TheVariants as commands
 use Rattle.live_session.specs.declared.live.Step.{Step}
 use Rattle.live_session.specs.declared.live.Step.TheVariants.{Refuse, Idle, Show, Go, Edge, Finish}
 use Rattle.live_session.specs.Turns.{IsReported, Goes, GoesWith, MayCome, certain_until}
@@ -179,7 +179,7 @@ asked_late edid tree s reported line new false e r going read =
     ended None h = subst (λ (end : Option ℕ). EndBy (step_by end) (with_standing s (record { notes = new; horizon = horizon_by s.horizon end; net = record s.place.net { pulses = s.place.net.pulses ++ new_pulses s.notes new } }))) (sym h) h
     ended (Some end) h = subst (λ (end : Option ℕ). EndBy (step_by end) (with_standing s (record { notes = new; horizon = horizon_by s.horizon end; net = record s.place.net { pulses = s.place.net.pulses ++ new_pulses s.notes new } }))) (sym h) h
 
-asked_read : (edid : Option Edid) (tree : List Node) (s : Session) (reported line : List ℕ) (read : Result Notes LineFault) → SoFar edid tree s reported → s.notes.end ≡ None
+asked_read : (edid : Option Edid) (tree : List Node) (s : Session) (reported line : List ℕ) (read : Result Notes ScriptLineFault) → SoFar edid tree s reported → s.notes.end ≡ None
     → IsLineRead s.tree s.notes (length s.place.net.pulses) s.lines line read → Asked edid tree (step_noted (standing s) read) (with_standing s (standing_with (standing s) read)) reported
 asked_read edid tree s reported line (Err fault) r going read =
     subst (λ (t : Session). Asked edid tree (refuse fault.word (Script fault.cause)) t reported) (sym (same_standing s)) (record { so_far = r; ended = going })
@@ -222,7 +222,7 @@ asked_edge edid tree s reported (Some until) step t r going is = by_test (nat_lt
 asked_edges : (edid : Option Edid) (tree : List Node) (s : Session) (reported : List ℕ) (edges : Bool) → SoFar edid tree s reported → s.notes.end ≡ None → Asked edid tree Go (record s { edges = edges }) reported
 asked_edges edid tree s reported edges r going = record { so_far = record { edid_is = r.edid_is; turns = r.turns; leads = r.leads; sound = r.sound }; ended = going }
 
-pub asked_by : (edid : Option Edid) (tree : List Node) (s : Session) (reported line : List ℕ) (command : Command) (step : Step) (t : Session) → SoFar edid tree s reported → s.notes.end ≡ None
+pub asked_by : (edid : Option Edid) (tree : List Node) (s : Session) (reported line : List ℕ) (command : SessionCommand) (step : Step) (t : Session) → SoFar edid tree s reported → s.notes.end ≡ None
     → IsStepBy s command line step t → Asked edid tree step t reported
 asked_by edid tree s reported line commands.Script step t r going (read, is, asks, stands) =
     subst (λ (step : Step). Asked edid tree step t reported) (sym asks)

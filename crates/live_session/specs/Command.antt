@@ -6,30 +6,30 @@ use Rattle.edid_tree.specs.Node.{Node}
 use Rattle.edid_tree.specs.Tree.{device_named}
 use Rattle.text_core.specs.Words.{words_of, one_of, two_of}
 use Rattle.room_script.specs.Script.{time_of}
-use Rattle.live_session.specs.declared.command.Command.{Command}
-use Rattle.live_session.specs.declared.command.Command.TheVariants.{Script, Wait, RunTo, Show, Edge, Edges}
+use Rattle.live_session.specs.declared.command.SessionCommand.{SessionCommand}
+use Rattle.live_session.specs.declared.command.SessionCommand.TheVariants.{Script, Wait, RunTo, Show, Edge, Edges}
 
 -- the words after `run`
-abbrev pub run_words : Option (List ℕ × List ℕ) → Command
+abbrev pub run_words : Option (List ℕ × List ℕ) → SessionCommand
 run_words None = Script
 run_words (Some words) = if bytes_eq words.0 (codes "to") then RunTo (time_of words.1) else Script
 
 -- the word after `show`
-abbrev pub show_words : List Node → Option (List ℕ) → Command
+abbrev pub show_words : List Node → Option (List ℕ) → SessionCommand
 show_words tree None = Script
 show_words tree (Some name) = Show (device_named tree name)
 
 -- the word after `edge`
-abbrev pub edge_words : Option (List ℕ) → Command
+abbrev pub edge_words : Option (List ℕ) → SessionCommand
 edge_words None = Script
 edge_words (Some word) = Edge (time_of word)
 
 -- the word after `edges`
-abbrev pub edges_words : Option (List ℕ) → Command
+abbrev pub edges_words : Option (List ℕ) → SessionCommand
 edges_words None = Script
 edges_words (Some word) = if bytes_eq word (codes "on") then Edges true else if bytes_eq word (codes "off") then Edges false else Script
 
-abbrev pub verb_words : List Node → List (List ℕ) → Command
+abbrev pub verb_words : List Node → List (List ℕ) → SessionCommand
 verb_words tree [] = Script
 verb_words tree (verb ∷ words) =
     if bytes_eq verb (codes "run") then run_words (two_of words)
@@ -38,5 +38,5 @@ verb_words tree (verb ∷ words) =
     else if bytes_eq verb (codes "edges") then edges_words (one_of words)
     else Script
 
-abbrev pub command_of : List Node → List ℕ → Command
+abbrev pub command_of : List Node → List ℕ → SessionCommand
 command_of tree line = if bytes_eq line (codes "wait") then Wait else verb_words tree (words_of line)

@@ -4,25 +4,25 @@ use Rattle.std.specs.List.{flat_map}
 use Rattle.std.specs.Fmt.{decimal}
 use Rattle.line_wave.specs.declared.Stretch.{Stretch}
 use Rattle.line_wave.specs.Bounds.{latest_instant}
-use Rattle.live_session.specs.declared.edges.Span.{Span}
+use Rattle.live_session.specs.declared.edges.InstantRange.{InstantRange}
 
 -- the instant, and the level that the line then has: 0 low, 1 high
 abbrev pub edge_line : ℕ → ℕ → List ℕ
 edge_line at level = codes "~ " ++ (decimal at ++ (codes " " ++ (decimal level ++ codes "\n")))
 
 -- an instant lies in a span, which is half open
-abbrev pub is_in : Span → ℕ → Bool
+abbrev pub is_in : InstantRange → ℕ → Bool
 is_in span at = nat_le span.from at && nat_lt at span.until
 
-abbrev pub edge_reported : Span → ℕ → ℕ → List ℕ
+abbrev pub edge_reported : InstantRange → ℕ → ℕ → List ℕ
 edge_reported span at level = if is_in span at then edge_line at level else []
 
 -- a low stretch of a round's line falls at its begin and rises at its end
-abbrev pub stretch_reported : Span → Stretch → List ℕ
+abbrev pub stretch_reported : InstantRange → Stretch → List ℕ
 stretch_reported span s = edge_reported span s.from 0 ++ edge_reported span s.to 1
 
 -- the edges of a round that lie in a span, in their order
-abbrev pub edges_reported : Span → List Stretch → List ℕ
+abbrev pub edges_reported : InstantRange → List Stretch → List ℕ
 edges_reported span wave = flat_map (stretch_reported span) wave
 
 -- The line of a round, where the pin is low from an instant on: before that instant its own stretches, and from there on the pull of the

@@ -14,7 +14,7 @@ use Rattle.room_net.specs.Step.{IsNextRound}
 use Rattle.room_net.specs.Added.{pulse_fault}
 use Rattle.room_script.specs.Script.{IsNoWider, Notes, no_notes, last_time, script_cause, IsLineRead, IsSchedule, AreFramedEvents, MayFall}
 use Rattle.room_script.specs.declared.script.TimedEvent.{TimedEvent}
-use Rattle.room_script.specs.declared.fault.LineFault.{LineFault}
+use Rattle.room_script.specs.declared.fault.ScriptLineFault.{ScriptLineFault}
 use Rattle.room_script.specs.declared.script.ScriptCause.TheVariants.{Number, Name}
 use Rattle.edid_core.specs.Root.{HasAddress}
 use Rattle.room_trace.specs.StateText.{state_line}
@@ -23,15 +23,15 @@ use Rattle.room_run.specs.declared.run.Turn.{Turn}
 use Rattle.room_run.specs.declared.run.Turn.TheVariants.{Stop, Apply, Round}
 use Rattle.room_run.specs.Run.{Config, start, turn_at, end_reported}
 use Rattle.room_run.specs.Certain.{with_pulses}
-use Rattle.live_session.specs.declared.command.Command.{Command}
-use Rattle.live_session.specs.declared.command.Command.TheVariants as commands
+use Rattle.live_session.specs.declared.command.SessionCommand.{SessionCommand}
+use Rattle.live_session.specs.declared.command.SessionCommand.TheVariants as commands
 use Rattle.live_session.specs.declared.answer.Refusal.{Refusal}
 use Rattle.live_session.specs.declared.answer.RefusalCause.{RefusalCause}
 use Rattle.live_session.specs.declared.answer.RefusalCause.TheVariants.{Script, Past}
 use Rattle.live_session.specs.declared.live.Step.{Step}
 use Rattle.live_session.specs.declared.live.Step.TheVariants.{Refuse, Idle, Show, Go, Edge, Finish}
 use Rattle.live_session.specs.Command.{command_of}
-use Rattle.live_session.specs.declared.edges.Span.{Span}
+use Rattle.live_session.specs.declared.edges.InstantRange.{InstantRange}
 use Rattle.live_session.specs.Edges.{first_edge, pinned_by}
 use Rattle.live_session.specs.Turns.{GoesWith, IsWithin, certain_until}
 
@@ -112,12 +112,12 @@ abbrev pub refuse : ℕ → RefusalCause → Step
 refuse word cause = Refuse (record { cause = cause; word = word })
 
 -- what the line asks for: it is refused for its own cause, or else because it is too late, with its time at fault, or else taken
-abbrev pub step_noted : Standing → Result Notes LineFault → Step
+abbrev pub step_noted : Standing → Result Notes ScriptLineFault → Step
 step_noted s (Err fault) = refuse fault.word (Script fault.cause)
 step_noted s (Ok new) = if is_late s new then refuse 1 Past else step_by new.end
 
 -- and what it changes; a refusal changes nothing
-abbrev pub standing_with : Standing → Result Notes LineFault → Standing
+abbrev pub standing_with : Standing → Result Notes ScriptLineFault → Standing
 standing_with s (Err fault) = s
 standing_with s (Ok new) =
     if is_late s new then s else record { notes = new; horizon = horizon_by s.horizon new.end; net = with_pulses (new_pulses s.notes new) s.net }
@@ -212,9 +212,9 @@ step_show (Some device) = Show device
 
 -- ---- what a line asks for
 
-abbrev pub IsStepBy : Session → Command → List ℕ → Step → Session → Type 0
+abbrev pub IsStepBy : Session → SessionCommand → List ℕ → Step → Session → Type 0
 IsStepBy s commands.Script line step t =
-    (read : Result Notes LineFault) × IsLineRead s.tree s.notes (length s.place.net.pulses) s.lines line read × (step ≡ step_noted (standing s) read) × (t ≡ with_standing s (standing_with (standing s) read))
+    (read : Result Notes ScriptLineFault) × IsLineRead s.tree s.notes (length s.place.net.pulses) s.lines line read × (step ≡ step_noted (standing s) read) × (t ≡ with_standing s (standing_with (standing s) read))
 IsStepBy s commands.Wait line step t = (soon : Option ℕ) × IsSoonest (certain_until s.notes.pin latest_event) s.place soon × (step ≡ step_wait soon) × (t ≡ after_wait s soon)
 IsStepBy s (commands.RunTo time) line step t = (step ≡ step_to s time) × (t ≡ after_to s time)
 IsStepBy s (commands.Show device) line step t = (step ≡ step_show device) × (t ≡ s)
@@ -243,7 +243,7 @@ refused_line line refusal = codes "! " ++ (decimal line ++ (codes " " ++ (refusa
 
 -- the instants whose edges are reported where a session goes on: none, those from the horizon before the line on to the horizon, or
 -- all that are left
-abbrev pub span_of : Bool → Bool → Session → Span
+abbrev pub span_of : Bool → Bool → Session → InstantRange
 span_of false ended s = record { from = 0; until = 0 }
 span_of true false s = record { from = s.since; until = s.horizon }
 span_of true true s = record { from = s.since; until = 18446744073709551615 }

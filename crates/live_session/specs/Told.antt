@@ -14,7 +14,7 @@ use Rattle.room_trace.specs.TraceText.{end_line}
 use Rattle.room_run.specs.declared.run.Reporting.TheVariants.{Line}
 use Rattle.room_run.specs.declared.run.Totals.{Totals}
 use Rattle.room_run.specs.Run.{Config, start, IsRunText}
-use Rattle.live_session.specs.declared.edges.Span.{Span}
+use Rattle.live_session.specs.declared.edges.InstantRange.{InstantRange}
 use Rattle.live_session.specs.declared.live.Step.{Step}
 use Rattle.live_session.specs.declared.live.Step.TheVariants.{Refuse, Idle, Show, Go, Edge, Finish}
 use Rattle.live_session.specs.Edges.{edges_reported}
@@ -23,7 +23,7 @@ use Rattle.live_session.specs.Session.{Session, SessionGoes, first_session, span
 use Rattle.live_session.specs.Whole.{IsLine, AreLines}
 
 -- the edges that stand before the lines of turns, one after another
-abbrev pub edges_in : (edid : Option Edid) (ended : Bool) (span : Span) (until turns : ℕ) (c : Config) (reported text : List ℕ) (d : Config) → LeadsWith edid ended span until turns c reported text d → List ℕ
+abbrev pub edges_in : (edid : Option Edid) (ended : Bool) (span : InstantRange) (until turns : ℕ) (c : Config) (reported text : List ℕ) (d : Config) → LeadsWith edid ended span until turns c reported text d → List ℕ
 edges_in edid ended span until zero c reported text d l = []
 edges_in edid ended span until (suc turns) c reported text d l = l.2 ++ edges_in edid ended span until turns l.0 l.3 l.4 d l.8
 
@@ -52,7 +52,7 @@ AreOn [] s kept reported text t l = Unit {0}
 AreOn (line ∷ lines) s kept reported text t l = (l.0.edges ≡ true) × (l.0.notes.pin ≡ None) × AreOn lines l.0 l.2 l.5 l.6 t l.8
 
 -- These are the edges of an edge file that lie in a span, all that do and no other. The file has its edges in order.
-pub record AreOfFile (span : Span) (told file : List ℕ) : Type 0 where
+pub record AreOfFile (span : InstantRange) (told file : List ℕ) : Type 0 where
   pub wave : List Stretch
   pub order : IsWave wave
   pub end : ℕ

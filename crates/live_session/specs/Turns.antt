@@ -16,7 +16,7 @@ use Rattle.room_run.specs.Run.{Config, turn_at, IsTurn}
 use Rattle.room_run.specs.Happening.{Happening, OfEvent, OfRound, Happens, text_of}
 use Rattle.room_run.specs.Heard.{Hears}
 use Rattle.room_run.specs.Certain.{ComesFrom, IsOverBy, LeadsIf, IsHeld, IsHeldBy}
-use Rattle.live_session.specs.declared.edges.Span.{Span}
+use Rattle.live_session.specs.declared.edges.InstantRange.{InstantRange}
 use Rattle.live_session.specs.Edges.{edges_reported, pinned_by}
 
 -- The instant before which turns are certain: the horizon. While the pin is low its pull is still to come, and began when it went low.
@@ -50,18 +50,18 @@ pub record Goes (edid : Option Edid) (ended : Bool) (until : ℕ) (c : Config) (
 -- ---- the edges of turns
 
 -- the edges of the next round, which begins then, that lie in a span, by the pin
-abbrev pub HasEdges : Span → Option ℕ → ℕ → NetState → List ℕ → Type 0
+abbrev pub HasEdges : InstantRange → Option ℕ → ℕ → NetState → List ℕ → Type 0
 HasEdges span pin begin net edges =
     (outcome : Outcome) × (after : NetState) × IsWave outcome.wave × IsNextRound net begin outcome after × (edges ≡ edges_reported span (pinned_by pin outcome.wave))
 
 -- what a turn has of edges: those of a round, and the pin's
-abbrev pub AreEdgesOf : Span → Option ℕ → NetState → Turn → List ℕ → Type 0
+abbrev pub AreEdgesOf : InstantRange → Option ℕ → NetState → Turn → List ℕ → Type 0
 AreEdgesOf span pin net Stop edges = edges ≡ edges_reported span (pinned_by pin [])
 AreEdgesOf span pin net (Apply at) edges = edges ≡ edges_reported span (pinned_by pin [])
 AreEdgesOf span pin net (Round begin) edges = HasEdges span pin begin net edges
 
 -- So many turns that are reported: what they report in the trace, and the same with the edges of each round before its line.
-abbrev pub LeadsWith : Option Edid → Bool → Span → ℕ → ℕ → Config → List ℕ → List ℕ → Config → Type 0
+abbrev pub LeadsWith : Option Edid → Bool → InstantRange → ℕ → ℕ → Config → List ℕ → List ℕ → Config → Type 0
 LeadsWith edid ended span until zero c reported text d = (reported ≡ []) × (text ≡ []) × (d ≡ c)
 LeadsWith edid ended span until (suc turns) c reported text d =
     (mid : Config) × (line : List ℕ) × (edges : List ℕ) × (others : List ℕ) × (rest : List ℕ) × IsTurn (Trace edid) until c line mid × IsReported ended until (turn_at until c) mid
@@ -69,7 +69,7 @@ LeadsWith edid ended span until (suc turns) c reported text d =
 
 -- All turns that are reported from one place on, with their edges that lie in a span, and last those of the round that comes next:
 -- of one that is on, for no edge of a later one lies before the horizon, and from where the pin is low no edge but its fall.
-pub record GoesWith (edid : Option Edid) (ended : Bool) (pin : Option ℕ) (span : Span) (until : ℕ) (c : Config) (reported text : List ℕ) (d : Config) : Type 0 where
+pub record GoesWith (edid : Option Edid) (ended : Bool) (pin : Option ℕ) (span : InstantRange) (until : ℕ) (c : Config) (reported text : List ℕ) (d : Config) : Type 0 where
   pub turns : ℕ
   pub over : List ℕ
   pub on : List ℕ
@@ -81,12 +81,12 @@ pub record GoesWith (edid : Option Edid) (ended : Bool) (pin : Option ℕ) (span
 -- ---- what is heard of turns
 
 -- of a turn: its edges that lie in a span, a round's alone
-abbrev pub edges_of : Span → Happening → List ℕ
+abbrev pub edges_of : InstantRange → Happening → List ℕ
 edges_of span (OfEvent at e before) = []
 edges_of span (OfRound begin before o) = edges_reported span o.wave
 
 -- and after them what the trace has of it
-abbrev pub text_with : Option Edid → Span → Happening → List ℕ
+abbrev pub text_with : Option Edid → InstantRange → Happening → List ℕ
 text_with edid span x = edges_of span x ++ text_of edid x
 
 -- one turn after another, of each of which something holds
@@ -110,7 +110,7 @@ ComesLast ended until d None = turn_at until d ≡ Stop
 ComesLast ended until d (Some begin) = (turn_at until d ≡ Round begin) × IsOn true ended until begin d.net
 
 -- the edges of the round that is on, where one is, and the pin's
-abbrev pub AreEdgesOn : Span → Option ℕ → NetState → Option ℕ → List ℕ → Type 0
+abbrev pub AreEdgesOn : InstantRange → Option ℕ → NetState → Option ℕ → List ℕ → Type 0
 AreEdgesOn span pin net None edges = edges ≡ edges_reported span (pinned_by pin [])
 AreEdgesOn span pin net (Some begin) edges = HasEdges span pin begin net edges
 

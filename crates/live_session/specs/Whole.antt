@@ -13,8 +13,8 @@ use Rattle.room_run.specs.declared.run.Totals.{Totals}
 use Rattle.room_run.specs.Run.{start, end_reported, IsRunText}
 use Rattle.room_run.specs.Emulate.{IsTraceOf}
 use Rattle.room_run.specs.Causal.{BeginsWith, before_reported}
-use Rattle.live_session.specs.declared.command.Command.{Command}
-use Rattle.live_session.specs.declared.command.Command.TheVariants as commands
+use Rattle.live_session.specs.declared.command.SessionCommand.{SessionCommand}
+use Rattle.live_session.specs.declared.command.SessionCommand.TheVariants as commands
 use Rattle.live_session.specs.declared.live.Step.{Step}
 use Rattle.live_session.specs.declared.live.Step.TheVariants.{Refuse, Idle, Show, Go, Edge, Finish}
 use Rattle.live_session.specs.Turns.{MayCome}
@@ -41,7 +41,7 @@ kept_by Edge line = line
 kept_by Finish line = line
 
 -- the session's own lines are empty too
-abbrev pub kept_line : Command → Step → List ℕ → List ℕ
+abbrev pub kept_line : SessionCommand → Step → List ℕ → List ℕ
 kept_line commands.Script step line = kept_by step line
 kept_line commands.Wait step line = []
 kept_line (commands.RunTo time) step line = []

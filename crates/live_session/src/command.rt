@@ -11,7 +11,7 @@ use text_core::{first_word, number_in, one_word, two_words};
 
 /// What a line of a session is.
 #[derive(Clone, Copy, Debug, PartialEq, Eq)]
-pub enum Command {
+pub enum SessionCommand {
     /// A line of the script.
     Script,
     /// `wait`
@@ -38,61 +38,61 @@ fn time_in(word: &[u8]) -> Option<u64>
 }
 
 // What the words after `run` ask for.
-fn run_in(rest: Option<&[u8]>) -> Command
+fn run_in(rest: Option<&[u8]>) -> SessionCommand
     ensures { result ≡ run_words (two_of (words_after (option_copied rest.entry))) }
 {
     let Some((to, time)) = two_words(rest) else {
-        return Command::Script;
+        return SessionCommand::Script;
     };
     if to == b"to".as_slice() {
-        Command::RunTo(time_in(time))
+        SessionCommand::RunTo(time_in(time))
     } else {
-        Command::Script
+        SessionCommand::Script
     }
 }
 
 // What the word after `show` asks for.
-fn show_in(tree: &Tree<15>, rest: Option<&[u8]>) -> Command
+fn show_in(tree: &Tree<15>, rest: Option<&[u8]>) -> SessionCommand
     ensures { result ≡ show_words tree.now (one_of (words_after (option_copied rest.entry))) }
 {
     let Some(name) = one_word(rest) else {
-        return Command::Script;
+        return SessionCommand::Script;
     };
-    Command::Show(tree.device_named(name))
+    SessionCommand::Show(tree.device_named(name))
 }
 
 // What the word after `edge` asks for.
-fn edge_in(rest: Option<&[u8]>) -> Command
+fn edge_in(rest: Option<&[u8]>) -> SessionCommand
     ensures { result ≡ edge_words (one_of (words_after (option_copied rest.entry))) }
 {
     let Some(time) = one_word(rest) else {
-        return Command::Script;
+        return SessionCommand::Script;
     };
-    Command::Edge(time_in(time))
+    SessionCommand::Edge(time_in(time))
 }
 
 // What the word after `edges` asks for.
-fn edges_in(rest: Option<&[u8]>) -> Command
+fn edges_in(rest: Option<&[u8]>) -> SessionCommand
     ensures { result ≡ edges_words (one_of (words_after (option_copied rest.entry))) }
 {
     let Some(word) = one_word(rest) else {
-        return Command::Script;
+        return SessionCommand::Script;
     };
     if word == b"on".as_slice() {
-        Command::Edges(true)
+        SessionCommand::Edges(true)
     } else if word == b"off".as_slice() {
-        Command::Edges(false)
+        SessionCommand::Edges(false)
     } else {
-        Command::Script
+        SessionCommand::Script
     }
 }
 
 /// What a line asks for.
-pub(crate) fn command_in(tree: &Tree<15>, line: &[u8]) -> Command
+pub(crate) fn command_in(tree: &Tree<15>, line: &[u8]) -> SessionCommand
     ensures { result ≡ command_of tree.now line.now }
 {
     if line == b"wait".as_slice() {
-        return Command::Wait;
+        return SessionCommand::Wait;
     }
     let (verb, rest) = first_word(line);
     if verb == b"run".as_slice() {
@@ -104,6 +104,6 @@ pub(crate) fn command_in(tree: &Tree<15>, line: &[u8]) -> Command
     } else if verb == b"edges".as_slice() {
         edges_in(rest)
     } else {
-        Command::Script
+        SessionCommand::Script
     }
 }

@@ -9,7 +9,7 @@ use text_core::{Counted, Piece, Sink};
 
 /// The instants from one on and before another.
 #[derive(Clone, Copy, Debug, PartialEq, Eq)]
-pub struct Span {
+pub struct InstantRange {
     pub from: u64,
     pub until: u64,
 }
@@ -27,7 +27,7 @@ fn add_edge_line<S: Sink>(out: &mut Counted<'_, S>, at: u64, level: u64)
     ]);
 }
 
-fn is_in(span: Span, at: u64) -> bool
+fn is_in(span: InstantRange, at: u64) -> bool
     ensures { result ≡ is_in span at }
 {
     span.from <= at && at < span.until
@@ -35,7 +35,7 @@ fn is_in(span: Span, at: u64) -> bool
 
 // Adds an edge that lies in the span.
 #[tactic(auto, using(text_core::proofs::Adding::nothing))]
-fn add_edge<S: Sink>(out: &mut Counted<'_, S>, span: Span, at: u64, level: u64)
+fn add_edge<S: Sink>(out: &mut Counted<'_, S>, span: InstantRange, at: u64, level: u64)
     ensures { Adds out.old out.new (edge_reported span at level) }
 {
     if is_in(span, at) {
@@ -45,7 +45,7 @@ fn add_edge<S: Sink>(out: &mut Counted<'_, S>, span: Span, at: u64, level: u64)
 
 // Adds the edges of a stretch that lie in the span.
 #[tactic(auto, using(text_core::proofs::Adding::then))]
-fn add_stretch<S: Sink>(out: &mut Counted<'_, S>, span: Span, stretch: Stretch)
+fn add_stretch<S: Sink>(out: &mut Counted<'_, S>, span: InstantRange, stretch: Stretch)
     ensures { Adds out.old out.new (stretch_reported span stretch) }
 {
     add_edge(out, span, stretch.from, 0);
@@ -53,7 +53,7 @@ fn add_stretch<S: Sink>(out: &mut Counted<'_, S>, span: Span, stretch: Stretch)
 }
 
 // Adds the edges of the stretches that lie in the span.
-fn add_stretches<S: Sink>(out: &mut Counted<'_, S>, span: Span, stretches: &[Stretch])
+fn add_stretches<S: Sink>(out: &mut Counted<'_, S>, span: InstantRange, stretches: &[Stretch])
     ensures { Adds out.old out.new (edges_reported span stretches.now) }
 {
     for stretch in stretches {
@@ -62,7 +62,7 @@ fn add_stretches<S: Sink>(out: &mut Counted<'_, S>, span: Span, stretches: &[Str
 }
 
 /// Adds the edges of a round that lie in the span, by its low stretches. Where the span has no instant they are not looked at.
-pub(crate) fn add_edges<S: Sink>(out: &mut Counted<'_, S>, span: Span, stretches: &[Stretch])
+pub(crate) fn add_edges<S: Sink>(out: &mut Counted<'_, S>, span: InstantRange, stretches: &[Stretch])
     ensures { Adds out.old out.new (edges_reported span stretches.now) }
 {
     if span.until <= span.from {
@@ -83,7 +83,7 @@ fn open_pull(from: u64) -> Stretch
 
 // Adds the edges of a round, where the pin is low from an instant on, that lie in the span.
 #[tactic(auto, using(text_core::proofs::Adding::then, text_core::proofs::Adding::nothing))]
-fn add_pinned<S: Sink>(out: &mut Counted<'_, S>, span: Span, low: u64, stretches: &[Stretch])
+fn add_pinned<S: Sink>(out: &mut Counted<'_, S>, span: InstantRange, low: u64, stretches: &[Stretch])
     ensures { Adds out.old out.new (edges_reported span (pinned low stretches.now)) }
 {
     let Some((stretch, others)) = stretches.split_first() else {
@@ -102,7 +102,7 @@ fn add_pinned<S: Sink>(out: &mut Counted<'_, S>, span: Span, low: u64, stretches
 /// it is.
 pub(crate) fn add_edges_by<S: Sink>(
     out: &mut Counted<'_, S>,
-    span: Span,
+    span: InstantRange,
     pin: Option<u64>,
     stretches: &[Stretch],
 )

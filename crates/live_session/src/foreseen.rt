@@ -18,7 +18,7 @@ ghost use Rattle.live_session.specs.Edges.{first_edge, pinned_by};
 ghost use Rattle.live_session.specs.Session.{pin_by};
 ghost use Rattle.live_session.specs.Turns.{AreAhead, AreEdgesOn, HasEdges, IsForeseen, IsKept, IsOn};
 
-use crate::edges::{Span, add_edges_by, first_edge_by};
+use crate::edges::{InstantRange, add_edges_by, first_edge_by};
 use device_core::Device;
 use edid_tree::Tree;
 use line_rounds::Outcome;
@@ -227,7 +227,7 @@ impl Foreseen {
         &mut self,
         out: &mut Counted<'_, S>,
         begin: u64,
-        span: Span,
+        span: InstantRange,
         pin: Option<u64>,
     )
         requires early { self.old.close ≤ latest_instant }
@@ -247,7 +247,7 @@ impl Foreseen {
         &mut self,
         out: &mut Counted<'_, S>,
         on: Option<u64>,
-        span: Span,
+        span: InstantRange,
         pin: Option<u64>,
     )
         requires early { self.old.close ≤ latest_instant }

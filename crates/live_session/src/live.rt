@@ -4,8 +4,8 @@ ghost use Rattle.line_wave.specs.Bounds.{latest_event};
 ghost use Rattle.live_session.specs.Session.{refuse, step_show};
 
 use crate::answer::{Refusal, RefusalCause, add_idle, add_refused, add_shown, add_taken};
-use crate::command::{Command, command_in};
-use crate::edges::Span;
+use crate::command::{SessionCommand, command_in};
+use crate::edges::InstantRange;
 use crate::foreseen::Foreseen;
 use crate::note::{events_after, note_line};
 use crate::session_text::SessionText;
@@ -142,7 +142,7 @@ fn edid_on_heap(alloc: Global, edid: Option<Box<Edid>>) -> Result<Box<Option<Edi
 impl Live {
     ghost use Rattle.std.specs.Prelude.{ℕ, ◌<◌, ◌≤◌, ◌++◌, true, IfSome, MatchOption, Result, is_some, length, None};
     ghost use Rattle.room_script.specs.Script.{IsLineRead, Notes};
-    ghost use Rattle.room_script.specs.declared.fault.LineFault.{LineFault as LineFaultValue};
+    ghost use Rattle.room_script.specs.declared.fault.ScriptLineFault.{ScriptLineFault as LineFaultValue};
     ghost use Rattle.edid_core.specs.Root.{HasAddress};
     ghost use Rattle.text_core.specs.Adds.{Adds};
     ghost use Rattle.text_core.specs.Cut.{WrittenText};
@@ -288,23 +288,23 @@ impl Live {
         self.lines = self.lines.saturating_add(1);
         self.since = self.horizon;
         match command_in(&self.tree, line) {
-            Command::Script => self.note(line),
-            Command::Wait => Some(self.wait()),
-            Command::RunTo(time) => Some(self.run_to(time)),
-            Command::Show(device) => Some(shown(device)),
-            Command::Edge(time) => Some(self.edge(time)),
-            Command::Edges(edges) => Some(self.report_edges(edges)),
+            SessionCommand::Script => self.note(line),
+            SessionCommand::Wait => Some(self.wait()),
+            SessionCommand::RunTo(time) => Some(self.run_to(time)),
+            SessionCommand::Show(device) => Some(shown(device)),
+            SessionCommand::Edge(time) => Some(self.edge(time)),
+            SessionCommand::Edges(edges) => Some(self.report_edges(edges)),
         }
     }
 
     // The instants whose edges are reported.
-    fn span(&self, edges: bool, ended: bool) -> Span
+    fn span(&self, edges: bool, ended: bool) -> InstantRange
         ensures { result ≡ span_of edges ended self.now }
     {
         if !edges {
-            return Span { from: 0, until: 0 };
+            return InstantRange { from: 0, until: 0 };
         }
-        Span {
+        InstantRange {
             from: self.since,
             until: if ended { u64::MAX } else { self.horizon },
         }

@@ -2,7 +2,7 @@
 ghost use Rattle.std.specs.Prelude.{◌≡◌, ◌||◌, ◌≤◌, [], drop, take, length, nat_lt, if◌then◌else◌, None, Result, Ok, MatchOption};
 ghost use Rattle.std.specs.List.{list_any};
 ghost use Rattle.room_script.specs.Script.{IsLineRead, Notes, notes_of};
-ghost use Rattle.room_script.specs.declared.fault.LineFault.{LineFault as LineFaultValue};
+ghost use Rattle.room_script.specs.declared.fault.ScriptLineFault.{ScriptLineFault as LineFaultValue};
 ghost use Rattle.room_run.specs.Certain.{with_pulses};
 ghost use Rattle.live_session.specs.Note.{Extends, IsSettled, refused_by};
 ghost use Rattle.live_session.specs.Session.{is_given_before, refuse, refuses_pulse, rises_before};

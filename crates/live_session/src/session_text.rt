@@ -2,7 +2,7 @@
 ghost use Rattle.std.specs.Prelude.{◌≡◌};
 ghost use Rattle.edid_core.specs.Root.{HasAddress};
 
-use crate::edges::{Span, add_edges};
+use crate::edges::{InstantRange, add_edges};
 use edid_core::Edid;
 use line_rounds::Outcome;
 use room_event::EventError;
@@ -16,12 +16,12 @@ use text_core::{Counted, Sink};
 #[derive(Drop)]
 pub(crate) struct SessionText<'a, 'e, S: Sink> {
     pub trace: TraceText<'a, 'e, S>,
-    pub span: Span,
+    pub span: InstantRange,
 }
 
 impl<'a, 'e, S: Sink> SessionText<'a, 'e, S> {
     /// A session with this EDID that goes on with this text.
-    pub fn new(text: Counted<'a, S>, edid: &'e Option<Edid>, span: Span) -> Self
+    pub fn new(text: Counted<'a, S>, edid: &'e Option<Edid>, span: InstantRange) -> Self
         requires { HasAddress edid.now }
         ensures text { result.trace.text ≡ text.entry }
         ensures edid { result.trace.passed.edid.now ≡ edid.now }

@@ -14,7 +14,7 @@ use Rattle.live_incoming.specs.Incoming.{IsWhole, text_of_lines}
 use Rattle.live_incoming.proofs.Coming.{lines_again}
 use Rattle.live_dialogue.specs.Dialogue.{IsDone, IsSession, first_reported}
 use Rattle.live_dialogue.specs.declared.error.SessionError.{SessionError}
-use Rattle.cli_words.specs.declared.choice.Choice.TheVariants.{Live}
+use Rattle.cli_words.specs.declared.choice.CommandChoice.TheVariants.{Live}
 use Rattle.program_calls.specs.Live.{IsLiveDone, Lives, LivesAs, LivesInObjects}
 use Rattle.program_calls.specs.Done.{IsServed}
 

@@ -3,8 +3,8 @@ use Rattle.std.proofs.Common.{◌≡◌, ℕ, List, Option, Some, None, subst, s
 use Rattle.program_captures.specs.Following.{FollowsTo}
 use Rattle.program_calls.specs.Done.{AreServedAs, IsHelp, IsServed}
 use Rattle.cli_words.specs.declared.choice.Asked.{Asked}
-use Rattle.cli_words.specs.declared.choice.Choice.TheVariants.{Follow}
-use Rattle.cli_words.specs.declared.choice.LineForm.{LineForm}
+use Rattle.cli_words.specs.declared.choice.CommandChoice.TheVariants.{Follow}
+use Rattle.cli_words.specs.declared.choice.FollowForm.{FollowForm}
 
 -- where a choice was made
 pub chosen : (o : Option Asked) (asked : Asked) (name : List ℕ) (known old new : Option (List ℕ)) → o ≡ Some asked → IsServed known old new asked.choice name
@@ -16,7 +16,7 @@ pub helped : (o : Option Asked) (name : List ℕ) (known old new : Option (List 
 helped o name known old new is help = subst (λ x. AreServedAs x name known old new) (sym is) help
 
 -- a capture that is reported as its lines come
-pub followed : (form : LineForm) (margin : ℕ) (known old new : Option (List ℕ)) (name : List ℕ) → FollowsTo form name margin known old new
+pub followed : (form : FollowForm) (margin : ℕ) (known old new : Option (List ℕ)) (name : List ℕ) → FollowsTo form name margin known old new
     → IsServed known old new (Follow form margin) name
 followed form margin known old new name f = record {
   input = f.input;

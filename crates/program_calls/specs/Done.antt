@@ -14,8 +14,8 @@ use Rattle.capture_forms.specs.declared.format.Format.{Format}
 use Rattle.capture_forms.specs.declared.format.Format.TheVariants as formats
 use Rattle.message_meaning.specs.Lines.{meant_text}
 use Rattle.json_report.specs.Object.{AreReportObjects}
-use Rattle.json_report.specs.declared.object.Report.{Report as ReportKind}
-use Rattle.json_report.specs.declared.object.Report.TheVariants as kinds
+use Rattle.json_report.specs.declared.object.ReportKind.{ReportKind}
+use Rattle.json_report.specs.declared.object.ReportKind.TheVariants as kinds
 use Rattle.json_room.specs.Room.{AreRoomObjects}
 use Rattle.room_run.specs.Emulate.{IsLineOf, IsTraceOf}
 use Rattle.room_run.specs.declared.run.Totals.{Totals}
@@ -26,14 +26,14 @@ use Rattle.text_core.specs.Lines.{lines_of}
 use Rattle.cli_words.specs.Line.{asked_by}
 use Rattle.cli_words.specs.MonFlags.{signal_in}
 use Rattle.cli_words.specs.declared.choice.Asked.{Asked}
-use Rattle.cli_words.specs.declared.choice.Choice.{Choice}
-use Rattle.cli_words.specs.declared.choice.Choice.TheVariants.{Run, Check, CheckCapture, Step, Live, Asm, Dis, Lay, Mon, Follow, Json, Edid}
+use Rattle.cli_words.specs.declared.choice.CommandChoice.{CommandChoice}
+use Rattle.cli_words.specs.declared.choice.CommandChoice.TheVariants.{Run, Check, CheckCapture, Step, Live, Asm, Dis, Lay, Mon, Follow, Json, Edid}
 use Rattle.cli_words.specs.declared.choice.Objects.{Objects}
 use Rattle.cli_words.specs.declared.choice.Objects.TheVariants as of
 use Rattle.cli_words.specs.declared.choice.Listing.{Listing}
 use Rattle.cli_words.specs.declared.choice.Listing.TheVariants.{Trace, Edges, Vcd, Pin, Csv, Drives, Named}
-use Rattle.cli_words.specs.declared.choice.Report.{Report as CaptureReport}
-use Rattle.cli_words.specs.declared.choice.Report.TheVariants.{Audit}
+use Rattle.cli_words.specs.declared.choice.CaptureReport.{CaptureReport}
+use Rattle.cli_words.specs.declared.choice.CaptureReport.TheVariants.{Audit}
 use Rattle.cli_words.specs.declared.choice.TestView.{TestView}
 use Rattle.cli_words.specs.declared.choice.TestView.TheVariants.{Report, Traced}
 use Rattle.program_captures.specs.CaptureTests.{IsCaptureTest}
@@ -160,7 +160,7 @@ dis_text true = meant_text
 
 -- The text that a choice makes of an input; of a capture, of the wire of a name. A strict run is one whose events were all
 -- taken.
-abbrev pub IsDone : Choice → List ℕ → List ℕ → List ℕ → Type 0
+abbrev pub IsDone : CommandChoice → List ℕ → List ℕ → List ℕ → Type 0
 IsDone (Run listing strict) name input text = (totals : Totals) × IsListed listing input text totals × (strict ≡ true → totals.refused ≡ 0)
 IsDone (Check view) name input text = IsTestDone view input text
 IsDone (CheckCapture form glitch) name input text = IsCaptureTest form name glitch input text
@@ -175,13 +175,13 @@ IsDone (Json objects) name input text = (lines : List ℕ) × AreLines objects n
 IsDone (Edid source reading view) name input text = IsMade source reading view input text
 
 -- the choices whose lines are answered as they come
-abbrev pub is_line_by_line : Choice → Bool
+abbrev pub is_line_by_line : CommandChoice → Bool
 is_line_by_line (Live json) = true
 is_line_by_line (Follow form margin) = true
 is_line_by_line choice = false
 
 -- a choice is done for an input: its text is written, and nothing else
-abbrev pub Writes : Choice → List ℕ → List ℕ → Option (List ℕ) → Option (List ℕ) → Type 0
+abbrev pub Writes : CommandChoice → List ℕ → List ℕ → Option (List ℕ) → Option (List ℕ) → Type 0
 Writes choice name input old new = (text : List ℕ) × IsDone choice name input text × Appends old new text
 
 -- the line of a run in a format is written, and nothing else
@@ -199,7 +199,7 @@ abbrev pub IsAllOf : Option (List ℕ) → List ℕ → Type 0
 IsAllOf known bytes = IfSome known (λ all. bytes ≡ all)
 
 -- a choice is done for all that there was to read
-pub record IsServed (known old new : Option (List ℕ)) (choice : Choice) (name : List ℕ) : Type 0 where
+pub record IsServed (known old new : Option (List ℕ)) (choice : CommandChoice) (name : List ℕ) : Type 0 where
   pub input : List ℕ
   pub all : IsAllOf known input
   pub written : Writes choice name input old new

@@ -4,9 +4,9 @@ ghost use Rattle.program_captures.specs.CaptureTests.{WritesCaptureTest};
 ghost use Rattle.program_calls.specs.Done.{Writes};
 
 use crate::expectations::write_test;
-use crate::told::Told;
-use cli_words::{Choice, Form, TestView};
-use expect_sweep::Hearer;
+use crate::told::Recap;
+use cli_words::{CommandChoice, Form, TestView};
+use expect_sweep::ProgressHearer;
 use program_captures::write_capture_test;
 use program_faults::ProgramFault;
 use program_faults::parts::parts;
@@ -14,18 +14,18 @@ use std::alloc::Global;
 use text_core::Sink;
 
 #[inline(never)]
-pub fn test<W: Sink, H: Hearer>(
+pub fn test<W: Sink, H: ProgressHearer>(
     alloc: Global,
     view: TestView,
     input: &[u8],
     out: &mut W,
     hearer: &mut H,
-) -> Result<Told, ProgramFault>
-    ensures { OnOk result (Writes (Choice.Check view) [] input.now (W.contents out.old) (W.contents out.new)) }
+) -> Result<Recap, ProgramFault>
+    ensures { OnOk result (Writes (CommandChoice.Check view) [] input.now (W.contents out.old) (W.contents out.new)) }
 {
     let (topology, script) = parts(input)?;
     write_test(alloc, view, topology, script, out, hearer)?;
-    Ok(Told::Nothing)
+    Ok(Recap::Nothing)
 }
 
 #[inline(never)]
@@ -36,9 +36,9 @@ pub fn test_capture<W: Sink>(
     glitch: u64,
     input: &[u8],
     out: &mut W,
-) -> Result<Told, ProgramFault>
+) -> Result<Recap, ProgramFault>
     ensures { OnOk result (WritesCaptureTest form signal.now glitch input.now (W.contents out.old) (W.contents out.new)) }
 {
     write_capture_test(alloc, form, signal, glitch, input, out)?;
-    Ok(Told::Nothing)
+    Ok(Recap::Nothing)
 }

@@ -4,7 +4,7 @@ ghost use Rattle.program_calls.specs.Tests.{AreRemarksOf, WritesPassed, WritesTe
 
 use cli_words::TestView;
 use expect_run::{CheckError, check};
-use expect_sweep::{Hearer, Silent, SweepError, sweep};
+use expect_sweep::{ProgressHearer, SilentProgress, SweepError, sweep};
 use expect_text::{first_fault, plain_script};
 use json_trace::Held;
 use program_faults::{ProgramFault, passed};
@@ -39,7 +39,7 @@ fn write_report<W: Sink>(
 
 // Writes the stretches of the script's range, or the report where it has none.
 #[inline(never)]
-fn write_tests<W: Sink, H: Hearer>(
+fn write_tests<W: Sink, H: ProgressHearer>(
     alloc: Global,
     topology: &[u8],
     script: &[u8],
@@ -140,7 +140,7 @@ fn write_plain<W: Sink>(
 
 /// Writes what is asked for of a test. A report with a test that failed is written, and then a fault. Where it is asked for, the
 /// hearer hears how far a sweep is.
-pub fn write_test<W: Sink, H: Hearer>(
+pub fn write_test<W: Sink, H: ProgressHearer>(
     alloc: Global,
     view: TestView,
     topology: &[u8],
@@ -151,7 +151,7 @@ pub fn write_test<W: Sink, H: Hearer>(
     ensures { OnOk result (WritesTest view topology.now script.now (W.contents out.old) (W.contents out.new)) }
 {
     match view {
-        TestView::Report => write_tests(alloc, topology, script, out, &mut Silent),
+        TestView::Report => write_tests(alloc, topology, script, out, &mut SilentProgress),
         TestView::Progress => write_tests(alloc, topology, script, out, hearer),
         TestView::Traced => write_traced(alloc, topology, script, out),
         TestView::Plain => write_plain(alloc, topology, script, out),

@@ -1,12 +1,12 @@
 //! The faults of the program as they are explained.
-use capture_forms::{CaptureError, Form};
-use cli_words::{Choice, LineForm, Objects, Source};
+use capture_forms::{CaptureError, CaptureForm};
+use cli_words::{CommandChoice, FollowForm, Objects, Source};
 use conversion_calls::{EdidToTextError, PassOnError, TextToHexError};
 use edid_core::EdidCause;
 use expect_run::CheckError;
 use expect_sweep::{RangeCause, RangeFault};
 use expect_text::ExpectFault;
-use explain_marks::{Fault as Explained, Input, RangeSlip};
+use explain_marks::{InputFault as Explained, Input, RangeSlip};
 use live_dialogue::{ScriptEnd, SessionError};
 use message_hex::DisError;
 use message_lay::LayError;
@@ -18,23 +18,23 @@ use room_run::emulate::EmulateError;
 use room_script::ScriptCause;
 
 /// What the input of a choice is to be.
-pub fn input_of(choice: Choice) -> Input {
+pub fn input_of(choice: CommandChoice) -> Input {
     match choice {
-        Choice::Check(_) | Choice::Json(Objects::Test { .. }) => Input::Test,
-        Choice::CheckCapture { .. } | Choice::Json(Objects::CaptureTest { .. }) => {
+        CommandChoice::Check(_) | CommandChoice::Json(Objects::Test { .. }) => Input::Test,
+        CommandChoice::CheckCapture { .. } | CommandChoice::Json(Objects::CaptureTest { .. }) => {
             Input::CaptureTest
         }
-        Choice::Run { .. }
-        | Choice::Step
-        | Choice::Json(Objects::Trace { .. } | Objects::Room { .. }) => Input::Network,
-        Choice::Live { .. } => Input::Session,
-        Choice::Asm
-        | Choice::Dis { .. }
-        | Choice::Lay
-        | Choice::Mon { .. }
-        | Choice::Follow { .. }
-        | Choice::Json(Objects::Capture { .. }) => { Input::Lines }
-        Choice::Edid { source, .. } => match source {
+        CommandChoice::Run { .. }
+        | CommandChoice::Step
+        | CommandChoice::Json(Objects::Trace { .. } | Objects::Room { .. }) => Input::Network,
+        CommandChoice::Live { .. } => Input::Session,
+        CommandChoice::Asm
+        | CommandChoice::Dis { .. }
+        | CommandChoice::Lay
+        | CommandChoice::Mon { .. }
+        | CommandChoice::Follow { .. }
+        | CommandChoice::Json(Objects::Capture { .. }) => { Input::Lines }
+        CommandChoice::Edid { source, .. } => match source {
             Source::Bytes | Source::Pair { dumps: false, .. } => Input::EdidBytes,
             Source::Dump { .. } | Source::Pair { dumps: true, .. } => Input::Lines,
             Source::Text | Source::Words => Input::EdidText,
@@ -43,26 +43,26 @@ pub fn input_of(choice: Choice) -> Input {
 }
 
 /// The form of the capture that a choice takes from its input.
-pub fn form_in(choice: Choice, input: &[u8]) -> Form {
+pub fn form_in(choice: CommandChoice, input: &[u8]) -> CaptureForm {
     match choice {
-        Choice::Mon { form, .. } | Choice::Json(Objects::Capture { form, .. }) => {
+        CommandChoice::Mon { form, .. } | CommandChoice::Json(Objects::Capture { form, .. }) => {
             form_of(form, input)
         }
-        Choice::Follow {
-            form: LineForm::Pin,
+        CommandChoice::Follow {
+            form: FollowForm::Pin,
             ..
-        } => Form::Pin,
-        Choice::Follow {
-            form: LineForm::Csv,
+        } => CaptureForm::Pin,
+        CommandChoice::Follow {
+            form: FollowForm::Csv,
             ..
-        } => Form::Csv,
-        Choice::CheckCapture { form, .. } | Choice::Json(Objects::CaptureTest { form, .. }) => {
+        } => CaptureForm::Csv,
+        CommandChoice::CheckCapture { form, .. } | CommandChoice::Json(Objects::CaptureTest { form, .. }) => {
             match capture_parts(input) {
                 Ok((_, taken)) => form_of(form, taken),
-                Err(_) => Form::Edges,
+                Err(_) => CaptureForm::Edges,
             }
         }
-        _ => Form::Edges,
+        _ => CaptureForm::Edges,
     }
 }
 
@@ -181,7 +181,7 @@ fn of_laid(error: &LayError) -> Explained {
     }
 }
 
-fn of_capture(form: Form, error: &CaptureError) -> Explained {
+fn of_capture(form: CaptureForm, error: &CaptureError) -> Explained {
     match error {
         CaptureError::Fault(fault) => Explained::Capture {
             form,
@@ -222,7 +222,7 @@ fn of_passing(error: &PassOnError) -> Explained {
 }
 
 /// A fault as it is explained, where a capture has this form; None of what was done and is not as it was wanted.
-pub fn explained(form: Form, fault: &ProgramFault) -> Option<Explained> {
+pub fn explained(form: CaptureForm, fault: &ProgramFault) -> Option<Explained> {
     let explained = match fault {
         ProgramFault::NotUtf8 => Explained::NotUtf8,
         ProgramFault::TooLong => Explained::InputTooLong,

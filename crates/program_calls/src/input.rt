@@ -2,7 +2,7 @@
 ghost use Rattle.std.specs.Prelude.{IfOk};
 ghost use Rattle.program_calls.specs.Done.{IsAllOf};
 
-use cli_words::{Choice, Objects};
+use cli_words::{CommandChoice, Objects};
 use program_faults::ProgramFault;
 use std::alloc::Global;
 use std::io::Read;
@@ -17,31 +17,31 @@ const READ: usize = 4096;
 const CAPTURE_LIMIT: usize = 67_108_864;
 
 /// The longest input of a choice, in bytes.
-pub fn limit_of(choice: Choice) -> usize {
+pub fn limit_of(choice: CommandChoice) -> usize {
     match choice {
-        Choice::Mon { form: Some(_), .. }
-        | Choice::CheckCapture { form: Some(_), .. }
-        | Choice::Json(
+        CommandChoice::Mon { form: Some(_), .. }
+        | CommandChoice::CheckCapture { form: Some(_), .. }
+        | CommandChoice::Json(
             Objects::Capture { form: Some(_), .. } | Objects::CaptureTest { form: Some(_), .. },
         ) => CAPTURE_LIMIT,
-        Choice::Mon { form: None, .. }
-        | Choice::CheckCapture { form: None, .. }
-        | Choice::Json(
+        CommandChoice::Mon { form: None, .. }
+        | CommandChoice::CheckCapture { form: None, .. }
+        | CommandChoice::Json(
             Objects::Trace { .. }
             | Objects::Room { .. }
             | Objects::Test { .. }
             | Objects::Capture { form: None, .. }
             | Objects::CaptureTest { form: None, .. },
         )
-        | Choice::Run { .. }
-        | Choice::Check(_)
-        | Choice::Step
-        | Choice::Live { .. }
-        | Choice::Follow { .. }
-        | Choice::Asm
-        | Choice::Dis { .. }
-        | Choice::Lay
-        | Choice::Edid { .. } => LIMIT,
+        | CommandChoice::Run { .. }
+        | CommandChoice::Check(_)
+        | CommandChoice::Step
+        | CommandChoice::Live { .. }
+        | CommandChoice::Follow { .. }
+        | CommandChoice::Asm
+        | CommandChoice::Dis { .. }
+        | CommandChoice::Lay
+        | CommandChoice::Edid { .. } => LIMIT,
     }
 }
 

@@ -4,9 +4,9 @@ ghost use Rattle.text_core.specs.Buffered.{below};
 ghost use Rattle.program_calls.specs.Live.{Lives, LivesInObjects};
 
 use explain_core::explain_line;
-use explain_marks::Fault;
+use explain_marks::InputFault;
 use json_live::{Finished, Halt, LiveObjects};
-use live_dialogue::{Hearer, SessionError, session_heard};
+use live_dialogue::{RefusalHearer, SessionError, session_heard};
 use live_session::{Refusal, RefusalCause};
 use program_faults::ProgramFault;
 use std::alloc::{AllocError, Global};
@@ -21,11 +21,11 @@ struct Explainer<'e, E: Sink> {
     err: &'e mut E,
 }
 
-fn fault_of(line: u64, refusal: Refusal) -> Fault {
+fn fault_of(line: u64, refusal: Refusal) -> InputFault {
     let word = refusal.word;
     match refusal.cause {
-        RefusalCause::Script(cause) => Fault::Script { line, cause, word },
-        RefusalCause::Past => Fault::Past { line, word },
+        RefusalCause::Script(cause) => InputFault::Script { line, cause, word },
+        RefusalCause::Past => InputFault::Past { line, word },
     }
 }
 
@@ -48,7 +48,7 @@ fn explained(
     Ok(text)
 }
 
-impl<E: Sink> Hearer for Explainer<'_, E> {
+impl<E: Sink> RefusalHearer for Explainer<'_, E> {
     fn hear(&mut self, topology: &[u8], number: u64, line: &[u8], refusal: Refusal) {
         if !self.explains {
             return;

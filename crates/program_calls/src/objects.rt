@@ -4,11 +4,11 @@ ghost use Rattle.program_calls.specs.Done.{Writes, WritesLines, WritesObjects, W
 
 use crate::check::{test, test_capture};
 use crate::run::{run_to_objects, run_to_room};
-use crate::told::Told;
+use crate::told::Recap;
 use audit_json::write_audit_objects;
-use cli_words::{Choice, Objects, Report, TestView};
-use expect_sweep::Silent;
-use json_report::{Report as ReportKind, write_report_objects};
+use cli_words::{CommandChoice, Objects, CaptureReport, TestView};
+use expect_sweep::SilentProgress;
+use json_report::{ReportKind, write_report_objects};
 use json_trace::{Held, write_objects};
 use program_captures::monitor;
 use program_faults::ProgramFault;
@@ -22,7 +22,7 @@ fn write_lines<W: Sink>(
     signal: &[u8],
     input: &[u8],
     out: &mut W,
-) -> Result<Told, ProgramFault>
+) -> Result<Recap, ProgramFault>
     requires { are_of_run objects ≡ false }
     ensures { OnOk result (WritesLines objects signal.now input.now (W.contents out.old) (W.contents out.new)) }
 {
@@ -39,9 +39,9 @@ fn write_lines<W: Sink>(
             let signs = monitor(
                 alloc, form, signal, inverted, glitch, margin, report, input, out,
             )?;
-            Ok(Told::Capture(signs))
+            Ok(Recap::Capture(signs))
         }
-        Objects::Test { traced } => test(alloc, report_view(traced), input, out, &mut Silent),
+        Objects::Test { traced } => test(alloc, report_view(traced), input, out, &mut SilentProgress),
         Objects::CaptureTest { form, glitch } => {
             test_capture(alloc, form, signal, glitch, input, out)
         }
@@ -60,10 +60,10 @@ fn report_kind(lines: &[u8]) -> ReportKind
 }
 
 // Whether the lines of a report are those of an audit.
-fn is_audit(report: Option<Report>) -> bool
+fn is_audit(report: Option<CaptureReport>) -> bool
     ensures { result ≡ is_audit report }
 {
-    matches!(report, Some(Report::Audit { .. }))
+    matches!(report, Some(CaptureReport::Audit { .. }))
 }
 
 // Writes the objects of the lines of an audit.
@@ -123,9 +123,9 @@ fn write_held<W: Sink>(
     signal: &[u8],
     input: &[u8],
     out: &mut W,
-) -> Result<Told, ProgramFault>
+) -> Result<Recap, ProgramFault>
     requires { are_of_run objects ≡ false }
-    ensures { OnOk result (Writes (Choice.Json objects) signal.now input.now (W.contents out.old) (W.contents out.new)) }
+    ensures { OnOk result (Writes (CommandChoice.Json objects) signal.now input.now (W.contents out.old) (W.contents out.new)) }
 {
     let mut held = Held::new(alloc);
     let done = write_lines(alloc, objects, signal, input, &mut held);
@@ -143,8 +143,8 @@ pub fn write_json<W: Sink>(
     signal: &[u8],
     input: &[u8],
     out: &mut W,
-) -> Result<Told, ProgramFault>
-    ensures { OnOk result (Writes (Choice.Json objects) signal.now input.now (W.contents out.old) (W.contents out.new)) }
+) -> Result<Recap, ProgramFault>
+    ensures { OnOk result (Writes (CommandChoice.Json objects) signal.now input.now (W.contents out.old) (W.contents out.new)) }
 {
     match objects {
         Objects::Trace { strict } => run_to_objects(alloc, strict, input, out),

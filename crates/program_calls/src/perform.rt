@@ -5,10 +5,10 @@ ghost use Rattle.program_calls.specs.Done.{Writes, is_line_by_line};
 use crate::check::{test, test_capture};
 use crate::objects::write_json;
 use crate::run::{run, run_to_drives, run_to_line};
-use crate::told::Told;
+use crate::told::Recap;
 use capture_forms::Format;
-use cli_words::{Choice, Listing};
-use expect_sweep::Hearer;
+use cli_words::{CommandChoice, Listing};
+use expect_sweep::ProgressHearer;
 use message_hex::dis_lines;
 use message_lay::lay_lines;
 use message_meaning::dis_with_meaning;
@@ -23,34 +23,34 @@ use std::alloc::Global;
 use text_core::Sink;
 
 #[inline(never)]
-fn step<W: Sink>(alloc: Global, input: &[u8], out: &mut W) -> Result<Told, ProgramFault>
-    ensures { OnOk result (Writes Choice.Step [] input.now (W.contents out.old) (W.contents out.new)) }
+fn step<W: Sink>(alloc: Global, input: &[u8], out: &mut W) -> Result<Recap, ProgramFault>
+    ensures { OnOk result (Writes CommandChoice.Step [] input.now (W.contents out.old) (W.contents out.new)) }
 {
     let (topology, rest) = parts(input)?;
     let (script, steps) = parted(rest, b"steps").ok_or(ProgramFault::NoStepsLine)?;
     step_run(alloc, topology, script, steps, out)?;
-    Ok(Told::Nothing)
+    Ok(Recap::Nothing)
 }
 
 // Writes the texts of frames.
-fn write_frames<W: Sink>(input: &[u8], out: &mut W) -> Result<Told, ProgramFault>
-    ensures { OnOk result (Writes (Choice.Dis false) [] input.now (W.contents out.old) (W.contents out.new)) }
+fn write_frames<W: Sink>(input: &[u8], out: &mut W) -> Result<Recap, ProgramFault>
+    ensures { OnOk result (Writes (CommandChoice.Dis false) [] input.now (W.contents out.old) (W.contents out.new)) }
 {
     dis_lines(input, out)?;
-    Ok(Told::Nothing)
+    Ok(Recap::Nothing)
 }
 
 // Writes the texts of frames, and what they mean.
-fn write_meanings<W: Sink>(input: &[u8], out: &mut W) -> Result<Told, ProgramFault>
-    ensures { OnOk result (Writes (Choice.Dis true) [] input.now (W.contents out.old) (W.contents out.new)) }
+fn write_meanings<W: Sink>(input: &[u8], out: &mut W) -> Result<Recap, ProgramFault>
+    ensures { OnOk result (Writes (CommandChoice.Dis true) [] input.now (W.contents out.old) (W.contents out.new)) }
 {
     dis_with_meaning(input, out)?;
-    Ok(Told::Nothing)
+    Ok(Recap::Nothing)
 }
 
 #[inline(never)]
-fn disassemble<W: Sink>(meaning: bool, input: &[u8], out: &mut W) -> Result<Told, ProgramFault>
-    ensures { OnOk result (Writes (Choice.Dis meaning) [] input.now (W.contents out.old) (W.contents out.new)) }
+fn disassemble<W: Sink>(meaning: bool, input: &[u8], out: &mut W) -> Result<Recap, ProgramFault>
+    ensures { OnOk result (Writes (CommandChoice.Dis meaning) [] input.now (W.contents out.old) (W.contents out.new)) }
 {
     if meaning {
         write_meanings(input, out)
@@ -60,35 +60,35 @@ fn disassemble<W: Sink>(meaning: bool, input: &[u8], out: &mut W) -> Result<Told
 }
 
 #[inline(never)]
-fn assemble<W: Sink>(input: &[u8], out: &mut W) -> Result<Told, ProgramFault>
-    ensures { OnOk result (Writes Choice.Asm [] input.now (W.contents out.old) (W.contents out.new)) }
+fn assemble<W: Sink>(input: &[u8], out: &mut W) -> Result<Recap, ProgramFault>
+    ensures { OnOk result (Writes CommandChoice.Asm [] input.now (W.contents out.old) (W.contents out.new)) }
 {
     asm_lines(input, out)?;
-    Ok(Told::Nothing)
+    Ok(Recap::Nothing)
 }
 
 #[inline(never)]
-fn lay<W: Sink>(input: &[u8], out: &mut W) -> Result<Told, ProgramFault>
-    ensures { OnOk result (Writes Choice.Lay [] input.now (W.contents out.old) (W.contents out.new)) }
+fn lay<W: Sink>(input: &[u8], out: &mut W) -> Result<Recap, ProgramFault>
+    ensures { OnOk result (Writes CommandChoice.Lay [] input.now (W.contents out.old) (W.contents out.new)) }
 {
     lay_lines(input, out)?;
-    Ok(Told::Nothing)
+    Ok(Recap::Nothing)
 }
 
 /// Does what is asked for. Of a run the result has the counts. Of a sweep the hearer hears how far it is, where that is asked for.
-pub fn perform<W: Sink, H: Hearer>(
+pub fn perform<W: Sink, H: ProgressHearer>(
     alloc: Global,
-    choice: Choice,
+    choice: CommandChoice,
     signal: &[u8],
     input: &[u8],
     out: &mut W,
     hearer: &mut H,
-) -> Result<Told, ProgramFault>
+) -> Result<Recap, ProgramFault>
     requires { is_line_by_line choice ≡ false }
     ensures { OnOk result (Writes choice signal.now input.now (W.contents out.old) (W.contents out.new)) }
 {
     match choice {
-        Choice::Run { listing, strict } => match listing {
+        CommandChoice::Run { listing, strict } => match listing {
             Listing::Trace => run(alloc, strict, input, out),
             Listing::Edges => run_to_line(alloc, Format::Edges, strict, input, out),
             Listing::Vcd => run_to_line(alloc, Format::Vcd, strict, input, out),
@@ -97,16 +97,16 @@ pub fn perform<W: Sink, H: Hearer>(
             Listing::Drives => run_to_drives(alloc, Wires::Plain, strict, input, out),
             Listing::Named => run_to_drives(alloc, Wires::Named, strict, input, out),
         },
-        Choice::Check(view) => test(alloc, view, input, out, hearer),
-        Choice::CheckCapture { form, glitch } => {
+        CommandChoice::Check(view) => test(alloc, view, input, out, hearer),
+        CommandChoice::CheckCapture { form, glitch } => {
             test_capture(alloc, form, signal, glitch, input, out)
         }
-        Choice::Step => step(alloc, input, out),
-        Choice::Live { .. } | Choice::Follow { .. } => unreachable!(),
-        Choice::Asm => assemble(input, out),
-        Choice::Dis { meaning } => disassemble(meaning, input, out),
-        Choice::Lay => lay(input, out),
-        Choice::Mon {
+        CommandChoice::Step => step(alloc, input, out),
+        CommandChoice::Live { .. } | CommandChoice::Follow { .. } => unreachable!(),
+        CommandChoice::Asm => assemble(input, out),
+        CommandChoice::Dis { meaning } => disassemble(meaning, input, out),
+        CommandChoice::Lay => lay(input, out),
+        CommandChoice::Mon {
             form,
             glitch,
             margin,
@@ -117,16 +117,16 @@ pub fn perform<W: Sink, H: Hearer>(
             let signs = show(
                 alloc, folded, form, signal, inverted, glitch, margin, report, input, out,
             )?;
-            Ok(Told::Capture(signs))
+            Ok(Recap::Capture(signs))
         }
-        Choice::Json(objects) => write_json(alloc, objects, signal, input, out),
-        Choice::Edid {
+        CommandChoice::Json(objects) => write_json(alloc, objects, signal, input, out),
+        CommandChoice::Edid {
             source,
             reading,
             view,
         } => {
             edid(alloc, source, reading, view, input, out)?;
-            Ok(Told::Nothing)
+            Ok(Recap::Nothing)
         }
     }
 }

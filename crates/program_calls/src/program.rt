@@ -13,9 +13,9 @@ use crate::live::{LiveEnded, live, live_in_objects};
 use crate::perform::perform;
 use crate::progress::ProgressLines;
 use crate::said::{remark, report};
-use crate::told::Told;
+use crate::told::Recap;
 use cli_command::{Refused, choose};
-use cli_words::{Asked, Choice, LineForm, signal_in};
+use cli_words::{Asked, CommandChoice, FollowForm, signal_in};
 use json_live::Halt;
 use live_dialogue::SessionError;
 use program_captures::follow_capture;
@@ -26,7 +26,7 @@ use text_core::{Buffered, Sink, WriteFault, put_all};
 
 /// How the program ended.
 #[derive(Drop)]
-pub struct Ended<W> {
+pub struct ProgramEnd<W> {
     /// The exit status: 0 done, 1 input refused, an event of a strict run refused, a remark of a strict audit or a test failed, 2 command line refused, 3 a
     /// read or write fault or input past its limit, 4 no memory, 5 an EDID fails a rule.
     pub status: u8,
@@ -36,9 +36,9 @@ pub struct Ended<W> {
 
 // What was done, once all that was written is handed on. Where it can't be, that is the first fault.
 fn handed_on<W: Sink>(
-    done: Result<Told, ProgramFault>,
+    done: Result<Recap, ProgramFault>,
     out: &mut Buffered<W>,
-) -> Result<Told, ProgramFault>
+) -> Result<Recap, ProgramFault>
     ensures same { IfOk result (λ told. done ≡ Ok told) }
     ensures handed { OnOk result (Keeps (⟦<Buffered<W> as Sink>⟧.contents out.old) (W.contents (below out.new))) }
 {
@@ -145,12 +145,12 @@ fn serve_in_lines<R: Read, W: Sink, E: Sink>(
     input: &mut R,
     out: W,
     err: &mut E,
-) -> Ended<W>
+) -> ProgramEnd<W>
     ensures { result.status ≡ 0 → Lives (R.remaining input.old) (W.contents out) (W.contents result.out) }
 {
     let mut out = Buffered::new(out);
     let status = serve_lines(alloc, asked, input, &mut out, err);
-    Ended {
+    ProgramEnd {
         status,
         out: out.into_below(),
     }
@@ -163,12 +163,12 @@ fn serve_in_objects<R: Read, W: Sink, E: Sink>(
     input: &mut R,
     out: W,
     err: &mut E,
-) -> Ended<W>
+) -> ProgramEnd<W>
     ensures { result.status ≡ 0 → LivesInObjects (R.remaining input.old) (W.contents out) (W.contents result.out) }
 {
     let LiveEnded { done, halted, out } = live_in_objects(alloc, asked.explains, input, out, err);
     let status = report_objects(alloc, asked, done, halted, err);
-    Ended {
+    ProgramEnd {
         status,
         out: out.into_below(),
     }
@@ -182,7 +182,7 @@ fn serve_session<R: Read, W: Sink, E: Sink>(
     input: &mut R,
     out: W,
     err: &mut E,
-) -> Ended<W>
+) -> ProgramEnd<W>
     ensures { result.status ≡ 0 → LivesAs json (R.remaining input.old) (W.contents out) (W.contents result.out) }
 {
     if json {
@@ -196,7 +196,7 @@ fn serve_session<R: Read, W: Sink, E: Sink>(
 fn follow_lines<R: Read, W: Sink, E: Sink>(
     alloc: Global,
     asked: Asked,
-    form: LineForm,
+    form: FollowForm,
     signal: &[u8],
     margin: u64,
     input: &mut R,
@@ -215,18 +215,18 @@ fn follow_lines<R: Read, W: Sink, E: Sink>(
 fn serve_capture<R: Read, W: Sink, E: Sink>(
     alloc: Global,
     asked: Asked,
-    form: LineForm,
+    form: FollowForm,
     signal: &[u8],
     margin: u64,
     input: &mut R,
     out: W,
     err: &mut E,
-) -> Ended<W>
+) -> ProgramEnd<W>
     ensures { result.status ≡ 0 → FollowsTo form signal.now margin (R.remaining input.old) (W.contents out) (W.contents result.out) }
 {
     let mut out = Buffered::new(out);
     let status = follow_lines(alloc, asked, form, signal, margin, input, &mut out, err);
-    Ended {
+    ProgramEnd {
         status,
         out: out.into_below(),
     }
@@ -296,13 +296,13 @@ fn serve_input<R: Read, W: Sink, E: Sink>(
     input: &mut R,
     out: W,
     err: &mut E,
-) -> Ended<W>
+) -> ProgramEnd<W>
     requires { is_line_by_line asked.choice ≡ false }
     ensures { result.status ≡ 0 → IsServed (R.remaining input.old) (W.contents out) (W.contents result.out) asked.choice (name_of (signal_in (map string_bytes words.now))) }
 {
     let mut out = Buffered::new(out);
     let status = serve_named(alloc, asked, words, input, &mut out, err);
-    Ended {
+    ProgramEnd {
         status,
         out: out.into_below(),
     }
@@ -316,12 +316,12 @@ fn serve<R: Read, W: Sink, E: Sink>(
     input: &mut R,
     out: W,
     err: &mut E,
-) -> Ended<W>
+) -> ProgramEnd<W>
     ensures { result.status ≡ 0 → IsServed (R.remaining input.old) (W.contents out) (W.contents result.out) asked.choice (name_of (signal_in (map string_bytes words.now))) }
 {
     match asked.choice {
-        Choice::Live { json } => serve_session(alloc, json, asked, input, out, err),
-        Choice::Follow { form, margin } => {
+        CommandChoice::Live { json } => serve_session(alloc, json, asked, input, out, err),
+        CommandChoice::Follow { form, margin } => {
             serve_capture(
                 alloc,
                 asked,
@@ -338,12 +338,12 @@ fn serve<R: Read, W: Sink, E: Sink>(
 }
 
 // Says why a command line is refused, or shows the help that it asks for.
-fn decline<W: Sink, E: Sink>(refused: &Refused, out: W, err: &mut E) -> Ended<W>
+fn decline<W: Sink, E: Sink>(refused: &Refused, out: W, err: &mut E) -> ProgramEnd<W>
     ensures { result.status ≡ 0 → IsHelp (W.contents out) (W.contents result.out) }
 {
     let mut out = Buffered::new(out);
     let status = refuse(refused, &mut out, err);
-    Ended {
+    ProgramEnd {
         status,
         out: out.into_below(),
     }
@@ -356,7 +356,7 @@ fn act<R: Read, W: Sink, E: Sink>(
     input: &mut R,
     out: W,
     err: &mut E,
-) -> Ended<W>
+) -> ProgramEnd<W>
     ensures { result.status ≡ 0 → AreServed (map string_bytes words.now) (R.remaining input.old) (W.contents out) (W.contents result.out) }
 {
     match choose(alloc, words) {
@@ -375,7 +375,7 @@ pub fn program<R: Read, W: Sink, E: Sink>(
     input: &mut R,
     out: W,
     err: &mut E,
-) -> Ended<W>
+) -> ProgramEnd<W>
     ensures { result.status ≡ 0 → AreServed (map string_bytes words.items) (R.remaining input.old) (W.contents out) (W.contents result.out) }
 {
     act(alloc, &words, input, out, err)

@@ -1,5 +1,5 @@
 //! How far a sweep is, on standard error.
-use expect_sweep::{Hearer, Progress};
+use expect_sweep::{ProgressHearer, SweepProgress};
 use std::alloc::{AllocError, Global};
 use text_core::{Sink, put_all};
 
@@ -10,8 +10,8 @@ pub struct ProgressLines<'e, E: Sink> {
     pub err: &'e mut E,
 }
 
-fn line_of(alloc: Global, progress: Progress) -> Result<String, AllocError> {
-    let Progress {
+fn line_of(alloc: Global, progress: SweepProgress) -> Result<String, AllocError> {
+    let SweepProgress {
         done,
         count,
         stretches,
@@ -19,10 +19,10 @@ fn line_of(alloc: Global, progress: Progress) -> Result<String, AllocError> {
     format!(in alloc; "hdminet: instants {done} of {count}, stretches {stretches}\n")
 }
 
-impl<E: Sink> Hearer for ProgressLines<'_, E> {
+impl<E: Sink> ProgressHearer for ProgressLines<'_, E> {
     ghost hears = { λ r p s. Unit {0} };
 
-    fn hear(&mut self, progress: Progress) {
+    fn hear(&mut self, progress: SweepProgress) {
         // Where memory runs out, or standard error takes none, the sweep goes on.
         if let Ok(text) = line_of(self.alloc, progress) {
             let _ = put_all(self.err, text.as_bytes());

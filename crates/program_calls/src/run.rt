@@ -2,9 +2,9 @@
 ghost use Rattle.std.specs.Prelude.{◌≡◌, true, [], OnOk};
 ghost use Rattle.program_calls.specs.Done.{Writes, WritesDrives, WritesLine};
 
-use crate::told::Told;
+use crate::told::Recap;
 use capture_forms::Format;
-use cli_words::{Choice, Listing, Objects};
+use cli_words::{CommandChoice, Listing, Objects};
 use json_room::RoomLines;
 use json_run::emulate_objects;
 use json_trace::PlainLines;
@@ -18,13 +18,13 @@ use std::alloc::Global;
 use text_core::Sink;
 
 // The counts of a run, unless it is strict and an event was refused.
-fn accepted(totals: Totals, strict: bool) -> Result<Told, ProgramFault>
+fn accepted(totals: Totals, strict: bool) -> Result<Recap, ProgramFault>
     ensures { OnOk result (strict ≡ true → totals.refused ≡ 0) }
 {
     if strict && totals.refused > 0 {
         return Err(ProgramFault::EventsRefused(totals));
     }
-    Ok(Told::Run(totals))
+    Ok(Recap::Run(totals))
 }
 
 /// Each of these takes its memory on the stack where it is asked for, and not in every start. The result has what there is to
@@ -35,8 +35,8 @@ pub fn run<W: Sink>(
     strict: bool,
     input: &[u8],
     out: &mut W,
-) -> Result<Told, ProgramFault>
-    ensures { OnOk result (Writes (Choice.Run Listing.Trace strict) [] input.now (W.contents out.old) (W.contents out.new)) }
+) -> Result<Recap, ProgramFault>
+    ensures { OnOk result (Writes (CommandChoice.Run Listing.Trace strict) [] input.now (W.contents out.old) (W.contents out.new)) }
 {
     let (topology, script) = parts(input)?;
     let totals = emulate(alloc, topology, script, out)?;
@@ -51,7 +51,7 @@ pub fn run_to_line<W: Sink>(
     strict: bool,
     input: &[u8],
     out: &mut W,
-) -> Result<Told, ProgramFault>
+) -> Result<Recap, ProgramFault>
     ensures { OnOk result (WritesLine format strict input.now (W.contents out.old) (W.contents out.new)) }
 {
     let (topology, script) = parts(input)?;
@@ -67,7 +67,7 @@ pub fn run_to_drives<W: Sink>(
     strict: bool,
     input: &[u8],
     out: &mut W,
-) -> Result<Told, ProgramFault>
+) -> Result<Recap, ProgramFault>
     ensures { OnOk result (WritesDrives wires strict input.now (W.contents out.old) (W.contents out.new)) }
 {
     let (topology, script) = parts(input)?;
@@ -83,8 +83,8 @@ pub fn run_to_objects<W: Sink>(
     strict: bool,
     input: &[u8],
     out: &mut W,
-) -> Result<Told, ProgramFault>
-    ensures { OnOk result (Writes (Choice.Json (Objects.Trace strict)) [] input.now (W.contents out.old) (W.contents out.new)) }
+) -> Result<Recap, ProgramFault>
+    ensures { OnOk result (Writes (CommandChoice.Json (Objects.Trace strict)) [] input.now (W.contents out.old) (W.contents out.new)) }
 {
     let (topology, script) = parts(input)?;
     let totals = emulate_objects(alloc, topology, script, PlainLines, out)?;
@@ -98,8 +98,8 @@ pub fn run_to_room<W: Sink>(
     strict: bool,
     input: &[u8],
     out: &mut W,
-) -> Result<Told, ProgramFault>
-    ensures { OnOk result (Writes (Choice.Json (Objects.Room strict)) [] input.now (W.contents out.old) (W.contents out.new)) }
+) -> Result<Recap, ProgramFault>
+    ensures { OnOk result (Writes (CommandChoice.Json (Objects.Room strict)) [] input.now (W.contents out.old) (W.contents out.new)) }
 {
     let (topology, script) = parts(input)?;
     let totals = emulate_objects(

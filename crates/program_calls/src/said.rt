@@ -2,8 +2,8 @@
 ghost use Rattle.std.specs.Prelude.{◌<◌};
 
 use crate::explained::{explained, form_in, input_of};
-use crate::told::Told;
-use cli_words::{Asked, Choice, Objects, View};
+use crate::told::Recap;
+use cli_words::{Asked, CommandChoice, Objects, View};
 use expect_run::Tally;
 use explain_core::{counts, explain};
 use program_captures::{Signs, name_lost, write_hints};
@@ -20,9 +20,9 @@ fn counts_of(alloc: Global, totals: &Totals) -> Result<String, AllocError> {
 }
 
 // Where more of a test is to be seen.
-fn more_of(choice: Choice) -> &'static str {
+fn more_of(choice: CommandChoice) -> &'static str {
     match choice {
-        Choice::CheckCapture { .. } | Choice::Json(Objects::CaptureTest { .. }) => {
+        CommandChoice::CheckCapture { .. } | CommandChoice::Json(Objects::CaptureTest { .. }) => {
             "`hdminet mon --from-start` prints the readings of the capture"
         }
         _ => "with --trace the trace of the run follows the report",
@@ -30,7 +30,7 @@ fn more_of(choice: Choice) -> &'static str {
 }
 
 // The line of a report whose tests did not all hold, for `--explain`.
-fn tests_of(alloc: Global, choice: Choice, tally: Tally) -> Result<String, AllocError> {
+fn tests_of(alloc: Global, choice: CommandChoice, tally: Tally) -> Result<String, AllocError> {
     format!(in alloc;
         "  tests {}, failed tests {}; {}\n",
         tally.count,
@@ -41,9 +41,9 @@ fn tests_of(alloc: Global, choice: Choice, tally: Tally) -> Result<String, Alloc
 
 // What the rules ask that an EDID breaks, where they are asked for.
 #[inline(never)]
-fn rules_of(alloc: Global, choice: Choice, input: &[u8]) -> Result<String, AllocError> {
+fn rules_of(alloc: Global, choice: CommandChoice, input: &[u8]) -> Result<String, AllocError> {
     match choice {
-        Choice::Edid {
+        CommandChoice::Edid {
             source,
             reading,
             view: View::Findings(place),
@@ -55,13 +55,13 @@ fn rules_of(alloc: Global, choice: Choice, input: &[u8]) -> Result<String, Alloc
 // Why an EDID has no HDMI block, where that is the fault.
 fn lack_of(
     alloc: Global,
-    choice: Choice,
+    choice: CommandChoice,
     fault: &ProgramFault,
     input: &[u8],
 ) -> Result<String, AllocError> {
     match (choice, fault) {
         (
-            Choice::Edid {
+            CommandChoice::Edid {
                 source,
                 reading,
                 ..
@@ -83,7 +83,7 @@ fn stretches_of(alloc: Global) -> Result<String, AllocError> {
 // What would be right in place of a fault, and why an EDID has no HDMI block where that is the fault.
 fn explanation_of(
     alloc: Global,
-    choice: Choice,
+    choice: CommandChoice,
     fault: &ProgramFault,
     input: &[u8],
 ) -> Result<String, AllocError> {
@@ -99,7 +99,7 @@ fn explanation_of(
 #[inline(never)]
 fn explanation(
     alloc: Global,
-    choice: Choice,
+    choice: CommandChoice,
     fault: &ProgramFault,
     input: &[u8],
 ) -> Result<String, AllocError> {
@@ -122,12 +122,12 @@ fn add_help<E: Sink>(text: Result<String, AllocError>, err: &mut E) {
 }
 
 // Names the lines of a capture before which events were lost.
-fn name_lost_of<E: Sink>(alloc: Global, choice: Choice, input: &[u8], err: &mut E) {
+fn name_lost_of<E: Sink>(alloc: Global, choice: CommandChoice, input: &[u8], err: &mut E) {
     match choice {
-        Choice::Mon { form, .. } | Choice::Json(Objects::Capture { form, .. }) => {
+        CommandChoice::Mon { form, .. } | CommandChoice::Json(Objects::Capture { form, .. }) => {
             name_lost(alloc, form, input, err);
         }
-        Choice::CheckCapture { form, .. } | Choice::Json(Objects::CaptureTest { form, .. }) => {
+        CommandChoice::CheckCapture { form, .. } | CommandChoice::Json(Objects::CaptureTest { form, .. }) => {
             if let Ok((_, taken)) = capture_parts(input) {
                 name_lost(alloc, form, taken, err);
             }
@@ -139,7 +139,7 @@ fn name_lost_of<E: Sink>(alloc: Global, choice: Choice, input: &[u8], err: &mut 
 // Names them where a test of the capture failed.
 fn name_lost_by<E: Sink>(
     alloc: Global,
-    choice: Choice,
+    choice: CommandChoice,
     fault: &ProgramFault,
     input: &[u8],
     err: &mut E,
@@ -169,15 +169,15 @@ pub fn report<E: Sink>(
 }
 
 // Says what may have to be asked for otherwise of a capture.
-fn hint<E: Sink>(alloc: Global, choice: Choice, signs: Signs, input: &[u8], err: &mut E) {
+fn hint<E: Sink>(alloc: Global, choice: CommandChoice, signs: Signs, input: &[u8], err: &mut E) {
     match choice {
-        Choice::Mon {
+        CommandChoice::Mon {
             glitch,
             margin,
             inverted,
             ..
         }
-        | Choice::Json(
+        | CommandChoice::Json(
             Objects::Capture {
                 glitch,
                 margin,
@@ -194,17 +194,17 @@ fn hint<E: Sink>(alloc: Global, choice: Choice, signs: Signs, input: &[u8], err:
 
 /// Writes what there is to say besides of what was done: events that a capture lost, what may have to be asked for otherwise of
 /// it, and with `--explain` the counts of a run and what the rules ask that an EDID breaks.
-pub fn remark<E: Sink>(alloc: Global, asked: Asked, told: Told, input: &[u8], err: &mut E) {
+pub fn remark<E: Sink>(alloc: Global, asked: Asked, told: Recap, input: &[u8], err: &mut E) {
     name_lost_of(alloc, asked.choice, input, err);
     name_read(alloc, asked.choice, input, err);
     match told {
-        Told::Run(totals) => {
+        Recap::Run(totals) => {
             if asked.explains {
                 add_help(counts_of(alloc, &totals), err);
             }
         }
-        Told::Capture(signs) => hint(alloc, asked.choice, signs, input, err),
-        Told::Nothing => {
+        Recap::Capture(signs) => hint(alloc, asked.choice, signs, input, err),
+        Recap::Nothing => {
             if asked.explains {
                 add_help(rules_of(alloc, asked.choice, input), err);
             }

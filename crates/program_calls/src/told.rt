@@ -4,7 +4,7 @@ use room_run::Totals;
 
 /// What there is to say of what was done.
 #[derive(Clone, Copy, Debug)]
-pub enum Told {
+pub enum Recap {
     /// The counts of a run.
     Run(Totals),
     /// What a capture looks like.

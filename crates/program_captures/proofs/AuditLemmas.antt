@@ -6,7 +6,7 @@ use Rattle.audit_lines.specs.Kinds.{has_remark}
 use Rattle.line_reading.specs.Readings.{Listed}
 use Rattle.capture_core.specs.Edges.{Captured}
 use Rattle.text_core.specs.Lines.{lines_of}
-use Rattle.cli_words.specs.declared.choice.Report.TheVariants.{Audit}
+use Rattle.cli_words.specs.declared.choice.CaptureReport.TheVariants.{Audit}
 use Rattle.program_captures.specs.Captures.{Reports}
 
 pub never : false ≡ true → ⊥

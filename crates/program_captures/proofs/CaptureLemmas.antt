@@ -10,7 +10,7 @@ use Rattle.program_captures.specs.Following.{FollowsTo, StopsSo, fault_of, form_
 use Rattle.follow_core.specs.declared.error.FollowError.{FollowError}
 use Rattle.follow_core.specs.declared.lines.LineForm.{LineForm as FollowedForm}
 use Rattle.program_faults.specs.declared.fault.ProgramFault.{ProgramFault}
-use Rattle.cli_words.specs.declared.choice.LineForm.{LineForm}
+use Rattle.cli_words.specs.declared.choice.FollowForm.{FollowForm}
 use Rattle.std.specs.Io.KnownBytes.{Appends, append_known}
 use Rattle.program_captures.specs.Captures.{readings_at}
 use Rattle.capture_core.specs.Edges.{Captured}
@@ -36,7 +36,7 @@ nothing_more None = refl
 nothing_more (Some xs) = ap Some (append-nil xs)
 
 -- all that was put is handed on
-pub follows_to : (form : LineForm) (name : List ℕ) (margin : ℕ) (windows : Windows) (known old below : Option (List ℕ)) (pending : List ℕ) → windows ≡ wider (min margin most_margin) → pending ≡ []
+pub follows_to : (form : FollowForm) (name : List ℕ) (margin : ℕ) (windows : Windows) (known old below : Option (List ℕ)) (pending : List ℕ) → windows ≡ wider (min margin most_margin) → pending ≡ []
     → HasFollowed (form_followed form) name windows known old (append_known below pending) → FollowsTo form name margin known old below
 follows_to form name margin windows known old below pending e none f = record {
   input = f.input;
@@ -47,7 +47,7 @@ follows_to form name margin windows known old below pending e none f = record {
 }
 
 -- or why it ends before
-pub stops_so : (form : LineForm) (name : List ℕ) (margin : ℕ) (followed : FollowedForm) (windows : Windows) (known old new : Option (List ℕ)) (before pending : List ℕ) (error : FollowError) (fault : ProgramFault) → windows ≡ wider (min margin most_margin)
+pub stops_so : (form : FollowForm) (name : List ℕ) (margin : ℕ) (followed : FollowedForm) (windows : Windows) (known old new : Option (List ℕ)) (before pending : List ℕ) (error : FollowError) (fault : ProgramFault) → windows ≡ wider (min margin most_margin)
     → followed ≡ form_followed form → fault ≡ fault_of error → Stops followed name windows known old new error → (before ≡ [] → IsHandedOn error pending)
     → StopsSo form name margin known old new before pending fault
 stops_so form name margin followed windows known old new before pending error fault e is cause stops handed = record {

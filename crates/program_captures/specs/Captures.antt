@@ -6,8 +6,8 @@ use Rattle.audit_lines.specs.Kinds.{has_remark}
 use Rattle.audit_fold.specs.Folded.{folded}
 use Rattle.capture_forms.specs.Captures.{capture_in}
 use Rattle.capture_forms.specs.Forms.{form_of as line_form}
-use Rattle.capture_forms.specs.declared.form.Form.{Form as CaptureForm}
-use Rattle.capture_forms.specs.declared.form.Form.TheVariants as forms
+use Rattle.capture_forms.specs.declared.form.CaptureForm.{CaptureForm}
+use Rattle.capture_forms.specs.declared.form.CaptureForm.TheVariants as forms
 use Rattle.line_reading.specs.Readings.{Listed}
 use Rattle.line_reading.specs.Windows.{most_margin, wider}
 use Rattle.capture_invert.specs.Inverted.{inverted_edges}
@@ -19,8 +19,8 @@ use Rattle.text_core.specs.Lines.{lines_of}
 use Rattle.capture_smooth.specs.Smooth.{smooth_edges}
 use Rattle.cli_words.specs.declared.choice.Form.{Form}
 use Rattle.cli_words.specs.declared.choice.Form.TheVariants.{Edges, Vcd, Pin, Csv}
-use Rattle.cli_words.specs.declared.choice.Report.{Report}
-use Rattle.cli_words.specs.declared.choice.Report.TheVariants.{Readings, FromIdle, Audit}
+use Rattle.cli_words.specs.declared.choice.CaptureReport.{CaptureReport}
+use Rattle.cli_words.specs.declared.choice.CaptureReport.TheVariants.{Readings, FromIdle, Audit}
 
 -- the form of a capture: what is asked for, or else what its first line reports
 abbrev pub form_of : Option Form → List ℕ → CaptureForm
@@ -32,7 +32,7 @@ form_of (Some Csv) input = forms.Csv
 
 -- What is written of it: what is asked for, or else of an edge file its readings, and of a capture of another tool those from
 -- where the line was first idle.
-abbrev pub report_of : Option Report → CaptureForm → Report
+abbrev pub report_of : Option CaptureReport → CaptureForm → CaptureReport
 report_of (Some report) form = report
 report_of None forms.Edges = Readings
 report_of None forms.Vcd = FromIdle
@@ -64,31 +64,31 @@ readings_at zero c = file_readings (as_file c)
 readings_at (suc n) c = captured_by (wider (min (suc n) most_margin)) c
 
 -- this text is a report of a capture with these readings; that of a strict audit has no remark
-abbrev pub IsReport : Report → Captured → List Listed → List ℕ → Type 0
+abbrev pub IsReport : CaptureReport → Captured → List Listed → List ℕ → Type 0
 IsReport Readings c xs text = text ≡ readings_text xs
 IsReport FromIdle c xs text = (t : ℕ) × IsJoined (line_of_edges c.edges) c.end t × (text ≡ joined_text t false xs)
 IsReport (Audit timing strict) c xs text = (text ≡ audit_text_of timing c xs) × (strict ≡ true → has_remark (lines_of text) ≡ false)
 
 -- it is written, and nothing else
-abbrev pub Reports : Report → Captured → List Listed → Option (List ℕ) → Option (List ℕ) → Type 0
+abbrev pub Reports : CaptureReport → Captured → List Listed → Option (List ℕ) → Option (List ℕ) → Type 0
 Reports report c xs old new = (text : List ℕ) × IsReport report c xs text × Appends old new text
 
 -- the report of the capture that an input gives, by its form and the name of its wire, with a margin
-abbrev pub IsHeard : CaptureForm → List ℕ → Bool → ℕ → ℕ → Report → List ℕ → List ℕ → Type 0
+abbrev pub IsHeard : CaptureForm → List ℕ → Bool → ℕ → ℕ → CaptureReport → List ℕ → List ℕ → Type 0
 IsHeard form name inverted glitch margin report input text =
     (c : Captured)
     × (capture_in form name input ≡ Ok c)
     × IsReport report (without_short glitch (turned_by inverted c)) (readings_at margin (without_short glitch (turned_by inverted c))) text
 
 -- the same as it stands, or with bad starts one after another as one line
-abbrev pub IsShown : Bool → CaptureForm → List ℕ → Bool → ℕ → ℕ → Report → List ℕ → List ℕ → Type 0
+abbrev pub IsShown : Bool → CaptureForm → List ℕ → Bool → ℕ → ℕ → CaptureReport → List ℕ → List ℕ → Type 0
 IsShown false form name inverted glitch margin report input text = IsHeard form name inverted glitch margin report input text
 IsShown true form name inverted glitch margin report input text =
     (lines : List ℕ) × IsHeard form name inverted glitch margin report input lines × (text ≡ folded (lines_of lines))
 
 -- is written, and nothing else
-abbrev pub Heard : CaptureForm → List ℕ → Bool → ℕ → ℕ → Report → List ℕ → Option (List ℕ) → Option (List ℕ) → Type 0
+abbrev pub Heard : CaptureForm → List ℕ → Bool → ℕ → ℕ → CaptureReport → List ℕ → Option (List ℕ) → Option (List ℕ) → Type 0
 Heard form name inverted glitch margin report input old new = (text : List ℕ) × IsHeard form name inverted glitch margin report input text × Appends old new text
 
-abbrev pub Shown : Bool → CaptureForm → List ℕ → Bool → ℕ → ℕ → Report → List ℕ → Option (List ℕ) → Option (List ℕ) → Type 0
+abbrev pub Shown : Bool → CaptureForm → List ℕ → Bool → ℕ → ℕ → CaptureReport → List ℕ → Option (List ℕ) → Option (List ℕ) → Type 0
 Shown folding form name inverted glitch margin report input old new = (text : List ℕ) × IsShown folding form name inverted glitch margin report input text × Appends old new text

@@ -12,21 +12,21 @@ use Rattle.program_faults.specs.declared.fault.ProgramFault.TheVariants as fault
 use Rattle.follow_core.specs.declared.lines.LineForm.{LineForm as FollowedForm}
 use Rattle.follow_core.specs.declared.lines.LineForm.TheVariants as forms
 use Rattle.program_captures.specs.Captures.{IsHeard}
-use Rattle.cli_words.specs.declared.choice.LineForm.{LineForm}
-use Rattle.cli_words.specs.declared.choice.LineForm.TheVariants.{Edges, Pin, Csv}
-use Rattle.cli_words.specs.declared.choice.Report.TheVariants.{Readings}
+use Rattle.cli_words.specs.declared.choice.FollowForm.{FollowForm}
+use Rattle.cli_words.specs.declared.choice.FollowForm.TheVariants.{Edges, Pin, Csv}
+use Rattle.cli_words.specs.declared.choice.CaptureReport.TheVariants.{Readings}
 
-abbrev pub form_followed : LineForm → FollowedForm
+abbrev pub form_followed : FollowForm → FollowedForm
 form_followed Edges = forms.Edges
 form_followed Pin = forms.Pin
 form_followed Csv = forms.Csv
 
 -- this text has the readings of the capture that an input gives, each of them, as of the whole
-abbrev pub IsReported : LineForm → ℕ → List ℕ → List ℕ → List ℕ → Type 0
+abbrev pub IsReported : FollowForm → ℕ → List ℕ → List ℕ → List ℕ → Type 0
 IsReported form margin name input text = IsHeard (form_as (form_followed form)) name false 0 margin Readings input text
 
 -- that of all that there was to read is written, and nothing else
-pub record FollowsTo (form : LineForm) (name : List ℕ) (margin : ℕ) (known old new : Option (List ℕ)) : Type 0 where
+pub record FollowsTo (form : FollowForm) (name : List ℕ) (margin : ℕ) (known old new : Option (List ℕ)) : Type 0 where
   pub input : List ℕ
   pub all : IfSome known (λ text. input ≡ text)
   pub text : List ℕ
@@ -42,7 +42,7 @@ fault_of (error.Write count) = faults.Write (record { count = count })
 
 -- What is over by the lines that came is written and handed on, and nothing else; where a write failed, a front of what the last of
 -- them ends is written.
-pub record StopsSo (form : LineForm) (name : List ℕ) (margin : ℕ) (known old new : Option (List ℕ)) (before pending : List ℕ) (fault : ProgramFault) : Type 0 where
+pub record StopsSo (form : FollowForm) (name : List ℕ) (margin : ℕ) (known old new : Option (List ℕ)) (before pending : List ℕ) (fault : ProgramFault) : Type 0 where
   pub error : FollowError
   pub cause : fault ≡ fault_of error
   pub stops : Stops (form_followed form) name (wider (min margin most_margin)) known old new error

@@ -15,12 +15,12 @@ use audit_core::{AuditOptions, audit_capture_by};
 use audit_fold::fold;
 use audit_lines::has_remark;
 use capture_core::Capture;
-use capture_forms::{Form as CaptureForm, read_capture};
+use capture_forms::{CaptureForm, read_capture};
 use capture_invert::invert;
 use capture_monitor::{watch_capture_by, watch_from_idle_by};
 use capture_pin::lost_lines;
 use capture_smooth::smooth_edges;
-use cli_words::{Form, Report};
+use cli_words::{Form, CaptureReport};
 use json_trace::Held;
 use line_reading::{MOST_MARGIN, Windows};
 use program_faults::ProgramFault;
@@ -42,14 +42,14 @@ pub fn form_of(form: Option<Form>, input: &[u8]) -> CaptureForm
 }
 
 // What is written of a capture: what is asked for, or else what its form has.
-fn report_of(report: Option<Report>, form: CaptureForm) -> Report
+fn report_of(report: Option<CaptureReport>, form: CaptureForm) -> CaptureReport
     ensures { result ≡ report_of report form }
 {
     match report {
         Some(report) => report,
         None => match form {
-            CaptureForm::Edges => Report::Readings,
-            CaptureForm::Vcd | CaptureForm::Pin | CaptureForm::Csv => Report::FromIdle,
+            CaptureForm::Edges => CaptureReport::Readings,
+            CaptureForm::Vcd | CaptureForm::Pin | CaptureForm::Csv => CaptureReport::FromIdle,
         },
     }
 }
@@ -91,7 +91,7 @@ fn write_readings<W: Sink>(
     out: &mut W,
 ) -> Result<(), ProgramFault>
     requires { AreWindows windows }
-    ensures { OnOk result (Reports Report.Readings capture.now (captured_by windows capture.now) (W.contents out.old) (W.contents out.new)) }
+    ensures { OnOk result (Reports CaptureReport.Readings capture.now (captured_by windows capture.now) (W.contents out.old) (W.contents out.new)) }
 {
     Ok(watch_capture_by(capture, windows, out)?)
 }
@@ -102,7 +102,7 @@ fn write_from_idle<W: Sink>(
     out: &mut W,
 ) -> Result<(), ProgramFault>
     requires { AreWindows windows }
-    ensures { OnOk result (Reports Report.FromIdle capture.now (captured_by windows capture.now) (W.contents out.old) (W.contents out.new)) }
+    ensures { OnOk result (Reports CaptureReport.FromIdle capture.now (captured_by windows capture.now) (W.contents out.old) (W.contents out.new)) }
 {
     Ok(watch_from_idle_by(capture, windows, out)?)
 }
@@ -114,7 +114,7 @@ fn write_audit<W: Sink>(
     out: &mut W,
 ) -> Result<(), ProgramFault>
     requires { AreWindows windows }
-    ensures { OnOk result (Reports (Report.Audit timing false) capture.now (captured_by windows capture.now) (W.contents out.old) (W.contents out.new)) }
+    ensures { OnOk result (Reports (CaptureReport.Audit timing false) capture.now (captured_by windows capture.now) (W.contents out.old) (W.contents out.new)) }
 {
     Ok(audit_capture_by(capture, windows, AuditOptions { timing }, out)?)
 }
@@ -155,7 +155,7 @@ fn write_strict_audit<W: Sink>(
     out: &mut W,
 ) -> Result<(), ProgramFault>
     requires { AreWindows windows }
-    ensures { OnOk result (Reports (Report.Audit timing true) capture.now (captured_by windows capture.now) (W.contents out.old) (W.contents out.new)) }
+    ensures { OnOk result (Reports (CaptureReport.Audit timing true) capture.now (captured_by windows capture.now) (W.contents out.old) (W.contents out.new)) }
 {
     let held = held_audit(alloc, capture, windows, timing)?;
     let text = held.bytes();
@@ -172,7 +172,7 @@ fn write_any_audit<W: Sink>(
     out: &mut W,
 ) -> Result<(), ProgramFault>
     requires { AreWindows windows }
-    ensures { OnOk result (Reports (Report.Audit timing strict) capture.now (captured_by windows capture.now) (W.contents out.old) (W.contents out.new)) }
+    ensures { OnOk result (Reports (CaptureReport.Audit timing strict) capture.now (captured_by windows capture.now) (W.contents out.old) (W.contents out.new)) }
 {
     if strict {
         write_strict_audit(alloc, capture, windows, timing, out)
@@ -186,16 +186,16 @@ fn write_report<W: Sink>(
     alloc: Global,
     capture: &Capture,
     windows: Windows,
-    report: Report,
+    report: CaptureReport,
     out: &mut W,
 ) -> Result<(), ProgramFault>
     requires { AreWindows windows }
     ensures { OnOk result (Reports report capture.now (captured_by windows capture.now) (W.contents out.old) (W.contents out.new)) }
 {
     match report {
-        Report::Readings => write_readings(capture, windows, out),
-        Report::FromIdle => write_from_idle(capture, windows, out),
-        Report::Audit { timing, strict } => write_any_audit(
+        CaptureReport::Readings => write_readings(capture, windows, out),
+        CaptureReport::FromIdle => write_from_idle(capture, windows, out),
+        CaptureReport::Audit { timing, strict } => write_any_audit(
             alloc, capture, windows, timing, strict, out,
         ),
     }
@@ -221,7 +221,7 @@ fn listen<W: Sink>(
     inverted: bool,
     glitch: u64,
     margin: u64,
-    report: Report,
+    report: CaptureReport,
     input: &[u8],
     out: &mut W,
 ) -> Result<Signs, ProgramFault>
@@ -244,7 +244,7 @@ pub fn monitor<W: Sink>(
     inverted: bool,
     glitch: u64,
     margin: u64,
-    report: Option<Report>,
+    report: Option<CaptureReport>,
     input: &[u8],
     out: &mut W,
 ) -> Result<Signs, ProgramFault>
@@ -275,7 +275,7 @@ fn show_folded<W: Sink>(
     inverted: bool,
     glitch: u64,
     margin: u64,
-    report: Option<Report>,
+    report: Option<CaptureReport>,
     input: &[u8],
     out: &mut W,
 ) -> Result<Signs, ProgramFault>
@@ -301,7 +301,7 @@ pub fn show<W: Sink>(
     inverted: bool,
     glitch: u64,
     margin: u64,
-    report: Option<Report>,
+    report: Option<CaptureReport>,
     input: &[u8],
     out: &mut W,
 ) -> Result<Signs, ProgramFault>

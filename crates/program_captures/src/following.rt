@@ -5,20 +5,20 @@ ghost use Rattle.program_captures.specs.Following.{FollowsTo, StopsSo, form_foll
 
 use crate::capture::within_most;
 use capture_forms::CaptureError;
-use cli_words::LineForm;
+use cli_words::FollowForm;
 use follow_core::{FollowError, LineForm as FollowedForm, follow};
 use line_reading::Windows;
 use program_faults::ProgramFault;
 use std::io::Read;
 use text_core::{Buffered, Sink, WriteFault};
 
-fn form_followed(form: LineForm) -> FollowedForm
+fn form_followed(form: FollowForm) -> FollowedForm
     ensures { result ≡ form_followed form }
 {
     match form {
-        LineForm::Edges => FollowedForm::Edges,
-        LineForm::Pin => FollowedForm::Pin,
-        LineForm::Csv => FollowedForm::Csv,
+        FollowForm::Edges => FollowedForm::Edges,
+        FollowForm::Pin => FollowedForm::Pin,
+        FollowForm::Csv => FollowedForm::Csv,
     }
 }
 
@@ -37,7 +37,7 @@ fn fault_of(error: FollowError) -> ProgramFault
 /// that is empty, as windows read it that are `margin` wider at either side, 300 at most, and hands it on before the next line is
 /// read. Where a line is at fault, what is over by the lines before it is written and handed on.
 pub fn follow_capture<R: Read, W: Sink>(
-    form: LineForm,
+    form: FollowForm,
     signal: &[u8],
     margin: u64,
     input: &mut R,

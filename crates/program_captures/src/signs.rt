@@ -4,7 +4,7 @@ ghost use Rattle.line_reading.specs.Windows.{most_margin};
 
 use arrayvec::ArrayString;
 use capture_core::Capture;
-use capture_forms::Form;
+use capture_forms::CaptureForm;
 use capture_monitor::watch_capture_by;
 use json_trace::{after_byte, after_word, word};
 use line_reading::{STANDARD, Windows};
@@ -261,16 +261,16 @@ fn column_names(alloc: Global, input: &[u8]) -> Result<(Vec<u8>, u64), AllocErro
 }
 
 // The names of the wires of a capture, and how many there are.
-fn names_in(alloc: Global, form: Form, input: &[u8]) -> Result<(Vec<u8>, u64), AllocError> {
+fn names_in(alloc: Global, form: CaptureForm, input: &[u8]) -> Result<(Vec<u8>, u64), AllocError> {
     match form {
-        Form::Vcd => dump_names(alloc, input),
-        Form::Csv => column_names(alloc, input),
-        Form::Edges | Form::Pin => Ok((Vec::new(alloc), 0)),
+        CaptureForm::Vcd => dump_names(alloc, input),
+        CaptureForm::Csv => column_names(alloc, input),
+        CaptureForm::Edges | CaptureForm::Pin => Ok((Vec::new(alloc), 0)),
     }
 }
 
 /// Whether a capture has several wires.
-pub fn has_several(alloc: Global, form: Form, input: &[u8]) -> bool {
+pub fn has_several(alloc: Global, form: CaptureForm, input: &[u8]) -> bool {
     match names_in(alloc, form, input) {
         Ok((_, count)) => count > 1,
         Err(AllocError) => false,
@@ -289,7 +289,7 @@ fn lack_of(has_edge: bool) -> &'static str {
 }
 
 // Names the wires of a capture of which the first was read.
-fn name_wires<E: Sink>(alloc: Global, form: Form, signs: Signs, input: &[u8], err: &mut E) {
+fn name_wires<E: Sink>(alloc: Global, form: CaptureForm, signs: Signs, input: &[u8], err: &mut E) {
     let Ok((names, _)) = names_in(alloc, form, input) else {
         return;
     };
@@ -335,7 +335,7 @@ fn name_low<E: Sink>(inverted: bool, err: &mut E) {
 /// where neither was given, `--glitch` and `--margin`.
 pub fn write_hints<E: Sink>(
     alloc: Global,
-    form: Form,
+    form: CaptureForm,
     inverted: bool,
     glitch: u64,
     margin: u64,

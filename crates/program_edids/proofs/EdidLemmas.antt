@@ -5,8 +5,8 @@ use Rattle.edid_core.specs.Bytes.{edid_bytes}
 use Rattle.edid_core.specs.declared.edid.Edid.{Edid}
 use Rattle.conversion_calls.specs.Passing.{IsPassedOn}
 use Rattle.conversion_calls.specs.declared.passing.Passing.{Passing}
-use Rattle.cli_words.specs.declared.choice.Reading.{Reading}
-use Rattle.cli_words.specs.declared.choice.Shape.TheVariants as shapes
+use Rattle.cli_words.specs.declared.choice.EdidReading.{EdidReading}
+use Rattle.cli_words.specs.declared.choice.EdidShape.TheVariants as shapes
 use Rattle.cli_words.specs.declared.choice.Source.{Source}
 use Rattle.cli_words.specs.declared.choice.View.{View}
 use Rattle.program_edids.specs.Edids.{IsRead, Made, ShowsAs, ShowsPassed, kept_count}
@@ -19,6 +19,6 @@ pub passed_held : (passing : Passing) (bytes held : List ℕ) (old new : Option 
     → (e : Edid) × IsPassedOn bytes passing e × (held ≡ edid_bytes e)
 passed_held passing bytes held old new shown e f = (shown.1.0, shown.1.1, all_held old new held shown.0 e f shown.2 ∙ shown.1.2)
 
-pub made_of : (source : Source) (reading : Reading) (view : View) (input given : List ℕ) (old new : Option (List ℕ)) → IsRead source input given
+pub made_of : (source : Source) (reading : EdidReading) (view : View) (input given : List ℕ) (old new : Option (List ℕ)) → IsRead source input given
     → ShowsAs reading (kept_count source given) view given old new → Made source reading view input old new
 made_of source reading view input given old new read shown = (shown.0, (given, read, shown.1), shown.2)

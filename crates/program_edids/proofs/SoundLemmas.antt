@@ -13,7 +13,7 @@ use Rattle.edid_merge.specs.declared.table.Table.{Table}
 use Rattle.edid_as_source.specs.Count.{balance, with_count}
 use Rattle.cli_words.specs.declared.choice.Recipient.{Recipient}
 use Rattle.cli_words.specs.declared.choice.Recipient.TheVariants.{Port}
-use Rattle.cli_words.specs.declared.choice.Shape.{Shape}
+use Rattle.cli_words.specs.declared.choice.EdidShape.{EdidShape}
 use Rattle.cli_words.specs.declared.choice.Sound.TheVariants.{Spoken}
 use Rattle.cli_words.specs.declared.choice.Source.TheVariants.{Pair}
 use Rattle.cli_words.specs.declared.choice.View.TheVariants.{Whole, Findings}
@@ -29,7 +29,7 @@ pub spoken_given : (port : ℕ) (bytes given : List ℕ) → IsSpokenIn port byt
 spoken_given port bytes given (p, passed, spoken) =
     (spoken.1, (p, passed, subst (λ (b : List ℕ). IsSpoken (edid_bytes p) b) (sym spoken.4) spoken), sym spoken.4)
 
-pub spoken_whole : (port : ℕ) (shape : Shape) (bytes given : List ℕ) (old new : Option (List ℕ)) → IsSpokenIn port bytes given → Shows (Whole to.Own shape) given old new
+pub spoken_whole : (port : ℕ) (shape : EdidShape) (bytes given : List ℕ) (old new : Option (List ℕ)) → IsSpokenIn port bytes given → Shows (Whole to.Own shape) given old new
     → Shows (Whole (Port port Spoken) shape) bytes old new
 spoken_whole port shape bytes given old new (p, passed, spoken) (text, (e, spelled, shown), appended) =
     (text, (e, (p, passed, subst (λ (b : List ℕ). IsSpoken (edid_bytes p) b) (sym spelled) spoken), shown), appended)

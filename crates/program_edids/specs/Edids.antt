@@ -30,12 +30,12 @@ use Rattle.edid_merge.specs.Speakers.{IsSpoken}
 use Rattle.edid_as_source.specs.Count.{counted, first_count, with_count}
 use Rattle.edid_as_source.specs.Source.{as_source}
 use Rattle.edid_spelling.specs.Canonical.{canonical_text}
-use Rattle.cli_words.specs.declared.choice.Reading.{Reading}
-use Rattle.cli_words.specs.declared.choice.Reading.TheVariants.{Strict, Overridden, AsSource}
+use Rattle.cli_words.specs.declared.choice.EdidReading.{EdidReading}
+use Rattle.cli_words.specs.declared.choice.EdidReading.TheVariants.{Strict, Overridden, AsSource}
 use Rattle.cli_words.specs.declared.choice.Recipient.{Recipient}
 use Rattle.cli_words.specs.declared.choice.Recipient.TheVariants.{Own, At, Port}
-use Rattle.cli_words.specs.declared.choice.Shape.{Shape}
-use Rattle.cli_words.specs.declared.choice.Shape.TheVariants as shapes
+use Rattle.cli_words.specs.declared.choice.EdidShape.{EdidShape}
+use Rattle.cli_words.specs.declared.choice.EdidShape.TheVariants as shapes
 use Rattle.cli_words.specs.declared.choice.Sound.{Sound}
 use Rattle.cli_words.specs.declared.choice.Sound.TheVariants.{Kept, Amplified, Spoken}
 use Rattle.cli_words.specs.declared.choice.Source.{Source}
@@ -43,7 +43,7 @@ use Rattle.cli_words.specs.declared.choice.Source.TheVariants as sources
 use Rattle.cli_words.specs.declared.choice.View.{View}
 use Rattle.cli_words.specs.declared.choice.View.TheVariants.{Whole, Meaning, Findings, Address, Readout}
 
-abbrev pub form_of : Shape → Form
+abbrev pub form_of : EdidShape → Form
 form_of shapes.Text = forms.Text
 form_of shapes.Hex = forms.Hex
 form_of shapes.Bytes = forms.Bytes
@@ -140,13 +140,13 @@ IsShownCounted count (Findings place) bytes text = (given : List ℕ) × IsGiven
 IsShownCounted count (Address place) bytes text = IsShown (Address place) bytes text
 
 -- A view of the bytes that an input gives, as they are read.
-abbrev pub IsShownAs : Reading → ℕ → View → List ℕ → List ℕ → Type 0
+abbrev pub IsShownAs : EdidReading → ℕ → View → List ℕ → List ℕ → Type 0
 IsShownAs Strict count view given text = IsShown view given text
 IsShownAs Overridden count view given text = (bytes : List ℕ) × (counted given ≡ Ok bytes) × IsShownCounted count view bytes text
 IsShownAs AsSource count view given text = (bytes : List ℕ) × (as_source given ≡ Ok bytes) × IsShown view bytes text
 
 -- what is passed on is written, and nothing else; and the rules that it breaks
-abbrev pub ShowsPassed : Passing → Shape → List ℕ → Option (List ℕ) → Option (List ℕ) → Type 0
+abbrev pub ShowsPassed : Passing → EdidShape → List ℕ → Option (List ℕ) → Option (List ℕ) → Type 0
 ShowsPassed passing shape bytes old new = (text : List ℕ) × ((e : Edid) × IsPassedOn bytes passing e × (text ≡ form_text (form_of shape) e)) × Appends old new text
 
 abbrev pub ShowsRules : Passing → List ℕ → Option (List ℕ) → Option (List ℕ) → Type 0
@@ -187,12 +187,12 @@ Shows view bytes old new = (text : List ℕ) × IsShown view bytes text × Appen
 abbrev pub ShowsCounted : ℕ → View → List ℕ → Option (List ℕ) → Option (List ℕ) → Type 0
 ShowsCounted count view bytes old new = (text : List ℕ) × IsShownCounted count view bytes text × Appends old new text
 
-abbrev pub ShowsAs : Reading → ℕ → View → List ℕ → Option (List ℕ) → Option (List ℕ) → Type 0
+abbrev pub ShowsAs : EdidReading → ℕ → View → List ℕ → Option (List ℕ) → Option (List ℕ) → Type 0
 ShowsAs reading count view given old new = (text : List ℕ) × IsShownAs reading count view given text × Appends old new text
 
 -- of what an input gives
-abbrev pub IsMade : Source → Reading → View → List ℕ → List ℕ → Type 0
+abbrev pub IsMade : Source → EdidReading → View → List ℕ → List ℕ → Type 0
 IsMade source reading view input text = (given : List ℕ) × IsRead source input given × IsShownAs reading (kept_count source given) view given text
 
-abbrev pub Made : Source → Reading → View → List ℕ → Option (List ℕ) → Option (List ℕ) → Type 0
+abbrev pub Made : Source → EdidReading → View → List ℕ → Option (List ℕ) → Option (List ℕ) → Type 0
 Made source reading view input old new = (text : List ℕ) × IsMade source reading view input text × Appends old new text

@@ -12,7 +12,7 @@ ghost use Rattle.conversion_calls.specs.Form.{hex_line};
 use crate::edid_given::{given_of, kept_count};
 use crate::edid_judged::{unless_failed, write_counted_rules, write_own_rules};
 use arrayvec::ArrayVec;
-use cli_words::{Reading, Recipient, Shape, Sound, Source, View};
+use cli_words::{EdidReading, Recipient, EdidShape, Sound, Source, View};
 use conversion_calls::{
     Destination as PassedTo, EdidToTextError, Form, Passing, check_passed_on, edid_to_findings,
     edid_to_text, write_address, write_passed_on,
@@ -33,13 +33,13 @@ const LEAST: usize = 128;
 
 const MOST: usize = 512;
 
-fn form_of(shape: Shape) -> Form
+fn form_of(shape: EdidShape) -> Form
     ensures { result ≡ form_of shape }
 {
     match shape {
-        Shape::Text => Form::Text,
-        Shape::Hex => Form::Hex,
-        Shape::Bytes => Form::Bytes,
+        EdidShape::Text => Form::Text,
+        EdidShape::Hex => Form::Hex,
+        EdidShape::Bytes => Form::Bytes,
     }
 }
 
@@ -91,33 +91,33 @@ fn write_hex_line<S: Sink>(bytes: &[u8], out: &mut S) -> Result<(), WriteFault>
 }
 
 fn write_as_text<W: Sink>(bytes: &[u8], out: &mut W) -> Result<(), ProgramFault>
-    ensures { OnOk result (Shows (View.Whole Recipient.Own Shape.Text) bytes.now (W.contents out.old) (W.contents out.new)) }
+    ensures { OnOk result (Shows (View.Whole Recipient.Own EdidShape.Text) bytes.now (W.contents out.old) (W.contents out.new)) }
 {
     Ok(edid_to_text(bytes, out)?)
 }
 
 fn write_as_hex<W: Sink>(bytes: &[u8], out: &mut W) -> Result<(), ProgramFault>
-    ensures { OnOk result (Shows (View.Whole Recipient.Own Shape.Hex) bytes.now (W.contents out.old) (W.contents out.new)) }
+    ensures { OnOk result (Shows (View.Whole Recipient.Own EdidShape.Hex) bytes.now (W.contents out.old) (W.contents out.new)) }
 {
     is_edid(bytes)?;
     Ok(write_hex_line(bytes, out)?)
 }
 
 fn write_as_bytes<W: Sink>(bytes: &[u8], out: &mut W) -> Result<(), ProgramFault>
-    ensures { OnOk result (Shows (View.Whole Recipient.Own Shape.Bytes) bytes.now (W.contents out.old) (W.contents out.new)) }
+    ensures { OnOk result (Shows (View.Whole Recipient.Own EdidShape.Bytes) bytes.now (W.contents out.old) (W.contents out.new)) }
 {
     is_edid(bytes)?;
     Ok(put_all(out, bytes)?)
 }
 
 // Writes the EDID of some bytes.
-fn write_own<W: Sink>(bytes: &[u8], shape: Shape, out: &mut W) -> Result<(), ProgramFault>
+fn write_own<W: Sink>(bytes: &[u8], shape: EdidShape, out: &mut W) -> Result<(), ProgramFault>
     ensures { OnOk result (Shows (View.Whole Recipient.Own shape) bytes.now (W.contents out.old) (W.contents out.new)) }
 {
     match shape {
-        Shape::Text => write_as_text(bytes, out),
-        Shape::Hex => write_as_hex(bytes, out),
-        Shape::Bytes => write_as_bytes(bytes, out),
+        EdidShape::Text => write_as_text(bytes, out),
+        EdidShape::Hex => write_as_hex(bytes, out),
+        EdidShape::Bytes => write_as_bytes(bytes, out),
     }
 }
 
@@ -125,7 +125,7 @@ fn write_own<W: Sink>(bytes: &[u8], shape: Shape, out: &mut W) -> Result<(), Pro
 fn write_passed<W: Sink>(
     bytes: &[u8],
     passing: Passing,
-    shape: Shape,
+    shape: EdidShape,
     out: &mut W,
 ) -> Result<(), ProgramFault>
     ensures { OnOk result (ShowsPassed passing shape bytes.now (W.contents out.old) (W.contents out.new)) }
@@ -149,7 +149,7 @@ fn write_spoken<W: Sink>(
     alloc: Global,
     bytes: &[u8],
     port: u8,
-    shape: Shape,
+    shape: EdidShape,
     out: &mut W,
 ) -> Result<(), ProgramFault>
     ensures { OnOk result (Shows (View.Whole (Recipient.Port port Sound.Spoken) shape) bytes.now (W.contents out.old) (W.contents out.new)) }
@@ -164,7 +164,7 @@ fn write_in_port<W: Sink>(
     bytes: &[u8],
     port: u8,
     sound: Sound,
-    shape: Shape,
+    shape: EdidShape,
     out: &mut W,
 ) -> Result<(), ProgramFault>
     ensures { OnOk result (Shows (View.Whole (Recipient.Port port sound) shape) bytes.now (W.contents out.old) (W.contents out.new)) }
@@ -181,7 +181,7 @@ fn write_whole<W: Sink>(
     alloc: Global,
     bytes: &[u8],
     place: Recipient,
-    shape: Shape,
+    shape: EdidShape,
     out: &mut W,
 ) -> Result<(), ProgramFault>
     ensures { OnOk result (Shows (View.Whole place shape) bytes.now (W.contents out.old) (W.contents out.new)) }
@@ -260,7 +260,7 @@ fn passed_bytes(alloc: Global, passing: Passing, bytes: &[u8]) -> Result<Vec<u8>
     ensures { IfOk result (λ passed. (e : EdidValue) × IsPassedOn bytes.now passing e × (passed.items ≡ edid_bytes e)) }
 {
     let mut held = Held::new(alloc);
-    let done = write_passed(bytes, passing, Shape::Bytes, &mut held);
+    let done = write_passed(bytes, passing, EdidShape::Bytes, &mut held);
     if held.is_full() {
         return Err(ProgramFault::Memory(AllocError));
     }
@@ -392,7 +392,7 @@ fn write_counted_hex<W: Sink>(
     bytes: &[u8],
     out: &mut W,
 ) -> Result<(), ProgramFault>
-    ensures { OnOk result (ShowsCounted count (View.Whole place Shape.Hex) bytes.now (W.contents out.old) (W.contents out.new)) }
+    ensures { OnOk result (ShowsCounted count (View.Whole place EdidShape.Hex) bytes.now (W.contents out.old) (W.contents out.new)) }
 {
     let mended = recounted(alloc, count, place, bytes)?;
     Ok(write_hex_line(mended.as_slice(), out)?)
@@ -405,7 +405,7 @@ fn write_counted_bytes<W: Sink>(
     bytes: &[u8],
     out: &mut W,
 ) -> Result<(), ProgramFault>
-    ensures { OnOk result (ShowsCounted count (View.Whole place Shape.Bytes) bytes.now (W.contents out.old) (W.contents out.new)) }
+    ensures { OnOk result (ShowsCounted count (View.Whole place EdidShape.Bytes) bytes.now (W.contents out.old) (W.contents out.new)) }
 {
     let mended = recounted(alloc, count, place, bytes)?;
     Ok(put_all(out, mended.as_slice())?)
@@ -453,16 +453,16 @@ fn show_counted_whole<W: Sink>(
     alloc: Global,
     count: u8,
     place: Recipient,
-    shape: Shape,
+    shape: EdidShape,
     bytes: &[u8],
     out: &mut W,
 ) -> Result<(), ProgramFault>
     ensures { OnOk result (ShowsCounted count (View.Whole place shape) bytes.now (W.contents out.old) (W.contents out.new)) }
 {
     match shape {
-        Shape::Hex => write_counted_hex(alloc, count, place, bytes, out),
-        Shape::Bytes => write_counted_bytes(alloc, count, place, bytes, out),
-        Shape::Text => write_whole(alloc, bytes, place, Shape::Text, out),
+        EdidShape::Hex => write_counted_hex(alloc, count, place, bytes, out),
+        EdidShape::Bytes => write_counted_bytes(alloc, count, place, bytes, out),
+        EdidShape::Text => write_whole(alloc, bytes, place, EdidShape::Text, out),
     }
 }
 
@@ -493,7 +493,7 @@ fn show_overridden<W: Sink>(
     given: &[u8],
     out: &mut W,
 ) -> Result<(), ProgramFault>
-    ensures { OnOk result (ShowsAs Reading.Overridden count view given.now (W.contents out.old) (W.contents out.new)) }
+    ensures { OnOk result (ShowsAs EdidReading.Overridden count view given.now (W.contents out.old) (W.contents out.new)) }
 {
     match counted(given) {
         Ok(bytes) => show_counted(alloc, count, view, bytes.as_slice(), out),
@@ -509,7 +509,7 @@ fn show_as_source<W: Sink>(
     given: &[u8],
     out: &mut W,
 ) -> Result<(), ProgramFault>
-    ensures { OnOk result (ShowsAs Reading.AsSource count view given.now (W.contents out.old) (W.contents out.new)) }
+    ensures { OnOk result (ShowsAs EdidReading.AsSource count view given.now (W.contents out.old) (W.contents out.new)) }
 {
     match as_source(given) {
         Ok(bytes) => show(alloc, view, bytes.as_slice(), out),
@@ -520,7 +520,7 @@ fn show_as_source<W: Sink>(
 // Writes what is asked for of bytes, as they are read.
 fn show_as<W: Sink>(
     alloc: Global,
-    reading: Reading,
+    reading: EdidReading,
     count: u8,
     view: View,
     given: &[u8],
@@ -529,9 +529,9 @@ fn show_as<W: Sink>(
     ensures { OnOk result (ShowsAs reading count view given.now (W.contents out.old) (W.contents out.new)) }
 {
     match reading {
-        Reading::Strict => show(alloc, view, given, out),
-        Reading::Overridden => show_overridden(alloc, count, view, given, out),
-        Reading::AsSource => show_as_source(alloc, count, view, given, out),
+        EdidReading::Strict => show(alloc, view, given, out),
+        EdidReading::Overridden => show_overridden(alloc, count, view, given, out),
+        EdidReading::AsSource => show_as_source(alloc, count, view, given, out),
     }
 }
 
@@ -539,7 +539,7 @@ fn show_as<W: Sink>(
 pub fn edid<W: Sink>(
     alloc: Global,
     source: Source,
-    reading: Reading,
+    reading: EdidReading,
     view: View,
     input: &[u8],
     out: &mut W,

@@ -2,7 +2,7 @@
 use crate::edid::{given_to, origin_of};
 use crate::edid_given::{given_of, kept_count};
 use arrayvec::ArrayString;
-use cli_words::{Choice, Reading, Recipient, Source};
+use cli_words::{CommandChoice, EdidReading, Recipient, Source};
 use conversion_calls::EdidToTextError;
 use edid_as_source::{as_source, counted, write_notes};
 use edid_dumps::dump_count;
@@ -14,11 +14,11 @@ use std::fmt::Write;
 use text_core::{Sink, put_all};
 
 // The bytes that the strict reader is given of some bytes.
-fn taken(alloc: Global, reading: Reading, given: &[u8]) -> Result<Vec<u8>, ProgramFault> {
+fn taken(alloc: Global, reading: EdidReading, given: &[u8]) -> Result<Vec<u8>, ProgramFault> {
     let mended = match reading {
-        Reading::Strict => return Ok(given.to_vec(alloc)?),
-        Reading::Overridden => counted(given),
-        Reading::AsSource => as_source(given),
+        EdidReading::Strict => return Ok(given.to_vec(alloc)?),
+        EdidReading::Overridden => counted(given),
+        EdidReading::AsSource => as_source(given),
     };
     match mended {
         Ok(bytes) => Ok(bytes.as_slice().to_vec(alloc)?),
@@ -30,7 +30,7 @@ fn taken(alloc: Global, reading: Reading, given: &[u8]) -> Result<Vec<u8>, Progr
 fn bytes_for(
     alloc: Global,
     source: Source,
-    reading: Reading,
+    reading: EdidReading,
     place: Recipient,
     input: &[u8],
 ) -> Result<Vec<u8>, ProgramFault> {
@@ -43,7 +43,7 @@ fn bytes_for(
 pub fn explain_rules(
     alloc: Global,
     source: Source,
-    reading: Reading,
+    reading: EdidReading,
     place: Recipient,
     input: &[u8],
 ) -> Result<String, AllocError> {
@@ -51,7 +51,7 @@ pub fn explain_rules(
         return Ok(String::new(alloc));
     };
     match (reading, given_of(alloc, source, input)) {
-        (Reading::Overridden, Ok(given)) => {
+        (EdidReading::Overridden, Ok(given)) => {
             let count = kept_count(source, &given);
             explain_counted(alloc, origin_of(place), count, &bytes)
         }
@@ -90,7 +90,7 @@ pub fn explain_speakers(alloc: Global) -> Result<String, AllocError> {
 pub fn explain_lack(
     alloc: Global,
     source: Source,
-    reading: Reading,
+    reading: EdidReading,
     input: &[u8],
 ) -> Result<String, AllocError> {
     let mut text = String::new(alloc);
@@ -133,8 +133,8 @@ fn name_mended<E: Sink>(alloc: Global, source: Source, input: &[u8], err: &mut E
 }
 
 /// Writes which of several EDIDs of a dump is read, and what a source mends and passes over.
-pub fn name_read<E: Sink>(alloc: Global, choice: Choice, input: &[u8], err: &mut E) {
-    let Choice::Edid {
+pub fn name_read<E: Sink>(alloc: Global, choice: CommandChoice, input: &[u8], err: &mut E) {
+    let CommandChoice::Edid {
         source,
         reading,
         ..
@@ -147,7 +147,7 @@ pub fn name_read<E: Sink>(alloc: Global, choice: Choice, input: &[u8], err: &mut
         Source::Pair { dumps: true, .. } => name_two(input, err),
         Source::Bytes | Source::Text | Source::Words | Source::Pair { .. } => {}
     }
-    if let Reading::AsSource = reading {
+    if let EdidReading::AsSource = reading {
         name_mended(alloc, source, input, err);
     }
 }

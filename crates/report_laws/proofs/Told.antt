@@ -7,7 +7,7 @@ use Rattle.json_trace.specs.Columns.{field, field_lead}
 use Rattle.json_trace.specs.Object.{type_field}
 use Rattle.json_trace.specs.Parts.{after_word}
 use Rattle.json_trace.specs.Values.{string_text}
-use Rattle.json_trace.specs.declared.values.Shape.TheVariants.{Number}
+use Rattle.json_trace.specs.declared.values.ValueShape.TheVariants.{Number}
 use Rattle.json_report.specs.TestLine.{expected_fields, place_fields, plain, plain_from, test_reported, text_fields, truth}
 use Rattle.report_laws.specs.Tests.{BeginsAsOne, ExpectationsAreReported, IsReported, RefusalsAreReported, count_field, test_fields}
 use Rattle.report_laws.proofs.Parted.{front_before, no_colon, no_space, one_more, rest_after}

@@ -5,10 +5,10 @@ use Rattle.expect_run.specs.Report.{escaped_text, test_start}
 use Rattle.json_trace.specs.Columns.{field, field_lead}
 use Rattle.json_trace.specs.Object.{type_field}
 use Rattle.json_trace.specs.Values.{string_text}
-use Rattle.json_trace.specs.declared.values.Shape.TheVariants.{Text}
+use Rattle.json_trace.specs.declared.values.ValueShape.TheVariants.{Text}
 use Rattle.json_report.specs.Object.{IsReportedAs, form_of}
 use Rattle.json_report.specs.TestLine.{truth}
-use Rattle.json_report.specs.declared.object.Report.TheVariants.{Expectations}
+use Rattle.json_report.specs.declared.object.ReportKind.TheVariants.{Expectations}
 
 -- what the object of a line of a report has after the line
 abbrev pub IsReported : List ℕ → List ℕ → Type 0

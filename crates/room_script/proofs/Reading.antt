@@ -5,7 +5,7 @@ use Rattle.edid_tree.specs.Node.{Node}
 use Rattle.edid_tree.specs.Tree.{device_named}
 use Rattle.message_text.specs.declared.assembler.AssembleError.{AssembleError}
 use Rattle.text_core.specs.Words.{words_of, text_of}
-use Rattle.room_script.specs.declared.fault.LineFault.{LineFault}
+use Rattle.room_script.specs.declared.fault.ScriptLineFault.{ScriptLineFault}
 use Rattle.room_script.specs.declared.script.ScriptLineError.{ScriptLineError}
 use Rattle.room_script.specs.declared.script.ScriptLineError.TheVariants.{Fault, Memory}
 use Rattle.room_event.specs.declared.event.HeaderNames.{HeaderNames}
@@ -28,7 +28,7 @@ pub text_added : (word pushed text rest : List ℕ) → pushed ≡ word ++ 32 �
 text_added word pushed text rest space added = added ∙ ap (λ (t : List ℕ). t ++ rest) space ∙ append_assoc word (32 ∷ []) rest ∙ sym (text_spaced word rest)
 
 -- from a value that is read to a relation
-pub gives : (P : Result Notes LineFault → Type 0) (now : Notes) (result : Result Unit ScriptLineError) (read : Result Notes LineFault) → GivesNotes now result read → P read → Gives now result P
+pub gives : (P : Result Notes ScriptLineFault → Type 0) (now : Notes) (result : Result Unit ScriptLineError) (read : Result Notes ScriptLineFault) → GivesNotes now result read → P read → Gives now result P
 gives P now (Ok done) read g p = subst P g p
 gives P now (Err Memory) read g p = tt
 gives P now (Err (Fault fault)) read g p = subst P g p

@@ -11,20 +11,20 @@ use message_text::AssembleError;
 /// Why a line of a script is refused, and the word at fault, counted from 0; where a word is missing, the number that it
 /// would have.
 #[derive(Clone, Copy, Debug, Drop, PartialEq, Eq)]
-pub struct LineFault {
+pub struct ScriptLineFault {
     pub cause: ScriptCause,
     pub word: usize,
 }
 
 /// A word at fault.
-pub fn at_word(word: usize, cause: ScriptCause) -> LineFault
+pub fn at_word(word: usize, cause: ScriptCause) -> ScriptLineFault
     ensures { result ≡ at_word word cause }
 {
-    LineFault { cause, word }
+    ScriptLineFault { cause, word }
 }
 
 /// Of words after so many, of which others than so many are left.
-pub fn misfit(before: usize, rest: Option<&[u8]>, wanted: usize) -> LineFault
+pub fn misfit(before: usize, rest: Option<&[u8]>, wanted: usize) -> ScriptLineFault
     requires few { before + wanted ≤ 18446744073709551615 }
     ensures { result ≡ misfit before (length (words_after (option_copied rest.entry))) wanted }
 {

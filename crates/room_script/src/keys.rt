@@ -8,7 +8,7 @@ ghost use Rattle.text_core.specs.Number.{number_of};
 ghost use Rattle.text_core.specs.Words.{words_after};
 ghost use Rattle.room_script.specs.Keys.{key_alone, switch_of, language_of, destination_of, code_of, control_of, key_or_cause, port_key, values_of, unfit, key_with, remote_by, remote_key, of_one, of_two, of_three, key_of};
 
-use crate::fault::{LineFault, at_word, misfit};
+use crate::fault::{ScriptLineFault, at_word, misfit};
 use crate::script::ScriptCause;
 use device_features::{Key, KeyWord, VolumeKey};
 use line_frames::Addr;
@@ -17,7 +17,7 @@ use text_core::{
     Phys, digit_value, first_word, is_hex_digit, number_in, one_word, three_words, two_words,
 };
 
-fn key_alone(fault: LineFault, word: KeyWord) -> Result<Key, LineFault>
+fn key_alone(fault: ScriptLineFault, word: KeyWord) -> Result<Key, ScriptLineFault>
     ensures { result ≡ key_alone fault word }
 {
     match word {
@@ -113,7 +113,7 @@ fn values_of(word: KeyWord) -> usize
 }
 
 // Why words are no key, of which others than a key has are left.
-fn unfit(rest: Option<&[u8]>) -> LineFault
+fn unfit(rest: Option<&[u8]>) -> ScriptLineFault
     ensures { result ≡ unfit (words_after (option_copied rest.entry)) }
 {
     let Some(rest) = rest else {
@@ -126,13 +126,13 @@ fn unfit(rest: Option<&[u8]>) -> LineFault
     }
 }
 
-fn key_or_cause(key: Option<Key>) -> Result<Key, LineFault>
+fn key_or_cause(key: Option<Key>) -> Result<Key, ScriptLineFault>
     ensures { result ≡ key_or_cause key }
 {
     key.ok_or(at_word(5, ScriptCause::Word))
 }
 
-fn port_key(word: &[u8]) -> Result<Key, LineFault>
+fn port_key(word: &[u8]) -> Result<Key, ScriptLineFault>
     ensures { result ≡ port_key (number_of word.now) }
 {
     match number_in(word) {
@@ -141,7 +141,7 @@ fn port_key(word: &[u8]) -> Result<Key, LineFault>
     }
 }
 
-fn key_with(fault: LineFault, word: KeyWord, value: &[u8]) -> Result<Key, LineFault>
+fn key_with(fault: ScriptLineFault, word: KeyWord, value: &[u8]) -> Result<Key, ScriptLineFault>
     ensures { result ≡ key_with fault word value.now }
 {
     match word {
@@ -163,7 +163,7 @@ fn key_with(fault: LineFault, word: KeyWord, value: &[u8]) -> Result<Key, LineFa
     }
 }
 
-fn remote_by(to: Option<Addr>, code: Option<UserControl>) -> Result<Key, LineFault>
+fn remote_by(to: Option<Addr>, code: Option<UserControl>) -> Result<Key, ScriptLineFault>
     ensures { result ≡ remote_by to code }
 {
     let Some(to) = to else {
@@ -175,7 +175,7 @@ fn remote_by(to: Option<Addr>, code: Option<UserControl>) -> Result<Key, LineFau
     Ok(Key::Remote { to, code })
 }
 
-fn remote_key(fault: LineFault, word: KeyWord, to: &[u8], code: &[u8]) -> Result<Key, LineFault>
+fn remote_key(fault: ScriptLineFault, word: KeyWord, to: &[u8], code: &[u8]) -> Result<Key, ScriptLineFault>
     ensures { result ≡ remote_key fault word to.now code.now }
 {
     if word == KeyWord::Remote {
@@ -186,7 +186,7 @@ fn remote_key(fault: LineFault, word: KeyWord, to: &[u8], code: &[u8]) -> Result
 }
 
 // A key of one word, of a word and what it takes, and of a word and two that it takes.
-fn key_of_one(fault: LineFault, word: &[u8]) -> Result<Key, LineFault>
+fn key_of_one(fault: ScriptLineFault, word: &[u8]) -> Result<Key, ScriptLineFault>
     ensures { result ≡ of_one fault (key_named word.now) }
 {
     match KeyWord::named(word) {
@@ -195,7 +195,7 @@ fn key_of_one(fault: LineFault, word: &[u8]) -> Result<Key, LineFault>
     }
 }
 
-fn key_of_two(fault: LineFault, word: &[u8], value: &[u8]) -> Result<Key, LineFault>
+fn key_of_two(fault: ScriptLineFault, word: &[u8], value: &[u8]) -> Result<Key, ScriptLineFault>
     ensures { result ≡ of_two fault (key_named word.now) value.now }
 {
     match KeyWord::named(word) {
@@ -204,7 +204,7 @@ fn key_of_two(fault: LineFault, word: &[u8], value: &[u8]) -> Result<Key, LineFa
     }
 }
 
-fn key_of_three(fault: LineFault, word: &[u8], to: &[u8], code: &[u8]) -> Result<Key, LineFault>
+fn key_of_three(fault: ScriptLineFault, word: &[u8], to: &[u8], code: &[u8]) -> Result<Key, ScriptLineFault>
     ensures { result ≡ of_three fault (key_named word.now) to.now code.now }
 {
     match KeyWord::named(word) {
@@ -214,7 +214,7 @@ fn key_of_three(fault: LineFault, word: &[u8], to: &[u8], code: &[u8]) -> Result
 }
 
 /// The key that the words left say: one word, or a word and what it takes. They stand after four others.
-pub fn key_in(rest: Option<&[u8]>) -> Result<Key, LineFault>
+pub fn key_in(rest: Option<&[u8]>) -> Result<Key, ScriptLineFault>
     ensures { result ≡ key_of (words_after (option_copied rest.entry)) }
 {
     let fault = unfit(rest);

@@ -7,7 +7,7 @@ ghost use Rattle.room_script.specs.Header.{digits_text, header_names};
 ghost use Rattle.room_script.specs.Script.{no_notes, notes_of, course_of, time_of, last_time, last_end, notes_with_event, plug_words, unplug_words, key_words, act_read, hold_words, drop_words, event_words, send_read, frame_event, pulse_fault, pulse_refusal, notes_with_pulse, pulse_words, touches, notes_with_pull, pull_words, end_words, other_words, error_at, IsFrameOf, IsSendRead, IsEventRead, IsLineRead, GivesNotes, Gives, GivesScript, IsScript};
 
 use crate::course::Script;
-use crate::fault::{LineFault, at_word, frame_word, misfit};
+use crate::fault::{ScriptLineFault, at_word, frame_word, misfit};
 use crate::header::{has_names, header_names, text_with_digits};
 use crate::holding::hold_in;
 use crate::keys::key_in;
@@ -92,7 +92,7 @@ pub enum ScriptError {
 /// Why a line is not taken.
 #[derive(Debug, Drop)]
 pub enum ScriptLineError {
-    Fault(LineFault),
+    Fault(ScriptLineFault),
     Memory,
 }
 
@@ -452,7 +452,7 @@ fn take_send(
     )
 }
 
-fn pulse_fault(fault: PulsesError) -> LineFault
+fn pulse_fault(fault: PulsesError) -> ScriptLineFault
     ensures { result ≡ pulse_fault fault }
 {
     match fault {

@@ -80,7 +80,7 @@ pub enum TopologyError {
 
 /// Why a line is refused, and the word at fault, counted from 0; where a word is missing, the number that it would have.
 #[derive(Clone, Copy, Debug, Drop)]
-struct LineFault {
+struct TopologyLineFault {
     cause: TopologyCause,
     word: usize,
 }
@@ -88,14 +88,14 @@ struct LineFault {
 /// Why a line is not taken.
 #[derive(Debug, Drop)]
 enum TopologyLineError {
-    Fault(LineFault),
+    Fault(TopologyLineFault),
     Memory,
 }
 
 fn at_word(word: usize, cause: TopologyCause) -> TopologyLineError
     ensures { result ≡ Fault (at_word word cause) }
 {
-    TopologyLineError::Fault(LineFault { cause, word })
+    TopologyLineError::Fault(TopologyLineFault { cause, word })
 }
 
 // Of words after the first one, of which others than so many are left.

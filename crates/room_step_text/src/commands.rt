@@ -11,7 +11,7 @@ use text_core::{digit_value, first_line, first_word, is_hex_digit, is_skipped};
 
 /// A step that is asked for.
 #[derive(Clone, Copy, Debug, PartialEq, Eq)]
-pub enum Command {
+pub enum StepCommand {
     /// The next edge.
     Edge,
     /// The next round.
@@ -56,7 +56,7 @@ fn byte_of(word: &[u8]) -> Option<u8>
 }
 
 // A step that so many words say, where none is left after them.
-fn command_alone(count: usize, rest: Option<&[u8]>, command: Command) -> Result<Command, usize>
+fn command_alone(count: usize, rest: Option<&[u8]>, command: StepCommand) -> Result<StepCommand, usize>
     ensures { result ≡ command_alone count (words_after (option_copied rest.entry)) command }
 {
     match rest {
@@ -68,17 +68,17 @@ fn command_alone(count: usize, rest: Option<&[u8]>, command: Command) -> Result<
     }
 }
 
-fn opcode_by(opcode: Option<u8>, rest: Option<&[u8]>) -> Result<Command, usize>
+fn opcode_by(opcode: Option<u8>, rest: Option<&[u8]>) -> Result<StepCommand, usize>
     ensures { result ≡ opcode_by opcode (words_after (option_copied rest.entry)) }
 {
     match opcode {
         None => Err(2),
-        Some(opcode) => command_alone(3, rest, Command::Until(Break::Opcode(opcode))),
+        Some(opcode) => command_alone(3, rest, StepCommand::Until(Break::Opcode(opcode))),
     }
 }
 
 // The words after `until opcode`.
-fn until_opcode(rest: Option<&[u8]>) -> Result<Command, usize>
+fn until_opcode(rest: Option<&[u8]>) -> Result<StepCommand, usize>
     ensures { result ≡ until_opcode (words_after (option_copied rest.entry)) }
 {
     let Some(rest) = rest else {
@@ -110,17 +110,17 @@ fn device_after(tree: &Tree<15>, count: usize, rest: Option<&[u8]>) -> Result<us
 }
 
 // The words after `until device`.
-fn until_device(tree: &Tree<15>, rest: Option<&[u8]>) -> Result<Command, usize>
+fn until_device(tree: &Tree<15>, rest: Option<&[u8]>) -> Result<StepCommand, usize>
     ensures { result ≡ until_by (device_after tree.now 2 (words_after (option_copied rest.entry))) }
 {
     match device_after(tree, 2, rest) {
-        Ok(device) => Ok(Command::Until(Break::Device(device))),
+        Ok(device) => Ok(StepCommand::Until(Break::Device(device))),
         Err(word) => Err(word),
     }
 }
 
 // The words after `until`.
-fn until_of(tree: &Tree<15>, rest: Option<&[u8]>) -> Result<Command, usize>
+fn until_of(tree: &Tree<15>, rest: Option<&[u8]>) -> Result<StepCommand, usize>
     ensures { result ≡ until_of tree.now (words_after (option_copied rest.entry)) }
 {
     let Some(rest) = rest else {
@@ -132,31 +132,31 @@ fn until_of(tree: &Tree<15>, rest: Option<&[u8]>) -> Result<Command, usize>
     } else if what == b"device".as_slice() {
         until_device(tree, rest)
     } else if what == b"break".as_slice() {
-        command_alone(2, rest, Command::Until(Break::AnyBreak))
+        command_alone(2, rest, StepCommand::Until(Break::AnyBreak))
     } else {
         Err(1)
     }
 }
 
 // The words after `show`.
-fn shown_of(tree: &Tree<15>, rest: Option<&[u8]>) -> Result<Command, usize>
+fn shown_of(tree: &Tree<15>, rest: Option<&[u8]>) -> Result<StepCommand, usize>
     ensures { result ≡ show_by (device_after tree.now 1 (words_after (option_copied rest.entry))) }
 {
     match device_after(tree, 1, rest) {
-        Ok(device) => Ok(Command::Show(device)),
+        Ok(device) => Ok(StepCommand::Show(device)),
         Err(word) => Err(word),
     }
 }
 
 // The step of a line, or the number of its word at fault.
-fn command_of(tree: &Tree<15>, line: &[u8]) -> Result<Command, usize>
+fn command_of(tree: &Tree<15>, line: &[u8]) -> Result<StepCommand, usize>
     ensures { result ≡ command_of tree.now line.now }
 {
     let (verb, rest) = first_word(line);
     if verb == b"edge".as_slice() {
-        command_alone(1, rest, Command::Edge)
+        command_alone(1, rest, StepCommand::Edge)
     } else if verb == b"round".as_slice() {
-        command_alone(1, rest, Command::Round)
+        command_alone(1, rest, StepCommand::Round)
     } else if verb == b"until".as_slice() {
         until_of(tree, rest)
     } else if verb == b"show".as_slice() {
@@ -171,7 +171,7 @@ pub fn parse_commands(
     alloc: Global,
     tree: &Tree<15>,
     text: &[u8],
-) -> Result<Vec<Command>, CommandsError>
+) -> Result<Vec<StepCommand>, CommandsError>
     ensures ok { IfOk result (λ commands. commands_of tree.now text.now ≡ Ok commands.items) }
     ensures reported { IfErr result (IsFault tree.now text.now) }
 {

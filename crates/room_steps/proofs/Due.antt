@@ -24,8 +24,8 @@ use Rattle.room_run.specs.Run.{turn_of}
 use Rattle.room_run.proofs.Advance.{event_keeps}
 use Rattle.room_step_text.specs.declared.break_at.Break.{Break}
 use Rattle.room_step_text.specs.declared.break_at.Break.TheVariants.{Opcode, AnyBreak}
-use Rattle.room_step_text.specs.declared.commands.Command.{Command}
-use Rattle.room_step_text.specs.declared.commands.Command.TheVariants.{Edge, Round, Until, Show}
+use Rattle.room_step_text.specs.declared.commands.StepCommand.{StepCommand}
+use Rattle.room_step_text.specs.declared.commands.StepCommand.TheVariants.{Edge, Round, Until, Show}
 use Rattle.room_step_text.specs.Commands.{LineFault, byte_of, command_alone, command_of, command_of_words, commands_of, device_after, device_by, lines_read, onward, opcode_by, show_by, until_by, until_of, until_opcode}
 use Rattle.room_steps.specs.Steps.{Point, Steps, IsEdgeStepBy, IsRoundStep, IsTaken, Skips, device_count, passed_by, passed_from}
 use Rattle.room_steps.specs.Ready.{InsideIf}
@@ -63,18 +63,18 @@ edge_count s t None text (after, first, is) = ap device_count is
 edge_count s t (Some net) text (inl (after, edge, is)) = ap device_count is
 edge_count s t (Some net) text (inr later) = ap device_count later.first.2 ∙ round_count s.run.end s.last later.last later.outcome later.step
 
-step_count : (command : Command) (s t : Steps) (text : List ℕ) → IsStep command s text t → device_count t ≡ device_count s
+step_count : (command : StepCommand) (s t : Steps) (text : List ℕ) → IsStep command s text t → device_count t ≡ device_count s
 step_count Edge s t text h = edge_count s t s.begun text h
 step_count Round s t text (o, q, step, reported, is) = ap device_count is ∙ round_count s.run.end s.last q o step
 step_count (Until at) s t text h =
     ap device_count h.stands ∙ round_count s.run.end h.before h.after h.outcome h.step ∙ skips_count s.run.end at h.rounds s.last h.before h.skips
 step_count (Show device) s t text (shown, found, reported, is) = ap device_count is
 
-due_count : (command : Command) (s t : Steps) (text : List ℕ) → IsDue command s text t → device_count t ≡ device_count s
+due_count : (command : StepCommand) (s t : Steps) (text : List ℕ) → IsDue command s text t → device_count t ≡ device_count s
 due_count command s t text (inl step) = step_count command s t text step
 due_count command s t text (inr (none, reported, is)) = ap device_count is
 
-pub dues_count : (commands : List Command) (s t : Steps) (text : List ℕ) → AreDue commands s text t → device_count t ≡ device_count s
+pub dues_count : (commands : List StepCommand) (s t : Steps) (text : List ℕ) → AreDue commands s text t → device_count t ≡ device_count s
 dues_count [] s t text h = ap device_count h.1
 dues_count (command ∷ commands) s t text (mid, first, rest, due, others, reported) =
     dues_count commands mid t rest others ∙ due_count command s mid first due
@@ -87,14 +87,14 @@ inside_count end false p q begun i = cc
 -- ---- one command more
 
 -- there was no such step, and that was written
-pub ended : (command : Command) (s t : Steps) (old mid new : Option (List ℕ)) (was between is : Bool) (r : Result ℕ WriteFault)
+pub ended : (command : StepCommand) (s t : Steps) (old mid new : Option (List ℕ)) (was between is : Bool) (r : Result ℕ WriteFault)
     → IsTaken (IsStep command s) (IsNoStep command s) s t old mid (Err Ended) → between ≡ was → WrittenText mid new between is (codes "ended\n") r → IsCommandTaken command s t old new was is r
 ended command s t old mid new was between is (Ok n) (over, same, none) flag wrote =
     (codes "ended\n", inr (over, refl, same), subst (λ b. WrittenText old new b is (codes "ended\n") (Ok n)) flag (subst (λ x. WrittenText x new between is (codes "ended\n") (Ok n)) none wrote))
 ended command s t old mid new was between is (Err fault) (over, same, none) flag wrote =
     (codes "ended\n", t, inr (over, refl, same), subst (λ b. WrittenText old new b is (codes "ended\n") (Err fault)) flag (subst (λ x. WrittenText x new between is (codes "ended\n") (Err fault)) none wrote))
 
-due_more : (front : List Command) (command : Command) (s mid t : Steps) (text first : List ℕ) → AreDue front s text mid → IsDue command mid first t
+due_more : (front : List StepCommand) (command : StepCommand) (s mid t : Steps) (text first : List ℕ) → AreDue front s text mid → IsDue command mid first t
     → AreDue (front ++ command ∷ []) s (text ++ first) t
 due_more [] command s mid t text first h due =
     (t, first, [], subst (λ x. IsDue command x first t) h.1 due, (refl, refl), ap (λ x. x ++ first) h.0 ∙ sym (append-nil first))
@@ -102,19 +102,19 @@ due_more (c ∷ front) command s mid t text first (next, head, rest, one, others
     (next, head, rest ++ first, one, due_more front command next mid t rest first others due, ap (λ x. x ++ first) reported ∙ append_assoc head rest first)
 
 -- the commands so far were taken, and their text was written
-pub record Reached (commands : List Command) (n : ℕ) (s t : Steps) (old new : Option (List ℕ)) (written : ℕ) : Type 0 where
+pub record Reached (commands : List StepCommand) (n : ℕ) (s t : Steps) (old new : Option (List ℕ)) (written : ℕ) : Type 0 where
   pub text : List ℕ
   pub due : AreDue (take n commands) s text t
   pub so_far : Appends old new text
   pub counted : written ≡ reported_count (length text)
 
-next_due : (commands : List Command) (n : ℕ) (command : Command) (s mid t : Steps) (text first : List ℕ) → n < length commands → get_or commands n command ≡ command
+next_due : (commands : List StepCommand) (n : ℕ) (command : StepCommand) (s mid t : Steps) (text first : List ℕ) → n < length commands → get_or commands n command ≡ command
     → AreDue (take n commands) s text mid → IsDue command mid first t → AreDue (take (n + 1) commands) s (text ++ first) t
 next_due commands n command s mid t text first below is h due =
     let more : take (n + 1) commands ≡ take n commands ++ command ∷ [] = take_more commands n command below ∙ ap (λ c. take n commands ++ c ∷ []) is in
     subst (λ front. AreDue front s (text ++ first) t) (sym more) (due_more (take n commands) command s mid t text first h due)
 
-pub reached_more : (commands : List Command) (n : ℕ) (command : Command) (s mid t : Steps) (old between new : Option (List ℕ)) (was is : Bool) (written count m : ℕ) → n < length commands
+pub reached_more : (commands : List StepCommand) (n : ℕ) (command : StepCommand) (s mid t : Steps) (old between new : Option (List ℕ)) (was is : Bool) (written count m : ℕ) → n < length commands
     → get_or commands n command ≡ command → Reached commands n s mid old between written → (first : List ℕ) → IsDue command mid first t → WrittenText between new was is first (Ok count)
     → m ≡ reported_count (written + count) → Reached commands (n + 1) s t old new m
 reached_more commands n command s mid t old between new was is written count m below same r first due wrote reported = record {
@@ -125,7 +125,7 @@ reached_more commands n command s mid t old between new was is written count m b
 }
 
 -- the text of the next one was cut off
-pub cut_next : (commands : List Command) (n : ℕ) (command : Command) (s mid t : Steps) (old between new : Option (List ℕ)) (was is : Bool) (written : ℕ) (inner fault : WriteFault) → n < length commands
+pub cut_next : (commands : List StepCommand) (n : ℕ) (command : StepCommand) (s mid t : Steps) (old between new : Option (List ℕ)) (was is : Bool) (written : ℕ) (inner fault : WriteFault) → n < length commands
     → get_or commands n command ≡ command → Reached commands n s mid old between written → (first : List ℕ) → IsDue command mid first t → WrittenText between new was is first (Err inner)
     → fault.count ≡ reported_count (written + inner.count) → AreCut commands s old new fault
 cut_next commands n command s mid t old between new was is written inner fault below same r first due wrote reported = record {
@@ -143,7 +143,7 @@ cut_next commands n command s mid t old between new was is written inner fault b
 named-below : (tree : List Node) (name : List ℕ) (device : ℕ) → device_named tree name ≡ Some device → device < length tree
 named-below tree name device h = grind (arith, common_steps)
 
-abbrev Named : ℕ → Result Command ℕ → Type 0
+abbrev Named : ℕ → Result StepCommand ℕ → Type 0
 Named count (Err word) = Unit {0}
 Named count (Ok command) = NamesDevice count command
 
@@ -156,7 +156,7 @@ shown_names tree [] = tt
 shown_names tree (name ∷ []) = show_names tree name (device_named tree name) refl
 shown_names tree (name ∷ word ∷ words) = tt
 
-alone_names : (count after : ℕ) (words : List (List ℕ)) (command : Command) → NamesDevice count command → Named count (command_alone after words command)
+alone_names : (count after : ℕ) (words : List (List ℕ)) (command : StepCommand) → NamesDevice count command → Named count (command_alone after words command)
 alone_names count after [] command h = h
 alone_names count after (word ∷ words) command h = tt
 
@@ -172,7 +172,7 @@ until_names : (count : ℕ) (device : Result ℕ ℕ) → Named count (until_by 
 until_names count (Err word) = tt
 until_names count (Ok device) = tt
 
-one_names : (count : ℕ) (b : Bool) (x y : Result Command ℕ) → Named count x → Named count y → Named count (if b then x else y)
+one_names : (count : ℕ) (b : Bool) (x y : Result StepCommand ℕ) → Named count x → Named count y → Named count (if b then x else y)
 one_names count true x y h k = h
 one_names count false x y h k = k
 
@@ -193,27 +193,27 @@ worded_names tree (verb ∷ words) =
     (one_names count (bytes_eq verb (codes "until")) _ _ (untils_name tree words)
     (one_names count (bytes_eq verb (codes "show")) _ _ (shown_names tree words) tt)))
 
-more_names : (count number : ℕ) (before commands : List Command) (skipped : Bool) (command : Result Command ℕ) (on : List Command → Result (List Command) LineFault) → Named count command
-    → All (NamesDevice count) before → ((next : List Command) → All (NamesDevice count) next → on next ≡ Ok commands → All (NamesDevice count) commands)
+more_names : (count number : ℕ) (before commands : List StepCommand) (skipped : Bool) (command : Result StepCommand ℕ) (on : List StepCommand → Result (List StepCommand) LineFault) → Named count command
+    → All (NamesDevice count) before → ((next : List StepCommand) → All (NamesDevice count) next → on next ≡ Ok commands → All (NamesDevice count) commands)
     → (if skipped then on before else onward number before command on) ≡ Ok commands → All (NamesDevice count) commands
 more_names count number before commands true command on named all rest h = rest before all h
 more_names count number before commands false (Err word) on named all rest h = cc
 more_names count number before commands false (Ok command) on named all rest h =
     rest (before ++ command ∷ []) (All-append (NamesDevice count) before (command ∷ []) all (All-from_recursion (NamesDevice count) (command ∷ []) (named, tt))) h
 
-lines_names : (tree : List Node) (lines : List (List ℕ)) (number : ℕ) (before commands : List Command) → All (NamesDevice (length tree)) before → lines_read tree lines number before ≡ Ok commands
+lines_names : (tree : List Node) (lines : List (List ℕ)) (number : ℕ) (before commands : List StepCommand) → All (NamesDevice (length tree)) before → lines_read tree lines number before ≡ Ok commands
     → All (NamesDevice (length tree)) commands
 lines_names tree [] number before commands all h = subst (All (NamesDevice (length tree))) (same_ok before commands h) all
   where
-    the_ok : List Command → Result (List Command) LineFault
+    the_ok : List StepCommand → Result (List StepCommand) LineFault
     the_ok x = Ok x
 
-    same_ok : (x y : List Command) → the_ok x ≡ Ok y → x ≡ y
+    same_ok : (x y : List StepCommand) → the_ok x ≡ Ok y → x ≡ y
     same_ok x y e = cc
 lines_names tree (line ∷ lines) number before commands all h =
     more_names (length tree) number before commands (is_skipped line) (command_of tree line) (λ next. lines_read tree lines (number + 1) next) (worded_names tree (words_of line)) all
     (λ next every k. lines_names tree lines (number + 1) next commands every k) h
 
 -- those of a text are devices of the tree
-pub commands_name_devices : (tree : List Node) (text : List ℕ) (commands : List Command) → commands_of tree text ≡ Ok commands → All (NamesDevice (length tree)) commands
+pub commands_name_devices : (tree : List Node) (text : List ℕ) (commands : List StepCommand) → commands_of tree text ≡ Ok commands → All (NamesDevice (length tree)) commands
 commands_name_devices tree text commands h = lines_names tree (lines_of text) 1 [] commands (All-nil (NamesDevice (length tree))) h

@@ -11,8 +11,8 @@ use Rattle.room_run.specs.Run.{IsTrace, start}
 use Rattle.room_run.proofs.Accepted.{one_trace_of}
 use Rattle.room_run.proofs.Turns.{one_trace}
 use Rattle.room_step_text.specs.declared.break_at.Break.{Break}
-use Rattle.room_step_text.specs.declared.commands.Command.{Command}
-use Rattle.room_step_text.specs.declared.commands.Command.TheVariants.{Edge, Round, Until, Show}
+use Rattle.room_step_text.specs.declared.commands.StepCommand.{StepCommand}
+use Rattle.room_step_text.specs.declared.commands.StepCommand.TheVariants.{Edge, Round, Until, Show}
 use Rattle.room_steps.specs.Steps.{IsEdgeStepBy, IsOver, IsRoundStep, Point, Run, Skips, Steps, step_text}
 use Rattle.room_steps.specs.StepRun.{AreDue, AreStepsOf, IsDue}
 use Rattle.room_steps.specs.Trace.{Rounds, first_point}
@@ -87,7 +87,7 @@ after_edge run net s t front text stands (Some here) (inr next) =
     )
 
 -- what a step passes over and writes of rounds
-after_step : (run : Run) (net : NetState) (command : Command) (s t : Steps) (front text : List ℕ) → Stands run net s front → (due : IsDue command s text t)
+after_step : (run : Run) (net : NetState) (command : StepCommand) (s t : Steps) (front text : List ℕ) → Stands run net s front → (due : IsDue command s text t)
     → After run net t front (round_texts command s text t due)
 after_step run net Edge s t front text stands (inl step) = after_edge run net s t front text stands s.begun step
 after_step run net Edge s t front text stands (inr (none, is, same)) = same_place run net s t front stands same
@@ -142,7 +142,7 @@ left_of_trace run net t front piece rest whole totals trace stands e =
     (next.0, append_cancel_left front rest (piece ++ next.0) (sym e ∙ next.1 ∙ append_assoc front piece next.0), next.1)
 
 stand_in_order : (run : Run) (net : NetState) (whole : List ℕ) (totals : Totals) → IsTrace run.edid run.end (start net run.events) whole totals
-    → (commands : List Command) (s t : Steps) (front rest text : List ℕ) → Stands run net s front → whole ≡ front ++ rest → (due : AreDue commands s text t)
+    → (commands : List StepCommand) (s t : Steps) (front rest text : List ℕ) → Stands run net s front → whole ≡ front ++ rest → (due : AreDue commands s text t)
     → StandInOrder (all_round_texts commands s text t due) rest
 stand_in_order run net whole totals trace [] s t front rest text stands e due = tt
 stand_in_order run net whole totals trace (command ∷ commands) s t front rest text stands e (mid, first, later, step, due, is) =

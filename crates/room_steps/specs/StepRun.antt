@@ -9,8 +9,8 @@ use Rattle.text_core.specs.Cut.{CutOff, WrittenText}
 use Rattle.room_run.specs.Emulate.{IsAccepted, IsReported, is_write as is_run_write}
 use Rattle.edid_core.specs.Root.{IsRoot}
 use Rattle.room_run.specs.declared.emulate.EmulateError.TheVariants as faults
-use Rattle.room_step_text.specs.declared.commands.Command.{Command}
-use Rattle.room_step_text.specs.declared.commands.Command.TheVariants.{Edge, Round, Until, Show}
+use Rattle.room_step_text.specs.declared.commands.StepCommand.{StepCommand}
+use Rattle.room_step_text.specs.declared.commands.StepCommand.TheVariants.{Edge, Round, Until, Show}
 use Rattle.room_steps.specs.declared.step_run.StepRunError.{StepRunError}
 use Rattle.room_steps.specs.declared.step_run.StepRunError.TheVariants.{Run, Steps as StepsLine}
 use Rattle.room_step_text.specs.Commands.{commands_of}
@@ -19,14 +19,14 @@ use Rattle.room_steps.specs.Steps.{Steps, IsEdgeStep, IsNever, IsNoEdge, IsOver,
 -- ---- one command
 
 -- the step that a command asks for
-abbrev pub IsStep : Command → Steps → List ℕ → Steps → Type 0
+abbrev pub IsStep : StepCommand → Steps → List ℕ → Steps → Type 0
 IsStep Edge s = IsEdgeStep s
 IsStep Round s = IsRound s
 IsStep (Until at) s = IsUntil s at
 IsStep (Show device) s = IsShown s device
 
 -- the run has no such step any more
-abbrev pub IsNoStep : Command → Steps → Type 0
+abbrev pub IsNoStep : StepCommand → Steps → Type 0
 IsNoStep Edge s = IsNoEdge s
 IsNoStep Round s = IsOver s.run.end s.last
 IsNoStep (Until at) s = IsNever s at
@@ -34,16 +34,16 @@ IsNoStep (Show device) s = ⊥
 
 -- The text that is due of a command, and where the stepper then stands: those of the step, or `ended` where there is no such
 -- step, and the stepper stands where it stood.
-abbrev pub IsDue : Command → Steps → List ℕ → Steps → Type 0
+abbrev pub IsDue : StepCommand → Steps → List ℕ → Steps → Type 0
 IsDue command s text t = IsStep command s text t ⊎ (IsNoStep command s × (text ≡ codes "ended\n") × (t ≡ s))
 
 -- what a command has written of its text
-abbrev pub IsCommandTaken : Command → Steps → Steps → Option (List ℕ) → Option (List ℕ) → Bool → Bool → Result ℕ WriteFault → Type 0
+abbrev pub IsCommandTaken : StepCommand → Steps → Steps → Option (List ℕ) → Option (List ℕ) → Bool → Bool → Result ℕ WriteFault → Type 0
 IsCommandTaken command s t old new was is (Ok reported) = (text : List ℕ) × IsDue command s text t × WrittenText old new was is text (Ok reported)
 IsCommandTaken command s t old new was is (Err fault) = (text : List ℕ) × (after : Steps) × IsDue command s text after × WrittenText old new was is text (Err fault)
 
 -- a command names a device below the count
-abbrev pub NamesDevice : ℕ → Command → Type 0
+abbrev pub NamesDevice : ℕ → StepCommand → Type 0
 NamesDevice count (Show device) = device < count
 NamesDevice count Edge = Unit {0}
 NamesDevice count Round = Unit {0}
@@ -52,15 +52,15 @@ NamesDevice count (Until at) = Unit {0}
 -- ---- one command after another
 
 -- the texts of commands, each from where the one before left the stepper
-abbrev pub AreDue : List Command → Steps → List ℕ → Steps → Type 0
+abbrev pub AreDue : List StepCommand → Steps → List ℕ → Steps → Type 0
 AreDue [] s text t = (text ≡ []) × (t ≡ s)
 AreDue (command ∷ commands) s text t =
     (mid : Steps) × (first : List ℕ) × (rest : List ℕ) × IsDue command s first mid × AreDue commands mid rest t × (text ≡ first ++ rest)
 
 -- the text of the first of these commands was cut off by a fault
-pub record AreCut (commands : List Command) (s : Steps) (old new : Option (List ℕ)) (fault : WriteFault) : Type 0 where
-  pub front : List Command
-  pub left : List Command
+pub record AreCut (commands : List StepCommand) (s : Steps) (old new : Option (List ℕ)) (fault : WriteFault) : Type 0 where
+  pub front : List StepCommand
+  pub left : List StepCommand
   pub text : List ℕ
   pub last : Steps
   pub split : commands ≡ front ++ left
@@ -70,7 +70,7 @@ pub record AreCut (commands : List Command) (s : Steps) (old new : Option (List 
 -- ---- the steps of texts
 
 -- the texts spell these commands, to be taken from the start of this run
-pub record AreSteps (topology script steps : List ℕ) (commands : List Command) (s : Steps) : Type 0 where
+pub record AreSteps (topology script steps : List ℕ) (commands : List StepCommand) (s : Steps) : Type 0 where
   pub plan : Plan
   pub course : Course
   pub edid : Option EdidValue
@@ -81,7 +81,7 @@ pub record AreSteps (topology script steps : List ℕ) (commands : List Command)
 
 -- the whole text that is due
 pub record AreStepsOf (topology script steps text : List ℕ) : Type 0 where
-  pub commands : List Command
+  pub commands : List StepCommand
   pub first : Steps
   pub last : Steps
   pub spelled : AreSteps topology script steps commands first
@@ -102,7 +102,7 @@ is_write (Err (Run error)) = is_run_write (Err error)
 -- after a failed write the front of the text due was written, as much as is told
 abbrev pub AreStepsCut : List ℕ → List ℕ → List ℕ → Option (List ℕ) → Option (List ℕ) → ℕ → Type 0
 AreStepsCut topology script steps old new count =
-    (commands : List Command) × (s : Steps) × AreSteps topology script steps commands s × AreCut commands s old new (record { count = count })
+    (commands : List StepCommand) × (s : Steps) × AreSteps topology script steps commands s × AreCut commands s old new (record { count = count })
 
 -- what a refusal has written
 abbrev pub IsCutBy : List ℕ → List ℕ → List ℕ → Option (List ℕ) → Option (List ℕ) → StepRunError → Type 0

@@ -5,14 +5,14 @@ use Rattle.std.specs.List.{repeat}
 use Rattle.room_net.specs.State.{NetState}
 use Rattle.room_run.specs.declared.run.Totals.{Totals}
 use Rattle.room_run.specs.Emulate.{IsTraceOf}
-use Rattle.room_step_text.specs.declared.commands.Command.{Command}
-use Rattle.room_step_text.specs.declared.commands.Command.TheVariants.{Edge, Round, Until, Show}
+use Rattle.room_step_text.specs.declared.commands.StepCommand.{StepCommand}
+use Rattle.room_step_text.specs.declared.commands.StepCommand.TheVariants.{Edge, Round, Until, Show}
 use Rattle.room_steps.specs.Steps.{Point, Run, Steps}
 use Rattle.room_steps.specs.StepRun.{AreDue, AreStepsOf, IsDue}
 use Rattle.room_steps.specs.Trace.{Rounds, first_point}
 
 -- what a step writes of rounds: `round` and `until` their whole text; the others, and what `ended` answers, nothing
-abbrev pub round_texts : (command : Command) (s : Steps) (text : List ℕ) (t : Steps) → IsDue command s text t → List (List ℕ)
+abbrev pub round_texts : (command : StepCommand) (s : Steps) (text : List ℕ) (t : Steps) → IsDue command s text t → List (List ℕ)
 round_texts Edge s text t due = []
 round_texts (Show device) s text t due = []
 round_texts Round s text t (inl step) = text ∷ []
@@ -21,7 +21,7 @@ round_texts (Until at) s text t (inl step) = text ∷ []
 round_texts (Until at) s text t (inr ended) = []
 
 -- the same of steps one after another
-abbrev pub all_round_texts : (commands : List Command) (s : Steps) (text : List ℕ) (t : Steps) → AreDue commands s text t → List (List ℕ)
+abbrev pub all_round_texts : (commands : List StepCommand) (s : Steps) (text : List ℕ) (t : Steps) → AreDue commands s text t → List (List ℕ)
 all_round_texts [] s text t due = []
 all_round_texts (command ∷ commands) s text t due = round_texts command s due.1 due.0 due.3 ++ all_round_texts commands due.0 due.2 t due.4
 

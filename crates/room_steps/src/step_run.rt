@@ -9,7 +9,7 @@ use crate::stepper::{StepError, Stepper};
 use edid_core::root_on_heap;
 use room_run::emulate::EmulateError;
 use room_script::{parse_script, parse_topology};
-use room_step_text::{Command, CommandsError, parse_commands};
+use room_step_text::{StepCommand, CommandsError, parse_commands};
 use std::alloc::Global;
 use text_core::{Counted, Sink, WriteFault, counted, cut_at};
 use thiserror::Error;
@@ -41,7 +41,7 @@ fn write_ended<S: Sink>(out: &mut S) -> Result<u128, WriteFault>
 // Takes the step that a command asks for.
 fn take_step<S: Sink>(
     stepper: &mut Stepper,
-    command: Command,
+    command: StepCommand,
     out: &mut S,
 ) -> Result<u128, StepError>
     requires { NamesDevice (device_count stepper.old) command }
@@ -49,17 +49,17 @@ fn take_step<S: Sink>(
     ensures flag { S.is_stuck out.new ≡ (step_fails result || S.is_stuck out.old) }
 {
     match command {
-        Command::Edge => stepper.edge(out),
-        Command::Round => stepper.round(out),
-        Command::Until(at) => stepper.until(at, out),
-        Command::Show(device) => stepper.show(device, out),
+        StepCommand::Edge => stepper.edge(out),
+        StepCommand::Round => stepper.round(out),
+        StepCommand::Until(at) => stepper.until(at, out),
+        StepCommand::Show(device) => stepper.show(device, out),
     }
 }
 
 // Takes a command. Where the run has no such step any more, that is written.
 fn take_command<S: Sink>(
     stepper: &mut Stepper,
-    command: Command,
+    command: StepCommand,
     out: &mut S,
 ) -> Result<u128, WriteFault>
     requires { NamesDevice (device_count stepper.old) command }
@@ -77,7 +77,7 @@ fn take_command<S: Sink>(
 // Takes commands one after another.
 fn take_commands<S: Sink>(
     stepper: &mut Stepper,
-    commands: &[Command],
+    commands: &[StepCommand],
     out: &mut S,
 ) -> Result<u128, WriteFault>
     requires { All (NamesDevice (device_count stepper.old)) commands.now }

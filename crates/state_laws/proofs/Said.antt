@@ -24,15 +24,15 @@ use Rattle.expect_text.specs.Parts.{IsTextOf, has}
 use Rattle.expect_text.specs.StateTest.{fields}
 use Rattle.expect_text.specs.StateWords.{IsDash, IsStateWord, IsUnit, note_parts, number_parts, physical_parts}
 use Rattle.expect_text.specs.declared.part.Class.TheVariants.{Digit, Hex}
-use Rattle.expect_text.specs.declared.part.Part.{Part}
-use Rattle.expect_text.specs.declared.part.Part.TheVariants.{Byte, One, Many}
+use Rattle.expect_text.specs.declared.part.PatternPart.{PatternPart}
+use Rattle.expect_text.specs.declared.part.PatternPart.TheVariants.{Byte, One, Many}
 use Rattle.expect_text.proofs.Meeting.{and_both, first_of, second_of}
 use Rattle.expect_text.proofs.Readings.{all_hex, hex_digit, high, low, two_digits}
 use Rattle.state_laws.specs.Lines.{IsSaid, IsSized, IsSmall, StateLinesAreSaid, bytes_of, note_bytes, phys_bytes, spaced}
 
 -- ---- texts
 
-nibble_before : (parts : List Part) (n : ℕ) (more : List ℕ) → n < 16 → IsTextOf parts more → IsTextOf (One Hex ∷ parts) (nibble_text n ++ more)
+nibble_before : (parts : List PatternPart) (n : ℕ) (more : List ℕ) → n < 16 → IsTextOf parts more → IsTextOf (One Hex ∷ parts) (nibble_text n ++ more)
 nibble_before parts n more l t = ((if nat_lt n 10 then 48 + n else 87 + n), more, hex_digit n l, refl, t)
 
 nibble_is : (n : ℕ) → n < 16 → IsTextOf (One Hex ∷ []) (nibble_text n)
@@ -88,13 +88,13 @@ number_is n small = digits_are (decimal n) (decimal_nonempty n small) (all_digit
 abbrev IsSwitch : List ℕ → Type 0
 IsSwitch text = (text ≡ codes "on") ⊎ ((text ≡ codes "off") ⊎ IsDash text)
 
-abbrev IsText : List Part → List ℕ → Type 0
+abbrev IsText : List PatternPart → List ℕ → Type 0
 IsText parts text = IsTextOf parts text ⊎ IsDash text
 
-abbrev byte_parts : List Part
+abbrev byte_parts : List PatternPart
 byte_parts = One Hex ∷ One Hex ∷ []
 
-abbrev bytes_parts : List Part
+abbrev bytes_parts : List PatternPart
 bytes_parts = One Hex ∷ One Hex ∷ Many Hex ∷ []
 
 switch_is : (b : Bool) → IsSwitch (switch_text b)

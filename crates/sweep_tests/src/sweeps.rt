@@ -1,6 +1,6 @@
 //! Sweeps of scripts.
 use crate::rows::{ALONE, DECKS, RACE, RACES, SWEEPS};
-use expect_sweep::{Hearer, Progress, Silent, SweepError, sweep};
+use expect_sweep::{ProgressHearer, SweepProgress, SilentProgress, SweepError, sweep};
 use std::io::{self, ErrorKind, Write};
 use std::process::Abort;
 use text_core::Writes;
@@ -35,7 +35,7 @@ fn swept(rt: &(impl Abort + AllocGlobal), topology: &str, script: &str) -> Strin
         topology.as_bytes(),
         script.as_bytes(),
         &mut Writes::new(&mut out),
-        &mut Silent,
+        &mut SilentProgress,
     );
     let row = in_a_row(rt, out);
     match done {
@@ -102,7 +102,7 @@ fn is_cut_off(rt: &(impl Abort + AllocGlobal), room: usize) -> bool {
         b"device tv tv 4\n",
         b"expect from 0 to 39149..39151 0>0\nend 50000\n",
         &mut Writes::new(&mut out),
-        &mut Silent,
+        &mut SilentProgress,
     );
     let count = match done {
         Ok(_) => LINES.len() as u128,
@@ -123,13 +123,13 @@ fn a_writer_that_fails_has_the_front(rt: HostRuntime) {
 #[derive(Drop)]
 struct Heard {
     times: u64,
-    last: Option<Progress>,
+    last: Option<SweepProgress>,
 }
 
-impl Hearer for Heard {
+impl ProgressHearer for Heard {
     ghost hears = { λ r p s. Unit {0} };
 
-    fn hear(&mut self, progress: Progress) {
+    fn hear(&mut self, progress: SweepProgress) {
         self.times = self.times.saturating_add(1);
         self.last = Some(progress);
     }
@@ -158,7 +158,7 @@ fn heard_of(rt: &(impl Abort + AllocGlobal), range: &str) -> Heard {
 #[test]
 fn how_far_a_sweep_is_is_told(rt: HostRuntime) {
     let heard = heard_of(&rt, "39000..40001");
-    let due = Progress {
+    let due = SweepProgress {
         done: 1000,
         count: 1002,
         stretches: 2,

@@ -17,7 +17,7 @@ use Rattle.capture_core.specs.Edges.{edges_of}
 use Rattle.audit_widths.specs.declared.low.Low.{Low as LowOf}
 use Rattle.audit_widths.specs.Lows.{first_low, gone_to, low_at, lows_before, lows_in}
 use Rattle.audit_widths.specs.Misfits.{drive_within, last_of, long_by, long_low}
-use Rattle.audit_remarks.specs.declared.free.Before.TheVariants.{Nothing}
+use Rattle.audit_remarks.specs.declared.free.EarlierSender.TheVariants.{Nothing}
 use Rattle.audit_remarks.specs.declared.free.Previous.{Previous}
 use Rattle.audit_remarks.specs.Attempts.{tries_again}
 use Rattle.audit_remarks.specs.Free.{before_of, final_bit, final_by, free_before, free_due, is_bad_start, last_fall, previous_with, too_soon}

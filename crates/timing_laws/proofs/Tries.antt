@@ -15,7 +15,7 @@ use Rattle.capture_core.specs.Edges.{edges_of}
 use Rattle.audit_widths.specs.declared.low.Low.{Low as LowOf}
 use Rattle.audit_widths.specs.Spreads.{sum_of}
 use Rattle.audit_remarks.specs.declared.attempts.Attempts.{Attempts}
-use Rattle.audit_remarks.specs.declared.attempts.Earlier.{Earlier}
+use Rattle.audit_remarks.specs.declared.attempts.LastFrame.{LastFrame}
 use Rattle.audit_remarks.specs.declared.free.Previous.{Previous}
 use Rattle.audit_remarks.specs.Attempts.{after_attempt, attempt_after, attempt_of, earlier_of, failure_at, failure_of, repeats, same_from, since_with}
 use Rattle.audit_remarks.specs.Free.{before_of, final_bit, free_before, is_bad_start}
@@ -43,23 +43,23 @@ use Rattle.timing_laws.proofs.Waits.{AreKept, Counted, IsFront, IsKept, all_late
 -- ---- what is kept of frames
 
 -- none began later than `until`, and those since an instant are of so many attempts
-abbrev OneBounded : ℕ → ℕ → ℕ → Option Earlier → Type 0
+abbrev OneBounded : ℕ → ℕ → ℕ → Option LastFrame → Type 0
 OneBounded since most until None = Unit {0}
 OneBounded since most until (Some e) = (e.begin ≤ until) × (since ≤ e.begin → e.attempt ≤ most)
 
-abbrev AllBounded : ℕ → ℕ → ℕ → List (Option Earlier) → Type 0
+abbrev AllBounded : ℕ → ℕ → ℕ → List (Option LastFrame) → Type 0
 AllBounded since most until [] = Unit {0}
 AllBounded since most until (x ∷ xs) = OneBounded since most until x × AllBounded since most until xs
 
 abbrev pub IsBounded : ℕ → ℕ → Attempts → Type 0
 IsBounded most until a = AllBounded a.since most until a.last
 
-bounded_at : (since most until : ℕ) (xs : List (Option Earlier)) → AllBounded since most until xs → (i : ℕ) → OneBounded since most until (slice_index_or xs i None)
+bounded_at : (since most until : ℕ) (xs : List (Option LastFrame)) → AllBounded since most until xs → (i : ℕ) → OneBounded since most until (slice_index_or xs i None)
 bounded_at since most until [] h i = tt
 bounded_at since most until (x ∷ xs) h zero = h.0
 bounded_at since most until (x ∷ xs) h (suc i) = bounded_at since most until xs h.1 i
 
-bounded_set : (since most until : ℕ) (xs : List (Option Earlier)) → AllBounded since most until xs → (i : ℕ) (x : Option Earlier) → OneBounded since most until x → AllBounded since most until (slice_set xs i x)
+bounded_set : (since most until : ℕ) (xs : List (Option LastFrame)) → AllBounded since most until xs → (i : ℕ) (x : Option LastFrame) → OneBounded since most until x → AllBounded since most until (slice_set xs i x)
 bounded_set since most until [] h i x k = tt
 bounded_set since most until (y ∷ xs) h zero x k = (k, h.1)
 bounded_set since most until (y ∷ xs) h (suc i) x k = (h.0, bounded_set since most until xs h.1 i x k)
@@ -68,11 +68,11 @@ record Weaker (since most until from now later : ℕ) : Type 0 where
   span : until ≤ later
   count : (b n : ℕ) → b ≤ until → (since ≤ b → n ≤ most) → from ≤ b → n ≤ now
 
-one_weaker : (since most until from now later : ℕ) → Weaker since most until from now later → (x : Option Earlier) → OneBounded since most until x → OneBounded from now later x
+one_weaker : (since most until from now later : ℕ) → Weaker since most until from now later → (x : Option LastFrame) → OneBounded since most until x → OneBounded from now later x
 one_weaker since most until from now later w None h = tt
 one_weaker since most until from now later w (Some e) h = (let a = h.0 in let b = w.span in omega (arith, a, b), w.count e.begin e.attempt h.0 h.1)
 
-all_weaker : (since most until from now later : ℕ) → Weaker since most until from now later → (xs : List (Option Earlier)) → AllBounded since most until xs → AllBounded from now later xs
+all_weaker : (since most until from now later : ℕ) → Weaker since most until from now later → (xs : List (Option LastFrame)) → AllBounded since most until xs → AllBounded from now later xs
 all_weaker since most until from now later w [] h = tt
 all_weaker since most until from now later w (x ∷ xs) h = (one_weaker since most until from now later w x h.0, all_weaker since most until from now later w xs h.1)
 
@@ -84,7 +84,7 @@ one_of true true false attempt most h = omega arith
 one_of true false r attempt most h = omega arith
 one_of false n r attempt most h = omega arith
 
-attempt_bound : (since most until : ℕ) (bits : List Bool) (o : Option Earlier) → OneBounded since most until o → attempt_after since bits o ≤ most + 1
+attempt_bound : (since most until : ℕ) (bits : List Bool) (o : Option LastFrame) → OneBounded since most until o → attempt_after since bits o ≤ most + 1
 attempt_bound since most until bits None h = omega arith
 attempt_bound since most until bits (Some e) h =
     one_of (not e.taken) (nat_le since e.begin) (repeats e.bits.items bits) e.attempt most (λ n. h.1 (let l : since ≤ e.begin = grind (arith, nat_tests) in l))
@@ -104,7 +104,7 @@ none_and : (a b : Bool) → b ≡ false → (a && b) ≡ false
 none_and true b h = h
 none_and false b h = refl
 
-attempt_first : (since most until from : ℕ) (bits : List Bool) (o : Option Earlier) → OneBounded since most until o → until < from → attempt_after from bits o ≤ 1
+attempt_first : (since most until from : ℕ) (bits : List Bool) (o : Option LastFrame) → OneBounded since most until o → until < from → attempt_after from bits o ≤ 1
 attempt_first since most until from bits None h l = omega arith
 attempt_first since most until from bits (Some e) h l =
     let past : nat_le from e.begin ≡ false = (let b = h.0 in grind (arith, nat_tests)) in
@@ -116,7 +116,7 @@ no_poll true p s h = refl
 no_poll false true s h = refl
 no_poll false false s h = absurd (false≢true h)
 
-attempt_poll : (since : ℕ) (bits : List Bool) (o : Option Earlier) → is_poll bits ≡ true → attempt_after since bits o ≤ 1
+attempt_poll : (since : ℕ) (bits : List Bool) (o : Option LastFrame) → is_poll bits ≡ true → attempt_after since bits o ≤ 1
 attempt_poll since bits None h = omega arith
 attempt_poll since bits (Some e) h =
     first_of (not e.taken) (nat_le since e.begin) (repeats e.bits.items bits) e.attempt
@@ -135,7 +135,7 @@ weaker_by : (soon : Bool) (since most until begin later : ℕ) → until < begin
 weaker_by true since most until begin later l k = record { span = omega (arith, l, k); count = λ b n a f g. (let m = f g in omega (arith, m)) }
 weaker_by false since most until begin later l k = record { span = omega (arith, l, k); count = λ b n a f g. absurd (omega (arith, a, g, l)) }
 
-attempt_by : (soon : Bool) (since most until begin : ℕ) (bits : List Bool) (o : Option Earlier) → OneBounded since most until o → until < begin → attempt_after (since_by soon since begin) bits o ≤ count_after soon most
+attempt_by : (soon : Bool) (since most until begin : ℕ) (bits : List Bool) (o : Option LastFrame) → OneBounded since most until o → until < begin → attempt_after (since_by soon since begin) bits o ≤ count_after soon most
 attempt_by true since most until begin bits o h l = attempt_bound since most until bits o h
 attempt_by false since most until begin bits o h l = attempt_first since most until begin bits o h l
 
@@ -309,7 +309,7 @@ round_of_six s begin o framed none g a p most kept_all bounded late past = by (n
     bits : List Bool
     bits = o.reading.bits.items
 
-    one : Option Earlier
+    one : Option LastFrame
     one = slice_index_or a.last (initiator_of bits) None
 
     at : OneBounded a.since most s.rest one

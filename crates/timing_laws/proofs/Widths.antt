@@ -8,7 +8,7 @@ use Rattle.line_wave.specs.Sender.{slot_stretches, sender_stretches}
 use Rattle.line_frames.specs.declared.Ending.{Ending}
 use Rattle.capture_core.specs.Edges.{edges_of}
 use Rattle.audit_widths.specs.declared.low.Low.{Low as LowOf}
-use Rattle.audit_widths.specs.declared.misfit.Kind.TheVariants.{Low, Total}
+use Rattle.audit_widths.specs.declared.misfit.SlotWidth.TheVariants.{Low, Total}
 use Rattle.audit_widths.specs.declared.misfit.Misfit.{Misfit}
 use Rattle.audit_widths.specs.Lows.{low_at, lows_before, lows_in}
 use Rattle.audit_widths.specs.Misfits.{fits, has_all, is_total, low_misfit, low_window, misfit_of, slot_bit, total_by, total_misfit, total_window, window}

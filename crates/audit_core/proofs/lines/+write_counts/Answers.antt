@@ -1,12 +1,12 @@
 use Rattle.std.proofs.Common.{◌≡◌, ℕ, ◌+◌, ◌≤◌, List, [], ◌∷◌, ◌++◌, length, get_or, drop, refl, arith}
 use Rattle.std.proofs.lemmas.List.{take_rest}
-use Rattle.audit_remarks.specs.declared.counts.Count.{Count}
+use Rattle.audit_remarks.specs.declared.counts.FrameCount.{FrameCount}
 use Rattle.audit_core.specs.Lines.{count_text, counts_text}
 use Rattle.audit_core.proofs.Writing.{writes_as, writes_two}
 use Rattle.audit_core.proofs.lines.+write_counts.Goals as goal
 
 -- an initiator, and the rest
-counts_more : (initiator : ℕ) (counts : List Count) (none : Count) → 1 ≤ length counts
+counts_more : (initiator : ℕ) (counts : List FrameCount) (none : FrameCount) → 1 ≤ length counts
     → count_text initiator (get_or counts 0 none) ++ counts_text (initiator + 1) (drop 1 counts) ≡ counts_text initiator counts
 counts_more initiator [] none h = absurd (omega arith)
 counts_more initiator (c ∷ counts) none h = refl

@@ -16,7 +16,7 @@ instants-init g c =
     record {
       within = omega (arith, c.from-at.ensures.from, c.to-to.ensures.to, c.from-at.ensures.series.forward);
       last = ap (λ (d : StretchesDraft). d.last.last) c.new-draft.ensures;
-      heard = begun_heard g.H.Hearer.hears F c.args.series.now (draft_as c.new-draft.result) c.from-at.result c.in-Ok.first.items c.args.hearer.now c.new-draft.ensures;
+      heard = begun_heard g.H.ProgressHearer.hears F c.args.series.now (draft_as c.new-draft.result) c.from-at.result c.in-Ok.first.items c.args.hearer.now c.new-draft.ensures;
       is = draft_begun F c.args.series.now (draft_as c.new-draft.result) c.from-at.result c.in-Ok.first.items c.from-at.ensures.from c.new-draft.ensures c.from-at.ensures.series.moves c.in-Ok.ensures.ok;
     }
 
@@ -32,7 +32,7 @@ instants-preserved g c =
     let e = draft_as c.add.new.self in
     let t = c.instants.at + c.step-step.result in
     record {
-      heard = told_more g.H.Hearer.hears F c.args.series.now d e c.count-count.result c.args.hearer.now c.instants.hearer c.tell.new.hearer
+      heard = told_more g.H.ProgressHearer.hears F c.args.series.now d e c.count-count.result c.args.hearer.now c.instants.hearer c.tell.new.hearer
           c.count-count.ensures c.instants.invariant.is (one_more d e t c.in-Ok-verdicts_at.found.items c.in-Ok-add.ensures) c.instants.invariant.heard c.tell.ensures;
       within = omega (arith, c.instants.invariant.within, c.instants-test.true);
       last = last_is d e (c.instants.at + c.step-step.result) c.in-Ok-verdicts_at.found.items c.in-Ok-add.ensures;
@@ -47,15 +47,15 @@ returns-in-Ok-end-clause-ok g c =
 
 pub returns-in-Ok-end-clause-heard : goal.returns-in-Ok-end-clause-heard
 returns-in-Ok-end-clause-heard g c =
-    heard_all g.H.Hearer.hears (AreVerdictsAt c.args.topology.now c.args.script.now) c.args.series.now (draft_as c.instants.draft) c.instants.at c.step-step.result c.to-to.result c.args.hearer.now c.instants.hearer
+    heard_all g.H.ProgressHearer.hears (AreVerdictsAt c.args.topology.now c.args.script.now) c.args.series.now (draft_as c.instants.draft) c.instants.at c.step-step.result c.to-to.result c.args.hearer.now c.instants.hearer
     c.step-step.ensures.step c.to-to.ensures.to c.instants.invariant.last c.step-step.ensures.series.moves c.instants-test.false c.instants.invariant.is c.instants.invariant.heard
 
 pub returns-in-Err-verdicts_at-clause-heard_some : goal.returns-in-Err-verdicts_at-clause-heard_some
 returns-in-Err-verdicts_at-clause-heard_some g c =
-    heard_some g.H.Hearer.hears (AreVerdictsAt c.args.topology.now c.args.script.now) c.args.series.now (draft_as c.instants.draft) c.count-count.result c.args.hearer.now c.instants.hearer c.tell.new.hearer
+    heard_some g.H.ProgressHearer.hears (AreVerdictsAt c.args.topology.now c.args.script.now) c.args.series.now (draft_as c.instants.draft) c.count-count.result c.args.hearer.now c.instants.hearer c.tell.new.hearer
     c.count-count.ensures c.instants.invariant.is c.instants.invariant.heard c.tell.ensures
 
 pub returns-in-Err-add-clause-heard_some : goal.returns-in-Err-add-clause-heard_some
 returns-in-Err-add-clause-heard_some g c =
-    heard_some g.H.Hearer.hears (AreVerdictsAt c.args.topology.now c.args.script.now) c.args.series.now (draft_as c.instants.draft) c.count-count.result c.args.hearer.now c.instants.hearer c.tell.new.hearer
+    heard_some g.H.ProgressHearer.hears (AreVerdictsAt c.args.topology.now c.args.script.now) c.args.series.now (draft_as c.instants.draft) c.count-count.result c.args.hearer.now c.instants.hearer c.tell.new.hearer
     c.count-count.ensures c.instants.invariant.is c.instants.invariant.heard c.tell.ensures

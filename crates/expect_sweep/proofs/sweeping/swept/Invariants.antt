@@ -11,7 +11,7 @@ invariant-instants g l = record {
   within : l.at ≤ l.to;
   last : (draft_as l.draft).last.last ≡ l.at;
   is : IsDraft (AreVerdictsAt l.topology l.script) l.series (draft_as l.draft);
-  heard : IsHeardTo g.H.Hearer.hears (AreVerdictsAt l.topology l.script) l.series ((l.draft.done - 1) / told_each) l.fn.hearer l.hearer;
+  heard : IsHeardTo g.H.ProgressHearer.hears (AreVerdictsAt l.topology l.script) l.series ((l.draft.done - 1) / told_each) l.fn.hearer l.hearer;
 }
 
 abbrev pub decreases-instants : goal.decreases-instants

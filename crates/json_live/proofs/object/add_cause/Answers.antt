@@ -1,7 +1,7 @@
 use Rattle.std.proofs.Common.{ℕ, List, codes, subst}
 use Rattle.text_core.specs.Adds.{Adds}
 use Rattle.json_trace.specs.Columns.{field}
-use Rattle.json_trace.specs.declared.values.Shape.TheVariants.{Text}
+use Rattle.json_trace.specs.declared.values.ValueShape.TheVariants.{Text}
 use Rattle.json_live.proofs.object.add_cause.Goals as goal
 
 pub returns : goal.returns

@@ -5,7 +5,7 @@ use Rattle.json_report.specs.Object.{plan_reported, version_reported}
 use Rattle.json_report.specs.Stretch.{stretch_reported}
 use Rattle.json_report.specs.TestLine.{test_reported}
 use Rattle.json_report.specs.Window.{no_window_reported, seen_reported}
-use Rattle.json_report.specs.declared.object.Form.TheVariants as forms
+use Rattle.json_report.specs.declared.object.ReportLine.TheVariants as forms
 use Rattle.json_report.proofs.Told.{reported_as}
 use Rattle.json_report.proofs.object.add_reported_as.Goals as goal
 

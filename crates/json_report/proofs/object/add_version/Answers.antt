@@ -2,7 +2,7 @@ use Rattle.std.proofs.Common.{◌++◌, ◌∙◌, ℕ, List, ap, codes}
 use Rattle.json_trace.specs.Columns.{field}
 use Rattle.json_trace.specs.Object.{type_field}
 use Rattle.json_trace.specs.Parts.{after_word, word}
-use Rattle.json_trace.specs.declared.values.Shape.TheVariants.{Number}
+use Rattle.json_trace.specs.declared.values.ValueShape.TheVariants.{Number}
 use Rattle.text_core.proofs.Adding.{then}
 use Rattle.json_trace.proofs.Writing.{adds_as}
 use Rattle.json_report.proofs.object.add_version.Goals as goal

@@ -1,6 +1,6 @@
 use Rattle.std.proofs.lemmas.List.{take_rest}
 use Rattle.json_trace.specs.Values.{code_texts}
-use Rattle.json_trace.specs.declared.values.Code.TheVariants.{Char}
+use Rattle.json_trace.specs.declared.values.CharValue.TheVariants.{Char}
 use Rattle.json_report.specs.TestLine.{plain}
 use Rattle.json_report.proofs.Fronts.{byte_more, bytes_none, front_all, front_none}
 use Rattle.json_report.proofs.test_line.add_plain.Goals as goal

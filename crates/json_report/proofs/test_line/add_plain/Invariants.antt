@@ -1,6 +1,6 @@
 use Rattle.std.proofs.Common.{length}
 use Rattle.json_trace.specs.Values.{code_texts}
-use Rattle.json_trace.specs.declared.values.Code.TheVariants.{Char}
+use Rattle.json_trace.specs.declared.values.CharValue.TheVariants.{Char}
 use Rattle.json_report.specs.TestLine.{plain, plain_from}
 use Rattle.json_report.proofs.Fronts.{Front}
 use Rattle.json_report.proofs.test_line.add_plain.Given as goal

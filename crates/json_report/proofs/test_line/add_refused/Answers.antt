@@ -1,6 +1,6 @@
 use Rattle.std.proofs.Common.{◌++◌, ℕ, List, ap, codes}
 use Rattle.json_trace.specs.Columns.{field}
-use Rattle.json_trace.specs.declared.values.Shape.TheVariants.{Text}
+use Rattle.json_trace.specs.declared.values.ValueShape.TheVariants.{Text}
 use Rattle.text_core.proofs.Adding.{then}
 use Rattle.json_trace.proofs.Writing.{adds_as}
 use Rattle.json_report.proofs.test_line.add_refused.Goals as goal

@@ -2,7 +2,7 @@ use Rattle.std.proofs.Common.{◌++◌, ◌∙◌, ℕ, List, ap, codes}
 use Rattle.json_trace.specs.Columns.{field}
 use Rattle.json_trace.specs.Object.{frame_fields}
 use Rattle.json_trace.specs.Parts.{before_last}
-use Rattle.json_trace.specs.declared.values.Shape.TheVariants.{Text}
+use Rattle.json_trace.specs.declared.values.ValueShape.TheVariants.{Text}
 use Rattle.text_core.proofs.Adding.{then}
 use Rattle.json_trace.proofs.Writing.{adds_as}
 use Rattle.json_trace.proofs.object.add_complete.Goals as goal

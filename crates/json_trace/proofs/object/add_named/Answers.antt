@@ -1,7 +1,7 @@
 use Rattle.std.proofs.Common.{◌++◌, ◌∙◌, ℕ, List, ap, codes}
 use Rattle.json_trace.specs.Columns.{field}
 use Rattle.json_trace.specs.Parts.{winners_in}
-use Rattle.json_trace.specs.declared.values.Shape.TheVariants.{Losers, Names}
+use Rattle.json_trace.specs.declared.values.ValueShape.TheVariants.{Losers, Names}
 use Rattle.text_core.proofs.Adding.{then}
 use Rattle.json_trace.proofs.Writing.{adds_as}
 use Rattle.json_trace.proofs.object.add_named.Goals as goal

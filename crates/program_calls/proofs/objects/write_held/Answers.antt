@@ -1,7 +1,7 @@
 use Rattle.program_calls.specs.Done.{Writes}
 use Rattle.program_calls.proofs.ObjectLemmas.{objects_done}
 use Rattle.program_calls.proofs.ShownLemmas.{on_ok}
-use Rattle.cli_words.specs.declared.choice.Choice.TheVariants.{Json}
+use Rattle.cli_words.specs.declared.choice.CommandChoice.TheVariants.{Json}
 use Rattle.program_calls.proofs.objects.write_held.Goals as goal
 
 pub returns : goal.returns

@@ -1,6 +1,6 @@
 use Rattle.std.proofs.Common.{OnOk, subst, sym}
 use Rattle.program_calls.specs.Done.{Writes}
-use Rattle.cli_words.specs.declared.choice.Choice.TheVariants.{Json}
+use Rattle.cli_words.specs.declared.choice.CommandChoice.TheVariants.{Json}
 use Rattle.cli_words.specs.declared.choice.Objects.{Objects}
 use Rattle.program_calls.proofs.objects.write_json.Goals as goal
 

@@ -2,7 +2,7 @@ use Rattle.std.proofs.Common.{◌≡◌, false}
 use Rattle.audit_lines.specs.Kinds.{has_remark}
 use Rattle.capture_monitor.specs.Joined.{captured_by}
 use Rattle.text_core.specs.Lines.{lines_of}
-use Rattle.cli_words.specs.declared.choice.Report.TheVariants.{Audit}
+use Rattle.cli_words.specs.declared.choice.CaptureReport.TheVariants.{Audit}
 use Rattle.program_captures.specs.Captures.{Reports}
 use Rattle.std.proofs.Common.{true}
 use Rattle.program_captures.proofs.AuditLemmas.{strict_so}

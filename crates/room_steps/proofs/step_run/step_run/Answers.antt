@@ -4,7 +4,7 @@ use Rattle.room_script.specs.Script.{course_of}
 use Rattle.room_run.proofs.Accepted.{has_device}
 use Rattle.room_steps.specs.Steps.{device_count}
 use Rattle.room_steps.specs.StepRun.{AreCut, NamesDevice}
-use Rattle.room_step_text.specs.declared.commands.Command.{Command}
+use Rattle.room_step_text.specs.declared.commands.StepCommand.{StepCommand}
 use Rattle.room_steps.proofs.Due.{commands_name_devices}
 use Rattle.room_steps.proofs.step_run.step_run.Goals as goal
 
@@ -20,7 +20,7 @@ take_commands-requires g c =
     let stepper = c.in-Ok-new.stepper in
     let named = commands_name_devices tree c.args.steps.now commands c.in-Ok-parse_commands.ensures.ok in
     let counted = subst (λ count. All (NamesDevice count) commands) (sym (ap device_count c.in-Ok-new.ensures.2)) named in
-    subst (λ (xs : List Command). All (NamesDevice (device_count stepper)) xs) (sym c.deref.ensures.value) counted
+    subst (λ (xs : List StepCommand). All (NamesDevice (device_count stepper)) xs) (sym c.deref.ensures.value) counted
 
 pub returns-clause-cut : goal.returns-clause-cut
 returns-clause-cut g c =
@@ -40,5 +40,5 @@ returns-clause-cut g c =
         commands_are = c.in-Ok-parse_commands.ensures.ok;
         starts = c.in-Ok-new.ensures.2;
       },
-      subst (λ (xs : List Command). AreCut xs stepper old new c.in-Err-take_commands.fault) c.deref.ensures.value c.in-Err-take_commands.ensures.cut,
+      subst (λ (xs : List StepCommand). AreCut xs stepper old new c.in-Err-take_commands.fault) c.deref.ensures.value c.in-Err-take_commands.ensures.cut,
     )

@@ -1,7 +1,7 @@
 use Rattle.std.specs.List.{flat_map}
 use Rattle.text_core.specs.Piece.{piece_text}
 use Rattle.audit_core.proofs.Writing.{writes_grown}
-use Rattle.audit_core.proofs.progress.Progress.line.Goals as goal
+use Rattle.audit_core.proofs.progress.TextProgress.line.Goals as goal
 
 pub returns : goal.returns
 returns g c =

@@ -1,6 +1,6 @@
 use Rattle.message_text.specs.ReadingText.{reading_line}
 use Rattle.audit_core.proofs.Writing.{writes_grown}
-use Rattle.audit_core.proofs.progress.Progress.reading.Goals as goal
+use Rattle.audit_core.proofs.progress.TextProgress.reading.Goals as goal
 
 pub returns : goal.returns
 returns g c =

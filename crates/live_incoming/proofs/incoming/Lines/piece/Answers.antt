@@ -1,7 +1,7 @@
 use Rattle.std.proofs.Common.{◌≡◌, ◌+◌, ◌<◌, ◌≤◌, ◌∙◌, ◌++◌, List, ℕ, ap, arith, drop, length, subst, sym, take}
 use Rattle.std.proofs.lemmas.List.{length-take}
 use Rattle.live_incoming.specs.Incoming.{IsPiece, bytes_left, longest_line}
-use Rattle.live_incoming.specs.declared.incoming.Piece.TheVariants.{Part, End, Over}
+use Rattle.live_incoming.specs.declared.incoming.LinePiece.TheVariants.{Part, End, Over}
 use Rattle.live_incoming.proofs.Coming.{end_of, over_of, part_of}
 use Rattle.live_incoming.proofs.incoming.Lines.piece.Goals as goal
 
