@@ -18,9 +18,9 @@ use crate::lines::{
 use crate::progress::TextProgress;
 use arrayvec::ArrayVec;
 use audit_remarks::{
-    Attempts, Counts, Places, Previous, BadStartSeries, Sources, Waiting, after_frame, count_reading,
-    delivered_frame, head_read, is_bad_start, missed_receivers, missing_operands, moved_from,
-    no_counts, no_places, note_report, sender, unfinished,
+    Attempts, BadStartSeries, Counts, Places, Previous, Sources, Waiting, after_frame,
+    count_reading, delivered_frame, head_read, is_bad_start, missed_receivers, missing_operands,
+    moved_from, no_counts, no_places, note_report, sender, unfinished,
 };
 use audit_widths::{Cursor, Low, Widths, drive_within, first_low, low_drive, lows_before};
 use line_frames::{Ending, Reading};

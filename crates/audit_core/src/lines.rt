@@ -7,9 +7,10 @@ ghost use Rattle.audit_core.specs.Progress.{WritesOn};
 
 use crate::progress::TextProgress;
 use audit_remarks::{
-    FrameCount, Failure, FrameHead, Mention, Missing, Receivers, Request, BadStartSeries, Sources, TooSoon,
+    BadStartSeries, Failure, FrameCount, FrameHead, Mention, Missing, Receivers, Request, Sources,
+    TooSoon,
 };
-use audit_widths::{DRIVE, SlotWidth, Low, Misfit, Spread, Widths, low_misfit, total_misfit};
+use audit_widths::{DRIVE, Low, Misfit, SlotWidth, Spread, Widths, low_misfit, total_misfit};
 use line_frames::Ending;
 use message_table::name;
 use text_core::{Phys, Piece, Sink};
@@ -73,7 +74,12 @@ fn write_head_of_name<S: Sink>(
     );
 }
 
-fn write_head_of_byte<S: Sink>(head: FrameHead, opcode: u8, progress: &mut TextProgress, out: &mut S)
+fn write_head_of_byte<S: Sink>(
+    head: FrameHead,
+    opcode: u8,
+    progress: &mut TextProgress,
+    out: &mut S,
+)
     requires { name_of opcode ≡ None }
     ensures { WritesOn (S.contents out.old) (S.contents out.new) (S.is_stuck out.old) (S.is_stuck out.new) (head_line head (Some opcode)) progress.old.so_far progress.new.so_far }
 {
@@ -100,7 +106,12 @@ fn write_head_line<S: Sink>(head: FrameHead, opcode: u8, progress: &mut TextProg
     }
 }
 
-fn write_head_by<S: Sink>(head: FrameHead, opcode: Option<u8>, progress: &mut TextProgress, out: &mut S)
+fn write_head_by<S: Sink>(
+    head: FrameHead,
+    opcode: Option<u8>,
+    progress: &mut TextProgress,
+    out: &mut S,
+)
     ensures { WritesOn (S.contents out.old) (S.contents out.new) (S.is_stuck out.old) (S.is_stuck out.new) (head_line head opcode) progress.old.so_far progress.new.so_far }
 {
     match opcode {
@@ -119,7 +130,11 @@ pub(crate) fn write_head<S: Sink>(head: Option<FrameHead>, progress: &mut TextPr
     write_head_by(head, head.opcode, progress, out);
 }
 
-pub(crate) fn write_series<S: Sink>(series: Option<BadStartSeries>, progress: &mut TextProgress, out: &mut S)
+pub(crate) fn write_series<S: Sink>(
+    series: Option<BadStartSeries>,
+    progress: &mut TextProgress,
+    out: &mut S,
+)
     ensures { WritesOn (S.contents out.old) (S.contents out.new) (S.is_stuck out.old) (S.is_stuck out.new) (series_text series) progress.old.so_far progress.new.so_far }
 {
     let Some(series) = series else {
@@ -276,7 +291,11 @@ pub(crate) fn write_within<S: Sink>(drive: Option<u64>, progress: &mut TextProgr
     );
 }
 
-pub(crate) fn write_unfinished<S: Sink>(block: Option<usize>, progress: &mut TextProgress, out: &mut S)
+pub(crate) fn write_unfinished<S: Sink>(
+    block: Option<usize>,
+    progress: &mut TextProgress,
+    out: &mut S,
+)
     ensures { WritesOn (S.contents out.old) (S.contents out.new) (S.is_stuck out.old) (S.is_stuck out.new) (unfinished_text block) progress.old.so_far progress.new.so_far }
 {
     let Some(block) = block else {
@@ -312,7 +331,11 @@ fn limit_word(attempt: u64) -> &'static str
     }
 }
 
-pub(crate) fn write_failure<S: Sink>(failure: Option<Failure>, progress: &mut TextProgress, out: &mut S)
+pub(crate) fn write_failure<S: Sink>(
+    failure: Option<Failure>,
+    progress: &mut TextProgress,
+    out: &mut S,
+)
     ensures { WritesOn (S.contents out.old) (S.contents out.new) (S.is_stuck out.old) (S.is_stuck out.new) (failure_text failure) progress.old.so_far progress.new.so_far }
 {
     let Some(failure) = failure else {
@@ -375,7 +398,11 @@ pub(crate) fn write_receivers<S: Sink>(
     progress.line(out, &[Piece::Text(receivers_word(receivers))]);
 }
 
-pub(crate) fn write_missing<S: Sink>(missing: Option<Missing>, progress: &mut TextProgress, out: &mut S)
+pub(crate) fn write_missing<S: Sink>(
+    missing: Option<Missing>,
+    progress: &mut TextProgress,
+    out: &mut S,
+)
     ensures { WritesOn (S.contents out.old) (S.contents out.new) (S.is_stuck out.old) (S.is_stuck out.new) (missing_text missing) progress.old.so_far progress.new.so_far }
 {
     let Some(missing) = missing else {
@@ -483,7 +510,12 @@ fn write_answered<S: Sink>(wait: u64, progress: &mut TextProgress, out: &mut S)
     );
 }
 
-fn write_if_answered<S: Sink>(begin: u64, request: Request, progress: &mut TextProgress, out: &mut S)
+fn write_if_answered<S: Sink>(
+    begin: u64,
+    request: Request,
+    progress: &mut TextProgress,
+    out: &mut S,
+)
     ensures { WritesOn (S.contents out.old) (S.contents out.new) (S.is_stuck out.old) (S.is_stuck out.new) (if_answered begin request) progress.old.so_far progress.new.so_far }
 {
     if !request.is_late(begin) {

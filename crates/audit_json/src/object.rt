@@ -19,7 +19,10 @@ fn is_reading(kind: AuditLine) -> bool
 fn is_note(kind: AuditLine) -> bool
     ensures { result ≡ is_note kind }
 {
-    !matches!(kind, AuditLine::Summary | AuditLine::Sender | AuditLine::Widths)
+    !matches!(
+        kind,
+        AuditLine::Summary | AuditLine::Sender | AuditLine::Widths
+    )
 }
 
 fn type_of(kind: AuditLine) -> &'static str

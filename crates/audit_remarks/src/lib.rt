@@ -15,7 +15,7 @@ mod series;
 mod sources;
 
 pub use attempts::{Attempts, Failure};
-pub use counts::{FrameCount, Counts, count_reading, no_counts};
+pub use counts::{Counts, FrameCount, count_reading, no_counts};
 pub use frames::{delivered_frame, sender};
 pub use free::{Previous, TooSoon, is_bad_start};
 pub use header::{FrameHead, head_read, unfinished};

@@ -9,5 +9,7 @@ mod spread;
 
 pub use cursor::Cursor;
 pub use low::{Low, first_low, lows_before};
-pub use misfit::{DRIVE, SlotWidth, Misfit, WidthWindow, drive_within, low_drive, low_misfit, total_misfit};
+pub use misfit::{
+    DRIVE, Misfit, SlotWidth, WidthWindow, drive_within, low_drive, low_misfit, total_misfit,
+};
 pub use spread::{Spread, Widths};

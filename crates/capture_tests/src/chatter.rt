@@ -49,7 +49,13 @@ fn polls(rt: &(impl Abort + AllocGlobal)) -> Capture {
         push_poll(rt, &mut text, poll.saturating_mul(60_000));
     }
     push(rt, &mut text, 1_100_000, "end");
-    read_capture(rt.alloc(), CaptureForm::Edges, b"".as_slice(), text.as_bytes()).expect(rt, "a capture")
+    read_capture(
+        rt.alloc(),
+        CaptureForm::Edges,
+        b"".as_slice(),
+        text.as_bytes(),
+    )
+    .expect(rt, "a capture")
 }
 
 /// How many readings of a capture are polls that nobody acknowledged.

@@ -95,7 +95,12 @@ fn lost_text(rt: &(impl Abort + AllocGlobal), text: &str) -> String {
 
 /// The readings of an edge file, from idle on.
 fn idle_text(rt: &(impl Abort + AllocGlobal), text: &str) -> String {
-    let read = read_capture(rt.alloc(), CaptureForm::Edges, b"".as_slice(), text.as_bytes());
+    let read = read_capture(
+        rt.alloc(),
+        CaptureForm::Edges,
+        b"".as_slice(),
+        text.as_bytes(),
+    );
     let capture = read.expect(rt, "a capture");
     let mut out = Vec::new(rt.alloc());
     watch_from_idle(&capture, &mut Writes::new(&mut out)).expect(rt, "memory");

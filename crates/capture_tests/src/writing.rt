@@ -76,10 +76,13 @@ const STRETCHES: &[Stretch] = &[
 const CAPTURE: &str = "1000 0\n4499 1\n9000 0\n12700 1\n13000 end\n";
 
 fn watch(rt: &(impl Abort + AllocGlobal), out: &mut Out<'_>) -> Result<(), WriteFault> {
-    let capture = read_capture(rt.alloc(), CaptureForm::Edges, b"".as_slice(), CAPTURE.as_bytes()).expect(
-        rt,
-        "a capture",
-    );
+    let capture = read_capture(
+        rt.alloc(),
+        CaptureForm::Edges,
+        b"".as_slice(),
+        CAPTURE.as_bytes(),
+    )
+    .expect(rt, "a capture");
     watch_capture(&capture, out)
 }
 

@@ -2,7 +2,7 @@
 ghost use Rattle.std.specs.Prelude.{◌≡◌, map, string_bytes, option_and_then};
 ghost use Rattle.cli_words.specs.EdidFlags.{amplified_of, edid_asked, edid_flags, edid_place, edid_sound, edid_source, edid_view, nth_of, one_source, own_shape, pair_source, place_by, port_of, spoken_of, waited_edid, with_edid_flag, with_edid_value, with_edid_word};
 
-use crate::choice::{Asked, CommandChoice, EdidReading, Recipient, EdidShape, Sound, Source, View};
+use crate::choice::{Asked, CommandChoice, EdidReading, EdidShape, Recipient, Sound, Source, View};
 use crate::joined::joined;
 use crate::rows::rows_of;
 use edid_merge::Table;

@@ -15,8 +15,8 @@ mod run_flags;
 mod subcommand;
 
 pub use choice::{
-    Asked, CommandChoice, Form, FollowForm, Listing, Objects, EdidReading, Recipient, CaptureReport, EdidShape, Sound,
-    Source, TestView, View,
+    Asked, CaptureReport, CommandChoice, EdidReading, EdidShape, FollowForm, Form, Listing,
+    Objects, Recipient, Sound, Source, TestView, View,
 };
 pub use line::asked_by;
 pub use mon_flags::signal_in;

@@ -2,7 +2,7 @@
 ghost use Rattle.std.specs.Prelude.{◌≡◌, map, string_bytes, Some, None, MatchOption, option_and_then};
 ghost use Rattle.cli_words.specs.MonFlags.{follow_choice, form_of, goes_further, has_names, is_from_idle, line_form, margin_of, is_misfit, joined_signal, mon_asked, mon_choice, mon_flags, mon_report, signal_in, waited_mon, with_mon_flag, with_mon_value, with_mon_word};
 
-use crate::choice::{Asked, CommandChoice, Form, FollowForm, Objects, CaptureReport};
+use crate::choice::{Asked, CaptureReport, CommandChoice, FollowForm, Form, Objects};
 use crate::joined::joined;
 use crate::micros::micros_of;
 use text_core::{after, before, number_in};

@@ -12,7 +12,7 @@ use crate::index::Index;
 use crate::named::is_labelled;
 use crate::reported::{EventLine, refusal_in, state_words};
 use crate::seen::TimeSpan;
-use expect_text::{ExpectLine, Labels, Quantity, ExpectWindow, form_in, onset_in, unlabelled};
+use expect_text::{ExpectLine, ExpectWindow, Labels, Quantity, form_in, onset_in, unlabelled};
 use std::alloc::{AllocError, Global};
 use std::collections::HashMap;
 use text_core::{first_line, first_word};
@@ -82,7 +82,11 @@ fn span_from(duration: u64, at: Option<u64>) -> Option<TimeSpan>
     })
 }
 
-fn span_of(labels: &Labels<'_>, instants: &HashMap<u64, u64>, window: ExpectWindow) -> Option<TimeSpan>
+fn span_of(
+    labels: &Labels<'_>,
+    instants: &HashMap<u64, u64>,
+    window: ExpectWindow,
+) -> Option<TimeSpan>
     ensures { result ≡ span_of labels.now.script.now (λ number. get nat_eq instants.now number) (window_of window.entry) }
 {
     match window {
@@ -279,7 +283,9 @@ fn line_judged(
                 pattern,
             } => rounds_judged(index, quantity, pattern, span_of(labels, instants, window)),
             ExpectLine::State { words, .. } => state_judged(state, words),
-            ExpectLine::Refused { label, word } => { refused_judged(labels, index, number, label, word) }
+            ExpectLine::Refused { label, word } => {
+                refused_judged(labels, index, number, label, word)
+            }
         },
     }
 }

@@ -11,7 +11,7 @@ mod rounds;
 mod seen;
 
 pub use expected::Expected;
-pub use judge::{JudgedLine, Judged, all_judged, is_of_state};
+pub use judge::{Judged, JudgedLine, all_judged, is_of_state};
 pub use laws::{larger_spans_hold, never_is_the_contrary, once_is_some};
 pub use named::NamedLines;
 pub use reported::{EventLine, RoundLine, event_in, refusal_in, round_in, state_line};

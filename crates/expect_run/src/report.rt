@@ -12,7 +12,7 @@ ghost use Rattle.expect_run.specs.Report.{report_start, report_with_plan, escape
 
 use crate::held::Held;
 use expect_judge::{
-    EventLine, Expected, JudgedLine, Judged, RoundLine, RoundLines, TimeSpan, all_judged, event_in,
+    EventLine, Expected, Judged, JudgedLine, RoundLine, RoundLines, TimeSpan, all_judged, event_in,
     is_seen, refusal_in,
 };
 use expect_text::{ExpectLine, Labels, form_in, unlabelled};

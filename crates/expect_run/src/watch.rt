@@ -10,7 +10,7 @@ ghost use Rattle.expect_run.specs.Kept.{known_from, known_span, time_at, watch_a
 
 use crate::times::{LONGEST_WAIT, Times};
 use expect_judge::TimeSpan;
-use expect_text::{ExpectLine, Labels, ExpectWindow, form_in, meets, unlabelled};
+use expect_text::{ExpectLine, ExpectWindow, Labels, form_in, meets, unlabelled};
 use std::alloc::{AllocError, Global};
 use text_core::first_line;
 

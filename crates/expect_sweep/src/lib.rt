@@ -9,7 +9,7 @@ mod series;
 mod stretches;
 mod sweeping;
 
-pub use progress::{ProgressHearer, SweepProgress, SilentProgress};
+pub use progress::{ProgressHearer, SilentProgress, SweepProgress};
 pub use script::RangeFault;
 pub use series::RangeCause;
 pub use sweeping::{SweepError, sweep};

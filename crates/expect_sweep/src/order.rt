@@ -7,7 +7,7 @@ ghost use Rattle.expect_sweep.specs.Order.{between, are_apart, are_times_apart, 
 
 use crate::places::WordRole;
 use crate::script::{RangeFault, is_range_at, range_of};
-use crate::series::{RangeCause, InstantSeries, is_range};
+use crate::series::{InstantSeries, RangeCause, is_range};
 use expect_text::unlabelled;
 use line_wave::WIDEST_PULL;
 use text_core::{first_line, first_word, number_in};
@@ -171,13 +171,25 @@ fn between(above: TimedLine, below: TimedLine) -> Apart
     match (above, below) {
         (TimedLine::Event, TimedLine::Event) => Apart::After(0),
         (TimedLine::Event, TimedLine::End) => Apart::After(1),
-        (TimedLine::Pulse(width), TimedLine::Pulse(_)) => Apart::After(width.min(WIDTH_MOST) + LEAST_GAP),
-        (TimedLine::Pulse(width), TimedLine::Pull(_)) => Apart::After(width.min(WIDTH_MOST) + LEAST_HIGH),
-        (TimedLine::Pull(width), TimedLine::Pulse(_)) => Apart::After(width.min(PULL_WIDTH_MOST) + LEAST_GAP),
-        (TimedLine::Pull(width), TimedLine::Pull(_)) => Apart::After(width.min(PULL_WIDTH_MOST) + LEAST_HIGH),
-        (TimedLine::Pulse(width), TimedLine::Low) => Apart::After(width.min(WIDTH_MOST) + LEAST_HIGH),
+        (TimedLine::Pulse(width), TimedLine::Pulse(_)) => Apart::After(
+            width.min(WIDTH_MOST) + LEAST_GAP,
+        ),
+        (TimedLine::Pulse(width), TimedLine::Pull(_)) => Apart::After(
+            width.min(WIDTH_MOST) + LEAST_HIGH,
+        ),
+        (TimedLine::Pull(width), TimedLine::Pulse(_)) => Apart::After(
+            width.min(PULL_WIDTH_MOST) + LEAST_GAP,
+        ),
+        (TimedLine::Pull(width), TimedLine::Pull(_)) => Apart::After(
+            width.min(PULL_WIDTH_MOST) + LEAST_HIGH,
+        ),
+        (TimedLine::Pulse(width), TimedLine::Low) => Apart::After(
+            width.min(WIDTH_MOST) + LEAST_HIGH,
+        ),
         (TimedLine::Pulse(width), TimedLine::High) => Apart::After(width.min(WIDTH_MOST)),
-        (TimedLine::Pull(width), TimedLine::Low) => Apart::After(width.min(PULL_WIDTH_MOST) + LEAST_HIGH),
+        (TimedLine::Pull(width), TimedLine::Low) => Apart::After(
+            width.min(PULL_WIDTH_MOST) + LEAST_HIGH,
+        ),
         (TimedLine::Pull(width), TimedLine::High) => Apart::After(width.min(PULL_WIDTH_MOST)),
         (TimedLine::Low, TimedLine::High) => Apart::After(LEAST_LEVEL),
         (TimedLine::High, TimedLine::Low) => Apart::After(LEAST_LEVEL),
@@ -338,7 +350,10 @@ fn crossing(script: &[u8], series: &InstantSeries) -> Option<RangeFault>
     }
 }
 
-fn unless_crossing(script: &[u8], series: InstantSeries) -> Result<Option<InstantSeries>, RangeFault>
+fn unless_crossing(
+    script: &[u8],
+    series: InstantSeries,
+) -> Result<Option<InstantSeries>, RangeFault>
     ensures { result ≡ unless_crossing series (crossing script.now series) }
 {
     match crossing(script, &series) {

@@ -5,7 +5,7 @@ ghost use Rattle.text_core.specs.Words.{words_after, words_of};
 ghost use Rattle.expect_sweep.specs.Script.{is_range_at, line_at, mark_before, range_of, script_at, with_range, with_word, word_at, words_ranged};
 
 use crate::places::WordRole;
-use crate::series::{RangeCause, InstantSeries, is_range, series_in};
+use crate::series::{InstantSeries, RangeCause, is_range, series_in};
 use std::alloc::{AllocError, Global};
 use text_core::{first_line, first_word};
 use thiserror::Error;

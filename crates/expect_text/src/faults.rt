@@ -10,7 +10,7 @@ ghost use Rattle.expect_text.specs.StateTest.{strange_word};
 ghost use Rattle.expect_text.specs.Faults.{declared_in, end_in, ends_before, first_fault, form_fault, has_strange_name, is_above, is_declared, is_line, is_named, is_own_label, is_past, is_refusal, is_strange, is_strange_name, labelled_form, line_fault, or_fault, pattern_fault, refusal_fault, refusal_word, state_fault, strange_at, strange_fault, window_fault};
 
 use crate::fault::{ExpectLineFault, after_label, at_word};
-use crate::form::{ExpectCause, ExpectLine, Quantity, ExpectWindow, form_in, in_window};
+use crate::form::{ExpectCause, ExpectLine, ExpectWindow, Quantity, form_in, in_window};
 use crate::labels::Labels;
 use crate::line::{is_labelable, unlabelled};
 use crate::named::NamedPattern;
@@ -319,7 +319,10 @@ fn any_after_label(label: Option<&[u8]>, fault: Option<ExpectLineFault>) -> Opti
 }
 
 // What a line says without its label, which stands before no other line than an expectation, an event or a pulse.
-fn labelled_form<'a>(label: Option<&[u8]>, rest: Option<&'a [u8]>) -> Result<ExpectLine<'a>, ExpectLineFault>
+fn labelled_form<'a>(
+    label: Option<&[u8]>,
+    rest: Option<&'a [u8]>,
+) -> Result<ExpectLine<'a>, ExpectLineFault>
     ensures is { IsForm (labelled_form (option_copied label.entry) (words_after (option_copied rest.entry))) result }
     ensures near { IfErr result IsNear }
 {
@@ -329,7 +332,12 @@ fn labelled_form<'a>(label: Option<&[u8]>, rest: Option<&'a [u8]>) -> Result<Exp
     form_in(rest)
 }
 
-fn line_fault(topology: &[u8], labels: &Labels<'_>, number: u64, line: &[u8]) -> Option<ExpectLineFault>
+fn line_fault(
+    topology: &[u8],
+    labels: &Labels<'_>,
+    number: u64,
+    line: &[u8],
+) -> Option<ExpectLineFault>
     ensures { result ≡ line_fault topology.now labels.now.script.now number line.now }
 {
     let line = unlabelled(line);

@@ -246,7 +246,10 @@ fn within<'a>(quantity: Quantity, parts: &Parts<'a>) -> Result<ExpectLine<'a>, E
     })
 }
 
-fn rounds_between<'a>(quantity: Quantity, parts: &Parts<'a>) -> Result<ExpectLine<'a>, ExpectLineFault>
+fn rounds_between<'a>(
+    quantity: Quantity,
+    parts: &Parts<'a>,
+) -> Result<ExpectLine<'a>, ExpectLineFault>
     ensures is { IsForm (rounds_between quantity (exact_number parts.now.first.now) (exact_number parts.now.second.now) (parts_as parts.now)) result }
     ensures early { IfOk result IsEarly }
     ensures near { IfErr result IsNear }
@@ -264,7 +267,10 @@ fn rounds_between<'a>(quantity: Quantity, parts: &Parts<'a>) -> Result<ExpectLin
     })
 }
 
-fn within_in<'a>(quantity: Quantity, rest: Option<&'a [u8]>) -> Result<ExpectLine<'a>, ExpectLineFault>
+fn within_in<'a>(
+    quantity: Quantity,
+    rest: Option<&'a [u8]>,
+) -> Result<ExpectLine<'a>, ExpectLineFault>
     ensures is { IsForm (within_by quantity (parts_in quantity (codes "of") (words_after (option_copied rest.entry)))) result }
     ensures early { IfOk result IsEarly }
     ensures near { IfErr result IsNear }
@@ -275,7 +281,10 @@ fn within_in<'a>(quantity: Quantity, rest: Option<&'a [u8]>) -> Result<ExpectLin
     }
 }
 
-fn between_in<'a>(quantity: Quantity, rest: Option<&'a [u8]>) -> Result<ExpectLine<'a>, ExpectLineFault>
+fn between_in<'a>(
+    quantity: Quantity,
+    rest: Option<&'a [u8]>,
+) -> Result<ExpectLine<'a>, ExpectLineFault>
     ensures is { IsForm (between_by quantity (parts_in quantity (codes "to") (words_after (option_copied rest.entry)))) result }
     ensures early { IfOk result IsEarly }
     ensures near { IfErr result IsNear }
@@ -286,7 +295,10 @@ fn between_in<'a>(quantity: Quantity, rest: Option<&'a [u8]>) -> Result<ExpectLi
     }
 }
 
-fn rounds_in<'a>(quantity: Quantity, rest: Option<&'a [u8]>) -> Result<ExpectLine<'a>, ExpectLineFault>
+fn rounds_in<'a>(
+    quantity: Quantity,
+    rest: Option<&'a [u8]>,
+) -> Result<ExpectLine<'a>, ExpectLineFault>
     ensures is { IsForm (rounds_in quantity (words_after (option_copied rest.entry))) result }
     ensures early { IfOk result IsEarly }
     ensures near { IfErr result IsNear }
@@ -354,7 +366,11 @@ fn bad_word(text: &[u8]) -> Option<usize>
     }
 }
 
-fn state_at_time<'a>(time: &[u8], device: &'a [u8], words: &'a [u8]) -> Result<ExpectLine<'a>, ExpectLineFault>
+fn state_at_time<'a>(
+    time: &[u8],
+    device: &'a [u8],
+    words: &'a [u8],
+) -> Result<ExpectLine<'a>, ExpectLineFault>
     ensures is { IsForm (state_at_time (number_of time.now) device.now (words_of words.now)) result }
     ensures early { IfOk result IsEarly }
     ensures near { IfErr result IsNear }

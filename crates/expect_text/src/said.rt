@@ -51,7 +51,12 @@ fn both(front: &[PatternPart], back: &[PatternPart]) -> Parts
 }
 
 // Whether a text of these parts, one after another, meets the pattern.
-fn is_met_in_turn(front: &[PatternPart], middle: &[PatternPart], back: &[PatternPart], pattern: &[u8]) -> bool
+fn is_met_in_turn(
+    front: &[PatternPart],
+    middle: &[PatternPart],
+    back: &[PatternPart],
+    pattern: &[u8],
+) -> bool
     requires { length front.now + length middle.now + length back.now ≤ 128 }
     ensures { result ≡ is_met (front.now ++ (middle.now ++ back.now)) pattern.now }
 {
@@ -93,7 +98,11 @@ fn quoted_parts() -> Parts
 fn raw_parts() -> Parts
     ensures { result.items ≡ raw_parts }
 {
-    parts_of(&[PatternPart::Byte(b' '), PatternPart::Byte(b':'), PatternPart::Many(Class::Hex)])
+    parts_of(&[
+        PatternPart::Byte(b' '),
+        PatternPart::Byte(b':'),
+        PatternPart::Many(Class::Hex),
+    ])
 }
 
 fn volume_parts(word: &[u8]) -> Parts
@@ -107,7 +116,12 @@ fn volume_parts(word: &[u8]) -> Parts
 }
 
 // Whether a line with one of the operands that fit their row meets the pattern, with these parts before and after them.
-fn is_worded_met(front: &[PatternPart], operands: Operands, back: &[PatternPart], pattern: &[u8]) -> bool
+fn is_worded_met(
+    front: &[PatternPart],
+    operands: Operands,
+    back: &[PatternPart],
+    pattern: &[u8],
+) -> bool
     requires front { length front.now ≤ 40 }
     requires back { length back.now ≤ 32 }
     ensures { result ≡ list_any (λ operands. is_met (front.now ++ (operands ++ back.now)) pattern.now) (worded_parts operands) }
@@ -149,7 +163,11 @@ fn header_parts(is_broadcast: bool) -> Parts
     } else {
         PatternPart::One(Class::Directed)
     };
-    parts_of(&[PatternPart::One(Class::Hex), PatternPart::Byte(b'>'), destination])
+    parts_of(&[
+        PatternPart::One(Class::Hex),
+        PatternPart::Byte(b'>'),
+        destination,
+    ])
 }
 
 // A header and an opcode.

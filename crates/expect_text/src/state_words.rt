@@ -70,7 +70,10 @@ const NOTE: &[PatternPart] = &[
     PatternPart::One(Class::Hex),
 ];
 
-const NUMBER: &[PatternPart] = &[PatternPart::One(Class::Digit), PatternPart::Many(Class::Digit)];
+const NUMBER: &[PatternPart] = &[
+    PatternPart::One(Class::Digit),
+    PatternPart::Many(Class::Digit),
+];
 
 const NIBBLE: &[PatternPart] = &[PatternPart::One(Class::Hex)];
 
@@ -131,7 +134,8 @@ impl StateField {
         match self {
             StateField::Active | StateField::Path => Value::Physical,
             StateField::Deck | StateField::Held => Value::Byte,
-            StateField::Menu | StateField::Audio | StateField::Mute | StateField::Arc => Value::Switch,
+            StateField::Menu | StateField::Audio | StateField::Mute | StateField::Arc =>
+                Value::Switch,
             StateField::Volume | StateField::Selected => Value::Number,
             StateField::Language | StateField::Osd => Value::Hex,
             StateField::Heard => Value::Note,

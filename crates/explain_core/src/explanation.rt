@@ -8,7 +8,7 @@ use edid_text_lines::WORD_TEXTS;
 use explain_forms::{add_meant, add_right_forms, add_slip};
 use explain_lists::Draft;
 use explain_marks::{
-    InputFault, Gaps, Input, Mark, InputLine, WordSlip, gaps_of, is_line_end, label_words, marked,
+    Gaps, Input, InputFault, InputLine, Mark, WordSlip, gaps_of, is_line_end, label_words, marked,
     place_in_session, place_of, plain, slip_of, span_of, word_at,
 };
 use rules_explain::lacks_line_feed;
@@ -106,7 +106,13 @@ fn add_word(
 
 // A line as it is shown, with its mark, what is odd about it, and what it would have to look like. Returns whether what would be
 // right in place of any such fault is of no use then.
-fn add_marked(draft: &mut Draft, what: Input, place: InputLine<'_>, fault: InputFault, line: &str) -> bool {
+fn add_marked(
+    draft: &mut Draft,
+    what: Input,
+    place: InputLine<'_>,
+    fault: InputFault,
+    line: &str,
+) -> bool {
     let mark = marked(what, fault, line);
     add_shown(draft, place, line, gaps_of(fault), mark);
     add_hints(draft, of_line(place.line, line).as_slice());
@@ -127,11 +133,20 @@ fn add_marked(draft: &mut Draft, what: Input, place: InputLine<'_>, fault: Input
 fn is_unended(place: InputLine<'_>, fault: InputFault, line: &str) -> bool {
     let is_last = place.number >= place.input.split(is_line_end).count();
     let is_known = WORD_TEXTS.contains(&word_at(line, 0).unwrap_or(""));
-    matches!(fault, InputFault::TextSyntax { .. }) && is_last && is_known && lacks_line_feed(place.input)
+    matches!(fault, InputFault::TextSyntax { .. })
+        && is_last
+        && is_known
+        && lacks_line_feed(place.input)
 }
 
 // What there is to say of a line that is shown so. Returns whether what would be right in place of any such fault is of no use.
-fn add_line(draft: &mut Draft, what: Input, place: InputLine<'_>, fault: InputFault, line: &str) -> bool {
+fn add_line(
+    draft: &mut Draft,
+    what: Input,
+    place: InputLine<'_>,
+    fault: InputFault,
+    line: &str,
+) -> bool {
     if is_unended(place, fault, line) {
         add_shown(draft, place, line, Gaps::Spaces, None);
         return true;

@@ -7,9 +7,9 @@ use crate::room::{add_field_count, add_lack_of_room};
 use expect_text::ExpectCause;
 use explain_lists::Draft;
 use explain_marks::{
-    InputFault, Input, LAID, InputLine, REFUSALS, REMARKS, SCRIPT, SESSION, STEPS, TEST, TOPOLOGY, as_form,
-    fitting, forms_of, frame_start, is_word, missing, most_fitting, plain, slip_of, without_label,
-    word_at, word_count,
+    Input, InputFault, InputLine, LAID, REFUSALS, REMARKS, SCRIPT, SESSION, STEPS, TEST, TOPOLOGY,
+    as_form, fitting, forms_of, frame_start, is_word, missing, most_fitting, plain, slip_of,
+    without_label, word_at, word_count,
 };
 use message_lay::LayCause;
 use room_script::{ScriptCause, TopologyCause};

@@ -5,13 +5,13 @@ use crate::keys::is_of_key;
 use crate::names::{add_header_name_meant, add_name_meant, add_named_header};
 use crate::topology::add_topology_meant;
 use crate::wanted::add_nearest_of;
-use capture_forms::{Cause, CaptureForm};
+use capture_forms::{CaptureForm, Cause};
 use device_features::KeyWord;
 use edid_text_lines::WORD_TEXTS;
 use explain_lists::Draft;
 use explain_marks::{
-    EXPECTATIONS, InputFault, Input, LAID, NETWORK, InputLine, SESSION, SESSION_ALONE, STEPS, is_number,
-    is_word, most_fitting, word_at,
+    EXPECTATIONS, Input, InputFault, InputLine, LAID, NETWORK, SESSION, SESSION_ALONE, STEPS,
+    is_number, is_word, most_fitting, word_at,
 };
 use explain_near::{add_near, add_nearest, add_number, add_other, add_set_meant, add_suggestion};
 use message_lay::LayCause;

@@ -1,5 +1,5 @@
 //! The faults of inputs, as the libraries return them.
-use capture_forms::{Cause, CaptureForm};
+use capture_forms::{CaptureForm, Cause};
 use edid_core::EdidError;
 use edid_dump::DumpError;
 use expect_text::ExpectCause;

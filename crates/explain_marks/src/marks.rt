@@ -1,11 +1,11 @@
 //! Which words of a line are at fault.
 use crate::edges::in_line;
 use crate::expectations::{after_label, label_words};
-use crate::fault::{InputFault, Input};
+use crate::fault::{Input, InputFault};
 use crate::grammar::{SESSION_ALONE, most_fitting};
 use crate::slips::slip_of;
 use crate::words::{Gaps, word_at};
-use capture_forms::{Cause, CaptureForm};
+use capture_forms::{CaptureForm, Cause};
 use expect_text::ExpectCause;
 use message_lay::LayCause;
 use message_text::AssembleError;

@@ -1,5 +1,5 @@
 //! Where in an input a fault stands.
-use crate::fault::{InputFault, Input};
+use crate::fault::{Input, InputFault};
 
 /// A line of an input, with its number from 1.
 #[derive(Clone, Copy)]
@@ -142,10 +142,14 @@ pub fn place_of(input: &[u8], what: Input, fault: InputFault) -> Option<InputLin
             ..
         } => None,
         InputFault::Topology { line, .. } => line_of(input, 0, line),
-        InputFault::Script { line, .. } | InputFault::Range { line, .. } | InputFault::Past { line, .. } => {
-            line_of(input, before_script(input), line)
-        }
-        InputFault::Expectation { line, .. } => line_of(input, before_expectations(what, input), line),
+        InputFault::Script { line, .. }
+        | InputFault::Range { line, .. }
+        | InputFault::Past { line, .. } => { line_of(input, before_script(input), line) }
+        InputFault::Expectation { line, .. } => line_of(
+            input,
+            before_expectations(what, input),
+            line,
+        ),
         InputFault::Steps { line, .. } => line_of(input, before_steps(input), line),
         InputFault::Capture { line, .. } => line_of(input, before_capture(what, input), line),
         InputFault::Frame { line, .. }
@@ -161,7 +165,11 @@ pub fn place_of(input: &[u8], what: Input, fault: InputFault) -> Option<InputLin
                 "at ", "pulse ", "pull ", "pin ", "end ", "label ", "expect ",
             ],
         ),
-        InputFault::NoStepsLine => find_parting(input, "steps", &["edge", "round", "until ", "show "]),
+        InputFault::NoStepsLine => find_parting(
+            input,
+            "steps",
+            &["edge", "round", "until ", "show "],
+        ),
         InputFault::NoCaptureLine => find_parting(input, "capture", &[]),
         InputFault::NoPort
         | InputFault::Dump(_)

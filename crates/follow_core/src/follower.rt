@@ -87,7 +87,12 @@ impl Follower {
     /// # Errors
     ///
     /// The line is at fault.
-    pub fn line(&mut self, signal: &[u8], number: u64, line: &[u8]) -> Result<EndedReadings, CaptureFault>
+    pub fn line(
+        &mut self,
+        signal: &[u8],
+        number: u64,
+        line: &[u8],
+    ) -> Result<EndedReadings, CaptureFault>
         requires ready { IsReady self.old }
         ensures hears { HearsLine signal.now number line.now self.old result self.new }
         ensures place { IfErr result (λ fault. fault.line ≡ number) }

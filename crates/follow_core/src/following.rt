@@ -9,7 +9,7 @@ ghost use Rattle.capture_monitor.specs.Watch.{reported_text};
 ghost use Rattle.follow_core.specs.Follow.{Ends, Follows, HoldsNothing, Hears, IsOfWriting, IsReady, Puts, heard_text, line_error};
 
 use crate::error::FollowError;
-use crate::follower::{Follower, EndedReadings};
+use crate::follower::{EndedReadings, Follower};
 use crate::lines::LineForm;
 use arrayvec::ArrayVec;
 use line_frames::Reading;

@@ -8,6 +8,6 @@ mod following;
 mod lines;
 
 pub use error::FollowError;
-pub use follower::{Follower, EndedReadings};
+pub use follower::{EndedReadings, Follower};
 pub use following::follow;
 pub use lines::LineForm;

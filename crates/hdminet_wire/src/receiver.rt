@@ -11,7 +11,8 @@ ghost use Rattle.library_wire.specs.Heard.{heard_code, instant_of, instant_refus
 ghost use Rattle.library_wire.specs.Receiver.{HasHeard, IsNoReceiver, IsRunning, IsStart};
 
 use library_wire::{
-    InstantHeard, Instant, ReadingParts, receiver_hear, receiver_new, receiver_running, receiver_wakes_at,
+    Instant, InstantHeard, ReadingParts, receiver_hear, receiver_new, receiver_running,
+    receiver_wakes_at,
 };
 use line_reading::ReceiverParts;
 

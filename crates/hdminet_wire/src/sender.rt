@@ -11,7 +11,7 @@ ghost use Rattle.library_wire.specs.Heard.{instant_refused, reported_in};
 ghost use Rattle.library_wire.specs.Sender.{HasBegun, IsChange, IsLeft, IsNoSender, IsReported, pull_code, pull_reported};
 
 use library_wire::{
-    InstantHeard, Instant, SenderPull, sender_begin, sender_heard, sender_next_change, sender_pulls,
+    Instant, InstantHeard, SenderPull, sender_begin, sender_heard, sender_next_change, sender_pulls,
 };
 use line_reading::SenderParts;
 
@@ -34,7 +34,11 @@ pub extern "C" fn hdminet_sender_begin(sender: &mut SenderParts, bytes: &[u8], t
 /// Refused where the state is no sender's, then where no receiver reports this, and then where `t` is after
 /// 3,000,000,000,000 microseconds: the sender stays as it was.
 #[unsafe(no_mangle)]
-pub extern "C" fn hdminet_sender_heard(sender: &mut SenderParts, heard: &InstantHeard, t: u64) -> u32
+pub extern "C" fn hdminet_sender_heard(
+    sender: &mut SenderParts,
+    heard: &InstantHeard,
+    t: u64,
+) -> u32
     ensures hears { (s : SenderValue) → (reported : ReportedValue) → ArePartsOfSender s sender.old → reported_in heard.now ≡ Some reported → t ≤ latest_heard
         → (result ≡ number_of Done) × IsReported s reported t sender.new }
     ensures spoilt { IsNoSender sender.old → IsLeft State result sender.old sender.new }

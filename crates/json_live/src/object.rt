@@ -8,8 +8,8 @@ ghost use Rattle.json_trace.specs.declared.values.ValueShape.TheVariants.{Text};
 ghost use Rattle.json_live.specs.Object.{IsBody, IsLiveObject, edge_body, horizon_body, kind_by, kind_of, refusal_body, truth};
 
 use json_trace::{
-    JsonField, ValueShape, add_field, add_fields, add_lead, add_quoted, add_reported, add_type, after_word,
-    word,
+    JsonField, ValueShape, add_field, add_fields, add_lead, add_quoted, add_reported, add_type,
+    after_word, word,
 };
 use text_core::{Counted, Sink};
 

@@ -5,7 +5,9 @@ ghost use Rattle.json_trace.specs.Values.{code_texts};
 ghost use Rattle.json_trace.specs.declared.values.CharValue.TheVariants.{Char};
 ghost use Rattle.json_report.specs.TestLine.{expected_fields, is_escape, place_fields, plain, plain_byte, refused_fields, test_reported, text_fields, truth};
 
-use json_trace::{ValueShape, add_char, add_field, add_lead, add_type, after_word, before_byte, word};
+use json_trace::{
+    ValueShape, add_char, add_field, add_lead, add_type, after_word, before_byte, word,
+};
 use text_core::{Counted, Sink};
 
 fn is_escape(escaped: bool, byte: u8) -> bool

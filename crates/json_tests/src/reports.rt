@@ -38,7 +38,11 @@ fn escapes_of_tests(rt: HostRuntime) {
     for row in ESCAPED.lines() {
         let (line, want) = row.split_once(" => ").expect(&rt, row);
         let object = format!(in rt.alloc(); "{want}\n").expect(&rt, row);
-        holds(&rt, objects(&rt, ReportKind::Expectations, line) == object, row);
+        holds(
+            &rt,
+            objects(&rt, ReportKind::Expectations, line) == object,
+            row,
+        );
     }
 }
 

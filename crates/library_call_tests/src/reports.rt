@@ -6,7 +6,9 @@ use edid_core::{EdidCause, EdidError};
 use expect_run::CheckError;
 use expect_text::{ExpectCause, ExpectFault};
 use library_answers::Answer;
-use library_run::{TestCounts, check_refused, put_readings, put_report, run_refused, watch_refused};
+use library_run::{
+    TestCounts, check_refused, put_readings, put_report, run_refused, watch_refused,
+};
 use room_run::emulate::EmulateError;
 use room_script::{AssembleError, ScriptCause, TopologyCause};
 use std::process::Abort;

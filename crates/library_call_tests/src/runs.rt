@@ -69,7 +69,12 @@ enum Call {
 }
 
 /// Makes a call over a room of four bytes, and returns its answer, what then stands in the room, and the counts.
-fn answers(alloc: Global, call: Call, topology: &str, script: &str) -> (Answer, [u8; 4], TestCounts) {
+fn answers(
+    alloc: Global,
+    call: Call,
+    topology: &str,
+    script: &str,
+) -> (Answer, [u8; 4], TestCounts) {
     let (topology, script) = (topology.as_bytes(), script.as_bytes());
     let mut room = [UNTOUCHED; 4];
     let mut counts = BEFORE;

@@ -10,7 +10,7 @@ ghost use Rattle.library_answers.specs.declared.code.Code.TheVariants.{Late, Sta
 ghost use Rattle.library_wire.specs.Heard.{heard_code, instant_of, instant_refused};
 ghost use Rattle.library_wire.specs.Receiver.{HasHeard, IsNoReceiver, IsRunning, IsStart};
 
-use crate::heard::{InstantHeard, Instant, heard_of, heard_refused, instant_of, instant_refused};
+use crate::heard::{Instant, InstantHeard, heard_of, heard_refused, instant_of, instant_refused};
 use crate::readings::{ReadingParts, ended_of, put_reading};
 use library_answers::Code;
 use line_frames::Reading;

@@ -10,7 +10,7 @@ ghost use Rattle.library_answers.specs.declared.code.Code.TheVariants.{Done, Fra
 ghost use Rattle.library_wire.specs.Heard.{instant_refused, reported_in};
 ghost use Rattle.library_wire.specs.Sender.{HasBegun, IsChange, IsLeft, IsNoSender, IsReported, pull_code, pull_reported};
 
-use crate::heard::{InstantHeard, Instant, instant_of, instant_refused, reported_in};
+use crate::heard::{Instant, InstantHeard, instant_of, instant_refused, reported_in};
 use library_answers::{Code, frame_code};
 use line_frames::Frame;
 use line_reading::{Sender, SenderParts};

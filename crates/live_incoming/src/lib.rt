@@ -3,4 +3,4 @@
 
 mod incoming;
 
-pub use incoming::{LONGEST_LINE, IncomingFault, Lines};
+pub use incoming::{IncomingFault, LONGEST_LINE, Lines};

@@ -62,7 +62,11 @@ fn add_stretches<S: Sink>(out: &mut Counted<'_, S>, span: InstantRange, stretche
 }
 
 /// Adds the edges of a round that lie in the span, by its low stretches. Where the span has no instant they are not looked at.
-pub(crate) fn add_edges<S: Sink>(out: &mut Counted<'_, S>, span: InstantRange, stretches: &[Stretch])
+pub(crate) fn add_edges<S: Sink>(
+    out: &mut Counted<'_, S>,
+    span: InstantRange,
+    stretches: &[Stretch],
+)
     ensures { Adds out.old out.new (edges_reported span stretches.now) }
 {
     if span.until <= span.from {
@@ -83,7 +87,12 @@ fn open_pull(from: u64) -> Stretch
 
 // Adds the edges of a round, where the pin is low from an instant on, that lie in the span.
 #[tactic(auto, using(text_core::proofs::Adding::then, text_core::proofs::Adding::nothing))]
-fn add_pinned<S: Sink>(out: &mut Counted<'_, S>, span: InstantRange, low: u64, stretches: &[Stretch])
+fn add_pinned<S: Sink>(
+    out: &mut Counted<'_, S>,
+    span: InstantRange,
+    low: u64,
+    stretches: &[Stretch],
+)
     ensures { Adds out.old out.new (edges_reported span (pinned low stretches.now)) }
 {
     let Some((stretch, others)) = stretches.split_first() else {

@@ -6,7 +6,7 @@ use edid_core::EdidCause;
 use expect_run::CheckError;
 use expect_sweep::{RangeCause, RangeFault};
 use expect_text::ExpectFault;
-use explain_marks::{InputFault as Explained, Input, RangeSlip};
+use explain_marks::{Input, InputFault as Explained, RangeSlip};
 use live_dialogue::{ScriptEnd, SessionError};
 use message_hex::DisError;
 use message_lay::LayError;
@@ -56,7 +56,8 @@ pub fn form_in(choice: CommandChoice, input: &[u8]) -> CaptureForm {
             form: FollowForm::Csv,
             ..
         } => CaptureForm::Csv,
-        CommandChoice::CheckCapture { form, .. } | CommandChoice::Json(Objects::CaptureTest { form, .. }) => {
+        CommandChoice::CheckCapture { form, .. }
+        | CommandChoice::Json(Objects::CaptureTest { form, .. }) => {
             match capture_parts(input) {
                 Ok((_, taken)) => form_of(form, taken),
                 Err(_) => CaptureForm::Edges,

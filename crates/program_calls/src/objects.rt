@@ -6,7 +6,7 @@ use crate::check::{test, test_capture};
 use crate::run::{run_to_objects, run_to_room};
 use crate::told::Recap;
 use audit_json::write_audit_objects;
-use cli_words::{CommandChoice, Objects, CaptureReport, TestView};
+use cli_words::{CaptureReport, CommandChoice, Objects, TestView};
 use expect_sweep::SilentProgress;
 use json_report::{ReportKind, write_report_objects};
 use json_trace::{Held, write_objects};
@@ -41,7 +41,13 @@ fn write_lines<W: Sink>(
             )?;
             Ok(Recap::Capture(signs))
         }
-        Objects::Test { traced } => test(alloc, report_view(traced), input, out, &mut SilentProgress),
+        Objects::Test { traced } => test(
+            alloc,
+            report_view(traced),
+            input,
+            out,
+            &mut SilentProgress,
+        ),
         Objects::CaptureTest { form, glitch } => {
             test_capture(alloc, form, signal, glitch, input, out)
         }

@@ -127,7 +127,8 @@ fn name_lost_of<E: Sink>(alloc: Global, choice: CommandChoice, input: &[u8], err
         CommandChoice::Mon { form, .. } | CommandChoice::Json(Objects::Capture { form, .. }) => {
             name_lost(alloc, form, input, err);
         }
-        CommandChoice::CheckCapture { form, .. } | CommandChoice::Json(Objects::CaptureTest { form, .. }) => {
+        CommandChoice::CheckCapture { form, .. }
+        | CommandChoice::Json(Objects::CaptureTest { form, .. }) => {
             if let Ok((_, taken)) = capture_parts(input) {
                 name_lost(alloc, form, taken, err);
             }

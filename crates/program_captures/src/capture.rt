@@ -20,7 +20,7 @@ use capture_invert::invert;
 use capture_monitor::{watch_capture_by, watch_from_idle_by};
 use capture_pin::lost_lines;
 use capture_smooth::smooth_edges;
-use cli_words::{Form, CaptureReport};
+use cli_words::{CaptureReport, Form};
 use json_trace::Held;
 use line_reading::{MOST_MARGIN, Windows};
 use program_faults::ProgramFault;

@@ -12,7 +12,7 @@ ghost use Rattle.conversion_calls.specs.Form.{hex_line};
 use crate::edid_given::{given_of, kept_count};
 use crate::edid_judged::{unless_failed, write_counted_rules, write_own_rules};
 use arrayvec::ArrayVec;
-use cli_words::{EdidReading, Recipient, EdidShape, Sound, Source, View};
+use cli_words::{EdidReading, EdidShape, Recipient, Sound, Source, View};
 use conversion_calls::{
     Destination as PassedTo, EdidToTextError, Form, Passing, check_passed_on, edid_to_findings,
     edid_to_text, write_address, write_passed_on,

@@ -175,7 +175,12 @@ fn remote_by(to: Option<Addr>, code: Option<UserControl>) -> Result<Key, ScriptL
     Ok(Key::Remote { to, code })
 }
 
-fn remote_key(fault: ScriptLineFault, word: KeyWord, to: &[u8], code: &[u8]) -> Result<Key, ScriptLineFault>
+fn remote_key(
+    fault: ScriptLineFault,
+    word: KeyWord,
+    to: &[u8],
+    code: &[u8],
+) -> Result<Key, ScriptLineFault>
     ensures { result ≡ remote_key fault word to.now code.now }
 {
     if word == KeyWord::Remote {
@@ -204,7 +209,12 @@ fn key_of_two(fault: ScriptLineFault, word: &[u8], value: &[u8]) -> Result<Key, 
     }
 }
 
-fn key_of_three(fault: ScriptLineFault, word: &[u8], to: &[u8], code: &[u8]) -> Result<Key, ScriptLineFault>
+fn key_of_three(
+    fault: ScriptLineFault,
+    word: &[u8],
+    to: &[u8],
+    code: &[u8],
+) -> Result<Key, ScriptLineFault>
     ensures { result ≡ of_three fault (key_named word.now) to.now code.now }
 {
     match KeyWord::named(word) {

@@ -56,7 +56,11 @@ fn byte_of(word: &[u8]) -> Option<u8>
 }
 
 // A step that so many words say, where none is left after them.
-fn command_alone(count: usize, rest: Option<&[u8]>, command: StepCommand) -> Result<StepCommand, usize>
+fn command_alone(
+    count: usize,
+    rest: Option<&[u8]>,
+    command: StepCommand,
+) -> Result<StepCommand, usize>
     ensures { result ≡ command_alone count (words_after (option_copied rest.entry)) command }
 {
     match rest {

@@ -6,5 +6,5 @@ mod commands;
 mod edge_text;
 
 pub use break_at::{Break, stops};
-pub use commands::{StepCommand, CommandsError, parse_commands};
+pub use commands::{CommandsError, StepCommand, parse_commands};
 pub use edge_text::{add_edge, write_edge};

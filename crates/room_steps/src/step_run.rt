@@ -9,7 +9,7 @@ use crate::stepper::{StepError, Stepper};
 use edid_core::root_on_heap;
 use room_run::emulate::EmulateError;
 use room_script::{parse_script, parse_topology};
-use room_step_text::{StepCommand, CommandsError, parse_commands};
+use room_step_text::{CommandsError, StepCommand, parse_commands};
 use std::alloc::Global;
 use text_core::{Counted, Sink, WriteFault, counted, cut_at};
 use thiserror::Error;

@@ -1,6 +1,6 @@
 //! Sweeps of scripts.
 use crate::rows::{ALONE, DECKS, RACE, RACES, SWEEPS};
-use expect_sweep::{ProgressHearer, SweepProgress, SilentProgress, SweepError, sweep};
+use expect_sweep::{ProgressHearer, SilentProgress, SweepError, SweepProgress, sweep};
 use std::io::{self, ErrorKind, Write};
 use std::process::Abort;
 use text_core::Writes;
