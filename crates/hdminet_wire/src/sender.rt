@@ -11,7 +11,7 @@ ghost use Rattle.library_wire.specs.Heard.{instant_refused, reported_in};
 ghost use Rattle.library_wire.specs.Sender.{HasBegun, IsChange, IsLeft, IsNoSender, IsReported, pull_code, pull_reported};
 
 use library_wire::{
-    Instant, InstantHeard, SenderPull, sender_begin, sender_heard, sender_next_change, sender_pulls,
+    Instant, InstantHeard, PullAnswer, sender_begin, sender_heard, sender_next_change, sender_pulls,
 };
 use line_reading::SenderParts;
 
@@ -53,7 +53,7 @@ pub extern "C" fn hdminet_sender_heard(
 ///
 /// Refused where the state is no sender's, and then where `t` is after 3,000,000,000,000.
 #[unsafe(no_mangle)]
-pub extern "C" fn hdminet_sender_pulls(sender: &SenderParts, t: u64) -> SenderPull
+pub extern "C" fn hdminet_sender_pulls(sender: &SenderParts, t: u64) -> PullAnswer
     ensures pulls { (s : SenderValue) → ArePartsOfSender s sender.now → t ≤ latest_heard → result ≡ pull_reported (pull_of s t) }
     ensures spoilt { IsNoSender sender.now → result ≡ pull_code State }
     ensures late { (s : SenderValue) → ArePartsOfSender s sender.now → latest_heard < t → result ≡ pull_code Late }

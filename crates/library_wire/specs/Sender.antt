@@ -11,7 +11,7 @@ use Rattle.library_answers.specs.declared.code.Code.{Code}
 use Rattle.library_answers.specs.declared.code.Code.TheVariants.{Done}
 use Rattle.library_wire.specs.Heard.{instant_of}
 use Rattle.library_wire.specs.declared.heard.Instant.{Instant}
-use Rattle.library_wire.specs.declared.sender.SenderPull.{SenderPull}
+use Rattle.library_wire.specs.declared.sender.PullAnswer.{PullAnswer}
 
 -- no sender keeps this
 abbrev pub IsNoSender : SenderParts → Type 0
@@ -37,10 +37,10 @@ pub record IsReported (was : Sender) (reported : Told) (t : ℕ) (new : SenderPa
   pub hears : Hears was reported t next
   pub stops : StopsAt was.state was.last t next.state next.last
 
-abbrev pub pull_reported : Bool → SenderPull
+abbrev pub pull_reported : Bool → PullAnswer
 pull_reported pulls = record { code = number_of Done; is_low = pulls }
 
-abbrev pub pull_code : Code → SenderPull
+abbrev pub pull_code : Code → PullAnswer
 pull_code code = record { code = number_of code; is_low = false }
 
 -- the first instant after t at which its pull changes

@@ -17,4 +17,4 @@ pub use frames::{put_frame_bytes, put_frame_text};
 pub use heard::{Instant, InstantHeard, what_was_reported_is_reported};
 pub use readings::{ReadingParts, put_reading_frame};
 pub use receiver::{receiver_hear, receiver_new, receiver_running, receiver_wakes_at};
-pub use sender::{SenderPull, sender_begin, sender_heard, sender_next_change, sender_pulls};
+pub use sender::{PullAnswer, sender_begin, sender_heard, sender_next_change, sender_pulls};

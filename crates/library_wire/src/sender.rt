@@ -19,7 +19,7 @@ use line_wave::LATEST_HEARD;
 /// Whether a sender pulls the line low.
 #[repr(C)]
 #[derive(Clone, Copy, Debug, PartialEq, Eq)]
-pub struct SenderPull {
+pub struct PullAnswer {
     /// The number of a `Code`: 0 where it is known.
     pub code: u32,
     /// Whether it pulls.
@@ -74,10 +74,10 @@ pub fn sender_heard(sender: &mut SenderParts, heard: &InstantHeard, t: u64) -> u
     Code::Done.number()
 }
 
-fn pull_refused(code: Code) -> SenderPull
+fn pull_refused(code: Code) -> PullAnswer
     ensures { result ≡ pull_code code }
 {
-    SenderPull {
+    PullAnswer {
         code: code.number(),
         is_low: false,
     }
@@ -86,7 +86,7 @@ fn pull_refused(code: Code) -> SenderPull
 /// Whether the sender pulls the line low in microsecond `t`.
 ///
 /// Refused where the state is no sender's, and then where `t` is after 3,000,000,000,000.
-pub fn sender_pulls(sender: &SenderParts, t: u64) -> SenderPull
+pub fn sender_pulls(sender: &SenderParts, t: u64) -> PullAnswer
     ensures pulls { (s : SenderValue) → ArePartsOfSender s sender.now → t ≤ latest_heard → result ≡ pull_reported (pull_of s t) }
     ensures spoilt { IsNoSender sender.now → result ≡ pull_code State }
     ensures late { (s : SenderValue) → ArePartsOfSender s sender.now → latest_heard < t → result ≡ pull_code Late }
@@ -97,7 +97,7 @@ pub fn sender_pulls(sender: &SenderParts, t: u64) -> SenderPull
     if t > LATEST_HEARD {
         return pull_refused(Code::Late);
     }
-    SenderPull {
+    PullAnswer {
         code: Code::Done.number(),
         is_low: sender.pulls(t),
     }
