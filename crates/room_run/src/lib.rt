@@ -3,8 +3,8 @@
 
 pub mod edges;
 pub mod emulate;
-mod emulate_held;
 mod held_line;
+mod held_run;
 mod held_text;
 mod laws;
 pub mod line;
@@ -16,7 +16,7 @@ mod trace_text;
 mod turn;
 mod turn_by_turn;
 
-pub use emulate_held::emulate_held;
+pub use held_run::emulate_held;
 pub use laws::{
     all_before_is_one, edges_are_the_line, lines_are_of_the_rounds, one_run, one_run_text,
     one_trace, reported_is_front, runs_are_causal, runs_are_read, runs_are_short, runs_close_soon,

@@ -1,7 +1,7 @@
 use Rattle.std.proofs.Common.{rules, ◌≡◌, Ok}
 use Rattle.room_script.specs.Topology.{topology_of, plan_of}
 use Rattle.room_run.proofs.Accepted.{early, has_device}
-use Rattle.room_run.proofs.emulate_held.emulate_held.Goals as goal
+use Rattle.room_run.proofs.held_run.emulate_held.Goals as goal
 
 pub on_heap-requires-clause-some : goal.on_heap-requires-clause-some
 on_heap-requires-clause-some g c =
