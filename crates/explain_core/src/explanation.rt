@@ -6,10 +6,10 @@ use edid_core::EdidError;
 use edid_dump::looks_like_dump;
 use edid_text_lines::WORD_TEXTS;
 use explain_forms::{add_meant, add_right_forms, add_slip};
-use explain_lists::Draft;
+use explain_lists::{Draft, Gaps, span_of, word_at};
 use explain_marks::{
-    Gaps, Input, InputFault, InputLine, Mark, WordSlip, gaps_of, is_line_end, label_words, marked,
-    place_in_session, place_of, plain, slip_of, span_of, word_at,
+    Input, InputFault, InputLine, Mark, WordSlip, gaps_of, is_line_end, label_words, marked,
+    place_in_session, place_of, plain, slip_of,
 };
 use rules_explain::lacks_line_feed;
 use std::alloc::{AllocError, Global};

@@ -2,10 +2,10 @@
 use crate::names::add_header_name_meant;
 use crate::wanted::add_nearest_of;
 use expect_text::ExpectCause;
-use explain_lists::Draft;
+use explain_lists::{Draft, word_at, word_count};
 use explain_marks::{
     EXPECTATIONS, InputLine, REFUSALS, REMARKS, is_line_end, is_word, labelled_by, wanted_at,
-    without_label, word_at, word_count,
+    without_label,
 };
 use explain_near::{
     add_header_meant, add_near, add_nearest, add_nearest_opcode, add_nearest_operand, add_number,

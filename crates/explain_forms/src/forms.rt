@@ -5,11 +5,11 @@ use crate::keys::{add_key, is_of_key};
 use crate::order::add_order;
 use crate::room::{add_field_count, add_lack_of_room};
 use expect_text::ExpectCause;
-use explain_lists::Draft;
+use explain_lists::{Draft, word_at, word_count};
 use explain_marks::{
     Input, InputFault, InputLine, LAID, REFUSALS, REMARKS, SCRIPT, SESSION, STEPS, TEST, TOPOLOGY,
     as_form, fitting, forms_of, frame_start, is_word, missing, most_fitting, plain, slip_of,
-    without_label, word_at, word_count,
+    without_label,
 };
 use message_lay::LayCause;
 use room_script::{ScriptCause, TopologyCause};

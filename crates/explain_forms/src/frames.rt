@@ -1,6 +1,5 @@
 //! What a frame's text at fault would have to look like, and what its words may have been meant for.
-use explain_lists::{Draft, add_name, add_shape};
-use explain_marks::{word_at, word_count};
+use explain_lists::{Draft, add_name, add_shape, word_at, word_count};
 use explain_near::{add_address_meant, add_count_meant, add_opcode_meant, add_operands_meant};
 use line_frames::Frame;
 use message_hex::remark;

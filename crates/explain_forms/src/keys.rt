@@ -1,7 +1,7 @@
 //! What would be right in place of a key.
 use crate::forms::add_missing;
-use explain_lists::{Draft, add_key_lines, add_keys_of, add_set, taken_by};
-use explain_marks::{InputLine, is_value, is_word, kind_of, word_at, word_count};
+use explain_lists::{Draft, add_key_lines, add_keys_of, add_set, taken_by, word_at, word_count};
+use explain_marks::{InputLine, is_value, is_word, kind_of};
 use message_table::WordSet;
 use text_core::Kind;
 

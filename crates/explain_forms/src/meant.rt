@@ -8,10 +8,10 @@ use crate::wanted::add_nearest_of;
 use capture_forms::{CaptureForm, Cause};
 use device_features::KeyWord;
 use edid_text_lines::WORD_TEXTS;
-use explain_lists::Draft;
+use explain_lists::{Draft, word_at};
 use explain_marks::{
     EXPECTATIONS, Input, InputFault, InputLine, LAID, NETWORK, SESSION, SESSION_ALONE, STEPS,
-    is_number, is_word, most_fitting, word_at,
+    is_number, is_word, most_fitting,
 };
 use explain_near::{add_near, add_nearest, add_number, add_other, add_set_meant, add_suggestion};
 use message_lay::LayCause;

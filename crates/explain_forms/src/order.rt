@@ -1,6 +1,6 @@
 //! Which line of a script is earlier than which.
-use explain_lists::Draft;
-use explain_marks::{InputLine, is_line_end, without_label, word_at};
+use explain_lists::{Draft, word_at};
+use explain_marks::{InputLine, is_line_end, without_label};
 
 /// What an event's line begins with.
 const EVENT: &str = "at ";

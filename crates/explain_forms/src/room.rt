@@ -1,7 +1,7 @@
 //! The lines of an EDID's text: how many fields they have, and the room that they take in an extension.
 use edid_text_lines::{Form, word_of};
-use explain_lists::Draft;
-use explain_marks::{InputLine, is_line_end, word_at};
+use explain_lists::{Draft, word_at};
+use explain_marks::{InputLine, is_line_end};
 use text_core::spaces_unquoted;
 
 /// The bytes of an extension for its data blocks and timings: 127, without the first four.

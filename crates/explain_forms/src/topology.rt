@@ -1,7 +1,7 @@
 //! What the words of a topology's line may have been meant for, and what stands in their way.
 use crate::names::{add_name_meant, add_taken};
-use explain_lists::Draft;
-use explain_marks::{InputLine, is_line_end, kind_of, ports_of, word_at};
+use explain_lists::{Draft, word_at};
+use explain_marks::{InputLine, is_line_end, kind_of, ports_of};
 use explain_near::{add_near, add_nearest, add_number, add_other, add_suggestion};
 use room_script::TopologyCause;
 use text_core::Kind;

@@ -1,6 +1,6 @@
 //! Which words of an edge file's line are at fault.
 use crate::marks::{Mark, from, is_number, one};
-use crate::words::{word_at, word_count};
+use explain_lists::{word_at, word_count};
 use line_wave::LATEST_INSTANT;
 
 // Whether a line begins with a time.

@@ -10,7 +10,6 @@ mod grammar;
 mod marks;
 mod place;
 mod slips;
-mod words;
 
 pub use expectations::{as_form, forms_of, label_words, labelled_by, plain, without_label};
 pub use fault::{Input, InputFault, RangeSlip};
@@ -23,4 +22,3 @@ pub use place::{
     InputLine, declared_by, is_line_end, kind_of, place_in_session, place_of, ports_of,
 };
 pub use slips::{WordSlip, slip_of};
-pub use words::{Gaps, span_of, word_at, word_count};

@@ -3,9 +3,9 @@ use crate::expectations::without_label;
 use crate::fault::InputFault;
 use crate::grammar::REFUSALS;
 use crate::marks::{Mark, is_word};
-use crate::words::{word_at, word_count};
 use device_features::KeyWord;
 use expect_text::ExpectCause;
+use explain_lists::{word_at, word_count};
 use room_script::{ScriptCause, TopologyCause};
 use text_core::Kind;
 

@@ -1,7 +1,6 @@
 //! What the header and the opcode of a frame's text may have been meant for.
 use crate::near::{add_near, add_suggestion};
-use explain_lists::Draft;
-use explain_marks::word_at;
+use explain_lists::{Draft, word_at};
 use message_hex::frame_in;
 use message_table::{code_named, name};
 use message_text::frame_text;

@@ -1,8 +1,7 @@
 //! What the operands of a frame's text may have been meant for.
 use crate::frames::{front_of, is_joined, tail_from};
 use crate::near::{add_near, add_suggestion};
-use explain_lists::Draft;
-use explain_marks::{word_at, word_count};
+use explain_lists::{Draft, word_at, word_count};
 use line_frames::Frame;
 use message_table::{Operand, Operands, WordSet, code_named, operands_of};
 use message_text::frame_text;
