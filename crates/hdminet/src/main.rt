@@ -3,7 +3,7 @@
 #![tactic(auto)]
 
 use program_calls::program::program;
-use program_faults::{ProgramFault, write_fault};
+use program_calls::{ProgramFault, write_fault};
 use std::env;
 use std::process::ExitCode;
 use text_core::Writes;

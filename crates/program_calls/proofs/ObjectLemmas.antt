@@ -9,7 +9,7 @@ use Rattle.room_run.specs.Emulate.{IsTraceOf}
 use Rattle.room_run.specs.declared.run.Totals.{Totals}
 use Rattle.text_core.specs.Lines.{lines_of}
 use Rattle.program_calls.specs.Done.{AreObjectsOf, Writes, WritesLines, are_of_run}
-use Rattle.program_faults.specs.Parted.{IsRunInput}
+use Rattle.program_input.specs.Parted.{IsRunInput}
 use Rattle.program_calls.proofs.ShownLemmas.{on_ok}
 use Rattle.cli_words.specs.declared.choice.CommandChoice.TheVariants.{Json}
 use Rattle.cli_words.specs.declared.choice.Objects.{Objects}

@@ -1,5 +1,5 @@
 -- What the program does for a choice, an input and what it writes (own).
-use Rattle.std.specs.Prelude.{◌≡◌, ℕ, Bool, true, false, if◌then◌else◌, ◌⊎◌, List, take, Option, None, Some, Ok, IfSome, MatchOption, codes}
+use Rattle.std.specs.Prelude.{◌≡◌, ℕ, Bool, true, false, if◌then◌else◌, ◌⊎◌, List, take, Option, None, Some, Ok, MatchOption, codes}
 use Rattle.std.specs.Str.{bytes_eq}
 use Rattle.std.specs.List.{flat_map}
 use Rattle.std.specs.Io.KnownBytes.{Appends}
@@ -36,12 +36,13 @@ use Rattle.cli_words.specs.declared.choice.CaptureReport.{CaptureReport}
 use Rattle.cli_words.specs.declared.choice.CaptureReport.TheVariants.{Audit}
 use Rattle.cli_words.specs.declared.choice.TestView.{TestView}
 use Rattle.cli_words.specs.declared.choice.TestView.TheVariants.{Report, Traced}
-use Rattle.program_captures.specs.CaptureTests.{IsCaptureTest}
 use Rattle.program_captures.specs.Captures.{IsHeard, IsShown, form_of, name_of, report_of}
 use Rattle.program_captures.specs.Following.{IsReported}
 use Rattle.program_edids.specs.Edids.{IsMade}
+use Rattle.program_calls.specs.CaptureTests.{IsCaptureTest}
 use Rattle.program_calls.specs.Live.{IsLiveDoneAs}
-use Rattle.program_faults.specs.Parted.{IsParted, IsRunInput}
+use Rattle.program_input.specs.Parted.{IsRunInput, IsStepsInput}
+use Rattle.program_input.specs.Read.{IsAllOf}
 use Rattle.program_calls.specs.Tests.{IsTestOf}
 
 -- this text with these counts is the trace of the run that the input spells
@@ -79,7 +80,7 @@ pub record AreStepsDone (input text : List ℕ) : Type 0 where
   pub script : List ℕ
   pub commands : List ℕ
   pub parts : IsRunInput input topology rest
-  pub rest_parts : IsParted (codes "steps") rest script commands
+  pub rest_parts : IsStepsInput rest script commands
   pub steps : AreStepsOf topology script commands text
 
 -- this text with these counts is what is asked for of the run that the input spells
@@ -193,10 +194,6 @@ WritesLine format strict input old new =
 abbrev pub WritesDrives : Wires → Bool → List ℕ → Option (List ℕ) → Option (List ℕ) → Type 0
 WritesDrives of_wires strict input old new =
     (text : List ℕ) × ((totals : Totals) × IsDrivenDone of_wires input text totals × (strict ≡ true → totals.refused ≡ 0)) × Appends old new text
-
--- what was read is all that there was, where that is known
-abbrev pub IsAllOf : Option (List ℕ) → List ℕ → Type 0
-IsAllOf known bytes = IfSome known (λ all. bytes ≡ all)
 
 -- a choice is done for all that there was to read
 pub record IsServed (known old new : Option (List ℕ)) (choice : CommandChoice) (name : List ℕ) : Type 0 where

@@ -1,3 +1,4 @@
 pub mod Tests
+pub mod CaptureTests
 pub mod Live
 pub mod Done

@@ -2,15 +2,25 @@
 ghost use Rattle.std.specs.Prelude.{◌≡◌, ◌++◌, true, OnOk, IfOk};
 ghost use Rattle.program_calls.specs.Tests.{AreRemarksOf, WritesPassed, WritesTest, remark_line, trace_remarks};
 
+use crate::fault::ProgramFault;
 use cli_words::TestView;
-use expect_run::{CheckError, check};
+use expect_run::{CheckError, Tally, check};
 use expect_sweep::{ProgressHearer, SilentProgress, SweepError, sweep};
 use expect_text::{first_fault, plain_script};
 use json_trace::Held;
-use program_faults::{ProgramFault, passed};
 use room_run::emulate::{EmulateError, emulate};
 use std::alloc::{AllocError, Global};
 use text_core::{Piece, Sink, first_line, put_all, write_pieces};
+
+/// Nothing, unless a test of a report failed.
+pub fn passed(tally: Tally) -> Result<(), ProgramFault>
+    ensures { OnOk result (tally.failed ≡ 0) }
+{
+    if tally.failed > 0 {
+        return Err(ProgramFault::TestsFailed(tally));
+    }
+    Ok(())
+}
 
 // Nothing, unless a test failed at an instant of a range.
 fn held_throughout(holds: bool) -> Result<(), ProgramFault>

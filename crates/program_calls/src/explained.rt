@@ -1,7 +1,7 @@
 //! The faults of the program as they are explained.
-use capture_forms::{CaptureError, CaptureForm};
+use crate::fault::ProgramFault;
+use capture_forms::CaptureForm;
 use cli_words::{CommandChoice, FollowForm, Objects, Source};
-use conversion_calls::{EdidToTextError, PassOnError, TextToHexError};
 use edid_core::EdidCause;
 use expect_run::CheckError;
 use expect_sweep::{RangeCause, RangeFault};
@@ -11,9 +11,9 @@ use live_dialogue::{ScriptEnd, SessionError};
 use message_hex::DisError;
 use message_lay::LayError;
 use message_text::FrameLinesError;
-use program_captures::form_of;
-use program_faults::ProgramFault;
-use program_faults::parts::capture_parts;
+use program_captures::{MonitorFault, form_of};
+use program_edids::EdidFault;
+use program_input::{InputError, capture_parts};
 use room_run::emulate::EmulateError;
 use room_script::ScriptCause;
 
@@ -182,55 +182,57 @@ fn of_laid(error: &LayError) -> Explained {
     }
 }
 
-fn of_capture(form: CaptureForm, error: &CaptureError) -> Explained {
+fn of_input(error: &InputError) -> Explained {
     match error {
-        CaptureError::Fault(fault) => Explained::Capture {
+        InputError::Read => Explained::Read,
+        InputError::TooLong => Explained::InputTooLong,
+        InputError::NoScriptLine => Explained::NoScriptLine,
+        InputError::NoStepsLine => Explained::NoStepsLine,
+        InputError::NoCaptureLine => Explained::NoCaptureLine,
+        InputError::Memory(_) => Explained::Memory,
+    }
+}
+
+fn of_capture(form: CaptureForm, fault: &MonitorFault) -> Option<Explained> {
+    let explained = match fault {
+        MonitorFault::Read => Explained::Read,
+        MonitorFault::TooLong => Explained::InputTooLong,
+        MonitorFault::Line(fault) => Explained::Capture {
             form,
             line: fault.line,
             cause: fault.cause,
             word: fault.word,
         },
-        CaptureError::Memory => Explained::Memory,
-    }
+        MonitorFault::Write(_) => Explained::Write,
+        MonitorFault::Memory(_) => Explained::Memory,
+        MonitorFault::Remarked => return None,
+    };
+    Some(explained)
 }
 
-fn of_edid(error: &EdidToTextError) -> Explained {
-    match error {
-        EdidToTextError::Edid(error) => Explained::Edid(*error),
-        EdidToTextError::Write(_) => Explained::Write,
-    }
-}
-
-fn of_edid_text(error: &TextToHexError) -> Explained {
-    match error {
-        TextToHexError::Syntax(line) => Explained::TextSyntax { line: *line as u64 },
-        TextToHexError::Field { line, word } => Explained::TextField {
+fn of_edid(fault: &EdidFault) -> Option<Explained> {
+    let explained = match fault {
+        EdidFault::Edid(error) => Explained::Edid(*error),
+        EdidFault::Syntax(line) => Explained::TextSyntax { line: *line as u64 },
+        EdidFault::Field { line, word } => Explained::TextField {
             line: *line as u64,
             word: *word,
         },
-        TextToHexError::Write(_) => Explained::Write,
-        TextToHexError::Memory => Explained::Memory,
-    }
-}
-
-fn of_passing(error: &PassOnError) -> Explained {
-    match error {
-        PassOnError::PortRange => Explained::NoPort,
-        PassOnError::Edid(error) => Explained::Edid(*error),
-        PassOnError::NoHdmiBlock => Explained::NoHdmiBlock,
-        PassOnError::Write(_) => Explained::Write,
-    }
+        EdidFault::Dump(error) => Explained::Dump(*error),
+        EdidFault::PortRange => Explained::NoPort,
+        EdidFault::NoHdmiBlock => Explained::NoHdmiBlock,
+        EdidFault::Write(_) => Explained::Write,
+        EdidFault::Memory(_) => Explained::Memory,
+        EdidFault::RuleFails | EdidFault::Merge(_) | EdidFault::Speakers(_) => return None,
+    };
+    Some(explained)
 }
 
 /// A fault as it is explained, where a capture has this form; None of what was done and is not as it was wanted.
 pub fn explained(form: CaptureForm, fault: &ProgramFault) -> Option<Explained> {
     let explained = match fault {
         ProgramFault::NotUtf8 => Explained::NotUtf8,
-        ProgramFault::TooLong => Explained::InputTooLong,
-        ProgramFault::Read => Explained::Read,
-        ProgramFault::NoScriptLine => Explained::NoScriptLine,
-        ProgramFault::NoStepsLine => Explained::NoStepsLine,
-        ProgramFault::NoCaptureLine => Explained::NoCaptureLine,
+        ProgramFault::Input(error) => of_input(error),
         ProgramFault::Emulate(error) => of_run(error),
         ProgramFault::Expect(fault) | ProgramFault::CaptureExpect(fault) => of_expectation(*fault),
         ProgramFault::NoRange => Explained::NoRange,
@@ -244,22 +246,14 @@ pub fn explained(form: CaptureForm, fault: &ProgramFault) -> Option<Explained> {
         ProgramFault::Frames(error) => of_frames(error),
         ProgramFault::Dis(error) => of_hex(error),
         ProgramFault::Lay(error) => of_laid(error),
-        ProgramFault::Capture(error) => of_capture(form, error),
-        ProgramFault::EdidToText(error) => of_edid(error),
-        ProgramFault::TextToHex(error) => of_edid_text(error),
-        ProgramFault::Dump(error) => Explained::Dump(*error),
-        ProgramFault::PassOn(error) => of_passing(error),
+        ProgramFault::Capture(fault) => return of_capture(form, fault),
+        ProgramFault::Edid(fault) => return of_edid(fault),
         ProgramFault::Write(_) => Explained::Write,
         ProgramFault::Memory(_) => Explained::Memory,
-        ProgramFault::EventsRefused(_)
-        | ProgramFault::TestsFailed(_)
-        | ProgramFault::SweepFailed
-        | ProgramFault::Remarked
-        | ProgramFault::RuleFails
-        | ProgramFault::Merge(_)
-        | ProgramFault::Speakers(_) => {
-            return None;
-        }
+        ProgramFault::EventsRefused(_) | ProgramFault::TestsFailed(_) | ProgramFault::SweepFailed =>
+            {
+                return None;
+            }
     };
     Some(explained)
 }

@@ -3,12 +3,12 @@ ghost use Rattle.std.specs.Prelude.{◌≡◌, None, Ok, OnOk};
 ghost use Rattle.text_core.specs.Buffered.{below};
 ghost use Rattle.program_calls.specs.Live.{Lives, LivesInObjects};
 
+use crate::fault::ProgramFault;
 use explain_core::explain_line;
 use explain_marks::InputFault;
 use json_live::{Finished, Halt, LiveObjects};
 use live_dialogue::{RefusalHearer, SessionError, session_heard};
 use live_session::{Refusal, RefusalCause};
-use program_faults::ProgramFault;
 use std::alloc::{AllocError, Global};
 use std::io::Read;
 use text_core::{Buffered, Sink, put_all};

@@ -2,7 +2,9 @@
 ghost use Rattle.std.specs.Prelude.{◌≡◌, true, false, [], OnOk};
 ghost use Rattle.program_calls.specs.Done.{Writes, WritesLines, WritesObjects, WritesCaptureObjects, are_of_run, is_audit, report_kind, report_view};
 
-use crate::check::{test, test_capture};
+use crate::capture_test::test_capture;
+use crate::check::test;
+use crate::fault::ProgramFault;
 use crate::run::{run_to_objects, run_to_room};
 use crate::told::Recap;
 use audit_json::write_audit_objects;
@@ -11,7 +13,6 @@ use expect_sweep::SilentProgress;
 use json_report::{ReportKind, write_report_objects};
 use json_trace::{Held, write_objects};
 use program_captures::monitor;
-use program_faults::ProgramFault;
 use std::alloc::{AllocError, Global};
 use text_core::{Sink, before};
 

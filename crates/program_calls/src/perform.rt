@@ -2,7 +2,9 @@
 ghost use Rattle.std.specs.Prelude.{◌≡◌, true, false, [], OnOk};
 ghost use Rattle.program_calls.specs.Done.{Writes, is_line_by_line};
 
-use crate::check::{test, test_capture};
+use crate::capture_test::test_capture;
+use crate::check::test;
+use crate::fault::ProgramFault;
 use crate::objects::write_json;
 use crate::run::{run, run_to_drives, run_to_line};
 use crate::told::Recap;
@@ -15,8 +17,7 @@ use message_meaning::dis_with_meaning;
 use message_text::asm_lines;
 use program_captures::show;
 use program_edids::edid::edid;
-use program_faults::ProgramFault;
-use program_faults::parts::{parted, parts};
+use program_input::{run_parts, steps_parts};
 use room_driven::Wires;
 use room_steps::step_run::step_run;
 use std::alloc::Global;
@@ -26,8 +27,8 @@ use text_core::Sink;
 fn step<W: Sink>(alloc: Global, input: &[u8], out: &mut W) -> Result<Recap, ProgramFault>
     ensures { OnOk result (Writes CommandChoice.Step [] input.now (W.contents out.old) (W.contents out.new)) }
 {
-    let (topology, rest) = parts(input)?;
-    let (script, steps) = parted(rest, b"steps").ok_or(ProgramFault::NoStepsLine)?;
+    let (topology, rest) = run_parts(input)?;
+    let (script, steps) = steps_parts(rest)?;
     step_run(alloc, topology, script, steps, out)?;
     Ok(Recap::Nothing)
 }

@@ -8,18 +8,19 @@ ghost use Rattle.program_calls.specs.Done.{AreServed, IsHelp, IsServed, Writes, 
 ghost use Rattle.program_calls.specs.Live.{Lives, LivesAs, LivesInObjects};
 ghost use Rattle.cli_words.specs.MonFlags.{signal_in};
 
-use crate::input::{limit_of, read_input};
+use crate::fault::ProgramFault;
 use crate::live::{LiveEnded, live, live_in_objects};
 use crate::perform::perform;
 use crate::progress::ProgressLines;
 use crate::said::{remark, report};
+use crate::status::{USAGE, write_fault};
 use crate::told::Recap;
 use cli_command::{Refused, choose};
 use cli_words::{Asked, CommandChoice, FollowForm, signal_in};
 use json_live::Halt;
 use live_dialogue::SessionError;
 use program_captures::follow_capture;
-use program_faults::{ProgramFault, write_fault};
+use program_input::{limit_of, read_input};
 use std::alloc::{AllocError, Global};
 use std::io::Read;
 use text_core::{Buffered, Sink, WriteFault, put_all};
@@ -65,7 +66,7 @@ fn refuse<W: Sink, E: Sink>(refused: &Refused, out: &mut Buffered<W>, err: &mut 
         Refused::Help(text) => show(text.as_str(), out, err),
         Refused::Words(text) => {
             let _ = put_all(err, text.as_bytes());
-            2
+            USAGE
         }
         Refused::Memory => write_fault(&ProgramFault::Memory(AllocError), err),
     }
@@ -207,7 +208,7 @@ fn follow_lines<R: Read, W: Sink, E: Sink>(
 {
     match follow_capture(form, signal, margin, input, out) {
         Ok(()) => 0,
-        Err(fault) => report(alloc, asked, &fault, b"", err),
+        Err(fault) => report(alloc, asked, &ProgramFault::from(fault), b"", err),
     }
 }
 
@@ -246,7 +247,7 @@ fn serve_whole<R: Read, W: Sink, E: Sink>(
 {
     match read_input(alloc, limit_of(asked.choice), input) {
         Ok(input) => answer(alloc, asked, signal, &input, out, err),
-        Err(fault) => report(alloc, asked, &fault, b"", err),
+        Err(fault) => report(alloc, asked, &ProgramFault::from(fault), b"", err),
     }
 }
 

@@ -2,14 +2,14 @@
 ghost use Rattle.std.specs.Prelude.{◌≡◌, true, [], OnOk};
 ghost use Rattle.program_calls.specs.Done.{Writes, WritesDrives, WritesLine};
 
+use crate::fault::ProgramFault;
 use crate::told::Recap;
 use capture_forms::Format;
 use cli_words::{CommandChoice, Listing, Objects};
 use json_room::RoomLines;
 use json_run::emulate_objects;
 use json_trace::PlainLines;
-use program_faults::ProgramFault;
-use program_faults::parts::parts;
+use program_input::run_parts;
 use room_driven::{Wires, emulate_drives};
 use room_run::Totals;
 use room_run::emulate::emulate;
@@ -38,7 +38,7 @@ pub fn run<W: Sink>(
 ) -> Result<Recap, ProgramFault>
     ensures { OnOk result (Writes (CommandChoice.Run Listing.Trace strict) [] input.now (W.contents out.old) (W.contents out.new)) }
 {
-    let (topology, script) = parts(input)?;
+    let (topology, script) = run_parts(input)?;
     let totals = emulate(alloc, topology, script, out)?;
     accepted(totals, strict)
 }
@@ -54,7 +54,7 @@ pub fn run_to_line<W: Sink>(
 ) -> Result<Recap, ProgramFault>
     ensures { OnOk result (WritesLine format strict input.now (W.contents out.old) (W.contents out.new)) }
 {
-    let (topology, script) = parts(input)?;
+    let (topology, script) = run_parts(input)?;
     let totals = emulate_line(alloc, topology, script, format, out)?;
     accepted(totals, strict)
 }
@@ -70,7 +70,7 @@ pub fn run_to_drives<W: Sink>(
 ) -> Result<Recap, ProgramFault>
     ensures { OnOk result (WritesDrives wires strict input.now (W.contents out.old) (W.contents out.new)) }
 {
-    let (topology, script) = parts(input)?;
+    let (topology, script) = run_parts(input)?;
     let totals = emulate_drives(alloc, topology, script, wires, out)?;
     accepted(totals, strict)
 }
@@ -86,7 +86,7 @@ pub fn run_to_objects<W: Sink>(
 ) -> Result<Recap, ProgramFault>
     ensures { OnOk result (Writes (CommandChoice.Json (Objects.Trace strict)) [] input.now (W.contents out.old) (W.contents out.new)) }
 {
-    let (topology, script) = parts(input)?;
+    let (topology, script) = run_parts(input)?;
     let totals = emulate_objects(alloc, topology, script, PlainLines, out)?;
     accepted(totals, strict)
 }
@@ -101,7 +101,7 @@ pub fn run_to_room<W: Sink>(
 ) -> Result<Recap, ProgramFault>
     ensures { OnOk result (Writes (CommandChoice.Json (Objects.Room strict)) [] input.now (W.contents out.old) (W.contents out.new)) }
 {
-    let (topology, script) = parts(input)?;
+    let (topology, script) = run_parts(input)?;
     let totals = emulate_objects(
         alloc,
         topology,

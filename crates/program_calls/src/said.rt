@@ -2,14 +2,17 @@
 ghost use Rattle.std.specs.Prelude.{◌<◌};
 
 use crate::explained::{explained, form_in, input_of};
+use crate::fault::ProgramFault;
+use crate::status::write_fault;
 use crate::told::Recap;
 use cli_words::{Asked, CommandChoice, Objects, View};
 use expect_run::Tally;
 use explain_core::{counts, explain};
 use program_captures::{Signs, name_lost, write_hints};
-use program_edids::{explain_lack, explain_merge, explain_rules, explain_speakers, name_read};
-use program_faults::parts::capture_parts;
-use program_faults::{ProgramFault, write_fault};
+use program_edids::{
+    EdidFault, explain_lack, explain_merge, explain_rules, explain_speakers, name_read,
+};
+use program_input::capture_parts;
 use room_run::Totals;
 use std::alloc::{AllocError, Global};
 use text_core::{Sink, put_all};
@@ -66,7 +69,7 @@ fn lack_of(
                 reading,
                 ..
             },
-            ProgramFault::PassOn(_),
+            ProgramFault::Edid(EdidFault::NoHdmiBlock),
         ) => explain_lack(alloc, source, reading, input),
         _ => Ok(String::new(alloc)),
     }
@@ -107,9 +110,9 @@ fn explanation(
         ProgramFault::EventsRefused(totals) => counts_of(alloc, totals),
         ProgramFault::TestsFailed(tally) => tests_of(alloc, choice, *tally),
         ProgramFault::SweepFailed => stretches_of(alloc),
-        ProgramFault::RuleFails => rules_of(alloc, choice, input),
-        ProgramFault::Merge(error) => explain_merge(alloc, *error),
-        ProgramFault::Speakers(_) => explain_speakers(alloc),
+        ProgramFault::Edid(EdidFault::RuleFails) => rules_of(alloc, choice, input),
+        ProgramFault::Edid(EdidFault::Merge(error)) => explain_merge(alloc, *error),
+        ProgramFault::Edid(EdidFault::Speakers(_)) => explain_speakers(alloc),
         _ => explanation_of(alloc, choice, fault, input),
     }
 }

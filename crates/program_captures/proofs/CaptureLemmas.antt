@@ -9,7 +9,7 @@ use Rattle.follow_core.specs.Follow.{HasFollowed, IsHandedOn, Stops, text_of}
 use Rattle.program_captures.specs.Following.{FollowsTo, StopsSo, fault_of, form_followed}
 use Rattle.follow_core.specs.declared.error.FollowError.{FollowError}
 use Rattle.follow_core.specs.declared.lines.LineForm.{LineForm as FollowedForm}
-use Rattle.program_faults.specs.declared.fault.ProgramFault.{ProgramFault}
+use Rattle.program_captures.specs.declared.fault.MonitorFault.{MonitorFault}
 use Rattle.cli_words.specs.declared.choice.FollowForm.{FollowForm}
 use Rattle.std.specs.Io.KnownBytes.{Appends, append_known}
 use Rattle.program_captures.specs.Captures.{readings_at}
@@ -47,7 +47,7 @@ follows_to form name margin windows known old below pending e none f = record {
 }
 
 -- or why it ends before
-pub stops_so : (form : FollowForm) (name : List ℕ) (margin : ℕ) (followed : FollowedForm) (windows : Windows) (known old new : Option (List ℕ)) (before pending : List ℕ) (error : FollowError) (fault : ProgramFault) → windows ≡ wider (min margin most_margin)
+pub stops_so : (form : FollowForm) (name : List ℕ) (margin : ℕ) (followed : FollowedForm) (windows : Windows) (known old new : Option (List ℕ)) (before pending : List ℕ) (error : FollowError) (fault : MonitorFault) → windows ≡ wider (min margin most_margin)
     → followed ≡ form_followed form → fault ≡ fault_of error → Stops followed name windows known old new error → (before ≡ [] → IsHandedOn error pending)
     → StopsSo form name margin known old new before pending fault
 stops_so form name margin followed windows known old new before pending error fault e is cause stops handed = record {

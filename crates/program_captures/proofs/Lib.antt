@@ -2,4 +2,3 @@ pub mod ShownLemmas
 pub mod CaptureLemmas
 pub mod AuditLemmas
 pub mod FoldLemmas
-pub mod TestLemmas

@@ -6,9 +6,8 @@ use Rattle.follow_core.specs.Follow.{IsHandedOn, Stops}
 use Rattle.follow_core.specs.Lines.{form_as}
 use Rattle.follow_core.specs.declared.error.FollowError.{FollowError}
 use Rattle.follow_core.specs.declared.error.FollowError.TheVariants as error
-use Rattle.capture_core.specs.declared.fault.CaptureError.TheVariants.{Fault}
-use Rattle.program_faults.specs.declared.fault.ProgramFault.{ProgramFault}
-use Rattle.program_faults.specs.declared.fault.ProgramFault.TheVariants as faults
+use Rattle.program_captures.specs.declared.fault.MonitorFault.{MonitorFault}
+use Rattle.program_captures.specs.declared.fault.MonitorFault.TheVariants as faults
 use Rattle.follow_core.specs.declared.lines.LineForm.{LineForm as FollowedForm}
 use Rattle.follow_core.specs.declared.lines.LineForm.TheVariants as forms
 use Rattle.program_captures.specs.Captures.{IsHeard}
@@ -34,15 +33,15 @@ pub record FollowsTo (form : FollowForm) (name : List ℕ) (margin : ℕ) (known
   pub put : Appends old new text
 
 -- why it ends before
-abbrev pub fault_of : FollowError → ProgramFault
+abbrev pub fault_of : FollowError → MonitorFault
 fault_of error.Read = faults.Read
 fault_of error.TooLong = faults.TooLong
-fault_of (error.Capture fault) = faults.Capture (Fault fault)
+fault_of (error.Capture fault) = faults.Line fault
 fault_of (error.Write count) = faults.Write (record { count = count })
 
 -- What is over by the lines that came is written and handed on, and nothing else; where a write failed, a front of what the last of
 -- them ends is written.
-pub record StopsSo (form : FollowForm) (name : List ℕ) (margin : ℕ) (known old new : Option (List ℕ)) (before pending : List ℕ) (fault : ProgramFault) : Type 0 where
+pub record StopsSo (form : FollowForm) (name : List ℕ) (margin : ℕ) (known old new : Option (List ℕ)) (before pending : List ℕ) (fault : MonitorFault) : Type 0 where
   pub error : FollowError
   pub cause : fault ≡ fault_of error
   pub stops : Stops (form_followed form) name (wider (min margin most_margin)) known old new error

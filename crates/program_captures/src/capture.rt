@@ -9,6 +9,7 @@ ghost use Rattle.audit_fold.specs.Folded.{folded};
 ghost use Rattle.text_core.specs.Lines.{lines_of};
 ghost use Rattle.program_captures.specs.Captures.{Heard, Reports, Shown, edges_kept, edges_turned, form_of, report_of};
 
+use crate::fault::MonitorFault;
 use crate::signs::{Signs, has_several, signs_of};
 use arrayvec::ArrayString;
 use audit_core::{AuditOptions, audit_capture_by};
@@ -23,7 +24,6 @@ use capture_smooth::smooth_edges;
 use cli_words::{CaptureReport, Form};
 use json_trace::Held;
 use line_reading::{MOST_MARGIN, Windows};
-use program_faults::ProgramFault;
 use std::alloc::{AllocError, Global};
 use std::fmt::Write;
 use text_core::{Sink, put_all};
@@ -89,7 +89,7 @@ fn write_readings<W: Sink>(
     capture: &Capture,
     windows: Windows,
     out: &mut W,
-) -> Result<(), ProgramFault>
+) -> Result<(), MonitorFault>
     requires { AreWindows windows }
     ensures { OnOk result (Reports CaptureReport.Readings capture.now (captured_by windows capture.now) (W.contents out.old) (W.contents out.new)) }
 {
@@ -100,7 +100,7 @@ fn write_from_idle<W: Sink>(
     capture: &Capture,
     windows: Windows,
     out: &mut W,
-) -> Result<(), ProgramFault>
+) -> Result<(), MonitorFault>
     requires { AreWindows windows }
     ensures { OnOk result (Reports CaptureReport.FromIdle capture.now (captured_by windows capture.now) (W.contents out.old) (W.contents out.new)) }
 {
@@ -112,7 +112,7 @@ fn write_audit<W: Sink>(
     windows: Windows,
     timing: bool,
     out: &mut W,
-) -> Result<(), ProgramFault>
+) -> Result<(), MonitorFault>
     requires { AreWindows windows }
     ensures { OnOk result (Reports (CaptureReport.Audit timing false) capture.now (captured_by windows capture.now) (W.contents out.old) (W.contents out.new)) }
 {
@@ -137,11 +137,11 @@ fn held_audit(
 }
 
 // Fails where a text has a remark.
-fn without_remark(text: &[u8]) -> Result<(), ProgramFault>
+fn without_remark(text: &[u8]) -> Result<(), MonitorFault>
     ensures { OnOk result (has_remark (lines_of text.now) ≡ false) }
 {
     if has_remark(text) {
-        return Err(ProgramFault::Remarked);
+        return Err(MonitorFault::Remarked);
     }
     Ok(())
 }
@@ -153,7 +153,7 @@ fn write_strict_audit<W: Sink>(
     windows: Windows,
     timing: bool,
     out: &mut W,
-) -> Result<(), ProgramFault>
+) -> Result<(), MonitorFault>
     requires { AreWindows windows }
     ensures { OnOk result (Reports (CaptureReport.Audit timing true) capture.now (captured_by windows capture.now) (W.contents out.old) (W.contents out.new)) }
 {
@@ -170,7 +170,7 @@ fn write_any_audit<W: Sink>(
     timing: bool,
     strict: bool,
     out: &mut W,
-) -> Result<(), ProgramFault>
+) -> Result<(), MonitorFault>
     requires { AreWindows windows }
     ensures { OnOk result (Reports (CaptureReport.Audit timing strict) capture.now (captured_by windows capture.now) (W.contents out.old) (W.contents out.new)) }
 {
@@ -188,7 +188,7 @@ fn write_report<W: Sink>(
     windows: Windows,
     report: CaptureReport,
     out: &mut W,
-) -> Result<(), ProgramFault>
+) -> Result<(), MonitorFault>
     requires { AreWindows windows }
     ensures { OnOk result (Reports report capture.now (captured_by windows capture.now) (W.contents out.old) (W.contents out.new)) }
 {
@@ -224,7 +224,7 @@ fn listen<W: Sink>(
     report: CaptureReport,
     input: &[u8],
     out: &mut W,
-) -> Result<Signs, ProgramFault>
+) -> Result<Signs, MonitorFault>
     ensures { OnOk result (Heard form signal.now inverted glitch margin report input.now (W.contents out.old) (W.contents out.new)) }
 {
     let whole = read_capture(alloc, form, signal, input)?;
@@ -247,7 +247,7 @@ pub fn monitor<W: Sink>(
     report: Option<CaptureReport>,
     input: &[u8],
     out: &mut W,
-) -> Result<Signs, ProgramFault>
+) -> Result<Signs, MonitorFault>
     ensures { OnOk result (Heard (form_of form input.now) signal.now inverted glitch margin (report_of report (form_of form input.now)) input.now (W.contents out.old) (W.contents out.new)) }
 {
     let form = form_of(form, input);
@@ -258,7 +258,7 @@ pub fn monitor<W: Sink>(
 }
 
 // Writes lines, bad starts one after another as one.
-fn write_folded<W: Sink>(alloc: Global, lines: &[u8], out: &mut W) -> Result<(), ProgramFault>
+fn write_folded<W: Sink>(alloc: Global, lines: &[u8], out: &mut W) -> Result<(), MonitorFault>
     ensures { OnOk result (Appends (W.contents out.old) (W.contents out.new) (folded (lines_of lines.now))) }
 {
     let text = fold(alloc, lines)?;
@@ -278,7 +278,7 @@ fn show_folded<W: Sink>(
     report: Option<CaptureReport>,
     input: &[u8],
     out: &mut W,
-) -> Result<Signs, ProgramFault>
+) -> Result<Signs, MonitorFault>
     ensures { OnOk result (Shown true (form_of form input.now) signal.now inverted glitch margin (report_of report (form_of form input.now)) input.now (W.contents out.old) (W.contents out.new)) }
 {
     let mut held = Held::new(alloc);
@@ -286,7 +286,7 @@ fn show_folded<W: Sink>(
         alloc, form, signal, inverted, glitch, margin, report, input, &mut held,
     );
     if held.is_full() {
-        return Err(ProgramFault::Memory(AllocError));
+        return Err(MonitorFault::Memory(AllocError));
     }
     write_folded(alloc, held.bytes(), out)?;
     done
@@ -304,7 +304,7 @@ pub fn show<W: Sink>(
     report: Option<CaptureReport>,
     input: &[u8],
     out: &mut W,
-) -> Result<Signs, ProgramFault>
+) -> Result<Signs, MonitorFault>
     ensures { OnOk result (Shown folds (form_of form input.now) signal.now inverted glitch margin (report_of report (form_of form input.now)) input.now (W.contents out.old) (W.contents out.new)) }
 {
     if folds {

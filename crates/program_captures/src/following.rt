@@ -4,11 +4,10 @@ ghost use Rattle.text_core.specs.Buffered.{below, pending};
 ghost use Rattle.program_captures.specs.Following.{FollowsTo, StopsSo, form_followed, fault_of};
 
 use crate::capture::within_most;
-use capture_forms::CaptureError;
+use crate::fault::MonitorFault;
 use cli_words::FollowForm;
 use follow_core::{FollowError, LineForm as FollowedForm, follow};
 use line_reading::Windows;
-use program_faults::ProgramFault;
 use std::io::Read;
 use text_core::{Buffered, Sink, WriteFault};
 
@@ -22,14 +21,14 @@ fn form_followed(form: FollowForm) -> FollowedForm
     }
 }
 
-fn fault_of(error: FollowError) -> ProgramFault
+fn fault_of(error: FollowError) -> MonitorFault
     ensures { result ≡ fault_of error }
 {
     match error {
-        FollowError::Read => ProgramFault::Read,
-        FollowError::TooLong => ProgramFault::TooLong,
-        FollowError::Capture(fault) => ProgramFault::Capture(CaptureError::Fault(fault)),
-        FollowError::Write(count) => ProgramFault::Write(WriteFault { count }),
+        FollowError::Read => MonitorFault::Read,
+        FollowError::TooLong => MonitorFault::TooLong,
+        FollowError::Capture(fault) => MonitorFault::Line(fault),
+        FollowError::Write(count) => MonitorFault::Write(WriteFault { count }),
     }
 }
 
@@ -42,7 +41,7 @@ pub fn follow_capture<R: Read, W: Sink>(
     margin: u64,
     input: &mut R,
     out: &mut Buffered<W>,
-) -> Result<(), ProgramFault>
+) -> Result<(), MonitorFault>
     ensures done { OnOk result (FollowsTo form signal.now margin (R.remaining input.old) (⟦<Buffered<W> as Sink>⟧.contents out.old) (W.contents (below out.new))) }
     ensures stops { IfErr result (StopsSo form signal.now margin (R.remaining input.old) (⟦<Buffered<W> as Sink>⟧.contents out.old) (⟦<Buffered<W> as Sink>⟧.contents out.new) (pending out.old) (pending out.new)) }
 {

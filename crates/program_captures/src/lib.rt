@@ -2,11 +2,11 @@
 #![tactic(auto)]
 
 mod capture;
-mod capture_test;
+mod fault;
 mod following;
 mod signs;
 
-pub use capture::{form_of, monitor, name_lost, show};
-pub use capture_test::write_capture_test;
+pub use capture::{form_of, monitor, name_lost, show, without_short};
+pub use fault::MonitorFault;
 pub use following::follow_capture;
 pub use signs::{Signs, write_hints};

@@ -9,13 +9,14 @@ ghost use Rattle.conversion_calls.specs.Passing.{IsPassedOn};
 ghost use Rattle.edid_ddc.specs.Readout.{readout_text};
 ghost use Rattle.conversion_calls.specs.Form.{hex_line};
 
+use crate::edid_fault::EdidFault;
 use crate::edid_given::{given_of, kept_count};
 use crate::edid_judged::{unless_failed, write_counted_rules, write_own_rules};
 use arrayvec::ArrayVec;
 use cli_words::{EdidReading, EdidShape, Recipient, Sound, Source, View};
 use conversion_calls::{
-    Destination as PassedTo, EdidToTextError, Form, Passing, check_passed_on, edid_to_findings,
-    edid_to_text, write_address, write_passed_on,
+    Destination as PassedTo, Form, Passing, check_passed_on, edid_to_findings, edid_to_text,
+    write_address, write_passed_on,
 };
 use conversion_notes::edid_to_meaning;
 use edid_as_source::{as_source, counted, with_count};
@@ -23,7 +24,6 @@ use edid_core::{AudioFrom, EdidError, read_parts};
 use edid_ddc::{Ddc, DdcError, write_readout};
 use edid_merge::with_speakers;
 use json_trace::Held;
-use program_faults::ProgramFault;
 use rules_check::Origin;
 use std::alloc::{AllocError, Global};
 use text_core::{Phys, Piece, Sink, WriteFault, put_all, write_line};
@@ -70,13 +70,13 @@ fn in_port(port: u8, amplified: bool) -> Passing
 
 // That some bytes spell an EDID. It is read in parts, since an EDID is large.
 #[inline(never)]
-fn is_edid(bytes: &[u8]) -> Result<(), ProgramFault>
+fn is_edid(bytes: &[u8]) -> Result<(), EdidFault>
     ensures { OnOk result ((e : EdidValue) × (edid_bytes e ≡ bytes.now)) }
 {
     let mut extensions = ArrayVec::new();
     match read_parts(bytes, &mut extensions) {
         Ok(_base) => Ok(()),
-        Err(cause) => Err(ProgramFault::EdidToText(EdidToTextError::Edid(cause))),
+        Err(cause) => Err(EdidFault::Edid(cause)),
     }
 }
 
@@ -90,20 +90,20 @@ fn write_hex_line<S: Sink>(bytes: &[u8], out: &mut S) -> Result<(), WriteFault>
     }
 }
 
-fn write_as_text<W: Sink>(bytes: &[u8], out: &mut W) -> Result<(), ProgramFault>
+fn write_as_text<W: Sink>(bytes: &[u8], out: &mut W) -> Result<(), EdidFault>
     ensures { OnOk result (Shows (View.Whole Recipient.Own EdidShape.Text) bytes.now (W.contents out.old) (W.contents out.new)) }
 {
     Ok(edid_to_text(bytes, out)?)
 }
 
-fn write_as_hex<W: Sink>(bytes: &[u8], out: &mut W) -> Result<(), ProgramFault>
+fn write_as_hex<W: Sink>(bytes: &[u8], out: &mut W) -> Result<(), EdidFault>
     ensures { OnOk result (Shows (View.Whole Recipient.Own EdidShape.Hex) bytes.now (W.contents out.old) (W.contents out.new)) }
 {
     is_edid(bytes)?;
     Ok(write_hex_line(bytes, out)?)
 }
 
-fn write_as_bytes<W: Sink>(bytes: &[u8], out: &mut W) -> Result<(), ProgramFault>
+fn write_as_bytes<W: Sink>(bytes: &[u8], out: &mut W) -> Result<(), EdidFault>
     ensures { OnOk result (Shows (View.Whole Recipient.Own EdidShape.Bytes) bytes.now (W.contents out.old) (W.contents out.new)) }
 {
     is_edid(bytes)?;
@@ -111,7 +111,7 @@ fn write_as_bytes<W: Sink>(bytes: &[u8], out: &mut W) -> Result<(), ProgramFault
 }
 
 // Writes the EDID of some bytes.
-fn write_own<W: Sink>(bytes: &[u8], shape: EdidShape, out: &mut W) -> Result<(), ProgramFault>
+fn write_own<W: Sink>(bytes: &[u8], shape: EdidShape, out: &mut W) -> Result<(), EdidFault>
     ensures { OnOk result (Shows (View.Whole Recipient.Own shape) bytes.now (W.contents out.old) (W.contents out.new)) }
 {
     match shape {
@@ -127,20 +127,20 @@ fn write_passed<W: Sink>(
     passing: Passing,
     shape: EdidShape,
     out: &mut W,
-) -> Result<(), ProgramFault>
+) -> Result<(), EdidFault>
     ensures { OnOk result (ShowsPassed passing shape bytes.now (W.contents out.old) (W.contents out.new)) }
 {
     Ok(write_passed_on(bytes, passing, form_of(shape), out)?)
 }
 
 // The bytes that are passed on of the EDID of some bytes in a port of an amplifier, with its speakers.
-fn spoken_bytes(alloc: Global, port: u8, bytes: &[u8]) -> Result<Vec<u8>, ProgramFault>
+fn spoken_bytes(alloc: Global, port: u8, bytes: &[u8]) -> Result<Vec<u8>, EdidFault>
     ensures { IfOk result (λ spoken. IsSpokenIn port bytes.now spoken.items) }
 {
     let passed = passed_bytes(alloc, in_port(port, true), bytes)?;
     match with_speakers(passed.as_slice()) {
         Ok(spoken) => Ok(spoken.as_slice().to_vec(alloc)?),
-        Err(error) => Err(ProgramFault::Speakers(error)),
+        Err(error) => Err(EdidFault::Speakers(error)),
     }
 }
 
@@ -151,7 +151,7 @@ fn write_spoken<W: Sink>(
     port: u8,
     shape: EdidShape,
     out: &mut W,
-) -> Result<(), ProgramFault>
+) -> Result<(), EdidFault>
     ensures { OnOk result (Shows (View.Whole (Recipient.Port port Sound.Spoken) shape) bytes.now (W.contents out.old) (W.contents out.new)) }
 {
     let given = spoken_bytes(alloc, port, bytes)?;
@@ -166,7 +166,7 @@ fn write_in_port<W: Sink>(
     sound: Sound,
     shape: EdidShape,
     out: &mut W,
-) -> Result<(), ProgramFault>
+) -> Result<(), EdidFault>
     ensures { OnOk result (Shows (View.Whole (Recipient.Port port sound) shape) bytes.now (W.contents out.old) (W.contents out.new)) }
 {
     match sound {
@@ -183,7 +183,7 @@ fn write_whole<W: Sink>(
     place: Recipient,
     shape: EdidShape,
     out: &mut W,
-) -> Result<(), ProgramFault>
+) -> Result<(), EdidFault>
     ensures { OnOk result (Shows (View.Whole place shape) bytes.now (W.contents out.old) (W.contents out.new)) }
 {
     match place {
@@ -194,7 +194,7 @@ fn write_whole<W: Sink>(
 }
 
 // Writes the rules that the EDID of some bytes breaks.
-fn check_own<W: Sink>(bytes: &[u8], out: &mut W) -> Result<(), ProgramFault>
+fn check_own<W: Sink>(bytes: &[u8], out: &mut W) -> Result<(), EdidFault>
     ensures { OnOk result (Shows (View.Findings Recipient.Own) bytes.now (W.contents out.old) (W.contents out.new)) }
 {
     let fails = edid_to_findings(bytes, out)?;
@@ -202,7 +202,7 @@ fn check_own<W: Sink>(bytes: &[u8], out: &mut W) -> Result<(), ProgramFault>
 }
 
 // Writes the rules that what is passed on of it breaks.
-fn check_passed<W: Sink>(bytes: &[u8], passing: Passing, out: &mut W) -> Result<(), ProgramFault>
+fn check_passed<W: Sink>(bytes: &[u8], passing: Passing, out: &mut W) -> Result<(), EdidFault>
     ensures { OnOk result (ShowsRules passing bytes.now (W.contents out.old) (W.contents out.new)) }
 {
     let fails = check_passed_on(bytes, passing, out)?;
@@ -215,7 +215,7 @@ fn check_spoken<W: Sink>(
     bytes: &[u8],
     port: u8,
     out: &mut W,
-) -> Result<(), ProgramFault>
+) -> Result<(), EdidFault>
     ensures { OnOk result (Shows (View.Findings (Recipient.Port port Sound.Spoken)) bytes.now (W.contents out.old) (W.contents out.new)) }
 {
     let given = spoken_bytes(alloc, port, bytes)?;
@@ -229,7 +229,7 @@ fn check_in_port<W: Sink>(
     port: u8,
     sound: Sound,
     out: &mut W,
-) -> Result<(), ProgramFault>
+) -> Result<(), EdidFault>
     ensures { OnOk result (Shows (View.Findings (Recipient.Port port sound)) bytes.now (W.contents out.old) (W.contents out.new)) }
 {
     match sound {
@@ -245,7 +245,7 @@ fn write_rules<W: Sink>(
     bytes: &[u8],
     place: Recipient,
     out: &mut W,
-) -> Result<(), ProgramFault>
+) -> Result<(), EdidFault>
     ensures { OnOk result (Shows (View.Findings place) bytes.now (W.contents out.old) (W.contents out.new)) }
 {
     match place {
@@ -256,25 +256,20 @@ fn write_rules<W: Sink>(
 }
 
 // The bytes that are passed on of the EDID of some bytes.
-fn passed_bytes(alloc: Global, passing: Passing, bytes: &[u8]) -> Result<Vec<u8>, ProgramFault>
+fn passed_bytes(alloc: Global, passing: Passing, bytes: &[u8]) -> Result<Vec<u8>, EdidFault>
     ensures { IfOk result (λ passed. (e : EdidValue) × IsPassedOn bytes.now passing e × (passed.items ≡ edid_bytes e)) }
 {
     let mut held = Held::new(alloc);
     let done = write_passed(bytes, passing, EdidShape::Bytes, &mut held);
     if held.is_full() {
-        return Err(ProgramFault::Memory(AllocError));
+        return Err(EdidFault::Memory(AllocError));
     }
     done?;
     Ok(held.bytes().to_vec(alloc)?)
 }
 
 // The bytes that are passed on of the EDID of some bytes in a port.
-fn given_in_port(
-    alloc: Global,
-    port: u8,
-    sound: Sound,
-    bytes: &[u8],
-) -> Result<Vec<u8>, ProgramFault>
+fn given_in_port(alloc: Global, port: u8, sound: Sound, bytes: &[u8]) -> Result<Vec<u8>, EdidFault>
     ensures { IfOk result (λ given. IsGiven (Recipient.Port port sound) bytes.now given.items) }
 {
     match sound {
@@ -285,7 +280,7 @@ fn given_in_port(
 }
 
 /// The bytes of the EDID of some bytes, for a device.
-pub fn given_to(alloc: Global, place: Recipient, bytes: &[u8]) -> Result<Vec<u8>, ProgramFault>
+pub fn given_to(alloc: Global, place: Recipient, bytes: &[u8]) -> Result<Vec<u8>, EdidFault>
     ensures { IfOk result (λ given. IsGiven place bytes.now given.items) }
 {
     match place {
@@ -301,7 +296,7 @@ fn write_meaning<W: Sink>(
     bytes: &[u8],
     place: Recipient,
     out: &mut W,
-) -> Result<(), ProgramFault>
+) -> Result<(), EdidFault>
     ensures { OnOk result (Shows (View.Meaning place) bytes.now (W.contents out.old) (W.contents out.new)) }
 {
     let given = given_to(alloc, place, bytes)?;
@@ -314,7 +309,7 @@ fn write_place<W: Sink>(
     bytes: &[u8],
     place: Recipient,
     out: &mut W,
-) -> Result<(), ProgramFault>
+) -> Result<(), EdidFault>
     ensures { OnOk result (Shows (View.Address place) bytes.now (W.contents out.old) (W.contents out.new)) }
 {
     let given = given_to(alloc, place, bytes)?;
@@ -322,18 +317,18 @@ fn write_place<W: Sink>(
 }
 
 // Why bytes can't be read over DDC: there is no whole number of blocks, or not so many.
-fn unread(_error: DdcError) -> ProgramFault {
-    ProgramFault::EdidToText(EdidToTextError::Edid(EdidError::Length))
+fn unread(_error: DdcError) -> EdidFault {
+    EdidFault::Edid(EdidError::Length)
 }
 
 // Writes what is read of some bytes over DDC.
-fn write_reading<W: Sink>(bytes: &[u8], out: &mut W) -> Result<(), ProgramFault>
+fn write_reading<W: Sink>(bytes: &[u8], out: &mut W) -> Result<(), EdidFault>
     ensures { OnOk result ((text : List ℕ) × (text ≡ readout_text bytes.now) × Appends (W.contents out.old) (W.contents out.new) text) }
 {
     match Ddc::over(bytes) {
         Ok(mut ddc) => match write_readout(&mut ddc, out) {
             Ok(_) => Ok(()),
-            Err(fault) => Err(ProgramFault::Write(fault)),
+            Err(fault) => Err(EdidFault::Write(fault)),
         },
         Err(error) => Err(unread(error)),
     }
@@ -345,7 +340,7 @@ fn write_ddc<W: Sink>(
     bytes: &[u8],
     place: Recipient,
     out: &mut W,
-) -> Result<(), ProgramFault>
+) -> Result<(), EdidFault>
     ensures { OnOk result (Shows (View.Readout place) bytes.now (W.contents out.old) (W.contents out.new)) }
 {
     let given = given_to(alloc, place, bytes)?;
@@ -355,7 +350,7 @@ fn write_ddc<W: Sink>(
 }
 
 // Writes what is asked for of the EDID of some bytes.
-fn show<W: Sink>(alloc: Global, view: View, bytes: &[u8], out: &mut W) -> Result<(), ProgramFault>
+fn show<W: Sink>(alloc: Global, view: View, bytes: &[u8], out: &mut W) -> Result<(), EdidFault>
     ensures { OnOk result (Shows view bytes.now (W.contents out.old) (W.contents out.new)) }
 {
     match view {
@@ -373,14 +368,14 @@ fn recounted(
     count: u8,
     place: Recipient,
     bytes: &[u8],
-) -> Result<ArrayVec<u8, 512>, ProgramFault>
+) -> Result<ArrayVec<u8, 512>, EdidFault>
     ensures { IfOk result (λ new. IsRecounted count place bytes.now new.items) }
 {
     let given = given_to(alloc, place, bytes)?;
     let blocks = given.as_slice();
     is_edid(blocks)?;
     if blocks.len() < LEAST || blocks.len() > MOST {
-        return Err(ProgramFault::EdidToText(EdidToTextError::Edid(EdidError::Length)));
+        return Err(EdidFault::Edid(EdidError::Length));
     }
     Ok(with_count(blocks, count))
 }
@@ -391,7 +386,7 @@ fn write_counted_hex<W: Sink>(
     place: Recipient,
     bytes: &[u8],
     out: &mut W,
-) -> Result<(), ProgramFault>
+) -> Result<(), EdidFault>
     ensures { OnOk result (ShowsCounted count (View.Whole place EdidShape.Hex) bytes.now (W.contents out.old) (W.contents out.new)) }
 {
     let mended = recounted(alloc, count, place, bytes)?;
@@ -404,7 +399,7 @@ fn write_counted_bytes<W: Sink>(
     place: Recipient,
     bytes: &[u8],
     out: &mut W,
-) -> Result<(), ProgramFault>
+) -> Result<(), EdidFault>
     ensures { OnOk result (ShowsCounted count (View.Whole place EdidShape.Bytes) bytes.now (W.contents out.old) (W.contents out.new)) }
 {
     let mended = recounted(alloc, count, place, bytes)?;
@@ -417,7 +412,7 @@ fn write_counted_ddc<W: Sink>(
     place: Recipient,
     bytes: &[u8],
     out: &mut W,
-) -> Result<(), ProgramFault>
+) -> Result<(), EdidFault>
     ensures { OnOk result (ShowsCounted count (View.Readout place) bytes.now (W.contents out.old) (W.contents out.new)) }
 {
     let mended = recounted(alloc, count, place, bytes)?;
@@ -441,7 +436,7 @@ fn check_counted<W: Sink>(
     place: Recipient,
     bytes: &[u8],
     out: &mut W,
-) -> Result<(), ProgramFault>
+) -> Result<(), EdidFault>
     ensures { OnOk result (ShowsCounted count (View.Findings place) bytes.now (W.contents out.old) (W.contents out.new)) }
 {
     let given = given_to(alloc, place, bytes)?;
@@ -456,7 +451,7 @@ fn show_counted_whole<W: Sink>(
     shape: EdidShape,
     bytes: &[u8],
     out: &mut W,
-) -> Result<(), ProgramFault>
+) -> Result<(), EdidFault>
     ensures { OnOk result (ShowsCounted count (View.Whole place shape) bytes.now (W.contents out.old) (W.contents out.new)) }
 {
     match shape {
@@ -473,7 +468,7 @@ fn show_counted<W: Sink>(
     view: View,
     bytes: &[u8],
     out: &mut W,
-) -> Result<(), ProgramFault>
+) -> Result<(), EdidFault>
     ensures { OnOk result (ShowsCounted count view bytes.now (W.contents out.old) (W.contents out.new)) }
 {
     match view {
@@ -492,12 +487,12 @@ fn show_overridden<W: Sink>(
     view: View,
     given: &[u8],
     out: &mut W,
-) -> Result<(), ProgramFault>
+) -> Result<(), EdidFault>
     ensures { OnOk result (ShowsAs EdidReading.Overridden count view given.now (W.contents out.old) (W.contents out.new)) }
 {
     match counted(given) {
         Ok(bytes) => show_counted(alloc, count, view, bytes.as_slice(), out),
-        Err(error) => Err(ProgramFault::EdidToText(EdidToTextError::Edid(error))),
+        Err(error) => Err(EdidFault::Edid(error)),
     }
 }
 
@@ -508,12 +503,12 @@ fn show_as_source<W: Sink>(
     view: View,
     given: &[u8],
     out: &mut W,
-) -> Result<(), ProgramFault>
+) -> Result<(), EdidFault>
     ensures { OnOk result (ShowsAs EdidReading.AsSource count view given.now (W.contents out.old) (W.contents out.new)) }
 {
     match as_source(given) {
         Ok(bytes) => show(alloc, view, bytes.as_slice(), out),
-        Err(error) => Err(ProgramFault::EdidToText(EdidToTextError::Edid(error))),
+        Err(error) => Err(EdidFault::Edid(error)),
     }
 }
 
@@ -525,7 +520,7 @@ fn show_as<W: Sink>(
     view: View,
     given: &[u8],
     out: &mut W,
-) -> Result<(), ProgramFault>
+) -> Result<(), EdidFault>
     ensures { OnOk result (ShowsAs reading count view given.now (W.contents out.old) (W.contents out.new)) }
 {
     match reading {
@@ -543,7 +538,7 @@ pub fn edid<W: Sink>(
     view: View,
     input: &[u8],
     out: &mut W,
-) -> Result<(), ProgramFault>
+) -> Result<(), EdidFault>
     ensures { OnOk result (Made source reading view input.now (W.contents out.old) (W.contents out.new)) }
 {
     let given = given_of(alloc, source, input)?;

@@ -1,20 +1,19 @@
 //! What is said of EDIDs on standard error, beside what is written of them.
 use crate::edid::{given_to, origin_of};
+use crate::edid_fault::EdidFault;
 use crate::edid_given::{given_of, kept_count};
 use arrayvec::ArrayString;
 use cli_words::{CommandChoice, EdidReading, Recipient, Source};
-use conversion_calls::EdidToTextError;
 use edid_as_source::{as_source, counted, write_notes};
 use edid_dumps::dump_count;
 use edid_merge::{MergeError, Unfit};
-use program_faults::ProgramFault;
 use rules_explain::{explain_counted, explain_findings, explain_no_hdmi};
 use std::alloc::{AllocError, Global};
 use std::fmt::Write;
 use text_core::{Sink, put_all};
 
 // The bytes that the strict reader is given of some bytes.
-fn taken(alloc: Global, reading: EdidReading, given: &[u8]) -> Result<Vec<u8>, ProgramFault> {
+fn taken(alloc: Global, reading: EdidReading, given: &[u8]) -> Result<Vec<u8>, EdidFault> {
     let mended = match reading {
         EdidReading::Strict => return Ok(given.to_vec(alloc)?),
         EdidReading::Overridden => counted(given),
@@ -22,7 +21,7 @@ fn taken(alloc: Global, reading: EdidReading, given: &[u8]) -> Result<Vec<u8>, P
     };
     match mended {
         Ok(bytes) => Ok(bytes.as_slice().to_vec(alloc)?),
-        Err(error) => Err(ProgramFault::EdidToText(EdidToTextError::Edid(error))),
+        Err(error) => Err(EdidFault::Edid(error)),
     }
 }
 
@@ -33,7 +32,7 @@ fn bytes_for(
     reading: EdidReading,
     place: Recipient,
     input: &[u8],
-) -> Result<Vec<u8>, ProgramFault> {
+) -> Result<Vec<u8>, EdidFault> {
     let given = given_of(alloc, source, input)?;
     let bytes = taken(alloc, reading, &given)?;
     given_to(alloc, place, &bytes)

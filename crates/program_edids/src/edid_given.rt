@@ -6,8 +6,8 @@ ghost use Rattle.edid_core.specs.declared.edid.Edid.{Edid as EdidValue};
 ghost use Rattle.edid_texts.specs.Lines.{edid_text};
 ghost use Rattle.program_edids.specs.Edids.{IsRead, display_half, kept_count, own_half};
 
+use crate::edid_fault::EdidFault;
 use cli_words::Source;
-use conversion_calls::TextToHexError;
 use conversion_notes::plain_text;
 use edid_as_source::first_count;
 use edid_core::edid_to_bytes;
@@ -15,7 +15,6 @@ use edid_dumps::nth_dump_bytes;
 use edid_merge::{Table, merge_bytes};
 use edid_spelling::{canonical_text, in_words};
 use edid_texts::{TextError, parse_text};
-use program_faults::ProgramFault;
 use std::alloc::Global;
 use text_core::byte_at;
 
@@ -55,28 +54,28 @@ fn among_all(text: &[u8], error: TextError) -> TextError {
 
 // The bytes of the EDID of a dump with a number.
 #[inline(never)]
-fn given_of_dump(alloc: Global, nth: u64, text: &[u8]) -> Result<Vec<u8>, ProgramFault>
+fn given_of_dump(alloc: Global, nth: u64, text: &[u8]) -> Result<Vec<u8>, EdidFault>
     ensures { IfOk result (λ given. IsRead (Source.Dump nth) text.now given.items) }
 {
     match nth_dump_bytes(text, nth) {
         Ok(bytes) => Ok(bytes.as_slice().to_vec(alloc)?),
-        Err(error) => Err(ProgramFault::Dump(error)),
+        Err(error) => Err(EdidFault::Dump(error)),
     }
 }
 
 // The bytes of the EDID of a text's plain lines.
-fn bytes_of_plain(alloc: Global, text: &[u8], plain: &[u8]) -> Result<Vec<u8>, ProgramFault>
+fn bytes_of_plain(alloc: Global, text: &[u8], plain: &[u8]) -> Result<Vec<u8>, EdidFault>
     ensures { IfOk result (λ given. (e : EdidValue) × (edid_text e ≡ plain.now) × (given.items ≡ edid_bytes e)) }
 {
     match &parse_text(alloc, plain) {
         Ok(edid) => Ok(edid_to_bytes(edid).as_slice().to_vec(alloc)?),
-        Err(error) => Err(ProgramFault::TextToHex(TextToHexError::from(among_all(text, *error)))),
+        Err(error) => Err(EdidFault::from(among_all(text, *error))),
     }
 }
 
 // The bytes of the EDID of a text, in which lines that begin with a space say what those above them mean.
 #[inline(never)]
-fn given_of_text(alloc: Global, text: &[u8]) -> Result<Vec<u8>, ProgramFault>
+fn given_of_text(alloc: Global, text: &[u8]) -> Result<Vec<u8>, EdidFault>
     ensures { IfOk result (λ given. IsRead Source.Text text.now given.items) }
 {
     let plain = plain_text(alloc, text)?;
@@ -120,21 +119,18 @@ fn bytes_of_words(
     text: &[u8],
     plain: &[u8],
     canonical: &[u8],
-) -> Result<Vec<u8>, ProgramFault>
+) -> Result<Vec<u8>, EdidFault>
     ensures { IfOk result (λ given. (e : EdidValue) × (edid_text e ≡ canonical.now) × (given.items ≡ edid_bytes e)) }
 {
     match &parse_text(alloc, canonical) {
         Ok(edid) => Ok(edid_to_bytes(edid).as_slice().to_vec(alloc)?),
-        Err(error) => Err(ProgramFault::TextToHex(TextToHexError::from(among_all(
-            text,
-            in_words_of(plain, *error),
-        )))),
+        Err(error) => Err(EdidFault::from(among_all(text, in_words_of(plain, *error)))),
     }
 }
 
 // The bytes of the EDID of a text in which payloads may stand in words.
 #[inline(never)]
-fn given_of_words(alloc: Global, text: &[u8]) -> Result<Vec<u8>, ProgramFault>
+fn given_of_words(alloc: Global, text: &[u8]) -> Result<Vec<u8>, EdidFault>
     ensures { IfOk result (λ given. IsRead Source.Words text.now given.items) }
 {
     let plain = plain_text(alloc, text)?;
@@ -143,24 +139,24 @@ fn given_of_words(alloc: Global, text: &[u8]) -> Result<Vec<u8>, ProgramFault>
 }
 
 // The bytes of the EDID that a receiver answers with, of those of a display's and of its own.
-fn merged(alloc: Global, table: Table, display: &[u8], own: &[u8]) -> Result<Vec<u8>, ProgramFault>
+fn merged(alloc: Global, table: Table, display: &[u8], own: &[u8]) -> Result<Vec<u8>, EdidFault>
     ensures { IfOk result (λ given. IsAnswer table display.now own.now given.items) }
 {
     match merge_bytes(&table, display, own) {
         Ok(bytes) => Ok(bytes.as_slice().to_vec(alloc)?),
-        Err(error) => Err(ProgramFault::Merge(error)),
+        Err(error) => Err(EdidFault::Merge(error)),
     }
 }
 
 // The bytes of the first dump of a text and of the second, which are a display's EDID and a receiver's.
 #[inline(never)]
-fn merged_dumps(alloc: Global, table: Table, text: &[u8]) -> Result<Vec<u8>, ProgramFault>
+fn merged_dumps(alloc: Global, table: Table, text: &[u8]) -> Result<Vec<u8>, EdidFault>
     ensures { IfOk result (λ given. IsRead (Source.Pair true table) text.now given.items) }
 {
     match nth_dump_bytes(text, 1) {
-        Err(error) => Err(ProgramFault::Dump(error)),
+        Err(error) => Err(EdidFault::Dump(error)),
         Ok(display) => match nth_dump_bytes(text, 2) {
-            Err(error) => Err(ProgramFault::Dump(error)),
+            Err(error) => Err(EdidFault::Dump(error)),
             Ok(own) => merged(alloc, table, display.as_slice(), own.as_slice()),
         },
     }
@@ -181,7 +177,7 @@ fn halves(input: &[u8]) -> (&[u8], &[u8])
 
 // The bytes of a display's EDID and after them those of a receiver's.
 #[inline(never)]
-fn merged_halves(alloc: Global, table: Table, input: &[u8]) -> Result<Vec<u8>, ProgramFault>
+fn merged_halves(alloc: Global, table: Table, input: &[u8]) -> Result<Vec<u8>, EdidFault>
     ensures { IfOk result (λ given. IsRead (Source.Pair false table) input.now given.items) }
 {
     let (display, own) = halves(input);
@@ -194,7 +190,7 @@ fn given_of_pair(
     dumps: bool,
     table: Table,
     input: &[u8],
-) -> Result<Vec<u8>, ProgramFault>
+) -> Result<Vec<u8>, EdidFault>
     ensures { IfOk result (λ given. IsRead (Source.Pair dumps table) input.now given.items) }
 {
     if dumps {
@@ -205,7 +201,7 @@ fn given_of_pair(
 }
 
 /// The bytes that an input gives.
-pub fn given_of(alloc: Global, source: Source, input: &[u8]) -> Result<Vec<u8>, ProgramFault>
+pub fn given_of(alloc: Global, source: Source, input: &[u8]) -> Result<Vec<u8>, EdidFault>
     ensures { IfOk result (λ given. IsRead source input.now given.items) }
 {
     match source {

@@ -4,13 +4,12 @@ ghost use Rattle.edid_base.specs.Base.{base_bytes};
 ghost use Rattle.edid_as_source.specs.Count.{with_count};
 ghost use Rattle.program_edids.specs.Edids.{ShowsFound, ShowsJudged, ShowsOwn};
 
+use crate::edid_fault::EdidFault;
 use arrayvec::ArrayVec;
-use conversion_calls::EdidToTextError;
 use edid_as_source::with_count;
 use edid_base::{Base, part, read_base};
 use edid_core::{EdidError, read_parts};
 use edid_cta::Ext;
-use program_faults::ProgramFault;
 use rules_check::{Origin, check, has_failure, write_findings};
 use text_core::Sink;
 
@@ -20,11 +19,11 @@ const LEAST: usize = 128;
 const MOST: usize = 512;
 
 /// Nothing, unless a rule fails.
-pub fn unless_failed(fails: bool) -> Result<(), ProgramFault>
+pub fn unless_failed(fails: bool) -> Result<(), EdidFault>
     ensures { OnOk result (fails ≡ false) }
 {
     if fails {
-        return Err(ProgramFault::RuleFails);
+        return Err(EdidFault::RuleFails);
     }
     Ok(())
 }
@@ -35,7 +34,7 @@ fn write_found<W: Sink>(
     base: &Base,
     extensions: &[Ext],
     out: &mut W,
-) -> Result<(), ProgramFault>
+) -> Result<(), EdidFault>
     requires { length extensions.now ≤ 3 }
     ensures { OnOk result (ShowsFound origin base.now extensions.now (W.contents out.old) (W.contents out.new)) }
 {
@@ -46,30 +45,26 @@ fn write_found<W: Sink>(
 
 /// Writes the rules that the EDID of some bytes breaks.
 #[inline(never)]
-pub fn write_own_rules<W: Sink>(
-    origin: Origin,
-    bytes: &[u8],
-    out: &mut W,
-) -> Result<(), ProgramFault>
+pub fn write_own_rules<W: Sink>(origin: Origin, bytes: &[u8], out: &mut W) -> Result<(), EdidFault>
     ensures { OnOk result (ShowsOwn origin bytes.now (W.contents out.old) (W.contents out.new)) }
 {
     let mut extensions = ArrayVec::new();
     match &read_parts(bytes, &mut extensions) {
-        Err(cause) => Err(ProgramFault::EdidToText(EdidToTextError::Edid(*cause))),
+        Err(cause) => Err(EdidFault::Edid(*cause)),
         Ok(base) => write_found(origin, base, extensions.as_slice(), out),
     }
 }
 
 // The base block of some bytes, with another count of extensions.
-fn counted_base(count: u8, bytes: &[u8]) -> Result<Base, ProgramFault>
+fn counted_base(count: u8, bytes: &[u8]) -> Result<Base, EdidFault>
     ensures { IfOk result (λ base. base_bytes base ≡ take 128 (with_count bytes.now count)) }
 {
     if bytes.len() < LEAST || bytes.len() > MOST {
-        return Err(ProgramFault::EdidToText(EdidToTextError::Edid(EdidError::Length)));
+        return Err(EdidFault::Edid(EdidError::Length));
     }
     match read_base(&part(with_count(bytes, count).as_slice(), 0)) {
         Ok(base) => Ok(base),
-        Err(cause) => Err(ProgramFault::EdidToText(EdidToTextError::Edid(EdidError::Base(cause)))),
+        Err(cause) => Err(EdidFault::Edid(EdidError::Base(cause))),
     }
 }
 
@@ -81,13 +76,13 @@ pub fn write_counted_rules<W: Sink>(
     front: &[u8],
     bytes: &[u8],
     out: &mut W,
-) -> Result<(), ProgramFault>
+) -> Result<(), EdidFault>
     ensures { OnOk result (ShowsJudged origin count front.now bytes.now (W.contents out.old) (W.contents out.new)) }
 {
     let base = counted_base(count, front)?;
     let mut extensions = ArrayVec::new();
     match read_parts(bytes, &mut extensions) {
-        Err(cause) => Err(ProgramFault::EdidToText(EdidToTextError::Edid(cause))),
+        Err(cause) => Err(EdidFault::Edid(cause)),
         Ok(_shown) => write_found(origin, &base, extensions.as_slice(), out),
     }
 }

@@ -3,7 +3,9 @@
 
 pub mod edid;
 mod edid_explained;
+mod edid_fault;
 mod edid_given;
 mod edid_judged;
 
 pub use edid_explained::{explain_lack, explain_merge, explain_rules, explain_speakers, name_read};
+pub use edid_fault::EdidFault;

@@ -1,5 +1,5 @@
 use super::*;
-use program_faults::{ProgramFault, write_fault};
+use program_calls::{ProgramFault, write_fault};
 use std::alloc::AllocError;
 use std::process::Abort;
 
