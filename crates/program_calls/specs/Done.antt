@@ -3,7 +3,6 @@ use Rattle.std.specs.Prelude.{◌≡◌, ℕ, Bool, true, false, if◌then◌els
 use Rattle.std.specs.Str.{bytes_eq}
 use Rattle.std.specs.List.{flat_map}
 use Rattle.std.specs.Io.KnownBytes.{Appends}
-use Rattle.audit_json.specs.Object.{AreAuditObjects}
 use Rattle.message_hex.specs.Lines.{first_fault, line_text}
 use Rattle.room_driven.specs.Emulate.{IsDumpOf}
 use Rattle.room_driven.specs.declared.wires.Wires.{Wires}
@@ -32,12 +31,11 @@ use Rattle.cli_words.specs.declared.choice.Objects.{Objects}
 use Rattle.cli_words.specs.declared.choice.Objects.TheVariants as of
 use Rattle.cli_words.specs.declared.choice.Listing.{Listing}
 use Rattle.cli_words.specs.declared.choice.Listing.TheVariants.{Trace, Edges, Vcd, Pin, Csv, Drives, Named}
-use Rattle.cli_words.specs.declared.choice.CaptureReport.{CaptureReport}
-use Rattle.cli_words.specs.declared.choice.CaptureReport.TheVariants.{Audit}
 use Rattle.cli_words.specs.declared.choice.TestView.{TestView}
 use Rattle.cli_words.specs.declared.choice.TestView.TheVariants.{Report, Traced}
 use Rattle.program_captures.specs.Captures.{IsHeard, IsShown, form_of, name_of, report_of}
 use Rattle.program_captures.specs.Following.{IsReported}
+use Rattle.program_captures.specs.Objects.{AreCaptureObjects, is_audit}
 use Rattle.program_edids.specs.Edids.{IsMade}
 use Rattle.program_calls.specs.CaptureTests.{IsCaptureTest}
 use Rattle.program_calls.specs.Live.{IsLiveDoneAs}
@@ -128,19 +126,6 @@ pub record AreRoomDone (input lines text : List ℕ) : Type 0 where
   pub script : List ℕ
   pub parts : IsRunInput input topology script
   pub objects : AreRoomObjects topology script lines text
-
--- the lines of a report are those of an audit
-abbrev pub is_audit : Option CaptureReport → Bool
-is_audit (Some (Audit timing strict)) = true
-is_audit report = false
-
--- a text is the objects of the lines of a report of a capture
-abbrev pub AreCaptureObjects : Bool → List ℕ → List ℕ → Type 0
-AreCaptureObjects true lines text = AreAuditObjects (lines_of lines) text
-AreCaptureObjects false lines text = AreObjects (lines_of lines) text
-
-abbrev pub WritesCaptureObjects : Bool → List ℕ → Option (List ℕ) → Option (List ℕ) → Type 0
-WritesCaptureObjects audited lines old new = (text : List ℕ) × AreCaptureObjects audited lines text × Appends old new text
 
 -- a text is the objects of these lines
 abbrev pub AreObjectsOf : Objects → List ℕ → List ℕ → List ℕ → Type 0

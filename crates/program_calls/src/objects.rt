@@ -1,18 +1,17 @@
 //! Objects of JSON: of a run while it runs, and of all other lines once they are all there.
-ghost use Rattle.std.specs.Prelude.{◌≡◌, true, false, [], OnOk};
-ghost use Rattle.program_calls.specs.Done.{Writes, WritesLines, WritesObjects, WritesCaptureObjects, are_of_run, is_audit, report_kind, report_view};
+ghost use Rattle.std.specs.Prelude.{◌≡◌, false, [], OnOk};
+ghost use Rattle.program_calls.specs.Done.{Writes, WritesLines, WritesObjects, are_of_run, report_kind, report_view};
 
 use crate::capture_test::test_capture;
 use crate::check::test;
 use crate::fault::ProgramFault;
 use crate::run::{run_to_objects, run_to_room};
 use crate::told::Recap;
-use audit_json::write_audit_objects;
-use cli_words::{CaptureReport, CommandChoice, Objects, TestView};
+use cli_words::{CommandChoice, Objects, TestView};
 use expect_sweep::SilentProgress;
 use json_report::{ReportKind, write_report_objects};
-use json_trace::{Held, write_objects};
-use program_captures::monitor;
+use json_trace::Held;
+use program_captures::{monitor, write_capture_objects};
 use std::alloc::{AllocError, Global};
 use text_core::{Sink, before};
 
@@ -66,42 +65,6 @@ fn report_kind(lines: &[u8]) -> ReportKind
     }
 }
 
-// Whether the lines of a report are those of an audit.
-fn is_audit(report: Option<CaptureReport>) -> bool
-    ensures { result ≡ is_audit report }
-{
-    matches!(report, Some(CaptureReport::Audit { .. }))
-}
-
-// Writes the objects of the lines of an audit.
-fn write_audited<W: Sink>(lines: &[u8], out: &mut W) -> Result<(), ProgramFault>
-    ensures { OnOk result (WritesCaptureObjects true lines.now (W.contents out.old) (W.contents out.new)) }
-{
-    Ok(write_audit_objects(lines, out)?)
-}
-
-// Writes the objects of the lines of another report of a capture.
-fn write_read<W: Sink>(lines: &[u8], out: &mut W) -> Result<(), ProgramFault>
-    ensures { OnOk result (WritesCaptureObjects false lines.now (W.contents out.old) (W.contents out.new)) }
-{
-    Ok(write_objects(lines, out)?)
-}
-
-// Writes the objects of the lines of a report of a capture, which is an audit or not.
-fn write_capture_objects<W: Sink>(
-    audited: bool,
-    lines: &[u8],
-    out: &mut W,
-) -> Result<(), ProgramFault>
-    ensures { OnOk result (WritesCaptureObjects audited lines.now (W.contents out.old) (W.contents out.new)) }
-{
-    if audited {
-        write_audited(lines, out)
-    } else {
-        write_read(lines, out)
-    }
-}
-
 // Writes the objects of lines that are not those of a run.
 fn write_objects_of<W: Sink>(
     objects: Objects,
@@ -114,7 +77,7 @@ fn write_objects_of<W: Sink>(
     match objects {
         Objects::Trace { .. } => unreachable!(),
         Objects::Room { .. } => unreachable!(),
-        Objects::Capture { report, .. } => write_capture_objects(is_audit(report), lines, out),
+        Objects::Capture { report, .. } => Ok(write_capture_objects(report, lines, out)?),
         Objects::Test { .. } => Ok(write_report_objects(report_kind(lines), lines, out)?),
         Objects::CaptureTest { .. } => {
             Ok(write_report_objects(ReportKind::Expectations, lines, out)?)
