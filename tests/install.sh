@@ -108,6 +108,31 @@ if command -v prove > /dev/null; then
   check "and fails where a test does" [ "$status" != 0 ]
   start env PATH="$dir/bin:$PATH" prove -e 'check-room one.room' poll=.test
   check "prove takes check-room with a room" ended 0
+  # Ten tests of a room, each of whose lines holds, and beside it one that does not (docs/testing.md); `\n` for a line feed.
+  TESTS='expect within 60000 of film 4>0 image-view-on ack|expect within 5000 of film 4>0 image-view-on ack
+expect once within 200000 of film 4>f active-source 1.0.0.0 ok|expect once within 200000 of film 4>f active-source 2.0.0.0 ok
+expect none from 0 to 2000000 short|expect none within 200000 of film 4>f active-source
+expect within 200000 of film *>f active-source|expect within 200000 of film *>f standby
+expect within 60000 of film 4>0 image-view-on *|expect within 60000 of film 4>0 text-view-on *
+expect within 60000 of film @p1>@tv image-view-on|expect within 60000 of film @tv>@p1 image-view-on
+expect from 1000000 to 1200000 4>f active-source|expect from 1200000 to 1400000 4>f active-source
+expect state 1500000 tv not standby|expect state 1500000 tv standby
+at 1500000 press tv eject\nexpect refused not-for-kind|at 1500000 press tv eject
+label slip at 1500000 press tv eject\nexpect refused slip not-for-kind|label slip at 1500000 press tv eject\nexpect refused slip off-wire'
+  printf 'device tv tv 4\ndevice p1 player 0\nplug p1 tv 1\n' > "$room/elsewhere/film.room"
+  mkdir "$room/elsewhere/holds" "$room/elsewhere/fails"
+  number=0
+  while IFS='|' read -r holds fails; do
+    number=$((number + 1))
+    for what in holds fails; do
+      printf 'label film at 1000000 press p1 play\n%b\nend 2000000\n' "${!what}" > "$room/elsewhere/$what/$number.test"
+    done
+  done <<< "$TESTS"
+  start env PATH="$dir/bin:$PATH" prove -e 'check-room film.room' "$room"/elsewhere/holds/*.test
+  check "ten tests of a room hold" ended 0
+  check "and prove counts ten" grep -q '^Files=10, Tests=10, ' "$room/out"
+  start env PATH="$dir/bin:$PATH" prove -e 'check-room film.room' "$room"/elsewhere/fails/*.test
+  check "each with a slip fails" grep -qxF 'Failed 10/10 test programs. 10/10 subtests failed.' <(cat "$room/out" "$room/err")
 fi
 if command -v man > /dev/null; then
   start env MANWIDTH=80 LC_ALL=C man -l "$dir/share/man/man1/hdminet.1"

@@ -2,10 +2,11 @@
 ghost use Rattle.std.specs.Prelude.{◌≡◌, MatchResult, None, Some, map, string_bytes};
 ghost use Rattle.cli_words.specs.Line.{asked_by};
 
+use crate::values::value_hint;
 use crate::{frames_help, help};
 use clap::error::ErrorKind;
 use clap::{Arg, ArgAction, Command, Error};
-use cli_words::{Asked, Subcommand, asked_by, subcommand_of};
+use cli_words::{Asked, Subcommand, asked_by, subcommand_of, value_at_fault};
 use explain_lists::{frame_forms, run_words};
 use std::alloc::{AllocError, Global};
 
@@ -307,10 +308,20 @@ fn meant(alloc: Global, error: &str, words: &[String]) -> Result<String, AllocEr
     }
 }
 
+// A line on a value that its flag does not take, where there is one.
+fn value_named(alloc: Global, words: &[String]) -> Result<String, AllocError> {
+    match value_at_fault(words) {
+        Some((flag, value)) => value_hint(alloc, flag, value),
+        None => Ok(String::new(alloc)),
+    }
+}
+
 // What is said of a command line that is not to be done.
 fn said(alloc: Global, error: &Error, words: &[String]) -> Result<Refused, AllocError> {
     let mut text = format!(in alloc; "{error}")?;
     if error.use_stderr() {
+        let value = value_named(alloc, words)?;
+        text.push_str(value.as_str())?;
         let meant = meant(alloc, text.as_str(), words)?;
         text.push_str(meant.as_str())?;
         text.push_str(explanation(words))?;
@@ -354,14 +365,19 @@ fn rules(words: &[String]) -> &'static str {
     ""
 }
 
-// What is said where the table takes words that ask for nothing: what goes with what.
-fn meaningless(alloc: Global, words: &[String]) -> Refused {
+// What is said where the table takes words that ask for nothing: what goes with what, and a value that its flag does not take.
+fn rules_said(alloc: Global, words: &[String]) -> Result<String, AllocError> {
     let rules = rules(words);
+    let value = value_named(alloc, words)?;
     let explanation = explanation(words);
-    let text = format!(in alloc;
-        "error: a value is none of its flag, or flags do not go together\n{rules}\nFor more information, try '--help'.\n{explanation}"
-    );
-    match text {
+    format!(in alloc;
+        "error: a value is none of its flag, or flags do not go together\n{rules}\nFor more information, try '--help'.\n{value}{explanation}"
+    )
+}
+
+// What becomes of such words.
+fn meaningless(alloc: Global, words: &[String]) -> Refused {
+    match rules_said(alloc, words) {
         Ok(text) => Refused::Words(text),
         Err(AllocError) => Refused::Memory,
     }

@@ -101,7 +101,7 @@ pub const RUN_VALUES: &[(&str, &str, &str)] = &[(
 )];
 
 pub const RUN_RULES: &str = "
-  --as takes vcd, pin or csv, and goes with --edges alone
+  --as goes with --edges alone
   --drives goes with --edges --as vcd alone, --named with --drives alone
   --json goes without --edges; --room goes with --json alone
 ";
@@ -232,8 +232,7 @@ pub const CHECK_VALUES: &[(&str, &str, &str)] = &[
 pub const CHECK_RULES: &str = "
   of --trace, --plain, --progress and --capture one is given at most; --json goes with --trace or --capture,
   and not with --plain or --progress
-  --from, --signal and --glitch go with --capture alone; --from takes edges, vcd, pin or csv; --glitch a
-  number of microseconds; --signal goes with vcd and csv alone
+  --from, --signal and --glitch go with --capture alone, --signal with vcd and csv alone
 ";
 
 pub const CHECK_HELP: &str = "\
@@ -485,7 +484,6 @@ pub const MON_VALUES: &[(&str, &str, &str)] = &[
 ];
 
 pub const MON_RULES: &str = "
-  --from takes edges, vcd, pin or csv; --glitch a number of microseconds, --margin one up to 300
   --signal goes with vcd and csv alone; of --from-start and --from-idle one is given at most, and neither
   with --audit and --timing; --strict goes with one of these two; --fold does not go with --json
   --follow goes with --from edges, pin or csv, and else with --signal, --margin and --from-start alone
@@ -641,8 +639,6 @@ pub const EDID_VALUES: &[(&str, &str, &str)] = &[
 pub const EDID_RULES: &str = "
   of --text, --words and --hex one is given at most, of --raw, --check, --meaning,
   --only-address and --ddc, of --address and --port, and of --eeodb and --as-source
-  --address takes an address as 1.0.0.0, --port 1 to 15, --below amp,
-  --speakers own, --nth a number from 1, --rows KIND=ROW, a comma apart
   --below goes with --port alone, --speakers with --below alone, --nth with
   --hex alone, --rows with --merge alone, which goes with none of --text, --words,
   --nth, --eeodb and --as-source

@@ -4,5 +4,6 @@
 mod choice;
 mod frames_help;
 mod help;
+mod values;
 
 pub use choice::{Refused, choose};

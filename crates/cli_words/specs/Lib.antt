@@ -8,3 +8,4 @@ pub mod MonFlags
 pub mod EdidFlags
 pub mod Line
 pub mod LiveFlags
+pub mod AtFault

@@ -8,9 +8,13 @@ use Rattle.cli_words.specs.EdidFlags.{edid_asked, edid_flags}
 use Rattle.cli_words.specs.LiveFlags.{live_asked, live_flags}
 use Rattle.cli_words.specs.MonFlags.{mon_asked, mon_flags}
 use Rattle.cli_words.specs.RunFlags.{run_asked, run_flags}
+use Rattle.cli_words.specs.declared.check_flags.CheckFlags.{CheckFlags}
 use Rattle.cli_words.specs.declared.choice.Asked.{Asked}
 use Rattle.cli_words.specs.declared.choice.CommandChoice.{CommandChoice}
 use Rattle.cli_words.specs.declared.choice.CommandChoice.TheVariants as choices
+use Rattle.cli_words.specs.declared.edid_flags.EdidFlags.{EdidFlags}
+use Rattle.cli_words.specs.declared.mon_flags.MonFlags.{MonFlags}
+use Rattle.cli_words.specs.declared.run_flags.RunFlags.{RunFlags}
 use Rattle.cli_words.specs.declared.subcommand.Subcommand.{Subcommand}
 use Rattle.cli_words.specs.declared.subcommand.Subcommand.TheVariants.{Run, Check, Step, Live, Asm, Dis, Lay, Mon, Edid}
 
@@ -34,18 +38,30 @@ only_explained choice [] = Some (record { choice = choice; explains = false })
 only_explained choice (word ∷ []) = if bytes_eq word (codes "--explain") then Some (record { choice = choice; explains = true }) else None
 only_explained choice words = None
 
+-- no flag of a subcommand
+abbrev pub no_run_flags : RunFlags
+no_run_flags = record { edges = false; format = None; drives = false; named = false; strict = false; json = false; room = false; explains = false; waits = false }
+
+abbrev pub no_check_flags : CheckFlags
+no_check_flags = record { plain = false; trace = false; json = false; progress = false; capture = false; form = None; named = false; glitch = None; explains = false; waits = None }
+
+abbrev pub no_mon_flags : MonFlags
+no_mon_flags = record { form = None; named = false; glitch = None; margin = None; inverted = false; start = None; audit = false; timing = false; strict = false; folded = false; json = false; follows = false; explains = false; waits = None }
+
+abbrev pub no_edid_flags : EdidFlags
+no_edid_flags = record { source = None; nth = None; reading = None; wanted = None; address = None; port = None; amplified = false; spoken = false; merges = false; rows = None; explains = false; waits = None }
+
 -- what a subcommand with these flags asks for
 abbrev pub asked_of : Subcommand → List (List ℕ) → Option Asked
-asked_of Run words = option_and_then run_asked (run_flags (record { edges = false; format = None; drives = false; named = false; strict = false; json = false; room = false; explains = false; waits = false }) words)
-asked_of Check words = option_and_then check_asked (check_flags (record { plain = false; trace = false; json = false; progress = false; capture = false; form = None; named = false; glitch = None; explains = false; waits = None }) words)
+asked_of Run words = option_and_then run_asked (run_flags no_run_flags words)
+asked_of Check words = option_and_then check_asked (check_flags no_check_flags words)
 asked_of Step words = only_explained choices.Step words
 asked_of Live words = option_map live_asked (live_flags (record { json = false; explains = false }) words)
 asked_of Asm words = only_explained choices.Asm words
 asked_of Dis words = option_map dis_asked (dis_flags (record { meaning = false; explains = false }) words)
 asked_of Lay words = only_explained choices.Lay words
-asked_of Mon words = option_and_then mon_asked (mon_flags (record { form = None; named = false; glitch = None; margin = None; inverted = false; start = None; audit = false; timing = false; strict = false; folded = false; json = false; follows = false; explains = false; waits = None }) words)
-asked_of Edid words =
-    option_and_then edid_asked (edid_flags (record { source = None; nth = None; reading = None; wanted = None; address = None; port = None; amplified = false; spoken = false; merges = false; rows = None; explains = false; waits = None }) words)
+asked_of Mon words = option_and_then mon_asked (mon_flags no_mon_flags words)
+asked_of Edid words = option_and_then edid_asked (edid_flags no_edid_flags words)
 
 -- a subcommand and its flags; no word at all is `run`
 abbrev pub asked_as : List (List ℕ) → Option Asked

@@ -70,8 +70,8 @@ fn with_check_value(flags: CheckFlags, value: MonValue, word: &str) -> Option<Ch
     }
 }
 
-// The flags with one more. Each stands once at most.
-fn with_check_flag(flags: CheckFlags, word: &str) -> Option<CheckFlags>
+/// The flags with one more. Each stands once at most.
+pub(crate) fn with_check_flag(flags: CheckFlags, word: &str) -> Option<CheckFlags>
     ensures { result ≡ with_check_flag flags word.now }
 {
     match word {
@@ -123,8 +123,8 @@ fn with_check_pair(flags: CheckFlags, flag: &str, word: &str) -> Option<CheckFla
     with_check_value(flags, flags.waits?, word)
 }
 
-// The flags with one word more: a value where a flag waits for one, else a flag, or a flag and its value.
-fn with_check_word(flags: CheckFlags, word: &str) -> Option<CheckFlags>
+/// The flags with one word more: a value where a flag waits for one, else a flag, or a flag and its value.
+pub(crate) fn with_check_word(flags: CheckFlags, word: &str) -> Option<CheckFlags>
     ensures { result ≡ with_check_word flags flags.waits word.now }
 {
     match flags.waits {

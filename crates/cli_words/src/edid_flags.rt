@@ -157,8 +157,8 @@ fn with_edid_value(flags: EdidFlags, value: EdidValue, word: &str) -> Option<Edi
     }
 }
 
-// The flags with one more. Each stands once at most, and those that exclude one another not together.
-fn with_edid_flag(flags: EdidFlags, word: &str) -> Option<EdidFlags>
+/// The flags with one more. Each stands once at most, and those that exclude one another not together.
+pub(crate) fn with_edid_flag(flags: EdidFlags, word: &str) -> Option<EdidFlags>
     ensures { result ≡ with_edid_flag flags word.now }
 {
     match word {
@@ -246,8 +246,8 @@ fn with_edid_pair(flags: EdidFlags, flag: &str, word: &str) -> Option<EdidFlags>
     with_edid_value(flags, flags.waits?, word)
 }
 
-// The flags with one word more: a value where a flag waits for one, else a flag, or a flag and its value.
-fn with_edid_word(flags: EdidFlags, word: &str) -> Option<EdidFlags>
+/// The flags with one word more: a value where a flag waits for one, else a flag, or a flag and its value.
+pub(crate) fn with_edid_word(flags: EdidFlags, word: &str) -> Option<EdidFlags>
     ensures { result ≡ with_edid_word flags flags.waits word.now }
 {
     match flags.waits {

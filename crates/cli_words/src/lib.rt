@@ -1,6 +1,7 @@
 //! The words of a command line, read exactly: what each line without a slip asks for.
 #![tactic(auto)]
 
+mod at_fault;
 mod check_flags;
 mod choice;
 mod dis_flags;
@@ -14,6 +15,7 @@ mod rows;
 mod run_flags;
 mod subcommand;
 
+pub use at_fault::{Valued, value_at_fault};
 pub use choice::{
     Asked, CaptureReport, CommandChoice, EdidReading, EdidShape, FollowForm, Form, Listing,
     Objects, Recipient, Sound, Source, TestView, View,

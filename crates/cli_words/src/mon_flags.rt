@@ -122,8 +122,8 @@ fn with_mon_value(flags: MonFlags, value: MonValue, word: &str) -> Option<MonFla
     }
 }
 
-// The flags with one more. Each stands once at most, and those that exclude one another not together.
-fn with_mon_flag(flags: MonFlags, word: &str) -> Option<MonFlags>
+/// The flags with one more. Each stands once at most, and those that exclude one another not together.
+pub(crate) fn with_mon_flag(flags: MonFlags, word: &str) -> Option<MonFlags>
     ensures { result ≡ with_mon_flag flags word.now }
 {
     match word {
@@ -195,8 +195,8 @@ fn with_mon_pair(flags: MonFlags, flag: &str, word: &str) -> Option<MonFlags>
     with_mon_value(flags, flags.waits?, word)
 }
 
-// The flags with one word more: a value where a flag waits for one, else a flag, or a flag and its value.
-fn with_mon_word(flags: MonFlags, word: &str) -> Option<MonFlags>
+/// The flags with one word more: a value where a flag waits for one, else a flag, or a flag and its value.
+pub(crate) fn with_mon_word(flags: MonFlags, word: &str) -> Option<MonFlags>
     ensures { result ≡ with_mon_word flags flags.waits word.now }
 {
     match flags.waits {

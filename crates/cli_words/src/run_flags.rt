@@ -63,8 +63,8 @@ fn with_run_value(flags: RunFlags, word: &str) -> Option<RunFlags>
     })
 }
 
-// The flags with one more. Each stands once at most.
-fn with_run_flag(flags: RunFlags, word: &str) -> Option<RunFlags>
+/// The flags with one more. Each stands once at most.
+pub(crate) fn with_run_flag(flags: RunFlags, word: &str) -> Option<RunFlags>
     ensures { result ≡ one_run_flag flags word.now }
 {
     match word {
@@ -116,8 +116,8 @@ fn with_run_pair(flags: RunFlags, flag: &str, word: &str) -> Option<RunFlags>
     }
 }
 
-// The flags with one word more: a value where a flag waits for one, else a flag, or a flag and its value.
-fn with_run_word(flags: RunFlags, word: &str) -> Option<RunFlags>
+/// The flags with one word more: a value where a flag waits for one, else a flag, or a flag and its value.
+pub(crate) fn with_run_word(flags: RunFlags, word: &str) -> Option<RunFlags>
     ensures { result ≡ with_run_word flags word.now }
 {
     if flags.waits {

@@ -113,6 +113,14 @@ run a.net b.net --edges --as vcd =>   a file is read as standard input, after `<
 help =>   the help is `hdminet --help`, and that of a subcommand `hdminet run --help`
 help run =>   the help is `hdminet --help`, and that of a subcommand `hdminet run --help`
 run --bogus => For more information, try '--help'.
+run --as vcd => For more information, try '--help'.
+mon --port 0 => For more information, try '--help'.
+mon --invert=50us => For more information, try '--help'.
+mon --glitch 50 --glitch 50us => For more information, try '--help'.
+mon --signal CEC --from pin => For more information, try '--help'.
+run --strict tv.net --as wav =>   a file is read as standard input, after `<`: `hdminet run --strict --as wav < FILE`
+mon --margin -5 =>   `--margin -5`: a number of microseconds, digits alone and no zero before them, 0 to 300
+mon --from wav a.vcd =>   a file is read as standard input, after `<`: `hdminet mon --from wav < FILE`
 ";
 
 #[test]
@@ -124,5 +132,171 @@ fn files_and_help_are_explained_without_a_flag(rt: HostRuntime) {
         let said = String::from_utf8(reported.err).expect(&rt, "a text");
         let right = said.as_str().lines().last() == Some(last);
         expect(&rt, refused && right, line, last);
+    }
+}
+
+/// What follows `error: a value is none of its flag, or flags do not go together` of each subcommand.
+const RULES: [(&str, &str); 4] = [
+    (
+        "run",
+        "  --as goes with --edges alone
+  --drives goes with --edges --as vcd alone, --named with --drives alone
+  --json goes without --edges; --room goes with --json alone
+",
+    ),
+    (
+        "check",
+        "  of --trace, --plain, --progress and --capture one is given at most; --json goes with --trace or --capture,
+  and not with --plain or --progress
+  --from, --signal and --glitch go with --capture alone, --signal with vcd and csv alone
+",
+    ),
+    (
+        "mon",
+        "  --signal goes with vcd and csv alone; of --from-start and --from-idle one is given at most, and neither
+  with --audit and --timing; --strict goes with one of these two; --fold does not go with --json
+  --follow goes with --from edges, pin or csv, and else with --signal, --margin and --from-start alone
+",
+    ),
+    (
+        "edid",
+        "  of --text, --words and --hex one is given at most, of --raw, --check, --meaning,
+  --only-address and --ddc, of --address and --port, and of --eeodb and --as-source
+  --below goes with --port alone, --speakers with --below alone, --nth with
+  --hex alone, --rows with --merge alone, which goes with none of --text, --words,
+  --nth, --eeodb and --as-source
+",
+    ),
+];
+
+/// A command line with a value that its flag does not take, and what follows the rules of its subcommand: the flag, the value, and
+/// what it has to be, with `|` for a line feed.
+const VALUES: &str = "\
+run --edges --as wav => `--as wav`: vcd, pin or csv
+run --as=edges --edges => `--as edges`: vcd, pin or csv
+run --as= --edges => `--as` lacks its value: vcd, pin or csv
+check --capture --from xyz => `--from xyz`: edges, vcd, pin or csv
+check --from=VCD --capture => `--from VCD`: edges, vcd, pin or csv
+check --glitch few => `--glitch few`: a number of microseconds, digits alone and no zero before them, 0 to 18446744073709551615
+mon --from xyz => `--from xyz`: edges, vcd, pin or csv
+mon --from= => `--from` lacks its value: edges, vcd, pin or csv
+mon --glitch 50us => `--glitch 50us`: a number of microseconds, digits alone and no zero before them, 0 to 18446744073709551615
+mon --glitch=050 --invert => `--glitch 050`: a number of microseconds, digits alone and no zero before them, 0 to 18446744073709551615
+mon --glitch 18446744073709551616 => `--glitch 18446744073709551616`: a number of microseconds, digits alone and no zero before them, 0 to 18446744073709551615
+mon --glitch 0.5 --margin 301 => `--glitch 0.5`: a number of microseconds, digits alone and no zero before them, 0 to 18446744073709551615
+mon --margin 500 => `--margin 500`: a number of microseconds, digits alone and no zero before them, 0 to 300
+mon --glitch 5 --margin=301 => `--margin 301`: a number of microseconds, digits alone and no zero before them, 0 to 300
+mon --follow --from wav --glitch 5 => `--from wav`: edges, vcd, pin or csv
+edid --address 1.0.0 => `--address 1.0.0`: a physical address, four hex digits in lower case with dots between them, as 1.0.0.0
+edid --address A.0.0.0 => `--address A.0.0.0`: a physical address, four hex digits in lower case with dots between them, as 1.0.0.0
+edid --port 0 => `--port 0`: a number, digits alone and no zero before them, 1 to 15
+edid --raw --port=16 => `--port 16`: a number, digits alone and no zero before them, 1 to 15
+edid --port=1=2 => `--port 1=2`: a number, digits alone and no zero before them, 1 to 15
+edid --port 2 --below tv => `--below tv`: amp
+edid --port 2 --below amp --speakers amp => `--speakers amp`: own
+edid --merge --rows sound=own => `--rows sound=own`: KIND=ROW, a comma apart, 12 at most; product, video, audio, maker-video, maker-audio and other take keep or own, hdmi and forum least too, and speakers, capability, colorimetry and hdr keep, own or and
+edid --merge --rows=video=least => `--rows video=least`: KIND=ROW, a comma apart, 12 at most; product, video, audio, maker-video, maker-audio and other take keep or own, hdmi and forum least too, and speakers, capability, colorimetry and hdr keep, own or and
+edid --hex --nth 0 => `--nth 0`: a number, digits alone and no zero before them, 1 or more
+mon --glitch 50us -- => `--glitch 50us`: a number of microseconds, digits alone and no zero before them, 0 to 18446744073709551615
+mon --margin 1s --explain => `--margin 1s`: a number of microseconds, digits alone and no zero before them, 0 to 300|  the subcommands are run, check, step, live, asm, dis, lay, mon and edid; each reads standard input, as `hdminet run < FILE`
+--explain mon --margin 1s => `--margin 1s`: a number of microseconds, digits alone and no zero before them, 0 to 300|  the subcommands are run, check, step, live, asm, dis, lay, mon and edid; each reads standard input, as `hdminet run < FILE`
+";
+
+/// A command line that ends before a value, or has a flag in its place; the flag with what stands for its value; and what the value
+/// has to be.
+const MISSING: &str = "\
+run --edges --as => --as <FORMAT> => vcd, pin or csv
+check --capture --from => --from <FORM> => edges, vcd, pin or csv
+check --capture --signal => --signal <NAME> => the name of a wire
+check --capture --glitch => --glitch <MICROSECONDS> => a number of microseconds, digits alone and no zero before them, 0 to 18446744073709551615
+mon --from --invert => --from <FORM> => edges, vcd, pin or csv
+mon --signal => --signal <NAME> => the name of a wire
+mon --glitch => --glitch <MICROSECONDS> => a number of microseconds, digits alone and no zero before them, 0 to 18446744073709551615
+mon --invert --glitch -- => --glitch <MICROSECONDS> => a number of microseconds, digits alone and no zero before them, 0 to 18446744073709551615
+mon --margin --glitch 50 => --margin <MICROSECONDS> => a number of microseconds, digits alone and no zero before them, 0 to 300
+edid --address --raw => --address <ADDRESS> => a physical address, four hex digits in lower case with dots between them, as 1.0.0.0
+edid --port => --port <NUMBER> => a number, digits alone and no zero before them, 1 to 15
+edid --port 2 --below => --below <KIND> => amp
+edid --port 2 --below amp --speakers => --speakers <WHOSE> => own
+edid --merge --rows => --rows <ROWS> => KIND=ROW, a comma apart, 12 at most; product, video, audio, maker-video, maker-audio and other take keep or own, hdmi and forum least too, and speakers, capability, colorimetry and hdr keep, own or and
+edid --hex --nth => --nth <NUMBER> => a number, digits alone and no zero before them, 1 or more
+";
+
+/// Command lines with the first and the last value that a flag takes, and words: of an empty input no value is named.
+const TAKEN: &str = "\
+run --edges --as vcd
+run --edges --as=pin
+run --as csv --edges
+check --capture --from edges --glitch 0
+check --capture --from vcd --signal --
+check --capture --from=pin --glitch=18446744073709551615
+check --capture --from csv --signal=
+mon --from edges --glitch 0 --margin 0
+mon --from vcd --signal --invert
+mon --from pin --glitch 18446744073709551615 --margin 300
+mon --from csv --signal=CEC=2
+edid --address 0.0.0.0
+edid --address=f.f.f.f
+edid --port 1 --below amp --speakers own
+edid --port=15
+edid --hex --nth 1
+edid --hex --nth=99999999999999999999
+edid --merge --rows product=own,video=keep,audio=keep,speakers=and,hdmi=own,forum=least,capability=and,colorimetry=keep,hdr=own,maker-video=own,maker-audio=keep,other=own
+edid --merge --rows=video=own
+";
+
+/// The rules of the subcommand that a command line has.
+fn rules_of(rt: &impl Abort, line: &str) -> &'static str {
+    for row in RULES {
+        if line.split(' ').any(|word| word == row.0) {
+            return row.1;
+        }
+    }
+    panic!(rt; "a subcommand")
+}
+
+/// The program refuses a command line with this text.
+fn refuses(rt: &(impl Abort + AllocGlobal), line: &str, text: &str) {
+    let reported = reported_of(rt, line, b"");
+    let refused = reported.status == 2 && reported.out.is_empty();
+    expect(
+        rt,
+        refused && reported.err.as_slice() == text.as_bytes(),
+        line,
+        text,
+    );
+}
+
+#[test]
+fn a_value_that_its_flag_does_not_take_is_named(rt: HostRuntime) {
+    for case in VALUES.lines() {
+        let (line, hint) = two_parts(&rt, case);
+        let rules = rules_of(&rt, line);
+        let hint = hint.replace(rt.alloc(), "|", "\n").expect(&rt, "a hint");
+        let text = format!(in rt.alloc();
+            "error: a value is none of its flag, or flags do not go together\n\n{rules}\nFor more information, try '--help'.\n  {hint}\n"
+        );
+        refuses(&rt, line, text.expect(&rt, "a text").as_str());
+    }
+}
+
+#[test]
+fn a_value_that_is_missing_is_said_to_be(rt: HostRuntime) {
+    for case in MISSING.lines() {
+        let (line, rest) = two_parts(&rt, case);
+        let (flag, takes) = two_parts(&rt, rest);
+        let (name, _) = flag.split_once(' ').expect(&rt, flag);
+        let text = format!(in rt.alloc();
+            "error: a value is required for '{flag}' but none was supplied\n\nFor more information, try '--help'.\n  `{name}` lacks its value: {takes}\n"
+        );
+        refuses(&rt, line, text.expect(&rt, "a text").as_str());
+    }
+}
+
+#[test]
+fn a_value_that_its_flag_takes_is_not_named(rt: HostRuntime) {
+    for line in TAKEN.lines() {
+        let reported = reported_of(&rt, line, b"");
+        expect(&rt, reported.status != 2, line, "taken");
     }
 }
