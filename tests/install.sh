@@ -132,7 +132,7 @@ label slip at 1500000 press tv eject\nexpect refused slip not-for-kind|label sli
   check "ten tests of a room hold" ended 0
   check "and prove counts ten" grep -q '^Files=10, Tests=10, ' "$room/out"
   start env PATH="$dir/bin:$PATH" prove -e 'check-room film.room' "$room"/elsewhere/fails/*.test
-  check "each with a slip fails" grep -qxF 'Failed 10/10 test programs. 10/10 subtests failed.' <(cat "$room/out" "$room/err")
+  check "each with a slip fails" [ "$(grep -c 'Tests: 1 Failed: 1)' "$room/out")" = 10 ]
 fi
 if command -v man > /dev/null; then
   start env MANWIDTH=80 LC_ALL=C man -l "$dir/share/man/man1/hdminet.1"

@@ -300,6 +300,19 @@ def claimed_twice():
     return is_right('claims.py')
 
 
+def sent_together():
+    """Of a round that two devices send together room.py names both."""
+    sys.path.insert(0, os.path.join(TOP, 'examples/live'))
+    from room import Room, rounds
+    room = Room(PROGRAM, 'device tv tv 2\ndevice one outside 0\ndevice two outside 0\nplug one tv 1\nplug two tv 2\n')
+    for name in ('one', 'two'):
+        room.ask('at 500000 send %s 4>0 image-view-on' % name)
+    told, _ = room.ask('run to 600000')
+    room.ask('end 700000')
+    room.live.communicate()
+    return [one.senders for one in rounds(told)][-1] == ['one', 'two']
+
+
 def shell():
     """The driver in bash goes through its room."""
     ran = subprocess.run([os.path.join(TOP, 'examples/live/room.sh'), PROGRAM], capture_output=True, text=True)
@@ -314,7 +327,7 @@ def main():
         sys.exit('live: no program at %s: start ./hdminet once' % PROGRAM)
     signal.alarm(600)
     passed = failed = 0
-    for test in [answers_at_once, ends_early, has_faults, closed, objects, objects_closed, examples_cut, pulses_let_go, edge_by_edge, held_at_random, pin_by_levels, driver, device_under_test, television_under_test, claimed_twice, shell]:
+    for test in [answers_at_once, ends_early, has_faults, closed, objects, objects_closed, examples_cut, pulses_let_go, edge_by_edge, held_at_random, pin_by_levels, driver, device_under_test, television_under_test, claimed_twice, sent_together, shell]:
         if test():
             passed += 1
         else:

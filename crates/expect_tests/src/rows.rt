@@ -93,6 +93,7 @@ end 10|expect state 5 tv not on => none
 end 10|expect state 5 tv on not => line 2: pattern at 5
 end 10|expect state 5 tv not not => line 2: pattern at 5
 end 10|expect state 5 tv power=on => line 2: pattern at 4
+end 10|expect state 5 tv power=onn => line 2: pattern at 4
 end 10|expect state 5 tv on active= => line 2: pattern at 5
 end 10|expect state 5 tv active=1.2 => line 2: pattern at 4
 end 10|label a expect state 5 tv not on standby=on => line 2: pattern at 8
@@ -141,7 +142,10 @@ expect from 1 to 2 film|end 10 => line 1: pattern at 5
 expect from 1 to 2 complete 4>f active-source|end 10 => line 1: pattern at 5
 expect none from 1 to 2 4>F active-source|end 10 => line 1: pattern at 6
 expect none from 1 to 2 4>f active-sourc|end 10 => line 1: pattern at 7
+expect none from 1 to 2 complete 4>f active-source 1.0.0.0|end 10 => line 1: pattern at 6
+expect none from 1 to 2 4>f active_source|end 10 => line 1: pattern at 7
 expect once from 1 to 2 4>f active_source 1.0.0.0|end 10 => line 1: pattern at 7
+expect none from 1 to 2 4>0 active-source|end 10 => none
 expect from 1 to 2 4>f active-source 1.0.0.0 ack|end 10 => line 1: pattern at 8
 at 5 press p1 play|label b expect none from 1 to 2 4>0 image-view-on ok => line 2: pattern at 10
 expect from 1 to 2 4>0 report-power-status onn|end 10 => line 1: pattern at 7

@@ -22,6 +22,9 @@ fn patterns_that_lines_meet(rt: HostRuntime) {
         b"4>0 report-power-status :05".as_slice(),
         b"5>0 report-audio-status sound 20 ack".as_slice(),
         b"4>0 *-power-* *".as_slice(),
+        // A device from outside may send to one address what the standard broadcasts.
+        b"4>0 active-source".as_slice(),
+        b"4>0 active-source 1.0.0.0 ack".as_slice(),
     ] {
         assert!(rt; is_said(pattern));
     }
@@ -39,6 +42,7 @@ fn patterns_that_no_line_meets(rt: HostRuntime) {
         b"4>f active-source ack".as_slice(),
         b"4>f active-source 1.0.0.0 ack".as_slice(),
         b"4>0 image-view-on ok".as_slice(),
+        b"4>0 active-source 1.0.0.0 ok".as_slice(),
         b"4>0 report-power-status onn".as_slice(),
         b"short 2".as_slice(),
         b"4>0 imag*-onn".as_slice(),
@@ -86,6 +90,7 @@ fn words_that_no_state_line_has(rt: HostRuntime) {
         b"".as_slice(),
         b"off".as_slice(),
         b"power=on".as_slice(),
+        b"power=onn".as_slice(),
         b"player1".as_slice(),
         b"g".as_slice(),
         b"4+".as_slice(),
