@@ -30,7 +30,7 @@ use text_core::{Piece, Sink};
 
 /// What is kept of the readings so far. It is told the edges of each, and keeps none.
 #[derive(Drop)]
-pub(crate) struct Auditor {
+pub struct Auditor {
     previous: Previous,
     attempts: Attempts,
     series: BadStartSeries,
@@ -158,7 +158,7 @@ fn write_reading_widths<S: Sink>(
 
 impl Auditor {
     /// Before all readings.
-    pub(crate) fn new() -> Self
+    pub fn new() -> Self
         ensures { tape_at [] result ≡ first_tape [] }
     {
         Auditor {
@@ -261,7 +261,7 @@ impl Auditor {
     }
 
     /// Writes what there is to remark of a reading, and keeps it. `edges` are those of the capture from its fall on.
-    pub(crate) fn remark<S: Sink>(
+    pub fn remark<S: Sink>(
         &mut self,
         reading: &Reading,
         edges: &[Edge],
@@ -280,7 +280,7 @@ impl Auditor {
     }
 
     /// Writes what there is to say of all readings up to an end.
-    pub(crate) fn summarize<S: Sink>(&self, end: u64, progress: &mut TextProgress, out: &mut S)
+    pub fn summarize<S: Sink>(&self, end: u64, progress: &mut TextProgress, out: &mut S)
         ensures { WritesOn (S.contents out.old) (S.contents out.new) (S.is_stuck out.old) (S.is_stuck out.new)
             (summary_text end (tape_at [] self.now)) progress.old.so_far progress.new.so_far }
     {

@@ -9,4 +9,6 @@ mod progress;
 mod whole;
 
 pub use audit::{AuditOptions, audit_capture, audit_capture_by};
+pub use auditor::Auditor;
 pub use laws::audits_keep_readings;
+pub use progress::TextProgress;

@@ -11,7 +11,7 @@ use text_core::{Piece, Sink, WriteFault, counted, cut_at, write_line};
 
 /// How far a text is written: its length so far, or where it was cut off. Once it is cut off nothing more is put.
 #[derive(Debug, Drop)]
-pub(crate) struct TextProgress {
+pub struct TextProgress {
     so_far: Result<u128, WriteFault>,
 }
 
@@ -27,14 +27,14 @@ fn length_after(written: u128, line: Result<u128, WriteFault>) -> Result<u128, W
 
 impl TextProgress {
     /// Of a text of which nothing is written yet.
-    pub(crate) fn new() -> Self
+    pub fn new() -> Self
         ensures { result.so_far ≡ Ok 0 }
     {
         TextProgress { so_far: Ok(0) }
     }
 
     /// Writes a line, part by part.
-    pub(crate) fn line<S: Sink>(&mut self, out: &mut S, pieces: &[Piece])
+    pub fn line<S: Sink>(&mut self, out: &mut S, pieces: &[Piece])
         ensures { WritesOn (S.contents out.old) (S.contents out.new) (S.is_stuck out.old) (S.is_stuck out.new) (flat_map piece_text pieces.now) self.old.so_far self.new.so_far }
     {
         let Ok(written) = self.so_far else {
@@ -44,7 +44,7 @@ impl TextProgress {
     }
 
     /// Writes the line of a reading.
-    pub(crate) fn reading<S: Sink>(&mut self, out: &mut S, reading: &Reading)
+    pub fn reading<S: Sink>(&mut self, out: &mut S, reading: &Reading)
         ensures { WritesOn (S.contents out.old) (S.contents out.new) (S.is_stuck out.old) (S.is_stuck out.new) (reading_line reading.now) self.old.so_far self.new.so_far }
     {
         let Ok(written) = self.so_far else {
@@ -54,7 +54,7 @@ impl TextProgress {
     }
 
     /// Whether all of it was written, or where it was cut off.
-    pub(crate) fn result(self) -> Result<(), WriteFault>
+    pub fn result(self) -> Result<(), WriteFault>
         ensures { result ≡ result_of self.so_far }
     {
         match self.so_far {

@@ -7,7 +7,8 @@ use std::process::Abort;
 use text_core::{Buffered, Writes};
 
 /// `FORM:MARGIN TEXT => SAID END`; `csv-NAME` is the form with a name of the wire. In a text `|` ends a line, and `START` is a comment that starts pin events at 100 s; `POLL` has
-/// the lines of the television's own poll from 12,000 on up to its last bit, whose fall is at 38,100. `SAID` has `>` for each line
+/// the lines of the television's own poll from 12,000 on up to its last bit, whose fall is at 38,100, and `SLOTS` those after its
+/// start bit. `SAID` has `>` for each line
 /// that was read, and each reading where it was written, with `|` after it; `END` is `.` or the fault.
 const ROWS: &str = "\
 # A pulse that is no start bit is over with its rise; that of a pin is known with the next event, of another pin too.
@@ -64,15 +65,17 @@ edges:100 12000 0|15950 1|16000 end => >>>12000 16000 open -| .
 
 const START: &str = "# start_monotonic 100.000000000";
 
-const POLL: &str =
-    "12000 0|15700 1|16500 0|18000 1|18900 0|20400 1|21300 0|22800 1|23700 0|25200 1|26100 0|27600 1|28500 0|30000 1|30900 0|32400 1|33300 0|34800 1|35700 0|36300 1|38100 0";
+const POLL: &str = "12000 0|15700 1|SLOTS";
+
+const SLOTS: &str =
+    "16500 0|18000 1|18900 0|20400 1|21300 0|22800 1|23700 0|25200 1|26100 0|27600 1|28500 0|30000 1|30900 0|32400 1|33300 0|34800 1|35700 0|36300 1|38100 0";
 
 /// A reader that gives one line at each read, at most as many bytes as there is room for, and notes that it did. A line `#fault`
 /// can't be read.
 #[derive(Drop)]
-struct Driver<'a> {
-    rest: &'a [u8],
-    said: &'a RefCell<Vec<u8>>,
+pub(crate) struct Driver<'a> {
+    pub(crate) rest: &'a [u8],
+    pub(crate) said: &'a RefCell<Vec<u8>>,
 }
 
 impl<'a> Read for Driver<'a> {
@@ -105,9 +108,9 @@ impl<'a> Read for Driver<'a> {
 
 /// A writer that notes what it is handed, and fails once its room is full.
 #[derive(Drop)]
-struct Told<'a> {
-    said: &'a RefCell<Vec<u8>>,
-    room: usize,
+pub(crate) struct Told<'a> {
+    pub(crate) said: &'a RefCell<Vec<u8>>,
+    pub(crate) room: usize,
 }
 
 impl<'a> Write for Told<'a> {
@@ -140,6 +143,25 @@ fn end_text(rt: &(impl Abort + AllocGlobal), end: &Result<(), FollowError>) -> S
     }
 }
 
+/// What was said, and how it ended.
+pub(crate) fn with_end(rt: &(impl Abort + AllocGlobal), said: Vec<u8>, end: String) -> String {
+    let reported = String::from_utf8(said).expect(rt, "a text");
+    let reported = reported.replace(rt.alloc(), "\n", "|").expect(rt, "a text");
+    if reported.is_empty() {
+        return end;
+    }
+    format!(in rt.alloc(); "{reported} {end}").expect(rt, "a text")
+}
+
+/// The form that a word of a row names.
+pub(crate) fn form_of(word: &str) -> LineForm {
+    match word {
+        "pin" => LineForm::Pin,
+        "csv" => LineForm::Csv,
+        _ => LineForm::Edges,
+    }
+}
+
 /// What is said where a capture is followed, over a writer with so much room.
 fn said_of(
     rt: &(impl Abort + AllocGlobal),
@@ -164,21 +186,18 @@ fn said_of(
     );
     drop(out);
     drop(driver);
-    let reported = String::from_utf8(said.into_inner()).expect(rt, "a text");
-    let reported = reported.replace(rt.alloc(), "\n", "|").expect(rt, "a text");
-    let end = end_text(rt, &end);
-    if reported.is_empty() {
-        return end;
-    }
-    format!(in rt.alloc(); "{reported} {end}").expect(rt, "a text")
+    with_end(rt, said.into_inner(), end_text(rt, &end))
 }
 
 /// A text without its short forms.
-fn spelled(rt: &(impl Abort + AllocGlobal), text: &str) -> String {
+pub(crate) fn spelled(rt: &(impl Abort + AllocGlobal), text: &str) -> String {
     let text = text
         .replace(rt.alloc(), "START", START)
         .expect(rt, "a text");
     let text = text.replace(rt.alloc(), "POLL", POLL).expect(rt, "a text");
+    let text = text
+        .replace(rt.alloc(), "SLOTS", SLOTS)
+        .expect(rt, "a text");
     text.replace(rt.alloc(), "|", "\n").expect(rt, "a text")
 }
 
@@ -187,16 +206,11 @@ fn check(rt: &(impl Abort + AllocGlobal), row: &str) {
     let (words, text) = asked.split_once(' ').unwrap_or((asked, ""));
     let (form, margin) = words.split_once(':').expect(rt, "a form");
     let (form, signal) = form.split_once('-').unwrap_or((form, ""));
-    let form = match form {
-        "pin" => LineForm::Pin,
-        "csv" => LineForm::Csv,
-        _ => LineForm::Edges,
-    };
     let margin = margin.parse::<u64>().expect(rt, "a margin");
     let text = spelled(rt, text);
     let said = said_of(
         rt,
-        form,
+        form_of(form),
         signal.as_bytes(),
         margin,
         text.as_bytes(),

@@ -30,7 +30,9 @@ use Rattle.capture_csv.specs.Csv.{column_of, column_read, named_read}
 use Rattle.capture_csv.specs.Csv.{first_reader as first_rows}
 use Rattle.capture_csv.specs.Sampling.{CsvLinesGoOn}
 use Rattle.capture_monitor.specs.EdgeFile.{EdgeLinesGoOn, edges_read}
-use Rattle.follow_core.proofs.Left.{both, end_same, file_of_captured, rest_of, with_none}
+use Rattle.follow_core.proofs.Left.{file_of_captured, rest_of}
+pub use Rattle.follow_core.proofs.Left.{both, end_same, with_none}
+pub use Rattle.live_incoming.proofs.Coming.{lines_again}
 
 -- ---- texts of readings
 
@@ -52,7 +54,7 @@ named_turn csv signal [] c h = cc
 named_turn csv signal (line ∷ lines) c h = column_turn csv (column_of signal line) lines c h
 
 -- the edges of a capture are in turn from a fall on
-captured_turn : (file : EdgeLinesGoOn) (pin : PinLinesGoOn) (csv : CsvLinesGoOn) (form : LineForm) (signal : List ℕ) (lines : List (List ℕ)) (c : Captured) → lines_captured form signal lines ≡ Ok c → AreInTurn false 0 c.edges × EndBy c.end c.edges
+pub captured_turn : (file : EdgeLinesGoOn) (pin : PinLinesGoOn) (csv : CsvLinesGoOn) (form : LineForm) (signal : List ℕ) (lines : List (List ℕ)) (c : Captured) → lines_captured form signal lines ≡ Ok c → AreInTurn false 0 c.edges × EndBy c.end c.edges
 captured_turn file pin csv forms.Edges signal lines c h =
     let f = file_of_captured (edges_read lines 1 false 0) c h in
     let g = file lines 1 false 0 f.0 f.1 in
@@ -212,7 +214,7 @@ told_front win m known low edges end text w =
 -- ---- a line
 
 -- of lines that are read these edges are the first
-split_read : (edges : List Edge) (r : Result Captured CaptureFault) (c : Captured) → with_edges edges r ≡ Ok c → (d : Captured) × (r ≡ Ok d) × (c ≡ record { edges = edges ++ d.edges; end = d.end })
+pub split_read : (edges : List Edge) (r : Result Captured CaptureFault) (c : Captured) → with_edges edges r ≡ Ok c → (d : Captured) × (r ≡ Ok d) × (c ≡ record { edges = edges ++ d.edges; end = d.end })
 split_read edges (Ok d) c h = (d, refl, (let x : record { edges = edges ++ d.edges; end = d.end } ≡ c = cc in sym x))
 split_read edges (Err f) c h = cc
 

@@ -11,7 +11,6 @@ use Rattle.line_reading.specs.declared.times.Windows.{Windows}
 use Rattle.capture_core.specs.declared.fault.CaptureFault.{CaptureFault}
 use Rattle.capture_forms.specs.Captures.{capture_in}
 use Rattle.live_incoming.specs.Incoming.{IsNext, IsWhole, Leads, text_of_lines}
-use Rattle.live_incoming.proofs.Coming.{lines_again}
 use Rattle.follow_core.specs.Follow.{AreFirst, Ends, Follows, HasHeard, HaveCome, Hears, HearsEnd, HearsLine, IsCut, IsCutLast, IsFollowed, IsFront, IsOfWriting, IsOverBy, IsPrompt, IsReady, IsUpToDate, Puts, heard_text, text_of}
 use Rattle.follow_core.specs.Follow.{IsWhole as IsAll}
 use Rattle.follow_core.specs.Lines.{form_as, lines_captured}
@@ -21,7 +20,7 @@ use Rattle.follow_core.specs.declared.follower.Follower.{Follower}
 use Rattle.follow_core.specs.declared.follower.EndedReadings.{EndedReadings}
 use Rattle.follow_core.specs.declared.lines.LineForm.{LineForm}
 use Rattle.follow_core.specs.declared.lines.LineForm.TheVariants as forms
-use Rattle.follow_core.proofs.Telling.{followed_front}
+use Rattle.follow_core.proofs.Telling.{followed_front, lines_again}
 
 -- ---- what is put
 

@@ -10,4 +10,4 @@ mod lines;
 pub use error::FollowError;
 pub use follower::{EndedReadings, Follower};
 pub use following::follow;
-pub use lines::LineForm;
+pub use lines::{CaptureLines, Last, LineForm};

@@ -1,0 +1,426 @@
+-- What is written of the readings of a capture as they end.
+use Rattle.std.proofs.Common.{◌≡◌, ℕ, Bool, true, false, List, [], ◌∷◌, ◌++◌, Option, Some, None, Result, Ok, Err, take, drop, refl, sym, ap, ap₂, subst, ◌∙◌, append_assoc, append-nil, take-append-drop, option_map}
+use Rattle.std.specs.Option.{option_to_list}
+use Rattle.std.specs.Io.KnownBytes.{Appends}
+use Rattle.text_core.specs.declared.sink.WriteFault.{WriteFault}
+use Rattle.text_core.specs.Cut.{WrittenText}
+use Rattle.line_wave.specs.declared.Edge.{Edge}
+use Rattle.line_frames.specs.declared.Reading.{Reading}
+use Rattle.line_reading.specs.Readings.{Listed}
+use Rattle.line_reading.specs.Reports.{listed_as}
+use Rattle.audit_widths.specs.declared.low.Low.{Low}
+use Rattle.audit_widths.specs.Lows.{gone_to}
+use Rattle.audit_widths.specs.Misfits.{drive_within}
+use Rattle.audit_widths.specs.Spreads.{no_widths, with_slots}
+use Rattle.capture_monitor.specs.Watch.{listed_line}
+use Rattle.audit_remarks.specs.Attempts.{failure_of, tries_again}
+use Rattle.audit_remarks.specs.Frames.{delivered_frame}
+use Rattle.audit_remarks.specs.Free.{free_before, too_soon}
+use Rattle.audit_remarks.specs.Series.{series_over}
+use Rattle.audit_core.specs.Audit.{Tape, after, after_all, audit_text_of, drive_of, first_tape, frame_text, line_and_remarks, lows_of, notes_text, reading_misfits, remarks_text, reported_all, summary_text, tape_after, tape_at, tape_by, unfinished_of}
+use Rattle.audit_core.specs.Lines.{answers_text, drive_text, failure_text, series_text, soon_text, timing_text, unfinished_text, within_text}
+use Rattle.audit_core.specs.Progress.{WritesOn, result_of}
+use Rattle.audit_core.specs.declared.auditor.Auditor.{Auditor}
+use Rattle.follow_audit.specs.Listener.{HearsOne, IsAudited, IsFrontOf, PutsAll, PutsCut, PutsFront, PutsLast, Remarks, Says, SaysAllKnown, SaysLast, TakesEdge, WaitsForNothing, line_of, remarked, settled_by, waits}
+use Rattle.follow_audit.specs.Settled.{IsKnown, is_settled, later}
+use Rattle.follow_audit.specs.declared.listener.Listener.{Listener}
+use Rattle.follow_audit.proofs.Known.{all_known, gone_before, gone_none, gone_twice, settled_known}
+
+-- ---- readings, one after another
+
+after_more : (t : Tape) (xs ys : List Listed) → after_all t (xs ++ ys) ≡ after_all (after_all t xs) ys
+after_more t [] ys = refl
+after_more t (x ∷ xs) ys = after_more (after x t) xs ys
+
+reported_more : (timing : Bool) (t : Tape) (xs ys : List Listed) → reported_all timing t (xs ++ ys) ≡ reported_all timing t xs ++ reported_all timing (after_all t xs) ys
+reported_more timing t [] ys = refl
+reported_more timing t (x ∷ xs) ys =
+    ap (λ (l : List ℕ). line_and_remarks timing t x ++ l) (reported_more timing (after x t) xs ys)
+    ∙ sym (append_assoc (line_and_remarks timing t x) (reported_all timing (after x t) xs) (reported_all timing (after_all (after x t) xs) ys))
+
+-- ---- what there is to remark, by its low stretches and its low drive
+
+abbrev said_by : Bool → Tape → Listed → List Low → Option ℕ → List ℕ
+said_by timing t x lows drive =
+    notes_text x
+    ++ (series_text (series_over t.series x.reported.ending) ++ answers_text x.begin (delivered_frame x) t.waiting
+    ++ soon_text (too_soon t.previous x (tries_again t.attempts x.reported.bits)) ++ reading_misfits t.series x lows ++ drive_text drive
+    ++ within_text (drive_within lows) ++ unfinished_text (unfinished_of x lows)
+    ++ failure_text (failure_of t.attempts x.begin (free_before t.previous x.begin) x.reported.bits))
+    ++ frame_text t (delivered_frame x) ++ timing_text timing (with_slots x.reported.ending x.reported.bits 0 lows no_widths)
+
+same_remarks : (timing : Bool) (a : Auditor) (x : Listed) (p q : List Edge) → lows_of x q ≡ lows_of x p → drive_of x q ≡ drive_of x p → remarks_text timing (tape_at q a) x ≡ remarks_text timing (tape_at p a) x
+same_remarks timing a x p q lows drive = ap₂ (λ (ls : List Low) (d : Option ℕ). said_by timing (tape_at [] a) x ls d) lows drive
+
+same_tape : (old new : Auditor) (x : Listed) (p q : List Edge) → lows_of x q ≡ lows_of x p → tape_at p new ≡ tape_after x (tape_at p old) → tape_at q new ≡ tape_after x (tape_at q old)
+same_tape old new x p q lows kept =
+    ap (λ (t : Tape). record t { place = q }) kept ∙ ap (λ (ls : List Low). tape_by ls x (tape_at q old)) (sym lows)
+
+-- ---- a listener
+
+pub audited_first : (a : Listener) (edges : List Edge) → a.window.items ≡ [] → a.from ≡ 0 → a.waiting ≡ None → tape_at [] a.auditor ≡ first_tape [] → IsAudited edges a edges [] []
+audited_first a edges none from waiting first = record {
+  done = [];
+  parts = ap (λ (o : Option Reading). option_to_list (option_map listed_as o)) (sym waiting);
+  kept = ap₂ (λ (n : ℕ) (w : List Edge). tape_at (gone_to n (w ++ edges)) a.auditor) from none
+      ∙ ap (λ (es : List Edge). tape_at es a.auditor) (gone_none edges) ∙ ap (λ (t : Tape). record t { place = edges }) first;
+  said = ap (λ (o : Option Reading). line_of (option_map listed_as o)) (sym waiting);
+}
+
+-- the same parts, but for the edges
+moved : (edges : List Edge) (old new : Listener) (left rest : List Edge) (ended : List Listed) (text : List ℕ) → new.timing ≡ old.timing → new.waiting ≡ old.waiting → new.auditor ≡ old.auditor
+    → gone_to new.from (new.window.items ++ rest) ≡ gone_to old.from (old.window.items ++ left) → IsAudited edges old left ended text → IsAudited edges new rest ended text
+moved edges old new left rest ended text timing waiting auditor place w = record {
+  done = w.done;
+  parts = w.parts ∙ ap (λ (o : Option Reading). w.done ++ option_to_list (option_map listed_as o)) (sym waiting);
+  kept = ap₂ (λ (es : List Edge) (a : Auditor). tape_at es a) place auditor ∙ w.kept;
+  said = w.said ∙ ap₂ (λ (b : Bool) (o : Option Reading). reported_all b (first_tape edges) w.done ++ line_of (option_map listed_as o)) (sym timing) (sym waiting);
+}
+
+pub takes_none : (a : Listener) (edge : Option Edge) → edge ≡ None → TakesEdge a edge a
+takes_none a edge none = (refl, refl, λ edges left ended text w. subst (λ (o : Option Edge). IsAudited edges a (option_to_list o ++ left) ended text) none w)
+
+-- the edges that are no longer needed are let go
+pub takes_less : (old new : Listener) → new.timing ≡ old.timing → new.waiting ≡ old.waiting → new.auditor ≡ old.auditor → new.from ≡ old.from → new.window.items ≡ gone_to old.from old.window.items → TakesEdge old None new
+takes_less old new timing waiting auditor from window = (
+  timing,
+  waiting,
+  λ edges left ended text w.
+      moved edges old new left left ended text timing waiting auditor
+      (ap₂ (λ (n : ℕ) (es : List Edge). gone_to n (es ++ left)) from window ∙ gone_before old.from old.window.items left) w,
+)
+
+takes_one : (old new : Listener) (edge : Option Edge) (e : Edge) → edge ≡ Some e → new.timing ≡ old.timing → new.waiting ≡ old.waiting → new.auditor ≡ old.auditor → new.from ≡ old.from → new.window.items ≡ old.window.items ++ e ∷ []
+    → TakesEdge old edge new
+takes_one old new edge e is timing waiting auditor from window = (
+  timing,
+  waiting,
+  λ edges left ended text w.
+      moved edges old new (e ∷ left) left ended text timing waiting auditor
+      (ap₂ (λ (n : ℕ) (es : List Edge). gone_to n (es ++ left)) from window ∙ ap (gone_to old.from) (append_assoc old.window.items (e ∷ []) left))
+      (subst (λ (o : Option Edge). IsAudited edges old (option_to_list o ++ left) ended text) is w),
+)
+
+pub takes_next : (old mid new : Listener) (edge : Option Edge) (e : Edge) → edge ≡ Some e → TakesEdge old None mid → new.timing ≡ mid.timing → new.waiting ≡ mid.waiting → new.auditor ≡ mid.auditor → new.from ≡ mid.from
+    → new.window.items ≡ mid.window.items ++ e ∷ [] → TakesEdge old edge new
+takes_next old mid new edge e is first timing waiting auditor from window =
+    let next = takes_one mid new edge e is timing waiting auditor from window in
+    (timing ∙ first.0, waiting ∙ first.1, λ edges left ended text w. next.2 edges left ended text (first.2 edges (option_to_list edge ++ left) ended text w))
+
+-- ---- what waits
+
+pub remarks_none : (a : Listener) → a.waiting ≡ None → Remarks a a
+remarks_none a none = record {
+  none = none;
+  timing = refl;
+  audited = λ edges left ended text known w. subst (λ (t : List ℕ). IsAudited edges a left ended t) (sym (append-nil text) ∙ ap (λ (o : Option Reading). text ++ by o) (sym none)) w;
+}
+  where
+    by : Option Reading → List ℕ
+    by o = remarked (record a { waiting = o })
+
+pub remarks_all : (old new : Listener) (r : Reading) → old.waiting ≡ Some r → new.waiting ≡ None → new.timing ≡ old.timing → new.window ≡ old.window → new.from ≡ later old.from r.begin
+    → tape_at (gone_to (later old.from r.begin) old.window.items) new.auditor ≡ tape_after (listed_as r) (tape_at (gone_to (later old.from r.begin) old.window.items) old.auditor) → Remarks old new
+remarks_all old new r waiting none timing window from kept = record {
+  none = none;
+  timing = timing;
+  audited = λ edges left ended text known w.
+      all edges left ended text (subst (λ (o : Option Reading). WaitsForNothing (record old { waiting = o }) left) waiting known)
+      w.done (w.parts ∙ ap (λ (o : Option Reading). w.done ++ option_to_list (option_map listed_as o)) waiting) w.kept
+      (w.said ∙ ap (λ (o : Option Reading). reported_all old.timing (first_tape edges) w.done ++ line_of (option_map listed_as o)) waiting);
+}
+  where
+    x : Listed
+    x = listed_as r
+
+    p : List Edge
+    p = gone_to (later old.from r.begin) old.window.items
+
+    said : remarked old ≡ remarks_text old.timing (tape_at p old.auditor) x
+    said = ap (λ (o : Option Reading). remarked (record old { waiting = o })) waiting
+
+    all : (edges left : List Edge) (ended : List Listed) (text : List ℕ) → IsKnown old.from old.window.items left (listed_as r) → (done : List Listed) → ended ≡ done ++ listed_as r ∷ []
+        → tape_at (gone_to old.from (old.window.items ++ left)) old.auditor ≡ after_all (first_tape edges) done → text ≡ reported_all old.timing (first_tape edges) done ++ listed_line (listed_as r)
+        → IsAudited edges new left ended (text ++ remarked old)
+    all edges left ended text known done parts place front = record {
+      done = done ++ x ∷ [];
+      parts = parts ∙ sym (append-nil (done ++ x ∷ [])) ∙ ap (λ (o : Option Reading). (done ++ x ∷ []) ++ option_to_list (option_map listed_as o)) (sym none);
+      kept = ap₂ (λ (n : ℕ) (es : List Edge). tape_at (gone_to n (es ++ left)) new.auditor) from (ap (λ w. w.items) window) ∙ ap (λ (es : List Edge). tape_at es new.auditor) known.place
+          ∙ same_tape old.auditor new.auditor x p (p ++ left) known.lows kept ∙ ap (tape_after x) (sym come) ∙ sym (after_more (first_tape edges) done (x ∷ []));
+      said = ap₂ (λ (a b : List ℕ). a ++ b) front (said ∙ sym (same_remarks old.timing old.auditor x p (p ++ left) known.lows known.drive) ∙ ap (λ (t : Tape). remarks_text old.timing t x) (sym come))
+          ∙ append_assoc (reported_all old.timing (first_tape edges) done) (listed_line x) (remarks_text old.timing (record t { place = gone_to r.begin t.place }) x)
+          ∙ ap (λ (l : List ℕ). reported_all old.timing (first_tape edges) done ++ l) (sym (append-nil (line_and_remarks old.timing t x)))
+          ∙ sym (reported_more old.timing (first_tape edges) done (x ∷ []))
+          ∙ sym (append-nil (reported_all old.timing (first_tape edges) (done ++ x ∷ [])))
+          ∙ ap₂ (λ (b : Bool) (o : Option Reading). reported_all b (first_tape edges) (done ++ x ∷ []) ++ line_of (option_map listed_as o)) (sym timing) (sym none);
+    }
+      where
+        t : Tape
+        t = after_all (first_tape edges) done
+
+        come : record t { place = gone_to r.begin t.place } ≡ tape_at (p ++ left) old.auditor
+        come = ap (λ (t : Tape). record t { place = gone_to r.begin t.place }) (sym place)
+            ∙ ap (λ (es : List Edge). tape_at es old.auditor) (gone_twice old.from r.begin (old.window.items ++ left) ∙ known.place)
+
+-- whether that is known
+pub all_told : (a : Listener) → a.waiting ≡ None → SaysAllKnown a
+all_told a none = ap (λ (o : Option Reading). settled_by a (option_map listed_as o)) none
+
+pub all_but_one : (a : Listener) (r : Reading) → a.waiting ≡ Some r → is_settled (listed_as r) (gone_to (later a.from r.begin) a.window.items) ≡ false → SaysAllKnown a
+all_but_one a r is h = ap (λ (o : Option Reading). settled_by a (option_map listed_as o)) is ∙ h
+
+pub known_none : (a : Listener) → a.waiting ≡ None → (left : List Edge) → WaitsForNothing a left
+known_none a none left = subst (λ (o : Option Reading). WaitsForNothing (record a { waiting = o }) left) (sym none) tt
+
+pub known_settled : (a : Listener) (r : Reading) → a.waiting ≡ Some r → is_settled (listed_as r) (gone_to (later a.from r.begin) a.window.items) ≡ true → (left : List Edge) → WaitsForNothing a left
+known_settled a r is settled left =
+    subst (λ (o : Option Reading). WaitsForNothing (record a { waiting = o }) left) (sym is) (settled_known a.from a.window.items (listed_as r) settled left)
+
+-- ---- what is said
+
+no_more : (edges : List Edge) (a : Listener) (left : List Edge) (ended : List Listed) (text : List ℕ) → IsAudited edges a left ended text → IsAudited edges a left (ended ++ []) text
+no_more edges a left ended text w = subst (λ (xs : List Listed). IsAudited edges a left xs text) (sym (append-nil ended)) w
+
+-- nothing
+pub says_none : (a : Listener) (mid : Option (List ℕ)) (was : Bool) (before : Result ℕ WriteFault) → Says a [] a mid mid was was before before
+says_none a mid was before = record {
+  text = [];
+  put = record { on = λ old first front w. subst (λ (t : List ℕ). WrittenText old mid first was t before) (sym (append-nil front)) w };
+  timing = refl;
+  audited = λ edges left ended so_far w. no_more edges a left ended (so_far ++ []) (subst (λ (t : List ℕ). IsAudited edges a left ended t) (sym (append-nil so_far)) w);
+}
+
+pub says_remarked : (old new : Listener) (mid out : Option (List ℕ)) (was is : Bool) (before after : Result ℕ WriteFault) → ((left : List Edge) → WaitsForNothing old left) → Remarks old new
+    → WritesOn mid out was is (remarked old) before after → Says old [] new mid out was is before after
+says_remarked old new mid out was is before after known r put = record {
+  text = remarked old;
+  put = put;
+  timing = r.timing;
+  audited = λ edges left ended so_far w. no_more edges new left ended (so_far ++ remarked old) (r.audited edges left ended so_far (known left) w);
+}
+
+-- the line of a reading that waits then
+pub says_line : (old new : Listener) (r : Reading) (mid out : Option (List ℕ)) (was is : Bool) (before after : Result ℕ WriteFault) → old.waiting ≡ None → new.waiting ≡ Some r → new.timing ≡ old.timing → new.auditor ≡ old.auditor
+    → new.from ≡ old.from → new.window ≡ old.window → WritesOn mid out was is (listed_line (listed_as r)) before after → Says old (listed_as r ∷ []) new mid out was is before after
+says_line old new r mid out was is before after none waiting timing auditor from window put = record {
+  text = listed_line (listed_as r);
+  put = put;
+  timing = timing;
+  audited = λ edges left ended so_far w.
+      let said = w.said ∙ ap (λ (o : Option Reading). reported_all old.timing (first_tape edges) w.done ++ line_of (option_map listed_as o)) none ∙ append-nil (reported_all old.timing (first_tape edges) w.done) in
+      record {
+        done = w.done;
+        parts = ap (λ (xs : List Listed). xs ++ listed_as r ∷ []) (w.parts ∙ ap (λ (o : Option Reading). w.done ++ option_to_list (option_map listed_as o)) none ∙ append-nil w.done)
+            ∙ ap (λ (o : Option Reading). w.done ++ option_to_list (option_map listed_as o)) (sym waiting);
+        kept = ap₂ (λ (es : List Edge) (a : Auditor). tape_at es a) (ap₂ (λ (n : ℕ) (es : List Edge). gone_to n (es ++ left)) from (ap (λ w. w.items) window)) auditor ∙ w.kept;
+        said = ap (λ (l : List ℕ). l ++ listed_line (listed_as r)) said
+            ∙ ap₂ (λ (b : Bool) (o : Option Reading). reported_all b (first_tape edges) w.done ++ line_of (option_map listed_as o)) (sym timing) (sym waiting);
+      };
+}
+
+writes_two : {a b c : Option (List ℕ)} {s t u : Bool} {x y : List ℕ} {p q r : Result ℕ WriteFault} → WritesOn a b s t x p q → WritesOn b c t u y q r → WritesOn a c s u (x ++ y) p r
+writes_two {a} {b} {c} {s} {t} {u} {x} {y} {p} {q} {r} one two = record {
+  on = λ old first front w. subst (λ (z : List ℕ). WrittenText old c first u z r) (append_assoc front x y) (two.on old first (front ++ x) (one.on old first front w));
+}
+
+-- one after another
+pub says_two : {old mid new : Listener} {xs ys : List Listed} {a b c : Option (List ℕ)} {s t u : Bool} {p q r : Result ℕ WriteFault} → Says old xs mid a b s t p q → Says mid ys new b c t u q r → Says old (xs ++ ys) new a c s u p r
+says_two {old} {mid} {new} {xs} {ys} one two = record {
+  text = one.text ++ two.text;
+  put = writes_two one.put two.put;
+  timing = two.timing ∙ one.timing;
+  audited = λ edges left ended so_far w.
+      subst (λ (zs : List Listed). IsAudited edges new left zs (so_far ++ (one.text ++ two.text))) (append_assoc ended xs ys)
+      (subst (λ (z : List ℕ). IsAudited edges new left ((ended ++ xs) ++ ys) z) (append_assoc so_far one.text two.text)
+      (two.audited edges left (ended ++ xs) (so_far ++ one.text) (one.audited edges left ended so_far w)));
+}
+
+pub says_more : {old mid new : Listener} {xs : List Listed} {a b c : Option (List ℕ)} {s t u : Bool} {p q r : Result ℕ WriteFault} → Says old xs mid a b s t p q → Says mid [] new b c t u q r → Says old xs new a c s u p r
+says_more {old} {mid} {new} {xs} {a} {b} {c} {s} {t} {u} {p} {q} {r} one two = subst (λ (zs : List Listed). Says old zs new a c s u p r) (append-nil xs) (says_two one two)
+
+-- a reading was heard, or not
+pub heard_one : (old new : Listener) (reported : Option Listed) (room : Bool) (a b : Option (List ℕ)) (s t : Bool) (p q : Result ℕ WriteFault) → room ≡ true → HearsOne old reported room new a b s t p q
+    → Says old (option_to_list reported) new a b s t p q
+heard_one old new reported true a b s t p q is h = h
+heard_one old new reported false a b s t p q is h = cc
+
+pub heard_none : (old new : Listener) (reported : Option Listed) (room : Bool) (a b : Option (List ℕ)) (s t : Bool) (p q : Result ℕ WriteFault) → room ≡ false → HearsOne old reported room new a b s t p q → Says old [] new a b s t p q
+heard_none old new reported true a b s t p q is h = cc
+heard_none old new reported false a b s t p q is h = h
+
+-- ---- where no edge is left
+
+pub last_none : (a : Listener) (mid : Option (List ℕ)) (was : Bool) (before : Result ℕ WriteFault) → a.waiting ≡ None → SaysLast a [] a mid mid was was before before
+last_none a mid was before waits =
+    let s = says_none a mid was before in
+    record { text = s.text; put = s.put; none = waits; timing = refl; audited = λ edges ended so_far w. s.audited edges [] ended so_far w }
+
+known_last : (a : Listener) (o : Option Reading) → a.waiting ≡ o → WaitsForNothing a []
+known_last a o is = subst (λ (o : Option Reading). WaitsForNothing (record a { waiting = o }) []) (sym is) (by o)
+  where
+    by : (o : Option Reading) → WaitsForNothing (record a { waiting = o }) []
+    by None = tt
+    by (Some r) = all_known a.from a.window.items (listed_as r)
+
+pub last_remarked : (old new : Listener) (mid out : Option (List ℕ)) (was is : Bool) (before after : Result ℕ WriteFault) → Remarks old new → WritesOn mid out was is (remarked old) before after → SaysLast old [] new mid out was is before after
+last_remarked old new mid out was is before after r put = record {
+  text = remarked old;
+  put = put;
+  none = r.none;
+  timing = r.timing;
+  audited = λ edges ended so_far w. no_more edges new [] ended (so_far ++ remarked old) (r.audited edges [] ended so_far (known_last old old.waiting refl) w);
+}
+
+pub last_line : {old mid new : Listener} {xs : List Listed} {a b c : Option (List ℕ)} {s t u : Bool} {p q r : Result ℕ WriteFault} → Says old xs mid a b s t p q → SaysLast mid [] new b c t u q r → SaysLast old xs new a c s u p r
+last_line {old} {mid} {new} {xs} one two = record {
+  text = one.text ++ two.text;
+  put = writes_two one.put two.put;
+  none = two.none;
+  timing = two.timing ∙ one.timing;
+  audited = λ edges ended so_far w.
+      subst (λ (zs : List Listed). IsAudited edges new [] zs (so_far ++ (one.text ++ two.text))) (append-nil (ended ++ xs))
+      (subst (λ (z : List ℕ). IsAudited edges new [] ((ended ++ xs) ++ []) z) (append_assoc so_far one.text two.text)
+      (two.audited edges (ended ++ xs) (so_far ++ one.text) (one.audited edges [] ended so_far w)));
+}
+
+pub last_two : {old mid new : Listener} {xs ys : List Listed} {a b c : Option (List ℕ)} {s t u : Bool} {p q r : Result ℕ WriteFault} → SaysLast old xs mid a b s t p q → SaysLast mid ys new b c t u q r → SaysLast old (xs ++ ys) new a c s u p r
+last_two {old} {mid} {new} {xs} {ys} one two = record {
+  text = one.text ++ two.text;
+  put = writes_two one.put two.put;
+  none = two.none;
+  timing = two.timing ∙ one.timing;
+  audited = λ edges ended so_far w.
+      subst (λ (zs : List Listed). IsAudited edges new [] zs (so_far ++ (one.text ++ two.text))) (append_assoc ended xs ys)
+      (subst (λ (z : List ℕ). IsAudited edges new [] ((ended ++ xs) ++ ys) z) (append_assoc so_far one.text two.text)
+      (two.audited edges (ended ++ xs) (so_far ++ one.text) (one.audited edges ended so_far w)));
+}
+
+-- ---- fronts
+
+-- what is written of the readings that have ended is a front of the audit
+pub audited_front : (edges : List Edge) (a : Listener) (left : List Edge) (ended : List Listed) (text : List ℕ) → IsAudited edges a left ended text → IsFrontOf a.timing edges ended text
+audited_front edges a left ended text w end more = by (waits a) w.parts w.said
+  where
+    t : Tape
+    t = after_all (first_tape edges) w.done
+
+    whole : List Listed → List ℕ
+    whole xs = audit_text_of a.timing (record { edges = edges; end = end }) xs
+
+    last : List Listed → List ℕ
+    last xs = summary_text end (after_all (first_tape edges) xs)
+
+    -- what is done, and these after it
+    parted : (xs : List Listed) → whole (w.done ++ xs) ≡ reported_all a.timing (first_tape edges) w.done ++ (reported_all a.timing (after_all (first_tape edges) w.done) xs ++ last (w.done ++ xs))
+    parted xs = ap (λ (l : List ℕ). l ++ last (w.done ++ xs)) (reported_more a.timing (first_tape edges) w.done xs)
+        ∙ append_assoc (reported_all a.timing (first_tape edges) w.done) (reported_all a.timing (after_all (first_tape edges) w.done) xs) (last (w.done ++ xs))
+
+    by : (o : Option Listed) → ended ≡ w.done ++ option_to_list o → text ≡ reported_all a.timing (first_tape edges) w.done ++ line_of o → (rest : List ℕ) × (whole (ended ++ more) ≡ text ++ rest)
+    by None parts said = (
+      reported_all a.timing t more ++ last (w.done ++ more),
+      ap (λ (xs : List Listed). whole (xs ++ more)) (parts ∙ append-nil w.done) ∙ parted more
+          ∙ ap (λ (l : List ℕ). l ++ (reported_all a.timing t more ++ last (w.done ++ more))) (sym (append-nil (reported_all a.timing (first_tape edges) w.done)) ∙ sym said),
+    )
+    by (Some x) parts said =
+        let remarks = remarks_text a.timing (record t { place = gone_to x.begin t.place }) x in
+        let rest = reported_all a.timing (after x t) more in
+        let summary = last (w.done ++ (x ∷ more)) in (
+          (remarks ++ rest) ++ summary,
+          ap (λ (xs : List Listed). whole (xs ++ more)) parts ∙ ap whole (append_assoc w.done (x ∷ []) more) ∙ parted (x ∷ more)
+              ∙ ap (λ (l : List ℕ). reported_all a.timing (first_tape edges) w.done ++ l)
+              (ap (λ (l : List ℕ). l ++ summary) (append_assoc (listed_line x) remarks rest) ∙ append_assoc (listed_line x) (remarks ++ rest) summary)
+              ∙ sym (append_assoc (reported_all a.timing (first_tape edges) w.done) (listed_line x) ((remarks ++ rest) ++ summary)) ∙ ap (λ (l : List ℕ). l ++ ((remarks ++ rest) ++ summary)) (sym said),
+        )
+
+-- ---- what is put
+
+-- a text, or the front of it
+abbrev pub IsPart : Option (List ℕ) → Option (List ℕ) → List ℕ → Type 0
+IsPart old new text = (front : List ℕ) × (rest : List ℕ) × (text ≡ front ++ rest) × Appends old new front
+
+first_written : (old : Option (List ℕ)) (was : Bool) (so_far : Result ℕ WriteFault) → so_far ≡ Ok 0 → WrittenText old old was was [] so_far
+first_written old was so_far none = subst (λ (r : Result ℕ WriteFault). WrittenText old old was was [] r) (sym none) (by old)
+  where
+    by : (old : Option (List ℕ)) → WrittenText old old was was [] (Ok 0)
+    by None = (refl, tt, refl)
+    by (Some xs) = (refl, sym (append-nil xs), refl)
+
+put_part : (old new : Option (List ℕ)) (was is : Bool) (text : List ℕ) (after : Result ℕ WriteFault) → WrittenText old new was is text after → IsPart old new text
+put_part old new was is text (Ok n) w = (text, [], sym (append-nil text), w.1)
+put_part old new was is text (Err fault) w = let c = w.0 in (take c.0 text, drop c.0 text, sym (take-append-drop c.0 text), c.3)
+
+part_of : (old new : Option (List ℕ)) (was is : Bool) (text : List ℕ) (before after : Result ℕ WriteFault) → before ≡ Ok 0 → WritesOn old new was is text before after → IsPart old new text
+part_of old new was is text before after none put = put_part old new was is text after (put.on old was [] (first_written old was before none))
+
+put_all : (old new : Option (List ℕ)) (was is : Bool) (text : List ℕ) (after : Result ℕ WriteFault) (done : Unit {0}) → WrittenText old new was is text after → result_of after ≡ Ok done → Appends old new text
+put_all old new was is text (Ok n) done w ok = w.1
+put_all old new was is text (Err fault) done w ok = cc
+
+all_of : (old new : Option (List ℕ)) (was is : Bool) (text : List ℕ) (before after : Result ℕ WriteFault) (done : Unit {0}) → before ≡ Ok 0 → WritesOn old new was is text before after → result_of after ≡ Ok done → Appends old new text
+all_of old new was is text before after done none put ok = put_all old new was is text after done (put.on old was [] (first_written old was before none)) ok
+
+pub puts_all : {old new : Listener} {xs : List Listed} {a b : Option (List ℕ)} {s t : Bool} {p q : Result ℕ WriteFault} (done : Unit {0}) → p ≡ Ok 0 → Says old xs new a b s t p q → result_of q ≡ Ok done → PutsAll old xs new a b
+puts_all {old} {new} {xs} {a} {b} {s} {t} {p} {q} done none says ok =
+    record { text = says.text; put = all_of a b s t says.text p q done none says.put ok; timing = says.timing; audited = says.audited }
+
+-- of these readings some were heard, and perhaps not all of that was put
+pub puts_front : {old new : Listener} {xs : List Listed} {a b : Option (List ℕ)} {s t : Bool} {p q : Result ℕ WriteFault} (ys : List Listed) → p ≡ Ok 0 → Says old xs new a b s t p q → PutsFront old (xs ++ ys) a b
+puts_front {old} {new} {xs} {a} {b} {s} {t} {p} {q} ys none says =
+    let part = part_of a b s t says.text p q none says.put in
+    record {
+      text = part.0;
+      put = part.3;
+      front = λ edges left ended so_far w end more.
+          let f = audited_front edges new left (ended ++ xs) (so_far ++ says.text) (says.audited edges left ended so_far w) end (ys ++ more) in (
+            part.1 ++ f.0,
+            ap (λ (zs : List Listed). audit_text_of old.timing (record { edges = edges; end = end }) zs)
+                (ap (λ (zs : List Listed). zs ++ more) (sym (append_assoc ended xs ys)) ∙ append_assoc (ended ++ xs) ys more)
+                ∙ ap (λ (b : Bool). audit_text_of b (record { edges = edges; end = end }) ((ended ++ xs) ++ (ys ++ more))) (sym says.timing) ∙ f.1
+                ∙ ap (λ (l : List ℕ). (so_far ++ l) ++ f.0) part.2 ∙ ap (λ (l : List ℕ). l ++ f.0) (sym (append_assoc so_far part.0 part.1)) ∙ append_assoc (so_far ++ part.0) part.1 f.0,
+          );
+    }
+
+pub puts_cut : {old new : Listener} {xs : List Listed} {a b : Option (List ℕ)} {s t : Bool} {p q : Result ℕ WriteFault} → p ≡ Ok 0 → Says old xs new a b s t p q → PutsFront old xs a b
+puts_cut {old} {new} {xs} {a} {b} none says = subst (λ (zs : List Listed). PutsFront old zs a b) (append-nil xs) (puts_front [] none says)
+
+-- ---- the end
+
+-- what is said of all readings follows
+whole_text : (old mid : Listener) (xs : List Listed) (end : ℕ) (text : List ℕ) → mid.waiting ≡ None → mid.timing ≡ old.timing
+    → ((edges : List Edge) (ended : List Listed) (so_far : List ℕ) → IsAudited edges old [] ended so_far → IsAudited edges mid [] (ended ++ xs) (so_far ++ text))
+    → (edges : List Edge) (ended : List Listed) (so_far : List ℕ) → IsAudited edges old [] ended so_far
+    → audit_text_of old.timing (record { edges = edges; end = end }) (ended ++ xs) ≡ so_far ++ (text ++ summary_text end (tape_at [] mid.auditor))
+whole_text old mid xs end text none timing says edges ended so_far w =
+    ap (λ (zs : List Listed). audit_text_of old.timing (record { edges = edges; end = end }) zs) parts
+    ∙ ap₂ (λ (b : Bool) (t : Tape). reported_all b (first_tape edges) n.done ++ summary_text end t) (sym timing) (sym n.kept)
+    ∙ ap (λ (l : List ℕ). l ++ summary_text end (tape_at [] mid.auditor)) (sym said)
+    ∙ append_assoc so_far text (summary_text end (tape_at [] mid.auditor))
+  where
+    n : IsAudited edges mid [] (ended ++ xs) (so_far ++ text)
+    n = says edges ended so_far w
+
+    parts : ended ++ xs ≡ n.done
+    parts = n.parts ∙ ap (λ (o : Option Reading). n.done ++ option_to_list (option_map listed_as o)) none ∙ append-nil n.done
+
+    said : so_far ++ text ≡ reported_all mid.timing (first_tape edges) n.done
+    said = n.said ∙ ap (λ (o : Option Reading). reported_all mid.timing (first_tape edges) n.done ++ line_of (option_map listed_as o)) none ∙ append-nil (reported_all mid.timing (first_tape edges) n.done)
+
+pub finishes_all : {old mid : Listener} {xs : List Listed} {a b c : Option (List ℕ)} {s t u : Bool} {p q r : Result ℕ WriteFault} (end : ℕ) (done : Unit {0}) → p ≡ Ok 0 → SaysLast old xs mid a b s t p q
+    → WritesOn b c t u (summary_text end (tape_at [] mid.auditor)) q r → result_of r ≡ Ok done → PutsLast old xs end a c
+finishes_all {old} {mid} {xs} {a} {b} {c} {s} {t} {u} {p} {q} {r} end done none says last ok = record {
+  text = says.text ++ summary_text end (tape_at [] mid.auditor);
+  put = all_of a c s u (says.text ++ summary_text end (tape_at [] mid.auditor)) p r done none (writes_two says.put last) ok;
+  whole = whole_text old mid xs end says.text says.none says.timing says.audited;
+}
+
+pub finishes_front : {old mid : Listener} {xs : List Listed} {a b c : Option (List ℕ)} {s t u : Bool} {p q r : Result ℕ WriteFault} (end : ℕ) → p ≡ Ok 0 → SaysLast old xs mid a b s t p q
+    → WritesOn b c t u (summary_text end (tape_at [] mid.auditor)) q r → PutsCut old xs end a c
+finishes_front {old} {mid} {xs} {a} {b} {c} {s} {t} {u} {p} {q} {r} end none says last =
+    let part = part_of a c s u (says.text ++ summary_text end (tape_at [] mid.auditor)) p r none (writes_two says.put last) in
+    record {
+      text = part.0;
+      rest = part.1;
+      put = part.3;
+      whole = λ edges ended so_far w.
+          whole_text old mid xs end says.text says.none says.timing says.audited edges ended so_far w ∙ ap (λ (l : List ℕ). so_far ++ l) part.2;
+    }

@@ -1,0 +1,5 @@
+pub mod Known
+pub mod Audited
+pub mod Told
+pub mod Followed
+pub mod Written

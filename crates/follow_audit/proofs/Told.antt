@@ -1,0 +1,171 @@
+-- What a monitor that follows a capture was told of its line, and the readings that have ended.
+use Rattle.std.proofs.Common.{◌≡◌, ℕ, zero, suc, ◌+◌, ◌-◌, ◌<◌, ◌≤◌, ◌&&◌, ◌⊎◌, inl, inr, Bool, true, false, nat_lt, if◌then◌else◌, List, [], ◌∷◌, ◌++◌, Option, Some, None, refl, sym, ap, subst, ◌∙◌, append_assoc, append-nil, arith}
+use Rattle.std.specs.Option.{option_to_list}
+use Rattle.std.proofs.lemmas.Bool.Decides.{nat_tests}
+use Rattle.line_wave.specs.declared.Edge.{Edge}
+use Rattle.line_wave.specs.Bounds.{latest_instant}
+use Rattle.line_wave.specs.Line.{Line, was_low}
+use Rattle.line_reading.specs.declared.times.Windows.{Windows}
+use Rattle.line_reading.specs.Kept.{kept_with_before}
+use Rattle.line_reading.specs.Readings.{Listed}
+use Rattle.line_reading.specs.Reports.{running_by}
+use Rattle.capture_core.specs.Edges.{AreInTurn, EndBy, level_at, line_of_edges}
+use Rattle.capture_monitor.specs.Monitor.{FollowsCalmBy, FollowsEdgeBy, FollowsEndBy, HeardBeforeBy}
+use Rattle.capture_monitor.specs.ReadBy.{ended_at, ended_before_by, readings_by}
+use Rattle.follow_core.specs.Follow.{NoneBefore}
+use Rattle.follow_audit.specs.Teller.{IsEarly, IsTold, TellsCalm, TellsEdge, TellsEnd}
+use Rattle.follow_audit.specs.declared.teller.Teller.{Teller}
+
+grown : (xs ys ended : List Listed) (o : Option Listed) → ended ≡ xs → ys ≡ xs ++ option_to_list o → ended ++ option_to_list o ≡ ys
+grown xs ys ended o is more = ap (λ (t : List Listed). t ++ option_to_list o) is ∙ sym more
+
+-- ---- the begin
+
+pub told_first : (win : Windows) (t : Teller) (edges : List Edge) (end : ℕ) → ((low : Line) → HeardBeforeBy win t.monitor low 0) → t.known ≡ 0 → AreInTurn false 0 edges → EndBy end edges
+    → IsTold win t (line_of_edges edges) edges end []
+unfolding ended_before_by
+told_first win t edges end heard known turn ends = record {
+  is_low = false;
+  level = λ u l. refl;
+  before = ap (was_low (line_of_edges edges)) known ∙ (let x : nat_lt 0 0 ≡ false = grind (arith, nat_tests) in ap (λ b. b && line_of_edges edges (0 - 1)) x);
+  turn = subst (λ n. AreInTurn false n edges) (sym known) turn;
+  ends = ends;
+  reach = omega (arith, known);
+  heard = subst (λ n. HeardBeforeBy win t.monitor (line_of_edges edges) n) (sym known) (heard (line_of_edges edges));
+  listed = ap (ended_before_by win (line_of_edges edges)) (sym known);
+}
+
+-- ---- an edge
+
+-- edges in turn leave the level before the first one
+before_turn : (b : Bool) (from : ℕ) (edges : List Edge) → AreInTurn b from edges → (u : ℕ) → u < from → level_at b edges u ≡ b
+before_turn b from [] h u l = refl
+before_turn b from (e ∷ edges) h u l = let after = h.1 in ap (λ c. if c then b else level_at e.low edges u) (let x : nat_lt u e.at ≡ true = grind (arith, nat_tests) in x)
+
+was_next : (low : Line) (t : ℕ) → was_low low (t + 1) ≡ low t
+was_next low t =
+    let some : nat_lt 0 (t + 1) ≡ true = grind (arith, nat_tests) in
+    rw some (ap low (let x : t + 1 - 1 ≡ t = omega arith in x))
+
+told_edge : (win : Windows) (old new : Teller) (low : Line) (e : Edge) (edges : List Edge) (end : ℕ) (ended : List Listed) (reported : Option Listed) → new.known ≡ e.at + 1 → IsTold win old low (e ∷ edges) end ended
+    → FollowsEdgeBy win old.monitor e reported new.monitor → IsTold win new low edges end (ended ++ option_to_list reported)
+told_edge win old new low e edges end ended reported known w follows = record {
+  is_low = e.low;
+  level = λ u l. later u (omega (arith, known, l));
+  before = ap (was_low low) known ∙ was_next low e.at ∙ now_is;
+  turn = subst (λ n. AreInTurn e.low n edges) (sym known) w.turn.2;
+  ends = w.ends.1;
+  reach = let last = w.ends.0 in omega (arith, known, last);
+  heard = subst (λ n. HeardBeforeBy win new.monitor low n) (sym known) d.0;
+  listed = grown (ended_before_by win low old.known) (ended_before_by win low new.known) ended reported w.listed (ap (ended_before_by win low) (let x : new.known ≡ suc e.at = omega (arith, known) in x) ∙ d.1);
+}
+  where
+    after : old.known ≤ e.at
+    after = w.turn.1
+
+    calm : (u : ℕ) → old.known ≤ u → u < e.at → low u ≡ old.monitor.receiver.receiver.was_low
+    calm u l s = w.level u l ∙ ap (λ b. if b then w.is_low else level_at e.low edges u) (let x : nat_lt u e.at ≡ true = grind (arith, nat_tests) in x) ∙ sym w.before ∙ sym w.heard.stood.level
+
+    later : (u : ℕ) → e.at ≤ u → low u ≡ level_at e.low edges u
+    later u l = w.level u (omega (arith, after)) ∙ ap (λ b. if b then w.is_low else level_at e.low edges u) (let x : nat_lt u e.at ≡ false = grind (arith, nat_tests) in x)
+
+    now_is : low e.at ≡ e.low
+    now_is = later e.at (omega arith) ∙ before_turn e.low (e.at + 1) edges w.turn.2 e.at (omega arith)
+
+    d : HeardBeforeBy win new.monitor low (e.at + 1) × (ended_before_by win low (suc e.at) ≡ ended_before_by win low old.known ++ option_to_list reported)
+    d = follows low old.known w.heard after calm now_is
+
+pub tells_edge : (old new : Teller) (edge : Option Edge) (e : Edge) (reported : Option Listed) → edge ≡ Some e → e.at ≤ latest_instant → new.known ≡ e.at + 1
+    → ((win : Windows) → FollowsEdgeBy win old.monitor e reported new.monitor) → TellsEdge old edge reported new
+tells_edge old new edge e reported is early known follows = record {
+  early = omega (arith, known, early);
+  told = λ win low edges end ended w.
+      told_edge win old new low e edges end ended reported known (subst (λ (o : Option Edge). IsTold win old low (option_to_list o ++ edges) end ended) is w) (follows win);
+}
+
+pub tells_none : (t : Teller) (edge : Option Edge) → edge ≡ None → IsEarly t → TellsEdge t edge None t
+tells_none t edge is early = record {
+  early = early;
+  told = λ win low edges end ended w.
+      subst (λ (xs : List Listed). IsTold win t low edges end xs) (sym (append-nil ended)) (subst (λ (o : Option Edge). IsTold win t low (option_to_list o ++ edges) end ended) is w);
+}
+
+-- ---- no edge before an instant
+
+later_turn : (is_low : Bool) (known until : ℕ) (edges : List Edge) → AreInTurn is_low known edges → NoneBefore until edges → AreInTurn is_low until edges
+later_turn is_low known until [] h none = tt
+later_turn is_low known until (e ∷ edges) h none = (h.0, none.1.1, h.2)
+
+told_calm : (win : Windows) (old new : Teller) (low : Line) (edges : List Edge) (end : ℕ) (ended : List Listed) (reported : Option Listed) → IsTold win old low edges end ended
+    → old.known ≤ new.known → new.known ≤ end + 1 → NoneBefore new.known edges → FollowsCalmBy win old.monitor new.known reported new.monitor → IsTold win new low edges end (ended ++ option_to_list reported)
+told_calm win old new low edges end ended reported w l reach none follows = record {
+  is_low = w.is_low;
+  level = λ u k. w.level u (omega (arith, l, k));
+  before = here (nat_lt old.known new.known) refl;
+  turn = turn;
+  ends = w.ends;
+  reach = reach;
+  heard = d.0;
+  listed = grown (ended_before_by win low old.known) (ended_before_by win low new.known) ended reported w.listed d.1;
+}
+  where
+    turn : AreInTurn w.is_low new.known edges
+    turn = later_turn w.is_low old.known new.known edges w.turn none
+
+    quiet : (u : ℕ) → old.known ≤ u → u < new.known → low u ≡ w.is_low
+    quiet u k s = w.level u k ∙ before_turn w.is_low new.known edges turn u s
+
+    here : (c : Bool) → nat_lt old.known new.known ≡ c → was_low low new.known ≡ w.is_low
+    here true h =
+        let less : old.known < new.known = grind (arith, nat_tests) in
+        let some : nat_lt 0 new.known ≡ true = grind (arith, nat_tests) in
+        rw some (quiet (new.known - 1) (omega arith) (omega arith))
+    here false h = let same : new.known ≡ old.known = grind (arith, nat_tests) in ap (was_low low) same ∙ w.before
+
+    d : HeardBeforeBy win new.monitor low new.known × (ended_before_by win low new.known ≡ ended_before_by win low old.known ++ option_to_list reported)
+    d = follows low old.known w.heard l (λ u k s. quiet u k s ∙ sym w.before ∙ sym w.heard.stood.level)
+
+-- the later of two instants
+pub tells_calm : (old new : Teller) (from : ℕ) (reported : Option Listed) → IsEarly old → from ≤ latest_instant + 1
+    → (old.known ≤ new.known) × (from ≤ new.known) → (new.known ≡ old.known) ⊎ (new.known ≡ from) → ((win : Windows) → FollowsCalmBy win old.monitor new.known reported new.monitor) → TellsCalm old from reported new
+tells_calm old new from reported first second after (inl same) follows = record {
+  early = omega (arith, same, first);
+  prompt = after.1;
+  told = λ win low edges end ended w none reach.
+      told_calm win old new low edges end ended reported w after.0 (let r = w.reach in omega (arith, same, r))
+      (w.is_low, subst (λ n. AreInTurn w.is_low n edges) (sym same) w.turn) (follows win);
+}
+tells_calm old new from reported first second after (inr same) follows = record {
+  early = omega (arith, same, second);
+  prompt = after.1;
+  told = λ win low edges end ended w none reach.
+      told_calm win old new low edges end ended reported w after.0 (omega (arith, same, reach)) (none.0, subst (λ n. AreInTurn none.0 n edges) (sym same) none.1) (follows win);
+}
+
+-- ---- the end
+
+pub tells_end : (t : Teller) (end : ℕ) (reported : Option Listed) → ((win : Windows) → FollowsEndBy win t.monitor end reported) → TellsEnd t end reported
+tells_end t end reported follows win low ended w =
+    sym (grown (ended_before_by win low t.known) (readings_by win low end) ended reported w.listed (follows win low t.known w.heard w.reach (λ u k s. w.level u k ∙ sym w.before ∙ sym w.heard.stood.level)))
+
+ended_on : (win : Windows) (low : Line) (n m : ℕ) → (zs : List Listed) × (ended_before_by win low (n + m) ≡ ended_before_by win low n ++ zs)
+unfolding ended_before_by
+ended_on win low n zero = ([], ap (ended_before_by win low) (let x : n + zero ≡ n = omega arith in x) ∙ sym (append-nil (ended_before_by win low n)))
+ended_on win low n (suc m) =
+    let before = ended_on win low n m in
+    let reported : List Listed = option_to_list (ended_at win low (n + m)) in (
+      before.0 ++ reported,
+      ap (ended_before_by win low) (let x : n + suc m ≡ suc (n + m) = omega arith in x) ∙ ap (λ (xs : List Listed). xs ++ reported) before.1
+          ∙ append_assoc (ended_before_by win low n) before.0 reported,
+    )
+
+-- the readings that have ended are the first of those of the line
+pub told_front : (win : Windows) (t : Teller) (low : Line) (edges : List Edge) (end : ℕ) (ended : List Listed) → IsTold win t low edges end ended → (more : List Listed) × (readings_by win low end ≡ ended ++ more)
+told_front win t low edges end ended w =
+    let reach = w.reach in
+    let on = ended_on win low t.known (end + 1 - t.known) in
+    let last : List Listed = option_to_list (running_by (kept_with_before win low (suc end)) end) in (
+      on.0 ++ last,
+      ap (λ (xs : List Listed). xs ++ last) (ap (ended_before_by win low) (let x : suc end ≡ t.known + (end + 1 - t.known) = omega (arith, reach) in x) ∙ on.1)
+          ∙ append_assoc (ended_before_by win low t.known) on.0 last ∙ ap (λ (xs : List Listed). xs ++ (on.0 ++ last)) (sym w.listed),
+    )

@@ -1,0 +1,251 @@
+-- What is written of a capture as its lines come, with what there is to remark: at each moment the front of the audit of the whole,
+-- whatever comes later (own).
+use Rattle.std.specs.Prelude.{◌≡◌, ℕ, ◌+◌, ◌≤◌, Bool, true, false, List, [], ◌∷◌, ◌++◌, length, Option, IfErr, IfSome, Result, Ok, Err}
+use Rattle.std.specs.Io.KnownBytes.{Appends}
+use Rattle.std.specs.Option.{option_to_list}
+use Rattle.text_core.specs.Lines.{lines_of}
+use Rattle.line_wave.specs.declared.Edge.{Edge}
+use Rattle.line_reading.specs.declared.times.Windows.{Windows}
+use Rattle.line_reading.specs.Readings.{Listed}
+use Rattle.capture_core.specs.Edges.{Captured, line_of_edges}
+use Rattle.capture_core.specs.Reading.{with_edges}
+use Rattle.capture_core.specs.declared.fault.CaptureFault.{CaptureFault}
+use Rattle.capture_monitor.specs.Joined.{captured_by}
+use Rattle.audit_core.specs.Audit.{audit_text_of}
+use Rattle.capture_forms.specs.Captures.{capture_in}
+use Rattle.follow_core.specs.Follow.{AreFirst, AreLeft, HaveCome, IsRefused, NoneBefore}
+use Rattle.follow_core.specs.Lines.{IsEarly, form_as, from_of, lines_captured, lines_left}
+use Rattle.follow_core.specs.declared.lines.LineForm.{LineForm}
+use Rattle.follow_audit.specs.Listener.{IsAudited, SaysAllKnown}
+use Rattle.follow_audit.specs.Teller.{IsTold}
+use Rattle.follow_audit.specs.Teller.{IsEarly as IsEarlyTold}
+use Rattle.follow_audit.specs.declared.error.FollowAuditError.{FollowAuditError}
+use Rattle.follow_audit.specs.declared.error.FollowAuditError.TheVariants.{Capture, Memory, Read, TooLong, Write}
+use Rattle.follow_audit.specs.declared.follower.AuditFollower.{AuditFollower}
+
+-- the audit of a whole capture
+abbrev pub text_of : Bool → Windows → Captured → List ℕ
+text_of timing windows c = audit_text_of timing c (captured_by windows c)
+
+-- ---- a follower
+
+-- Of a capture these lines came, before the one of this number, and this text was written: whatever comes later, this is the audit
+-- of the readings that have ended.
+pub record IsFollowed (form : LineForm) (signal : List ℕ) (windows : Windows) (timing : Bool) (past : List (List ℕ)) (number : ℕ) (f : AuditFollower) (text : List ℕ) : Type 0 where
+  pub edges : List Edge
+  pub timed : f.listener.timing ≡ timing
+  pub read : (rest : List (List ℕ)) → lines_captured form signal (past ++ rest) ≡ with_edges edges (lines_left signal f.lines number rest)
+  pub told : (rest : List (List ℕ)) (c : Captured) → lines_left signal f.lines number rest ≡ Ok c
+      → (ended : List Listed) × IsTold windows f.teller (line_of_edges (edges ++ c.edges)) c.edges c.end ended × IsAudited (edges ++ c.edges) f.listener c.edges ended text
+
+-- all is told that the lines say, and all is written that is known
+abbrev pub IsPrompt : AuditFollower → Type 0
+IsPrompt f = (from_of f.lines ≤ f.teller.known) × SaysAllKnown f.listener
+
+abbrev pub IsReady : AuditFollower → Type 0
+IsReady f = IsEarly f.lines × IsEarlyTold f.teller
+
+-- ---- what goes on after an edge
+
+-- before an edge, if there is one, with which it goes on: what was told, and what is written
+pub record IsAt (windows : Windows) (f : AuditFollower) (all left : List Edge) (end : ℕ) (text : List ℕ) : Type 0 where
+  pub ended : List Listed
+  pub told : IsTold windows f.teller (line_of_edges all) left end ended
+  pub audited : IsAudited all f.listener left ended text
+
+-- this text is a front of the audit of a capture
+abbrev pub IsFrontOfAll : Windows → Bool → List Edge → ℕ → List ℕ → Type 0
+IsFrontOfAll windows timing all end text = (rest : List ℕ) × (text_of timing windows (record { edges = all; end = end }) ≡ text ++ rest)
+
+pub record GoesOn (old : AuditFollower) (edge : Option Edge) (new : AuditFollower) (before after : Option (List ℕ)) : Type 0 where
+  pub text : List ℕ
+  pub put : Appends before after text
+  pub lines : new.lines ≡ old.lines
+  pub timing : new.listener.timing ≡ old.listener.timing
+  pub goes : (windows : Windows) (all left : List Edge) (end : ℕ) (so_far : List ℕ) → NoneBefore (from_of old.lines) left → from_of old.lines ≤ end + 1
+      → IsAt windows old all (option_to_list edge ++ left) end so_far → IsAt windows new all left end (so_far ++ text)
+
+pub record GoesTo (old : AuditFollower) (edge : Option Edge) (before after : Option (List ℕ)) : Type 0 where
+  pub text : List ℕ
+  pub put : Appends before after text
+  pub front : (windows : Windows) (all left : List Edge) (end : ℕ) (so_far : List ℕ) → NoneBefore (from_of old.lines) left → from_of old.lines ≤ end + 1
+      → IsAt windows old all (option_to_list edge ++ left) end so_far → IsFrontOfAll windows old.listener.timing all end (so_far ++ text)
+
+-- neither a fault of a line nor of a reader
+abbrev pub IsOfGoing : FollowAuditError → Type 0
+IsOfGoing (Write count) = Unit {0}
+IsOfGoing TooLong = Unit {0}
+IsOfGoing Memory = Unit {0}
+IsOfGoing (Capture fault) = ⊥
+IsOfGoing Read = ⊥
+
+abbrev pub Goes : AuditFollower → Option Edge → AuditFollower → Option (List ℕ) → Option (List ℕ) → Result (Unit {0}) FollowAuditError → Type 0
+Goes old edge new before after (Ok done) = GoesOn old edge new before after
+Goes old edge new before after (Err error) = GoesTo old edge before after × IsOfGoing error
+
+-- the last edge and the end
+pub record GoesLast (old : AuditFollower) (edge : Option Edge) (end : ℕ) (before after : Option (List ℕ)) : Type 0 where
+  pub text : List ℕ
+  pub put : Appends before after text
+  pub whole : (windows : Windows) (all : List Edge) (so_far : List ℕ) → IsAt windows old all (option_to_list edge) end so_far
+      → text_of old.listener.timing windows (record { edges = all; end = end }) ≡ so_far ++ text
+
+pub record GoesCut (old : AuditFollower) (edge : Option Edge) (end : ℕ) (before after : Option (List ℕ)) : Type 0 where
+  pub text : List ℕ
+  pub put : Appends before after text
+  pub front : (windows : Windows) (all : List Edge) (so_far : List ℕ) → IsAt windows old all (option_to_list edge) end so_far → IsFrontOfAll windows old.listener.timing all end (so_far ++ text)
+
+abbrev pub GoesEnd : AuditFollower → Option Edge → ℕ → Option (List ℕ) → Option (List ℕ) → Result (Unit {0}) FollowAuditError → Type 0
+GoesEnd old edge end before after (Ok done) = GoesLast old edge end before after
+GoesEnd old edge end before after (Err error) = GoesCut old edge end before after × IsOfGoing error
+
+-- ---- lines
+
+-- Whatever comes after these lines, where some may come, this text is a front of the audit of the capture.
+abbrev pub IsFront : Bool → LineForm → List ℕ → Windows → Bool → List (List ℕ) → List ℕ → Type 0
+IsFront more form signal windows timing past text = (rest : List (List ℕ)) (c : Captured) → AreLeft more rest → lines_captured form signal (past ++ rest) ≡ Ok c
+    → (left : List ℕ) × (text_of timing windows c ≡ text ++ left)
+
+-- a line has come, and what there is to say by it is written
+pub record HasHeard (signal : List ℕ) (number : ℕ) (line : List ℕ) (old new : AuditFollower) (before after : Option (List ℕ)) : Type 0 where
+  pub text : List ℕ
+  pub put : Appends before after text
+  pub followed : (form : LineForm) (windows : Windows) (timing : Bool) (past : List (List ℕ)) (so_far : List ℕ) → IsFollowed form signal windows timing past number old so_far
+      → IsFollowed form signal windows timing (past ++ line ∷ []) (number + 1) new (so_far ++ text)
+  pub prompt : IsPrompt new
+
+-- it is at fault, and nothing is written
+pub record IsAtFault (signal : List ℕ) (number : ℕ) (line : List ℕ) (old : AuditFollower) (before after : Option (List ℕ)) (fault : CaptureFault) : Type 0 where
+  pub put : Appends before after []
+  pub place : fault.line ≡ number
+  pub refused : (form : LineForm) (windows : Windows) (timing : Bool) (past : List (List ℕ)) (so_far : List ℕ) → IsFollowed form signal windows timing past number old so_far
+      → (rest : List (List ℕ)) → lines_captured form signal (past ++ line ∷ rest) ≡ Err fault
+
+-- or not all is written
+pub record HasStopped (signal : List ℕ) (number : ℕ) (line : List ℕ) (old : AuditFollower) (before after : Option (List ℕ)) : Type 0 where
+  pub text : List ℕ
+  pub put : Appends before after text
+  pub front : (form : LineForm) (windows : Windows) (timing : Bool) (past : List (List ℕ)) (so_far : List ℕ) → IsFollowed form signal windows timing past number old so_far
+      → IsFront true form signal windows timing (past ++ line ∷ []) (so_far ++ text)
+
+abbrev pub Hears : List ℕ → ℕ → List ℕ → AuditFollower → AuditFollower → Option (List ℕ) → Option (List ℕ) → Result (Unit {0}) FollowAuditError → Type 0
+Hears signal number line old new before after (Ok done) = HasHeard signal number line old new before after
+Hears signal number line old new before after (Err (Capture fault)) = IsAtFault signal number line old before after fault
+Hears signal number line old new before after (Err (Write count)) = HasStopped signal number line old before after
+Hears signal number line old new before after (Err TooLong) = HasStopped signal number line old before after
+Hears signal number line old new before after (Err Memory) = HasStopped signal number line old before after
+Hears signal number line old new before after (Err Read) = ⊥
+
+-- no line is left: the audit of the whole is written
+pub record IsWhole (form : LineForm) (signal : List ℕ) (windows : Windows) (timing : Bool) (lines : List (List ℕ)) (text : List ℕ) : Type 0 where
+  pub capture : Captured
+  pub read : lines_captured form signal lines ≡ Ok capture
+  pub all : text_of timing windows capture ≡ text
+
+pub record HasWritten (number : ℕ) (f : AuditFollower) (before after : Option (List ℕ)) : Type 0 where
+  pub text : List ℕ
+  pub put : Appends before after text
+  pub all : (form : LineForm) (signal : List ℕ) (windows : Windows) (timing : Bool) (past : List (List ℕ)) (so_far : List ℕ) → IsFollowed form signal windows timing past number f so_far
+      → IsWhole form signal windows timing past (so_far ++ text)
+
+-- or the end is missing
+pub record LacksEnd (number : ℕ) (f : AuditFollower) (before after : Option (List ℕ)) (fault : CaptureFault) : Type 0 where
+  pub put : Appends before after []
+  pub place : fault.line ≡ number
+  pub refused : (form : LineForm) (signal : List ℕ) (windows : Windows) (timing : Bool) (past : List (List ℕ)) (so_far : List ℕ) → IsFollowed form signal windows timing past number f so_far
+      → lines_captured form signal past ≡ Err fault
+
+-- or not all is written
+pub record HasCut (number : ℕ) (f : AuditFollower) (before after : Option (List ℕ)) : Type 0 where
+  pub text : List ℕ
+  pub put : Appends before after text
+  pub front : (form : LineForm) (signal : List ℕ) (windows : Windows) (timing : Bool) (past : List (List ℕ)) (so_far : List ℕ) → IsFollowed form signal windows timing past number f so_far
+      → IsFront false form signal windows timing past (so_far ++ text)
+
+abbrev pub Ends : ℕ → AuditFollower → Option (List ℕ) → Option (List ℕ) → Result (Unit {0}) FollowAuditError → Type 0
+Ends number f before after (Ok done) = HasWritten number f before after
+Ends number f before after (Err (Capture fault)) = LacksEnd number f before after fault
+Ends number f before after (Err (Write count)) = HasCut number f before after
+Ends number f before after (Err TooLong) = HasCut number f before after
+Ends number f before after (Err Memory) = HasCut number f before after
+Ends number f before after (Err Read) = ⊥
+
+-- ---- an input
+
+-- the audit of the capture that an input spells is written, and nothing else
+pub record HasFollowed (form : LineForm) (signal : List ℕ) (windows : Windows) (timing : Bool) (known old new : Option (List ℕ)) : Type 0 where
+  pub input : List ℕ
+  pub all : IfSome known (λ text. input ≡ text)
+  pub capture : Captured
+  pub read : capture_in (form_as form) signal input ≡ Ok capture
+  pub put : Appends old new (text_of timing windows capture)
+
+-- All that these lines say is written, and nothing else: the front of the audit of each capture that begins so.
+pub record IsUpToDate (form : LineForm) (signal : List ℕ) (windows : Windows) (timing : Bool) (past : List (List ℕ)) (old new : Option (List ℕ)) : Type 0 where
+  pub follower : AuditFollower
+  pub text : List ℕ
+  pub followed : IsFollowed form signal windows timing past (length past + 1) follower text
+  pub prompt : IsPrompt follower
+  pub front : IsFront true form signal windows timing past text
+  pub put : Appends old new text
+
+-- the fault is that of the input, and at the line after these
+pub record StopsAtFault (form : LineForm) (signal : List ℕ) (windows : Windows) (timing : Bool) (known old new : Option (List ℕ)) (fault : CaptureFault) : Type 0 where
+  pub past : List (List ℕ)
+  pub next : Option (List ℕ)
+  pub came : HaveCome known past next
+  pub place : fault.line ≡ length past + 1
+  pub refused : IsRefused form signal past next fault
+  pub read : IfSome known (λ text. capture_in (form_as form) signal text ≡ Err fault)
+  pub written : IsUpToDate form signal windows timing past old new
+
+-- a read failed after these lines
+pub record StopsAtRead (form : LineForm) (signal : List ℕ) (windows : Windows) (timing : Bool) (known old new : Option (List ℕ)) : Type 0 where
+  pub past : List (List ℕ)
+  pub came : AreFirst known past
+  pub written : IsUpToDate form signal windows timing past old new
+
+-- lines of it have come, all of them or not, and a front of the audit is written
+pub record HasBegun (form : LineForm) (signal : List ℕ) (windows : Windows) (timing : Bool) (known old new : Option (List ℕ)) : Type 0 where
+  pub past : List (List ℕ)
+  pub more : Bool
+  pub came : IfSome known (λ text. (rest : List (List ℕ)) × (lines_of text ≡ past ++ rest) × AreLeft more rest)
+  pub text : List ℕ
+  pub front : IsFront more form signal windows timing past text
+  pub put : Appends old new text
+
+abbrev pub Follows : LineForm → List ℕ → Windows → Bool → Option (List ℕ) → Option (List ℕ) → Option (List ℕ) → Result (Unit {0}) FollowAuditError → Type 0
+Follows form signal windows timing known old new (Ok done) = HasFollowed form signal windows timing known old new
+Follows form signal windows timing known old new (Err (Capture fault)) = StopsAtFault form signal windows timing known old new fault
+Follows form signal windows timing known old new (Err Read) = StopsAtRead form signal windows timing known old new
+Follows form signal windows timing known old new (Err TooLong) = HasBegun form signal windows timing known old new
+Follows form signal windows timing known old new (Err Memory) = HasBegun form signal windows timing known old new
+Follows form signal windows timing known old new (Err (Write count)) = HasBegun form signal windows timing known old new
+
+-- of a fault of the capture nothing is held back
+abbrev pub IsHandedOn : FollowAuditError → List ℕ → Type 0
+IsHandedOn (Capture fault) pending = pending ≡ []
+IsHandedOn Read pending = pending ≡ []
+IsHandedOn TooLong pending = Unit {0}
+IsHandedOn Memory pending = Unit {0}
+IsHandedOn (Write count) pending = Unit {0}
+
+-- what was put with such a fault: nothing
+abbrev pub LeavesAlone : {A : Type 0} → FollowAuditError → A → A → Type 0
+LeavesAlone (Capture fault) old new = new ≡ old
+LeavesAlone Read old new = new ≡ old
+LeavesAlone TooLong old new = Unit {0}
+LeavesAlone Memory old new = Unit {0}
+LeavesAlone (Write count) old new = Unit {0}
+
+-- an error without its count
+abbrev pub kind_of : FollowAuditError → FollowAuditError
+kind_of (Write count) = Write 0
+kind_of (Capture fault) = Capture fault
+kind_of Read = Read
+kind_of TooLong = TooLong
+kind_of Memory = Memory
+
+-- where nothing was held back before
+abbrev pub HoldsNothing : Result (Unit {0}) FollowAuditError → List ℕ → List ℕ → Type 0
+HoldsNothing result old new = IfErr result (λ error. old ≡ [] → IsHandedOn error new)

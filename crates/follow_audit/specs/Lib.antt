@@ -1,0 +1,4 @@
+pub mod Settled
+pub mod Listener
+pub mod Teller
+pub mod Follow

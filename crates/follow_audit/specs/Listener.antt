@@ -1,0 +1,131 @@
+-- What is written of the readings of a capture as they end: the front of its audit (own).
+use Rattle.std.specs.Prelude.{◌≡◌, ℕ, Bool, true, false, List, [], ◌++◌, Option, Some, None, Result, Ok, Err, option_map}
+use Rattle.std.specs.Option.{option_to_list}
+use Rattle.std.specs.Io.KnownBytes.{Appends}
+use Rattle.text_core.specs.declared.sink.WriteFault.{WriteFault}
+use Rattle.line_wave.specs.declared.Edge.{Edge}
+use Rattle.line_reading.specs.Readings.{Listed}
+use Rattle.line_reading.specs.Reports.{listed_as}
+use Rattle.audit_widths.specs.Lows.{gone_to}
+use Rattle.capture_monitor.specs.Watch.{listed_line}
+use Rattle.audit_core.specs.Audit.{after_all, audit_text_of, first_tape, remarks_text, reported_all, tape_at}
+use Rattle.audit_core.specs.Progress.{WritesOn}
+use Rattle.follow_audit.specs.Settled.{IsKnown, is_settled, later}
+use Rattle.follow_audit.specs.declared.error.FollowAuditError.{FollowAuditError}
+use Rattle.follow_audit.specs.declared.error.FollowAuditError.TheVariants.{Capture, Memory, Read, TooLong, Write}
+use Rattle.follow_audit.specs.declared.listener.Listener.{Listener}
+
+-- the line of a reading, of which what there is to remark is not written
+abbrev pub line_of : Option Listed → List ℕ
+line_of None = []
+line_of (Some x) = listed_line x
+
+-- what waits
+abbrev pub waits : Listener → Option Listed
+waits a = option_map listed_as a.waiting
+
+-- Of a capture of these edges, some of which are left, these readings have ended: all of them is written, but for what there is to
+-- remark of the last one, where that waits.
+pub record IsAudited (edges : List Edge) (a : Listener) (left : List Edge) (ended : List Listed) (text : List ℕ) : Type 0 where
+  pub done : List Listed
+  pub parts : ended ≡ done ++ option_to_list (waits a)
+  pub kept : tape_at (gone_to a.from (a.window.items ++ left)) a.auditor ≡ after_all (first_tape edges) done
+  pub said : text ≡ reported_all a.timing (first_tape edges) done ++ line_of (waits a)
+
+-- an edge is kept, if there is one
+abbrev pub TakesEdge : Listener → Option Edge → Listener → Type 0
+TakesEdge old edge new = (new.timing ≡ old.timing) × (new.waiting ≡ old.waiting) × ((edges left : List Edge) (ended : List Listed) (text : List ℕ)
+    → IsAudited edges old (option_to_list edge ++ left) ended text → IsAudited edges new left ended text)
+
+-- what there is to remark of what waits, by the edges that have come
+abbrev pub remarked_by : Listener → Option Listed → List ℕ
+remarked_by a None = []
+remarked_by a (Some x) = remarks_text a.timing (tape_at (gone_to (later a.from x.begin) a.window.items) a.auditor) x
+
+abbrev pub remarked : Listener → List ℕ
+remarked a = remarked_by a (waits a)
+
+-- it is known, whatever comes later
+abbrev pub KnownBy : Listener → List Edge → Option Listed → Type 0
+KnownBy a left None = Unit {0}
+KnownBy a left (Some x) = IsKnown a.from a.window.items left x
+
+abbrev pub WaitsForNothing : Listener → List Edge → Type 0
+WaitsForNothing a left = KnownBy a left (waits a)
+
+-- nothing waits that is known
+abbrev pub settled_by : Listener → Option Listed → Bool
+settled_by a None = false
+settled_by a (Some x) = is_settled x (gone_to (later a.from x.begin) a.window.items)
+
+abbrev pub SaysAllKnown : Listener → Type 0
+SaysAllKnown a = settled_by a (waits a) ≡ false
+
+-- what waits is written whole
+pub record Remarks (old new : Listener) : Type 0 where
+  pub none : new.waiting ≡ None
+  pub timing : new.timing ≡ old.timing
+  pub audited : (edges left : List Edge) (ended : List Listed) (text : List ℕ) → WaitsForNothing old left → IsAudited edges old left ended text → IsAudited edges new left ended (text ++ remarked old)
+
+-- some text is written, which goes on with the audit, of these further readings
+pub record Says (old : Listener) (more : List Listed) (new : Listener) (mid out : Option (List ℕ)) (was is : Bool) (before after : Result ℕ WriteFault) : Type 0 where
+  pub text : List ℕ
+  pub put : WritesOn mid out was is text before after
+  pub timing : new.timing ≡ old.timing
+  pub audited : (edges left : List Edge) (ended : List Listed) (so_far : List ℕ) → IsAudited edges old left ended so_far → IsAudited edges new left (ended ++ more) (so_far ++ text)
+
+-- where a reading is heard, if there was room for it
+abbrev pub HearsOne : Listener → Option Listed → Bool → Listener → Option (List ℕ) → Option (List ℕ) → Bool → Bool → Result ℕ WriteFault → Result ℕ WriteFault → Type 0
+HearsOne old reported true new mid out was is before after = Says old (option_to_list reported) new mid out was is before after
+HearsOne old reported false new mid out was is before after = Says old [] new mid out was is before after
+
+-- the same where no edge is left, so that nothing waits
+pub record SaysLast (old : Listener) (more : List Listed) (new : Listener) (mid out : Option (List ℕ)) (was is : Bool) (before after : Result ℕ WriteFault) : Type 0 where
+  pub text : List ℕ
+  pub put : WritesOn mid out was is text before after
+  pub none : new.waiting ≡ None
+  pub timing : new.timing ≡ old.timing
+  pub audited : (edges : List Edge) (ended : List Listed) (so_far : List ℕ) → IsAudited edges old [] ended so_far → IsAudited edges new [] (ended ++ more) (so_far ++ text)
+
+-- this text is a front of the audit of each capture whose edges these are and whose readings begin with these
+abbrev pub IsFrontOf : Bool → List Edge → List Listed → List ℕ → Type 0
+IsFrontOf timing edges ended text = (end : ℕ) (more : List Listed) → (rest : List ℕ) × (audit_text_of timing (record { edges = edges; end = end }) (ended ++ more) ≡ text ++ rest)
+
+-- readings that have ended are told one after another: what goes on with the audit is put, or a front of it
+abbrev pub IsOfListening : FollowAuditError → Type 0
+IsOfListening (Write count) = Unit {0}
+IsOfListening TooLong = Unit {0}
+IsOfListening (Capture fault) = ⊥
+IsOfListening Read = ⊥
+IsOfListening Memory = ⊥
+
+pub record PutsAll (old : Listener) (more : List Listed) (new : Listener) (before after : Option (List ℕ)) : Type 0 where
+  pub text : List ℕ
+  pub put : Appends before after text
+  pub timing : new.timing ≡ old.timing
+  pub audited : (edges left : List Edge) (ended : List Listed) (so_far : List ℕ) → IsAudited edges old left ended so_far → IsAudited edges new left (ended ++ more) (so_far ++ text)
+
+pub record PutsFront (old : Listener) (more : List Listed) (before after : Option (List ℕ)) : Type 0 where
+  pub text : List ℕ
+  pub put : Appends before after text
+  pub front : (edges left : List Edge) (ended : List Listed) (so_far : List ℕ) → IsAudited edges old left ended so_far → IsFrontOf old.timing edges (ended ++ more) (so_far ++ text)
+
+abbrev pub Puts : Listener → List Listed → Listener → Option (List ℕ) → Option (List ℕ) → Result (Unit {0}) FollowAuditError → Type 0
+Puts old more new before after (Ok done) = PutsAll old more new before after
+Puts old more new before after (Err error) = PutsFront old more before after × IsOfListening error
+
+-- no edge is left: all is put, up to the end
+pub record PutsLast (old : Listener) (more : List Listed) (end : ℕ) (before after : Option (List ℕ)) : Type 0 where
+  pub text : List ℕ
+  pub put : Appends before after text
+  pub whole : (edges : List Edge) (ended : List Listed) (so_far : List ℕ) → IsAudited edges old [] ended so_far → audit_text_of old.timing (record { edges = edges; end = end }) (ended ++ more) ≡ so_far ++ text
+
+pub record PutsCut (old : Listener) (more : List Listed) (end : ℕ) (before after : Option (List ℕ)) : Type 0 where
+  pub text : List ℕ
+  pub rest : List ℕ
+  pub put : Appends before after text
+  pub whole : (edges : List Edge) (ended : List Listed) (so_far : List ℕ) → IsAudited edges old [] ended so_far → audit_text_of old.timing (record { edges = edges; end = end }) (ended ++ more) ≡ so_far ++ (text ++ rest)
+
+abbrev pub Finishes : Listener → List Listed → ℕ → Option (List ℕ) → Option (List ℕ) → Result (Unit {0}) FollowAuditError → Type 0
+Finishes old more end before after (Ok done) = PutsLast old more end before after
+Finishes old more end before after (Err error) = PutsCut old more end before after × IsOfListening error

@@ -1,0 +1,240 @@
+//! The audit of a capture, of which edges and readings are told as they come.
+ghost use Rattle.std.specs.Prelude.{◌≡◌, [], ◌∷◌, ◌++◌, List, None, OnOk, false, true, option_map};
+ghost use Rattle.std.specs.Option.{option_to_list};
+ghost use Rattle.line_wave.specs.declared.Edge.{Edge as EdgeOf};
+ghost use Rattle.line_reading.specs.Reports.{listed_as};
+ghost use Rattle.audit_core.specs.Progress.{WritesOn};
+
+use crate::error::FollowAuditError;
+use crate::settled::{edges_from, is_settled, later};
+use audit_core::{Auditor, TextProgress};
+use line_frames::Reading;
+use line_wave::Edge;
+use std::alloc::{AllocError, Global};
+use text_core::Sink;
+
+/// So many edges are kept before those are let go that are no longer needed: a reading has 322 at most.
+const KEPT: usize = 1024;
+
+/// What is kept of a capture that is audited as it comes.
+#[derive(Drop)]
+pub(crate) struct Listener {
+    auditor: Auditor,
+    /// The edges that have come, or the last of them: at least those from `from` on.
+    window: Vec<Edge>,
+    /// No edge before this instant is needed.
+    from: u64,
+    /// The reading whose line is written, and of which it is not known yet what there is to remark.
+    waiting: Option<Reading>,
+    /// Whether the widths of each reading are written.
+    timing: bool,
+}
+
+impl Listener {
+    ghost use Rattle.follow_audit.specs.Listener.{Finishes, HearsOne, IsAudited, Puts, Remarks, Says, SaysAllKnown, SaysLast, TakesEdge, WaitsForNothing, remarked};
+
+    /// Of a capture of which nothing has come.
+    pub(crate) fn new(alloc: Global, timing: bool) -> Self
+        ensures audited { (edges : List EdgeOf) → IsAudited edges result edges [] [] }
+        ensures timing { result.timing ≡ timing }
+        ensures none { result.waiting ≡ None }
+    {
+        Listener {
+            auditor: Auditor::new(),
+            window: Vec::new(alloc),
+            from: 0,
+            waiting: None,
+            timing,
+        }
+    }
+
+    // Whether so many edges are kept that it is time to let some go.
+    fn keeps_many(&self) -> bool {
+        self.window.len() >= KEPT
+    }
+
+    // Lets go the edges that are no longer needed, where there are many.
+    fn let_go(&mut self, alloc: Global) -> Result<(), AllocError>
+        ensures { TakesEdge self.old None self.new }
+    {
+        if !self.keeps_many() {
+            return Ok(());
+        }
+        let window = Vec::from_slice(alloc, edges_from(&self.window, self.from).edges())?;
+        self.window = window;
+        Ok(())
+    }
+
+    /// Takes the next edge of the capture, if there is one.
+    ///
+    /// # Errors
+    ///
+    /// No memory.
+    pub(crate) fn take(&mut self, alloc: Global, edge: Option<Edge>) -> Result<(), AllocError>
+        ensures { OnOk result (TakesEdge self.old edge self.new) }
+    {
+        match edge {
+            None => Ok(()),
+            Some(edge) => {
+                self.let_go(alloc)?;
+                self.window.push(edge)?;
+                Ok(())
+            }
+        }
+    }
+
+    // Writes what there is to remark of the reading that waits, if one does.
+    fn remark<S: Sink>(&mut self, progress: &mut TextProgress, out: &mut S)
+        ensures remarks { Remarks self.old self.new }
+        ensures written { WritesOn (S.contents out.old) (S.contents out.new) (S.is_stuck out.old) (S.is_stuck out.new)
+            (remarked self.old) progress.old.so_far progress.new.so_far }
+    {
+        let Some(reading) = self.waiting.take() else {
+            return;
+        };
+        self.from = later(self.from, reading.begin);
+        let edges = edges_from(&self.window, self.from);
+        self.auditor
+            .remark(&reading, edges.edges(), self.timing, progress, out);
+    }
+
+    // Whether the edges that have come say all that there is to remark of the reading that waits, if one does.
+    fn is_settled(&self) -> bool
+        ensures known { result ≡ true → (left : List EdgeOf) → WaitsForNothing self.now left }
+        ensures waits { result ≡ false → SaysAllKnown self.now }
+    {
+        match &self.waiting {
+            None => true,
+            Some(reading) => is_settled(
+                reading,
+                edges_from(&self.window, later(self.from, reading.begin)).edges(),
+            ),
+        }
+    }
+
+    // Writes that, where it is known.
+    fn settle<S: Sink>(&mut self, progress: &mut TextProgress, out: &mut S)
+        ensures says { Says self.old [] self.new (S.contents out.old) (S.contents out.new) (S.is_stuck out.old) (S.is_stuck out.new) progress.old.so_far progress.new.so_far }
+        ensures waits { SaysAllKnown self.new }
+    {
+        if !self.is_settled() {
+            return;
+        }
+        self.remark(progress, out);
+    }
+
+    // Writes the line of a reading that has ended, where nothing waits: it waits then.
+    fn write_line<S: Sink>(&mut self, reading: Reading, progress: &mut TextProgress, out: &mut S)
+        requires { self.old.waiting ≡ None }
+        ensures { Says self.old (listed_as reading ∷ []) self.new (S.contents out.old) (S.contents out.new) (S.is_stuck out.old) (S.is_stuck out.new) progress.old.so_far progress.new.so_far }
+    {
+        progress.reading(out, &reading);
+        self.waiting = Some(reading);
+    }
+
+    fn waits(&self) -> bool
+        ensures { result ≡ false → self.now.waiting ≡ None }
+    {
+        match &self.waiting {
+            None => false,
+            Some(_) => true,
+        }
+    }
+
+    // Hears a reading that has ended, if there is one, and returns whether nothing waited.
+    fn hear<S: Sink>(
+        &mut self,
+        reading: Option<Reading>,
+        progress: &mut TextProgress,
+        out: &mut S,
+    ) -> bool
+        ensures waits { result ≡ true → SaysAllKnown self.old → SaysAllKnown self.new }
+        ensures says { HearsOne self.old (option_map listed_as reading) result self.new (S.contents out.old) (S.contents out.new) (S.is_stuck out.old) (S.is_stuck out.new) progress.old.so_far progress.new.so_far }
+    {
+        match reading {
+            None => true,
+            Some(reading) => {
+                if self.waits() {
+                    return false;
+                }
+                self.write_line(reading, progress, out);
+                self.settle(progress, out);
+                true
+            }
+        }
+    }
+
+    /// Hears the readings that have ended since the last call, at most two, after the edge that came: writes their lines, and what
+    /// there is to remark of each as soon as the edges say all of it.
+    ///
+    /// # Errors
+    ///
+    /// `Write` where the sink takes no more, and `TooLong`. Then a front of that was written.
+    pub(crate) fn tell<S: Sink>(
+        &mut self,
+        first: Option<Reading>,
+        second: Option<Reading>,
+        out: &mut S,
+    ) -> Result<(), FollowAuditError>
+        ensures waits { OnOk result (SaysAllKnown self.new) }
+        ensures puts { Puts self.old (option_to_list (option_map listed_as first) ++ option_to_list (option_map listed_as second)) self.new (S.contents out.old) (S.contents out.new) result }
+    {
+        let mut progress = TextProgress::new();
+        self.settle(&mut progress, out);
+        if !self.hear(first, &mut progress, out) {
+            return Err(FollowAuditError::TooLong);
+        }
+        if !self.hear(second, &mut progress, out) {
+            return Err(FollowAuditError::TooLong);
+        }
+        match progress.result() {
+            Ok(()) => Ok(()),
+            Err(fault) => Err(FollowAuditError::Write(fault.count)),
+        }
+    }
+
+    // Hears a reading where no edge is left, if there is one. Nothing waits.
+    fn hear_last<S: Sink>(
+        &mut self,
+        reading: Option<Reading>,
+        progress: &mut TextProgress,
+        out: &mut S,
+    )
+        requires { self.old.waiting ≡ None }
+        ensures { SaysLast self.old (option_to_list (option_map listed_as reading)) self.new (S.contents out.old) (S.contents out.new) (S.is_stuck out.old) (S.is_stuck out.new) progress.old.so_far progress.new.so_far }
+    {
+        match reading {
+            None => {}
+            Some(reading) => {
+                self.write_line(reading, progress, out);
+                self.remark(progress, out);
+            }
+        }
+    }
+
+    /// No edge is left: hears the last readings, and writes what there is to say of all of them.
+    ///
+    /// # Errors
+    ///
+    /// `Write` where the sink takes no more. Then a front of that was written.
+    pub(crate) fn finish<S: Sink>(
+        self,
+        first: Option<Reading>,
+        second: Option<Reading>,
+        end: u64,
+        out: &mut S,
+    ) -> Result<(), FollowAuditError>
+        ensures { Finishes self (option_to_list (option_map listed_as first) ++ option_to_list (option_map listed_as second)) end (S.contents out.old) (S.contents out.new) result }
+    {
+        let mut listener = self;
+        let mut progress = TextProgress::new();
+        listener.remark(&mut progress, out);
+        listener.hear_last(first, &mut progress, out);
+        listener.hear_last(second, &mut progress, out);
+        listener.auditor.summarize(end, &mut progress, out);
+        match progress.result() {
+            Ok(()) => Ok(()),
+            Err(fault) => Err(FollowAuditError::Write(fault.count)),
+        }
+    }
+}

@@ -1,0 +1,71 @@
+//! A monitor that is told a captured line as it comes.
+ghost use Rattle.std.specs.Prelude.{◌≡◌, ◌≤◌, ◌+◌, IfSome, option_map};
+ghost use Rattle.line_wave.specs.Bounds.{latest_instant};
+ghost use Rattle.line_reading.specs.Reports.{listed_as};
+
+use crate::settled::later;
+use capture_monitor::Monitor;
+use line_frames::Reading;
+use line_reading::Windows;
+use line_wave::Edge;
+
+/// A monitor, and how far it was told the line.
+#[derive(Debug, Drop)]
+pub(crate) struct Teller {
+    monitor: Monitor,
+    /// The instant before which the line of the bus is known.
+    known: u64,
+}
+
+impl Teller {
+    ghost use Rattle.line_wave.specs.Line.{Line};
+    ghost use Rattle.line_reading.specs.Windows.{AreWindows};
+    ghost use Rattle.capture_monitor.specs.Monitor.{HeardBeforeBy};
+    ghost use Rattle.follow_audit.specs.Teller.{IsEarly, TellsCalm, TellsEdge, TellsEnd};
+
+    /// A monitor by these windows, which was told nothing.
+    pub(crate) fn new(windows: Windows) -> Self
+        requires { AreWindows windows }
+        ensures heard { (low : Line) → HeardBeforeBy windows result.monitor low 0 }
+        ensures known { result.known ≡ 0 }
+    {
+        Teller {
+            monitor: Monitor::with_windows(windows),
+            known: 0,
+        }
+    }
+
+    /// Tells it an edge, if there is one, and returns the reading that has ended by it.
+    pub(crate) fn edge(&mut self, edge: Option<Edge>) -> Option<Reading>
+        requires known { IsEarly self.old }
+        requires early { IfSome edge (λ e. e.at ≤ latest_instant) }
+        ensures { TellsEdge self.old edge (option_map listed_as result) self.new }
+    {
+        match edge {
+            None => None,
+            Some(edge) => {
+                self.known = edge.at + 1;
+                self.monitor.edge(edge)
+            }
+        }
+    }
+
+    /// Tells it that no edge comes before an instant, and returns the reading that has ended.
+    pub(crate) fn calm(&mut self, from: u64) -> Option<Reading>
+        requires known { IsEarly self.old }
+        requires early { from ≤ latest_instant + 1 }
+        ensures { TellsCalm self.old from (option_map listed_as result) self.new }
+    {
+        let until = later(self.known, from);
+        self.known = until;
+        self.monitor.calm(until)
+    }
+
+    /// Tells it the end, and returns the last reading.
+    pub(crate) fn end(self, end: u64) -> Option<Reading>
+        requires early { end ≤ latest_instant }
+        ensures { TellsEnd self end (option_map listed_as result) }
+    {
+        self.monitor.finish(end)
+    }
+}
