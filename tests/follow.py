@@ -44,7 +44,7 @@ class Bus:
     """A capture that is followed, and the pipe into it."""
 
     def __init__(self, form, flags=()):
-        self.mon = subprocess.Popen([PROGRAM, 'mon', '--from', form, '--follow', *flags], stdin=subprocess.PIPE, stdout=subprocess.PIPE, stderr=subprocess.PIPE)
+        self.mon = subprocess.Popen([PROGRAM, 'mon', '--from', form, '--follow', *flags], stdin=subprocess.PIPE, stdout=subprocess.PIPE, stderr=subprocess.PIPE, bufsize=0)
 
     def send(self, text):
         self.mon.stdin.write(text.encode())
@@ -124,6 +124,30 @@ def reads_rows_at_once():
     return right and bus.ended() == (0, '', '')
 
 
+def remarks_at_once():
+    """With --audit what there is to remark of a reading comes with the next fall, that of a low drive with its rise, and the summary
+    with the end of the pipe."""
+    bus = Bus('edges', ('--audit',))
+    for at, level in edges_of([(0x40, 1, 1)], 20000):
+        bus.send(edge_line(at, level))
+    right = bus.is_quiet()
+    bus.send(edge_line(80000, 0))
+    right = right and bus.line() == '20000 47150 complete 4>0 nack\n' and bus.line() == '  block 1 not acknowledged, attempt 1\n' and bus.is_quiet()
+    for at, level in ((83700, 1), (84500, 0), (85100, 1)):
+        bus.send(edge_line(at, level))
+    right = right and bus.is_quiet()
+    bus.send(edge_line(85600, 0))
+    right = right and bus.line() == '80000 85600 short 1\n' and bus.is_quiet()
+    bus.send(edge_line(89200, 1))
+    right = right and bus.line() == '  slot 1 block 1 bit 1 total 1100 not 2050..2750\n' and bus.line() == '  low drive 3600\n' and bus.is_quiet()
+    bus.send('100000 end\n')
+    right = right and bus.is_quiet()
+    bus.mon.stdin.close()
+    bus.mon.stdin = None
+    status, text, fault = bus.ended()
+    return right and (status, fault) == (0, '') and text.startswith('  all readings\n  from 4: 0 taken, 1 not taken, 0 broken\n')
+
+
 def random_capture(form, number):
     """The lines of a capture of frames, broken frames and pulses."""
     r = random.Random(number)
@@ -152,24 +176,25 @@ def random_capture(form, number):
 
 
 def is_text_of_the_whole():
-    """What is written is the text of the whole, with the same status and the same fault; before a fault it is a front."""
-    for form in ('edges', 'pin', 'csv'):
-        for number in range(40):
-            lines = random_capture(form, number)
-            margin = ('--margin', '150') if number % 3 == 0 else ()
-            want = watched(form, ''.join(lines), '--from-start', *margin)
-            bus = Bus(form, margin)
-            for line in lines:
-                bus.send(line)
-            status, text, fault = bus.ended()
-            if (status, text) != want[:2] or fault:
-                return False
-            broken = lines[:len(lines) // 2] + ['frob\n'] + lines[len(lines) // 2:]
-            old = watched(form, ''.join(broken), '--from-start', *margin)
-            status, text, fault = followed(form, ''.join(broken), *margin)
-            if old[1] or (status, fault) != (old[0], old[2]) or not want[1].startswith(text):
-                return False
-    return True
+    """What is written is the text of the whole, with the same status and the same fault; before a fault it is a front. So is an
+    audit."""
+    return all(is_whole(form, number, asked) for form in ('edges', 'pin', 'csv') for number in range(40) for asked in (('--from-start',), ('--audit',), ('--timing',)))
+
+
+def is_whole(form, number, asked):
+    lines = random_capture(form, number)
+    flags = asked + (('--margin', '150') if number % 3 == 0 else ())
+    want = watched(form, ''.join(lines), *flags)
+    bus = Bus(form, flags)
+    for line in lines:
+        bus.send(line)
+    status, text, fault = bus.ended()
+    if (status, text) != want[:2] or fault:
+        return False
+    broken = lines[:len(lines) // 2] + ['frob\n'] + lines[len(lines) // 2:]
+    old = watched(form, ''.join(broken), *flags)
+    status, text, fault = followed(form, ''.join(broken), *flags)
+    return not old[1] and (status, fault) == (old[0], old[2]) and want[1].startswith(text)
 
 
 def followed(form, text, *flags):
@@ -195,8 +220,12 @@ def fails_to_write():
 
 
 def takes_no_memory():
-    """An hour of a busy bus leaves the program as small as it was."""
-    bus = Bus('pin')
+    """An hour of a busy bus leaves the program as small as it was, with an audit too."""
+    return is_small(()) and is_small(('--audit',))
+
+
+def is_small(flags):
+    bus = Bus('pin', flags)
     bus.send(HEAD)
     frame = edges_of([(0x4F, 0, 1), (0x82, 0, 1), (0x10, 0, 1), (0x00, 1, 1)], 0)
     count = 0
@@ -212,7 +241,7 @@ def takes_no_memory():
 
 def main():
     failed = 0
-    tests = [reads_edges_at_once, reads_pins_at_once, reads_rows_at_once, is_text_of_the_whole, has_faults, fails_to_write, takes_no_memory]
+    tests = [reads_edges_at_once, reads_pins_at_once, reads_rows_at_once, remarks_at_once, is_text_of_the_whole, has_faults, fails_to_write, takes_no_memory]
     for test in tests:
         right = test()
         failed += not right

@@ -486,7 +486,8 @@ pub const MON_VALUES: &[(&str, &str, &str)] = &[
 pub const MON_RULES: &str = "
   --signal goes with vcd and csv alone; of --from-start and --from-idle one is given at most, and neither
   with --audit and --timing; --strict goes with one of these two; --fold does not go with --json
-  --follow goes with --from edges, pin or csv, and else with --signal, --margin and --from-start alone
+  --follow goes with --from edges, pin or csv, and else with --signal, --margin, --from-start, --audit and
+  --timing alone
 ";
 
 pub const MON_HELP: &str = "\
@@ -543,8 +544,9 @@ far as none has a line below it.
 
 With --follow each line of an edge file, of pin events or of comma-separated values is read as it comes, at
 most 4096 bytes long, and a reading is printed as soon as it is over, all of them as with --from-start; what
-was printed before a fault stays:
-  pin-events | ./hdminet mon --follow --from pin
+was printed before a fault stays. With --audit what there is to say of a reading is printed as soon as the
+next fall, or the end, says all of it:
+  pin-events | ./hdminet mon --follow --from pin --audit
 
 With --json each line of the output is an object of JSON, whose first field is that line. Of an audit its
 type is reading, remark, note, sender, widths or summary; a remark has its kind, the section of HDMI 1.4

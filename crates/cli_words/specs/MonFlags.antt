@@ -13,6 +13,8 @@ use Rattle.cli_words.specs.declared.choice.Form.{Form}
 use Rattle.cli_words.specs.declared.choice.Form.TheVariants.{Edges, Vcd, Pin, Csv}
 use Rattle.cli_words.specs.declared.choice.FollowForm.{FollowForm}
 use Rattle.cli_words.specs.declared.choice.FollowForm.TheVariants as line_forms
+use Rattle.cli_words.specs.declared.choice.FollowReport.{FollowReport}
+use Rattle.cli_words.specs.declared.choice.FollowReport.TheVariants as follow_reports
 use Rattle.cli_words.specs.declared.choice.CaptureReport.{CaptureReport}
 use Rattle.cli_words.specs.declared.choice.CaptureReport.TheVariants.{Audit, FromIdle, Readings}
 use Rattle.cli_words.specs.declared.mon_flags.MonFlags.{MonFlags}
@@ -112,13 +114,20 @@ abbrev pub is_from_idle : Option CaptureReport → Bool
 is_from_idle (Some FromIdle) = true
 is_from_idle start = false
 
--- something else than all readings of the edges as they are
+-- something else than what is read of the edges as they are, from the first on
 abbrev pub goes_further : MonFlags → Bool
-goes_further flags = is_some flags.glitch || flags.inverted || is_from_idle flags.start || flags.audit || flags.timing || flags.strict || flags.folded || flags.json
+goes_further flags = is_some flags.glitch || flags.inverted || is_from_idle flags.start || flags.strict || flags.folded || flags.json
 
--- the readings of a capture as they come
+-- what is written of a capture as it comes; an audit is of the whole capture
+abbrev pub follow_report : Option CaptureReport → Bool → Bool → Option FollowReport
+follow_report start false timing = Some follow_reports.Readings
+follow_report None true timing = Some (follow_reports.Audit timing)
+follow_report (Some start) true timing = None
+
 abbrev pub follow_choice : MonFlags → Option CommandChoice
-follow_choice flags = if goes_further flags then None else option_map (λ form. Follow form (unwrap_or flags.margin 0)) (line_form flags.form)
+follow_choice flags =
+    if goes_further flags then None
+    else option_and_then (λ form. option_map (λ report. Follow form (unwrap_or flags.margin 0) report) (follow_report flags.start (flags.audit || flags.timing) flags.timing)) (line_form flags.form)
 
 -- a value is missing, a wire has no name, or objects are asked for of lines that are folded
 abbrev pub is_misfit : MonFlags → Bool

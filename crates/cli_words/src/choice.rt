@@ -45,6 +45,15 @@ pub enum FollowForm {
     Csv,
 }
 
+/// What is written of a capture as its lines come.
+#[derive(Clone, Copy, Debug)]
+pub enum FollowReport {
+    /// Its readings.
+    Readings,
+    /// Its audit, with the widths of each reading or without.
+    Audit { timing: bool },
+}
+
 /// What is written of a capture.
 #[derive(Clone, Copy, Debug)]
 pub enum CaptureReport {
@@ -221,10 +230,11 @@ pub enum CommandChoice {
         folded: bool,
         report: Option<CaptureReport>,
     },
-    /// The readings of a capture in this form as they come, line by line; the windows are so many microseconds wider, 300 at most.
+    /// What a capture in this form reports as its lines come; the windows are so many microseconds wider, 300 at most.
     Follow {
         form: FollowForm,
         margin: u64,
+        report: FollowReport,
     },
     /// Lines of a run or of a capture, as objects.
     Json(Objects),

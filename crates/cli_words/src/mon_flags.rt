@@ -1,8 +1,8 @@
 //! The flags of `mon`.
 ghost use Rattle.std.specs.Prelude.{◌≡◌, map, string_bytes, Some, None, MatchOption, option_and_then};
-ghost use Rattle.cli_words.specs.MonFlags.{follow_choice, form_of, goes_further, has_names, is_from_idle, line_form, margin_of, is_misfit, joined_signal, mon_asked, mon_choice, mon_flags, mon_report, signal_in, waited_mon, with_mon_flag, with_mon_value, with_mon_word};
+ghost use Rattle.cli_words.specs.MonFlags.{follow_choice, form_of, follow_report, goes_further, has_names, is_from_idle, line_form, margin_of, is_misfit, joined_signal, mon_asked, mon_choice, mon_flags, mon_report, signal_in, waited_mon, with_mon_flag, with_mon_value, with_mon_word};
 
-use crate::choice::{Asked, CaptureReport, CommandChoice, FollowForm, Form, Objects};
+use crate::choice::{Asked, CaptureReport, CommandChoice, FollowForm, FollowReport, Form, Objects};
 use crate::joined::joined;
 use crate::micros::micros_of;
 use text_core::{after, before, number_in};
@@ -296,21 +296,32 @@ fn is_from_idle(start: Option<CaptureReport>) -> bool
     matches!(start, Some(CaptureReport::FromIdle))
 }
 
-// Whether a flag asks for something else than all readings of the edges as they are.
+// Whether a flag asks for something else than what is read of the edges as they are, from the first on.
 fn goes_further(flags: &MonFlags) -> bool
     ensures { result ≡ goes_further flags.now }
 {
     flags.glitch.is_some()
         || flags.inverted
         || is_from_idle(flags.start)
-        || flags.audit
-        || flags.timing
         || flags.strict
         || flags.folded
         || flags.json
 }
 
-// The readings of a capture as they come.
+// What is written of a capture as it comes. An audit is of the whole capture.
+fn follow_report(start: Option<CaptureReport>, audited: bool, timing: bool) -> Option<FollowReport>
+    ensures { result ≡ follow_report start audited timing }
+{
+    if !audited {
+        return Some(FollowReport::Readings);
+    }
+    match start {
+        None => Some(FollowReport::Audit { timing }),
+        Some(_) => None,
+    }
+}
+
+// What a capture reports as it comes.
 fn follow_choice(flags: &MonFlags) -> Option<CommandChoice>
     ensures { result ≡ follow_choice flags.now }
 {
@@ -318,9 +329,11 @@ fn follow_choice(flags: &MonFlags) -> Option<CommandChoice>
         return None;
     }
     let form = line_form(flags.form)?;
+    let report = follow_report(flags.start, flags.audit || flags.timing, flags.timing)?;
     Some(CommandChoice::Follow {
         form,
         margin: flags.margin.unwrap_or(0),
+        report,
     })
 }
 

@@ -156,14 +156,14 @@ IsDone Asm name input text = (frames : List (List ℕ)) × AreTextsOf (lines_of_
 IsDone (Dis meaning) name input text = (first_fault 1 (lines_of input) ≡ None) × (text ≡ flat_map (dis_text meaning) (lines_of input))
 IsDone Lay name input text = (pulls : List Stretch) × AreLinesRead (lines_of input) 1 no_notes (Ok pulls) × (text ≡ flat_map pull_line pulls)
 IsDone (Mon form glitch margin inverted folded report) name input text = IsShown folded (form_of form input) name inverted glitch margin (report_of report (form_of form input)) input text
-IsDone (Follow form margin) name input text = IsReported form margin name input text
+IsDone (Follow form margin report) name input text = IsReported form margin report name input text
 IsDone (Json objects) name input text = (lines : List ℕ) × AreLines objects name input lines × AreObjectsOf objects input lines text
 IsDone (Edid source reading view) name input text = IsMade source reading view input text
 
 -- the choices whose lines are answered as they come
 abbrev pub is_line_by_line : CommandChoice → Bool
 is_line_by_line (Live json) = true
-is_line_by_line (Follow form margin) = true
+is_line_by_line (Follow form margin report) = true
 is_line_by_line choice = false
 
 -- a choice is done for an input: its text is written, and nothing else

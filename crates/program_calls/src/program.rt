@@ -16,7 +16,7 @@ use crate::said::{remark, report};
 use crate::status::{USAGE, write_fault};
 use crate::told::Recap;
 use cli_command::{Refused, choose};
-use cli_words::{Asked, CommandChoice, FollowForm, signal_in};
+use cli_words::{Asked, CommandChoice, FollowForm, FollowReport, signal_in};
 use json_live::Halt;
 use live_dialogue::SessionError;
 use program_captures::follow_capture;
@@ -200,13 +200,14 @@ fn follow_lines<R: Read, W: Sink, E: Sink>(
     form: FollowForm,
     signal: &[u8],
     margin: u64,
+    kind: FollowReport,
     input: &mut R,
     out: &mut Buffered<W>,
     err: &mut E,
 ) -> u8
-    ensures { result ≡ 0 → FollowsTo form signal.now margin (R.remaining input.old) (⟦<Buffered<W> as Sink>⟧.contents out.old) (W.contents (below out.new)) }
+    ensures { result ≡ 0 → FollowsTo form signal.now margin kind (R.remaining input.old) (⟦<Buffered<W> as Sink>⟧.contents out.old) (W.contents (below out.new)) }
 {
-    match follow_capture(form, signal, margin, input, out) {
+    match follow_capture(alloc, form, signal, margin, kind, input, out) {
         Ok(()) => 0,
         Err(fault) => report(alloc, asked, &ProgramFault::from(fault), b"", err),
     }
@@ -219,14 +220,17 @@ fn serve_capture<R: Read, W: Sink, E: Sink>(
     form: FollowForm,
     signal: &[u8],
     margin: u64,
+    kind: FollowReport,
     input: &mut R,
     out: W,
     err: &mut E,
 ) -> ProgramEnd<W>
-    ensures { result.status ≡ 0 → FollowsTo form signal.now margin (R.remaining input.old) (W.contents out) (W.contents result.out) }
+    ensures { result.status ≡ 0 → FollowsTo form signal.now margin kind (R.remaining input.old) (W.contents out) (W.contents result.out) }
 {
     let mut out = Buffered::new(out);
-    let status = follow_lines(alloc, asked, form, signal, margin, input, &mut out, err);
+    let status = follow_lines(
+        alloc, asked, form, signal, margin, kind, input, &mut out, err,
+    );
     ProgramEnd {
         status,
         out: out.into_below(),
@@ -322,13 +326,18 @@ fn serve<R: Read, W: Sink, E: Sink>(
 {
     match asked.choice {
         CommandChoice::Live { json } => serve_session(alloc, json, asked, input, out, err),
-        CommandChoice::Follow { form, margin } => {
+        CommandChoice::Follow {
+            form,
+            margin,
+            report: kind,
+        } => {
             serve_capture(
                 alloc,
                 asked,
                 form,
                 signal_of(words),
                 margin,
+                kind,
                 input,
                 out,
                 err,

@@ -1,12 +1,20 @@
 -- A capture by its edges and its end.
-use Rattle.std.proofs.Common.{◌≡◌, ℕ, zero, suc, List, [], Option, Some, None, min, refl, ap, subst, append-nil, ◌∙◌}
+use Rattle.std.proofs.Common.{◌≡◌, ℕ, zero, suc, Bool, List, [], Option, Some, None, Err, min, refl, ap, subst, append-nil, ◌∙◌}
 use Rattle.line_reading.specs.Windows.{most_margin, standard, wider}
 use Rattle.line_reading.specs.declared.times.Windows.{Windows}
 use Rattle.capture_monitor.proofs.FollowedEdges.{captured_standard}
 use Rattle.capture_monitor.specs.Joined.{captured_by}
 use Rattle.capture_monitor.specs.Watch.{readings_text}
 use Rattle.follow_core.specs.Follow.{HasFollowed, IsHandedOn, Stops, text_of}
-use Rattle.program_captures.specs.Following.{FollowsTo, StopsSo, fault_of, form_followed}
+use Rattle.audit_core.specs.Audit.{audit_text_of}
+use Rattle.follow_audit.specs.Follow.{Follows as FollowsAudit}
+use Rattle.follow_audit.specs.Follow.{HasFollowed as HasAudited}
+use Rattle.follow_audit.specs.Follow.{IsHandedOn as IsAuditHandedOn}
+use Rattle.follow_audit.specs.Follow.{text_of as audit_of}
+use Rattle.follow_audit.specs.declared.error.FollowAuditError.{FollowAuditError}
+use Rattle.cli_words.specs.declared.choice.FollowReport.TheVariants as reports
+use Rattle.program_captures.proofs.AuditLemmas.{never}
+use Rattle.program_captures.specs.Following.{FollowsTo, IsCauseOf, StopsAudit, StopsSo, fault_of, form_followed}
 use Rattle.follow_core.specs.declared.error.FollowError.{FollowError}
 use Rattle.follow_core.specs.declared.lines.LineForm.{LineForm as FollowedForm}
 use Rattle.program_captures.specs.declared.fault.MonitorFault.{MonitorFault}
@@ -37,7 +45,7 @@ nothing_more (Some xs) = ap Some (append-nil xs)
 
 -- all that was put is handed on
 pub follows_to : (form : FollowForm) (name : List ℕ) (margin : ℕ) (windows : Windows) (known old below : Option (List ℕ)) (pending : List ℕ) → windows ≡ wider (min margin most_margin) → pending ≡ []
-    → HasFollowed (form_followed form) name windows known old (append_known below pending) → FollowsTo form name margin known old below
+    → HasFollowed (form_followed form) name windows known old (append_known below pending) → FollowsTo form name margin reports.Readings known old below
 follows_to form name margin windows known old below pending e none f = record {
   input = f.input;
   all = f.all;
@@ -54,5 +62,25 @@ stops_so form name margin followed windows known old new before pending error fa
   error = error;
   cause = cause;
   stops = subst (λ (f : FollowedForm). Stops f name (wider (min margin most_margin)) known old new error) is (subst (λ (w : Windows). Stops followed name w known old new error) e stops);
+  handed = handed;
+}
+
+-- the same of an audit
+pub audits_to : (form : FollowForm) (name : List ℕ) (margin : ℕ) (timing : Bool) (windows : Windows) (known old below : Option (List ℕ)) (pending : List ℕ) → windows ≡ wider (min margin most_margin) → pending ≡ []
+    → HasAudited (form_followed form) name windows timing known old (append_known below pending) → FollowsTo form name margin (reports.Audit timing) known old below
+audits_to form name margin timing windows known old below pending e none f = record {
+  input = f.input;
+  all = f.all;
+  text = audit_of timing windows f.capture;
+  reported = (f.capture, f.read, (ap (audit_text_of timing f.capture) (readings_are margin windows f.capture e), λ strict. absurd (never strict)));
+  put = subst (λ (new : Option (List ℕ)). Appends old new (audit_of timing windows f.capture)) (ap (append_known below) none ∙ nothing_more below) f.put;
+}
+
+pub stops_audit : (form : FollowForm) (name : List ℕ) (margin : ℕ) (timing : Bool) (followed : FollowedForm) (windows : Windows) (known old new : Option (List ℕ)) (before pending : List ℕ) (error : FollowAuditError) (fault : MonitorFault) → windows ≡ wider (min margin most_margin)
+    → followed ≡ form_followed form → IsCauseOf error fault → FollowsAudit followed name windows timing known old new (Err error) → (before ≡ [] → IsAuditHandedOn error pending) → StopsAudit form name margin timing known old new before pending fault
+stops_audit form name margin timing followed windows known old new before pending error fault e is cause stops handed = record {
+  error = error;
+  cause = cause;
+  stops = subst (λ (f : FollowedForm). FollowsAudit f name (wider (min margin most_margin)) timing known old new (Err error)) is (subst (λ (w : Windows). FollowsAudit followed name w timing known old new (Err error)) e stops);
   handed = handed;
 }

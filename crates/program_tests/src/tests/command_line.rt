@@ -274,8 +274,9 @@ mon --follow --from pin --signal CEC
 mon --follow --from pin --glitch 50
 mon --follow --from pin --invert
 mon --follow --from edges --from-idle
-mon --follow --from edges --audit
-mon --follow --from edges --timing
+mon --follow --from edges --audit --from-start
+mon --follow --from edges --timing --glitch 50
+mon --follow --from edges --audit --strict
 mon --follow --from edges --json
 mon --follow --from edges --fold
 mon --follow --from edges --strict

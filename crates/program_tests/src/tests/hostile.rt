@@ -59,6 +59,7 @@ const WRITTEN: &[(&str, &str)] = &[
     ("lay", LAID),
     ("mon", EDGES),
     ("mon --follow --from edges", EDGES),
+    ("mon --follow --from edges --audit", EDGES),
     ("mon --follow --from csv --signal CEC", LEVELS),
     ("run --edges", POLL),
     ("run --strict", TELEVISION),

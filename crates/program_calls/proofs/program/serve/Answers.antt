@@ -25,5 +25,5 @@ returns-in-Follow g c done =
     let name = name_of (signal_in (map string_bytes c.args.words.now)) in
     let P : CommandChoice → Type 0 = λ x. IsServed known old new x name in
     subst P (sym c.in-Follow.is)
-    (followed c.in-Follow.form c.in-Follow.margin known old new name
-    (subst (λ (n : List ℕ). FollowsTo c.in-Follow.form n c.in-Follow.margin known old new) c.signal_of.ensures (c.serve_capture.ensures done)))
+    (followed c.in-Follow.form c.in-Follow.margin c.in-Follow.kind known old new name
+    (subst (λ (n : List ℕ). FollowsTo c.in-Follow.form n c.in-Follow.margin c.in-Follow.kind known old new) c.signal_of.ensures (c.serve_capture.ensures done)))

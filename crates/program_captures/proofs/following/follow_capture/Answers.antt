@@ -1,23 +1,31 @@
-use Rattle.std.proofs.Common.{◌≡◌, ap, subst, sym, ◌∙◌}
-use Rattle.line_reading.specs.Windows.{wider}
-use Rattle.follow_core.specs.Follow.{HasFollowed}
-use Rattle.follow_core.specs.declared.lines.LineForm.{LineForm as FollowedForm}
+use Rattle.std.proofs.Common.{IfErr, OnOk, subst, sym}
 use Rattle.std.specs.Io.KnownBytes.{append_known}
-use Rattle.program_captures.proofs.CaptureLemmas.{follows_to, stops_so}
+use Rattle.cli_words.specs.declared.choice.FollowReport.{FollowReport}
+use Rattle.program_captures.specs.Following.{FollowsTo, StopsAs}
 use Rattle.program_captures.proofs.following.follow_capture.Goals as goal
 
-pub returns-in-Ok-clause-done : goal.returns-in-Ok-clause-done
-returns-in-Ok-clause-done g c =
+pub returns-in-Readings-clause-done : goal.returns-in-Readings-clause-done
+returns-in-Readings-clause-done g c =
     let known = g.R.Read.remaining c.args.input.now in
     let old = append_known (g.W.Sink.contents c.args.out.now.sink) c.args.out.now.pending.items in
-    let new = c.follow.new.out in
-    follows_to c.args.form c.args.signal.now c.args.margin c.wider-windows.result known old (g.W.Sink.contents new.sink) new.pending.items (c.wider-windows.ensures.wider ∙ ap wider c.within_most.ensures.same) c.in-Ok.ensures.handed
-    (subst (λ (f : FollowedForm). HasFollowed f c.args.signal.now c.wider-windows.result known old (append_known (g.W.Sink.contents new.sink) new.pending.items)) c.form_followed.ensures c.in-Ok.ensures.follows)
+    subst (λ (r : FollowReport). OnOk c.follow_readings.result (FollowsTo c.args.form c.args.signal.now c.args.margin r known old (g.W.Sink.contents c.follow_readings.new.out.sink))) (sym c.in-Readings.is) c.follow_readings.ensures.done
 
-pub returns-in-Err-clause-stops : goal.returns-in-Err-clause-stops
-returns-in-Err-clause-stops g c =
+pub returns-in-Readings-clause-stops : goal.returns-in-Readings-clause-stops
+returns-in-Readings-clause-stops g c =
     let known = g.R.Read.remaining c.args.input.now in
     let old = append_known (g.W.Sink.contents c.args.out.now.sink) c.args.out.now.pending.items in
-    let new = append_known (g.W.Sink.contents c.follow.new.out.sink) c.follow.new.out.pending.items in
-    stops_so c.args.form c.args.signal.now c.args.margin c.form_followed.result c.wider-windows.result known old new c.args.out.now.pending.items c.follow.new.out.pending.items c.in-Err.error c.fault_of.result (c.wider-windows.ensures.wider ∙ ap wider c.within_most.ensures.same)
-    c.form_followed.ensures c.fault_of.ensures c.in-Err.ensures.follows c.in-Err.ensures.kept
+    let new = append_known (g.W.Sink.contents c.follow_readings.new.out.sink) c.follow_readings.new.out.pending.items in
+    subst (λ (r : FollowReport). IfErr c.follow_readings.result (StopsAs r c.args.form c.args.signal.now c.args.margin known old new c.args.out.now.pending.items c.follow_readings.new.out.pending.items)) (sym c.in-Readings.is) c.follow_readings.ensures.stops
+
+pub returns-in-Audit-clause-done : goal.returns-in-Audit-clause-done
+returns-in-Audit-clause-done g c =
+    let known = g.R.Read.remaining c.args.input.now in
+    let old = append_known (g.W.Sink.contents c.args.out.now.sink) c.args.out.now.pending.items in
+    subst (λ (r : FollowReport). OnOk c.follow_remarks.result (FollowsTo c.args.form c.args.signal.now c.args.margin r known old (g.W.Sink.contents c.follow_remarks.new.out.sink))) (sym c.in-Audit.is) c.follow_remarks.ensures.done
+
+pub returns-in-Audit-clause-stops : goal.returns-in-Audit-clause-stops
+returns-in-Audit-clause-stops g c =
+    let known = g.R.Read.remaining c.args.input.now in
+    let old = append_known (g.W.Sink.contents c.args.out.now.sink) c.args.out.now.pending.items in
+    let new = append_known (g.W.Sink.contents c.follow_remarks.new.out.sink) c.follow_remarks.new.out.pending.items in
+    subst (λ (r : FollowReport). IfErr c.follow_remarks.result (StopsAs r c.args.form c.args.signal.now c.args.margin known old new c.args.out.now.pending.items c.follow_remarks.new.out.pending.items)) (sym c.in-Audit.is) c.follow_remarks.ensures.stops
