@@ -27,12 +27,11 @@ pub fn input_of(choice: CommandChoice) -> Input {
         CommandChoice::Run { .. }
         | CommandChoice::Step
         | CommandChoice::Json(Objects::Trace { .. } | Objects::Room { .. }) => Input::Network,
-        CommandChoice::Live { .. } => Input::Session,
+        CommandChoice::Live { .. } | CommandChoice::Follow { .. } => Input::Session,
         CommandChoice::Asm
         | CommandChoice::Dis { .. }
         | CommandChoice::Lay
         | CommandChoice::Mon { .. }
-        | CommandChoice::Follow { .. }
         | CommandChoice::Json(Objects::Capture { .. }) => { Input::Lines }
         CommandChoice::Edid { source, .. } => match source {
             Source::Bytes | Source::Pair { dumps: false, .. } => Input::EdidBytes,

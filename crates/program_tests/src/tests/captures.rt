@@ -257,3 +257,55 @@ fn writes_the_line_for_other_tools(rt: HostRuntime) {
         );
     }
 }
+
+/// Captures that are read line by line, each after its form.
+const FOLLOWED: &str = "\
+edges => 21000 0;24700 1;25500 0;26100 1;40000 0;40300 1;60000 end;
+pin => # cec-ctl --store-pin;# version 1;# start_monotonic 7.000000000;7.021000000 0;7.024700000 1;7.025500000 0;7.026100000 1;7.040000000 1;
+csv => Time [s],CEC;0.000000000,1;0.021000000,0;0.024700000,1;0.025500000,0;0.026100000,1;0.060000000,0;
+";
+
+#[test]
+fn audits_captures_as_they_come(rt: HostRuntime) {
+    for case in FOLLOWED.lines() {
+        let (form, text) = two_parts(&rt, case);
+        let input = with_lines(&rt, text);
+        for flag in ["--audit", "--timing"] {
+            let line = format!(in rt.alloc(); "mon --from {form} {flag}").expect(&rt, "a line");
+            let audit = written(&rt, line.as_str(), input.as_str().as_bytes());
+            let line = format!(in rt.alloc(); "mon --follow --from {form} {flag}").expect(
+                &rt, "a line",
+            );
+            gives(
+                &rt,
+                line.as_str(),
+                form,
+                input.as_str().as_bytes(),
+                audit.as_str(),
+            );
+        }
+    }
+}
+
+/// With `--explain` a fault of a capture that is read as it comes is followed by what would be right, and no line is shown, since none
+/// is kept.
+#[test]
+fn a_capture_as_it_comes_is_explained(rt: HostRuntime) {
+    let reported = reported_of(
+        &rt,
+        "mon --follow --from edges --explain",
+        b"12000 0\nfrob\n".as_slice(),
+        None,
+    );
+    let fault =
+        b"hdminet: line 2: line\n  a line is `T 0` for a fall or `T 1` for a rise, and the last one `T end`, T decimal microseconds, 0 to 2000000000000\n";
+    ends(
+        &rt,
+        reported,
+        1,
+        b"",
+        fault,
+        "mon --follow --explain",
+        "what would be right",
+    );
+}
