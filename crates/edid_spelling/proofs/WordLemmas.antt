@@ -1,8 +1,8 @@
 -- What the words of a descriptor add to what was read, and bits of no words.
 use Rattle.std.proofs.Common.{◌≡◌, ℕ, ◌<◌, nat_le, false, List, [], ◌∷◌, ◌++◌, length, Ok, Err, refl, ◌∙◌, ap, cond, arith}
 use Rattle.std.proofs.lemmas.Bool.Decides.{nat_tests}
-use Rattle.edid_spelling.specs.Rows.{Row, bits_of}
-use Rattle.edid_spelling.specs.Audio.{descriptor_of, descriptors_of, first_of, onward, others_of, within, word_after}
+use Rattle.edid_spelling.specs.Rows.{Row, bits_of, first_of, others_of}
+use Rattle.edid_spelling.specs.Audio.{descriptor_of, descriptors_of, onward, within, word_after}
 
 -- no words are no bits
 pub bits_none : (rows : List Row) (number : ℕ) → Ok 0 ≡ bits_of rows number []

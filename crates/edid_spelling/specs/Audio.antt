@@ -115,12 +115,3 @@ descriptors_of before (f ∷ []) = within before (descriptor_of f [] [] []) (λ 
 descriptors_of before (f ∷ c ∷ []) = within before (descriptor_of f c [] []) (λ next. Ok next)
 descriptors_of before (f ∷ c ∷ r ∷ []) = within before (descriptor_of f c r []) (λ next. Ok next)
 descriptors_of before (f ∷ c ∷ r ∷ t ∷ more) = within before (descriptor_of f c r t) (λ next. descriptors_of next more)
-
--- the first word, where there is one, and the others
-abbrev pub first_of : List (List ℕ) → List ℕ
-first_of [] = []
-first_of (word ∷ words) = word
-
-abbrev pub others_of : List (List ℕ) → List (List ℕ)
-others_of [] = []
-others_of (word ∷ words) = words

@@ -45,3 +45,14 @@ bits_of [] number words = none_left number words
 bits_of (r ∷ rows) number [] = Ok 0
 bits_of (r ∷ rows) number (word ∷ words) =
     if bytes_eq word r.word then with_bit r.number (bits_of rows (number + 1) words) else bits_of rows number (word ∷ words)
+
+-- ---- words one by one
+
+-- the first word, where there is one, and the others
+abbrev pub first_of : List (List ℕ) → List ℕ
+first_of [] = []
+first_of (word ∷ words) = word
+
+abbrev pub others_of : List (List ℕ) → List (List ℕ)
+others_of [] = []
+others_of (word ∷ words) = words

@@ -4,9 +4,9 @@ ghost use Rattle.arrayvec.specs.ArrayVec.{array_vec_len};
 ghost use Rattle.std.specs.Option.{option_copied};
 ghost use Rattle.text_core.specs.Words.{words_after};
 ghost use Rattle.edid_spelling.specs.Rows.{bits_of, parts_of, stands_for};
-ghost use Rattle.edid_spelling.specs.Audio.{bit_rate_of, byte_of, channels_of, descriptor_bytes, descriptor_of, descriptors_of, first_byte, first_of, format_rows, others_of, rate_rows, set_of, size_rows, third_of};
+ghost use Rattle.edid_spelling.specs.Audio.{bit_rate_of, byte_of, channels_of, descriptor_bytes, descriptor_of, descriptors_of, first_byte, format_rows, rate_rows, set_of, size_rows, third_of};
 
-use crate::rows::{Named, bits_in, named_rows, stands_for};
+use crate::rows::{Named, bits_in, named_rows, next_word, stands_for};
 use arrayvec::ArrayVec;
 use edid_base::append;
 use text_core::{digit_value, first_word, is_hex_digit, number_in};
@@ -202,17 +202,6 @@ fn push_descriptor(payload: &mut ArrayVec<u8, 128>, descriptor: Descriptor)
         payload,
         &[descriptor.first, descriptor.rates, descriptor.third],
     );
-}
-
-// The next word, where one is left, and what stands after it.
-fn next_word(rest: Option<&[u8]>) -> (&[u8], Option<&[u8]>)
-    ensures word { result.0.now ≡ first_of (words_after (option_copied rest.entry)) }
-    ensures rest { words_after (option_copied result.1) ≡ others_of (words_after (option_copied rest.entry)) }
-{
-    match rest {
-        None => (&[], None),
-        Some(text) => first_word(text),
-    }
 }
 
 // The bytes of the words that are left, or the number of the word at fault.

@@ -2,21 +2,26 @@
 ghost use Rattle.std.specs.Prelude.{◌≡◌, ◌==◌, ◌++◌, ◌∷◌, [], codes, IfOk, OnOk};
 ghost use Rattle.std.specs.List.{before_first, list_all};
 ghost use Rattle.std.specs.Option.{option_copied};
-ghost use Rattle.text_core.specs.Phys.{is_hex_digit};
+ghost use Rattle.text_core.specs.Phys.{is_hex_digit, phys_of};
 ghost use Rattle.text_core.specs.Words.{words_after};
-ghost use Rattle.edid_spelling.specs.Canonical.{canonical_text, canonical_line, in_words, is_hex, said_after, with_bytes};
+ghost use Rattle.edid_spelling.specs.Canonical.{addressed, canonical_line, canonical_text, doubts, hdmi_line, in_words, is_hex, refused_line, said_after, timing_line, with_bytes, with_timing};
 ghost use Rattle.edid_text_lines.specs.declared.line.Keyword.{Keyword as WordValue};
 ghost use Rattle.edid_spelling.specs.Audio.{descriptors_of};
+ghost use Rattle.edid_spelling.specs.Hdmi.{hdmi_of};
 ghost use Rattle.edid_spelling.specs.Speakers.{speakers_of};
+ghost use Rattle.edid_spelling.specs.Timing.{timing_of};
 ghost use Rattle.edid_spelling.specs.Video.{codes_of};
 
 use crate::audio::descriptors_in;
+use crate::hdmi::hdmi_in;
+use crate::rows::next_word;
 use crate::speakers::speakers_in;
+use crate::timing::timing_in;
 use crate::video::codes_in;
 use arrayvec::ArrayVec;
 use edid_text_lines::{Fields, Keyword, Line};
 use std::alloc::{AllocError, Global};
-use text_core::{before, first_line, first_word, is_hex_digit, len_before};
+use text_core::{Phys, before, first_line, first_word, is_hex_digit, len_before};
 
 fn are_digits(word: &[u8]) -> bool
     ensures { result ≡ list_all is_hex_digit word.now }
@@ -67,6 +72,57 @@ fn audio_line(rest: Option<&[u8]>) -> Result<Line, usize>
     }
 }
 
+// The line of an HDMI block.
+fn addressed_line(address: &[u8], rest: Option<&[u8]>) -> Result<Line, usize>
+    ensures { result ≡ addressed (phys_of address.now) (hdmi_of (words_after (option_copied rest.entry))) }
+{
+    let Some(phys) = Phys::read(address) else {
+        return Err(1);
+    };
+    match hdmi_in(rest) {
+        Ok(bytes) => Ok(Line {
+            word: Keyword::Hdmi,
+            fields: Fields::Address(phys, bytes),
+        }),
+        Err(number) => Err(number),
+    }
+}
+
+fn hdmi_line(rest: Option<&[u8]>) -> Result<Line, usize>
+    ensures { result ≡ hdmi_line (words_after (option_copied rest.entry)) }
+{
+    let (address, more) = next_word(rest);
+    if is_hex(more) {
+        Err(0)
+    } else {
+        addressed_line(address, more)
+    }
+}
+
+// The line of a detailed timing.
+fn code_line(rest: Option<&[u8]>) -> Result<Line, usize>
+    ensures { result ≡ with_timing (timing_of (words_after (option_copied rest.entry))) }
+{
+    match timing_in(rest) {
+        Ok(timing) => Ok(Line {
+            word: Keyword::Timing,
+            fields: Fields::Timed(timing.numbers, timing.flags),
+        }),
+        Err(number) => Err(number),
+    }
+}
+
+fn timing_line(rest: Option<&[u8]>) -> Result<Line, usize>
+    ensures { result ≡ timing_line (words_after (option_copied rest.entry)) }
+{
+    let (word, more) = next_word(rest);
+    if word == b"vic".as_slice() {
+        code_line(more)
+    } else {
+        Err(0)
+    }
+}
+
 // The line of a speaker block.
 fn speaker_line(rest: Option<&[u8]>) -> Result<Line, usize>
     ensures { result ≡ with_bytes WordValue.Speakers (speakers_of (words_after (option_copied rest.entry))) }
@@ -89,6 +145,10 @@ fn said_after(keyword: &[u8], rest: Option<&[u8]>) -> Result<Line, usize>
         audio_line(rest)
     } else if keyword == b"speakers".as_slice() {
         speaker_line(rest)
+    } else if keyword == b"hdmi".as_slice() {
+        hdmi_line(rest)
+    } else if keyword == b"timing".as_slice() {
+        timing_line(rest)
     } else {
         Err(0)
     }
@@ -121,12 +181,26 @@ fn push_kept(text: &mut Vec<u8>, line: &[u8]) -> Result<(), AllocError>
     Ok(())
 }
 
-// A line of which no EDID's text has the field: the keyword and `?`.
-fn push_refused(text: &mut Vec<u8>, line: &[u8]) -> Result<(), AllocError>
-    ensures { OnOk result (text.new.items ≡ text.old.items ++ (before_first (λ b. b == 32) line.now ++ codes " ?\n")) }
+// So many `?` as a line has fields after its keyword.
+fn doubts(keyword: &[u8]) -> &'static [u8]
+    ensures { result.now ≡ doubts keyword.now }
 {
-    text.extend_from_slice(before(line, len_before(line, b' ')))?;
-    text.extend_from_slice(b" ?\n")
+    if keyword == b"hdmi".as_slice() {
+        b" ? ?\n"
+    } else if keyword == b"timing".as_slice() {
+        b" ? ? ? ? ? ? ? ? ? ? ? ? ? ?\n"
+    } else {
+        b" ?\n"
+    }
+}
+
+// A line of which no EDID's text has the fields: the keyword, and `?` for each of them.
+fn push_refused(text: &mut Vec<u8>, line: &[u8]) -> Result<(), AllocError>
+    ensures { OnOk result (text.new.items ≡ text.old.items ++ refused_line (before_first (λ b. b == 32) line.now)) }
+{
+    let keyword = before(line, len_before(line, b' '));
+    text.extend_from_slice(keyword)?;
+    text.extend_from_slice(doubts(keyword))
 }
 
 // A line with its payload in hex.
@@ -142,7 +216,7 @@ fn push_line(text: &mut Vec<u8>, line: &[u8]) -> Result<(), AllocError>
 }
 
 /// A text with the payloads in hex that stand in words. Other lines stay as they are, but one whose words are at fault is its
-/// keyword and `?`. Each line ends with a line feed, also the last where it lacks one.
+/// keyword and `?` for each of its fields. Each line ends with a line feed, also the last where it lacks one.
 ///
 /// # Errors
 ///

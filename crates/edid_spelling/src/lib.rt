@@ -4,8 +4,10 @@
 
 mod audio;
 mod canonical;
+mod hdmi;
 mod rows;
 mod speakers;
+mod timing;
 mod video;
 
 pub use canonical::{canonical_text, in_words};

@@ -1,9 +1,10 @@
 //! Words, what they stand for, and texts of several words.
 ghost use Rattle.std.specs.Prelude.{◌≡◌, ◌+◌, ◌<◌, ◌∷◌, length, map};
 ghost use Rattle.std.specs.Option.{option_copied};
-ghost use Rattle.edid_spelling.specs.Rows.{bits_of, stands_for, parts_after, parts_of, row_in_code};
+ghost use Rattle.text_core.specs.Words.{words_after};
+ghost use Rattle.edid_spelling.specs.Rows.{bits_of, first_of, others_of, parts_after, parts_of, row_in_code, stands_for};
 
-use text_core::{after, before, len_before};
+use text_core::{after, before, first_word, len_before};
 
 /// A word, and the number that it stands for.
 #[derive(Clone, Copy)]
@@ -23,6 +24,17 @@ macro_rules! named_rows {
 }
 
 pub(crate) use named_rows;
+
+// The next word, where one is left, and what stands after it.
+pub(crate) fn next_word(rest: Option<&[u8]>) -> (&[u8], Option<&[u8]>)
+    ensures word { result.0.now ≡ first_of (words_after (option_copied rest.entry)) }
+    ensures rest { words_after (option_copied result.1) ≡ others_of (words_after (option_copied rest.entry)) }
+{
+    match rest {
+        None => (&[], None),
+        Some(text) => first_word(text),
+    }
+}
 
 // What a word stands for.
 pub(crate) fn stands_for(rows: &[Named], word: &[u8]) -> Option<u32>

@@ -259,6 +259,9 @@ video 900403 => video 65* 4 => field 25
 video 900403 => video 16* 4 3 x => field 25
 audio 090707 => audio pcm 9 48 16 => field 26
 speakers 010000 => speakers LFE FL/FR => field 27
+hdmi 0.0.0.0 - => hdmi 0.0.0.0 tmds 301 => field 28
+hdmi 0.0.0.0 - => hdmi 0.0.0 ai => field 28
+timing 14850 1920 280 1080 45 88 44 4 5 520 290 0 0 1e => timing vic 60 => field 20
 made 10 2011 => made 10 2300 => field 5
 cta f1 => video 16* x => syntax 24
 tail -; =>  => syntax 29
