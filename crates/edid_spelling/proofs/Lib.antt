@@ -1,2 +1,4 @@
 pub mod Parts
 pub mod WordLemmas
+pub mod VideoLemmas
+pub mod AudioLemmas

@@ -1,8 +1,27 @@
 -- What the words of a descriptor add to what was read, and bits of no words.
-use Rattle.std.proofs.Common.{◌≡◌, ℕ, ◌<◌, nat_le, false, List, [], ◌∷◌, ◌++◌, length, Ok, Err, refl, ◌∙◌, ap, cond, arith}
+use Rattle.std.proofs.Common.{◌≡◌, ℕ, ◌+◌, ◌*◌, ◌/◌, ◌<◌, nat_le, false, List, [], ◌∷◌, ◌++◌, length, Result, Ok, Err, refl, ◌∙◌, ap, cond, arith}
 use Rattle.std.proofs.lemmas.Bool.Decides.{nat_tests}
 use Rattle.edid_spelling.specs.Rows.{Row, bits_of, first_of, others_of}
-use Rattle.edid_spelling.specs.Audio.{descriptor_of, descriptors_of, onward, within, word_after}
+use Rattle.edid_spelling.specs.Audio.{descriptor_of}
+
+-- the number of a descriptor's word in the line, after these bytes
+abbrev pub word_after : List ℕ → ℕ → ℕ
+word_after before word = length before / 3 * 4 + 1 + word
+
+abbrev pub onward : List ℕ → Result (List ℕ) ℕ → (List ℕ → Result (List ℕ) ℕ) → Result (List ℕ) ℕ
+onward before (Err word) on = Err (word_after before word)
+onward before (Ok bytes) on = on (before ++ bytes)
+
+abbrev pub within : List ℕ → Result (List ℕ) ℕ → (List ℕ → Result (List ℕ) ℕ) → Result (List ℕ) ℕ
+within before descriptor on = cond (nat_le 30 (length before)) (Err (word_after before 0)) (onward before descriptor on)
+
+-- the bytes of these words after those before
+abbrev pub descriptors_after : List ℕ → List (List ℕ) → Result (List ℕ) ℕ
+descriptors_after before [] = Ok before
+descriptors_after before (f ∷ []) = within before (descriptor_of f [] [] []) (λ next. Ok next)
+descriptors_after before (f ∷ c ∷ []) = within before (descriptor_of f c [] []) (λ next. Ok next)
+descriptors_after before (f ∷ c ∷ r ∷ []) = within before (descriptor_of f c r []) (λ next. Ok next)
+descriptors_after before (f ∷ c ∷ r ∷ t ∷ more) = within before (descriptor_of f c r t) (λ next. descriptors_after next more)
 
 -- no words are no bits
 pub bits_none : (rows : List Row) (number : ℕ) → Ok 0 ≡ bits_of rows number []
@@ -11,7 +30,7 @@ bits_none (r ∷ rows) number = refl
 
 -- four words, of which some may be missing
 four : (before f : List ℕ) (w : List (List ℕ))
-    → descriptors_of before (f ∷ w) ≡ within before (descriptor_of f (first_of w) (first_of (others_of w)) (first_of (others_of (others_of w)))) (λ next. descriptors_of next (others_of (others_of (others_of w))))
+    → descriptors_after before (f ∷ w) ≡ within before (descriptor_of f (first_of w) (first_of (others_of w)) (first_of (others_of (others_of w)))) (λ next. descriptors_after next (others_of (others_of (others_of w))))
 four before f [] = refl
 four before f (c ∷ []) = refl
 four before f (c ∷ r ∷ []) = refl
@@ -38,17 +57,17 @@ rest_same : (w1 w2 w3 w4 : List (List ℕ)) → w2 ≡ others_of w1 → w3 ≡ o
 rest_same w1 w2 w3 w4 e2 e3 e4 = rw (e4, e3, e2) refl
 
 pub four_read : (before : List ℕ) (words : List (List ℕ)) (f c r t : List ℕ) (rest : List (List ℕ)) → IsFour words f c r t rest
-    → descriptors_of before words ≡ within before (descriptor_of f c r t) (λ next. descriptors_of next rest)
+    → descriptors_after before words ≡ within before (descriptor_of f c r t) (λ next. descriptors_after next rest)
 four_read before words f c r t rest i =
-    ap (descriptors_of before) i.first
+    ap (descriptors_after before) i.first
     ∙ (four before f i.w1
-    ∙ (ap (λ d. within before d (λ next. descriptors_of next (others_of (others_of (others_of i.w1))))) (descriptor_same f c r t i.w1 i.w2 i.w3 i.second i.after_second i.third i.after_third i.fourth)
-    ∙ ap (λ w. within before (descriptor_of f c r t) (λ next. descriptors_of next w)) (rest_same i.w1 i.w2 i.w3 rest i.after_second i.after_third i.after_fourth)))
+    ∙ (ap (λ d. within before d (λ next. descriptors_after next (others_of (others_of (others_of i.w1))))) (descriptor_same f c r t i.w1 i.w2 i.w3 i.second i.after_second i.third i.after_third i.fourth)
+    ∙ ap (λ w. within before (descriptor_of f c r t) (λ next. descriptors_after next w)) (rest_same i.w1 i.w2 i.w3 rest i.after_second i.after_third i.after_fourth)))
 
 pub descriptor_read : (before bytes : List ℕ) (words : List (List ℕ)) (f c r t : List ℕ) (rest : List (List ℕ)) → IsFour words f c r t rest → length before < 30
-    → descriptor_of f c r t ≡ Ok bytes → descriptors_of before words ≡ descriptors_of (before ++ bytes) rest
+    → descriptor_of f c r t ≡ Ok bytes → descriptors_after before words ≡ descriptors_after (before ++ bytes) rest
 descriptor_read before bytes words f c r t rest i few d =
     let e : nat_le 30 (length before) ≡ false = grind (arith, nat_tests) in
     four_read before words f c r t rest i
-    ∙ (ap (λ v. cond v (Err (word_after before 0)) (onward before (descriptor_of f c r t) (λ next. descriptors_of next rest))) e
-    ∙ ap (λ o. onward before o (λ next. descriptors_of next rest)) d)
+    ∙ (ap (λ v. cond v (Err (word_after before 0)) (onward before (descriptor_of f c r t) (λ next. descriptors_after next rest))) e
+    ∙ ap (λ o. onward before o (λ next. descriptors_after next rest)) d)

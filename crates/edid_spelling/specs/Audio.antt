@@ -1,11 +1,12 @@
 -- An audio data block in words (CTA-861-G, section 7.5.2): four words a descriptor, for its format, channels, sampling rates in
 -- kHz, and the third byte.
-use Rattle.std.specs.Prelude.{ℕ, ◌+◌, ◌-◌, ◌*◌, ◌/◌, ◌%◌, ◌==◌, ◌&&◌, nat_le, if◌then◌else◌, List, [], ◌∷◌, ◌++◌, length, codes, Option, Some, None, Result, Ok, Err}
+use Rattle.std.specs.Prelude.{ℕ, ◌+◌, ◌-◌, ◌*◌, ◌/◌, ◌%◌, ◌==◌, ◌&&◌, nat_le, Bool, if◌then◌else◌, List, [], ◌∷◌, length, drop, flat_map, codes, Option, Some, None, Result, Ok, Err}
+use Rattle.std.specs.Result.{is_err}
 use Rattle.std.specs.Str.{bytes_eq}
 use Rattle.text_core.specs.Number.{number_of}
 use Rattle.text_core.specs.Phys.{digit_value, is_hex_digit}
 use Rattle.edid_spelling.specs.declared.audio.Descriptor.{Descriptor}
-use Rattle.edid_spelling.specs.Rows.{Row, row, stands_for, parts_of, bits_of}
+use Rattle.edid_spelling.specs.Rows.{Row, row, stands_for, parts_of, bits_of, fault_place}
 
 -- the format, which bits 6 to 3 of the first byte number
 unfoldable pub format_rows : List Row
@@ -97,21 +98,55 @@ descriptor_bytes d = d.first ∷ d.rates ∷ d.third ∷ []
 
 -- ---- a block of ten descriptors at most
 
--- the number of a descriptor's word in the line, after these bytes; the keyword has the number 0
-abbrev pub word_after : List ℕ → ℕ → ℕ
-word_after before word = length before / 3 * 4 + 1 + word
+-- the words of a descriptor
+pub record Four : Type 0 where
+  pub format : List ℕ
+  pub channels : List ℕ
+  pub rates : List ℕ
+  pub third : List ℕ
 
-abbrev pub onward : List ℕ → Result (List ℕ) ℕ → (List ℕ → Result (List ℕ) ℕ) → Result (List ℕ) ℕ
-onward before (Err word) on = Err (word_after before word)
-onward before (Ok bytes) on = on (before ++ bytes)
+abbrev pub four : List ℕ → List ℕ → List ℕ → List ℕ → Four
+four f c r t = record { format = f; channels = c; rates = r; third = t }
 
-abbrev pub within : List ℕ → Result (List ℕ) ℕ → (List ℕ → Result (List ℕ) ℕ) → Result (List ℕ) ℕ
-within before descriptor on = if nat_le 30 (length before) then Err (word_after before 0) else onward before descriptor on
+-- words by fours; those that are missing at the end are empty, and at fault
+abbrev pub in_fours : List (List ℕ) → List Four
+in_fours [] = []
+in_fours (f ∷ []) = four f [] [] [] ∷ []
+in_fours (f ∷ c ∷ []) = four f c [] [] ∷ []
+in_fours (f ∷ c ∷ r ∷ []) = four f c r [] ∷ []
+in_fours (f ∷ c ∷ r ∷ t ∷ more) = four f c r t ∷ in_fours more
 
--- The bytes of these words after those before, or the number of the word at fault. A word that is missing is at fault too.
-abbrev pub descriptors_of : List ℕ → List (List ℕ) → Result (List ℕ) ℕ
-descriptors_of before [] = Ok before
-descriptors_of before (f ∷ []) = within before (descriptor_of f [] [] []) (λ next. Ok next)
-descriptors_of before (f ∷ c ∷ []) = within before (descriptor_of f c [] []) (λ next. Ok next)
-descriptors_of before (f ∷ c ∷ r ∷ []) = within before (descriptor_of f c r []) (λ next. Ok next)
-descriptors_of before (f ∷ c ∷ r ∷ t ∷ more) = within before (descriptor_of f c r t) (λ next. descriptors_of next more)
+abbrev pub descriptor : Four → Result (List ℕ) ℕ
+descriptor d = descriptor_of d.format d.channels d.rates d.third
+
+-- what four words say: three bytes, or nothing, and then which of them is at fault
+abbrev pub bytes_said : Result (List ℕ) ℕ → List ℕ
+bytes_said (Ok bytes) = bytes
+bytes_said (Err word) = []
+
+abbrev pub word_at_fault : Result (List ℕ) ℕ → ℕ
+word_at_fault (Ok bytes) = 0
+word_at_fault (Err word) = word
+
+abbrev pub descriptor_said : Four → List ℕ
+descriptor_said d = bytes_said (descriptor d)
+
+abbrev pub says_no_descriptor : Four → Bool
+says_no_descriptor d = is_err (descriptor d)
+
+abbrev pub first_fault : List Four → ℕ
+first_fault [] = 0
+first_fault (d ∷ ds) = word_at_fault (descriptor d)
+
+-- the number of the word at fault of the descriptor at a place, of the eleventh the first word; the keyword has the number 0
+abbrev pub fault_number : ℕ → List Four → ℕ
+fault_number place ds = place * 4 + 1 + (if place == 10 then 0 else first_fault (drop place ds))
+
+abbrev pub block_of : List Four → Result (List ℕ) ℕ
+block_of ds =
+    if fault_place says_no_descriptor 10 ds == length ds then Ok (flat_map descriptor_said ds)
+    else Err (fault_number (fault_place says_no_descriptor 10 ds) ds)
+
+-- The bytes that the words say, or the number of the word at fault.
+abbrev pub descriptors_of : List (List ℕ) → Result (List ℕ) ℕ
+descriptors_of words = block_of (in_fours words)

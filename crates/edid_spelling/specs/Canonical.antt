@@ -49,8 +49,8 @@ timing_line words = if bytes_eq (first_of words) (codes "vic") then with_timing 
 -- what words say after a keyword, or the number of the one at fault; 0 where no words go with the keyword
 abbrev pub said_after : List ℕ → List (List ℕ) → Result Line ℕ
 said_after keyword words =
-    if bytes_eq keyword (codes "video") then with_bytes Video (codes_of [] words)
-    else if bytes_eq keyword (codes "audio") then with_bytes Audio (descriptors_of [] words)
+    if bytes_eq keyword (codes "video") then with_bytes Video (codes_of words)
+    else if bytes_eq keyword (codes "audio") then with_bytes Audio (descriptors_of words)
     else if bytes_eq keyword (codes "speakers") then with_bytes Speakers (speakers_of words)
     else if bytes_eq keyword (codes "hdmi") then hdmi_line words
     else if bytes_eq keyword (codes "timing") then timing_line words

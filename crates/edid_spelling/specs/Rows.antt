@@ -1,6 +1,6 @@
 -- Words, what they stand for, and texts of several words (own).
-use Rattle.std.specs.Prelude.{ℕ, ◌+◌, ◌==◌, bit_or, if◌then◌else◌, List, [], ◌∷◌, Option, Some, None, Result, Ok, Err}
-use Rattle.std.specs.List.{slice_split}
+use Rattle.std.specs.Prelude.{ℕ, ◌+◌, ◌==◌, bit_or, Bool, if◌then◌else◌, List, [], ◌∷◌, take, Option, Some, None, Result, Ok, Err}
+use Rattle.std.specs.List.{position_or_len, slice_split}
 use Rattle.std.specs.Str.{bytes_eq}
 use Rattle.edid_spelling.specs.declared.rows.Named.{Named}
 
@@ -56,3 +56,9 @@ first_of (word ∷ words) = word
 abbrev pub others_of : List (List ℕ) → List (List ℕ)
 others_of [] = []
 others_of (word ∷ words) = words
+
+-- ---- what each word says, or each group of words
+
+-- The place, from 0, of the first that says nothing among so many, or of the one after them; where there is none, how many there are.
+abbrev pub fault_place : {A : Type 0} → (A → Bool) → ℕ → List A → ℕ
+fault_place says_nothing most items = position_or_len says_nothing (take most items)

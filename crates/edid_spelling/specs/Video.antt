@@ -1,6 +1,8 @@
 -- A video data block in words (CTA-861-G, section 7.5.1): its codes in decimal, with `*` after those that are native.
-use Rattle.std.specs.Prelude.{ℕ, ◌+◌, ◌-◌, ◌==◌, ◌&&◌, ◌||◌, nat_le, Bool, if◌then◌else◌, List, [], ◌∷◌, ◌++◌, length, take, slice_index, Option, Some, None, Result, Ok, Err}
+use Rattle.std.specs.Prelude.{ℕ, ◌+◌, ◌-◌, ◌==◌, ◌&&◌, ◌||◌, nat_le, Bool, if◌then◌else◌, List, length, take, flat_map, slice_index, Option, Some, None, Result, Ok, Err}
+use Rattle.std.specs.Option.{is_none, option_to_list}
 use Rattle.text_core.specs.Number.{number_of}
+use Rattle.edid_spelling.specs.Rows.{fault_place}
 
 -- codes 1 to 64 may be native, which bit 7 of the byte says
 abbrev pub native_of : Option ℕ → Option ℕ
@@ -20,12 +22,15 @@ is_marked word = slice_index word (length word - 1) == 42
 abbrev pub code_of : List ℕ → Option ℕ
 code_of word = if is_marked word then native_of (number_of (take (length word - 1) word)) else plain_of (number_of word)
 
-abbrev pub with_code : List ℕ → Option ℕ → (List ℕ → Result (List ℕ) ℕ) → Result (List ℕ) ℕ
-with_code before None on = Err (length before + 1)
-with_code before (Some code) on = on (before ++ code ∷ [])
+-- what a word says: a byte, or nothing
+abbrev pub code_said : List ℕ → List ℕ
+code_said word = option_to_list (code_of word)
 
--- The bytes of these words after those before, 31 at most, or the number of the word at fault. The keyword has the number 0.
-abbrev pub codes_of : List ℕ → List (List ℕ) → Result (List ℕ) ℕ
-codes_of before [] = Ok before
-codes_of before (word ∷ words) =
-    if nat_le 31 (length before) then Err (length before + 1) else with_code before (code_of word) (λ next. codes_of next words)
+abbrev pub says_no_code : List ℕ → Bool
+says_no_code word = is_none (code_of word)
+
+-- The bytes that the words say, 31 at most, or the number of the word at fault: the first that says none, or the 32nd. The keyword
+-- has the number 0.
+abbrev pub codes_of : List (List ℕ) → Result (List ℕ) ℕ
+codes_of words =
+    if fault_place says_no_code 31 words == length words then Ok (flat_map code_said words) else Err (fault_place says_no_code 31 words + 1)

@@ -205,8 +205,9 @@ fn push_descriptor(payload: &mut ArrayVec<u8, 128>, descriptor: Descriptor)
 }
 
 // The bytes of the words that are left, or the number of the word at fault.
+#[tactic(auto, using(crate::proofs::AudioLemmas::all_descriptors))]
 pub(crate) fn descriptors_in(given: Option<&[u8]>) -> Result<ArrayVec<u8, 128>, usize>
-    ensures { MatchResult result (λ p. descriptors_of [] (words_after (option_copied given.entry)) ≡ Ok p.items) (λ k. descriptors_of [] (words_after (option_copied given.entry)) ≡ Err k) }
+    ensures { MatchResult result (λ p. descriptors_of (words_after (option_copied given.entry)) ≡ Ok p.items) (λ k. descriptors_of (words_after (option_copied given.entry)) ≡ Err k) }
 {
     let mut payload = ArrayVec::new();
     let mut rest = given;

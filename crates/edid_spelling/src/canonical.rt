@@ -48,7 +48,7 @@ fn is_hex(rest: Option<&[u8]>) -> bool
 
 // The line of a video block.
 fn video_line(rest: Option<&[u8]>) -> Result<Line, usize>
-    ensures { result ≡ with_bytes WordValue.Video (codes_of [] (words_after (option_copied rest.entry))) }
+    ensures { result ≡ with_bytes WordValue.Video (codes_of (words_after (option_copied rest.entry))) }
 {
     match codes_in(rest) {
         Ok(bytes) => Ok(Line {
@@ -61,7 +61,7 @@ fn video_line(rest: Option<&[u8]>) -> Result<Line, usize>
 
 // The line of an audio block.
 fn audio_line(rest: Option<&[u8]>) -> Result<Line, usize>
-    ensures { result ≡ with_bytes WordValue.Audio (descriptors_of [] (words_after (option_copied rest.entry))) }
+    ensures { result ≡ with_bytes WordValue.Audio (descriptors_of (words_after (option_copied rest.entry))) }
 {
     match descriptors_in(rest) {
         Ok(bytes) => Ok(Line {

@@ -48,8 +48,9 @@ fn code_of(word: &[u8]) -> Option<u8>
 }
 
 // The bytes of the words that are left, or the number of the word at fault.
+#[tactic(auto, using(crate::proofs::VideoLemmas::all_words))]
 pub(crate) fn codes_in(given: Option<&[u8]>) -> Result<ArrayVec<u8, 128>, usize>
-    ensures { MatchResult result (λ p. codes_of [] (words_after (option_copied given.entry)) ≡ Ok p.items) (λ k. codes_of [] (words_after (option_copied given.entry)) ≡ Err k) }
+    ensures { MatchResult result (λ p. codes_of (words_after (option_copied given.entry)) ≡ Ok p.items) (λ k. codes_of (words_after (option_copied given.entry)) ≡ Err k) }
 {
     let mut payload = ArrayVec::new();
     let mut rest = given;

@@ -1,0 +1,4 @@
+pub mod VideoBack
+pub mod AudioBack
+pub mod Weights
+pub mod HdmiBack
