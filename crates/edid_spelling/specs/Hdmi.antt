@@ -42,7 +42,7 @@ hdmi_rows =
     hdmi_row (codes "game-content") (Flag Game) ∷
     hdmi_row (codes "latency") Latency ∷
     hdmi_row (codes "interlaced-latency") InterlacedLatency ∷
-    hdmi_row (codes "3d") (Flag Stereo) ∷
+    hdmi_row (codes "3d-present") (Flag Stereo) ∷
     hdmi_row (codes "vic-1") (Flag Format1) ∷
     hdmi_row (codes "vic-2") (Flag Format2) ∷
     hdmi_row (codes "vic-3") (Flag Format3) ∷

@@ -123,7 +123,7 @@ const WORDS: &[HdmiRow] = hdmi_rows! {
     "game-content" Says::Flag(Flag::Game);
     "latency" Says::Latency;
     "interlaced-latency" Says::InterlacedLatency;
-    "3d" Says::Flag(Flag::Stereo);
+    "3d-present" Says::Flag(Flag::Stereo);
     "vic-1" Says::Flag(Flag::Format1);
     "vic-2" Says::Flag(Flag::Format2);
     "vic-3" Says::Flag(Flag::Format3);

@@ -1,3 +1,4 @@
+pub mod Plain
 pub mod VideoBack
 pub mod AudioBack
 pub mod Weights

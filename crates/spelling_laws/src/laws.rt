@@ -1,15 +1,24 @@
 //! The laws.
-ghost use Rattle.std.specs.Prelude.{◌≡◌, ℕ, ◌∷◌, [], List, Some, Ok};
+ghost use Rattle.std.specs.Prelude.{◌≡◌, ℕ, ◌∷◌, [], not, true, List, Some, Ok};
+ghost use Rattle.std.specs.List.{list_all};
 ghost use Rattle.text_core.specs.Number.{number_of};
 ghost use Rattle.edid_layout.specs.HdmiBlock.{hdmi_block, video_bytes};
 ghost use Rattle.edid_spelling.specs.Audio.{descriptor_of, format_rows, rate_rows, set_of, third_of};
-ghost use Rattle.edid_spelling.specs.Hdmi.{formats_of, hdmi_bytes};
+ghost use Rattle.edid_spelling.specs.Canonical.{is_hex};
+ghost use Rattle.edid_spelling.specs.Hdmi.{formats_of, hdmi_bytes, hdmi_rows};
 ghost use Rattle.edid_spelling.specs.Rows.{stands_for};
+ghost use Rattle.edid_spelling.specs.Speakers.{speaker_rows};
 ghost use Rattle.edid_spelling.specs.Video.{code_of as word_code, is_marked};
 ghost use Rattle.edid_spelling.specs.declared.hdmi.Said.{Said as SaidValue};
 ghost use Rattle.meaning_cta.specs.Audio.{channel_count, format_number};
 ghost use Rattle.meaning_words.specs.Videos.{code_of, is_native};
 ghost use Rattle.spelling_laws.specs.Named.{digits_of, named_block, named_codes};
+
+/// No word of an HDMI block or of speakers is hex where it stands alone, so that a line of it is read as words.
+pub fn no_word_is_hex()
+    ensures hdmi { list_all (λ r. not (is_hex (r.word ∷ []))) hdmi_rows ≡ true }
+    ensures speakers { list_all (λ r. not (is_hex (r.word ∷ []))) speaker_rows ≡ true }
+{}
 
 /// Of the byte of a word of a video line the word's code is read, as native where `*` ends the word (CTA-861-G, section 7.5.1).
 pub fn video_words_are_read_back()

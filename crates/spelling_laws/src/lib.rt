@@ -4,6 +4,6 @@
 mod laws;
 
 pub use laws::{
-    audio_words_are_read_back, hdmi_codes_are_read_back, hdmi_words_are_read_back,
+    audio_words_are_read_back, hdmi_codes_are_read_back, hdmi_words_are_read_back, no_word_is_hex,
     video_words_are_read_back,
 };
