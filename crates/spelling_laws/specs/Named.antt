@@ -1,10 +1,12 @@
 -- What the words of payloads name, as the bytes are read (own).
-use Rattle.std.specs.Prelude.{ℕ, ◌+◌, ◌-◌, Bool, if◌then◌else◌, List, [], length, take, Option, Some, None}
+use Rattle.std.specs.Prelude.{ℕ, ◌+◌, ◌-◌, ◌==◌, Bool, if◌then◌else◌, List, [], ◌∷◌, length, take, Option, Some, None}
+use Rattle.std.specs.Int.{bit_at}
 use Rattle.edid_layout.specs.HdmiBlock.{delay_of, listed_codes}
 use Rattle.edid_layout.specs.declared.hdmi_block.HdmiBlock.{HdmiBlock}
 use Rattle.edid_layout.specs.declared.hdmi_block.HdmiVideo.{HdmiVideo}
 use Rattle.edid_layout.specs.declared.hdmi_block.Latencies.{Latencies}
 use Rattle.edid_spelling.specs.Hdmi.{contents, format_count, has_video, weight}
+use Rattle.edid_spelling.specs.Rows.{Row}
 use Rattle.edid_spelling.specs.Video.{is_marked}
 use Rattle.edid_spelling.specs.declared.hdmi.Delays.{Delays}
 use Rattle.edid_spelling.specs.declared.hdmi.Said.{Said}
@@ -41,3 +43,10 @@ named_block s = record {
 -- HDMI's own codes, of the bytes from the video formats on
 abbrev pub named_codes : Said → List ℕ → List ℕ
 named_codes s bytes = if has_video s then listed_codes (video_named s.stereo (format_count s)) bytes else []
+
+-- ---- speakers
+
+-- the words of the rows whose bits are set, from the row of this bit on
+abbrev pub words_set : ℕ → List Row → ℕ → List (List ℕ)
+words_set place [] bits = []
+words_set place (r ∷ rows) bits = if bit_at bits place == 1 then r.word ∷ words_set (place + 1) rows bits else words_set (place + 1) rows bits

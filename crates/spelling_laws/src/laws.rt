@@ -7,12 +7,13 @@ ghost use Rattle.edid_spelling.specs.Audio.{descriptor_of, format_rows, rate_row
 ghost use Rattle.edid_spelling.specs.Canonical.{is_hex};
 ghost use Rattle.edid_spelling.specs.Hdmi.{formats_of, hdmi_bytes, hdmi_rows};
 ghost use Rattle.edid_spelling.specs.Rows.{stands_for};
-ghost use Rattle.edid_spelling.specs.Speakers.{speaker_rows};
+ghost use Rattle.edid_spelling.specs.Speakers.{speaker_rows, speakers_of};
 ghost use Rattle.edid_spelling.specs.Video.{code_of as word_code, is_marked};
 ghost use Rattle.edid_spelling.specs.declared.hdmi.Said.{Said as SaidValue};
 ghost use Rattle.meaning_cta.specs.Audio.{channel_count, format_number};
+ghost use Rattle.meaning_cta.specs.Speakers.{speaker_bits};
 ghost use Rattle.meaning_words.specs.Videos.{code_of, is_native};
-ghost use Rattle.spelling_laws.specs.Named.{digits_of, named_block, named_codes};
+ghost use Rattle.spelling_laws.specs.Named.{digits_of, named_block, named_codes, words_set};
 
 /// No word of an HDMI block or of speakers is hex where it stands alone, so that a line of it is read as words.
 pub fn no_word_is_hex()
@@ -33,6 +34,11 @@ pub fn audio_words_are_read_back()
     ensures channels { (f c r t : List ℕ) (first rates third : ℕ) → descriptor_of f c r t ≡ Ok (first ∷ rates ∷ third ∷ []) → number_of c ≡ Some (channel_count first rates third) }
     ensures rates { (f c r t : List ℕ) (first rates third : ℕ) → descriptor_of f c r t ≡ Ok (first ∷ rates ∷ third ∷ []) → set_of rate_rows r ≡ Some rates }
     ensures third { (f c r t : List ℕ) (first rates third : ℕ) → descriptor_of f c r t ≡ Ok (first ∷ rates ∷ third ∷ []) → third_of (format_number first) t ≡ Some third }
+{}
+
+/// The words of a speaker line are those of the bits that are set in its bytes, in the order of the bits (CTA-861-G, section 7.5.3).
+pub fn speakers_words_are_read_back()
+    ensures { (words : List (List ℕ)) (bytes : List ℕ) → speakers_of words ≡ Ok bytes → words ≡ words_set 0 speaker_rows (speaker_bits bytes) }
 {}
 
 /// Of the bytes that the words of an HDMI block stand for what they say is read (HDMI 1.4, section 8.3.2).

@@ -5,5 +5,5 @@ mod laws;
 
 pub use laws::{
     audio_words_are_read_back, hdmi_codes_are_read_back, hdmi_words_are_read_back, no_word_is_hex,
-    video_words_are_read_back,
+    speakers_words_are_read_back, video_words_are_read_back,
 };
