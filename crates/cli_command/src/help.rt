@@ -679,10 +679,16 @@ To see an EDID, and to make the bytes again:
   ./hdminet edid < tv.edid > tv.txt
   ./hdminet edid --text --raw < tv.txt > tv.edid
 
-With --words it is a text in which these lines may have words in place of hex, which they stand for:
+With --words it is a text in which these lines may have words in place of hex or numbers, which they stand for:
   video 16* 4 3                        video codes, `*` after a native one
   audio pcm 2 32,44.1,48 16,20,24      format, channels, kHz, and sizes, kbit/s, or a byte in hex
   speakers FL/FR LFE FC                in this order
+  hdmi 1.0.0.0 ai 36-bit tmds 300 latency 20 8
+                                       in this order: ai 30-bit 36-bit 48-bit y444 dvi-dual, MHz,
+                                       graphics-content photo-content cinema-content game-content,
+                                       latency and interlaced-latency of video and sound in ms,
+                                       3d-present vic-1 vic-2 vic-3 vic-4
+  timing vic 16 520 290                a video code, and perhaps the image's sides in mm
 One word of hex digits, two for each byte, is hex: `video 16` is code 22. The same text, in hex:
   ./hdminet edid --words --raw < tv.txt | ./hdminet edid
 

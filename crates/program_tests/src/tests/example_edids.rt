@@ -194,6 +194,44 @@ extended 00cf
 tail -
 ";
 
+const LG_OLED55B6V_WORDS: &str = "\
+edid 1.3
+maker GSM
+product 1
+serial 16843009
+made 1 2016
+input 80
+size 160 90
+gamma 120
+features 0a
+chroma 655 338 307 614 154 61 320 337
+established a10800
+standard 640 1 60
+standard 800 1 60
+standard 1024 1 60
+standard 1152 1 60
+standard 1280 2 60
+standard unused
+standard unused
+standard unused
+timing vic 97 1600 900
+timing vic 16 1600 900
+range 003a3e1e883c000a202020202020
+name \"LG TV\"
+cta f1
+video 97 96 16 31 4 19 5 20 3 2 18 32 33 34 21 1 93 94 95 101 102 98 99 100
+audio dts 6 44.1,48 1536 ac-3 6 32,44.1,48 640 pcm 2 32,44.1,48,96,192 16,20,24
+hdmi 1.0.0.0 ai 30-bit 36-bit y444 tmds 300 vic-1 vic-2 vic-3 vic-4
+vendor d85dc401788003
+extended 00cf
+extended 05c000
+extended 060d01
+extended 0f030018
+extended 0146d00024180900ad5244a9230c
+timing 8550 1360 432 768 27 64 112 3 6 1600 900 0 0 1e
+tail -
+";
+
 const LIVING_ROOM_WORDS: &str = "\
 edid 1.3
 maker SAM
@@ -483,6 +521,12 @@ const TEXTS: &[Case<'static>] = &[
         line: "edid --text",
         input: OVERSCAN_EDID_TXT,
         want: OVERSCAN_EDID,
+    },
+    Case {
+        name: "lg-oled55b6v in words",
+        line: "edid --words",
+        input: LG_OLED55B6V_WORDS,
+        want: LG_OLED55B6V_EDID,
     },
     Case {
         name: "living-room in words",
