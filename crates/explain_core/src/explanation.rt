@@ -202,7 +202,7 @@ fn add_input_hints(draft: &mut Draft, what: Input, fault: InputFault, input: &[u
         _ if is_of_program(fault) => {}
         Input::Session => {}
         Input::EdidBytes => add_edid_hints(draft, fault, input),
-        Input::EdidText => {
+        Input::EdidText | Input::EdidWords => {
             add_hints(draft, of_text(input).as_slice());
             add_hints(draft, of_edid_text(input).as_slice());
         }

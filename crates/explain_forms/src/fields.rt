@@ -48,12 +48,46 @@ const FIELDS: &[(&str, &str)] = &[
     ),
 ];
 
-/// What the fields of a line are that begins with a word.
-pub fn fields_of(word: &str) -> Option<&'static str> {
-    for (known, fields) in FIELDS {
+/// What the words of lines are, by the word that each begins with.
+const IN_WORDS: &[(&str, &str)] = &[
+    (
+        "video",
+        "in words there are at most 31 codes, 0 to 128 or 193 to 255, with `*` after a native one of 1 to 64",
+    ),
+    (
+        "audio",
+        "in words there are four a format, ten formats at most, as `pcm 2 32,44.1,48 16,20,24`: pcm, ac-3, mpeg-1, mp3, mpeg-2, aac-lc, dts, atrac, one-bit-audio, enhanced-ac-3, dts-hd, mat, dst or wma-pro; 1 to 8 channels; of 32,44.1,48,88.2,96,176.4,192 kHz some in this order, or `-`; of pcm sizes, of 16,20,24 some or `-`, of the seven after it kbit/s, up to 2040 in steps of 8, of the others a byte, two hex digits",
+    ),
+    (
+        "speakers",
+        "in words there are some of these, in this order: FL/FR LFE FC BL/BR BC FLc/FRc RLC/RRC FLw/FRw TpFL/TpFR TpC TpFC LS/RS LFE2 TpBC SiL/SiR TpSiL/TpSiR TpBL/TpBR BtFC BtFL/BtFR TpLS/TpRS LSd/RSd",
+    ),
+    (
+        "hdmi",
+        "in words some of these stand after PA, in this order: ai 30-bit 36-bit 48-bit y444 dvi-dual, `tmds N` with MHz of 5 to 1275 in steps of 5, graphics-content photo-content cinema-content game-content, `latency V A` and `interlaced-latency V A` with even ms up to 500, `unknown` or `none`, 3d-present vic-1 vic-2 vic-3 vic-4",
+    ),
+    (
+        "timing",
+        "`timing vic N`, and after it perhaps the image's sides in mm, 0 to 4095: N is 2 to 7, 16 to 22, 31 to 34, 40, 41, 46, 47, 63, 64, 95 or 97",
+    ),
+];
+
+// What a table has of a word.
+fn row_of(rows: &[(&str, &'static str)], word: &str) -> Option<&'static str> {
+    for (known, text) in rows {
         if *known == word {
-            return Some(*fields);
+            return Some(*text);
         }
     }
     None
+}
+
+/// What the fields of a line are that begins with a word.
+pub fn fields_of(word: &str) -> Option<&'static str> {
+    row_of(FIELDS, word)
+}
+
+/// What the words of a line are that begins with a word, where its payload may stand in words.
+pub fn words_of(word: &str) -> Option<&'static str> {
+    row_of(IN_WORDS, word)
 }

@@ -1,9 +1,9 @@
 //! What a line at fault would have to look like.
-use crate::fields::fields_of;
+use crate::fields::{fields_of, words_of};
 use crate::frames::add_frame;
 use crate::keys::{add_key, is_of_key};
 use crate::order::add_order;
-use crate::room::{add_field_count, add_lack_of_room};
+use crate::room::{add_field_count, add_lack_of_room, is_hex_alone};
 use expect_text::ExpectCause;
 use explain_lists::{Draft, word_at, word_count};
 use explain_marks::{
@@ -219,14 +219,35 @@ fn add_expectation(
     false
 }
 
+// Whether the payload of a line stands in words: it is not one word of hex digits, two a byte.
+fn stands_in_words(word: &str, line: &str) -> bool {
+    match word {
+        "timing" => is_word(line, 1, "vic"),
+        "hdmi" => !is_hex_alone(line, 2),
+        _ => !is_hex_alone(line, 1),
+    }
+}
+
+// What the fields or the words of a line are that begins with a word.
+fn fields_in(what: Input, word: &str, line: &str) -> Option<&'static str> {
+    match words_of(word) {
+        Some(words) if what == Input::EdidWords && stands_in_words(word, line) => Some(words),
+        _ => fields_of(word),
+    }
+}
+
 // What the fields of a line of an EDID's text are, or that its extension has no room for it. Returns whether more would be of no
 // use.
+<<<<<<< HEAD
 fn add_fields(draft: &mut Draft, place: InputLine<'_>, line: &str) -> bool {
+=======
+fn add_fields(draft: &mut Draft, what: Input, place: Place<'_>, line: &str) -> bool {
+>>>>>>> f6d2fd50 (edid --words --explain: of a line in words it says what words the line takes)
     if add_lack_of_room(draft, place) {
         return true;
     }
     if let Some(word) = word_at(line, 0) {
-        if let Some(fields) = fields_of(word) {
+        if let Some(fields) = fields_in(what, word, line) {
             draft.add_line(fields);
         }
     }
@@ -262,6 +283,7 @@ pub fn add_right_forms(
             cause: LayCause::Word | LayCause::Number,
             ..
         } => add_forms(draft, LAID, line),
+<<<<<<< HEAD
         InputFault::TextField { .. } => return add_fields(draft, place, line),
         InputFault::TextSyntax { .. } => return add_field_count(draft, line),
         InputFault::Past { .. }
@@ -283,6 +305,29 @@ pub fn add_right_forms(
         | InputFault::Write
         | InputFault::Memory
         | InputFault::NotUtf8 => {}
+=======
+        Fault::TextField { .. } => return add_fields(draft, what, place, line),
+        Fault::TextSyntax { .. } => return add_field_count(draft, line),
+        Fault::Past { .. }
+        | Fault::Range { .. }
+        | Fault::Hex { .. }
+        | Fault::Lay { .. }
+        | Fault::Capture { .. }
+        | Fault::Edid(_)
+        | Fault::NoHdmiBlock
+        | Fault::NoPort
+        | Fault::Dump(_)
+        | Fault::NoScriptLine
+        | Fault::NoStepsLine
+        | Fault::NoCaptureLine
+        | Fault::NoRange
+        | Fault::InputTooLong
+        | Fault::LineTooLong
+        | Fault::Read
+        | Fault::Write
+        | Fault::Memory
+        | Fault::NotUtf8 => {}
+>>>>>>> f6d2fd50 (edid --words --explain: of a line in words it says what words the line takes)
     }
     false
 }

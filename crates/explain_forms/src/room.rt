@@ -1,7 +1,12 @@
 //! The lines of an EDID's text: how many fields they have, and the room that they take in an extension.
 use edid_text_lines::{Form, word_of};
+<<<<<<< HEAD
 use explain_lists::{Draft, word_at};
 use explain_marks::{InputLine, is_line_end};
+=======
+use explain_lists::Draft;
+use explain_marks::{Place, is_line_end, word_at, word_count};
+>>>>>>> f6d2fd50 (edid --words --explain: of a line in words it says what words the line takes)
 use text_core::spaces_unquoted;
 
 /// The bytes of an extension for its data blocks and timings: 127, without the first four.
@@ -28,6 +33,11 @@ fn bytes_of(word: Option<&str>) -> Option<usize> {
     } else {
         None
     }
+}
+
+/// Whether the word of this number is hex, two digits a byte or `-`, and the last of a line.
+pub fn is_hex_alone(line: &str, number: usize) -> bool {
+    bytes_of(word_at(line, number)).is_some() && word_count(line) == number.saturating_add(1)
 }
 
 // The bytes that a line stands for in an extension.

@@ -25,6 +25,8 @@ pub enum Input {
     EdidBytes,
     /// The text of an EDID.
     EdidText,
+    /// The same, in which payloads may stand in words.
+    EdidWords,
 }
 
 /// What is wrong with a range of instants.

@@ -36,7 +36,8 @@ pub fn input_of(choice: CommandChoice) -> Input {
         CommandChoice::Edid { source, .. } => match source {
             Source::Bytes | Source::Pair { dumps: false, .. } => Input::EdidBytes,
             Source::Dump { .. } | Source::Pair { dumps: true, .. } => Input::Lines,
-            Source::Text | Source::Words => Input::EdidText,
+            Source::Text => Input::EdidText,
+            Source::Words => Input::EdidWords,
         },
     }
 }

@@ -105,17 +105,34 @@ size 52 29 => size 52 29 0 => a `size` line has two fields; this one has 3
 gamma 120 => gamma => a `gamma` line has one field; this one has 0
 ";
 
-#[test]
-fn explanations_name_the_ranges_of_fields(rt: HostRuntime) {
-    for row in FIELDS.lines() {
-        let (line, other, part) = row_of(&rt, row);
-        let line = line.replace(rt.alloc(), ";", "\n").expect(&rt, "a part");
-        let other = other.replace(rt.alloc(), ";", "\n").expect(&rt, "a part");
+/// The same where payloads may stand in words: of a line in words it is said which there are, of hex what its bytes are.
+const IN_WORDS: &str = "\
+video 900403 => video 65* 4 => in words there are at most 31 codes, 0 to 128 or 193 to 255, with `*` after a native one of 1 to 64
+video 900403 => audio pcm 9 48 16 => of 32,44.1,48,88.2,96,176.4,192 kHz some in this order, or `-`;
+video 900403 => speakers LFE FL/FR => in words there are some of these, in this order: FL/FR LFE FC BL/BR
+hdmi 0.0.0.0 - => hdmi 0.0.0.0 tmds 302 => `tmds N` with MHz of 5 to 1275 in steps of 5, graphics-content
+timing 14850 1920 280 1080 45 88 44 4 5 520 290 0 0 1e => timing vic 60 => `timing vic N`, and after it perhaps the image's sides in mm, 0 to 4095: N is 2 to 7,
+video 900403 => video 0102030405060708010203040506070801020304050607080102030405060708 => a data block has at most 31 bytes,
+timing 14850 => timing 65536 => the clock is 1 to 65535, in 10 kHz;
+";
+
+/// Of each row the text of an EDID with the other line is explained so.
+fn says_of_rows(rt: &(impl Abort + AllocGlobal), command: &str, rows: &str) {
+    for row in rows.lines() {
+        let (line, other, part) = row_of(rt, row);
+        let line = line.replace(rt.alloc(), ";", "\n").expect(rt, "a part");
+        let other = other.replace(rt.alloc(), ";", "\n").expect(rt, "a part");
         let input = TELEVISION
             .replace(rt.alloc(), line.as_str(), other.as_str())
-            .expect(&rt, "a text");
-        says(&rt, "edid --text", input.as_bytes(), part);
+            .expect(rt, "a text");
+        says(rt, command, input.as_bytes(), part);
     }
+}
+
+#[test]
+fn explanations_name_the_ranges_of_fields(rt: HostRuntime) {
+    says_of_rows(&rt, "edid --text", FIELDS);
+    says_of_rows(&rt, "edid --words", IN_WORDS);
 }
 
 /// Four data blocks of 31 bytes have 128 bytes with their headers; an extension of 128 bytes has 123 for them (CTA-861-D, 7.5).
