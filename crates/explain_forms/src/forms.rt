@@ -238,11 +238,7 @@ fn fields_in(what: Input, word: &str, line: &str) -> Option<&'static str> {
 
 // What the fields of a line of an EDID's text are, or that its extension has no room for it. Returns whether more would be of no
 // use.
-<<<<<<< HEAD
-fn add_fields(draft: &mut Draft, place: InputLine<'_>, line: &str) -> bool {
-=======
-fn add_fields(draft: &mut Draft, what: Input, place: Place<'_>, line: &str) -> bool {
->>>>>>> f6d2fd50 (edid --words --explain: of a line in words it says what words the line takes)
+fn add_fields(draft: &mut Draft, what: Input, place: InputLine<'_>, line: &str) -> bool {
     if add_lack_of_room(draft, place) {
         return true;
     }
@@ -283,8 +279,7 @@ pub fn add_right_forms(
             cause: LayCause::Word | LayCause::Number,
             ..
         } => add_forms(draft, LAID, line),
-<<<<<<< HEAD
-        InputFault::TextField { .. } => return add_fields(draft, place, line),
+        InputFault::TextField { .. } => return add_fields(draft, what, place, line),
         InputFault::TextSyntax { .. } => return add_field_count(draft, line),
         InputFault::Past { .. }
         | InputFault::Range { .. }
@@ -305,29 +300,6 @@ pub fn add_right_forms(
         | InputFault::Write
         | InputFault::Memory
         | InputFault::NotUtf8 => {}
-=======
-        Fault::TextField { .. } => return add_fields(draft, what, place, line),
-        Fault::TextSyntax { .. } => return add_field_count(draft, line),
-        Fault::Past { .. }
-        | Fault::Range { .. }
-        | Fault::Hex { .. }
-        | Fault::Lay { .. }
-        | Fault::Capture { .. }
-        | Fault::Edid(_)
-        | Fault::NoHdmiBlock
-        | Fault::NoPort
-        | Fault::Dump(_)
-        | Fault::NoScriptLine
-        | Fault::NoStepsLine
-        | Fault::NoCaptureLine
-        | Fault::NoRange
-        | Fault::InputTooLong
-        | Fault::LineTooLong
-        | Fault::Read
-        | Fault::Write
-        | Fault::Memory
-        | Fault::NotUtf8 => {}
->>>>>>> f6d2fd50 (edid --words --explain: of a line in words it says what words the line takes)
     }
     false
 }

@@ -1,12 +1,7 @@
 //! The lines of an EDID's text: how many fields they have, and the room that they take in an extension.
 use edid_text_lines::{Form, word_of};
-<<<<<<< HEAD
-use explain_lists::{Draft, word_at};
+use explain_lists::{Draft, word_at, word_count};
 use explain_marks::{InputLine, is_line_end};
-=======
-use explain_lists::Draft;
-use explain_marks::{Place, is_line_end, word_at, word_count};
->>>>>>> f6d2fd50 (edid --words --explain: of a line in words it says what words the line takes)
 use text_core::spaces_unquoted;
 
 /// The bytes of an extension for its data blocks and timings: 127, without the first four.
