@@ -135,38 +135,22 @@ fn files_and_help_are_explained_without_a_flag(rt: HostRuntime) {
     }
 }
 
-/// What follows `error: a value is none of its flag, or flags do not go together` of each subcommand.
-const RULES: [(&str, &str); 4] = [
-    (
-        "run",
-        "  --as goes with --edges alone
+/// What is said of flags of `run` that do not go together.
+const RUN_RULES: &str = "error: a value is none of its flag, or flags do not go together
+
+  --as goes with --edges alone
   --drives goes with --edges --as vcd alone, --named with --drives alone
   --json goes without --edges; --room goes with --json alone
-",
-    ),
-    (
-        "check",
-        "  of --trace, --plain, --progress and --capture one is given at most; --json goes with --trace or --capture,
-  and not with --plain or --progress
-  --from, --signal and --glitch go with --capture alone, --signal with vcd and csv alone
-",
-    ),
-    (
-        "mon",
-        "  --signal goes with vcd and csv alone; of --from-start and --from-idle one is given at most, and neither
-  with --audit and --timing; --strict goes with one of these two; --fold does not go with --json
-  --follow goes with --from edges, pin or csv, and else with --signal, --margin and --from-start alone
-",
-    ),
-    (
-        "edid",
-        "  of --text, --words and --hex one is given at most, of --raw, --check, --meaning,
-  --only-address and --ddc, of --address and --port, and of --eeodb and --as-source
-  --below goes with --port alone, --speakers with --below alone, --nth with
-  --hex alone, --rows with --merge alone, which goes with none of --text, --words,
-  --nth, --eeodb and --as-source
-",
-    ),
+
+For more information, try '--help'.
+";
+
+/// Flags of each subcommand that do not go together, each with a value that it takes.
+const APART: [&str; 4] = [
+    "run --as vcd",
+    "check --glitch 50",
+    "mon --strict --margin 50",
+    "edid --below amp",
 ];
 
 /// A command line with a value that its flag does not take, and what follows the rules of its subcommand: the flag, the value, and
@@ -245,11 +229,12 @@ edid --merge --rows product=own,video=keep,audio=keep,speakers=and,hdmi=own,foru
 edid --merge --rows=video=own
 ";
 
-/// The rules of the subcommand that a command line has.
-fn rules_of(rt: &impl Abort, line: &str) -> &'static str {
-    for row in RULES {
-        if line.split(' ').any(|word| word == row.0) {
-            return row.1;
+/// What is said of flags that do not go together, of the subcommand that a command line has.
+fn rules_of(rt: &(impl Abort + AllocGlobal), line: &str) -> String {
+    for apart in APART {
+        let (subcommand, _) = apart.split_once(' ').expect(rt, apart);
+        if line.contains(subcommand) {
+            return String::from_utf8(reported_of(rt, apart, b"").err).expect(rt, apart);
         }
     }
     panic!(rt; "a subcommand")
@@ -273,10 +258,21 @@ fn a_value_that_its_flag_does_not_take_is_named(rt: HostRuntime) {
         let (line, hint) = two_parts(&rt, case);
         let rules = rules_of(&rt, line);
         let hint = hint.replace(rt.alloc(), "|", "\n").expect(&rt, "a hint");
-        let text = format!(in rt.alloc();
-            "error: a value is none of its flag, or flags do not go together\n\n{rules}\nFor more information, try '--help'.\n  {hint}\n"
-        );
+        let text = format!(in rt.alloc(); "{rules}  {hint}\n");
         refuses(&rt, line, text.expect(&rt, "a text").as_str());
+    }
+}
+
+#[test]
+fn flags_that_do_not_go_together_have_their_rules_alone(rt: HostRuntime) {
+    refuses(&rt, "run --as vcd", RUN_RULES);
+    for line in APART {
+        let rules = rules_of(&rt, line);
+        let rules = rules.as_str();
+        let front = "error: a value is none of its flag, or flags do not go together\n\n  ";
+        let right = rules.starts_with(front)
+            && rules.ends_with("\n\nFor more information, try '--help'.\n");
+        expect(&rt, right, line, rules);
     }
 }
 
