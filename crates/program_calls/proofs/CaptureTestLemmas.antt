@@ -4,7 +4,14 @@ use Rattle.audit_expect.specs.Check.{IsCaptureChecked, capture_report}
 use Rattle.expect_run.specs.declared.checking.Tally.{Tally}
 use Rattle.capture_core.specs.Edges.{Captured}
 use Rattle.program_calls.specs.CaptureTests.{WritesPassedBy}
-use Rattle.program_captures.specs.Captures.{without_short}
+use Rattle.program_captures.specs.Captures.{edges_kept, without_short}
+
+-- a capture without short pulses and gaps, by its edges and its end
+pub kept_is : (glitch : ℕ) (whole kept : Captured) → kept.edges ≡ edges_kept glitch whole.edges → kept.end ≡ whole.end → kept ≡ without_short glitch whole
+kept_is glitch whole kept edges end =
+    let with_edges : (let c : Captured = record { edges = kept.edges; end = kept.end } in c) ≡ record { edges = edges_kept glitch whole.edges; end = kept.end } =
+    ap (λ es. let c : Captured = record { edges = es; end = kept.end } in c) edges in
+    with_edges ∙ ap (λ n. let c : Captured = record { edges = edges_kept glitch whole.edges; end = n } in c) end
 
 -- the report of a capture, by the one that it is without short pulses and gaps
 pub passed_by : (expectations : List ℕ) (glitch : ℕ) (whole kept : Captured) (old new : Option (List ℕ)) (tally : Tally) → kept ≡ without_short glitch whole
