@@ -1,8 +1,11 @@
 //! Descriptors, standard timings and data blocks at fault: which they are, and what stands in them.
+ghost use Rattle.std.specs.Prelude.{◌≡◌};
+ghost use Rattle.rules_explain.specs.Places.{fast_clock};
+
 use edid_base::{Base, StandardTiming, are_zeros};
 use edid_cta::{BlockKind, DataBlock, Ext};
 use rules_contents::is_ill_text;
-use rules_values::some_ill_padding;
+use rules_values::{blocks_of, hdmi_of, some_ill_padding};
 use std::alloc::{AllocError, Global};
 
 /// The greatest clock of HDMI 1.4: 340 MHz, in units of 5 MHz.
@@ -13,13 +16,6 @@ const TMDS_UNIT: u16 = 5;
 const UNUSED_WIDTH: u16 = 256;
 /// The bytes of a speaker block.
 const SPEAKER_BYTES: usize = 3;
-
-fn blocks_of(ext: &Ext) -> &[DataBlock] {
-    match ext {
-        Ext::Cta(cta) => cta.blocks.as_slice(),
-        Ext::Bare(_) | Ext::Raw(_) => &[],
-    }
-}
 
 /// The first descriptor that is all zeros, from 1.
 pub fn empty_reported(alloc: Global, base: &Base) -> Result<Option<String>, AllocError> {
@@ -119,15 +115,14 @@ pub fn capability_reported(
 }
 
 /// The clock of an HDMI block in MHz, where it is above that of HDMI 1.4.
-fn fast_clock(block: &DataBlock) -> Option<u16> {
-    if !block.is_hdmi() {
-        return None;
-    }
-    match block.payload.as_slice() {
-        [_, _, _, _, _, _, clock, ..] if MAX_TMDS_CLOCK < *clock => {
-            Some(u16::from(*clock) * TMDS_UNIT)
-        }
-        _ => None,
+fn fast_clock(block: &DataBlock) -> Option<u16>
+    ensures { result ≡ fast_clock block.now }
+{
+    let clock = hdmi_of(block).max_clock;
+    if block.is_hdmi() && MAX_TMDS_CLOCK < clock {
+        Some(TMDS_UNIT * u16::from(clock))
+    } else {
+        None
     }
 }
 
