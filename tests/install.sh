@@ -119,7 +119,7 @@ expect from 1000000 to 1200000 4>f active-source|expect from 1200000 to 1400000 
 expect state 1500000 tv not standby|expect state 1500000 tv standby
 at 1500000 press tv eject\nexpect refused not-for-kind|at 1500000 press tv eject
 label slip at 1500000 press tv eject\nexpect refused slip not-for-kind|label slip at 1500000 press tv eject\nexpect refused slip off-wire'
-  printf 'device tv tv 4\ndevice p1 player 0\nplug p1 tv 1\n' > "$room/elsewhere/film.room"
+  printf 'device tv tv 4\ndevice p1 player 0\nplug p1 tv 1\n' > "$room/elsewhere/ten.room"
   mkdir "$room/elsewhere/holds" "$room/elsewhere/fails"
   number=0
   while IFS='|' read -r holds fails; do
@@ -128,10 +128,10 @@ label slip at 1500000 press tv eject\nexpect refused slip not-for-kind|label sli
       printf 'label film at 1000000 press p1 play\n%b\nend 2000000\n' "${!what}" > "$room/elsewhere/$what/$number.test"
     done
   done <<< "$TESTS"
-  start env PATH="$dir/bin:$PATH" prove -e 'check-room film.room' "$room"/elsewhere/holds/*.test
+  start env PATH="$dir/bin:$PATH" prove -e 'check-room ten.room' "$room"/elsewhere/holds/*.test
   check "ten tests of a room hold" ended 0
   check "and prove counts ten" grep -q '^Files=10, Tests=10, ' "$room/out"
-  start env PATH="$dir/bin:$PATH" prove -e 'check-room film.room' "$room"/elsewhere/fails/*.test
+  start env PATH="$dir/bin:$PATH" prove -e 'check-room ten.room' "$room"/elsewhere/fails/*.test
   check "each with a slip fails" [ "$(grep -c 'Tests: 1 Failed: 1)' "$room/out")" = 10 ]
 fi
 if command -v man > /dev/null; then
