@@ -213,7 +213,9 @@ fn follow_lines<R: Read, W: Sink, E: Sink>(
     }
 }
 
-// Reports a capture as its lines come.
+// Reports a capture as its lines come. Not inlined: an audit that is kept while they come takes much of the stack, which what else
+// is asked for does not need.
+#[inline(never)]
 fn serve_capture<R: Read, W: Sink, E: Sink>(
     alloc: Global,
     asked: Asked,
