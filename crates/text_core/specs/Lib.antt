@@ -1,3 +1,4 @@
+pub mod At
 pub mod Sink
 pub mod Buffered
 pub mod Piece

@@ -2,6 +2,7 @@
 //! words, decimal and hex numbers; and how lines are written, part by part, to a sink that says how many bytes it took.
 #![tactic(auto)]
 
+mod at;
 mod buffered;
 mod hex;
 mod kind;
@@ -16,6 +17,7 @@ mod tally;
 mod words;
 mod written;
 
+pub use at::{At, AtWord, at_word};
 pub use buffered::Buffered;
 pub use hex::{hex_at, hex_bytes};
 pub use kind::Kind;
