@@ -3,6 +3,7 @@
 use Rattle.std.specs.Prelude.{ℕ, ◌+◌, ◌==◌, ◌&&◌, ◌||◌, not, Bool, true, false, if◌then◌else◌, codes, length, take, filter, List, [], ◌∷◌, ◌++◌, Option, Some, None, is_some, Result, Ok, Err}
 use Rattle.std.specs.Fmt.{decimal}
 use Rattle.std.specs.List.{concat, flat_map, list_all}
+use Rattle.text_core.specs.Held.{held_bytes}
 use Rattle.text_core.specs.Lines.{lines_of}
 use Rattle.text_core.specs.Words.{words_of}
 use Rattle.expect_text.specs.Line.{unlabelled_words}
@@ -22,7 +23,7 @@ pub record Report : Type 0 where
   pub verdicts : List Bool
 
 abbrev pub report_as : ReportDraft → Report
-report_as d = record { text = d.text.bytes.items; verdicts = d.verdicts.items }
+report_as d = record { text = held_bytes d.text; verdicts = d.verdicts.items }
 
 -- ---- tests
 

@@ -8,7 +8,6 @@ ghost use Rattle.expect_run.specs.States.{AreStates, IsTraced};
 ghost use Rattle.expect_run.specs.Check.{AreKept, AreVerdictsOf, IsCheckCut, IsCheckReported, IsChecked, IsReportOf, IsVerdictReported, is_write, tally_of};
 ghost use Rattle.expect_run.specs.Report.{report_as};
 
-use crate::held::Held;
 use crate::report::{ReportDraft, report_of_few, whole_report};
 use crate::run::emulate_for;
 use crate::sieve::{Patterns, Sieve};
@@ -16,7 +15,7 @@ use crate::states::all_states;
 use expect_text::{ExpectFault, Labels, fault_among};
 use room_run::emulate::EmulateError;
 use std::alloc::Global;
-use text_core::{Sink, put_all};
+use text_core::{Held, Sink, put_all};
 use thiserror::Error;
 
 /// How many tests a report has.
@@ -88,7 +87,7 @@ fn report_by_trace(
         Err(EmulateError::Write(_)) => return Err(CheckError::Memory),
         Err(error) => return Err(CheckError::Emulate(error)),
     }
-    match whole_report(alloc, script, &trace.bytes, states) {
+    match whole_report(alloc, script, trace.bytes(), states) {
         Ok(report) => Ok(report),
         Err(_) => Err(CheckError::Memory),
     }
@@ -192,7 +191,7 @@ pub fn check<S: Sink>(
         Ok(report) => report,
         Err(error) => return Err(error),
     };
-    match put_all(out, &report.text.bytes) {
+    match put_all(out, report.text.bytes()) {
         Ok(()) => Ok(tally_of(&report.verdicts)),
         Err(fault) => Err(CheckError::Write(fault.count)),
     }

@@ -3,7 +3,6 @@
 
 mod checking;
 mod group;
-mod held;
 mod laws;
 mod plain;
 mod report;
@@ -14,6 +13,5 @@ mod times;
 mod watch;
 
 pub use checking::{CheckError, Tally, check, tally_of, verdicts};
-pub use held::Held;
 pub use laws::{cut_scripts_are_read, tallies_count_verdicts};
 pub use report::{ReportDraft, add_plan, add_test, open_report, whole_report};

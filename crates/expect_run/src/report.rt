@@ -2,6 +2,7 @@
 ghost use Rattle.std.specs.Prelude.{◌≡◌, ◌≤◌, true, not, ◌++◌, ◌==◌, codes, if◌then◌else◌, length, ℕ, List, OnOk, IfOk, IfSome, Some, map, take};
 ghost use Rattle.std.specs.List.{flat_map, list_all, list_any};
 ghost use Rattle.std.specs.Option.{option_map};
+ghost use Rattle.text_core.specs.Held.{held_bytes};
 ghost use Rattle.text_core.specs.Piece.{piece_text};
 ghost use Rattle.text_core.specs.Lines.{lines_of};
 ghost use Rattle.expect_judge.specs.Judged.{finding_as, states_for};
@@ -10,14 +11,13 @@ ghost use Rattle.expect_judge.specs.Told.{event_as};
 ghost use Rattle.expect_run.specs.Kept.{are_timed, is_unmet, kept};
 ghost use Rattle.expect_run.specs.Report.{report_start, report_with_plan, escaped_text, bare_length, escaped_byte, is_holders, remarks, report, report_as, report_by, tests, tests_by, shown_text, shown_line, shown_round, span_remarks, verdict_word, with_event, with_findings, with_line, with_refusals, with_test, with_word};
 
-use crate::held::Held;
 use expect_judge::{
     EventLine, Expected, Judged, JudgedLine, RoundLine, RoundLines, TimeSpan, all_judged, event_in,
     is_seen, refusal_in,
 };
 use expect_text::{ExpectLine, Labels, form_in, unlabelled};
 use std::alloc::{AllocError, Global};
-use text_core::{Piece, first_line, put_all, write_pieces};
+use text_core::{Held, Piece, first_line, put_all, write_pieces};
 
 /// A report that is being made.
 #[derive(Drop)]
@@ -32,7 +32,7 @@ const SHOWN_MOST: usize = 8;
 
 // Appends the parts of a line.
 fn append(out: &mut Held, pieces: &[Piece]) -> Result<(), AllocError>
-    ensures { OnOk result (out.new.bytes.items ≡ out.old.bytes.items ++ flat_map piece_text pieces.now) }
+    ensures { OnOk result (held_bytes out.new ≡ held_bytes out.old ++ flat_map piece_text pieces.now) }
 {
     match write_pieces(out, pieces) {
         Ok(_) => Ok(()),
@@ -41,7 +41,7 @@ fn append(out: &mut Held, pieces: &[Piece]) -> Result<(), AllocError>
 }
 
 fn append_bytes(out: &mut Held, bytes: &[u8]) -> Result<(), AllocError>
-    ensures { OnOk result (out.new.bytes.items ≡ out.old.bytes.items ++ bytes.now) }
+    ensures { OnOk result (held_bytes out.new ≡ held_bytes out.old ++ bytes.now) }
 {
     match put_all(out, bytes) {
         Ok(()) => Ok(()),
@@ -50,7 +50,7 @@ fn append_bytes(out: &mut Held, bytes: &[u8]) -> Result<(), AllocError>
 }
 
 fn append_byte(out: &mut Held, byte: u8) -> Result<(), AllocError>
-    ensures { OnOk result (out.new.bytes.items ≡ out.old.bytes.items ++ escaped_byte byte) }
+    ensures { OnOk result (held_bytes out.new ≡ held_bytes out.old ++ escaped_byte byte) }
 {
     if byte == b'#' || byte == b'\\' {
         append_bytes(out, &[b'\\', byte])
@@ -61,7 +61,7 @@ fn append_byte(out: &mut Held, byte: u8) -> Result<(), AllocError>
 
 // Appends a text with a backslash before each `#` and each backslash.
 fn append_escaped(out: &mut Held, text: &[u8]) -> Result<(), AllocError>
-    ensures { OnOk result (out.new.bytes.items ≡ out.old.bytes.items ++ escaped_text text.now) }
+    ensures { OnOk result (held_bytes out.new ≡ held_bytes out.old ++ escaped_text text.now) }
 {
     let mut rest = text;
     'bytes: while let [byte, others @ ..] = rest {
@@ -107,7 +107,7 @@ pub fn add_test(
 
 // Appends a line of a trace.
 fn append_shown_line(out: &mut Held, line: &[u8]) -> Result<(), AllocError>
-    ensures { OnOk result (out.new.bytes.items ≡ out.old.bytes.items ++ shown_line line.now) }
+    ensures { OnOk result (held_bytes out.new ≡ held_bytes out.old ++ shown_line line.now) }
 {
     append(
         out,
@@ -154,7 +154,7 @@ fn bare_length(line: &[u8]) -> usize
 // Appends the line of a round as the trace of `run` has it.
 #[tactic(auto, unfolding(crate::specs::Report::shown_round))]
 fn append_shown_round(out: &mut Held, line: &[u8]) -> Result<(), AllocError>
-    ensures { OnOk result (out.new.bytes.items ≡ out.old.bytes.items ++ shown_round line.now) }
+    ensures { OnOk result (held_bytes out.new ≡ held_bytes out.old ++ shown_round line.now) }
 {
     let (bare, _holders) = line.split_at(bare_length(line));
     append_shown_line(out, bare)
@@ -167,7 +167,7 @@ fn append_first(
     span: TimeSpan,
     pattern: &[u8],
 ) -> Result<(), AllocError>
-    ensures { OnOk result (out.new.bytes.items ≡ out.old.bytes.items ++ flat_map shown_round (take 8 (lines_among rounds.now span pattern.now))) }
+    ensures { OnOk result (held_bytes out.new ≡ held_bytes out.old ++ flat_map shown_round (take 8 (lines_among rounds.now span pattern.now))) }
 {
     let mut rest = rounds;
     let mut left = SHOWN_MOST;
@@ -191,7 +191,7 @@ fn append_shown(
     span: TimeSpan,
     pattern: &[u8],
 ) -> Result<(), AllocError>
-    ensures { OnOk result (out.new.bytes.items ≡ out.old.bytes.items ++ shown_text rounds.now.trace.now span pattern.now) }
+    ensures { OnOk result (held_bytes out.new ≡ held_bytes out.old ++ shown_text rounds.now.trace.now span pattern.now) }
 {
     append_first(out, rounds.within(span), span, pattern)
 }
@@ -211,7 +211,7 @@ fn append_span(
     count: u64,
     span: Option<TimeSpan>,
 ) -> Result<(), AllocError>
-    ensures { OnOk result (out.new.bytes.items ≡ out.old.bytes.items ++ span_remarks rounds.now.trace.now pattern.now count span) }
+    ensures { OnOk result (held_bytes out.new ≡ held_bytes out.old ++ span_remarks rounds.now.trace.now pattern.now count span) }
 {
     let Some(span) = span else {
         return append_bytes(out, b"# no instant\n");
@@ -239,7 +239,7 @@ fn append_remarks(
     judged: &Judged,
     line: &[u8],
 ) -> Result<(), AllocError>
-    ensures { OnOk result (out.new.bytes.items ≡ out.old.bytes.items ++ remarks rounds.now.trace.now state.now judged.now line.now) }
+    ensures { OnOk result (held_bytes out.new ≡ held_bytes out.old ++ remarks rounds.now.trace.now state.now judged.now line.now) }
 {
     match form_in(unlabelled(line).rest) {
         Err(_) => Ok(()),

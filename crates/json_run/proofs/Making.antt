@@ -8,9 +8,9 @@ use Rattle.text_core.specs.declared.sink.WriteFault.{WriteFault}
 use Rattle.text_core.proofs.Adding.{nothing, then}
 use Rattle.edid_core.specs.declared.edid.Edid.{Edid}
 use Rattle.expect_run.specs.Sieve.{IsClosed}
-use Rattle.json_trace.specs.Held.{held_bytes, is_full}
+use Rattle.text_core.specs.Held.{held_bytes, is_full}
 use Rattle.json_trace.specs.Object.{AreInOrder}
-use Rattle.json_trace.specs.declared.held.Held.{Held}
+use Rattle.text_core.specs.declared.held.Held.{Held}
 use Rattle.json_trace.proofs.Parted.{in_order_as, in_order_both}
 use Rattle.room_run.specs.Happening.{Happening, text_of}
 use Rattle.room_run.specs.Heard.{Hears}

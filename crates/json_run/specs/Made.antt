@@ -2,9 +2,9 @@
 use Rattle.std.specs.Prelude.{◌≡◌, ℕ, Bool, false, List, ◌++◌, Option, None, Some, Result, Ok, Err}
 use Rattle.std.specs.Io.KnownBytes.{Appends}
 use Rattle.expect_run.specs.Sieve.{IsClosed}
-use Rattle.json_trace.specs.Held.{held_bytes, is_full}
+use Rattle.text_core.specs.Held.{held_bytes, is_full}
 use Rattle.json_trace.specs.Object.{AreInOrder}
-use Rattle.json_trace.specs.declared.held.Held.{Held}
+use Rattle.text_core.specs.declared.held.Held.{Held}
 use Rattle.room_run.specs.Emulate.{IsTraceOf}
 use Rattle.room_run.specs.declared.emulate.EmulateError.{EmulateError}
 use Rattle.room_run.specs.declared.emulate.EmulateError.TheVariants.{Edid, Memory, Script, Topology, Write}

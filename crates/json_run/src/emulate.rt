@@ -9,13 +9,13 @@ ghost use Rattle.json_run.specs.Made.{AreCut};
 
 use crate::run::write_run;
 use edid_core::{Edid, root_on_heap};
-use json_trace::{Held, LineObjects};
+use json_trace::LineObjects;
 use room_net::Net;
 use room_run::Totals;
 use room_run::emulate::EmulateError;
 use room_script::{parse_script, parse_topology};
 use std::alloc::{AllocError, Global};
-use text_core::Sink;
+use text_core::{Held, Sink};
 
 /// Room for the lines of a turn, in bytes. More is taken where ports pass on a long EDID.
 const TURN: usize = 16_384;

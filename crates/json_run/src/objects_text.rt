@@ -1,16 +1,16 @@
 //! The objects of a trace, as what hears of a run.
 ghost use Rattle.std.specs.Prelude.{◌≡◌, [], false, not};
-ghost use Rattle.json_trace.specs.Held.{held_bytes, is_full};
+ghost use Rattle.text_core.specs.Held.{held_bytes, is_full};
 ghost use Rattle.json_run.specs.Made.{Turned};
 
 use crate::lines::{Applied, ends_line, write_event, write_round};
-use json_trace::{Held, LineObjects};
+use json_trace::LineObjects;
 use line_rounds::Outcome;
 use room_event::EventError;
 use room_net::Net;
 use room_run::{Passed, Reporter};
 use room_script::TimedEvent;
-use text_core::{Counted, Sink};
+use text_core::{Counted, Held, Sink};
 
 /// The objects, as far as they are written, and the lines that are held until theirs are: those of one turn.
 #[derive(Drop)]
@@ -39,7 +39,7 @@ impl<'a, 'e, S: Sink, L: LineObjects> ObjectsText<'a, 'e, S, L> {
 
 impl<'a, 'e, S: Sink, L: LineObjects> Reporter for ObjectsText<'a, 'e, S, L> {
     ghost use Rattle.std.specs.Prelude.{◌≡◌, ◌&&◌, not};
-    ghost use Rattle.json_trace.specs.Held.{is_full};
+    ghost use Rattle.text_core.specs.Held.{is_full};
     ghost use Rattle.room_run.specs.Happening.{text_of};
     ghost use Rattle.json_run.specs.Made.{Turned};
 

@@ -5,19 +5,19 @@ ghost use Rattle.line_wave.specs.Bounds.{latest_event};
 ghost use Rattle.room_script.specs.Script.{IsSchedule};
 ghost use Rattle.room_run.specs.declared.run.Reporting.TheVariants.{Trace};
 ghost use Rattle.room_run.specs.Run.{IsRunText, start};
-ghost use Rattle.json_trace.specs.Held.{held_bytes};
+ghost use Rattle.text_core.specs.Held.{held_bytes};
 ghost use Rattle.json_run.specs.Made.{AreShown, AreWritten};
 
 use crate::lines::write_last_lines;
 use crate::objects_text::ObjectsText;
 use edid_core::Edid;
-use json_trace::{Held, LineObjects};
+use json_trace::LineObjects;
 use line_rounds::Wire;
 use room_net::Net;
 use room_run::{Passed, Totals, run_turns};
 use room_script::TimedEvent;
 use room_trace::write_ports;
-use text_core::{Counted, Sink, WriteFault};
+use text_core::{Counted, Held, Sink, WriteFault};
 
 /// What a run did, where there was memory for it, and the text with the objects that it added.
 #[derive(Drop)]

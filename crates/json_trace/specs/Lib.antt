@@ -4,4 +4,3 @@ pub mod Values
 pub mod Columns
 pub mod Object
 pub mod ReadBack
-pub mod Held

@@ -2,7 +2,6 @@
 #![tactic(auto)]
 
 mod columns;
-mod held;
 mod laws;
 mod lines;
 mod object;
@@ -10,7 +9,6 @@ mod parts;
 mod values;
 
 pub use columns::{JsonField, add_field, add_fields, add_lead};
-pub use held::Held;
 pub use laws::{lines_are_read_back, one_line_an_object};
 pub use lines::{LineObjects, PlainLines, write_objects};
 pub use object::{add_reported, add_type};

@@ -2,12 +2,12 @@
 ghost use Rattle.std.specs.Prelude.{◌≡◌, ◌≤◌, ◌<◌};
 ghost use Rattle.library_run.specs.Checking.{IsCheckRefused, IsReportPut, check_answer, counts_of, expect_code};
 
-use crate::held::Held;
 use crate::run::run_refused;
 use expect_run::{CheckError, Tally, check};
 use expect_text::ExpectCause;
 use library_answers::{Answer, Code, put, refused};
 use std::alloc::Global;
+use text_core::Held;
 
 /// How many tests a report has.
 #[repr(C)]

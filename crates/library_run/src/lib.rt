@@ -4,7 +4,6 @@
 #![tactic(auto)]
 
 mod checking;
-mod held;
 mod run;
 mod watching;
 

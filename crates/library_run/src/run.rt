@@ -2,13 +2,13 @@
 ghost use Rattle.std.specs.Prelude.{◌≡◌, ◌≤◌, ◌<◌};
 ghost use Rattle.library_run.specs.Run.{IsEdgesPut, IsRunRefused, IsTracePut, root_code, run_answer, script_code, topology_code};
 
-use crate::held::Held;
 use edid_core::EdidCause;
 use library_answers::{Answer, Code, edid_code, put, refused, text_code};
 use room_run::edges::emulate_edges;
 use room_run::emulate::{EmulateError, emulate};
 use room_script::{ScriptCause, TopologyCause};
 use std::alloc::Global;
+use text_core::Held;
 
 fn topology_code(cause: TopologyCause) -> Code
     ensures { result ≡ topology_code cause }

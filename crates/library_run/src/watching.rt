@@ -2,10 +2,10 @@
 ghost use Rattle.std.specs.Prelude.{◌≡◌, ◌≤◌, ◌<◌, Err};
 ghost use Rattle.library_run.specs.Watching.{AreReadingsPut, IsWatchRefused, watch_answer};
 
-use crate::held::Held;
 use capture_monitor::{WatchError, watch};
 use library_answers::{Answer, Code, put, refused};
 use std::alloc::Global;
+use text_core::Held;
 
 /// The answer where nothing is read, for this cause. What is written stands in memory, so that only want of it ends a write.
 pub fn watch_refused(error: &WatchError) -> Answer

@@ -7,10 +7,9 @@ use cli_words::TestView;
 use expect_run::{CheckError, Tally, check};
 use expect_sweep::{ProgressHearer, SilentProgress, SweepError, sweep};
 use expect_text::{first_fault, plain_script};
-use json_trace::Held;
 use room_run::emulate::{EmulateError, emulate};
 use std::alloc::{AllocError, Global};
-use text_core::{Piece, Sink, first_line, put_all, write_pieces};
+use text_core::{Held, Piece, Sink, first_line, put_all, write_pieces};
 
 /// Nothing, unless a test of a report failed.
 pub fn passed(tally: Tally) -> Result<(), ProgramFault>

@@ -10,10 +10,9 @@ use crate::told::Recap;
 use cli_words::{CommandChoice, Objects, TestView};
 use expect_sweep::SilentProgress;
 use json_report::{ReportKind, write_report_objects};
-use json_trace::Held;
 use program_captures::{monitor, write_capture_objects};
 use std::alloc::{AllocError, Global};
-use text_core::{Sink, before};
+use text_core::{Held, Sink, before};
 
 // Writes the lines whose objects are asked for, where they are not those of a run.
 fn write_lines<W: Sink>(

@@ -22,11 +22,10 @@ use capture_monitor::{watch_capture_by, watch_from_idle_by};
 use capture_pin::lost_lines;
 use capture_smooth::smooth_edges;
 use cli_words::{CaptureReport, Form};
-use json_trace::Held;
 use line_reading::{MOST_MARGIN, Windows};
 use std::alloc::{AllocError, Global};
 use std::fmt::Write;
-use text_core::{Sink, put_all};
+use text_core::{Held, Sink, put_all};
 
 /// The form of a capture: what is asked for, or else what its first line reports.
 pub fn form_of(form: Option<Form>, input: &[u8]) -> CaptureForm

@@ -9,6 +9,7 @@ pub mod Bytes
 pub mod Lines
 pub mod Words
 pub mod Number
+pub mod Held
 pub mod Hex
 pub mod Cut
 pub mod Adds

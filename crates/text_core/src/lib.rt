@@ -4,6 +4,7 @@
 
 mod at;
 mod buffered;
+mod held;
 mod hex;
 mod kind;
 mod laws;
@@ -19,6 +20,7 @@ mod written;
 
 pub use at::{At, AtWord, at_word};
 pub use buffered::Buffered;
+pub use held::Held;
 pub use hex::{hex_at, hex_bytes};
 pub use kind::Kind;
 pub use laws::kinds_are_named_by_their_words;

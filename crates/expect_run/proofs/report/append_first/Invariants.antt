@@ -2,12 +2,13 @@ use Rattle.std.proofs.Common.{◌≡◌, ◌++◌, length}
 use Rattle.expect_judge.specs.Told.{round_as}
 use Rattle.expect_judge.specs.Seen.{is_seen}
 use Rattle.expect_run.proofs.Shown.{shown_first}
+use Rattle.text_core.specs.Held.{held_bytes}
 use Rattle.expect_run.proofs.report.append_first.Given as goal
 
 -- the lines that are appended, and those that are left
 abbrev pub invariant-rounds : goal.invariant-rounds
-invariant-rounds l = l.out.bytes.items ++ shown_first l.left (λ r. is_seen l.span l.pattern (round_as r)) l.rest
-    ≡ l.fn.out.bytes.items ++ shown_first 8 (λ r. is_seen l.span l.pattern (round_as r)) l.rounds
+invariant-rounds l = held_bytes l.out ++ shown_first l.left (λ r. is_seen l.span l.pattern (round_as r)) l.rest
+    ≡ held_bytes l.fn.out ++ shown_first 8 (λ r. is_seen l.span l.pattern (round_as r)) l.rounds
 
 abbrev pub decreases-rounds : goal.decreases-rounds
 decreases-rounds l = length l.rest

@@ -1,7 +1,7 @@
 use Rattle.std.proofs.Common.{◌≡◌, ◌∙◌, ◌++◌, ℕ, List, [], false, ap, append-nil, subst, sym}
 use Rattle.std.specs.List.{flat_map}
 use Rattle.device_core.specs.State.{State}
-use Rattle.json_trace.specs.Held.{is_full}
+use Rattle.text_core.specs.Held.{is_full}
 use Rattle.json_trace.specs.Object.{AreInOrder}
 use Rattle.room_net.specs.State.{NetState}
 use Rattle.room_run.specs.Happening.{text_of}

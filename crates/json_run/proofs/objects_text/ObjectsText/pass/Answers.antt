@@ -1,7 +1,7 @@
 use Rattle.std.proofs.Common.{◌≡◌, ◌∙◌, ℕ, List, [], rules, subst, sym, true}
 use Rattle.text_core.specs.Lines.{lines_of}
 use Rattle.expect_run.specs.Sieve.{IsClosed}
-use Rattle.json_trace.specs.Held.{held_bytes}
+use Rattle.text_core.specs.Held.{held_bytes}
 use Rattle.json_trace.specs.Object.{AreInOrder}
 use Rattle.json_run.specs.Made.{AreMade}
 use Rattle.json_run.proofs.Making.{made_passed}

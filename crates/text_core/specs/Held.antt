@@ -1,6 +1,6 @@
 -- What a `Held` holds (own).
 use Rattle.std.specs.Prelude.{ℕ, Bool, List}
-use Rattle.json_trace.specs.declared.held.Held.{Held}
+use Rattle.text_core.specs.declared.held.Held.{Held}
 
 -- what was put to it
 abbrev pub held_bytes : Held → List ℕ

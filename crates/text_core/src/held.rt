@@ -1,8 +1,8 @@
-//! A sink that holds what it takes.
+//! A sink in memory.
 ghost use Rattle.std.specs.Prelude.{◌≡◌, Some, [], false, IfOk};
 
+use crate::sink::Sink;
 use std::alloc::{AllocError, Global};
-use text_core::Sink;
 
 /// A `Sink` that holds what was put to it. It takes none where memory runs out.
 #[derive(Drop)]
@@ -12,7 +12,7 @@ pub struct Held {
 }
 
 impl Held {
-    ghost use Rattle.json_trace.specs.Held.{held_bytes, is_full};
+    ghost use Rattle.text_core.specs.Held.{held_bytes, is_full};
 
     /// Nothing is put to it yet.
     pub fn new(alloc: Global) -> Self
