@@ -4,12 +4,10 @@
 
 mod causes;
 mod form;
-mod format;
 mod reading;
 mod writing;
 
 pub use capture_core::{CaptureError, CaptureFault, Cause};
 pub use form::CaptureForm;
-pub use format::Format;
 pub use reading::read_capture;
 pub use writing::{add_end, add_round, add_start};

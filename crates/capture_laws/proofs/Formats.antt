@@ -24,7 +24,7 @@ use Rattle.room_trace.specs.TraceText.{end_line}
 use Rattle.message_text.specs.ReadingText.{reading_line}
 use Rattle.capture_monitor.specs.EdgeFile.{file_of}
 use Rattle.capture_monitor.specs.Watch.{readings_text}
-use Rattle.capture_forms.specs.declared.format.Format.TheVariants.{Edges, Vcd, Pin, Csv}
+use Rattle.capture_forms.specs.declared.form.CaptureForm.TheVariants.{Edges, Vcd, Pin, Csv}
 use Rattle.room_run.specs.declared.run.Reporting.TheVariants.{Line}
 use Rattle.room_run.specs.Run.{start}
 use Rattle.room_run.specs.OneRun.{rounds_of_line, rounds_reported}

@@ -17,7 +17,7 @@ use Rattle.room_run.specs.Run.{start}
 use Rattle.room_net.specs.State.{first_net}
 use Rattle.std.specs.List.{flat_map}
 use Rattle.capture_core.specs.Edges.{edges_of}
-use Rattle.capture_forms.specs.declared.format.Format.TheVariants.{Edges}
+use Rattle.capture_forms.specs.declared.form.CaptureForm.TheVariants.{Edges}
 use Rattle.room_run.specs.declared.run.Reporting.TheVariants.{Line}
 use Rattle.room_script.specs.Script.{Course, IsScript}
 use Rattle.room_script.proofs.Sound.{scripts_are_sound}

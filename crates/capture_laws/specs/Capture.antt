@@ -11,7 +11,7 @@ use Rattle.room_net.specs.State.{NetState, first_net}
 use Rattle.room_script.specs.Script.{AreFramedEvents}
 use Rattle.room_script.specs.declared.script.TimedEvent.{TimedEvent}
 use Rattle.capture_core.specs.Edges.{edges_of}
-use Rattle.capture_forms.specs.declared.format.Format.TheVariants.{Edges}
+use Rattle.capture_forms.specs.declared.form.CaptureForm.TheVariants.{Edges}
 use Rattle.room_run.specs.declared.run.Reporting.TheVariants.{Trace, Line}
 use Rattle.room_run.specs.declared.run.Totals.{Totals}
 use Rattle.capture_monitor.specs.EdgeText.{edge_lines}

@@ -9,7 +9,7 @@ use Rattle.cli_words.specs.declared.check_flags.CheckFlags.{CheckFlags}
 use Rattle.cli_words.specs.declared.choice.Asked.{Asked}
 use Rattle.cli_words.specs.declared.choice.CommandChoice.{CommandChoice}
 use Rattle.cli_words.specs.declared.choice.CommandChoice.TheVariants.{Check, CheckCapture, Json}
-use Rattle.cli_words.specs.declared.choice.Form.{Form}
+use Rattle.capture_forms.specs.declared.form.CaptureForm.{CaptureForm}
 use Rattle.cli_words.specs.declared.choice.Objects.TheVariants as objects
 use Rattle.cli_words.specs.declared.choice.TestView.{TestView}
 use Rattle.cli_words.specs.declared.choice.TestView.TheVariants.{Report, Progress, Traced, Plain}
@@ -76,7 +76,7 @@ abbrev pub has_capture_flag : CheckFlags → Bool
 has_capture_flag flags = is_some flags.form || flags.named || is_some flags.glitch
 
 -- the report of a test of a capture, or its objects
-abbrev pub capture_choice : Bool → Option Form → ℕ → CommandChoice
+abbrev pub capture_choice : Bool → Option CaptureForm → ℕ → CommandChoice
 capture_choice true form glitch = Json (objects.CaptureTest form glitch)
 capture_choice false form glitch = CheckCapture form glitch
 

@@ -9,10 +9,10 @@ use Rattle.cli_words.specs.declared.choice.Asked.{Asked}
 use Rattle.cli_words.specs.declared.choice.CommandChoice.{CommandChoice}
 use Rattle.cli_words.specs.declared.choice.CommandChoice.TheVariants.{Mon, Follow, Json}
 use Rattle.cli_words.specs.declared.choice.Objects.TheVariants as objects
-use Rattle.cli_words.specs.declared.choice.Form.{Form}
-use Rattle.cli_words.specs.declared.choice.Form.TheVariants.{Edges, Vcd, Pin, Csv}
-use Rattle.cli_words.specs.declared.choice.FollowForm.{FollowForm}
-use Rattle.cli_words.specs.declared.choice.FollowForm.TheVariants as line_forms
+use Rattle.capture_forms.specs.declared.form.CaptureForm.{CaptureForm}
+use Rattle.capture_forms.specs.declared.form.CaptureForm.TheVariants.{Edges, Vcd, Pin, Csv}
+use Rattle.follow_core.specs.declared.lines.LineForm.{LineForm}
+use Rattle.follow_core.specs.declared.lines.LineForm.TheVariants as line_forms
 use Rattle.cli_words.specs.declared.choice.FollowReport.{FollowReport}
 use Rattle.cli_words.specs.declared.choice.FollowReport.TheVariants as follow_reports
 use Rattle.cli_words.specs.declared.choice.CaptureReport.{CaptureReport}
@@ -22,7 +22,7 @@ use Rattle.cli_words.specs.declared.mon_flags.MonValue.{MonValue}
 use Rattle.cli_words.specs.declared.mon_flags.MonValue.TheVariants.{From, Signal, Glitch, Margin}
 
 -- the form of a capture that a word names
-abbrev pub form_of : List ℕ → Option Form
+abbrev pub form_of : List ℕ → Option CaptureForm
 form_of word =
     if bytes_eq word (codes "edges") then Some Edges
     else if bytes_eq word (codes "vcd") then Some Vcd
@@ -84,7 +84,7 @@ mon_flags flags [] = Some flags
 mon_flags flags (word ∷ words) = option_and_then (λ more. mon_flags more words) (with_mon_word flags flags.waits word)
 
 -- whether the wires of a capture may have names
-abbrev pub has_names : Option Form → Bool
+abbrev pub has_names : Option CaptureForm → Bool
 has_names None = true
 has_names (Some Vcd) = true
 has_names (Some Csv) = true
@@ -99,12 +99,12 @@ mon_report None true timing strict = Some (Some (Audit timing strict))
 mon_report (Some start) true timing strict = None
 
 -- what is done with the capture
-abbrev pub mon_choice : Bool → Option Form → ℕ → ℕ → Bool → Bool → Option CaptureReport → CommandChoice
+abbrev pub mon_choice : Bool → Option CaptureForm → ℕ → ℕ → Bool → Bool → Option CaptureReport → CommandChoice
 mon_choice true form glitch margin inverted folded report = Json (objects.Capture form glitch margin inverted report)
 mon_choice false form glitch margin inverted folded report = Mon form glitch margin inverted folded report
 
 -- the form of a capture that is read line by line, which is not guessed
-abbrev pub line_form : Option Form → Option FollowForm
+abbrev pub line_form : Option CaptureForm → Option LineForm
 line_form (Some Edges) = Some line_forms.Edges
 line_form (Some Pin) = Some line_forms.Pin
 line_form (Some Csv) = Some line_forms.Csv

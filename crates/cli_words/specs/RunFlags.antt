@@ -2,18 +2,20 @@
 use Rattle.std.specs.Prelude.{ℕ, List, [], ◌∷◌, Bool, Option, Some, None, if◌then◌else◌, true, false, codes, ◌&&◌, ◌||◌, option_and_then, is_none, not}
 use Rattle.std.specs.Option.{option_map}
 use Rattle.std.specs.Str.{bytes_eq}
+use Rattle.capture_forms.specs.declared.form.CaptureForm.{CaptureForm}
+use Rattle.capture_forms.specs.declared.form.CaptureForm.TheVariants.{Edges, Vcd, Pin, Csv}
 use Rattle.cli_words.specs.Joined.{joined}
 use Rattle.cli_words.specs.declared.choice.Asked.{Asked}
 use Rattle.cli_words.specs.declared.choice.CommandChoice.{CommandChoice}
 use Rattle.cli_words.specs.declared.choice.CommandChoice.TheVariants.{Run, Json}
 use Rattle.cli_words.specs.declared.choice.Objects.TheVariants as objects
 use Rattle.cli_words.specs.declared.choice.Listing.{Listing}
-use Rattle.cli_words.specs.declared.choice.Listing.TheVariants.{Trace, Edges, Vcd, Pin, Csv, Drives, Named}
+use Rattle.cli_words.specs.declared.choice.Listing.TheVariants.{Trace, Line, Drives, Named}
 use Rattle.cli_words.specs.declared.run_flags.RunFlags.{RunFlags}
 
 -- the format of a line that a word names
-abbrev pub line_listing : List ℕ → Option Listing
-line_listing word =
+abbrev pub format_named : List ℕ → Option CaptureForm
+format_named word =
     if bytes_eq word (codes "vcd") then Some Vcd
     else if bytes_eq word (codes "pin") then Some Pin
     else if bytes_eq word (codes "csv") then Some Csv
@@ -34,7 +36,7 @@ one_run_flag flags word =
 
 -- or with the value of the last
 abbrev pub with_run_value : RunFlags → List ℕ → Option RunFlags
-with_run_value flags word = option_map (λ format. record flags { format = Some format; waits = false }) (line_listing word)
+with_run_value flags word = option_map (λ format. record flags { format = Some format; waits = false }) (format_named word)
 
 -- a flag that waits for a value, with this one
 abbrev pub waited_run : List ℕ → RunFlags → Option RunFlags
@@ -55,9 +57,9 @@ run_flags flags [] = Some flags
 run_flags flags (word ∷ words) = option_and_then (λ more. run_flags more words) (with_run_word flags word)
 
 -- what is written: with `--as` and not `--edges` nothing
-abbrev pub run_listing : Bool → Option Listing → Option Listing
-run_listing true (Some format) = Some format
-run_listing true None = Some Edges
+abbrev pub run_listing : Bool → Option CaptureForm → Option Listing
+run_listing true (Some format) = Some (Line format)
+run_listing true None = Some (Line Edges)
 run_listing false (Some format) = None
 run_listing false None = Some Trace
 
@@ -68,7 +70,7 @@ drives_listing false = Drives
 
 -- with who drives the line: of a dump of the line alone; frames and bits go with that alone
 abbrev pub with_drives : Bool → Bool → Option Listing → Option Listing
-with_drives true named (Some Vcd) = Some (drives_listing named)
+with_drives true named (Some (Line Vcd)) = Some (drives_listing named)
 with_drives true named listing = None
 with_drives false true listing = None
 with_drives false false listing = listing

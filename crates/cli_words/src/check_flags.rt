@@ -2,10 +2,11 @@
 ghost use Rattle.std.specs.Prelude.{◌≡◌, map, string_bytes, option_and_then};
 ghost use Rattle.cli_words.specs.CheckFlags.{capture_choice, check_asked, check_choice, check_flags, has_capture_flag, of_capture, of_run, run_choice, test_view, waited_check, with_check_flag, with_check_value, with_check_word, with_progress};
 
-use crate::choice::{Asked, CommandChoice, Form, Objects, TestView};
+use crate::choice::{Asked, CommandChoice, Objects, TestView};
 use crate::joined::joined;
 use crate::micros::micros_of;
 use crate::mon_flags::{MonValue, form_of, has_names};
+use capture_forms::CaptureForm;
 
 /// The flags that `check` was given.
 #[derive(Clone, Copy)]
@@ -15,7 +16,7 @@ pub struct CheckFlags {
     pub json: bool,
     pub progress: bool,
     pub capture: bool,
-    pub form: Option<Form>,
+    pub form: Option<CaptureForm>,
     /// Whether `--signal` names a wire, which `signal_in` returns.
     pub named: bool,
     pub glitch: Option<u64>,
@@ -177,7 +178,7 @@ fn has_capture_flag(flags: &CheckFlags) -> bool
 }
 
 // The report of a test of a capture, or its objects.
-fn capture_choice(json: bool, form: Option<Form>, glitch: u64) -> CommandChoice
+fn capture_choice(json: bool, form: Option<CaptureForm>, glitch: u64) -> CommandChoice
     ensures { result ≡ capture_choice json form glitch }
 {
     if json {

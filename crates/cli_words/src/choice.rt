@@ -1,5 +1,7 @@
 //! What a command line asks for.
+use capture_forms::CaptureForm;
 use edid_merge::Table;
+use follow_core::LineForm;
 use text_core::Phys;
 
 /// What is written of a run.
@@ -7,42 +9,12 @@ use text_core::Phys;
 pub enum Listing {
     /// Its trace.
     Trace,
-    /// The edge file of its line.
-    Edges,
-    /// Its line as a Value Change Dump.
-    Vcd,
-    /// Its line as pin events of cec-ctl.
-    Pin,
-    /// Its line as comma-separated values.
-    Csv,
+    /// Its line, as a capture in this form.
+    Line(CaptureForm),
     /// Its line as a Value Change Dump, and below it who drives it.
     Drives,
     /// The same, and its frames and bits as strings.
     Named,
-}
-
-/// The form of a capture.
-#[derive(Clone, Copy, Debug)]
-pub enum Form {
-    /// An edge file.
-    Edges,
-    /// A Value Change Dump.
-    Vcd,
-    /// Pin events of cec-ctl.
-    Pin,
-    /// Comma-separated values.
-    Csv,
-}
-
-/// The form of a capture that is read line by line.
-#[derive(Clone, Copy, Debug)]
-pub enum FollowForm {
-    /// An edge file.
-    Edges,
-    /// Pin events of cec-ctl.
-    Pin,
-    /// Comma-separated values.
-    Csv,
 }
 
 /// What is written of a capture as its lines come.
@@ -96,7 +68,7 @@ pub enum Objects {
     },
     /// The lines of a capture.
     Capture {
-        form: Option<Form>,
+        form: Option<CaptureForm>,
         glitch: u64,
         margin: u64,
         inverted: bool,
@@ -108,7 +80,7 @@ pub enum Objects {
     },
     /// The lines of the report of a test of a capture.
     CaptureTest {
-        form: Option<Form>,
+        form: Option<CaptureForm>,
         glitch: u64,
     },
 }
@@ -201,7 +173,7 @@ pub enum CommandChoice {
     /// A test of a capture. Its first line reports its form where none is given; pulses and gaps shorter than so many microseconds
     /// are passed over.
     CheckCapture {
-        form: Option<Form>,
+        form: Option<CaptureForm>,
         glitch: u64,
     },
     /// Steps of a run, edge by edge and round by round.
@@ -223,7 +195,7 @@ pub enum CommandChoice {
     /// microseconds are passed over; the windows are so many microseconds wider, 300 at most; the levels are read as they stand, or
     /// the other way round; bad starts one after another are a line each, or one; and where no report is given, that is by the form.
     Mon {
-        form: Option<Form>,
+        form: Option<CaptureForm>,
         glitch: u64,
         margin: u64,
         inverted: bool,
@@ -232,7 +204,7 @@ pub enum CommandChoice {
     },
     /// What a capture in this form reports as its lines come; the windows are so many microseconds wider, 300 at most.
     Follow {
-        form: FollowForm,
+        form: LineForm,
         margin: u64,
         report: FollowReport,
     },

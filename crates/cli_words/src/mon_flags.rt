@@ -2,9 +2,11 @@
 ghost use Rattle.std.specs.Prelude.{◌≡◌, map, string_bytes, Some, None, MatchOption, option_and_then};
 ghost use Rattle.cli_words.specs.MonFlags.{follow_choice, form_of, follow_report, goes_further, has_names, is_from_idle, line_form, margin_of, is_misfit, joined_signal, mon_asked, mon_choice, mon_flags, mon_report, signal_in, waited_mon, with_mon_flag, with_mon_value, with_mon_word};
 
-use crate::choice::{Asked, CaptureReport, CommandChoice, FollowForm, FollowReport, Form, Objects};
+use crate::choice::{Asked, CaptureReport, CommandChoice, FollowReport, Objects};
 use crate::joined::joined;
 use crate::micros::micros_of;
+use capture_forms::CaptureForm;
+use follow_core::LineForm;
 use text_core::{after, before, number_in};
 
 /// The most by which windows are made wider, in microseconds.
@@ -22,7 +24,7 @@ pub enum MonValue {
 /// The flags that `mon` was given.
 #[derive(Clone, Copy)]
 pub struct MonFlags {
-    pub form: Option<Form>,
+    pub form: Option<CaptureForm>,
     /// Whether `--signal` names a wire, which `signal_in` returns.
     pub named: bool,
     pub glitch: Option<u64>,
@@ -63,14 +65,14 @@ impl MonFlags {
 }
 
 /// The form of a capture that a word names.
-pub fn form_of(word: &str) -> Option<Form>
+pub fn form_of(word: &str) -> Option<CaptureForm>
     ensures { result ≡ form_of word.now }
 {
     match word {
-        "edges" => Some(Form::Edges),
-        "vcd" => Some(Form::Vcd),
-        "pin" => Some(Form::Pin),
-        "csv" => Some(Form::Csv),
+        "edges" => Some(CaptureForm::Edges),
+        "vcd" => Some(CaptureForm::Vcd),
+        "pin" => Some(CaptureForm::Pin),
+        "csv" => Some(CaptureForm::Csv),
         _ => None,
     }
 }
@@ -219,12 +221,12 @@ pub fn mon_flags(flags: MonFlags, words: &[String]) -> Option<MonFlags>
 }
 
 /// Whether the wires of a capture may have names: those of edge files and of pin events have none.
-pub fn has_names(form: Option<Form>) -> bool
+pub fn has_names(form: Option<CaptureForm>) -> bool
     ensures { result ≡ has_names form }
 {
     match form {
-        None | Some(Form::Vcd | Form::Csv) => true,
-        Some(Form::Edges | Form::Pin) => false,
+        None | Some(CaptureForm::Vcd | CaptureForm::Csv) => true,
+        Some(CaptureForm::Edges | CaptureForm::Pin) => false,
     }
 }
 
@@ -249,7 +251,7 @@ fn mon_report(
 // What is done with a capture.
 fn mon_choice(
     json: bool,
-    form: Option<Form>,
+    form: Option<CaptureForm>,
     glitch: u64,
     margin: u64,
     inverted: bool,
@@ -279,14 +281,14 @@ fn mon_choice(
 }
 
 // The form of a capture that is read line by line. It is not guessed.
-fn line_form(form: Option<Form>) -> Option<FollowForm>
+fn line_form(form: Option<CaptureForm>) -> Option<LineForm>
     ensures { result ≡ line_form form }
 {
     match form {
-        Some(Form::Edges) => Some(FollowForm::Edges),
-        Some(Form::Pin) => Some(FollowForm::Pin),
-        Some(Form::Csv) => Some(FollowForm::Csv),
-        Some(Form::Vcd) | None => None,
+        Some(CaptureForm::Edges) => Some(LineForm::Edges),
+        Some(CaptureForm::Pin) => Some(LineForm::Pin),
+        Some(CaptureForm::Csv) => Some(LineForm::Csv),
+        Some(CaptureForm::Vcd) | None => None,
     }
 }
 

@@ -1,16 +1,17 @@
 //! The flags of `run`.
 ghost use Rattle.std.specs.Prelude.{◌≡◌, map, option_and_then, string_bytes};
-ghost use Rattle.cli_words.specs.RunFlags.{line_listing, one_run_flag, run_asked, run_choice, run_flags, waited_run, with_run_value, with_run_word};
+ghost use Rattle.cli_words.specs.RunFlags.{format_named, one_run_flag, run_asked, run_choice, run_flags, waited_run, with_run_value, with_run_word};
 
 use crate::choice::{Asked, CommandChoice, Listing, Objects};
 use crate::joined::joined;
+use capture_forms::CaptureForm;
 
 /// The flags that `run` was given.
 #[derive(Clone, Copy)]
 pub struct RunFlags {
     pub edges: bool,
     /// The format that `--as` names.
-    pub format: Option<Listing>,
+    pub format: Option<CaptureForm>,
     /// Whether a dump has who drives the line too.
     pub drives: bool,
     /// Whether that dump has its frames and bits as strings too.
@@ -40,13 +41,13 @@ impl RunFlags {
 }
 
 // The format of a line that a word names.
-fn line_listing(word: &str) -> Option<Listing>
-    ensures { result ≡ line_listing word.now }
+fn format_named(word: &str) -> Option<CaptureForm>
+    ensures { result ≡ format_named word.now }
 {
     match word {
-        "vcd" => Some(Listing::Vcd),
-        "pin" => Some(Listing::Pin),
-        "csv" => Some(Listing::Csv),
+        "vcd" => Some(CaptureForm::Vcd),
+        "pin" => Some(CaptureForm::Pin),
+        "csv" => Some(CaptureForm::Csv),
         _ => None,
     }
 }
@@ -55,7 +56,7 @@ fn line_listing(word: &str) -> Option<Listing>
 fn with_run_value(flags: RunFlags, word: &str) -> Option<RunFlags>
     ensures { result ≡ with_run_value flags word.now }
 {
-    let format = line_listing(word)?;
+    let format = format_named(word)?;
     Some(RunFlags {
         format: Some(format),
         waits: false,
@@ -160,12 +161,12 @@ pub fn run_asked(flags: &RunFlags) -> Option<Asked>
     let listing = match flags.format {
         _ if flags.waits || (flags.edges && flags.json) || (flags.room && !flags.json) =>
             return None,
-        Some(Listing::Vcd) if flags.edges && flags.drives && flags.named => Listing::Named,
-        Some(Listing::Vcd) if flags.edges && flags.drives => Listing::Drives,
+        Some(CaptureForm::Vcd) if flags.edges && flags.drives && flags.named => Listing::Named,
+        Some(CaptureForm::Vcd) if flags.edges && flags.drives => Listing::Drives,
         _ if flags.drives || flags.named => return None,
-        Some(format) if flags.edges => format,
+        Some(format) if flags.edges => Listing::Line(format),
         Some(_) => return None,
-        None if flags.edges => Listing::Edges,
+        None if flags.edges => Listing::Line(CaptureForm::Edges),
         None => Listing::Trace,
     };
     Some(Asked {

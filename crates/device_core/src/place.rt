@@ -145,7 +145,7 @@ fn first_place(kind: Kind, phys: Phys) -> Place
 }
 
 /// A copy of a name.
-pub(crate) fn short(name: &[u8]) -> ArrayVec<u8, 14>
+pub(crate) fn name_copy(name: &[u8]) -> ArrayVec<u8, 14>
     requires { length name.now ≤ 14 }
     ensures { result.items ≡ name.now }
 {
@@ -171,7 +171,7 @@ impl<const Q: usize> Device<Q> {
         let ports = Port::new(ports);
         Device {
             kind,
-            name: short(name),
+            name: name_copy(name),
             ports,
             number: 0,
             phys: NOWHERE,

@@ -5,7 +5,7 @@ ghost use Rattle.device_core.specs.Place.{front_of, ready_of, is_allocating, is_
 
 use crate::device::{Device, Queued, framed};
 use crate::free_time::FreeTime;
-use crate::place::{Place, short};
+use crate::place::{Place, name_copy};
 use arrayvec::ArrayVec;
 use device_features::Record;
 use line_frames::{Addr, Frame};
@@ -148,7 +148,7 @@ impl<const Q: usize> Device<Q> {
     {
         Device {
             kind: self.kind,
-            name: short(self.name.as_slice()),
+            name: name_copy(self.name.as_slice()),
             ports: self.ports,
             number: self.number,
             phys: self.phys,

@@ -20,7 +20,7 @@ use Rattle.capture_vcd.specs.Wire.{wire_line}
 use Rattle.capture_wires.specs.Wires.{head, id_of}
 use Rattle.room_drives.specs.Stretches.{drives_from}
 use Rattle.capture_forms.specs.Format.{line_text}
-use Rattle.capture_forms.specs.declared.format.Format.TheVariants.{Vcd}
+use Rattle.capture_forms.specs.declared.form.CaptureForm.TheVariants.{Vcd}
 use Rattle.room_run.specs.declared.run.Reporting.TheVariants.{Line}
 use Rattle.room_run.specs.declared.run.Totals.{Totals}
 use Rattle.room_run.specs.declared.run.Turn.{Turn}

@@ -26,7 +26,7 @@ use Rattle.room_net.proofs.Lines.{begun, kept}
 use Rattle.room_net.proofs.Progress.{led}
 use Rattle.room_script.specs.Script.{AreFramedEvents}
 use Rattle.room_script.specs.declared.script.TimedEvent.{TimedEvent}
-use Rattle.capture_forms.specs.declared.format.Format.TheVariants.{Vcd}
+use Rattle.capture_forms.specs.declared.form.CaptureForm.TheVariants.{Vcd}
 use Rattle.room_run.specs.declared.run.Reporting.TheVariants.{Line}
 use Rattle.room_run.specs.declared.run.Turn.{Turn}
 use Rattle.room_run.specs.declared.run.Turn.TheVariants.{Stop, Apply, Round}

@@ -12,7 +12,7 @@ use Rattle.edid_core.specs.Root.{IsRoot}
 use Rattle.capture_vcd.specs.Dump.{edges_in}
 use Rattle.capture_vcd.specs.Wire.{Wire, wire_in, wire_line, words_in}
 use Rattle.capture_wires.specs.Wires.{id_of}
-use Rattle.capture_forms.specs.declared.format.Format.TheVariants.{Vcd}
+use Rattle.capture_forms.specs.declared.form.CaptureForm.TheVariants.{Vcd}
 use Rattle.room_run.specs.declared.run.Totals.{Totals}
 use Rattle.room_run.specs.Emulate.{IsAccepted, IsLineOf}
 use Rattle.room_driven.specs.Emulate.{IsDrivesOf}

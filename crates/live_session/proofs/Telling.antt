@@ -18,7 +18,7 @@ use Rattle.room_script.specs.declared.script.ScriptCause.TheVariants.{Name, Numb
 use Rattle.room_script.specs.declared.script.TimedEvent.{TimedEvent}
 use Rattle.room_script.specs.declared.fault.ScriptLineFault.{ScriptLineFault}
 use Rattle.room_run.specs.declared.run.Reporting.TheVariants.{Trace, Line}
-use Rattle.capture_forms.specs.declared.format.Format.TheVariants.{Edges}
+use Rattle.capture_forms.specs.declared.form.CaptureForm.TheVariants.{Edges}
 use Rattle.room_run.specs.declared.run.Totals.{Totals}
 use Rattle.room_run.specs.declared.run.Turn.{Turn}
 use Rattle.room_run.specs.declared.run.Turn.TheVariants.{Stop}

@@ -8,7 +8,7 @@ use Rattle.edid_core.specs.declared.edid.Edid.{Edid}
 use Rattle.room_net.specs.State.{first_net}
 use Rattle.room_script.specs.Script.{AreFramedEvents}
 use Rattle.room_script.specs.declared.script.TimedEvent.{TimedEvent}
-use Rattle.capture_forms.specs.declared.format.Format.TheVariants.{Edges}
+use Rattle.capture_forms.specs.declared.form.CaptureForm.TheVariants.{Edges}
 use Rattle.capture_monitor.specs.EdgeText.{edge_lines}
 use Rattle.room_trace.specs.TraceText.{end_line}
 use Rattle.room_run.specs.declared.run.Reporting.TheVariants.{Line}

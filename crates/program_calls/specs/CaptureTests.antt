@@ -5,7 +5,7 @@ use Rattle.audit_expect.specs.Check.{capture_report}
 use Rattle.audit_expect.specs.Faults.{first_fault}
 use Rattle.capture_forms.specs.Captures.{capture_in}
 use Rattle.capture_core.specs.Edges.{Captured}
-use Rattle.cli_words.specs.declared.choice.Form.{Form}
+use Rattle.capture_forms.specs.declared.form.CaptureForm.{CaptureForm}
 use Rattle.program_captures.specs.Captures.{form_of, without_short}
 use Rattle.program_input.specs.Parted.{IsCaptureInput}
 
@@ -16,7 +16,7 @@ pub record IsPassedBy (expectations : List ℕ) (glitch : ℕ) (capture : Captur
   pub report : text ≡ (capture_report expectations (without_short glitch capture)).text
 
 -- that of the expectations and the capture that an input spells, by the capture's form and the name of its wire
-pub record IsCaptureTest (form : Option Form) (name : List ℕ) (glitch : ℕ) (input text : List ℕ) : Type 0 where
+pub record IsCaptureTest (form : Option CaptureForm) (name : List ℕ) (glitch : ℕ) (input text : List ℕ) : Type 0 where
   pub expectations : List ℕ
   pub taken : List ℕ
   pub parts : IsCaptureInput input expectations taken
@@ -28,5 +28,5 @@ pub record IsCaptureTest (form : Option Form) (name : List ℕ) (glitch : ℕ) (
 abbrev pub WritesPassedBy : List ℕ → ℕ → Captured → Option (List ℕ) → Option (List ℕ) → Type 0
 WritesPassedBy expectations glitch capture old new = (text : List ℕ) × IsPassedBy expectations glitch capture text × Appends old new text
 
-abbrev pub WritesCaptureTest : Option Form → List ℕ → ℕ → List ℕ → Option (List ℕ) → Option (List ℕ) → Type 0
+abbrev pub WritesCaptureTest : Option CaptureForm → List ℕ → ℕ → List ℕ → Option (List ℕ) → Option (List ℕ) → Type 0
 WritesCaptureTest form name glitch input old new = (text : List ℕ) × IsCaptureTest form name glitch input text × Appends old new text

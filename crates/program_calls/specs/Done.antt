@@ -9,8 +9,7 @@ use Rattle.room_driven.specs.declared.wires.Wires.{Wires}
 use Rattle.room_driven.specs.declared.wires.Wires.TheVariants as wires
 use Rattle.json_trace.specs.Object.{AreObjects}
 use Rattle.message_lay.specs.Text.{AreLinesRead, no_notes, pull_line}
-use Rattle.capture_forms.specs.declared.format.Format.{Format}
-use Rattle.capture_forms.specs.declared.format.Format.TheVariants as formats
+use Rattle.capture_forms.specs.declared.form.CaptureForm.{CaptureForm}
 use Rattle.message_meaning.specs.Lines.{meant_text}
 use Rattle.json_report.specs.Object.{AreReportObjects}
 use Rattle.json_report.specs.declared.object.ReportKind.{ReportKind}
@@ -30,7 +29,7 @@ use Rattle.cli_words.specs.declared.choice.CommandChoice.TheVariants.{Run, Check
 use Rattle.cli_words.specs.declared.choice.Objects.{Objects}
 use Rattle.cli_words.specs.declared.choice.Objects.TheVariants as of
 use Rattle.cli_words.specs.declared.choice.Listing.{Listing}
-use Rattle.cli_words.specs.declared.choice.Listing.TheVariants.{Trace, Edges, Vcd, Pin, Csv, Drives, Named}
+use Rattle.cli_words.specs.declared.choice.Listing.TheVariants.{Trace, Line, Drives, Named}
 use Rattle.cli_words.specs.declared.choice.TestView.{TestView}
 use Rattle.cli_words.specs.declared.choice.TestView.TheVariants.{Report, Traced}
 use Rattle.program_captures.specs.Captures.{IsHeard, IsShown, form_of, name_of, report_of}
@@ -51,7 +50,7 @@ pub record IsRunDone (input text : List ℕ) (totals : Totals) : Type 0 where
   pub trace : IsTraceOf topology script text totals
 
 -- the same of its line in a format
-pub record IsLineDone (format : Format) (input text : List ℕ) (totals : Totals) : Type 0 where
+pub record IsLineDone (format : CaptureForm) (input text : List ℕ) (totals : Totals) : Type 0 where
   pub topology : List ℕ
   pub script : List ℕ
   pub parts : IsRunInput input topology script
@@ -84,10 +83,7 @@ pub record AreStepsDone (input text : List ℕ) : Type 0 where
 -- this text with these counts is what is asked for of the run that the input spells
 abbrev pub IsListed : Listing → List ℕ → List ℕ → Totals → Type 0
 IsListed Trace input text totals = IsRunDone input text totals
-IsListed Edges input text totals = IsLineDone formats.Edges input text totals
-IsListed Vcd input text totals = IsLineDone formats.Vcd input text totals
-IsListed Pin input text totals = IsLineDone formats.Pin input text totals
-IsListed Csv input text totals = IsLineDone formats.Csv input text totals
+IsListed (Line format) input text totals = IsLineDone format input text totals
 IsListed Drives input text totals = IsDrivenDone wires.Plain input text totals
 IsListed Named input text totals = IsDrivenDone wires.Named input text totals
 
@@ -171,7 +167,7 @@ abbrev pub Writes : CommandChoice → List ℕ → List ℕ → Option (List ℕ
 Writes choice name input old new = (text : List ℕ) × IsDone choice name input text × Appends old new text
 
 -- the line of a run in a format is written, and nothing else
-abbrev pub WritesLine : Format → Bool → List ℕ → Option (List ℕ) → Option (List ℕ) → Type 0
+abbrev pub WritesLine : CaptureForm → Bool → List ℕ → Option (List ℕ) → Option (List ℕ) → Type 0
 WritesLine format strict input old new =
     (text : List ℕ) × ((totals : Totals) × IsLineDone format input text totals × (strict ≡ true → totals.refused ≡ 0)) × Appends old new text
 

@@ -7,8 +7,7 @@ use crate::fault::ProgramFault;
 use crate::told::Recap;
 use audit_expect::check_capture;
 use capture_core::Capture;
-use capture_forms::read_capture;
-use cli_words::Form;
+use capture_forms::{CaptureForm, read_capture};
 use program_captures::{form_of, without_short};
 use program_input::capture_parts;
 use std::alloc::Global;
@@ -34,7 +33,7 @@ fn write_report<W: Sink>(
 #[inline(never)]
 pub fn test_capture<W: Sink>(
     alloc: Global,
-    form: Option<Form>,
+    form: Option<CaptureForm>,
     signal: &[u8],
     glitch: u64,
     input: &[u8],

@@ -8,7 +8,6 @@ use crate::fault::ProgramFault;
 use crate::objects::write_json;
 use crate::run::{run, run_to_drives, run_to_line};
 use crate::told::Recap;
-use capture_forms::Format;
 use cli_words::{CommandChoice, Listing};
 use expect_sweep::ProgressHearer;
 use message_hex::dis_lines;
@@ -91,10 +90,7 @@ pub fn perform<W: Sink, H: ProgressHearer>(
     match choice {
         CommandChoice::Run { listing, strict } => match listing {
             Listing::Trace => run(alloc, strict, input, out),
-            Listing::Edges => run_to_line(alloc, Format::Edges, strict, input, out),
-            Listing::Vcd => run_to_line(alloc, Format::Vcd, strict, input, out),
-            Listing::Pin => run_to_line(alloc, Format::Pin, strict, input, out),
-            Listing::Csv => run_to_line(alloc, Format::Csv, strict, input, out),
+            Listing::Line(form) => run_to_line(alloc, form, strict, input, out),
             Listing::Drives => run_to_drives(alloc, Wires::Plain, strict, input, out),
             Listing::Named => run_to_drives(alloc, Wires::Named, strict, input, out),
         },

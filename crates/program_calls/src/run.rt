@@ -4,7 +4,7 @@ ghost use Rattle.program_calls.specs.Done.{Writes, WritesDrives, WritesLine};
 
 use crate::fault::ProgramFault;
 use crate::told::Recap;
-use capture_forms::Format;
+use capture_forms::CaptureForm;
 use cli_words::{CommandChoice, Listing, Objects};
 use json_room::RoomLines;
 use json_run::emulate_objects;
@@ -47,7 +47,7 @@ pub fn run<W: Sink>(
 #[inline(never)]
 pub fn run_to_line<W: Sink>(
     alloc: Global,
-    format: Format,
+    format: CaptureForm,
     strict: bool,
     input: &[u8],
     out: &mut W,

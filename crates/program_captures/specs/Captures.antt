@@ -17,18 +17,13 @@ use Rattle.capture_core.specs.Edges.{Captured, line_of_edges}
 use Rattle.line_wave.specs.declared.Edge.{Edge}
 use Rattle.text_core.specs.Lines.{lines_of}
 use Rattle.capture_smooth.specs.Smooth.{smooth_edges}
-use Rattle.cli_words.specs.declared.choice.Form.{Form}
-use Rattle.cli_words.specs.declared.choice.Form.TheVariants.{Edges, Vcd, Pin, Csv}
 use Rattle.cli_words.specs.declared.choice.CaptureReport.{CaptureReport}
 use Rattle.cli_words.specs.declared.choice.CaptureReport.TheVariants.{Readings, FromIdle, Audit}
 
 -- the form of a capture: what is asked for, or else what its first line reports
-abbrev pub form_of : Option Form → List ℕ → CaptureForm
+abbrev pub form_of : Option CaptureForm → List ℕ → CaptureForm
 form_of None input = line_form input
-form_of (Some Edges) input = forms.Edges
-form_of (Some Vcd) input = forms.Vcd
-form_of (Some Pin) input = forms.Pin
-form_of (Some Csv) input = forms.Csv
+form_of (Some form) input = form
 
 -- What is written of it: what is asked for, or else of an edge file its readings, and of a capture of another tool those from
 -- where the line was first idle.

@@ -21,22 +21,19 @@ use capture_invert::invert;
 use capture_monitor::{watch_capture_by, watch_from_idle_by};
 use capture_pin::lost_lines;
 use capture_smooth::smooth_edges;
-use cli_words::{CaptureReport, Form};
+use cli_words::CaptureReport;
 use line_reading::{MOST_MARGIN, Windows};
 use std::alloc::{AllocError, Global};
 use std::fmt::Write;
 use text_core::{Held, Sink, put_all};
 
 /// The form of a capture: what is asked for, or else what its first line reports.
-pub fn form_of(form: Option<Form>, input: &[u8]) -> CaptureForm
+pub fn form_of(form: Option<CaptureForm>, input: &[u8]) -> CaptureForm
     ensures { result ≡ form_of form input.now }
 {
     match form {
         None => CaptureForm::of(input),
-        Some(Form::Edges) => CaptureForm::Edges,
-        Some(Form::Vcd) => CaptureForm::Vcd,
-        Some(Form::Pin) => CaptureForm::Pin,
-        Some(Form::Csv) => CaptureForm::Csv,
+        Some(form) => form,
     }
 }
 
@@ -238,7 +235,7 @@ fn listen<W: Sink>(
 /// first where that is empty, with its levels turned or not, as windows read it that are `margin` wider at either side. Returns what the capture looks like.
 pub fn monitor<W: Sink>(
     alloc: Global,
-    form: Option<Form>,
+    form: Option<CaptureForm>,
     signal: &[u8],
     inverted: bool,
     glitch: u64,
@@ -269,7 +266,7 @@ fn write_folded<W: Sink>(alloc: Global, lines: &[u8], out: &mut W) -> Result<(),
 #[inline(never)]
 fn show_folded<W: Sink>(
     alloc: Global,
-    form: Option<Form>,
+    form: Option<CaptureForm>,
     signal: &[u8],
     inverted: bool,
     glitch: u64,
@@ -295,7 +292,7 @@ fn show_folded<W: Sink>(
 pub fn show<W: Sink>(
     alloc: Global,
     folds: bool,
-    form: Option<Form>,
+    form: Option<CaptureForm>,
     signal: &[u8],
     inverted: bool,
     glitch: u64,
@@ -326,7 +323,7 @@ fn write_lost<E: Sink>(line: u64, err: &mut E) {
 
 /// Names the lines of pin events before which others were lost: what is read across them is not to be trusted. Where memory
 /// runs out none is named.
-pub fn name_lost<E: Sink>(alloc: Global, form: Option<Form>, input: &[u8], err: &mut E) {
+pub fn name_lost<E: Sink>(alloc: Global, form: Option<CaptureForm>, input: &[u8], err: &mut E) {
     if form_of(form, input) != CaptureForm::Pin {
         return;
     }

@@ -8,7 +8,7 @@ use Rattle.line_rounds.specs.Round.{IsRound}
 use Rattle.line_rounds.proofs.OneOutcome.{one_outcome}
 use Rattle.room_net.specs.Step.{after_round, seats_of}
 use Rattle.capture_vcd.specs.Text.{last}
-use Rattle.capture_forms.specs.declared.format.Format.TheVariants.{Vcd}
+use Rattle.capture_forms.specs.declared.form.CaptureForm.TheVariants.{Vcd}
 use Rattle.room_run.specs.declared.run.Reporting.TheVariants.{Line}
 use Rattle.room_run.specs.declared.run.Totals.{Totals}
 use Rattle.room_run.specs.declared.run.Turn.{Turn}

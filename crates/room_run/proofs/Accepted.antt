@@ -17,7 +17,7 @@ use Rattle.edid_core.specs.declared.edid.Edid.{Edid}
 use Rattle.edid_core.proofs.OneEdid.{one_edid}
 use Rattle.edid_core.specs.Root.{IsRoot}
 use Rattle.room_run.specs.declared.run.Reporting.{Reporting}
-use Rattle.capture_forms.specs.declared.format.Format.{Format}
+use Rattle.capture_forms.specs.declared.form.CaptureForm.{CaptureForm}
 use Rattle.room_run.specs.declared.run.Reporting.TheVariants.{Trace, Line}
 use Rattle.room_run.specs.Run.{start, IsTrace, IsRunText}
 use Rattle.room_run.specs.Emulate.{IsAccepted, IsTraceOf, IsLineOf, TextsHaveOneTrace, TextsHaveOneLine}
@@ -98,7 +98,7 @@ one_trace_of topology script text totals plan course edid t s e w =
     subst (λ x. IsTrace x course.end (start (first_net plan.tree course.pulses) course.events) text totals) r
     (one_run_of topology script text totals plan course (Trace w.edid) t s w.plan w.course w.accepted w.trace)
 
-pub one_line_of : (format : Format) (topology script text : List ℕ) (totals : Totals) (plan : Plan) (course : Course) → topology_of topology ≡ Ok plan → IsScriptRead plan.tree script (Ok course)
+pub one_line_of : (format : CaptureForm) (topology script text : List ℕ) (totals : Totals) (plan : Plan) (course : Course) → topology_of topology ≡ Ok plan → IsScriptRead plan.tree script (Ok course)
     → IsLineOf format topology script text totals → IsRunText (Line format) course.end (start (first_net plan.tree course.pulses) course.events) text totals
 one_line_of format topology script text totals plan course t s w =
     one_run_of topology script text totals plan course (Line format) t s w.plan w.course w.accepted w.line

@@ -14,7 +14,7 @@ use Rattle.room_event.specs.declared.event.EventError.{EventError}
 use Rattle.room_net.specs.State.{NetState}
 use Rattle.room_trace.specs.PortText.{port_lines}
 use Rattle.room_trace.specs.TraceText.{event_line, round_line}
-use Rattle.capture_forms.specs.declared.format.Format.{Format}
+use Rattle.capture_forms.specs.declared.form.CaptureForm.{CaptureForm}
 use Rattle.room_run.specs.declared.run.Totals.{Totals}
 use Rattle.room_run.specs.declared.run.Reporting.{Reporting}
 use Rattle.room_run.specs.declared.run.Reporting.TheVariants.{Line, Trace}
@@ -59,7 +59,7 @@ trace_by edid (Round begin) c x d h = (
   h.events,
 )
 
-pub line_by : (format : Format) → SaysOf (Line format) (line_of_turn format)
+pub line_by : (format : CaptureForm) → SaysOf (Line format) (line_of_turn format)
 line_by format Stop c x d h = absurd h
 line_by format (Apply at) c x d h =
     subst (λ (es : List TimedEvent). IsEventTurn (Line format) at es c (line_of_turn format x) d) (sym h.next) (ap (line_of_turn format) h.is, h.after)

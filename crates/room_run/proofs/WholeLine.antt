@@ -8,8 +8,8 @@ use Rattle.room_net.specs.Line.{run_wave}
 use Rattle.room_net.specs.State.{first_net}
 use Rattle.room_script.specs.declared.script.TimedEvent.{TimedEvent}
 use Rattle.capture_forms.specs.Format.{line_start, line_round, line_end}
-use Rattle.capture_forms.specs.declared.format.Format.{Format}
-use Rattle.capture_forms.specs.declared.format.Format.TheVariants.{Edges}
+use Rattle.capture_forms.specs.declared.form.CaptureForm.{CaptureForm}
+use Rattle.capture_forms.specs.declared.form.CaptureForm.TheVariants.{Edges}
 use Rattle.room_run.specs.declared.run.Reporting.TheVariants.{Line}
 use Rattle.room_run.specs.declared.run.Turn.{Turn}
 use Rattle.room_run.specs.declared.run.Turn.TheVariants.{Stop, Apply, Round}
@@ -29,17 +29,17 @@ two_parts f [] ys = refl
 two_parts f (x ∷ xs) ys = ap (λ l. f x.wave ++ l) (two_parts f xs ys) ∙ sym (append_assoc (f x.wave) (flat_map f (waves xs)) (flat_map f (waves ys)))
 
 -- of an event nothing is reported
-no_text : (format : Format) (at : ℕ) (events : List TimedEvent) (c d : Config) (text : List ℕ) → IsEventTurn (Line format) at events c text d → text ≡ []
+no_text : (format : CaptureForm) (at : ℕ) (events : List TimedEvent) (c d : Config) (text : List ℕ) → IsEventTurn (Line format) at events c text d → text ≡ []
 no_text format at [] c d text t = t.0
 no_text format at (e ∷ events) c d text t = t.0
 
-line_by : (format : Format) (turn : Turn) (c d : Config) (text : List ℕ) (t : IsTurnBy (Line format) turn c text d)
+line_by : (format : CaptureForm) (turn : Turn) (c d : Config) (text : List ℕ) (t : IsTurnBy (Line format) turn c text d)
     → text ≡ flat_map (line_round format) (waves (rounds_by (Line format) turn c text d t))
 line_by format Stop c d text t = absurd t
 line_by format (Apply at) c d text t = no_text format at c.events c d text t
 line_by format (Round begin) c d text t = t.0.reported ∙ sym (append-nil (line_round format t.0.outcome.wave))
 
-line_in : (format : Format) (end turns : ℕ) (c d : Config) (text : List ℕ) (l : Leads (Line format) end turns c text d)
+line_in : (format : CaptureForm) (end turns : ℕ) (c d : Config) (text : List ℕ) (l : Leads (Line format) end turns c text d)
     → text ≡ flat_map (line_round format) (waves (rounds_in (Line format) end turns c text d l))
 line_in format end zero c d text l = l.0
 line_in format end (suc turns) c d text l =

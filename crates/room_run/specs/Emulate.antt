@@ -16,8 +16,8 @@ use Rattle.text_core.specs.Cut.{reported_count}
 use Rattle.edid_core.specs.Root.{IsRoot, IsNoRoot}
 use Rattle.edid_core.specs.declared.root.RootError.{RootError}
 use Rattle.edid_core.specs.declared.root.RootError.TheVariants as roots
-use Rattle.capture_forms.specs.declared.format.Format.{Format}
-use Rattle.capture_forms.specs.declared.format.Format.TheVariants.{Edges}
+use Rattle.capture_forms.specs.declared.form.CaptureForm.{CaptureForm}
+use Rattle.capture_forms.specs.declared.form.CaptureForm.TheVariants.{Edges}
 use Rattle.room_run.specs.declared.run.Reporting.TheVariants.{Line}
 use Rattle.room_run.specs.Run.{start, IsRunText, IsTrace}
 
@@ -36,7 +36,7 @@ pub record IsTraceOf (topology script text : List ℕ) (totals : Totals) : Type 
   pub trace : IsTrace edid course.end (start (first_net plan.tree course.pulses) course.events) text totals
 
 -- the line of the run that the texts spell, and its end, in a format
-pub record IsLineOf (format : Format) (topology script text : List ℕ) (totals : Totals) : Type 0 where
+pub record IsLineOf (format : CaptureForm) (topology script text : List ℕ) (totals : Totals) : Type 0 where
   pub plan : Plan
   pub course : Course
   pub edid : Option EdidValue
@@ -66,7 +66,7 @@ root_reported roots.Memory = Memory
 
 -- and one text of their line in each format
 abbrev pub TextsHaveOneLine : Type 0
-TextsHaveOneLine = (format : Format) (topology script x y : List ℕ) (s t : Totals) → IsLineOf format topology script x s → IsLineOf format topology script y t → (x ≡ y) × (s ≡ t)
+TextsHaveOneLine = (format : CaptureForm) (topology script x y : List ℕ) (s t : Totals) → IsLineOf format topology script x s → IsLineOf format topology script y t → (x ≡ y) × (s ≡ t)
 
 -- when each refusal comes: the topology's, then the script's, then the EDID; of memory nothing is said
 abbrev pub IsReported : List ℕ → List ℕ → EmulateError → Type 0
@@ -93,7 +93,7 @@ IsCutText IsDue old new Memory = new ≡ old
 abbrev pub IsCut : List ℕ → List ℕ → Option (List ℕ) → Option (List ℕ) → EmulateError → Type 0
 IsCut topology script = IsCutText (IsTraceOf topology script)
 
-abbrev pub IsLineCut : Format → List ℕ → List ℕ → Option (List ℕ) → Option (List ℕ) → EmulateError → Type 0
+abbrev pub IsLineCut : CaptureForm → List ℕ → List ℕ → Option (List ℕ) → Option (List ℕ) → EmulateError → Type 0
 IsLineCut format topology script = IsCutText (IsLineOf format topology script)
 
 abbrev pub IsEdgeCut : List ℕ → List ℕ → Option (List ℕ) → Option (List ℕ) → EmulateError → Type 0

@@ -10,7 +10,7 @@ use Rattle.room_net.specs.Apply.{net_after, event_fault}
 use Rattle.room_net.specs.Step.{IsNextRound}
 use Rattle.message_text.specs.ReadingText.{is_complete}
 use Rattle.capture_forms.specs.Format.{line_round}
-use Rattle.capture_forms.specs.declared.format.Format.{Format}
+use Rattle.capture_forms.specs.declared.form.CaptureForm.{CaptureForm}
 use Rattle.room_trace.specs.TraceText.{round_line}
 use Rattle.room_run.specs.declared.run.Turn.{Turn}
 use Rattle.room_run.specs.declared.run.Turn.TheVariants.{Stop, Apply, Round}
@@ -73,6 +73,6 @@ text_of edid (OfRound begin before o) = round_line before.devices o
 
 -- ---- the line in a format: of an event nothing, of a round its line
 
-abbrev pub line_of_turn : Format → Happening → List ℕ
+abbrev pub line_of_turn : CaptureForm → Happening → List ℕ
 line_of_turn format (OfEvent at e before) = []
 line_of_turn format (OfRound begin before o) = line_round format o.wave

@@ -12,7 +12,7 @@ use Rattle.edid_core.specs.Root.{IsRoot}
 use Rattle.room_run.specs.declared.run.Reporting.{Reporting}
 use Rattle.room_run.specs.declared.run.Totals.{Totals}
 use Rattle.room_run.specs.Run.{start, IsRunText}
-use Rattle.capture_forms.specs.declared.format.Format.{Format}
+use Rattle.capture_forms.specs.declared.form.CaptureForm.{CaptureForm}
 use Rattle.room_run.specs.Emulate.{IsAccepted, IsTraceOf, IsLineOf}
 
 -- whatever is told of it, and whatever pulls in order there are: it stops, and each of its rounds has an outcome
@@ -24,4 +24,4 @@ RunsHaveTexts = (reporting : Reporting) (tree : List Node) (pulses : List Stretc
 -- their line in each format.
 abbrev pub TextsHaveTraces : Type 0
 TextsHaveTraces = (topology script : List ℕ) (plan : Plan) (course : Course) (edid : Option Edid) → IsAccepted topology script plan course → IsRoot plan.edid edid
-    → ((text : List ℕ) × (totals : Totals) × IsTraceOf topology script text totals) × ((format : Format) → (text : List ℕ) × (totals : Totals) × IsLineOf format topology script text totals)
+    → ((text : List ℕ) × (totals : Totals) × IsTraceOf topology script text totals) × ((format : CaptureForm) → (text : List ℕ) × (totals : Totals) × IsLineOf format topology script text totals)

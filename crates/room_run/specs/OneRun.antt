@@ -12,7 +12,7 @@ use Rattle.edid_core.specs.declared.edid.Edid.{Edid}
 use Rattle.message_text.specs.ReadingText.{reading_text}
 use Rattle.room_trace.specs.TraceText.{comma_list, name_at, loser_text}
 use Rattle.room_run.specs.declared.run.Reporting.{Reporting}
-use Rattle.capture_forms.specs.declared.format.Format.{Format}
+use Rattle.capture_forms.specs.declared.form.CaptureForm.{CaptureForm}
 use Rattle.room_run.specs.declared.run.Reporting.TheVariants.{Trace, Line}
 use Rattle.room_run.specs.declared.run.Totals.{Totals}
 use Rattle.room_run.specs.Run.{Config, start, start_reported, end_reported, event_text, Leads, IsRunText, IsTrace}
@@ -41,13 +41,13 @@ abbrev pub rounds_of_trace : (topology script text : List ℕ) (totals : Totals)
 rounds_of_trace topology script text totals w =
     rounds_reported (Trace w.edid) w.course.end (start (first_net w.plan.tree w.course.pulses) w.course.events) text totals w.trace
 
-abbrev pub rounds_of_line : (format : Format) (topology script text : List ℕ) (totals : Totals) → IsLineOf format topology script text totals → List Outcome
+abbrev pub rounds_of_line : (format : CaptureForm) (topology script text : List ℕ) (totals : Totals) → IsLineOf format topology script text totals → List Outcome
 rounds_of_line format topology script text totals w =
     rounds_reported (Line format) w.course.end (start (first_net w.plan.tree w.course.pulses) w.course.events) text totals w.line
 
 -- The trace and the line, in any format, of a topology and a script have the same counts, and tell the same rounds, in order.
 abbrev pub TextsHaveOneRun : Type 0
-TextsHaveOneRun = (format : Format) (topology script x y : List ℕ) (s t : Totals) → (p : IsTraceOf topology script x s) → (q : IsLineOf format topology script y t)
+TextsHaveOneRun = (format : CaptureForm) (topology script x y : List ℕ) (s t : Totals) → (p : IsTraceOf topology script x s) → (q : IsLineOf format topology script y t)
     → (s ≡ t) × (rounds_of_trace topology script x s p ≡ rounds_of_line format topology script y t q)
 
 -- ---- the parts of a trace

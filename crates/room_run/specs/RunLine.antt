@@ -14,8 +14,8 @@ use Rattle.room_run.specs.declared.run.Turn.{Turn}
 use Rattle.room_run.specs.declared.run.Turn.TheVariants.{Stop, Apply, Round}
 use Rattle.room_run.specs.declared.run.Reporting.{Reporting}
 use Rattle.capture_forms.specs.Format.{line_text}
-use Rattle.capture_forms.specs.declared.format.Format.{Format}
-use Rattle.capture_forms.specs.declared.format.Format.TheVariants.{Edges}
+use Rattle.capture_forms.specs.declared.form.CaptureForm.{CaptureForm}
+use Rattle.capture_forms.specs.declared.form.CaptureForm.TheVariants.{Edges}
 use Rattle.room_run.specs.declared.run.Reporting.TheVariants.{Line}
 use Rattle.capture_monitor.specs.EdgeText.{edge_lines}
 use Rattle.room_trace.specs.TraceText.{end_line}
@@ -47,12 +47,12 @@ RunsAreRead = (reporting : Reporting) (tree : List Node) (pulses : List Stretch)
 
 -- The text of a run's line in a format is that of its rounds, one after another, and of an end that is the later of the
 -- script's end and the last close; and cut there, the line that the rounds make has their readings, in order, each once.
-pub record IsLineText (format : Format) (os : List Outcome) (end : ℕ) (text : List ℕ) : Type 0 where
+pub record IsLineText (format : CaptureForm) (os : List Outcome) (end : ℕ) (text : List ℕ) : Type 0 where
   pub read : IsRead os end
   pub whole : text ≡ line_text format (map (λ o. o.wave) os) end
 
 abbrev pub LinesAreOfTheRounds : Type 0
-LinesAreOfTheRounds = (format : Format) (tree : List Node) (pulses : List Stretch) (events : List TimedEvent) (end : ℕ) (text : List ℕ) (totals : Totals)
+LinesAreOfTheRounds = (format : CaptureForm) (tree : List Node) (pulses : List Stretch) (events : List TimedEvent) (end : ℕ) (text : List ℕ) (totals : Totals)
     → IsWave pulses → AreFramedEvents events → (reported : IsRunText (Line format) end (start (first_net tree pulses) events) text totals)
     → IsLineText format (rounds_in (Line format) end reported.run.turns (start (first_net tree pulses) events) reported.run.body reported.run.last reported.run.leads) (max end reported.run.last.net.close) text
 

@@ -6,7 +6,7 @@ ghost use Rattle.room_run.specs.Emulate.{IsEdgeTraceOf, IsReported, IsEdgeCut, i
 use crate::emulate::EmulateError;
 use crate::line::emulate_line;
 use crate::run::Totals;
-use capture_forms::Format;
+use capture_forms::CaptureForm;
 use std::alloc::Global;
 use text_core::Sink;
 
@@ -28,5 +28,5 @@ pub fn emulate_edges<S: Sink>(
     ensures write { S.is_stuck out.old ≡ false → (IsTrue (is_write result) ↔ IsTrue (S.is_stuck out.new)) }
     ensures cut { IfErr result (IsEdgeCut topology.now script.now (S.contents out.old) (S.contents out.new)) }
 {
-    emulate_line(alloc, topology, script, Format::Edges, out)
+    emulate_line(alloc, topology, script, CaptureForm::Edges, out)
 }

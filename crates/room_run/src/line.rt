@@ -6,7 +6,7 @@ ghost use Rattle.room_run.specs.Emulate.{IsLineOf, IsReported, IsLineCut, is_wri
 
 use crate::emulate::EmulateError;
 use crate::run::{Reporting, Totals, run, started_net};
-use capture_forms::Format;
+use capture_forms::CaptureForm;
 use edid_core::root_on_heap;
 use room_script::{parse_script, parse_topology};
 use std::alloc::{AllocError, Global};
@@ -14,7 +14,7 @@ use text_core::Sink;
 
 // That the line is written in a format, on the heap: it takes as much room as an EDID.
 #[inline(never)]
-fn line_in(alloc: Global, format: Format) -> Result<Box<Reporting>, AllocError>
+fn line_in(alloc: Global, format: CaptureForm) -> Result<Box<Reporting>, AllocError>
     ensures { IfOk result (λ reporting. reporting.value ≡ Line format) }
 {
     let reporting = Box::new(alloc, Reporting::Line(format))?;
@@ -34,7 +34,7 @@ pub fn emulate_line<S: Sink>(
     alloc: Global,
     topology: &[u8],
     script: &[u8],
-    format: Format,
+    format: CaptureForm,
     out: &mut S,
 ) -> Result<Totals, EmulateError>
     ensures ok { IfOk result (λ totals. (text : List ℕ) × IsLineOf format topology.now script.now text totals × Appends (S.contents out.old) (S.contents out.new) text) }

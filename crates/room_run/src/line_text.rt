@@ -9,7 +9,7 @@ ghost use Rattle.room_run.specs.Heard.{IsRunWritten};
 use crate::reporter::Reporter;
 use crate::run::{Totals, told};
 use crate::turn_by_turn::run_turns;
-use capture_forms::{Format, add_end, add_round, add_start};
+use capture_forms::{CaptureForm, add_end, add_round, add_start};
 use line_rounds::{Outcome, Wire};
 use room_event::EventError;
 use room_net::Net;
@@ -20,7 +20,7 @@ use text_core::{Counted, Sink, WriteFault};
 #[derive(Drop)]
 pub struct LineText<'a, S: Sink> {
     text: Counted<'a, S>,
-    format: Format,
+    format: CaptureForm,
 }
 
 impl<'a, S: Sink> Reporter for LineText<'a, S> {
@@ -58,7 +58,7 @@ impl<'a, S: Sink> Reporter for LineText<'a, S> {
 pub fn write_line<S: Sink, W: Wire>(
     out: &mut S,
     net: &mut Net<W>,
-    format: Format,
+    format: CaptureForm,
     events: &[TimedEvent],
     end: u64,
 ) -> Result<Totals, WriteFault>

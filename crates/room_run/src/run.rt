@@ -11,7 +11,7 @@ ghost use Rattle.room_run.specs.Run.{HasAddressReported, IsRunText, event_turn, 
 
 use crate::line_text::write_line;
 use crate::trace_text::write_trace;
-use capture_forms::Format;
+use capture_forms::CaptureForm;
 use edid_core::Edid;
 use edid_tree::Tree;
 use line_rounds::Wire;
@@ -38,7 +38,7 @@ pub enum Reporting {
     /// Its trace, with the EDID that ports pass on, where it is given.
     Trace(Option<Edid>),
     /// Its line, in a format.
-    Line(Format),
+    Line(CaptureForm),
 }
 
 /// What comes next in a run.

@@ -61,11 +61,11 @@ pub reports_at : (p q : Position) (e : Edge) (text : List ℕ) → p ≡ q → R
 reports_at p q e text same line = subst (λ (x : Position). Reports x.net.value e text) same line
 
 -- a round that was begun from a copy of a position, in the run that a stepper shows
-pub begins_from : (course : RunInput) (run : Run) (copy here next : Position) (e : Edge) → run_of course ≡ run → point_of course.events.items copy ≡ point_of course.events.items here
-    → Begins course.end (point_of course.events.items copy) e (point_of course.events.items next) → Begins run.end (point_of run.events here) e (point_of run.events next)
-begins_from course run copy here next e shown same begins =
+pub begins_from : (input : RunInput) (run : Run) (copy here next : Position) (e : Edge) → run_of input ≡ run → point_of input.events.items copy ≡ point_of input.events.items here
+    → Begins input.end (point_of input.events.items copy) e (point_of input.events.items next) → Begins run.end (point_of run.events here) e (point_of run.events next)
+begins_from input run copy here next e shown same begins =
     subst (λ (r : Run). Begins r.end (point_of r.events here) e (point_of r.events next)) shown
-    (subst (λ (p : Point). Begins course.end p e (point_of course.events.items next)) same begins)
+    (subst (λ (p : Point). Begins input.end p e (point_of input.events.items next)) same begins)
 
 pub first_gives : (end : ℕ) (p q : Point) (e : Edge) (text : List ℕ) → Begins end p e q → Reports q.net e text → IsFirstEdge end p text q.net
 first_gives end p q e text b line =
@@ -95,11 +95,11 @@ pub record IsIn (s : Steps) (ahead : Option Ahead) (inside : Position) : Type 0 
   pub ready : IsReady s.run.end s.last
   pub round : IsInside s.run.end s.last (point_of s.run.events inside)
 
-pub is_in : (course : RunInput) (last inside : Position) (ahead : Option Ahead) (b : Bool) → IsSome (begun_in b (written_in ahead (point_of course.events.items inside))) → IsReady course.end (point_of course.events.items last)
-    → InsideIf b course.end (point_of course.events.items last) (point_of course.events.items inside)
-    → IsIn (steps (run_of course) (point_of course.events.items last) (begun_in b (written_in ahead (point_of course.events.items inside)))) ahead inside
-is_in course last inside ahead true some r i = record { net = refl; ready = r; round = i }
-is_in course last inside ahead false some r i = cc
+pub is_in : (input : RunInput) (last inside : Position) (ahead : Option Ahead) (b : Bool) → IsSome (begun_in b (written_in ahead (point_of input.events.items inside))) → IsReady input.end (point_of input.events.items last)
+    → InsideIf b input.end (point_of input.events.items last) (point_of input.events.items inside)
+    → IsIn (steps (run_of input) (point_of input.events.items last) (begun_in b (written_in ahead (point_of input.events.items inside)))) ahead inside
+is_in input last inside ahead true some r i = record { net = refl; ready = r; round = i }
+is_in input last inside ahead false some r i = cc
 
 pub alike_in : (s : Steps) (ahead : Option Ahead) (p q : Position) → AreAlike p q → IsIn s ahead q → IsIn s ahead p
 alike_in s ahead p q alike stands = record {

@@ -27,14 +27,14 @@ no_edge s None is none over = subst (λ x. IsNoEdgeBy s x) (sym is) over
 no_edge s (Some net) is none over = cc
 
 -- where the events before the next round were passed from the last one, and none comes
-pub over_found : (P : ℕ → Type 0) (course : RunInput) (s : Steps) (copy place : Position) (found : Option ℕ) (b : Bool) → run_of course ≡ s.run → copy ≡ place → point_of s.run.events place ≡ s.last
-    → is_some s.begun ≡ false → MatchOption found (IsOver course.end (point_of course.events.items copy)) P → is_some found ≡ not b → OverIf b s
-over_found P course s copy place None true shown same last none over is =
-    let here : IsOver course.end (point_of course.events.items place) = subst (λ (p : Position). IsOver course.end (point_of course.events.items p)) same over in
+pub over_found : (P : ℕ → Type 0) (input : RunInput) (s : Steps) (copy place : Position) (found : Option ℕ) (b : Bool) → run_of input ≡ s.run → copy ≡ place → point_of s.run.events place ≡ s.last
+    → is_some s.begun ≡ false → MatchOption found (IsOver input.end (point_of input.events.items copy)) P → is_some found ≡ not b → OverIf b s
+over_found P input s copy place None true shown same last none over is =
+    let here : IsOver input.end (point_of input.events.items place) = subst (λ (p : Position). IsOver input.end (point_of input.events.items p)) same over in
     no_edge s s.begun refl none (subst (λ (p : Point). IsOver s.run.end p) last (subst (λ (r : Run). IsOver r.end (point_of r.events place)) shown here))
-over_found P course s copy place None false shown same last none over is = tt
-over_found P course s copy place (Some begin) true shown same last none over is = cc
-over_found P course s copy place (Some begin) false shown same last none over is = tt
+over_found P input s copy place None false shown same last none over is = tt
+over_found P input s copy place (Some begin) true shown same last none over is = cc
+over_found P input s copy place (Some begin) false shown same last none over is = tt
 
 pub begun_is : (b : Bool) (q : Point) → b ≡ is_some (begun_in b q)
 begun_is true q = refl

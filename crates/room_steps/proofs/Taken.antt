@@ -60,14 +60,14 @@ brings_then end counter p mid q (inl (none, same)) k = subst (λ x. Brings end x
 brings_then end counter p mid q (inr h) k = record { before = h.before; later = omega (arith, h.later, k.later) }
 
 -- a round from a copy of a position, in the run that a stepper shows
-pub step_from : (course : RunInput) (run : Run) (copy here next : Position) (o : Outcome) → run_of course ≡ run → point_of course.events.items copy ≡ point_of course.events.items here
-    → IsRoundStep course.end (point_of course.events.items copy) o (point_of course.events.items next) → IsRoundStep run.end (point_of run.events here) o (point_of run.events next)
-step_from course run copy here next o shown same step =
+pub step_from : (input : RunInput) (run : Run) (copy here next : Position) (o : Outcome) → run_of input ≡ run → point_of input.events.items copy ≡ point_of input.events.items here
+    → IsRoundStep input.end (point_of input.events.items copy) o (point_of input.events.items next) → IsRoundStep run.end (point_of run.events here) o (point_of run.events next)
+step_from input run copy here next o shown same step =
     subst (λ (r : Run). IsRoundStep r.end (point_of r.events here) o (point_of r.events next)) shown
-    (subst (λ (p : Point). IsRoundStep course.end p o (point_of course.events.items next)) same step)
+    (subst (λ (p : Point). IsRoundStep input.end p o (point_of input.events.items next)) same step)
 
-pub brings_from : (course : RunInput) (run : Run) (copy here next : Position) → run_of course ≡ run → point_of course.events.items copy ≡ point_of course.events.items here
-    → Brings course.end (point_of course.events.items copy) (point_of course.events.items next) → Brings run.end (point_of run.events here) (point_of run.events next)
-brings_from course run copy here next shown same brings =
+pub brings_from : (input : RunInput) (run : Run) (copy here next : Position) → run_of input ≡ run → point_of input.events.items copy ≡ point_of input.events.items here
+    → Brings input.end (point_of input.events.items copy) (point_of input.events.items next) → Brings run.end (point_of run.events here) (point_of run.events next)
+brings_from input run copy here next shown same brings =
     subst (λ (r : Run). Brings r.end (point_of r.events here) (point_of r.events next)) shown
-    (subst (λ (p : Point). Brings course.end p (point_of course.events.items next)) same brings)
+    (subst (λ (p : Point). Brings input.end p (point_of input.events.items next)) same brings)

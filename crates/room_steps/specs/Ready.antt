@@ -33,7 +33,7 @@ pub record AreAlike (p q : Position) : Type 0 where
 
 -- what a run in the code is made of
 abbrev pub run_of : RunInput → Run
-run_of course = record { edid = course.edid.value; events = course.events.items; end = course.end }
+run_of input = record { edid = input.edid.value; events = input.events.items; end = input.end }
 
 -- times stay below the limits, and the events that are left come in their order, before the end
 pub record IsReady (end : ℕ) (p : Point) : Type 0 where

@@ -121,22 +121,22 @@ impl Position {
     }
 
     // What comes next in the run.
-    fn turn(&self, course: &RunInput) -> Turn
-        ensures { result ≡ turn_at course.now.end (point_of course.now.events.items self.now) }
+    fn turn(&self, input: &RunInput) -> Turn
+        ensures { result ≡ turn_at input.now.end (point_of input.now.events.items self.now) }
     {
-        let left = course.left(self.applied);
-        next_turn(course.end, &self.net, first_time(left))
+        let left = input.left(self.applied);
+        next_turn(input.end, &self.net, first_time(left))
     }
 
     // Applies the next event, which comes at this instant, and reports it.
-    fn pass_event<R: Reporter>(&mut self, course: &RunInput, at: u64, reporter: &mut R)
-        requires turn { turn_at course.now.end (point_of course.now.events.items self.old) ≡ Apply at }
-        requires ready { IsReady course.now.end (point_of course.now.events.items self.old) }
-        ensures point { Passes at course.now.events.items self.old self.new }
-        ensures heard { HearsFirst R.hears at self.old.net.value (drop self.old.applied course.now.events.items) reporter.old reporter.new }
-        ensures ready { IsReady course.now.end (point_of course.now.events.items self.new) }
+    fn pass_event<R: Reporter>(&mut self, input: &RunInput, at: u64, reporter: &mut R)
+        requires turn { turn_at input.now.end (point_of input.now.events.items self.old) ≡ Apply at }
+        requires ready { IsReady input.now.end (point_of input.now.events.items self.old) }
+        ensures point { Passes at input.now.events.items self.old self.new }
+        ensures heard { HearsFirst R.hears at self.old.net.value (drop self.old.applied input.now.events.items) reporter.old reporter.new }
+        ensures ready { IsReady input.now.end (point_of input.now.events.items self.new) }
     {
-        let Some((event, others)) = course.left(self.applied).split_first() else {
+        let Some((event, others)) = input.left(self.applied).split_first() else {
             unreachable!();
         };
         let _left = others;
@@ -147,19 +147,19 @@ impl Position {
 
     /// Applies the events that come before the next round, and reports each. Returns when that round begins; None where no round
     /// comes.
-    pub fn to_round<R: Reporter>(&mut self, course: &RunInput, reporter: &mut R) -> Option<u64>
-        requires ready { IsReady course.now.end (point_of course.now.events.items self.old) }
-        ensures point { point_of course.now.events.items self.new ≡ after_events course.now.end (point_of course.now.events.items self.old) }
+    pub fn to_round<R: Reporter>(&mut self, input: &RunInput, reporter: &mut R) -> Option<u64>
+        requires ready { IsReady input.now.end (point_of input.now.events.items self.old) }
+        ensures point { point_of input.now.events.items self.new ≡ after_events input.now.end (point_of input.now.events.items self.old) }
         ensures comes { MatchOption result
-            (IsOver course.now.end (point_of course.now.events.items self.old))
-            (λ begin. turn_at course.now.end (after_events course.now.end (point_of course.now.events.items self.old)) ≡ Round begin) }
+            (IsOver input.now.end (point_of input.now.events.items self.old))
+            (λ begin. turn_at input.now.end (after_events input.now.end (point_of input.now.events.items self.old)) ≡ Round begin) }
         ensures rest { self.new.net.value.rest ≡ self.old.net.value.rest }
-        ensures ready { IsReady course.now.end (point_of course.now.events.items self.new) }
-        ensures heard { Hears R.hears reporter.old (happened course.now.end (point_of course.now.events.items self.old)) reporter.new }
+        ensures ready { IsReady input.now.end (point_of input.now.events.items self.new) }
+        ensures heard { Hears R.hears reporter.old (happened input.now.end (point_of input.now.events.items self.old)) reporter.new }
     {
         'events: loop {
-            match self.turn(course) {
-                Turn::Apply(at) => self.pass_event(course, at, reporter),
+            match self.turn(input) {
+                Turn::Apply(at) => self.pass_event(input, at, reporter),
                 Turn::Round(begin) => return Some(begin),
                 Turn::Stop => return None,
             }
@@ -167,28 +167,28 @@ impl Position {
     }
 
     /// The same, reported to nobody.
-    pub fn pass_events(&mut self, course: &RunInput) -> Option<u64>
-        requires { IsReady course.now.end (point_of course.now.events.items self.old) }
-        ensures point { point_of course.now.events.items self.new ≡ after_events course.now.end (point_of course.now.events.items self.old) }
+    pub fn pass_events(&mut self, input: &RunInput) -> Option<u64>
+        requires { IsReady input.now.end (point_of input.now.events.items self.old) }
+        ensures point { point_of input.now.events.items self.new ≡ after_events input.now.end (point_of input.now.events.items self.old) }
         ensures comes { MatchOption result
-            (IsOver course.now.end (point_of course.now.events.items self.old))
-            (λ begin. turn_at course.now.end (after_events course.now.end (point_of course.now.events.items self.old)) ≡ Round begin) }
+            (IsOver input.now.end (point_of input.now.events.items self.old))
+            (λ begin. turn_at input.now.end (after_events input.now.end (point_of input.now.events.items self.old)) ≡ Round begin) }
         ensures rest { self.new.net.value.rest ≡ self.old.net.value.rest }
-        ensures ready { IsReady course.now.end (point_of course.now.events.items self.new) }
+        ensures ready { IsReady input.now.end (point_of input.now.events.items self.new) }
     {
-        self.to_round(course, &mut Silent)
+        self.to_round(input, &mut Silent)
     }
 
     /// Runs the events and the round that come next. None where no round comes.
-    pub fn pass_round(&mut self, course: &RunInput) -> Option<RoundReport>
-        requires { IsReady course.now.end (point_of course.now.events.items self.old) }
+    pub fn pass_round(&mut self, input: &RunInput) -> Option<RoundReport>
+        requires { IsReady input.now.end (point_of input.now.events.items self.old) }
         ensures step { MatchOption result
-            (IsOver course.now.end (point_of course.now.events.items self.old))
-            (λ report. IsRoundStep course.now.end (point_of course.now.events.items self.old) report.outcome (point_of course.now.events.items self.new)) }
-        ensures brings { IfSome result (λ _. Brings course.now.end (point_of course.now.events.items self.old) (point_of course.now.events.items self.new)) }
-        ensures ready { IfSome result (λ _. IsReady course.now.end (point_of course.now.events.items self.new)) }
+            (IsOver input.now.end (point_of input.now.events.items self.old))
+            (λ report. IsRoundStep input.now.end (point_of input.now.events.items self.old) report.outcome (point_of input.now.events.items self.new)) }
+        ensures brings { IfSome result (λ _. Brings input.now.end (point_of input.now.events.items self.old) (point_of input.now.events.items self.new)) }
+        ensures ready { IfSome result (λ _. IsReady input.now.end (point_of input.now.events.items self.new)) }
     {
-        let begin = self.pass_events(course)?;
+        let begin = self.pass_events(input)?;
         let outcome = self.net.round_at(begin);
         let _stretches = outcome.wave.as_slice();
         self.is_first = false;
@@ -197,13 +197,13 @@ impl Position {
 
     /// Begins the round that comes next, with the events before it. Returns the first edge of its line; None where no
     /// round comes.
-    pub fn begin_round(&mut self, course: &RunInput) -> Option<Edge>
-        requires { IsReady course.now.end (point_of course.now.events.items self.old) }
+    pub fn begin_round(&mut self, input: &RunInput) -> Option<Edge>
+        requires { IsReady input.now.end (point_of input.now.events.items self.old) }
         ensures { MatchOption result
-            (IsOver course.now.end (point_of course.now.events.items self.old))
-            (λ edge. Begins course.now.end (point_of course.now.events.items self.old) edge (point_of course.now.events.items self.new)) }
+            (IsOver input.now.end (point_of input.now.events.items self.old))
+            (λ edge. Begins input.now.end (point_of input.now.events.items self.old) edge (point_of input.now.events.items self.new)) }
     {
-        let _begin = self.pass_events(course)?;
+        let _begin = self.pass_events(input)?;
         if !self.net.begin() {
             unreachable!();
         }
@@ -232,12 +232,12 @@ impl Position {
 
     /// Adds the lines that are due before any event: those of the ports, before the first round.
     #[tactic(auto, using(text_core::proofs::Adding::nothing))]
-    pub fn add_start<S: Sink>(&self, course: &RunInput, out: &mut Counted<'_, S>)
-        requires addressed { HasAddress course.now.edid.value }
-        ensures { Adds out.old out.new (start_text course.now.edid.value (point_of course.now.events.items self.now)) }
+    pub fn add_start<S: Sink>(&self, input: &RunInput, out: &mut Counted<'_, S>)
+        requires addressed { HasAddress input.now.edid.value }
+        ensures { Adds out.old out.new (start_text input.now.edid.value (point_of input.now.events.items self.now)) }
     {
         if self.is_first {
-            add_new_ports(out, 0, &course.edid, self.net.tree(), &[]);
+            add_new_ports(out, 0, &input.edid, self.net.tree(), &[]);
         }
     }
 

@@ -29,7 +29,7 @@ const LEAP: u32 = 64;
 /// to it, and where it counts they are exchanged for those in which the run stands.
 #[derive(Drop)]
 pub(crate) struct Walk {
-    course: RunInput,
+    input: RunInput,
     /// After the last round that was finished, or at the start.
     last: Position,
     /// In the round that was begun, where one is. Its line is heard ahead of what is written of it, so that an edge that is
@@ -46,10 +46,10 @@ impl Model for Walk {
 
     ghost Value = { Steps };
 
-    ghost view = { λ s. record { run = run_of s.course; last = point_of s.course.events.items s.last; begun = begun_in s.is_begun (written_in s.ahead (point_of s.course.events.items s.inside)) } };
+    ghost view = { λ s. record { run = run_of s.input; last = point_of s.input.events.items s.last; begun = begun_in s.is_begun (written_in s.ahead (point_of s.input.events.items s.inside)) } };
 
-    ghost invariant = { λ s. HasAddress s.course.edid.value × IsReady s.course.end (point_of s.course.events.items s.last)
-        × InsideIf s.is_begun s.course.end (point_of s.course.events.items s.last) (point_of s.course.events.items s.inside)
+    ghost invariant = { λ s. HasAddress s.input.edid.value × IsReady s.input.end (point_of s.input.events.items s.last)
+        × InsideIf s.is_begun s.input.end (point_of s.input.events.items s.last) (point_of s.input.events.items s.inside)
         × AheadIf s.ahead s.inside.net.value };
 }
 
@@ -73,21 +73,21 @@ fn step_error(fault: WriteFault) -> StepError
 
 // Writes what the trace has of a round with this outcome, from the position before it to that after it.
 fn write_step<S: Sink>(
-    course: &RunInput,
+    input: &RunInput,
     before: &mut Position,
     after: &Position,
     outcome: &Outcome,
     out: &mut S,
 ) -> Result<u128, WriteFault>
-    requires ready { IsReady course.now.end (point_of course.now.events.items before.old) }
-    requires addressed { HasAddress course.now.edid.value }
+    requires ready { IsReady input.now.end (point_of input.now.events.items before.old) }
+    requires addressed { HasAddress input.now.edid.value }
     ensures { WrittenText (S.contents out.old) (S.contents out.new) (S.is_stuck out.old) (S.is_stuck out.new)
-        (step_text (run_of course.now) (point_of course.now.events.items before.old) outcome.now (point_of course.now.events.items after.now)) result }
+        (step_text (run_of input.now) (point_of input.now.events.items before.old) outcome.now (point_of input.now.events.items after.now)) result }
 {
     let mut text = Counted::new(out);
-    before.add_start(course, &mut text);
-    let mut trace = TraceText::new(text, &course.edid);
-    let _begin = before.to_round(course, &mut trace);
+    before.add_start(input, &mut text);
+    let mut trace = TraceText::new(text, &input.edid);
+    let _begin = before.to_round(input, &mut trace);
     let TraceText {
         mut text,
         passed: _passed,
@@ -153,7 +153,7 @@ impl Walk {
             return false;
         }
         self.copy_last(place);
-        place.pass_events(&self.course).is_none()
+        place.pass_events(&self.input).is_none()
     }
 
     // Copies the position after the last round that was finished to another place.
@@ -180,7 +180,7 @@ impl Walk {
             ⊥ self.old self.new (S.contents out.old) (S.contents out.new) result }
         ensures flag { S.is_stuck out.new ≡ (is_write result || S.is_stuck out.old) }
     {
-        match write_step(&self.course, before, after, outcome, out) {
+        match write_step(&self.input, before, after, outcome, out) {
             Err(fault) => Err(step_error(fault)),
             Ok(count) => {
                 self.stand_after(after);
@@ -200,7 +200,7 @@ impl Walk {
         ensures flag { S.is_stuck out.new ≡ (is_write result || S.is_stuck out.old) }
     {
         self.copy_last(after);
-        let Some(report) = after.pass_round(&self.course) else {
+        let Some(report) = after.pass_round(&self.input) else {
             return Err(StepError::Ended);
         };
         self.copy_last(before);
@@ -216,7 +216,7 @@ impl Walk {
     {
         ahead.copy_from(here);
         'rounds: for _ in 0..LEAP {
-            let Some(report) = ahead.pass_round(&self.course) else {
+            let Some(report) = ahead.pass_round(&self.input) else {
                 return false;
             };
             if stops(at, &report.outcome) {
@@ -236,7 +236,7 @@ impl Walk {
         'leaps: while self.leap(at, before, after) {}
         'rounds: loop {
             after.copy_from(before);
-            let Some(report) = after.pass_round(&self.course) else {
+            let Some(report) = after.pass_round(&self.input) else {
                 return None;
             };
             if stops(at, &report.outcome) {
@@ -276,7 +276,7 @@ impl Walk {
         ensures flag { S.is_stuck out.new ≡ (is_write result || S.is_stuck out.old) }
     {
         inside.copy_from(last);
-        let Some(edge) = inside.begin_round(&self.course) else {
+        let Some(edge) = inside.begin_round(&self.input) else {
             return Err(StepError::Ended);
         };
         match inside.write_edge(out, edge) {
@@ -371,7 +371,7 @@ impl Walk {
         let inside = Position::start(alloc, topology.tree.copy(), &[])?;
         let last = Position::start(alloc, topology.tree, &script.pulses)?;
         Ok(Walk {
-            course: RunInput {
+            input: RunInput {
                 edid,
                 events: script.events,
                 end: script.end,

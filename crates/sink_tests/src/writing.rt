@@ -1,6 +1,6 @@
 //! Each call over writers that take few bytes a call, and that fail.
 use crate::rows::{ROWS, Row};
-use capture_forms::Format;
+use capture_forms::CaptureForm;
 use capture_monitor::watch;
 use conversion_calls::{edid_to_text, text_to_hex};
 use edid_texts::{edid_from_bytes, write_text};
@@ -78,7 +78,7 @@ fn run_edges(rt: &(impl Abort + AllocGlobal), input: &str, out: &mut Out<'_>) ->
 fn run_line(
     rt: &(impl Abort + AllocGlobal),
     input: &str,
-    format: Format,
+    format: CaptureForm,
     out: &mut Out<'_>,
 ) -> String {
     let (topology, script) = parted(rt, input, "script\n");
@@ -134,9 +134,9 @@ fn call(rt: &(impl Abort + AllocGlobal), row: &Row<'_>, out: &mut Out<'_>) -> St
     match row.call {
         "emulate" => run(rt, input, out),
         "emulate_edges" => run_edges(rt, input, out),
-        "emulate_line vcd" => run_line(rt, input, Format::Vcd, out),
-        "emulate_line pin" => run_line(rt, input, Format::Pin, out),
-        "emulate_line csv" => run_line(rt, input, Format::Csv, out),
+        "emulate_line vcd" => run_line(rt, input, CaptureForm::Vcd, out),
+        "emulate_line pin" => run_line(rt, input, CaptureForm::Pin, out),
+        "emulate_line csv" => run_line(rt, input, CaptureForm::Csv, out),
         "step_run" => step(rt, input, out),
         "watch" => refusal(rt, watch(rt.alloc(), input.as_bytes(), out)),
         "asm_lines" => refusal(rt, asm_lines(input.as_bytes(), out)),

@@ -34,7 +34,7 @@ use Rattle.capture_laws.specs.Formats.{IsReadAs}
 use Rattle.capture_laws.proofs.Formats.{is_capture, lines_are_read_back}
 use Rattle.capture_laws.proofs.ReadBack.{same_line}
 use Rattle.capture_laws.specs.Formats.{IsReadText}
-use Rattle.capture_forms.specs.declared.format.Format.{Format}
+use Rattle.capture_forms.specs.declared.form.CaptureForm.{CaptureForm}
 use Rattle.line_wave.specs.Bounds.{latest_event}
 use Rattle.line_wave.specs.declared.Edge.{Edge}
 use Rattle.timing_laws.specs.Attempts.{AreOfSix, RunsGiveUp}
@@ -100,7 +100,7 @@ reported_six reporting tree events end text totals framed reported =
     (first_of_six (first_net tree []) reported.run.last.net m.moves (framed-started tree []) refl m.goes (kept-started 0 0 tree))
 
 -- what holds of the edges and the readings of its rounds holds of those of the capture that its line is read as
-runs_say : (Says : List Edge → List Listed → Type 0) (format : Format) (tree : List Node) (events : List TimedEvent) (end : ℕ) (text : List ℕ) (totals : Totals) → AreFramedEvents events
+runs_say : (Says : List Edge → List Listed → Type 0) (format : CaptureForm) (tree : List Node) (events : List TimedEvent) (end : ℕ) (text : List ℕ) (totals : Totals) → AreFramedEvents events
     → (reported : IsRunText (Line format) end (start (first_net tree []) events) text totals) → end ≤ latest_event
     → Says (edges_of (run_wave (rounds_reported (Line format) end (start (first_net tree []) events) text totals reported))) (map outcome_listed (rounds_reported (Line format) end (start (first_net tree []) events) text totals reported))
     → (c : Captured) × IsReadText format text c × Says c.edges (readings_of (line_of_edges c.edges) c.end)

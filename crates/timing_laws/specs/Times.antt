@@ -13,7 +13,7 @@ use Rattle.audit_remarks.specs.Free.{too_soon}
 use Rattle.room_net.specs.State.{first_net}
 use Rattle.room_script.specs.Script.{AreFramedEvents}
 use Rattle.room_script.specs.declared.script.TimedEvent.{TimedEvent}
-use Rattle.capture_forms.specs.declared.format.Format.{Format}
+use Rattle.capture_forms.specs.declared.form.CaptureForm.{CaptureForm}
 use Rattle.room_run.specs.declared.run.Reporting.TheVariants.{Line}
 use Rattle.room_run.specs.declared.run.Totals.{Totals}
 use Rattle.room_run.specs.Run.{start, IsRunText}
@@ -39,6 +39,6 @@ KeepsTimes c = AreInTime (first_tape c.edges) (readings_of (line_of_edges c.edge
 -- The line of a run without pulses, within the limit of scripts and written in any format, is read as a capture of which an audit
 -- remarks no width, no low drive, and of free times none but what asks for five or seven bit periods.
 abbrev pub RunsKeepTheirTimes : Type 0
-RunsKeepTheirTimes = (format : Format) (tree : List Node) (events : List TimedEvent) (end : ℕ) (text : List ℕ) (totals : Totals)
+RunsKeepTheirTimes = (format : CaptureForm) (tree : List Node) (events : List TimedEvent) (end : ℕ) (text : List ℕ) (totals : Totals)
     → AreFramedEvents events → IsRunText (Line format) end (start (first_net tree []) events) text totals → end ≤ latest_event
     → (c : Captured) × IsReadText format text c × KeepsTimes c

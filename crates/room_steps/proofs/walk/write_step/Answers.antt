@@ -15,9 +15,9 @@ use Rattle.room_steps.proofs.walk.write_step.Goals as goal
 
 pub returns : goal.returns
 returns g c =
-    let edid = c.args.course.now.edid.value in
-    let p = point_of c.args.course.now.events.items c.args.before.now in
-    let end = c.args.course.now.end in
+    let edid = c.args.input.now.edid.value in
+    let p = point_of c.args.input.now.events.items c.args.before.now in
+    let end = c.args.input.now.end in
     let outcome = c.args.outcome.now in
     let begin : Adds c.new-text.result c.new-trace.result.text (start_text edid p) = subst (λ (t : Tally). Adds c.new-text.result t (start_text edid p)) (sym c.new-trace.ensures.text) c.add_start.ensures in
     let kept : c.new-trace.result.passed.edid.now ≡ edid = c.new-trace.ensures.edid ∙ c.deref.ensures in

@@ -8,8 +8,8 @@ use Rattle.room_steps.proofs.position.Position.begin_round.Goals as goal
 
 pub returns : goal.returns
 returns c =
-    let end = c.args.course.now.end in
-    let es = c.args.course.now.events.items in
+    let end = c.args.input.now.end in
+    let es = c.args.input.now.events.items in
     let p = point_of es c.args.self.now in
     let mid = c.pass_events.new.self in
     let passes = c.pass_events.ensures in

@@ -8,8 +8,8 @@ use Rattle.room_steps.proofs.position.Position.pass_round.Goals as goal
 
 pub returns-clause-brings : goal.returns-clause-brings
 returns-clause-brings c =
-    let end = c.args.course.now.end in
-    let es = c.args.course.now.events.items in
+    let end = c.args.input.now.end in
+    let es = c.args.input.now.events.items in
     let p = after_events end (point_of es c.args.self.now) in
     let begins = round_begins end p.net (first_time p.events) c.in_ok-begin.begin c.in_ok-begin.ensures.comes in
     let rest = c.pass_events.ensures.rest in
@@ -18,8 +18,8 @@ returns-clause-brings c =
 
 pub returns-clause-ready : goal.returns-clause-ready
 returns-clause-ready c =
-    let end = c.args.course.now.end in
-    let es = c.args.course.now.events.items in
+    let end = c.args.input.now.end in
+    let es = c.args.input.now.events.items in
     let p = after_events end (point_of es c.args.self.now) in
     let begins = round_begins end p.net (first_time p.events) c.in_ok-begin.begin c.in_ok-begin.ensures.comes in
     let round = c.round_at-outcome in

@@ -7,11 +7,11 @@ use Rattle.room_steps.proofs.position.Position.to_round.Given as goal
 -- what is passed and heard of from here on leads where it led from the start
 abbrev pub invariant-events : goal.invariant-events
 invariant-events g l = record {
-  point : after_events l.course.end (point_of l.course.events.items l.self) ≡ after_events l.course.end (point_of l.course.events.items l.fn.self);
+  point : after_events l.input.end (point_of l.input.events.items l.self) ≡ after_events l.input.end (point_of l.input.events.items l.fn.self);
   rest : l.self.net.value.rest ≡ l.fn.self.net.value.rest;
-  ready : IsReady l.course.end (point_of l.course.events.items l.self);
-  heard : HearsOn g.R.Reporter.hears (happened l.course.end (point_of l.course.events.items l.fn.self)) l.fn.reporter l.reporter (happened l.course.end (point_of l.course.events.items l.self));
+  ready : IsReady l.input.end (point_of l.input.events.items l.self);
+  heard : HearsOn g.R.Reporter.hears (happened l.input.end (point_of l.input.events.items l.fn.self)) l.fn.reporter l.reporter (happened l.input.end (point_of l.input.events.items l.self));
 }
 
 abbrev pub decreases-events : goal.decreases-events
-decreases-events g l = length (drop l.self.applied l.course.events.items)
+decreases-events g l = length (drop l.self.applied l.input.events.items)

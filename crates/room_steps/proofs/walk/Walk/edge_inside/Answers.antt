@@ -8,23 +8,23 @@ use Rattle.room_steps.proofs.walk.Walk.edge_inside.Goals as goal
 pub hear_ahead-requires-clause-underway : goal.hear_ahead-requires-clause-underway
 hear_ahead-requires-clause-underway g c =
     let here = c.self.inside in
-    let es = here.course.events.items in
+    let es = here.input.events.items in
     let some = subst (λ (x : Steps). IsSome x.begun) (sym c.self.view_is) c.requires in
-    let stood = is_in here.course here.last here.inside here.ahead here.is_begun some c.self.invariant.1 c.self.invariant.2 in
-    inside_underway here.course.end (point_of es here.last) (point_of es here.inside) stood.round
+    let stood = is_in here.input here.last here.inside here.ahead here.is_begun some c.self.invariant.1 c.self.invariant.2 in
+    inside_underway here.input.end (point_of es here.last) (point_of es here.inside) stood.round
 
 pub first_edge-requires : goal.first_edge-requires
 first_edge-requires g c =
     let here = c.self.inside in
-    let es = here.course.events.items in
+    let es = here.input.events.items in
     let at = c.hear_ahead.new.self in
     let now = c.hear_ahead.new.ahead in
     let heard = c.in_default.ensures in
     let copy = c.copy_from.new.self in
-    let run = run_of here.course in
+    let run = run_of here.input in
     let s : Steps = steps run (point_of es here.last) (begun_in here.is_begun (written_in here.ahead (point_of es here.inside))) in
     let some = subst (λ (x : Steps). IsSome x.begun) (sym c.self.view_is) c.requires in
-    let stood : IsIn s here.ahead here.inside = is_in here.course here.last here.inside here.ahead here.is_begun some c.self.invariant.1 c.self.invariant.2 in
+    let stood : IsIn s here.ahead here.inside = is_in here.input here.last here.inside here.ahead here.is_begun some c.self.invariant.1 c.self.invariant.2 in
     let stands = alike_in s now copy at c.copy_from.ensures (heard_on s here.ahead now here.inside at stood heard.written heard.kept.0 heard.kept.1 heard.ahead.3.underway) in
     let round = c.finish_round-report in
     let before = c.deref_mut.result.now in
@@ -37,18 +37,18 @@ first_edge-requires g c =
 pub returns-in_default-clause-step : goal.returns-in_default-clause-step
 returns-in_default-clause-step g c =
     let here = c.self.inside in
-    let es = here.course.events.items in
+    let es = here.input.events.items in
     let at = c.hear_ahead.new.self in
     let now = c.hear_ahead.new.ahead in
     let heard = c.in_default.ensures in
     let copy = c.copy_from.new.self in
-    let run = run_of here.course in
+    let run = run_of here.input in
     let s : Steps = steps run (point_of es here.last) (begun_in here.is_begun (written_in here.ahead (point_of es here.inside))) in
     let u : Steps = steps run (point_of es here.last) (begun_in here.is_begun (written_in now (point_of es at))) in
     let viewed : s ≡ c.args.self.now = c.self.view_is in
     let same : u ≡ s = same_written run (point_of es here.last) (written_in here.ahead (point_of es here.inside)) (written_in now (point_of es at)) here.is_begun heard.written in
     let some = subst (λ (x : Steps). IsSome x.begun) (sym viewed) c.requires in
-    let stood : IsIn s here.ahead here.inside = is_in here.course here.last here.inside here.ahead here.is_begun some c.self.invariant.1 c.self.invariant.2 in
+    let stood : IsIn s here.ahead here.inside = is_in here.input here.last here.inside here.ahead here.is_begun some c.self.invariant.1 c.self.invariant.2 in
     let further = heard_on s here.ahead now here.inside at stood heard.written heard.kept.0 heard.kept.1 heard.ahead.3.underway in
     let stands = alike_in s now copy at c.copy_from.ensures further in
     let round = c.finish_round-report in
@@ -71,30 +71,30 @@ returns-in_default-clause-step g c =
 pub write_edge-requires-clause-some : goal.write_edge-requires-clause-some
 write_edge-requires-clause-some g c =
     let here = c.self.inside in
-    let es = here.course.events.items in
+    let es = here.input.events.items in
     let at = c.hear_ahead.new.self in
     let now = c.hear_ahead.new.ahead in
     let heard = c.in-Some.ensures in
-    let s : Steps = steps (run_of here.course) (point_of es here.last) (begun_in here.is_begun (written_in here.ahead (point_of es here.inside))) in
+    let s : Steps = steps (run_of here.input) (point_of es here.last) (begun_in here.is_begun (written_in here.ahead (point_of es here.inside))) in
     let some = subst (λ (x : Steps). IsSome x.begun) (sym c.self.view_is) c.requires in
-    let stood : IsIn s here.ahead here.inside = is_in here.course here.last here.inside here.ahead here.is_begun some c.self.invariant.1 c.self.invariant.2 in
+    let stood : IsIn s here.ahead here.inside = is_in here.input here.last here.inside here.ahead here.is_begun some c.self.invariant.1 c.self.invariant.2 in
     let stands = heard_on s here.ahead now here.inside at stood heard.written heard.kept.0 heard.kept.1 heard.ahead.3.underway in
     some_inside s.run.end s.last (point_of es at) stands.ready stands.round
 
 pub returns-in-Err-clause-step : goal.returns-in-Err-clause-step
 returns-in-Err-clause-step g c =
     let here = c.self.inside in
-    let es = here.course.events.items in
+    let es = here.input.events.items in
     let at = c.hear_ahead.new.self in
     let now = c.hear_ahead.new.ahead in
     let heard = c.in-Some.ensures in
-    let run = run_of here.course in
+    let run = run_of here.input in
     let s : Steps = steps run (point_of es here.last) (begun_in here.is_begun (written_in here.ahead (point_of es here.inside))) in
     let u : Steps = steps run (point_of es here.last) (begun_in here.is_begun (written_in now (point_of es at))) in
     let viewed : s ≡ c.args.self.now = c.self.view_is in
     let same : u ≡ s = same_written run (point_of es here.last) (written_in here.ahead (point_of es here.inside)) (written_in now (point_of es at)) here.is_begun heard.written in
     let some = subst (λ (x : Steps). IsSome x.begun) (sym viewed) c.requires in
-    let stood : IsIn s here.ahead here.inside = is_in here.course here.last here.inside here.ahead here.is_begun some c.self.invariant.1 c.self.invariant.2 in
+    let stood : IsIn s here.ahead here.inside = is_in here.input here.last here.inside here.ahead here.is_begun some c.self.invariant.1 c.self.invariant.2 in
     let stands = heard_on s here.ahead now here.inside at stood heard.written heard.kept.0 heard.kept.1 heard.ahead.3.underway in
     let old = g.S.Sink.contents c.args.out.now in
     let new = g.S.Sink.contents c.write_edge.new.out in
@@ -108,15 +108,15 @@ returns-in-Err-clause-step g c =
 pub returns-in-Ok-clause-step : goal.returns-in-Ok-clause-step
 returns-in-Ok-clause-step g c =
     let here = c.self.inside in
-    let es = here.course.events.items in
+    let es = here.input.events.items in
     let at = c.hear_ahead.new.self in
     let now = c.hear_ahead.new.ahead in
     let heard = c.in-Some.ensures in
-    let run = run_of here.course in
+    let run = run_of here.input in
     let s : Steps = steps run (point_of es here.last) (begun_in here.is_begun (written_in here.ahead (point_of es here.inside))) in
     let viewed : s ≡ c.args.self.now = c.self.view_is in
     let some = subst (λ (x : Steps). IsSome x.begun) (sym viewed) c.requires in
-    let stood : IsIn s here.ahead here.inside = is_in here.course here.last here.inside here.ahead here.is_begun some c.self.invariant.1 c.self.invariant.2 in
+    let stood : IsIn s here.ahead here.inside = is_in here.input here.last here.inside here.ahead here.is_begun some c.self.invariant.1 c.self.invariant.2 in
     let stands = heard_on s here.ahead now here.inside at stood heard.written heard.kept.0 heard.kept.1 heard.ahead.3.underway in
     let t : Steps = steps run (point_of es here.last) (begun_in here.is_begun (point_of es at)) in
     let moved : t ≡ in_round s s.last at.net.value = still_in run (point_of es here.last) (written_in here.ahead (point_of es here.inside)) (point_of es at) here.is_begun some in

@@ -8,25 +8,25 @@ use Rattle.room_steps.proofs.walk.Walk.first_edge.Goals as goal
 pub write_edge-requires-clause-some : goal.write_edge-requires-clause-some
 write_edge-requires-clause-some g c =
     let run = c.args.self.now.run in
-    let course = c.self.inside.course in
+    let input = c.self.inside.input in
     let last = c.args.last.now in
     let inside = c.begin_round.new.self in
     let e = c.in-Some.edge in
-    let viewed : run_of course ≡ run = search rules in
-    let copied = alike_point course.events.items c.copy_from.new.self last c.copy_from.ensures in
-    let begins = begins_from course run c.copy_from.new.self last inside e viewed copied c.in-Some.ensures in
+    let viewed : run_of input ≡ run = search rules in
+    let copied = alike_point input.events.items c.copy_from.new.self last c.copy_from.ensures in
+    let begins = begins_from input run c.copy_from.new.self last inside e viewed copied c.in-Some.ensures in
     some_inside run.end (point_of run.events last) (point_of run.events inside) c.requires (begun_inside run.end (point_of run.events last) (point_of run.events inside) e begins)
 
 pub returns-in-Err-clause-step : goal.returns-in-Err-clause-step
 returns-in-Err-clause-step g c =
     let run = c.args.self.now.run in
-    let course = c.self.inside.course in
+    let input = c.self.inside.input in
     let last = c.args.last.now in
     let inside = c.begin_round.new.self in
     let e = c.in-Some.edge in
-    let viewed : run_of course ≡ run = search rules in
-    let copied = alike_point course.events.items c.copy_from.new.self last c.copy_from.ensures in
-    let begins = begins_from course run c.copy_from.new.self last inside e viewed copied c.in-Some.ensures in
+    let viewed : run_of input ≡ run = search rules in
+    let copied = alike_point input.events.items c.copy_from.new.self last c.copy_from.ensures in
+    let begins = begins_from input run c.copy_from.new.self last inside e viewed copied c.in-Some.ensures in
     let p = point_of run.events last in
     let q = point_of run.events inside in
     edge_cut (IsFirstStep c.args.self.now p) (IsOver run.end p) c.args.self.now (record c.args.self.now { last = p; begun = Some q.net }) inside.net.value e
@@ -36,13 +36,13 @@ returns-in-Err-clause-step g c =
 pub returns-in-Ok-clause-step : goal.returns-in-Ok-clause-step
 returns-in-Ok-clause-step g c =
     let run = c.args.self.now.run in
-    let course = c.self.inside.course in
+    let input = c.self.inside.input in
     let last = c.args.last.now in
     let inside = c.begin_round.new.self in
     let e = c.in-Some.edge in
-    let viewed : run_of course ≡ run = search rules in
-    let copied = alike_point course.events.items c.copy_from.new.self last c.copy_from.ensures in
-    let begins = begins_from course run c.copy_from.new.self last inside e viewed copied c.in-Some.ensures in
+    let viewed : run_of input ≡ run = search rules in
+    let copied = alike_point input.events.items c.copy_from.new.self last c.copy_from.ensures in
+    let begins = begins_from input run c.copy_from.new.self last inside e viewed copied c.in-Some.ensures in
     let p = point_of run.events last in
     let q = point_of run.events inside in
     edge_reported (IsFirstStep c.args.self.now p) (IsOver run.end p) c.args.self.now c.stand_in.new.self inside.net.value e

@@ -9,8 +9,8 @@ pub returns : goal.returns
 returns c =
     let s = c.args.self.now in
     let here = c.self.inside in
-    let es = here.course.events.items in
-    let shown : run_of here.course ≡ s.run = search rules in
+    let es = here.input.events.items in
+    let shown : run_of here.input ≡ s.run = search rules in
     let none : is_some s.begun ≡ false = sym (ap (λ (x : Steps). is_some x.begun) c.self.view_is) ∙ sym (begun_is here.is_begun (written_in here.ahead (point_of es here.inside))) ∙ c.if-self.false in
-    over_found (λ (begin : ℕ). turn_at here.course.end (after_events here.course.end (point_of es c.copy_last.new.place)) ≡ Round begin) here.course s c.copy_last.new.place c.copy_last.new.place
+    over_found (λ (begin : ℕ). turn_at here.input.end (after_events here.input.end (point_of es c.copy_last.new.place)) ≡ Round begin) here.input s c.copy_last.new.place c.copy_last.new.place
     c.pass_events.result c.is_none.result shown refl c.copy_last.ensures.last none c.pass_events.ensures.comes c.is_none.ensures

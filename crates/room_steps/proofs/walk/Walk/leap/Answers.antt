@@ -10,12 +10,12 @@ rounds-preserved c =
     let inv = c.rounds.invariant in
     let e = c.in-Some.ensures in
     let outcome = c.in-Some.report.outcome in
-    let course = c.self.inside.course in
-    let viewed : run_of course ≡ run = search rules in
+    let input = c.self.inside.input in
+    let viewed : run_of input ≡ run = search rules in
     let here = point_of run.events c.rounds.ahead in
     let next = point_of run.events c.pass_round.new.self in
-    let step = step_from course run c.rounds.ahead c.rounds.ahead c.pass_round.new.self outcome viewed refl e.step in
-    let brings = brings_from course run c.rounds.ahead c.rounds.ahead c.pass_round.new.self viewed refl e.brings in
+    let step = step_from input run c.rounds.ahead c.rounds.ahead c.pass_round.new.self outcome viewed refl e.step in
+    let brings = brings_from input run c.rounds.ahead c.rounds.ahead c.pass_round.new.self viewed refl e.brings in
     record {
       skips = (suc inv.skips.0, (here, outcome, inv.skips.1, step, sym c.stops.ensures ∙ c.if-stops.false));
       ready = subst (λ (r : Run). IsReady r.end (point_of r.events c.pass_round.new.self)) viewed e.ready;
