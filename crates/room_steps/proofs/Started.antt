@@ -32,8 +32,8 @@ abbrev pub stepper_at : Run → Point → Steps
 stepper_at run p = record { run = run; last = p; begun = None }
 
 -- at its start a run is ready
-pub ready_start : (tree : List Node) (input : Course) → 0 < length tree → IsScript (length tree) input
-    → IsReady input.end (record { net = first_net tree input.pulses; events = input.events; is_first = true })
-ready_start tree input some script =
+pub ready_start : (tree : List Node) (course : Course) → 0 < length tree → IsScript (length tree) course
+    → IsReady course.end (record { net = first_net tree course.pulses; events = course.events; is_first = true })
+ready_start tree course some script =
     let none : 0 ≤ latest_instant = omega arith in
     record { some = some; early = script.limit; order = script.timely.order; closed = none; schedule = (0, script.schedule) }

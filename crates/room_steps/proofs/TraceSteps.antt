@@ -249,7 +249,7 @@ trace_of : (topology script steps text whole : List ℕ) (totals : Totals) → I
 trace_of topology script steps text whole totals trace p =
     let s = p.spelled in
     subst (λ (x : Steps). IsTrace x.run.edid x.run.end (start x.last.net x.run.events) whole totals) (sym s.starts)
-    (one_trace_of topology script whole totals s.plan s.input s.edid s.accepted.plan_is s.accepted.course_is s.root trace)
+    (one_trace_of topology script whole totals s.plan s.course s.edid s.accepted.plan_is s.accepted.course_is s.root trace)
 
 stands_first : (topology script steps text : List ℕ) (p : AreStepsOf topology script steps text) → Stands p.first.run p.first.last.net p.first []
 stands_first topology script steps text p =

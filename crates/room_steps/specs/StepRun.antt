@@ -72,12 +72,12 @@ pub record AreCut (commands : List StepCommand) (s : Steps) (old new : Option (L
 -- the texts spell these commands, to be taken from the start of this run
 pub record AreSteps (topology script steps : List ℕ) (commands : List StepCommand) (s : Steps) : Type 0 where
   pub plan : Plan
-  pub input : Course
+  pub course : Course
   pub edid : Option EdidValue
-  pub accepted : IsAccepted topology script plan input
+  pub accepted : IsAccepted topology script plan course
   pub root : IsRoot plan.edid edid
   pub commands_are : commands_of plan.tree steps ≡ Ok commands
-  pub starts : s ≡ begun_at edid input (first_net plan.tree input.pulses)
+  pub starts : s ≡ begun_at edid course (first_net plan.tree course.pulses)
 
 -- the whole text that is due
 pub record AreStepsOf (topology script steps text : List ℕ) : Type 0 where
@@ -91,7 +91,7 @@ pub record AreStepsOf (topology script steps text : List ℕ) : Type 0 where
 abbrev pub AreRefused : List ℕ → List ℕ → List ℕ → StepRunError → Type 0
 AreRefused topology script steps (Run error) = IsReported topology script error
 AreRefused topology script steps (StepsLine line word) =
-    (plan : Plan) × (input : Course) × IsAccepted topology script plan input × (edid : Option EdidValue) × IsRoot plan.edid edid
+    (plan : Plan) × (course : Course) × IsAccepted topology script plan course × (edid : Option EdidValue) × IsRoot plan.edid edid
     × (commands_of plan.tree steps ≡ Err (record { line = line; word = word }))
 
 abbrev pub is_write : Result (Unit {0}) StepRunError → Bool

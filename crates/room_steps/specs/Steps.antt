@@ -138,9 +138,9 @@ is_write (Err (Write reported)) = true
 
 -- a stepper at the start of a run
 abbrev pub begun_at : Option Edid → Course → NetState → Steps
-begun_at edid input s = record {
-  run = record { edid = edid; events = input.events; end = input.end };
-  last = record { net = s; events = input.events; is_first = true };
+begun_at edid course s = record {
+  run = record { edid = edid; events = course.events; end = course.end };
+  last = record { net = s; events = course.events; is_first = true };
   begun = None;
 }
 

@@ -33,7 +33,7 @@ returns-clause-cut g c =
       stepper,
       record {
         plan = plan_of c.in-Ok.topology;
-        input = course_of c.in-Ok-parse_script.script;
+        course = course_of c.in-Ok-parse_script.script;
         edid = c.in-Ok-new.ensures.0;
         accepted = record { plan_is = plan; course_is = c.in-Ok-parse_script.ensures.gives };
         root = c.in-Ok-new.ensures.1;
