@@ -10,14 +10,15 @@ use Rattle.line_frames.specs.declared.Ending.TheVariants.{Complete, Short, Long}
 use Rattle.line_reading.specs.Reading.After.{Next, Ends}
 use Rattle.line_reading.specs.Reading.{next_fall, Read, Slot, Known, known_at, known_slot, reading_by, read_start_by, slots_by, read_on, read_then, after_by, after_fall_by, after_last, last_ending, last_heard, sample, bit_sampled_at, start_by, After}
 use Rattle.line_reading.proofs.Search.{first_in_none, first_in_some, found_first}
-use Rattle.line_reading.proofs.CausesBy.{with_slots, AreSampled, known_front, known_then, late_read, nothing, not_over}
+use Rattle.line_reading.proofs.CausesBy.{known_front, known_then, late_read, not_over}
 use Rattle.line_reading.proofs.EndsBy.{slots_until}
 use Rattle.line_reading.specs.declared.times.Windows.{Windows}
 use Rattle.line_reading.specs.Windows.{AreWindows, sample_at}
+use Rattle.line_reading.specs.Known.{with_slots, AreSampled, nothing, QuietSlotsAreSampled, SlotsAddTheirBits}
 
 -- ---- the slot at e, on a line that does not fall up to t
 
-pub quiet_sample : (low : Line) (e : ℕ) → ((u : ℕ) → e < u → u < e + (sample_at + 1) → is_fall low u ≡ false) → bit_sampled_at low e ≡ Some (not (low (e + sample_at)))
+pub quiet_sample : QuietSlotsAreSampled
 quiet_sample low e q = ap (sample low e) (first_in_none (is_fall low) (e + 1) sample_at (λ u a b. q u (omega arith) (omega arith)))
 
 pub next_here : (low : Line) (fall t within : ℕ) → ((u : ℕ) → fall < u → u < t → is_fall low u ≡ false) → fall < t → t ≤ fall + within → is_fall low t ≡ true → next_fall low fall within ≡ Some t
@@ -33,7 +34,7 @@ one_reported : (o : Option Bool) → cons_option o [] ≡ option_to_list o
 one_reported None = refl
 one_reported (Some b) = refl
 
-pub reported_more : (xs : List Slot) (bits : List Bool) (s : Slot) → filter_map (λ x. x.bit) xs ≡ bits → filter_map (λ x. x.bit) (xs ++ s ∷ []) ≡ bits ++ option_to_list s.bit
+pub reported_more : SlotsAddTheirBits
 reported_more xs bits s h = filter_map-append (λ (x : Slot). x.bit) xs (s ∷ []) ∙ ap (λ ys. ys ++ cons_option s.bit []) h ∙ ap (λ ys. bits ++ ys) (one_reported s.bit)
 
 -- the 160th slot is a last one

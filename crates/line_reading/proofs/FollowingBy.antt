@@ -14,9 +14,10 @@ use Rattle.line_reading.specs.Phase.{Standing, standing_with}
 use Rattle.line_reading.specs.Kept.{kept_with, kept_with_before, reported_with_at, standing_by}
 use Rattle.line_reading.specs.Follows.{IsNextReportedBy}
 use Rattle.line_reading.proofs.KeepingBy.{kept_heard, before_heard, reported_heard, standings_are_kept}
-use Rattle.line_reading.proofs.StoodBy.{StandsIn, stands_at, was_now}
+use Rattle.line_reading.proofs.StoodBy.{StandsIn, stands_at}
 use Rattle.line_reading.specs.declared.times.Windows.{Windows}
 use Rattle.line_reading.specs.Windows.{AreWindows, sample_at}
+use Rattle.line_wave.proofs.Waves.{was_now}
 
 -- ---- a microsecond without an edge, before the wake
 

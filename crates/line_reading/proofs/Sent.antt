@@ -23,10 +23,11 @@ use Rattle.line_reading.specs.Hears.{Hears, Heard, reported_so, rest, starts, sa
 use Rattle.line_reading.specs.Kept.{running_of, reported_at}
 use Rattle.line_reading.specs.Sends.{sent_in, takes_all, is_out_there, after_reported}
 use Rattle.line_reading.specs.Sending.{bit_read, destination, is_whole, is_out_by, out_by, out_slot, state_by, state_before, may_pull, goes_on, sender_pulls, IsBefore, StopsAt}
-use Rattle.line_reading.proofs.Causes.{nothing, known_start_low}
+use Rattle.line_reading.proofs.Causes.{known_start_low}
 use Rattle.line_reading.proofs.Ends.{until_by, ends_after}
 use Rattle.line_reading.proofs.Stood.{StandsIn, runs_in, Knows, KnowsEnd, step, stands_at}
 use Rattle.line_reading.proofs.Keeping.{running_knows, runs_so, reported_heard}
+use Rattle.line_reading.specs.Known.{nothing}
 
 -- ---- the first slot that tells it to stop, with one more bit
 

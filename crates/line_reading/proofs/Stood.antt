@@ -11,7 +11,7 @@ use Rattle.line_reading.proofs.Standard.{standard_are}
 use Rattle.line_reading.proofs.StoodBy.{StandsIn as StandsInBy}
 use Rattle.line_reading.proofs.StoodBy as by
 use Rattle.line_reading.specs.Reading.{read_slots}
-pub use Rattle.line_reading.proofs.StoodBy.{runs_in, was_now}
+pub use Rattle.line_reading.proofs.StoodBy.{runs_in}
 
 abbrev pub ArePast : Line → ℕ → ℕ → List ℕ → ℕ → Type 0
 ArePast = by.ArePast standard standard_are

@@ -18,21 +18,18 @@ use Rattle.line_reading.specs.Hears.{Hears, Heard, reported_so, rest, starts, he
 use Rattle.line_reading.specs.Sending.{known_bits, has_all, is_whole}
 use Rattle.line_reading.specs.Kept.{Sample, sample_of, sample_in, reported_with, reported_since}
 use Rattle.line_reading.proofs.Search.{first_in_none, first_in_some, found_first}
-use Rattle.line_reading.proofs.CausesBy.{start_risen, late_read, IsPlain, last_plain, not_over, nothing}
+use Rattle.line_reading.proofs.CausesBy.{start_risen, late_read, last_plain, not_over}
 use Rattle.line_reading.proofs.EndsBy.{slots_until}
 use Rattle.line_reading.proofs.AlongBy.{AreOver, Reached, reached_start, reach_next, Waits, quiet_sample, next_here, next_none, ends_so, last_full, reported_more, known_waiting, known_ending, ends_later}
 use Rattle.line_reading.specs.declared.times.Windows.{Windows}
 use Rattle.line_reading.specs.Windows.{AreWindows, sample_at}
+use Rattle.line_reading.specs.Known.{IsPlain, nothing}
+use Rattle.line_wave.proofs.Waves.{was_now}
 
 -- the reading that runs before n
 abbrev pub runs_in : ReceiverState → ℕ → Option ℕ
 runs_in Rest begin = None
 runs_in _ begin = Some begin
-
-pub was_now : (low : Line) (n : ℕ) → was_low low (n + 1) ≡ low n
-was_now low n =
-    let x : nat_lt 0 (n + 1) ≡ true = grind (arith, nat_tests) in
-    ap (λ b. b && low (n + 1 - 1)) x ∙ ap low (let y : n + 1 - 1 ≡ n = omega arith in y)
 
 fall_is_low : (low : Line) (n : ℕ) → is_fall low n ≡ true → low n ≡ true
 fall_is_low low n f = by_low (low n) (not (was_low low n)) f

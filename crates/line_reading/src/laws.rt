@@ -1,7 +1,11 @@
 //! Laws of readings and receivers.
 ghost use Rattle.line_reading.specs.Causality.{ReadingsAreCausal};
-ghost use Rattle.line_reading.specs.Ended.{EndOneByOne};
+ghost use Rattle.line_reading.specs.Ended.{EndOneByOne, EndedAreFirst};
 ghost use Rattle.line_reading.specs.Kept.{StandingsAreKept};
+ghost use Rattle.line_reading.specs.Known.{FallenSlotsAreKnown, LastEndingsArePlain, LateSlotsAreUnknown, QuietSlotsAreSampled, RisenStartsGoByFalls, SampledSlotsAreKnown, SlotsAddTheirBits, SlotsAreKnownInside, StartHighTellsNothing, StartLowTellsNothing};
+ghost use Rattle.line_reading.specs.Over.{EndsAfterFall, EndsOnceOver, OverAfterFall, OverByEnding, OverLately, SlotsOverAfterFall, SlotsOverByEnding};
+ghost use Rattle.line_reading.specs.Searches.{AlikeFindAlike, FirstIsFound, FoundIsFirst, MissedPassNone, NoneIsFound};
+ghost use Rattle.line_reading.specs.Windows.{AreWindows, standard};
 ghost use Rattle.line_reading.specs.Reports.{EndingsAreReported, RunningIsKept};
 ghost use Rattle.line_reading.specs.Readings.{HasList, ListsAreCausal, OneList, PartsAreRead, ReadingsAreOwn};
 ghost use Rattle.line_reading.specs.Wider.{BitsAreLevels, MarginsAreAlike, ReadsByStandard, WholeAreAlike};
@@ -64,4 +68,58 @@ pub fn wider_windows_read_alike()
 /// By whatever windows, the bits of a reading are the line's levels at the samples.
 pub fn bits_are_levels()
     ensures { BitsAreLevels }
+{}
+
+/// A search of the instants from one on finds the first that passes its test, and nothing exactly where none passes; tests that
+/// agree on them find the same.
+pub fn searches_find_the_first()
+    ensures found { FoundIsFirst }
+    ensures missed { MissedPassNone }
+    ensures first { FirstIsFound }
+    ensures none { NoneIsFound }
+    ensures alike { AlikeFindAlike }
+{}
+
+/// The standard's windows are windows by which lines can be read.
+pub fn the_standard_has_windows()
+    ensures { AreWindows standard }
+{}
+
+/// Nothing is known of a reading in its start bit, while the line may still rise in time, and then while it may still fall in
+/// time. After a rise in time the start bit goes by the next fall.
+pub fn starts_tell_nothing()
+    ensures low { StartLowTellsNothing }
+    ensures high { StartHighTellsNothing }
+    ensures risen { RisenStartsGoByFalls }
+{}
+
+/// A slot is known once it fell, and its bit once it was sampled; nothing is known of slots that fall later. So in a slot the
+/// ones before it are known, and its own. A slot without a fall up to its sample has the bit of the line's level there, and
+/// adds it to the bits.
+pub fn slots_are_known_one_by_one()
+    ensures late { LateSlotsAreUnknown }
+    ensures fallen { FallenSlotsAreKnown }
+    ensures sampled { SampledSlotsAreKnown }
+    ensures inside { SlotsAreKnownInside }
+    ensures quiet { QuietSlotsAreSampled }
+    ensures bits { SlotsAddTheirBits }
+{}
+
+/// A reading is not over before its fall, soon after the line was low, and by its ending, which comes after its fall and at
+/// most a microsecond after it is over. What is left of it from a slot on is not over before that slot's fall, and by its
+/// ending. The ending of a last slot is reported at its own instant.
+pub fn readings_are_over_in_time()
+    ensures after_fall { OverAfterFall }
+    ensures lately { OverLately }
+    ensures by_ending { OverByEnding }
+    ensures ends { EndsAfterFall }
+    ensures ends_soon { EndsOnceOver }
+    ensures slots_after_fall { SlotsOverAfterFall }
+    ensures slots_by_ending { SlotsOverByEnding }
+    ensures plain { LastEndingsArePlain }
+{}
+
+/// The readings that have ended by an instant are the first of those of the line, however much later it is cut.
+pub fn ended_readings_are_first()
+    ensures { EndedAreFirst }
 {}
