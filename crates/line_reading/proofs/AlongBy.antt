@@ -15,6 +15,7 @@ use Rattle.line_reading.proofs.EndsBy.{slots_until}
 use Rattle.line_reading.specs.declared.times.Windows.{Windows}
 use Rattle.line_reading.specs.Windows.{AreWindows, sample_at}
 use Rattle.line_reading.specs.Known.{with_slots, AreSampled, nothing, QuietSlotsAreSampled, SlotsAddTheirBits}
+use Rattle.line_reading.specs.Places.{AreOver, Reached}
 
 -- ---- the slot at e, on a line that does not fall up to t
 
@@ -71,37 +72,24 @@ at_on rest t (Next f) h ih = omega (arith, ih f)
 at_on rest t (Ends ending at) h ih = h
 
 module _ (win : Windows) (ok : AreWindows win) where
-  -- ---- where the reading has come
-
-  -- these slots fell one after another before e
-  abbrev pub AreOver : ℕ → List Slot → Type 0
-  AreOver e [] = Unit {0}
-  AreOver e (s ∷ ss) = (s.fall + win.bit_total.least ≤ e) × AreOver e ss
-
-  over_later : (e f : ℕ) (ss : List Slot) → e ≤ f → AreOver e ss → AreOver f ss
+  over_later : (e f : ℕ) (ss : List Slot) → e ≤ f → AreOver win e ss → AreOver win f ss
   over_later e f [] h o = tt
   over_later e f (s ∷ ss) h o = (omega (arith, o.0), over_later e f ss h o.1)
 
-  over_more : (f : ℕ) (ss : List Slot) (s : Slot) → AreOver f ss → s.fall + win.bit_total.least ≤ f → AreOver f (ss ++ s ∷ [])
+  over_more : (f : ℕ) (ss : List Slot) (s : Slot) → AreOver win f ss → s.fall + win.bit_total.least ≤ f → AreOver win f (ss ++ s ∷ [])
   over_more f [] s o h = (h, tt)
   over_more f (x ∷ ss) s o h = (o.0, over_more f ss s o.1 h)
 
-  pub over_sampled : (e t : ℕ) (ss : List Slot) → e ≤ t → AreOver e ss → AreSampled t ss
+  pub over_sampled : (e t : ℕ) (ss : List Slot) → e ≤ t → AreOver win e ss → AreSampled t ss
   over_sampled e t [] h o = tt
   over_sampled e t (s ∷ ss) h o = (omega (arith, o.0), over_sampled e t ss h o.1)
 
-  -- the reading from `begin` has these slots, with these bits, and goes on with the slot that falls at e
-  pub record Reached (low : Line) (begin left : ℕ) (xs : List Slot) (bits : List Bool) (e : ℕ) : Type 0 where
-    pub goes : with_slots xs (slots_by win low left bits e) ≡ reading_by win low begin
-    pub reported : filter_map (λ s. s.bit) xs ≡ bits
-    pub over : AreOver e xs
-
-  pub reached_start : (low : Line) (begin f : ℕ) → start_by win low begin ≡ Ok f → Reached low begin 160 [] [] f
+  pub reached_start : (low : Line) (begin f : ℕ) → start_by win low begin ≡ Ok f → Reached win low begin 160 [] [] f
   reached_start low begin f h = record { goes = ap (λ s. read_start_by win low begin s) (sym h); reported = refl; over = tt }
 
-  pub reach_next : (low : Line) (begin left : ℕ) (xs : List Slot) (bits : List Bool) (e f : ℕ) → Reached low begin (suc left) xs bits e
+  pub reach_next : (low : Line) (begin left : ℕ) (xs : List Slot) (bits : List Bool) (e f : ℕ) → Reached win low begin (suc left) xs bits e
       → after_by win low e (last_ending bits) ≡ Next f → e + win.bit_total.least ≤ f
-      → Reached low begin left (xs ++ record { fall = e; bit = bit_sampled_at low e } ∷ []) (bits ++ option_to_list (bit_sampled_at low e)) f
+      → Reached win low begin left (xs ++ record { fall = e; bit = bit_sampled_at low e } ∷ []) (bits ++ option_to_list (bit_sampled_at low e)) f
   unfolding slots_by
   reach_next low begin left xs bits e f r h far = record {
     goes = slots_assoc xs slot (slots_by win low left (bits ++ option_to_list (bit_sampled_at low e)) f)
@@ -115,7 +103,7 @@ module _ (win : Windows) (ok : AreWindows win) where
       slot = record { fall = e; bit = bit_sampled_at low e }
 
   -- the reading ends in this slot
-  pub ends_so : (low : Line) (begin left : ℕ) (xs : List Slot) (before : List Bool) (e : ℕ) (ending : Ending) (at : ℕ) → Reached low begin (suc left) xs before e → after_by win low e (last_ending before) ≡ Ends ending at
+  pub ends_so : (low : Line) (begin left : ℕ) (xs : List Slot) (before : List Bool) (e : ℕ) (ending : Ending) (at : ℕ) → Reached win low begin (suc left) xs before e → after_by win low e (last_ending before) ≡ Ends ending at
       → reading_by win low begin ≡ record { slots = xs ++ record { fall = e; bit = bit_sampled_at low e } ∷ []; ending = ending; at = at; until = last_heard ending at }
   unfolding slots_by
   ends_so low begin left xs before e ending at r h =
@@ -126,7 +114,7 @@ module _ (win : Windows) (ok : AreWindows win) where
   none_yet low left bits t (Next f) h = ap (λ (k : Known). k.slots) (late_read win ok t low left bits f h)
   none_yet low left bits t (Ends ending at) h = refl
 
-  slots_here : (low : Line) (begin left : ℕ) (xs : List Slot) (bits : List Bool) (e t : ℕ) → Reached low begin (suc left) xs bits e → e < t
+  slots_here : (low : Line) (begin left : ℕ) (xs : List Slot) (bits : List Bool) (e t : ℕ) → Reached win low begin (suc left) xs bits e → e < t
       → known_at t (reading_by win low begin) ≡ record {
         slots = xs ++ known_slot t (record { fall = e; bit = bit_sampled_at low e }) ∷ (known_at t (read_on (slots_by win low left (bits ++ option_to_list (bit_sampled_at low e))) (after_by win low e (last_ending bits)))).slots;
         ended = (known_at t (read_on (slots_by win low left (bits ++ option_to_list (bit_sampled_at low e))) (after_by win low e (last_ending bits)))).ended;
@@ -160,7 +148,7 @@ module _ (win : Windows) (ok : AreWindows win) where
       by_fall (Some f) h = no_sooner low e t sample_at f w.quiet h
 
   -- so its slots are those so far, and its own
-  pub known_waiting : (low : Line) (begin left : ℕ) (xs : List Slot) (bits : List Bool) (e t : ℕ) → Reached low begin (suc left) xs bits e → Waits low e t (last_ending bits)
+  pub known_waiting : (low : Line) (begin left : ℕ) (xs : List Slot) (bits : List Bool) (e t : ℕ) → Reached win low begin (suc left) xs bits e → Waits low e t (last_ending bits)
       → (known_at t (reading_by win low begin)).slots ≡ xs ++ known_slot t (record { fall = e; bit = bit_sampled_at low e }) ∷ []
   known_waiting low begin left xs bits e t r w =
       ap (λ (k : Known). k.slots) (slots_here low begin left xs bits e t r w.after)
@@ -168,13 +156,13 @@ module _ (win : Windows) (ok : AreWindows win) where
       (none_yet low left (bits ++ option_to_list (bit_sampled_at low e)) t (after_by win low e (last_ending bits)) (yet low e t (last_ending bits) w))
 
   -- and where it ends there, too
-  pub known_ending : (low : Line) (begin left : ℕ) (xs : List Slot) (bits : List Bool) (e t : ℕ) (ending : Ending) (at : ℕ) → Reached low begin (suc left) xs bits e → e < t
+  pub known_ending : (low : Line) (begin left : ℕ) (xs : List Slot) (bits : List Bool) (e t : ℕ) (ending : Ending) (at : ℕ) → Reached win low begin (suc left) xs bits e → e < t
       → after_by win low e (last_ending bits) ≡ Ends ending at → (known_at t (reading_by win low begin)).slots ≡ xs ++ known_slot t (record { fall = e; bit = bit_sampled_at low e }) ∷ []
   known_ending low begin left xs bits e t ending at r l h =
       ap (λ (k : Known). k.slots) (slots_here low begin left xs bits e t r l)
       ∙ ap (λ a. xs ++ known_slot t (record { fall = e; bit = bit_sampled_at low e }) ∷ (known_at t (read_on (slots_by win low left (bits ++ option_to_list (bit_sampled_at low e))) a)).slots) h
 
-  pub ends_later : (low : Line) (begin left : ℕ) (xs : List Slot) (bits : List Bool) (e t : ℕ) → Reached low begin (suc left) xs bits e → Waits low e t (last_ending bits) → t ≤ (reading_by win low begin).at
+  pub ends_later : (low : Line) (begin left : ℕ) (xs : List Slot) (bits : List Bool) (e t : ℕ) → Reached win low begin (suc left) xs bits e → Waits low e t (last_ending bits) → t ≤ (reading_by win low begin).at
   unfolding slots_by
   ends_later low begin left xs bits e t r w =
       let x = at_on (slots_by win low left (bits ++ option_to_list (bit_sampled_at low e))) t (after_by win low e (last_ending bits)) (yet low e t (last_ending bits) w)

@@ -25,8 +25,9 @@ use Rattle.line_reading.proofs.Causes.{not_over}
 use Rattle.line_reading.proofs.Ends.{at_by, begin_by, ends_after, slots_until}
 use Rattle.line_reading.proofs.Lists.{none_left}
 use Rattle.line_reading.proofs.OneByOne.{same_reported, keep_all}
-use Rattle.line_reading.proofs.Stood.{ArePast, past_later, past_more, HasBegun, AtRest, StandsIn, runs_in, KnowsEnd, step, stands_at}
+use Rattle.line_reading.proofs.Stood.{past_later, past_more, step, stands_at}
 use Rattle.line_reading.proofs.Keeping.{kept_heard, reported_heard, running_knows}
+use Rattle.line_reading.specs.Places.{ArePast, HasBegun, AtRest, StandsIn, runs_in, KnowsEnd}
 
 -- ---- all bits of a reading that is over are known
 

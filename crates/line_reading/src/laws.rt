@@ -2,6 +2,9 @@
 ghost use Rattle.line_reading.specs.Causality.{ReadingsAreCausal};
 ghost use Rattle.line_reading.specs.Ended.{EndOneByOne, EndedAreFirst};
 ghost use Rattle.line_reading.specs.Kept.{StandingsAreKept};
+ghost use Rattle.line_reading.specs.Heard.{CalmKeepsStanding, CalmKeepsStandingBy, CalmReportsNothing, CalmReportsNothingBy, HighLinesKeepNothing, KeptIsHeardBefore, KeptIsHeardBeforeBy, KeptIsHeardBy, NoneRunsWithoutFall, OneRunsFromFall, ReportedIsHeard, ReportedIsHeardBy, WakesAreNotPast};
+ghost use Rattle.line_reading.specs.Places.{EndingSlotsAreKnown, EndingSlotsAreLast, ListenersStand, ListenersStep, PlacesKnowBits, PlacesShowReadings, SlotsOverAreSampled};
+ghost use Rattle.line_reading.specs.Sending.{SendersGoByReports, SendersPullByRound, SilenceChangesNoSender};
 ghost use Rattle.line_reading.specs.Known.{FallenSlotsAreKnown, LastEndingsArePlain, LateSlotsAreUnknown, QuietSlotsAreSampled, RisenStartsGoByFalls, SampledSlotsAreKnown, SlotsAddTheirBits, SlotsAreKnownInside, StartHighTellsNothing, StartLowTellsNothing};
 ghost use Rattle.line_reading.specs.Over.{EndsAfterFall, EndsOnceOver, OverAfterFall, OverByEnding, OverLately, SlotsOverAfterFall, SlotsOverByEnding};
 ghost use Rattle.line_reading.specs.Searches.{AlikeFindAlike, FirstIsFound, FoundIsFirst, MissedPassNone, NoneIsFound};
@@ -122,4 +125,56 @@ pub fn readings_are_over_in_time()
 /// The readings that have ended by an instant are the first of those of the line, however much later it is cut.
 pub fn ended_readings_are_first()
     ensures { EndedAreFirst }
+{}
+
+/// Slots that fell one after another were sampled. A slot that ends its reading is the last one of it, and once it fell it is
+/// known with those before it.
+pub fn slots_are_reached_in_order()
+    ensures sampled { SlotsOverAreSampled }
+    ensures last { EndingSlotsAreLast }
+    ensures known { EndingSlotsAreKnown }
+{}
+
+/// One who hears a line microsecond by microsecond stands at a place in its readings, and each microsecond leads to the next
+/// place. The place says which reading runs, and which bits of it are known.
+pub fn listeners_stand_in_readings()
+    ensures stands { ListenersStand }
+    ensures step { ListenersStep }
+    ensures running { PlacesShowReadings }
+    ensures bits { PlacesKnowBits }
+{}
+
+/// A reading runs from its first fall until it ends; where the line does not fall, none runs.
+pub fn readings_run_from_their_falls()
+    ensures none { NoneRunsWithoutFall }
+    ensures one { OneRunsFromFall }
+{}
+
+/// What is kept of a line is what was heard of it microsecond by microsecond, and so is what each microsecond reports: by the
+/// standard's windows and by all others.
+pub fn what_is_heard_is_kept()
+    ensures kept { KeptIsHeardBefore }
+    ensures reported { ReportedIsHeard }
+    ensures kept_by { KeptIsHeardBeforeBy }
+    ensures kept_on_by { KeptIsHeardBy }
+    ensures reported_by { ReportedIsHeardBy }
+{}
+
+/// Up to the next edge or wake a line tells nothing, and what is kept of it stays; a wake is not past. Of a line that is never
+/// low nothing is kept.
+pub fn calm_lines_tell_nothing()
+    ensures nothing { CalmReportsNothing }
+    ensures kept { CalmKeepsStanding }
+    ensures nothing_by { CalmReportsNothingBy }
+    ensures kept_by { CalmKeepsStandingBy }
+    ensures wakes { WakesAreNotPast }
+    ensures high { HighLinesKeepNothing }
+{}
+
+/// How a sender goes on is said by what each microsecond reports of its reading, and where nothing is reported it stays as it
+/// is. It pulls as the rule of a round has it.
+pub fn senders_go_by_reports()
+    ensures reports { SendersGoByReports }
+    ensures silence { SilenceChangesNoSender }
+    ensures pulls { SendersPullByRound }
 {}

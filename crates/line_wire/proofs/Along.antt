@@ -6,6 +6,7 @@ use Rattle.line_reading.specs.Reading.After.{Ends}
 use Rattle.line_reading.specs.Reading.{next_fall, Slot, known_at, known_slot, bit_sampled_at, reading_of, read_slots, after_slot, last_ending, last_heard}
 use Rattle.line_reading.specs.Windows.{standard}
 use Rattle.line_reading.proofs.Standard.{standard_are}
+use Rattle.line_reading.specs.Places as places
 use Rattle.line_reading.proofs.AlongBy as by
 use Rattle.line_reading.proofs.Search.{first_in_none, first_in_some}
 use Rattle.line_reading.specs.Known.{AreSampled}
@@ -18,10 +19,10 @@ pub next_none : (low : Line) (fall t within : ℕ) → ((u : ℕ) → fall < u �
 next_none low fall t within q l = first_in_none (is_fall low) (fall + 1) within (λ u b c. q u (omega arith) (omega arith))
 
 abbrev pub AreOver : ℕ → List Slot → Type 0
-AreOver = by.AreOver standard standard_are
+AreOver = places.AreOver standard
 
 abbrev pub Reached : Line → ℕ → ℕ → List Slot → List Bool → ℕ → Type 0
-Reached = by.Reached standard standard_are
+Reached = places.Reached standard
 
 pub over_sampled : (e t : ℕ) (ss : List Slot) → e ≤ t → AreOver e ss → AreSampled t ss
 over_sampled = by.over_sampled standard standard_are

@@ -21,7 +21,7 @@ use Rattle.line_reading.specs.Hears.{Hears, heard_by, hears, wake_of}
 use Rattle.line_reading.specs.declared.receiver.Receiver.{Receiver}
 use Rattle.line_reading.specs.Kept.{running_of}
 use Rattle.line_reading.specs.Sending.{known_bits, is_whole, out_by, state_by, sender_pulls, pull_of, SenderStood}
-use Rattle.line_reading.proofs.Stood.{StandsIn, Knows, runs_in, stands_at}
+use Rattle.line_reading.proofs.Stood.{stands_at}
 pub use Rattle.line_reading.proofs.Keeping.{one_runs, before_heard, reported_heard, running_knows, runs_so}
 use Rattle.line_reading.proofs.Sent.{pulls_so}
 use Rattle.line_rounds.specs.declared.Seat.{Seat}
@@ -33,6 +33,7 @@ use Rattle.line_wire.specs.Listening.{IsReadOnce, AreSenders, AreSending, SendsF
 use Rattle.line_wire.specs.Line.{last_of, HaveBegun}
 use Rattle.line_wire.specs.Pulls.{pull_in, until_of, takes_last, low_in, due_in, is_on, IsHeld, held_in, Stands}
 use Rattle.line_reading.specs.Known.{nothing}
+use Rattle.line_reading.specs.Places.{StandsIn, Knows, runs_in}
 
 -- ---- the last pull that began
 
