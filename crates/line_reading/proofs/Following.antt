@@ -1,10 +1,10 @@
 -- A receiver that skips to the next edge or wake keeps what the line's readings say, by the standard's windows.
-use Rattle.std.proofs.Common.{◌≡◌, ℕ, ◌<◌, ◌≤◌, Bool, false, Some}
+use Rattle.std.proofs.Common.{◌≡◌, ℕ, ◌<◌, ◌≤◌, Bool, Some}
 use Rattle.line_wave.specs.Line.{Line, was_low}
 use Rattle.line_frames.specs.declared.Ending.{Ending}
 use Rattle.line_reading.specs.declared.receiver.Told.{Told}
 use Rattle.line_reading.specs.declared.receiver.Told.TheVariants.{Nothing, Ended}
-use Rattle.line_reading.specs.Hears.{Hears, reported_so, rest, hear_in, hears, wake_of, wakes_left}
+use Rattle.line_reading.specs.Hears.{Hears, reported_so, hear_in, hears, wake_of, wakes_left}
 use Rattle.line_reading.specs.Phase.{Standing, standing_of}
 use Rattle.line_reading.specs.Kept.{kept_of, kept_before, reported_at, standing_by}
 use Rattle.line_reading.specs.Follows.{IsNextReported}

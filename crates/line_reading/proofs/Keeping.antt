@@ -1,16 +1,14 @@
 -- What is heard of a line microsecond by microsecond is what its readings say, by the standard's windows.
-use Rattle.std.proofs.Common.{◌≡◌, ℕ, suc, ◌+◌, ◌<◌, ◌≤◌, Bool, true, false, List, Some, None}
-use Rattle.line_wave.specs.Line.{Line, was_low, is_fall}
-use Rattle.line_reading.specs.declared.receiver.ReceiverState.{ReceiverState}
-use Rattle.line_reading.specs.Reading.{reading_of}
+use Rattle.std.proofs.Common.{◌≡◌, ℕ, suc}
+use Rattle.line_wave.specs.Line.{Line}
 use Rattle.line_reading.specs.Phase.{standing_from}
-use Rattle.line_reading.specs.Hears.{hear_in, hears}
-use Rattle.line_reading.specs.Kept.{running_from, running_of, kept_of, kept_before, StandingsAreKept, reported_at}
+use Rattle.line_reading.specs.Hears.{hears}
+use Rattle.line_reading.specs.Kept.{running_from, kept_of, StandingsAreKept}
 use Rattle.line_reading.specs.Windows.{standard}
 use Rattle.line_reading.proofs.Standard.{standard_are}
 use Rattle.line_reading.proofs.KeepingBy as by
 use Rattle.line_reading.specs.Reading.{read_slots}
-use Rattle.line_reading.specs.Places.{StandsIn, runs_in, Knows, PlacesShowReadings, PlacesKnowBits}
+use Rattle.line_reading.specs.Places.{StandsIn, PlacesShowReadings, PlacesKnowBits}
 use Rattle.line_reading.specs.Heard.{NoneRunsWithoutFall, OneRunsFromFall, KeptIsHeardBefore, ReportedIsHeard}
 
 pub none_runs : NoneRunsWithoutFall

@@ -22,7 +22,7 @@ use Rattle.line_reading.specs.Reading.{Known, known_at, read_slots, reading_of, 
 use Rattle.line_reading.specs.Hears.{Hears, Heard, reported_so, rest, starts, sample_as, hear_at, hear_in, hears}
 use Rattle.line_reading.specs.Kept.{running_of, reported_at}
 use Rattle.line_reading.specs.Sends.{sent_in, takes_all, is_out_there, after_reported}
-use Rattle.line_reading.specs.Sending.{bit_read, destination, is_whole, is_out_by, out_by, out_slot, state_by, state_before, may_pull, goes_on, sender_pulls, IsBefore, StopsAt, SendersGoByReports, SilenceChangesNoSender, SendersPullByRound}
+use Rattle.line_reading.specs.Sending.{bit_read, destination, is_whole, is_out_by, out_by, out_slot, state_by, state_before, may_pull, goes_on, IsBefore, StopsAt, SendersGoByReports, SilenceChangesNoSender, SendersPullByRound}
 use Rattle.line_reading.proofs.Causes.{known_start_low}
 use Rattle.line_reading.proofs.Ends.{until_by, ends_after}
 use Rattle.line_reading.proofs.Stood.{step, stands_at}

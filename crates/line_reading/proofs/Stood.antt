@@ -1,11 +1,9 @@
 -- Where one who hears a line microsecond by microsecond stands, by the standard's windows.
-use Rattle.std.proofs.Common.{ℕ, ◌+◌, ◌<◌, Bool, List, [], ◌∷◌, ◌++◌}
-use Rattle.line_wave.specs.Line.{Line, was_low}
-use Rattle.line_reading.specs.declared.receiver.ReceiverState.{ReceiverState}
-use Rattle.line_reading.specs.declared.receiver.Told.{Told}
+use Rattle.std.proofs.Common.{ℕ, ◌+◌, ◌<◌, List, [], ◌∷◌, ◌++◌}
+use Rattle.line_wave.specs.Line.{Line}
 use Rattle.line_reading.specs.Reading.{reading_of}
 use Rattle.line_reading.specs.Readings.{IsFirstFall}
-use Rattle.line_reading.specs.Hears.{Heard, hear_in, hears}
+use Rattle.line_reading.specs.Hears.{hears}
 use Rattle.line_reading.specs.Windows.{standard}
 use Rattle.line_reading.proofs.Standard.{standard_are}
 use Rattle.line_reading.proofs.StoodBy as by

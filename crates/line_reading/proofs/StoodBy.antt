@@ -14,7 +14,7 @@ use Rattle.line_reading.specs.declared.receiver.Told.{Told}
 use Rattle.line_reading.specs.declared.receiver.Told.TheVariants.{Nothing, Bit, Last, Ended}
 use Rattle.line_reading.specs.Reading.{next_fall, next_rise, Read, Slot, End, known_at, known_slot, reading_by, read_start_by, after_by, after_fall_by, after_last, last_ending, last_heard, bit_sampled_at, start_by, start_rise_by, start_fall_by, After}
 use Rattle.line_reading.specs.Readings.{IsFirstFall}
-use Rattle.line_reading.specs.Hears.{Hears, Heard, reported_so, rest, starts, hear_start_low_by, hear_start_high_by, hear_unsampled, hear_sampled_by, sample_as, hear_in_by, hears_with}
+use Rattle.line_reading.specs.Hears.{Hears, reported_so, rest, starts, hear_start_low_by, hear_start_high_by, hear_unsampled, hear_sampled_by, sample_as, hear_in_by, hears_with}
 use Rattle.line_reading.specs.Sending.{known_bits, has_all, is_whole}
 use Rattle.line_reading.specs.Kept.{Sample, sample_of, sample_in, reported_with, reported_since}
 use Rattle.line_reading.proofs.Search.{first_in_none, first_in_some, found_first}
@@ -25,7 +25,7 @@ use Rattle.line_reading.specs.declared.times.Windows.{Windows}
 use Rattle.line_reading.specs.Windows.{AreWindows, sample_at}
 use Rattle.line_reading.specs.Known.{IsPlain, nothing}
 use Rattle.line_wave.proofs.Waves.{was_now}
-use Rattle.line_reading.specs.Places.{AreOver, Reached, runs_in, ArePastBy, HasBegunBy, AtRestBy, AtStartLowBy, AtStartHighBy, AtSlotBy, StandsInBy, KnowsBy, KnowsEndBy, StepsBy, AtUnsampledBy, AtSampledBy}
+use Rattle.line_reading.specs.Places.{AreOver, Reached, ArePastBy, HasBegunBy, AtStartLowBy, AtStartHighBy, AtSlotBy, StandsInBy, KnowsBy, StepsBy, AtUnsampledBy, AtSampledBy}
 
 fall_is_low : (low : Line) (n : ℕ) → is_fall low n ≡ true → low n ≡ true
 fall_is_low low n f = by_low (low n) (not (was_low low n)) f

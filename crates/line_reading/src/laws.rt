@@ -1,17 +1,17 @@
 //! Laws of readings and receivers.
 ghost use Rattle.line_reading.specs.Causality.{ReadingsAreCausal};
 ghost use Rattle.line_reading.specs.Ended.{EndOneByOne, EndedAreFirst};
-ghost use Rattle.line_reading.specs.Kept.{StandingsAreKept};
 ghost use Rattle.line_reading.specs.Heard.{CalmKeepsStanding, CalmKeepsStandingBy, CalmReportsNothing, CalmReportsNothingBy, HighLinesKeepNothing, KeptIsHeardBefore, KeptIsHeardBeforeBy, KeptIsHeardBy, NoneRunsWithoutFall, OneRunsFromFall, ReportedIsHeard, ReportedIsHeardBy, WakesAreNotPast};
-ghost use Rattle.line_reading.specs.Places.{EndingSlotsAreKnown, EndingSlotsAreLast, ListenersStand, ListenersStep, PlacesKnowBits, PlacesShowReadings, SlotsOverAreSampled};
-ghost use Rattle.line_reading.specs.Sending.{SendersGoByReports, SendersPullByRound, SilenceChangesNoSender};
+ghost use Rattle.line_reading.specs.Kept.{StandingsAreKept};
 ghost use Rattle.line_reading.specs.Known.{FallenSlotsAreKnown, LastEndingsArePlain, LateSlotsAreUnknown, QuietSlotsAreSampled, RisenStartsGoByFalls, SampledSlotsAreKnown, SlotsAddTheirBits, SlotsAreKnownInside, StartHighTellsNothing, StartLowTellsNothing};
 ghost use Rattle.line_reading.specs.Over.{EndsAfterFall, EndsOnceOver, OverAfterFall, OverByEnding, OverLately, SlotsOverAfterFall, SlotsOverByEnding};
-ghost use Rattle.line_reading.specs.Searches.{AlikeFindAlike, FirstIsFound, FoundIsFirst, MissedPassNone, NoneIsFound};
-ghost use Rattle.line_reading.specs.Windows.{AreWindows, standard};
-ghost use Rattle.line_reading.specs.Reports.{EndingsAreReported, RunningIsKept};
+ghost use Rattle.line_reading.specs.Places.{EndingSlotsAreKnown, EndingSlotsAreLast, ListenersStand, ListenersStep, PlacesKnowBits, PlacesShowReadings, SlotsOverAreSampled};
 ghost use Rattle.line_reading.specs.Readings.{HasList, ListsAreCausal, OneList, PartsAreRead, ReadingsAreOwn};
+ghost use Rattle.line_reading.specs.Reports.{EndingsAreReported, RunningIsKept};
+ghost use Rattle.line_reading.specs.Searches.{AlikeFindAlike, FirstIsFound, FoundIsFirst, MissedPassNone, NoneIsFound};
+ghost use Rattle.line_reading.specs.Sending.{SendersGoByReports, SendersPullByRound, SilenceChangesNoSender};
 ghost use Rattle.line_reading.specs.Wider.{BitsAreLevels, MarginsAreAlike, ReadsByStandard, WholeAreAlike};
+ghost use Rattle.line_reading.specs.Windows.{AreWindows, standard};
 
 /// What is read before an instant depends on the line before that instant alone.
 pub fn readings_are_causal()
