@@ -9,7 +9,6 @@ use Rattle.line_wave.specs.declared.Edge.{Edge}
 use Rattle.line_wave.specs.Line.{Line, was_low}
 use Rattle.line_reading.specs.declared.times.Windows.{Windows}
 use Rattle.line_reading.specs.Readings.{Listed}
-use Rattle.line_reading.proofs.Stood.{was_now}
 use Rattle.text_core.specs.Cut.{WrittenText}
 use Rattle.capture_core.specs.Edges.{AreInTurn, Captured, EndBy, IsCapture, level_at, line_of_edges}
 use Rattle.capture_core.proofs.Recording.{before_turn}
@@ -19,6 +18,7 @@ use Rattle.capture_monitor.specs.ReadBy.{ended_before_by, readings_by}
 use Rattle.audit_core.specs.Progress.{WritesOn}
 use Rattle.audit_core.specs.Audit.{Tape, after, after_all, audit_text_of, first_tape, summary_text, line_and_remarks, reported_all}
 use Rattle.audit_core.proofs.Writing.{writes_first}
+use Rattle.line_wave.proofs.Waves.{was_now}
 
 -- ---- readings, one after another
 

@@ -9,7 +9,6 @@ use Rattle.line_reading.specs.Readings.{Listed, readings_of}
 use Rattle.line_reading.specs.Ended.{ended_by}
 use Rattle.line_reading.specs.Reports.{ended_before}
 use Rattle.line_reading.proofs.Reported.{ended_first}
-use Rattle.line_reading.proofs.Stood.{was_now}
 use Rattle.text_core.specs.Adds.{Adds, Tally}
 use Rattle.text_core.specs.Lines.{lines_of, is_skipped}
 use Rattle.text_core.proofs.Adding.{cut_short, nothing, then}
@@ -23,6 +22,7 @@ use Rattle.capture_monitor.specs.declared.edge_file.EdgeLines.{EdgeLines}
 use Rattle.capture_monitor.specs.EdgeFile.{EdgeFile, edge_line_of, edges_read, end_read, file_left, file_of, is_in_turn, read_line, turns, with_edge, with_edges, word_out_of_turn, word_past, GoesAfter, ReadsOn}
 use Rattle.capture_monitor.specs.Monitor.{HeardBefore, FollowsEdge, FollowsEnd}
 use Rattle.capture_monitor.specs.Watch.{file_readings, listed_line, readings_text, reported_text}
+use Rattle.line_wave.proofs.Waves.{was_now}
 
 -- ---- edges before what is left
 

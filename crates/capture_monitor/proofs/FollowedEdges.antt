@@ -11,7 +11,6 @@ use Rattle.line_wave.specs.Line.{Line, was_low}
 use Rattle.line_reading.specs.declared.times.Windows.{Windows}
 use Rattle.line_reading.specs.Windows.{standard}
 use Rattle.line_reading.specs.Readings.{Listed}
-use Rattle.line_reading.proofs.Stood.{was_now}
 use Rattle.text_core.specs.Cut.{CutOff}
 use Rattle.text_core.specs.Adds.{Adds, Tally}
 use Rattle.text_core.proofs.Adding.{cut_short, nothing, then}
@@ -23,6 +22,7 @@ use Rattle.capture_monitor.specs.ReadBy.{ended_before_by}
 use Rattle.capture_monitor.proofs.ReadBy.{ended_first, standard_readings}
 use Rattle.capture_monitor.specs.Joined.{WritesJoinedText, captured_by, capture_text_by, has_joined, joined_line, joined_text}
 use Rattle.capture_monitor.specs.Watch.{WritesFile, as_file, file_readings, listed_line, readings_text}
+use Rattle.line_wave.proofs.Waves.{was_now}
 
 -- ---- texts of readings of which some are joined
 

@@ -14,10 +14,9 @@ use Rattle.line_reading.specs.declared.times.Windows.{Windows}
 use Rattle.line_reading.specs.Windows.{AreWindows, sample_at, standard}
 use Rattle.line_reading.specs.Reading.{last_ending}
 use Rattle.line_reading.specs.Readings.{Listed}
-use Rattle.line_reading.specs.Hears.{Hears, Heard, reported_so, rest, starts, sample_as, hear_at_by, hear_in_by, wake_of_by}
+use Rattle.line_reading.specs.Hears.{Hears, Heard, reported_so, rest, starts, sample_as, hear_at_by, hear_in_by, wake_of_by, hears_by}
 use Rattle.line_reading.specs.Kept.{kept_with_before}
 use Rattle.line_reading.specs.Reports.{running_by, ended_of}
-use Rattle.line_reading.proofs.FollowingBy.{hears_by}
 use Rattle.capture_monitor.proofs.ReadBy.{stays, hearing, wake_after, standard_ended, standard_readings}
 use Rattle.line_frames.specs.declared.Reading.{Reading}
 use Rattle.line_reading.specs.Hears.{heard_by}

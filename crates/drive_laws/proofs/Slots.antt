@@ -13,10 +13,11 @@ use Rattle.line_reading.specs.Reading.After.{Next, Ends}
 use Rattle.line_reading.specs.Reading.{Slot, reading_of, read_start, read_slots, read_on, start_of, start_rise, start_fall, next_rise, next_fall, after_slot, after_fall, after_last, last_ending, bit_sampled_at, After}
 use Rattle.line_reading.proofs.Causes.{not_over}
 use Rattle.line_reading.proofs.Ends.{slots_until}
-use Rattle.line_reading.proofs.Search.{Found, found_first, found_none}
-use Rattle.line_reading.proofs.Waves.{falls_of_wave, no_begin, rises_of_wave}
+use Rattle.line_reading.proofs.Search.{found_first, found_none}
 use Rattle.line_rounds.proofs.Walk.{next_falls}
 use Rattle.room_drives.specs.Stretches.{fall_by}
+use Rattle.line_reading.specs.Searches.{Found}
+use Rattle.line_wave.proofs.Waves.{falls_of_wave, no_begin, rises_of_wave}
 
 -- ---- the falls after one
 

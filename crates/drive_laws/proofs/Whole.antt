@@ -6,7 +6,6 @@ use Rattle.std.proofs.lemmas.Bool.Decides.{nat_tests}
 use Rattle.line_wave.specs.declared.Stretch.{Stretch}
 use Rattle.line_wave.specs.Line.{Line, covers, line_of, was_low, IsWave}
 use Rattle.line_reading.specs.Reading.{End, Read, known_at, reading_of, start_of}
-use Rattle.line_reading.proofs.Waves.{quiet}
 use Rattle.line_rounds.specs.declared.Loser.{Loser}
 use Rattle.line_rounds.specs.declared.Seat.{Seat}
 use Rattle.line_rounds.specs.declared.Outcome.{Outcome}
@@ -25,6 +24,7 @@ use Rattle.drive_laws.proofs.Acks.{ack_line, any_append}
 use Rattle.drive_laws.proofs.Pulses.{pulses_line}
 use Rattle.drive_laws.proofs.Seats.{IsTimely, Reports, break_line, may_fall, sent_line}
 use Rattle.drive_laws.proofs.Slots.{falls_at, slots_fall}
+use Rattle.line_wave.proofs.Waves.{quiet}
 
 -- ---- the first stretch begins with the round
 

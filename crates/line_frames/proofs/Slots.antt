@@ -2,9 +2,9 @@
 use Rattle.std.proofs.Common.{◌≡◌, ℕ, ◌+◌, ◌-◌, ◌*◌, ◌/◌, ◌%◌, ◌<◌, ◌≤◌, ◌==◌, Bool, true, false, List, [], ◌∷◌, ◌++◌, length, get_or, Some, slice_get, refl, arith, ap, ◌∙◌, sym, suc, zero}
 use Rattle.std.specs.Int.{bit_at}
 use Rattle.std.proofs.lemmas.Bool.Decides.{nat_tests}
-use Rattle.line_frames.specs.Bits.{frame_bits, block_bits}
+use Rattle.line_frames.specs.Bits.{frame_bits, block_bits, TenSlotsABlock, EndOfMessageSlots, AcknowledgeSlots}
 
-pub length-frame_bits : (bs : List ℕ) → length (frame_bits bs) ≡ 10 * length bs
+pub length-frame_bits : TenSlotsABlock
 length-frame_bits [] = refl
 length-frame_bits (b ∷ []) = refl
 length-frame_bits (b ∷ c ∷ bs) = omega (arith, length-frame_bits (c ∷ bs))
@@ -65,10 +65,8 @@ pub bit_slot : (bs : List ℕ) (k : ℕ) → 1 ≤ k → k ≤ length (frame_bit
     → slice_get (frame_bits bs) (k - 1) ≡ Some (bit_at (get_or bs ((k - 1) / 10) 0) (7 - (k - 1) % 10) == 1)
 bit_slot bs k l h p = slot_of bs k l h ∙ place_of_bit (get_or bs ((k - 1) / 10) 0) ((k - 1) / 10 + 1 == length bs) ((k - 1) % 10) p
 
-pub eom_slot : (bs : List ℕ) (k : ℕ) → 1 ≤ k → k ≤ length (frame_bits bs) → (k - 1) % 10 ≡ 8
-    → slice_get (frame_bits bs) (k - 1) ≡ Some ((k - 1) / 10 + 1 == length bs)
+pub eom_slot : EndOfMessageSlots
 eom_slot bs k l h p = slot_of bs k l h ∙ ap (slice_get (block_bits (get_or bs ((k - 1) / 10) 0) ((k - 1) / 10 + 1 == length bs))) p
 
-pub ack_slot : (bs : List ℕ) (k : ℕ) → 1 ≤ k → k ≤ length (frame_bits bs) → (k - 1) % 10 ≡ 9
-    → slice_get (frame_bits bs) (k - 1) ≡ Some true
+pub ack_slot : AcknowledgeSlots
 ack_slot bs k l h p = slot_of bs k l h ∙ ap (slice_get (block_bits (get_or bs ((k - 1) / 10) 0) ((k - 1) / 10 + 1 == length bs))) p

@@ -1,5 +1,6 @@
 //! Laws of frames.
 ghost use Rattle.line_frames.specs.Arbitration.{AcksDecideNothing, SameWinners};
+ghost use Rattle.line_frames.specs.Bits.{AcknowledgeSlots, EndOfMessageSlots, TenSlotsABlock};
 ghost use Rattle.line_frames.specs.Blocks.{FramesAreRead, OwnBitsAreRead};
 
 /// Arbitration (CEC 9) goes by all slots but the acknowledge slots: these decide nothing. With them left out, frames come
@@ -13,4 +14,12 @@ pub fn acknowledge_slots_decide_nothing()
 pub fn frames_are_read()
     ensures own { OwnBitsAreRead }
     ensures read { FramesAreRead }
+{}
+
+/// A frame has ten slots for each block: slot k, from 1, is place (k - 1) % 10 of block (k - 1) / 10. The ninth place of a
+/// block is its end-of-message bit, which is 1 in the last block, and the tenth its acknowledge bit, sent as 1 (CEC 6).
+pub fn slots_have_their_places()
+    ensures count { TenSlotsABlock }
+    ensures end_of_message { EndOfMessageSlots }
+    ensures acknowledge { AcknowledgeSlots }
 {}

@@ -9,7 +9,7 @@ mod blocks;
 mod laws;
 
 use arrayvec::ArrayVec;
-pub use laws::{acknowledge_slots_decide_nothing, frames_are_read};
+pub use laws::{acknowledge_slots_decide_nothing, frames_are_read, slots_have_their_places};
 use std::marker::Model;
 use thiserror::Error;
 

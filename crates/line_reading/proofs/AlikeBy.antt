@@ -9,9 +9,10 @@ use Rattle.line_reading.specs.Reading.After.{Next, Ends}
 use Rattle.line_reading.specs.Reading.{next_fall, next_rise, Read, slots_by, read_on, read_then, after_by, after_fall_by, after_last, last_ending, sample, bit_sampled_at, last_heard, read_start_by, start_by, start_rise_by, start_fall_by, After}
 use Rattle.line_reading.specs.Readings.{ReadingsAreOwnBy}
 use Rattle.line_reading.proofs.Search.{first_in_agree, first_in_till, first_in_longer, found_first, found_none}
-use Rattle.line_reading.proofs.CausesBy.{IsPlain, last_plain, not_over}
+use Rattle.line_reading.proofs.CausesBy.{last_plain, not_over}
 use Rattle.line_reading.specs.declared.times.Windows.{Windows}
 use Rattle.line_reading.specs.Windows.{AreWindows, sample_at}
+use Rattle.line_reading.specs.Known.{IsPlain}
 
 -- the lines are one from e to t
 abbrev pub Between : ℕ → ℕ → Line → Line → Type 0

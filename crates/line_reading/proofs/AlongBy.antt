@@ -1,6 +1,6 @@
 -- Along the slots of a reading.
-use Rattle.std.proofs.Common.{◌≡◌, ℕ, suc, ◌+◌, ◌-◌, ◌==◌, ◌%◌, ◌<◌, ◌≤◌, Bool, true, false, not, nat_lt, if◌then◌else◌, List, [], ◌∷◌, ◌++◌, length, slice_index_or, append_assoc, inl, inr, Option, Some, None, Ok, refl, arith, ap, ◌∙◌, sym}
-use Rattle.std.specs.List.{filter_map, cons_option}
+use Rattle.std.proofs.Common.{◌≡◌, ℕ, suc, ◌+◌, ◌-◌, ◌==◌, ◌%◌, ◌<◌, ◌≤◌, Bool, true, false, nat_lt, if◌then◌else◌, List, [], ◌∷◌, ◌++◌, length, slice_index_or, append_assoc, inl, inr, Option, Some, None, Ok, refl, arith, ap, ◌∙◌, sym}
+use Rattle.std.specs.List.{cons_option}
 use Rattle.std.specs.Option.{option_to_list}
 use Rattle.std.proofs.lemmas.List.Elements.{filter_map-append}
 use Rattle.std.proofs.lemmas.Bool.{cases_lt}
@@ -10,14 +10,16 @@ use Rattle.line_frames.specs.declared.Ending.TheVariants.{Complete, Short, Long}
 use Rattle.line_reading.specs.Reading.After.{Next, Ends}
 use Rattle.line_reading.specs.Reading.{next_fall, Read, Slot, Known, known_at, known_slot, reading_by, read_start_by, slots_by, read_on, read_then, after_by, after_fall_by, after_last, last_ending, last_heard, sample, bit_sampled_at, start_by, After}
 use Rattle.line_reading.proofs.Search.{first_in_none, first_in_some, found_first}
-use Rattle.line_reading.proofs.CausesBy.{with_slots, AreSampled, known_front, known_then, late_read, nothing, not_over}
+use Rattle.line_reading.proofs.CausesBy.{known_front, known_then, late_read, not_over}
 use Rattle.line_reading.proofs.EndsBy.{slots_until}
 use Rattle.line_reading.specs.declared.times.Windows.{Windows}
 use Rattle.line_reading.specs.Windows.{AreWindows, sample_at}
+use Rattle.line_reading.specs.Known.{with_slots, AreSampled, nothing, QuietSlotsAreSampled, SlotsAddTheirBits}
+use Rattle.line_reading.specs.Places.{AreOver, Reached}
 
 -- ---- the slot at e, on a line that does not fall up to t
 
-pub quiet_sample : (low : Line) (e : ℕ) → ((u : ℕ) → e < u → u < e + (sample_at + 1) → is_fall low u ≡ false) → bit_sampled_at low e ≡ Some (not (low (e + sample_at)))
+pub quiet_sample : QuietSlotsAreSampled
 quiet_sample low e q = ap (sample low e) (first_in_none (is_fall low) (e + 1) sample_at (λ u a b. q u (omega arith) (omega arith)))
 
 pub next_here : (low : Line) (fall t within : ℕ) → ((u : ℕ) → fall < u → u < t → is_fall low u ≡ false) → fall < t → t ≤ fall + within → is_fall low t ≡ true → next_fall low fall within ≡ Some t
@@ -33,7 +35,7 @@ one_reported : (o : Option Bool) → cons_option o [] ≡ option_to_list o
 one_reported None = refl
 one_reported (Some b) = refl
 
-pub reported_more : (xs : List Slot) (bits : List Bool) (s : Slot) → filter_map (λ x. x.bit) xs ≡ bits → filter_map (λ x. x.bit) (xs ++ s ∷ []) ≡ bits ++ option_to_list s.bit
+pub reported_more : SlotsAddTheirBits
 reported_more xs bits s h = filter_map-append (λ (x : Slot). x.bit) xs (s ∷ []) ∙ ap (λ ys. ys ++ cons_option s.bit []) h ∙ ap (λ ys. bits ++ ys) (one_reported s.bit)
 
 -- the 160th slot is a last one
@@ -70,37 +72,24 @@ at_on rest t (Next f) h ih = omega (arith, ih f)
 at_on rest t (Ends ending at) h ih = h
 
 module _ (win : Windows) (ok : AreWindows win) where
-  -- ---- where the reading has come
-
-  -- these slots fell one after another before e
-  abbrev pub AreOver : ℕ → List Slot → Type 0
-  AreOver e [] = Unit {0}
-  AreOver e (s ∷ ss) = (s.fall + win.bit_total.least ≤ e) × AreOver e ss
-
-  over_later : (e f : ℕ) (ss : List Slot) → e ≤ f → AreOver e ss → AreOver f ss
+  over_later : (e f : ℕ) (ss : List Slot) → e ≤ f → AreOver win e ss → AreOver win f ss
   over_later e f [] h o = tt
   over_later e f (s ∷ ss) h o = (omega (arith, o.0), over_later e f ss h o.1)
 
-  over_more : (f : ℕ) (ss : List Slot) (s : Slot) → AreOver f ss → s.fall + win.bit_total.least ≤ f → AreOver f (ss ++ s ∷ [])
+  over_more : (f : ℕ) (ss : List Slot) (s : Slot) → AreOver win f ss → s.fall + win.bit_total.least ≤ f → AreOver win f (ss ++ s ∷ [])
   over_more f [] s o h = (h, tt)
   over_more f (x ∷ ss) s o h = (o.0, over_more f ss s o.1 h)
 
-  pub over_sampled : (e t : ℕ) (ss : List Slot) → e ≤ t → AreOver e ss → AreSampled t ss
+  pub over_sampled : (e t : ℕ) (ss : List Slot) → e ≤ t → AreOver win e ss → AreSampled t ss
   over_sampled e t [] h o = tt
   over_sampled e t (s ∷ ss) h o = (omega (arith, o.0), over_sampled e t ss h o.1)
 
-  -- the reading from `begin` has these slots, with these bits, and goes on with the slot that falls at e
-  pub record Reached (low : Line) (begin left : ℕ) (xs : List Slot) (bits : List Bool) (e : ℕ) : Type 0 where
-    pub goes : with_slots xs (slots_by win low left bits e) ≡ reading_by win low begin
-    pub reported : filter_map (λ s. s.bit) xs ≡ bits
-    pub over : AreOver e xs
-
-  pub reached_start : (low : Line) (begin f : ℕ) → start_by win low begin ≡ Ok f → Reached low begin 160 [] [] f
+  pub reached_start : (low : Line) (begin f : ℕ) → start_by win low begin ≡ Ok f → Reached win low begin 160 [] [] f
   reached_start low begin f h = record { goes = ap (λ s. read_start_by win low begin s) (sym h); reported = refl; over = tt }
 
-  pub reach_next : (low : Line) (begin left : ℕ) (xs : List Slot) (bits : List Bool) (e f : ℕ) → Reached low begin (suc left) xs bits e
+  pub reach_next : (low : Line) (begin left : ℕ) (xs : List Slot) (bits : List Bool) (e f : ℕ) → Reached win low begin (suc left) xs bits e
       → after_by win low e (last_ending bits) ≡ Next f → e + win.bit_total.least ≤ f
-      → Reached low begin left (xs ++ record { fall = e; bit = bit_sampled_at low e } ∷ []) (bits ++ option_to_list (bit_sampled_at low e)) f
+      → Reached win low begin left (xs ++ record { fall = e; bit = bit_sampled_at low e } ∷ []) (bits ++ option_to_list (bit_sampled_at low e)) f
   unfolding slots_by
   reach_next low begin left xs bits e f r h far = record {
     goes = slots_assoc xs slot (slots_by win low left (bits ++ option_to_list (bit_sampled_at low e)) f)
@@ -114,7 +103,7 @@ module _ (win : Windows) (ok : AreWindows win) where
       slot = record { fall = e; bit = bit_sampled_at low e }
 
   -- the reading ends in this slot
-  pub ends_so : (low : Line) (begin left : ℕ) (xs : List Slot) (before : List Bool) (e : ℕ) (ending : Ending) (at : ℕ) → Reached low begin (suc left) xs before e → after_by win low e (last_ending before) ≡ Ends ending at
+  pub ends_so : (low : Line) (begin left : ℕ) (xs : List Slot) (before : List Bool) (e : ℕ) (ending : Ending) (at : ℕ) → Reached win low begin (suc left) xs before e → after_by win low e (last_ending before) ≡ Ends ending at
       → reading_by win low begin ≡ record { slots = xs ++ record { fall = e; bit = bit_sampled_at low e } ∷ []; ending = ending; at = at; until = last_heard ending at }
   unfolding slots_by
   ends_so low begin left xs before e ending at r h =
@@ -125,7 +114,7 @@ module _ (win : Windows) (ok : AreWindows win) where
   none_yet low left bits t (Next f) h = ap (λ (k : Known). k.slots) (late_read win ok t low left bits f h)
   none_yet low left bits t (Ends ending at) h = refl
 
-  slots_here : (low : Line) (begin left : ℕ) (xs : List Slot) (bits : List Bool) (e t : ℕ) → Reached low begin (suc left) xs bits e → e < t
+  slots_here : (low : Line) (begin left : ℕ) (xs : List Slot) (bits : List Bool) (e t : ℕ) → Reached win low begin (suc left) xs bits e → e < t
       → known_at t (reading_by win low begin) ≡ record {
         slots = xs ++ known_slot t (record { fall = e; bit = bit_sampled_at low e }) ∷ (known_at t (read_on (slots_by win low left (bits ++ option_to_list (bit_sampled_at low e))) (after_by win low e (last_ending bits)))).slots;
         ended = (known_at t (read_on (slots_by win low left (bits ++ option_to_list (bit_sampled_at low e))) (after_by win low e (last_ending bits)))).ended;
@@ -159,7 +148,7 @@ module _ (win : Windows) (ok : AreWindows win) where
       by_fall (Some f) h = no_sooner low e t sample_at f w.quiet h
 
   -- so its slots are those so far, and its own
-  pub known_waiting : (low : Line) (begin left : ℕ) (xs : List Slot) (bits : List Bool) (e t : ℕ) → Reached low begin (suc left) xs bits e → Waits low e t (last_ending bits)
+  pub known_waiting : (low : Line) (begin left : ℕ) (xs : List Slot) (bits : List Bool) (e t : ℕ) → Reached win low begin (suc left) xs bits e → Waits low e t (last_ending bits)
       → (known_at t (reading_by win low begin)).slots ≡ xs ++ known_slot t (record { fall = e; bit = bit_sampled_at low e }) ∷ []
   known_waiting low begin left xs bits e t r w =
       ap (λ (k : Known). k.slots) (slots_here low begin left xs bits e t r w.after)
@@ -167,13 +156,13 @@ module _ (win : Windows) (ok : AreWindows win) where
       (none_yet low left (bits ++ option_to_list (bit_sampled_at low e)) t (after_by win low e (last_ending bits)) (yet low e t (last_ending bits) w))
 
   -- and where it ends there, too
-  pub known_ending : (low : Line) (begin left : ℕ) (xs : List Slot) (bits : List Bool) (e t : ℕ) (ending : Ending) (at : ℕ) → Reached low begin (suc left) xs bits e → e < t
+  pub known_ending : (low : Line) (begin left : ℕ) (xs : List Slot) (bits : List Bool) (e t : ℕ) (ending : Ending) (at : ℕ) → Reached win low begin (suc left) xs bits e → e < t
       → after_by win low e (last_ending bits) ≡ Ends ending at → (known_at t (reading_by win low begin)).slots ≡ xs ++ known_slot t (record { fall = e; bit = bit_sampled_at low e }) ∷ []
   known_ending low begin left xs bits e t ending at r l h =
       ap (λ (k : Known). k.slots) (slots_here low begin left xs bits e t r l)
       ∙ ap (λ a. xs ++ known_slot t (record { fall = e; bit = bit_sampled_at low e }) ∷ (known_at t (read_on (slots_by win low left (bits ++ option_to_list (bit_sampled_at low e))) a)).slots) h
 
-  pub ends_later : (low : Line) (begin left : ℕ) (xs : List Slot) (bits : List Bool) (e t : ℕ) → Reached low begin (suc left) xs bits e → Waits low e t (last_ending bits) → t ≤ (reading_by win low begin).at
+  pub ends_later : (low : Line) (begin left : ℕ) (xs : List Slot) (bits : List Bool) (e t : ℕ) → Reached win low begin (suc left) xs bits e → Waits low e t (last_ending bits) → t ≤ (reading_by win low begin).at
   unfolding slots_by
   ends_later low begin left xs bits e t r w =
       let x = at_on (slots_by win low left (bits ++ option_to_list (bit_sampled_at low e))) t (after_by win low e (last_ending bits)) (yet low e t (last_ending bits) w)

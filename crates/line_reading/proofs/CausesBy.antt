@@ -11,10 +11,8 @@ use Rattle.line_reading.proofs.Search.{first_in_agree}
 use Rattle.line_reading.specs.Reading.{first_in, next_fall, next_rise, Read, Slot, slots_by, read_on, read_then, after_by, after_fall_by, after_last, last_ending, sample, bit_sampled_at, last_heard, Known, known_at, known_slot, read_start_by, reading_by, start_by, start_rise_by, start_fall_by, After}
 use Rattle.line_reading.specs.declared.times.Windows.{Windows}
 use Rattle.line_reading.specs.Windows.{AreWindows, sample_at}
-
--- the lines are one before t
-abbrev pub Agree : ℕ → Line → Line → Type 0
-Agree t p q = (u : ℕ) → u < t → p u ≡ q u
+use Rattle.line_reading.specs.Causality.{Agree}
+use Rattle.line_reading.specs.Known.{nothing, with_slots, AreSampled, IsPlain, LastEndingsArePlain, SampledSlotsAreKnown, FallenSlotsAreKnown}
 
 falls_agree : (t : ℕ) (p q : Line) → Agree t p q → Agree t (is_fall p) (is_fall q)
 falls_agree t p q a u h = rw (a u h, a (u - 1) (omega arith)) refl
@@ -58,12 +56,7 @@ IsLate : ℕ → After → Type 0
 IsLate t (Next f) = t ≤ f
 IsLate t (Ends ending at) = t ≤ last_heard ending at
 
--- an ending that is reported at its own instant
-abbrev pub IsPlain : Option Ending → Type 0
-IsPlain None = Unit {0}
-IsPlain (Some ending) = (at : ℕ) → last_heard ending at ≡ at
-
-pub last_plain : (bits : List Bool) → IsPlain (last_ending bits)
+pub last_plain : LastEndingsArePlain
 last_plain bits =
     elim (length bits % 10 == 9) as (λ a. IsPlain (if a then (if slice_index_or bits (length bits - 1) false then Some Complete else if length bits == 159 then Some Long else None) else None)) [
       | true ↦ elim (slice_index_or bits (length bits - 1) false) as (λ b. IsPlain (if b then Some Complete else if length bits == 159 then Some Long else None)) [
@@ -90,9 +83,6 @@ same_sample t p q e a h =
 
 -- ---- a reading as far as it is known before t
 
-unfoldable pub nothing : Known
-nothing = record { slots = []; ended = None }
-
 -- a reading ends no earlier than its slots fall
 on_over : (e : ℕ) (rest : ℕ → Read) (a : After) → IsLate e a → ((f : ℕ) → f ≤ (rest f).until) → e ≤ (read_on rest a).until
 unfolding IsLate
@@ -115,7 +105,7 @@ IsFar : ℕ → After → Type 0
 IsFar e (Next f) = e + sample_at < f
 IsFar e (Ends ending at) = Unit {0}
 
-pub known_then : (t : ℕ) (s : Slot) (r : Read) → s.fall < t → known_at t (read_then s r) ≡ record { slots = known_slot t s ∷ (known_at t r).slots; ended = (known_at t r).ended }
+pub known_then : FallenSlotsAreKnown
 known_then t s r h = let f : nat_lt s.fall t ≡ true = grind (arith, nat_tests) in rw f refl
 
 same_slot : (t : ℕ) (p q : Line) (e : ℕ) → Agree t p q → known_slot t (record { fall = e; bit = bit_sampled_at p e }) ≡ known_slot t (record { fall = e; bit = bit_sampled_at q e })
@@ -141,16 +131,7 @@ quiet_search p from (suc count) t q = step (p from) refl (quiet_search p (from +
     step false e r = r
     step true e r = elim (cases_lt from t) [ inl lt ↦ (let g : true ≡ false = sym e ∙ q from (omega arith) lt in cc) | inr ge ↦ ge ]
 
--- a reading that began with these slots
-abbrev pub with_slots : List Slot → Read → Read
-with_slots xs r = record { slots = xs ++ r.slots; ending = r.ending; at = r.at; until = r.until }
-
--- all of them were sampled before t
-abbrev pub AreSampled : ℕ → List Slot → Type 0
-AreSampled t [] = Unit {0}
-AreSampled t (s ∷ ss) = (s.fall + sample_at < t) × AreSampled t ss
-
-pub known_front : (t : ℕ) (xs : List Slot) (r : Read) → AreSampled t xs → known_at t (with_slots xs r) ≡ record { slots = xs ++ (known_at t r).slots; ended = (known_at t r).ended }
+pub known_front : SampledSlotsAreKnown
 known_front t [] r h = refl
 known_front t (x ∷ xs) r h =
     let e : nat_lt x.fall t ≡ true = grind (arith, nat_tests, h.0) in

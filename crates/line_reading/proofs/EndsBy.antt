@@ -8,11 +8,14 @@ use Rattle.line_frames.specs.declared.Ending.TheVariants.{Complete, Short, Silen
 use Rattle.line_reading.specs.Reading.After.{Next, Ends}
 use Rattle.line_reading.specs.Reading.{next_fall, next_rise, Read, slots_by, read_on, after_by, after_fall_by, after_last, last_ending, bit_sampled_at, last_heard, read_start_by, reading_by, start_by, start_rise_by, start_fall_by, After}
 use Rattle.line_reading.specs.Sending.{has_all}
-use Rattle.line_reading.proofs.Search.{Found, found_first}
-use Rattle.line_reading.proofs.CausesBy.{IsPlain, last_plain, not_over}
+use Rattle.line_reading.proofs.Search.{found_first}
+use Rattle.line_reading.proofs.CausesBy.{last_plain, not_over}
 use Rattle.line_reading.proofs.AlikeBy.{start_after}
 use Rattle.line_reading.specs.declared.times.Windows.{Windows}
 use Rattle.line_reading.specs.Windows.{AreWindows, sample_at}
+use Rattle.line_reading.specs.Searches.{Found}
+use Rattle.line_reading.specs.Known.{IsPlain}
+use Rattle.line_reading.specs.Over.{Lately}
 
 -- ---- the ending is at most one after the last microsecond, and not before it
 
@@ -49,13 +52,6 @@ heard_on rest (Next f) h = h f
 heard_on rest (Ends ending at) h = heard_end ending at
 
 -- ---- it is over soon after the line was low
-
--- the line is low at f, and `until` comes at most so much later
-pub record Lately (low : Line) (until much : ℕ) : Type 0 where
-  pub f : ℕ
-  pub is_low : low f ≡ true
-  pub by : f ≤ until
-  pub soon : until ≤ f + much
 
 fall_low : (low : Line) (f : ℕ) → is_fall low f ≡ true → low f ≡ true
 fall_low low f h = by_low (low f) (not (was_low low f)) h

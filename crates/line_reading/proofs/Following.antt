@@ -1,21 +1,22 @@
 -- A receiver that skips to the next edge or wake keeps what the line's readings say, by the standard's windows.
-use Rattle.std.proofs.Common.{◌≡◌, ℕ, ◌<◌, ◌≤◌, Bool, false, Some}
+use Rattle.std.proofs.Common.{◌≡◌, ℕ, ◌<◌, ◌≤◌, Bool, Some}
 use Rattle.line_wave.specs.Line.{Line, was_low}
 use Rattle.line_frames.specs.declared.Ending.{Ending}
 use Rattle.line_reading.specs.declared.receiver.Told.{Told}
 use Rattle.line_reading.specs.declared.receiver.Told.TheVariants.{Nothing, Ended}
-use Rattle.line_reading.specs.Hears.{Hears, reported_so, rest, hear_in, hears, wake_of, wakes_left}
+use Rattle.line_reading.specs.Hears.{Hears, reported_so, hear_in, hears, wake_of, wakes_left}
 use Rattle.line_reading.specs.Phase.{Standing, standing_of}
 use Rattle.line_reading.specs.Kept.{kept_of, kept_before, reported_at, standing_by}
 use Rattle.line_reading.specs.Follows.{IsNextReported}
-use Rattle.line_reading.proofs.Stood.{StandsIn}
 use Rattle.line_reading.specs.Windows.{standard}
 use Rattle.line_reading.proofs.Standard.{standard_are}
 use Rattle.line_reading.proofs.FollowingBy as by
 use Rattle.line_reading.specs.Reading.{read_slots}
 use Rattle.line_reading.specs.Kept.{running_from}
 use Rattle.line_reading.specs.Phase.{standing_from}
-pub use Rattle.line_reading.proofs.FollowingBy.{hears_by}
+use Rattle.line_reading.specs.Places.{StandsIn}
+pub use Rattle.line_reading.specs.Hears.{hears_by}
+use Rattle.line_reading.specs.Heard.{CalmReportsNothing, CalmKeepsStanding, HighLinesKeepNothing}
 
 -- what a tick leads to on a line that goes on as it was told
 pub follows_so : (h new : Hears) (was is_low : Bool) (t : ℕ) (reported : Told) → reported_so new reported ≡ hear_in t was is_low h
@@ -24,14 +25,12 @@ pub follows_so : (h new : Hears) (was is_low : Bool) (t : ℕ) (reported : Told)
 unfolding read_slots running_from standing_from hears StandsIn
 follows_so = by.follows_so standard standard_are
 
-pub once_so : (h : Hears) (was : Bool) (t : ℕ) (low : Line) (before : ℕ) → h ≡ kept_before low before → was ≡ was_low low before → ((u : ℕ) → before ≤ u → u < t → low u ≡ was)
-    → ((w : ℕ) → wake_of h ≡ Some w → t ≤ w) → (u : ℕ) → before ≤ u → u < t → reported_at low u ≡ Nothing
+pub once_so : CalmReportsNothing
 unfolding read_slots running_from standing_from hears StandsIn
 once_so = by.once_so standard standard_are
 
 -- who stood on a line stands on it later, where it goes on without an edge up to the wake
-pub stood_calm : (h : Hears) (was : Bool) (low : Line) (before t : ℕ) → h ≡ kept_before low before → was ≡ was_low low before → before ≤ t → ((u : ℕ) → before ≤ u → u < t → low u ≡ was)
-    → ((w : ℕ) → wake_of h ≡ Some w → t ≤ w) → (h ≡ kept_before low t) × (was ≡ was_low low t)
+pub stood_calm : CalmKeepsStanding
 unfolding read_slots running_from standing_from hears StandsIn
 stood_calm = by.stood_calm standard standard_are
 
@@ -49,7 +48,7 @@ pub wakes_so : (h : Hears) (was : Bool) (low : Line) (t : ℕ) → h ≡ kept_be
 unfolding read_slots running_from standing_from hears StandsIn
 wakes_so = by.wakes_so standard standard_are
 
-pub empty_kept : (t : ℕ) → rest ≡ kept_of (λ u. false) t
+pub empty_kept : HighLinesKeepNothing
 unfolding read_slots running_from standing_from hears StandsIn
 empty_kept = by.empty_kept standard standard_are
 

@@ -9,14 +9,16 @@ use Rattle.line_reading.specs.declared.receiver.ReceiverState.TheVariants.{Rest,
 use Rattle.line_reading.specs.declared.receiver.Told.{Told}
 use Rattle.line_reading.specs.declared.receiver.Told.TheVariants.{Nothing, Ended}
 use Rattle.line_reading.specs.Reading.{last_ending}
-use Rattle.line_reading.specs.Hears.{Hears, Heard, reported_so, rest, starts, sample_as, hear_at_by, hear_in_by, hears_with, wake_of_by, wakes_left}
+use Rattle.line_reading.specs.Hears.{Hears, Heard, reported_so, rest, starts, sample_as, hear_at_by, hear_in_by, hears_with, wake_of_by, wakes_left, hears_by}
 use Rattle.line_reading.specs.Phase.{Standing, standing_with}
 use Rattle.line_reading.specs.Kept.{kept_with, kept_with_before, reported_with_at, standing_by}
 use Rattle.line_reading.specs.Follows.{IsNextReportedBy}
 use Rattle.line_reading.proofs.KeepingBy.{kept_heard, before_heard, reported_heard, standings_are_kept}
-use Rattle.line_reading.proofs.StoodBy.{StandsIn, stands_at, was_now}
+use Rattle.line_reading.proofs.StoodBy.{stands_at}
 use Rattle.line_reading.specs.declared.times.Windows.{Windows}
 use Rattle.line_reading.specs.Windows.{AreWindows, sample_at}
+use Rattle.line_wave.proofs.Waves.{was_now}
+use Rattle.line_reading.specs.Places.{StandsInBy}
 
 -- ---- a microsecond without an edge, before the wake
 
@@ -27,9 +29,6 @@ no_fall false = refl
 no_rise : (b : Bool) → (not b && b) ≡ false
 no_rise true = refl
 no_rise false = refl
-
-abbrev pub hears_by : ReceiverState → ℕ → ℕ → List Bool → Hears
-hears_by place begin fall bits = record { place = place; begin = begin; fall = fall; bits = bits }
 
 -- ---- from one tick to the next
 
@@ -42,9 +41,9 @@ was_alike low other zero q = let x : nat_lt 0 zero ≡ false = grind (arith, nat
 was_alike low other (suc n) q = ap (λ b. nat_lt 0 (suc n) && b) (q (suc n - 1) (omega arith))
 
 module _ (win : Windows) (ok : AreWindows win) where
-  still_at : (low : Line) (n : ℕ) (b : Bool) (place : ReceiverState) (begin fall : ℕ) (bits : List Bool) → StandsIn win ok low n place begin fall bits → ((w : ℕ) → wake_of_by win (hears_by place begin fall bits) ≡ Some w → n < w)
+  still_at : (low : Line) (n : ℕ) (b : Bool) (place : ReceiverState) (begin fall : ℕ) (bits : List Bool) → StandsInBy win low n place begin fall bits → ((w : ℕ) → wake_of_by win (hears_by place begin fall bits) ≡ Some w → n < w)
       → hear_at_by win place n false false b (hears_by place begin fall bits) ≡ reported_so (hears_by place begin fall bits) Nothing
-  unfolding StandsIn
+  unfolding StandsInBy
   still_at low n b Rest begin fall bits s w = sym (rw (s.no_begin, s.no_fall, s.no_bits) refl)
   still_at low n b StartLow begin fall bits s w =
       ap (λ c. if c then reported_so (starts n false) (Ended BadStart) else reported_so (hears_by StartLow begin fall bits) Nothing)
@@ -266,8 +265,8 @@ module _ (win : Windows) (ok : AreWindows win) where
     pub from : n ≤ w
     pub reports : (hear_at_by win place w false false b (hears_by place begin fall bits)).reported ≢ Nothing
 
-  pub wakes_now : (low : Line) (n : ℕ) (b : Bool) (place : ReceiverState) (begin fall : ℕ) (bits : List Bool) → StandsIn win ok low n place begin fall bits → (w : ℕ) → wake_of_by win (hears_by place begin fall bits) ≡ Some w → WakesNow n b place begin fall bits w
-  unfolding StandsIn
+  pub wakes_now : (low : Line) (n : ℕ) (b : Bool) (place : ReceiverState) (begin fall : ℕ) (bits : List Bool) → StandsInBy win low n place begin fall bits → (w : ℕ) → wake_of_by win (hears_by place begin fall bits) ≡ Some w → WakesNow n b place begin fall bits w
+  unfolding StandsInBy
   wakes_now low n b Rest begin fall bits s w e = cc
   wakes_now low n b StartLow begin fall bits s w e =
       let is : begin + (win.start_low.most + 1) ≡ w = cc in

@@ -15,9 +15,10 @@ use Rattle.line_reading.specs.Sending.{known_bits, has_all, is_whole}
 use Rattle.line_reading.proofs.Search.{first_in_none, first_in_some, found_first}
 use Rattle.line_reading.proofs.EndsBy.{begin_by, slots_heard}
 use Rattle.line_reading.proofs.AlongBy.{reported_more, known_waiting, ends_later, Waits, quiet_sample}
-use Rattle.line_reading.proofs.StoodBy.{ArePast, HasBegun, AtRest, AtStartLow, AtStartHigh, AtSlot, StandsIn, runs_in, Knows, step, stands_at, start_none, start_later, low_later, high_later}
+use Rattle.line_reading.proofs.StoodBy.{step, stands_at, start_none, start_later, low_later, high_later}
 use Rattle.line_reading.specs.declared.times.Windows.{Windows}
 use Rattle.line_reading.specs.Windows.{AreWindows, sample_at}
+use Rattle.line_reading.specs.Places.{ArePastBy, HasBegunBy, AtRestBy, AtStartLowBy, AtStartHighBy, AtSlotBy, StandsInBy, runs_in, KnowsBy}
 
 -- the start bit has risen by t, or not
 low_risen : (low : Line) (t begin : ℕ) → begin < t + 1 → ((u : ℕ) → begin < u → u < t + 1 → is_rise low u ≡ false) → is_some (first_in (is_rise low) (begin + 1) (t - begin)) ≡ false
@@ -56,7 +57,7 @@ module _ (win : Windows) (ok : AreWindows win) where
     same : running_from_by win low t n from ≡ running_from_by win low t left to
 
   -- those that are over by t do not run
-  skip : (low : Line) (t n from : ℕ) (es : List ℕ) (to : ℕ) → t + 1 ≤ n + from → ArePast win ok low (t + 1) from es to → Skips low t n from to
+  skip : (low : Line) (t n from : ℕ) (es : List ℕ) (to : ℕ) → t + 1 ≤ n + from → ArePastBy win low (t + 1) from es to → Skips low t n from to
   unfolding running_from_by
   skip low t n from [] to l h = record { left = n; enough = omega (arith, h); same = ap (running_from_by win low t n) (sym h) }
   skip low t zero from (e ∷ es) to l h = absurd (omega (arith, h.0.after, h.1))
@@ -83,10 +84,10 @@ module _ (win : Windows) (ok : AreWindows win) where
       ap (λ o. runs_on_by win low t o (running_from_by win low t n)) (first_in_some (is_fall low) from (t + 1 - from) begin a (omega arith) f q)
       ∙ ap (λ c. if c then Some begin else running_from_by win low t n ((reading_by win low begin).until + 1)) (let y : nat_lt t (reading_by win low begin).at ≡ true = grind (arith, nat_tests) in y)
 
-  rest_runs : (low : Line) (t begin fall : ℕ) (bits : List Bool) → AtRest win ok low (t + 1) begin fall bits → running_by win low t ≡ None
+  rest_runs : (low : Line) (t begin fall : ℕ) (bits : List Bool) → AtRestBy win low (t + 1) begin fall bits → running_by win low t ≡ None
   rest_runs low t begin fall bits s = let k = skip low t (t + 1) 0 s.past s.from (omega arith) s.over in k.same ∙ none_runs low t k.left s.from s.quiet
 
-  begun_runs : (low : Line) (t begin : ℕ) → HasBegun win ok low (t + 1) begin → t < (reading_by win low begin).at → running_by win low t ≡ Some begin
+  begun_runs : (low : Line) (t begin : ℕ) → HasBegunBy win low (t + 1) begin → t < (reading_by win low begin).at → running_by win low t ≡ Some begin
   begun_runs low t begin b late =
       let k = skip low t (t + 1) 0 b.past b.from (omega arith) b.over in
       k.same ∙ one_runs low t k.left b.from begin k.enough b.first.after b.before b.first.falls b.first.quiet late
@@ -98,17 +99,17 @@ module _ (win : Windows) (ok : AreWindows win) where
     runs : running_by win low t ≡ Some begin
     known_by : (known_at (t + 1) (reading_by win low begin)).slots ≡ slots
 
-  low_runs : (low : Line) (t begin fall : ℕ) (bits : List Bool) → AtStartLow win ok low (t + 1) begin fall bits → RunsSo low t begin []
+  low_runs : (low : Line) (t begin fall : ℕ) (bits : List Bool) → AtStartLowBy win low (t + 1) begin fall bits → RunsSo low t begin []
   low_runs low t begin fall bits s =
       let d = low_later win ok low begin t s.quiet (omega (arith, s.early)) (next_rise low begin win.start_low.most) refl in
       record { runs = begun_runs low t begin s.begun (start_later win ok low begin t (start_by win low begin) d.0 d.1); known_by = start_none win ok low begin t (start_by win low begin) d.0 }
 
-  high_runs : (low : Line) (t begin fall : ℕ) (bits : List Bool) → AtStartHigh win ok low (t + 1) begin fall bits → RunsSo low t begin []
+  high_runs : (low : Line) (t begin fall : ℕ) (bits : List Bool) → AtStartHighBy win low (t + 1) begin fall bits → RunsSo low t begin []
   high_runs low t begin fall bits s =
       let d = high_later win ok low begin s.rise t s.found s.late s.quiet (omega (arith, s.early)) in
       record { runs = begun_runs low t begin s.begun (start_later win ok low begin t (start_by win low begin) d.0 d.1); known_by = start_none win ok low begin t (start_by win low begin) d.0 }
 
-  slot_runs : (low : Line) (t begin fall : ℕ) (before : List Bool) → (s : AtSlot win ok low (t + 1) begin fall before) → Waits win ok low fall (t + 1) (last_ending before)
+  slot_runs : (low : Line) (t begin fall : ℕ) (before : List Bool) → (s : AtSlotBy win low (t + 1) begin fall before) → Waits win ok low fall (t + 1) (last_ending before)
       → RunsSo low t begin (s.xs ++ known_slot (t + 1) (record { fall = fall; bit = bit_sampled_at low fall }) ∷ [])
   slot_runs low t begin fall before s w = record {
     runs = begun_runs low t begin s.begun (let x = ends_later win ok low begin s.left s.xs before fall (t + 1) s.reached w in omega (arith, x));
@@ -154,7 +155,7 @@ module _ (win : Windows) (ok : AreWindows win) where
       let d = found_first (is_rise low) (begin + 1) win.start_low.most rise h in
       ap is_some (first_in_some (is_rise low) (begin + 1) (t - begin) rise d.after (omega (arith, d.after, l)) d.passes d.first)
 
-  slot_keeps : (low : Line) (t begin fall : ℕ) (before bits : List Bool) (place : ReceiverState) → (s : AtSlot win ok low (t + 1) begin fall before) → Waits win ok low fall (t + 1) (last_ending before)
+  slot_keeps : (low : Line) (t begin fall : ℕ) (before bits : List Bool) (place : ReceiverState) → (s : AtSlotBy win low (t + 1) begin fall before) → Waits win ok low fall (t + 1) (last_ending before)
       → (o : Option Bool) → (if nat_lt (fall + sample_at) (t + 1) then bit_sampled_at low fall else None) ≡ o → before ++ option_to_list o ≡ bits
       → place_by (length bits) (length before + 1) ≡ place → standing_by (record { place = place; begin = begin; fall = fall; bits = bits }) (low t) ≡ phase.InSlot (length before + 1) bits
       → KeepsSo low t (record { place = place; begin = begin; fall = fall; bits = bits })
@@ -181,8 +182,8 @@ module _ (win : Windows) (ok : AreWindows win) where
       count : length (s.xs ++ known_slot (t + 1) (record { fall = fall; bit = bit_sampled_at low fall }) ∷ []) ≡ length before + 1
       count = length-append s.xs (known_slot (t + 1) (record { fall = fall; bit = bit_sampled_at low fall }) ∷ []) ∙ (let x = s.count in let y : length s.xs + 1 ≡ length before + 1 = omega (arith, x) in y)
 
-  keeps_so : (low : Line) (t : ℕ) (place : ReceiverState) (begin fall : ℕ) (bits : List Bool) → StandsIn win ok low (t + 1) place begin fall bits → KeepsSo low t (record { place = place; begin = begin; fall = fall; bits = bits })
-  unfolding StandsIn stands_with place_by
+  keeps_so : (low : Line) (t : ℕ) (place : ReceiverState) (begin fall : ℕ) (bits : List Bool) → StandsInBy win low (t + 1) place begin fall bits → KeepsSo low t (record { place = place; begin = begin; fall = fall; bits = bits })
+  unfolding StandsInBy stands_with place_by
   keeps_so low t Rest begin fall bits s = record {
     kept = ap (kept_since win low t) (rest_runs low t begin fall bits s) ∙ sym (rw (s.no_begin, s.no_fall, s.no_bits) refl);
     stands = standing_runs low t (t + 1) 0 ∙ ap (stands_with low t) (rest_runs low t begin fall bits s);
@@ -214,8 +215,8 @@ module _ (win : Windows) (ok : AreWindows win) where
 
   -- ---- the line's readings and what is heard of it
 
-  heard_now : (low : Line) (t : ℕ) → StandsIn win ok low (t + 1) (hears_with win low (suc t)).place (hears_with win low (suc t)).begin (hears_with win low (suc t)).fall (hears_with win low (suc t)).bits
-  heard_now low t = subst (λ m. StandsIn win ok low m (hears_with win low (suc t)).place (hears_with win low (suc t)).begin (hears_with win low (suc t)).fall (hears_with win low (suc t)).bits) (let x : suc t ≡ t + 1 = omega arith in x) (stands_at win ok low (suc t))
+  heard_now : (low : Line) (t : ℕ) → StandsInBy win low (t + 1) (hears_with win low (suc t)).place (hears_with win low (suc t)).begin (hears_with win low (suc t)).fall (hears_with win low (suc t)).bits
+  heard_now low t = subst (λ m. StandsInBy win low m (hears_with win low (suc t)).place (hears_with win low (suc t)).begin (hears_with win low (suc t)).fall (hears_with win low (suc t)).bits) (let x : suc t ≡ t + 1 = omega arith in x) (stands_at win ok low (suc t))
 
   heard_keeps : (low : Line) (t : ℕ) → KeepsSo low t (hears_with win low (suc t))
   heard_keeps low t = keeps_so low t (hears_with win low (suc t)).place (hears_with win low (suc t)).begin (hears_with win low (suc t)).fall (hears_with win low (suc t)).bits (heard_now low t)
@@ -231,8 +232,8 @@ module _ (win : Windows) (ok : AreWindows win) where
   pub standings_are_kept : (StandingsAreKeptBy win)
   standings_are_kept low t = let k = heard_keeps low t in ap (λ h. standing_by h (low t)) k.kept ∙ sym k.stands
 
-  pub runs_so : (low : Line) (t : ℕ) (place : ReceiverState) (begin fall : ℕ) (bits : List Bool) → StandsIn win ok low (t + 1) place begin fall bits → running_by win low t ≡ runs_in place begin
-  unfolding StandsIn
+  pub runs_so : (low : Line) (t : ℕ) (place : ReceiverState) (begin fall : ℕ) (bits : List Bool) → StandsInBy win low (t + 1) place begin fall bits → running_by win low t ≡ runs_in place begin
+  unfolding StandsInBy
   runs_so low t Rest begin fall bits s = rest_runs low t begin fall bits s
   runs_so low t StartLow begin fall bits s = (low_runs low t begin fall bits s).runs
   runs_so low t StartHigh begin fall bits s = (high_runs low t begin fall bits s).runs
@@ -267,25 +268,25 @@ module _ (win : Windows) (ok : AreWindows win) where
       by_time true h (inr e) = e
       by_time true h (inl e) = let x : (reading_by win low begin).until < n = grind (arith, nat_tests) in absurd (omega (arith, e, x, l))
 
-  knows_running : (low : Line) (n begin : ℕ) (bits : List Bool) → (n ≤ (reading_by win low begin).at) → known_bits (known_at n (reading_by win low begin)) ≡ bits → Knows win ok low n begin bits false false
+  knows_running : (low : Line) (n begin : ℕ) (bits : List Bool) → (n ≤ (reading_by win low begin).at) → known_bits (known_at n (reading_by win low begin)) ≡ bits → KnowsBy win low n begin bits false false
   knows_running low n begin bits l e = record { bits_are = e; whole_is = not_all low begin n l; over_is = let x : nat_lt (reading_by win low begin).at n ≡ false = grind (arith, nat_tests) in x }
 
-  start_knows : (low : Line) (n begin : ℕ) (bits : List Bool) → bits ≡ [] → ((f : ℕ) → start_by win low begin ≡ Ok f → n < f + 1) × ((at : ℕ) → start_by win low begin ≡ Err at → n < at + 1) → 1 ≤ n → Knows win ok low n begin bits false false
+  start_knows : (low : Line) (n begin : ℕ) (bits : List Bool) → bits ≡ [] → ((f : ℕ) → start_by win low begin ≡ Ok f → n < f + 1) × ((at : ℕ) → start_by win low begin ≡ Err at → n < at + 1) → 1 ≤ n → KnowsBy win low n begin bits false false
   start_knows low n begin bits none d l =
       knows_running low n begin bits
       (let x = start_later win ok low begin (n - 1) (start_by win low begin) (λ f e. let y = d.0 f e in omega (arith, y, l)) (λ at e. let y = d.1 at e in omega (arith, y, l)) in omega (arith, x))
       (ap (λ m. known_bits (known_at m (reading_by win low begin))) (let x : n ≡ n - 1 + 1 = omega (arith, l) in x)
       ∙ ap (λ (ss : List Slot). filter_map (λ (x : Slot). x.bit) ss) (start_none win ok low begin (n - 1) (start_by win low begin) (λ f e. let y = d.0 f e in omega (arith, y, l))) ∙ sym none)
 
-  slot_knows : (low : Line) (n begin fall : ℕ) (before bits : List Bool) → (s : AtSlot win ok low n begin fall before) → Waits win ok low fall n (last_ending before)
-      → before ++ option_to_list (if nat_lt (fall + sample_at) n then bit_sampled_at low fall else None) ≡ bits → Knows win ok low n begin bits false false
+  slot_knows : (low : Line) (n begin fall : ℕ) (before bits : List Bool) → (s : AtSlotBy win low n begin fall before) → Waits win ok low fall n (last_ending before)
+      → before ++ option_to_list (if nat_lt (fall + sample_at) n then bit_sampled_at low fall else None) ≡ bits → KnowsBy win low n begin bits false false
   slot_knows low n begin fall before bits s w e =
       knows_running low n begin bits (ends_later win ok low begin s.left s.xs before fall n s.reached w)
       (ap (λ (ss : List Slot). filter_map (λ (x : Slot). x.bit) ss) (known_waiting win ok low begin s.left s.xs before fall n s.reached w)
       ∙ reported_more s.xs before (known_slot n (record { fall = fall; bit = bit_sampled_at low fall })) s.reached.reported ∙ e)
 
-  pub running_knows : (low : Line) (n : ℕ) (place : ReceiverState) (begin fall : ℕ) (bits : List Bool) (b : ℕ) → StandsIn win ok low n place begin fall bits → runs_in place begin ≡ Some b → Knows win ok low n begin bits false false
-  unfolding StandsIn
+  pub running_knows : (low : Line) (n : ℕ) (place : ReceiverState) (begin fall : ℕ) (bits : List Bool) (b : ℕ) → StandsInBy win low n place begin fall bits → runs_in place begin ≡ Some b → KnowsBy win low n begin bits false false
+  unfolding StandsInBy
   running_knows low n Rest begin fall bits b s e = cc
   running_knows low n StartLow begin fall bits b s e =
       let one : 1 ≤ n = omega (arith, s.begun.before) in

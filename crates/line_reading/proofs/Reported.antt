@@ -15,7 +15,7 @@ use Rattle.line_reading.specs.declared.receiver.Told.TheVariants.{Nothing, Bit, 
 use Rattle.line_reading.specs.Windows.{standard, sample_at}
 use Rattle.line_reading.specs.Reading.{first_in, next_fall, Read, Slot, known_at, known_slot, known_slots, reading_of, read_start, read_slots, read_on, after_slot, after_fall, after_last, last_ending, sample, bit_sampled_at, start_of, bits_of, reported_of, After}
 use Rattle.line_reading.specs.Readings.{Listed, reading_from, listed_on, readings_from, readings_of, IsFirstFall}
-use Rattle.line_reading.specs.Ended.{has_ended, ended_by}
+use Rattle.line_reading.specs.Ended.{has_ended, ended_by, EndedAreFirst}
 use Rattle.line_reading.specs.Hears.{hear_in, hears}
 use Rattle.line_reading.specs.Kept.{Sample, sample_in, reported_with, reported_in, reported_at, kept_of, kept_before}
 use Rattle.line_reading.specs.Sending.{known_bits}
@@ -25,8 +25,9 @@ use Rattle.line_reading.proofs.Causes.{not_over}
 use Rattle.line_reading.proofs.Ends.{at_by, begin_by, ends_after, slots_until}
 use Rattle.line_reading.proofs.Lists.{none_left}
 use Rattle.line_reading.proofs.OneByOne.{same_reported, keep_all}
-use Rattle.line_reading.proofs.Stood.{ArePast, past_later, past_more, HasBegun, AtRest, StandsIn, runs_in, KnowsEnd, step, stands_at}
+use Rattle.line_reading.proofs.Stood.{past_later, past_more, step, stands_at}
 use Rattle.line_reading.proofs.Keeping.{kept_heard, reported_heard, running_knows}
+use Rattle.line_reading.specs.Places.{ArePast, HasBegun, AtRest, StandsIn, runs_in, KnowsEnd}
 
 -- ---- all bits of a reading that is over are known
 
@@ -397,7 +398,7 @@ ended_on low t (suc m) =
     )
 
 -- the readings that have ended by an instant are the first of those of a later one
-pub ended_first : (low : Line) (t u : ℕ) → t ≤ u → (zs : List Listed) × (readings_of low u ≡ ended_by low t ++ zs)
+pub ended_first : EndedAreFirst
 ended_first low t u l =
     let on = ended_on low t (u - t) in
     let last : List Listed = option_to_list (running_by (kept_of low u) u) in (

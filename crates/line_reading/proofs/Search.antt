@@ -2,15 +2,15 @@
 use Rattle.std.proofs.Common.{◌≡◌, ℕ, zero, suc, ◌+◌, ◌<◌, ◌≤◌, Bool, true, false, if◌then◌else◌, inl, inr, Some, None, refl, sym, ◌∙◌, arith}
 use Rattle.std.proofs.lemmas.Bool.{cases_lt}
 use Rattle.line_reading.specs.Reading.{first_in}
+use Rattle.line_reading.specs.Searches.{Found, FoundIsFirst, MissedPassNone, FirstIsFound, NoneIsFound, AlikeFindAlike}
 
-pub first_in_none : (test : ℕ → Bool) (from count : ℕ) → ((u : ℕ) → from ≤ u → u < from + count → test u ≡ false) → first_in test from count ≡ None
+pub first_in_none : NoneIsFound
 unfolding first_in
 first_in_none test from zero h = refl
 first_in_none test from (suc count) h =
     rw (h from (omega arith) (omega arith)) (first_in_none test (from + 1) count (λ u l m. h u (omega arith) (omega arith)))
 
-pub first_in_some : (test : ℕ → Bool) (from count t : ℕ) → from ≤ t → t < from + count → test t ≡ true
-    → ((u : ℕ) → from ≤ u → u < t → test u ≡ false) → first_in test from count ≡ Some t
+pub first_in_some : FirstIsFound
 unfolding first_in
 first_in_some test from zero t l m h before = absurd (omega arith)
 first_in_some test from (suc count) t l m h before =
@@ -20,7 +20,7 @@ first_in_some test from (suc count) t l m h before =
     ]
 
 -- tests that agree where it looks find the same
-pub first_in_agree : (p q : ℕ → Bool) (from count : ℕ) → ((u : ℕ) → from ≤ u → u < from + count → p u ≡ q u) → first_in p from count ≡ first_in q from count
+pub first_in_agree : AlikeFindAlike
 unfolding first_in
 first_in_agree p q from zero h = refl
 first_in_agree p q from (suc count) h =
@@ -28,13 +28,7 @@ first_in_agree p q from (suc count) h =
 
 -- ---- what a search has found
 
-pub record Found (p : ℕ → Bool) (from count f : ℕ) : Type 0 where
-  pub passes : p f ≡ true
-  pub after : from ≤ f
-  pub within : f < from + count
-  pub first : (u : ℕ) → from ≤ u → u < f → p u ≡ false
-
-pub found_first : (p : ℕ → Bool) (from count f : ℕ) → first_in p from count ≡ Some f → Found p from count f
+pub found_first : FoundIsFirst
 unfolding first_in
 found_first p from zero f h = cc
 found_first p from (suc count) f h = step (p from) refl h (λ g. found_first p (from + 1) count f g)
@@ -53,7 +47,7 @@ found_first p from (suc count) f h = step (p from) refl h (λ g. found_first p (
           first = λ u l m. elim (cases_lt from u) [ inl lt ↦ q.first u (omega arith) m | inr ge ↦ let s : u ≡ from = omega arith in rw s e ];
         }
 
-pub found_none : (p : ℕ → Bool) (from count : ℕ) → first_in p from count ≡ None → (u : ℕ) → from ≤ u → u < from + count → p u ≡ false
+pub found_none : MissedPassNone
 unfolding first_in
 found_none p from zero h u l m = absurd (omega arith)
 found_none p from (suc count) h u l m = step (p from) refl h (λ g x a b. found_none p (from + 1) count g x a b)

@@ -22,11 +22,13 @@ use Rattle.line_reading.specs.Reading.{Known, known_at, read_slots, reading_of, 
 use Rattle.line_reading.specs.Hears.{Hears, Heard, reported_so, rest, starts, sample_as, hear_at, hear_in, hears}
 use Rattle.line_reading.specs.Kept.{running_of, reported_at}
 use Rattle.line_reading.specs.Sends.{sent_in, takes_all, is_out_there, after_reported}
-use Rattle.line_reading.specs.Sending.{bit_read, destination, is_whole, is_out_by, out_by, out_slot, state_by, state_before, may_pull, goes_on, sender_pulls, IsBefore, StopsAt}
-use Rattle.line_reading.proofs.Causes.{nothing, known_start_low}
+use Rattle.line_reading.specs.Sending.{bit_read, destination, is_whole, is_out_by, out_by, out_slot, state_by, state_before, may_pull, goes_on, IsBefore, StopsAt, SendersGoByReports, SilenceChangesNoSender, SendersPullByRound}
+use Rattle.line_reading.proofs.Causes.{known_start_low}
 use Rattle.line_reading.proofs.Ends.{until_by, ends_after}
-use Rattle.line_reading.proofs.Stood.{StandsIn, runs_in, Knows, KnowsEnd, step, stands_at}
+use Rattle.line_reading.proofs.Stood.{step, stands_at}
 use Rattle.line_reading.proofs.Keeping.{running_knows, runs_so, reported_heard}
+use Rattle.line_reading.specs.Known.{nothing}
+use Rattle.line_reading.specs.Places.{StandsIn, runs_in, Knows, KnowsEnd}
 
 -- ---- the first slot that tells it to stop, with one more bit
 
@@ -324,7 +326,7 @@ report_at low n place begin fall bits b sent s l e o is =
     t.ends (goes_by n place begin fall bits (low n && not (was_low low n)) (not (low n) && was_low low n) (low n) b e)
     (λ bs r q. knows_of low (n + 1) (hear_in n (was_low low n) (low n) (record { place = place; begin = begin; fall = fall; bits = bits })).state begin bs t.stands r q)))
 
-pub reports_state : (low : Line) (n b : ℕ) (sent : List Bool) → 1 ≤ n → running_of low (n - 1) ≡ Some b → state_before low b sent (n + 1) ≡ after_reported sent (state_before low b sent n) (reported_at low n)
+pub reports_state : SendersGoByReports
 reports_state low n b sent l r =
     let h = hears low n in
     let same : n - 1 + 1 ≡ n = omega arith in
@@ -334,7 +336,7 @@ reports_state low n b sent l r =
 
 -- ---- a sender that is told nothing, and then something
 
-pub stays_same : (sent : List Bool) (state : SenderState) → after_reported sent state Nothing ≡ state
+pub stays_same : SilenceChangesNoSender
 stays_same sent Sending = refl
 stays_same sent (Out n) = refl
 stays_same sent Stopped = refl
@@ -375,8 +377,7 @@ begins_so low begin sent =
 
 -- ---- its pull
 
-pub pulls_so : (low : Line) (begin t last : ℕ) (f : List ℕ) (state : SenderState) → state ≡ state_before low begin (frame_bits f) t → IsBefore state last t
-    → (line_of (sender_stretches begin (frame_bits f)) t && may_pull state last t) ≡ sender_pulls begin (known_at t (reading_of low begin)) t f
+pub pulls_so : SendersPullByRound
 pulls_so low begin t last f state s p =
     ap (λ b. line_of (sender_stretches begin (frame_bits f)) t && b) (by_out (out_slot (known_at t (reading_of low begin)) (frame_bits f)) (nat_lt (reading_of low begin).at t) refl state s p)
   where

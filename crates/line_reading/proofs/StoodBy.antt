@@ -14,25 +14,18 @@ use Rattle.line_reading.specs.declared.receiver.Told.{Told}
 use Rattle.line_reading.specs.declared.receiver.Told.TheVariants.{Nothing, Bit, Last, Ended}
 use Rattle.line_reading.specs.Reading.{next_fall, next_rise, Read, Slot, End, known_at, known_slot, reading_by, read_start_by, after_by, after_fall_by, after_last, last_ending, last_heard, bit_sampled_at, start_by, start_rise_by, start_fall_by, After}
 use Rattle.line_reading.specs.Readings.{IsFirstFall}
-use Rattle.line_reading.specs.Hears.{Hears, Heard, reported_so, rest, starts, hear_start_low_by, hear_start_high_by, hear_unsampled, hear_sampled_by, sample_as, hear_in_by, hears_with}
+use Rattle.line_reading.specs.Hears.{Hears, reported_so, rest, starts, hear_start_low_by, hear_start_high_by, hear_unsampled, hear_sampled_by, sample_as, hear_in_by, hears_with}
 use Rattle.line_reading.specs.Sending.{known_bits, has_all, is_whole}
 use Rattle.line_reading.specs.Kept.{Sample, sample_of, sample_in, reported_with, reported_since}
 use Rattle.line_reading.proofs.Search.{first_in_none, first_in_some, found_first}
-use Rattle.line_reading.proofs.CausesBy.{start_risen, late_read, IsPlain, last_plain, not_over, nothing}
+use Rattle.line_reading.proofs.CausesBy.{start_risen, late_read, last_plain, not_over}
 use Rattle.line_reading.proofs.EndsBy.{slots_until}
-use Rattle.line_reading.proofs.AlongBy.{AreOver, Reached, reached_start, reach_next, Waits, quiet_sample, next_here, next_none, ends_so, last_full, reported_more, known_waiting, known_ending, ends_later}
+use Rattle.line_reading.proofs.AlongBy.{reached_start, reach_next, Waits, quiet_sample, next_here, next_none, ends_so, last_full, reported_more, known_waiting, known_ending, ends_later}
 use Rattle.line_reading.specs.declared.times.Windows.{Windows}
 use Rattle.line_reading.specs.Windows.{AreWindows, sample_at}
-
--- the reading that runs before n
-abbrev pub runs_in : ReceiverState → ℕ → Option ℕ
-runs_in Rest begin = None
-runs_in _ begin = Some begin
-
-pub was_now : (low : Line) (n : ℕ) → was_low low (n + 1) ≡ low n
-was_now low n =
-    let x : nat_lt 0 (n + 1) ≡ true = grind (arith, nat_tests) in
-    ap (λ b. b && low (n + 1 - 1)) x ∙ ap low (let y : n + 1 - 1 ≡ n = omega arith in y)
+use Rattle.line_reading.specs.Known.{IsPlain, nothing}
+use Rattle.line_wave.proofs.Waves.{was_now}
+use Rattle.line_reading.specs.Places.{AreOver, Reached, ArePastBy, HasBegunBy, AtStartLowBy, AtStartHighBy, AtSlotBy, StandsInBy, KnowsBy, StepsBy, AtUnsampledBy, AtSampledBy}
 
 fall_is_low : (low : Line) (n : ℕ) → is_fall low n ≡ true → low n ≡ true
 fall_is_low low n f = by_low (low n) (not (was_low low n)) f
@@ -69,124 +62,30 @@ last_has bits ending h = by_tests (length bits % 10 == 9) refl (slice_index_or b
 module _ (win : Windows) (ok : AreWindows win) where
   -- ---- the readings that are over before n
 
-  -- one after another, each from its fall, from `from` to where the next one may begin
-  abbrev pub ArePast : Line → ℕ → ℕ → List ℕ → ℕ → Type 0
-  ArePast low n from [] to = to ≡ from
-  ArePast low n from (e ∷ es) to = IsFirstFall low from e × (e < n) × ((reading_by win low e).at < n) × ArePast low n ((reading_by win low e).until + 1) es to
-
-  pub past_later : (low : Line) (n from : ℕ) (es : List ℕ) (to : ℕ) → ArePast low n from es to → ArePast low (n + 1) from es to
+  pub past_later : (low : Line) (n from : ℕ) (es : List ℕ) (to : ℕ) → ArePastBy win low n from es to → ArePastBy win low (n + 1) from es to
   past_later low n from [] to h = h
   past_later low n from (e ∷ es) to h = (h.0, omega (arith, h.1), omega (arith, h.2), past_later low n ((reading_by win low e).until + 1) es to h.3)
 
-  pub past_more : (low : Line) (n from : ℕ) (es : List ℕ) (to e : ℕ) → ArePast low n from es to → IsFirstFall low to e → e < n → (reading_by win low e).at < n → ArePast low n from (es ++ e ∷ []) ((reading_by win low e).until + 1)
+  pub past_more : (low : Line) (n from : ℕ) (es : List ℕ) (to e : ℕ) → ArePastBy win low n from es to → IsFirstFall low to e → e < n → (reading_by win low e).at < n → ArePastBy win low n from (es ++ e ∷ []) ((reading_by win low e).until + 1)
   past_more low n from [] to e h f l m = (subst (λ x. IsFirstFall low x e) h f, l, m, refl)
   past_more low n from (x ∷ es) to e h f l m = (h.0, h.1, h.2, past_more low n ((reading_by win low x).until + 1) es to e h.3 f l m)
 
-  -- the reading from `begin` has begun before n, after those
-  pub record HasBegun (low : Line) (n begin : ℕ) : Type 0 where
-    pub past : List ℕ
-    pub from : ℕ
-    pub over : ArePast low n 0 past from
-    pub first : IsFirstFall low from begin
-    pub before : begin < n
-
-  begun_later : (low : Line) (n begin : ℕ) → HasBegun low n begin → HasBegun low (n + 1) begin
+  begun_later : (low : Line) (n begin : ℕ) → HasBegunBy win low n begin → HasBegunBy win low (n + 1) begin
   begun_later low n begin b = record { past = b.past; from = b.from; over = past_later low n 0 b.past b.from b.over; first = b.first; before = omega (arith, b.before) }
-
-  -- ---- the places
-
-  pub record AtRest (low : Line) (n begin fall : ℕ) (bits : List Bool) : Type 0 where
-    pub past : List ℕ
-    pub from : ℕ
-    pub over : ArePast low n 0 past from
-    pub by : from ≤ n
-    pub quiet : (u : ℕ) → from ≤ u → u < n → is_fall low u ≡ false
-    pub no_begin : begin ≡ 0
-    pub no_fall : fall ≡ 0
-    pub no_bits : bits ≡ []
-
-  pub record AtStartLow (low : Line) (n begin fall : ℕ) (bits : List Bool) : Type 0 where
-    pub begun : HasBegun low n begin
-    pub no_fall : fall ≡ 0
-    pub no_bits : bits ≡ []
-    pub quiet : (u : ℕ) → begin < u → u < n → is_rise low u ≡ false
-    pub early : n ≤ begin + (win.start_low.most + 1)
-    pub still : was_low low n ≡ true
-
-  pub record AtStartHigh (low : Line) (n begin fall : ℕ) (bits : List Bool) : Type 0 where
-    pub begun : HasBegun low n begin
-    pub no_fall : fall ≡ 0
-    pub no_bits : bits ≡ []
-    pub rise : ℕ
-    pub found : next_rise low begin win.start_low.most ≡ Some rise
-    pub late : begin + win.start_low.least ≤ rise
-    pub near : rise ≤ begin + win.start_low.most
-    pub after : rise < n
-    pub quiet : (u : ℕ) → rise < u → u < n → is_fall low u ≡ false
-    pub early : n ≤ begin + (win.start_total.most + 1)
-
-  -- in the slot that falls at `fall`, with these bits before it
-  pub record AtSlot (low : Line) (n begin fall : ℕ) (before : List Bool) : Type 0 where
-    pub begun : HasBegun low n begin
-    pub xs : List Slot
-    pub left : ℕ
-    pub reached : Reached win ok low begin (suc left) xs before fall
-    pub room : length before + left ≡ 159
-    pub count : length xs ≡ length before
-    pub quiet : (u : ℕ) → fall < u → u < n → is_fall low u ≡ false
-    pub after : fall < n
-
-  pub record AtUnsampled (low : Line) (n begin fall : ℕ) (bits : List Bool) : Type 0 where
-    pub slot : AtSlot low n begin fall bits
-    pub early : n ≤ fall + sample_at
-
-  pub record AtSampled (low : Line) (n begin fall : ℕ) (bits : List Bool) : Type 0 where
-    pub before : List Bool
-    pub slot : AtSlot low n begin fall before
-    pub reported : bits ≡ before ++ not (low (fall + sample_at)) ∷ []
-    pub plain : last_ending before ≡ None
-    pub past : fall + sample_at < n
-    pub early : n ≤ fall + (win.bit_total.most + 1)
-
-  unfoldable pub StandsIn : Line → ℕ → ReceiverState → ℕ → ℕ → List Bool → Type 0
-  StandsIn low n Rest begin fall bits = AtRest low n begin fall bits
-  StandsIn low n StartLow begin fall bits = AtStartLow low n begin fall bits
-  StandsIn low n StartHigh begin fall bits = AtStartHigh low n begin fall bits
-  StandsIn low n Unsampled begin fall bits = AtUnsampled low n begin fall bits
-  StandsIn low n Sampled begin fall bits = AtSampled low n begin fall bits
-
-  -- what is known before n of the reading from `begin`: its bits, whether it has all its blocks, and whether it is over
-  pub record Knows (low : Line) (n begin : ℕ) (bits : List Bool) (whole over : Bool) : Type 0 where
-    pub bits_are : known_bits (known_at n (reading_by win low begin)) ≡ bits
-    pub whole_is : is_whole (known_at n (reading_by win low begin)).ended ≡ whole
-    pub over_is : nat_lt (reading_by win low begin).at n ≡ over
-
-  -- and after an ending that n reports
-  abbrev pub KnowsEnd : Line → ℕ → ℕ → List Bool → Told → Type 0
-  KnowsEnd low n begin bits Nothing = Unit {0}
-  KnowsEnd low n begin bits (Bit slot value) = Unit {0}
-  KnowsEnd low n begin bits (Last value ending) = Knows low (n + 1) begin (bits ++ value ∷ []) true true × (length bits % 10 ≡ 9)
-  KnowsEnd low n begin bits (Ended ending) = Knows low (n + 1) begin bits false true
-
-  -- with microsecond n it stands so, and that microsecond told what the reading told
-  pub record Steps (low : Line) (n : ℕ) (place : ReceiverState) (begin : ℕ) (bits : List Bool) (o : Heard) : Type 0 where
-    pub stands : StandsIn low (n + 1) o.state.place o.state.begin o.state.fall o.state.bits
-    pub reported : o.reported ≡ reported_since win low n (runs_in place begin)
-    pub ends : KnowsEnd low n begin bits o.reported
 
   -- ---- at rest
 
-  pub stands_first : (low : Line) → StandsIn low 0 Rest 0 0 []
-  unfolding StandsIn
+  pub stands_first : (low : Line) → StandsInBy win low 0 Rest 0 0 []
+  unfolding StandsInBy
   stands_first low = record { past = []; from = 0; over = refl; by = omega arith; quiet = λ u a b. absurd (omega arith); no_begin = refl; no_fall = refl; no_bits = refl }
 
   -- where no reading runs before microsecond n
-  starts_so : (low : Line) (n : ℕ) (past : List ℕ) (from : ℕ) → ArePast low (n + 1) 0 past from → from ≤ n → ((u : ℕ) → from ≤ u → u < n → is_fall low u ≡ false)
-      → StandsIn low (n + 1) (starts n (is_fall low n)).place (starts n (is_fall low n)).begin (starts n (is_fall low n)).fall (starts n (is_fall low n)).bits
-  unfolding StandsIn
+  starts_so : (low : Line) (n : ℕ) (past : List ℕ) (from : ℕ) → ArePastBy win low (n + 1) 0 past from → from ≤ n → ((u : ℕ) → from ≤ u → u < n → is_fall low u ≡ false)
+      → StandsInBy win low (n + 1) (starts n (is_fall low n)).place (starts n (is_fall low n)).begin (starts n (is_fall low n)).fall (starts n (is_fall low n)).bits
+  unfolding StandsInBy
   starts_so low n past from over by quiet = by_fall (is_fall low n) refl
     where
-      by_fall : (b : Bool) → is_fall low n ≡ b → StandsIn low (n + 1) (starts n b).place (starts n b).begin (starts n b).fall (starts n b).bits
+      by_fall : (b : Bool) → is_fall low n ≡ b → StandsInBy win low (n + 1) (starts n b).place (starts n b).begin (starts n b).fall (starts n b).bits
       by_fall true f = record {
         begun = record { past = past; from = from; over = over; first = record { after = by; falls = f; quiet = quiet }; before = omega arith };
         no_fall = refl;
@@ -207,8 +106,8 @@ module _ (win : Windows) (ok : AreWindows win) where
       }
 
   -- where the reading ends with microsecond n
-  rests_so : (low : Line) (n begin until : ℕ) → HasBegun low n begin → (reading_by win low begin).at ≡ n → (reading_by win low begin).until ≡ n → StandsIn low (n + 1) Rest 0 0 []
-  unfolding StandsIn
+  rests_so : (low : Line) (n begin until : ℕ) → HasBegunBy win low n begin → (reading_by win low begin).at ≡ n → (reading_by win low begin).until ≡ n → StandsInBy win low (n + 1) Rest 0 0 []
+  unfolding StandsInBy
   rests_so low n begin until b at end = record {
     past = b.past ++ begin ∷ [];
     from = (reading_by win low begin).until + 1;
@@ -221,8 +120,8 @@ module _ (win : Windows) (ok : AreWindows win) where
   }
 
   -- where it ends with microsecond n, which does not belong to it
-  late_rest : (low : Line) (n begin : ℕ) → HasBegun low n begin → (reading_by win low begin).at ≡ n → (reading_by win low begin).until + 1 ≡ n
-      → StandsIn low (n + 1) (starts n (is_fall low n)).place (starts n (is_fall low n)).begin (starts n (is_fall low n)).fall (starts n (is_fall low n)).bits
+  late_rest : (low : Line) (n begin : ℕ) → HasBegunBy win low n begin → (reading_by win low begin).at ≡ n → (reading_by win low begin).until + 1 ≡ n
+      → StandsInBy win low (n + 1) (starts n (is_fall low n)).place (starts n (is_fall low n)).begin (starts n (is_fall low n)).fall (starts n (is_fall low n)).bits
   late_rest low n begin b at end =
       starts_so low n (b.past ++ begin ∷ []) ((reading_by win low begin).until + 1)
       (past_more low (n + 1) 0 b.past b.from begin (past_later low n 0 b.past b.from b.over) b.first (omega (arith, b.before)) (omega (arith, at)))
@@ -244,14 +143,14 @@ module _ (win : Windows) (ok : AreWindows win) where
       ∙ ap (λ b. reported_with s b (reading_by win low begin).ending) (let x : ((reading_by win low begin).at == n) ≡ false = grind (arith, nat_tests) in x))
 
   -- slots that are over are not sampled at n
-  sample_past : (e n k : ℕ) (xs ys : List Slot) → AreOver win ok e xs → e ≤ n → sample_in n k (xs ++ ys) ≡ sample_in n (k + length xs) ys
+  sample_past : (e n k : ℕ) (xs ys : List Slot) → AreOver win e xs → e ≤ n → sample_in n k (xs ++ ys) ≡ sample_in n (k + length xs) ys
   sample_past e n k [] ys o l = ap (λ i. sample_in n i ys) (omega arith)
   sample_past e n k (x ∷ xs) ys o l =
       ap (λ b. if b then sample_of k x.bit else sample_in n (k + 1) (xs ++ ys)) (let y = o.0 in let z : (x.fall + sample_at == n) ≡ false = grind (arith, nat_tests) in z)
       ∙ sample_past e n (k + 1) xs ys o.1 l ∙ ap (λ i. sample_in n i ys) (let w : k + 1 + length xs ≡ k + length (x ∷ xs) = omega arith in w)
 
   -- a slot is sampled at n where that is 1,050 after its fall
-  sample_slot : (low : Line) (n e : ℕ) (xs : List Slot) → AreOver win ok e xs → e ≤ n
+  sample_slot : (low : Line) (n e : ℕ) (xs : List Slot) → AreOver win e xs → e ≤ n
       → sample_in n 1 (xs ++ known_slot (n + 1) (record { fall = e; bit = bit_sampled_at low e }) ∷ []) ≡ (if e + sample_at == n then sample_of (1 + length xs) (bit_sampled_at low e) else None)
   sample_slot low n e xs o l = sample_past e n 1 xs (known_slot (n + 1) (record { fall = e; bit = bit_sampled_at low e }) ∷ []) o l ∙ by_time (e + sample_at == n) refl
     where
@@ -273,7 +172,7 @@ module _ (win : Windows) (ok : AreWindows win) where
 
   -- a bad start that is reported with n
   bad_start : (low : Line) (n begin until : ℕ) → start_by win low begin ≡ Err n → min n (begin + win.start_total.most) ≡ until
-      → ((reading_by win low begin).at ≡ n) × ((reading_by win low begin).until ≡ until) × (Ended BadStart ≡ reported_since win low n (Some begin)) × Knows low (n + 1) begin [] false true
+      → ((reading_by win low begin).at ≡ n) × ((reading_by win low begin).until ≡ until) × (Ended BadStart ≡ reported_since win low n (Some begin)) × KnowsBy win low (n + 1) begin [] false true
   bad_start low n begin until h m = (
     ap (λ (r : Read). r.at) reads,
     ap (λ (r : Read). r.until) reads ∙ m,
@@ -349,13 +248,13 @@ module _ (win : Windows) (ok : AreWindows win) where
   start_going low n begin d =
       going_reported low n begin None Nothing (start_later low begin n (start_by win low begin) d.0 d.1) (ap (sample_in n 1) (start_none low begin n (start_by win low begin) d.0)) refl
 
-  bad_end : (low : Line) (n begin : ℕ) (bits : List Bool) → bits ≡ [] → Knows low (n + 1) begin [] false true → Knows low (n + 1) begin bits false true
-  bad_end low n begin bits e k = subst (λ (bs : List Bool). Knows low (n + 1) begin bs false true) (sym e) k
+  bad_end : (low : Line) (n begin : ℕ) (bits : List Bool) → bits ≡ [] → KnowsBy win low (n + 1) begin [] false true → KnowsBy win low (n + 1) begin bits false true
+  bad_end low n begin bits e k = subst (λ (bs : List Bool). KnowsBy win low (n + 1) begin bs false true) (sym e) k
 
   -- in the start bit, before its rise
-  low_step : (low : Line) (n begin fall : ℕ) (bits : List Bool) → AtStartLow low n begin fall bits
-      → Steps low n StartLow begin bits (hear_start_low_by win n (is_fall low n) (is_rise low n) (record { place = StartLow; begin = begin; fall = fall; bits = bits }))
-  unfolding StandsIn
+  low_step : (low : Line) (n begin fall : ℕ) (bits : List Bool) → AtStartLowBy win low n begin fall bits
+      → StepsBy win low n StartLow begin bits (hear_start_low_by win n (is_fall low n) (is_rise low n) (record { place = StartLow; begin = begin; fall = fall; bits = bits }))
+  unfolding StandsInBy
   low_step low n begin fall bits s = by_late (nat_lt (begin + win.start_low.most) n) refl
     where
       h : Hears
@@ -371,7 +270,7 @@ module _ (win : Windows) (ok : AreWindows win) where
       quiet_to e u l m = elim (cases_lt u n) [ inl lt ↦ s.quiet u l lt | inr ge ↦ let same : u ≡ n = omega arith in rw same e ]
 
       by_soon : n ≤ begin + win.start_low.most → is_rise low n ≡ true → (b : Bool) → nat_lt n (begin + win.start_low.least) ≡ b
-          → Steps low n StartLow begin bits (if b then reported_so rest (Ended BadStart) else reported_so (record { place = StartHigh; begin = begin; fall = fall; bits = bits }) Nothing)
+          → StepsBy win low n StartLow begin bits (if b then reported_so rest (Ended BadStart) else reported_so (record { place = StartHigh; begin = begin; fall = fall; bits = bits }) Nothing)
       by_soon l e true k =
           let d = bad_start low n begin n (ap (start_rise_by win low begin) (risen e l) ∙ ap (λ b. if b then Err n else start_fall_by win begin (next_fall low n (begin + win.start_total.most - n))) k) (omega arith) in
           record { stands = rests_so low n begin n s.begun d.0 d.1; reported = d.2; ends = bad_end low n begin bits s.no_bits d.3 }
@@ -394,7 +293,7 @@ module _ (win : Windows) (ok : AreWindows win) where
             ends = tt;
           }
 
-      stay : low n ≡ true → is_rise low n ≡ false → n ≤ begin + win.start_low.most → Steps low n StartLow begin bits (reported_so h Nothing)
+      stay : low n ≡ true → is_rise low n ≡ false → n ≤ begin + win.start_low.most → StepsBy win low n StartLow begin bits (reported_so h Nothing)
       stay now e l = record {
         stands = record {
           begun = begun_later low n begin s.begun;
@@ -416,12 +315,12 @@ module _ (win : Windows) (ok : AreWindows win) where
           by_low false k = cc
 
       by_rise : n ≤ begin + win.start_low.most → (r : Bool) → is_rise low n ≡ r
-          → Steps low n StartLow begin bits (if r then (if nat_lt n (begin + win.start_low.least) then reported_so rest (Ended BadStart) else reported_so (record { place = StartHigh; begin = begin; fall = fall; bits = bits }) Nothing) else reported_so h Nothing)
+          → StepsBy win low n StartLow begin bits (if r then (if nat_lt n (begin + win.start_low.least) then reported_so rest (Ended BadStart) else reported_so (record { place = StartHigh; begin = begin; fall = fall; bits = bits }) Nothing) else reported_so h Nothing)
       by_rise l true e = by_soon l e (nat_lt n (begin + win.start_low.least)) refl
       by_rise l false e = stay (low_now e) e l
 
       by_late : (b : Bool) → nat_lt (begin + win.start_low.most) n ≡ b
-          → Steps low n StartLow begin bits (if b then reported_so (starts n (is_fall low n)) (Ended BadStart)
+          → StepsBy win low n StartLow begin bits (if b then reported_so (starts n (is_fall low n)) (Ended BadStart)
           else if is_rise low n then (if nat_lt n (begin + win.start_low.least) then reported_so rest (Ended BadStart) else reported_so (record { place = StartHigh; begin = begin; fall = fall; bits = bits }) Nothing) else reported_so h Nothing)
       by_late true k =
           let l : begin + win.start_low.most < n = grind (arith, nat_tests) in
@@ -429,7 +328,7 @@ module _ (win : Windows) (ok : AreWindows win) where
           let d = bad_start low n begin n (ap (start_rise_by win low begin) (first_in_none (is_rise low) (begin + 1) win.start_low.most (λ u a b. s.quiet u (omega arith) (omega (arith, at)))) ∙ ap (λ m. let r : Result ℕ ℕ = Err m in r) at) (omega (arith, at)) in
           let falls : is_fall low n ≡ false = ap (λ w. low n && not w) s.still ∙ and_no (low n) in
           record {
-            stands = subst (λ b. StandsIn low (n + 1) (starts n b).place (starts n b).begin (starts n b).fall (starts n b).bits) (sym falls) (rests_so low n begin n s.begun d.0 d.1);
+            stands = subst (λ b. StandsInBy win low (n + 1) (starts n b).place (starts n b).begin (starts n b).fall (starts n b).bits) (sym falls) (rests_so low n begin n s.begun d.0 d.1);
             reported = d.2;
             ends = bad_end low n begin bits s.no_bits d.3;
           }
@@ -440,9 +339,9 @@ module _ (win : Windows) (ok : AreWindows win) where
       by_late false k = by_rise (let l : n ≤ begin + win.start_low.most = grind (arith, nat_tests) in l) (is_rise low n) refl
 
   -- after the rise
-  high_step : (low : Line) (n begin fall : ℕ) (bits : List Bool) → AtStartHigh low n begin fall bits
-      → Steps low n StartHigh begin bits (hear_start_high_by win n (is_fall low n) (record { place = StartHigh; begin = begin; fall = fall; bits = bits }))
-  unfolding StandsIn
+  high_step : (low : Line) (n begin fall : ℕ) (bits : List Bool) → AtStartHighBy win low n begin fall bits
+      → StepsBy win low n StartHigh begin bits (hear_start_high_by win n (is_fall low n) (record { place = StartHigh; begin = begin; fall = fall; bits = bits }))
+  unfolding StandsInBy
   high_step low n begin fall bits s = by_late (nat_lt (begin + win.start_total.most) n) refl
     where
       h : Hears
@@ -458,12 +357,12 @@ module _ (win : Windows) (ok : AreWindows win) where
       quiet_to e u l m = elim (cases_lt u n) [ inl lt ↦ s.quiet u l lt | inr ge ↦ let same : u ≡ n = omega arith in rw same e ]
 
       by_soon : n ≤ begin + win.start_total.most → is_fall low n ≡ true → (b : Bool) → nat_lt n (begin + win.start_total.least) ≡ b
-          → Steps low n StartHigh begin bits (if b then reported_so rest (Ended BadStart) else reported_so (record { place = Unsampled; begin = begin; fall = n; bits = bits }) Nothing)
+          → StepsBy win low n StartHigh begin bits (if b then reported_so rest (Ended BadStart) else reported_so (record { place = Unsampled; begin = begin; fall = n; bits = bits }) Nothing)
       by_soon l e true k =
           let d = bad_start low n begin n (start e l ∙ ap (λ b. let r : Result ℕ ℕ = if b then Err n else Ok n in r) k) (omega arith) in
           record { stands = rests_so low n begin n s.begun d.0 d.1; reported = d.2; ends = bad_end low n begin bits s.no_bits d.3 }
       by_soon l e false k =
-          let reached : Reached win ok low begin 160 [] bits n = subst (λ (bs : List Bool). Reached win ok low begin 160 [] bs n) (sym s.no_bits) (reached_start win ok low begin n (start e l ∙ ap (λ b. let r : Result ℕ ℕ = if b then Err n else Ok n in r) k)) in
+          let reached : Reached win low begin 160 [] bits n = subst (λ (bs : List Bool). Reached win low begin 160 [] bs n) (sym s.no_bits) (reached_start win ok low begin n (start e l ∙ ap (λ b. let r : Result ℕ ℕ = if b then Err n else Ok n in r) k)) in
           let none : length bits ≡ 0 = ap (λ (bs : List Bool). length bs) s.no_bits in
           let waits : Waits win ok low n (n + 1) (last_ending bits) = record { after = omega arith; quiet = λ u a b. absurd (omega arith); early = omega arith; plain = λ ending w. omega arith } in
           record {
@@ -486,7 +385,7 @@ module _ (win : Windows) (ok : AreWindows win) where
             ends = tt;
           }
 
-      stay : n ≤ begin + win.start_total.most → is_fall low n ≡ false → Steps low n StartHigh begin bits (reported_so h Nothing)
+      stay : n ≤ begin + win.start_total.most → is_fall low n ≡ false → StepsBy win low n StartHigh begin bits (reported_so h Nothing)
       stay l e = record {
         stands = record {
           begun = begun_later low n begin s.begun;
@@ -505,12 +404,12 @@ module _ (win : Windows) (ok : AreWindows win) where
       }
 
       by_fall : n ≤ begin + win.start_total.most → (f : Bool) → is_fall low n ≡ f
-          → Steps low n StartHigh begin bits (if f then (if nat_lt n (begin + win.start_total.least) then reported_so rest (Ended BadStart) else reported_so (record { place = Unsampled; begin = begin; fall = n; bits = bits }) Nothing) else reported_so h Nothing)
+          → StepsBy win low n StartHigh begin bits (if f then (if nat_lt n (begin + win.start_total.least) then reported_so rest (Ended BadStart) else reported_so (record { place = Unsampled; begin = begin; fall = n; bits = bits }) Nothing) else reported_so h Nothing)
       by_fall l true e = by_soon l e (nat_lt n (begin + win.start_total.least)) refl
       by_fall l false e = stay l e
 
       by_late : (b : Bool) → nat_lt (begin + win.start_total.most) n ≡ b
-          → Steps low n StartHigh begin bits (if b then reported_so (starts n (is_fall low n)) (Ended BadStart)
+          → StepsBy win low n StartHigh begin bits (if b then reported_so (starts n (is_fall low n)) (Ended BadStart)
           else if is_fall low n then (if nat_lt n (begin + win.start_total.least) then reported_so rest (Ended BadStart) else reported_so (record { place = Unsampled; begin = begin; fall = n; bits = bits }) Nothing) else reported_so h Nothing)
       by_late true k =
           let l : begin + win.start_total.most < n = grind (arith, nat_tests) in
@@ -523,10 +422,10 @@ module _ (win : Windows) (ok : AreWindows win) where
   -- ---- in a slot
 
   -- the reading ends with n in this slot
-  slot_ends : (low : Line) (n begin fall : ℕ) (before : List Bool) → (s : AtSlot low n begin fall before) → (ending : Ending) → after_by win low fall (last_ending before) ≡ Ends ending n
+  slot_ends : (low : Line) (n begin fall : ℕ) (before : List Bool) → (s : AtSlotBy win low n begin fall before) → (ending : Ending) → after_by win low fall (last_ending before) ≡ Ends ending n
       → (sample : Option Sample) → (if fall + sample_at == n then sample_of (1 + length s.xs) (bit_sampled_at low fall) else None) ≡ sample → (reported : Told) → reported_with sample true ending ≡ reported
       → ((reading_by win low begin).at ≡ n) × ((reading_by win low begin).until ≡ last_heard ending n) × (reported ≡ reported_since win low n (Some begin))
-      × Knows low (n + 1) begin (before ++ option_to_list (if nat_lt (fall + sample_at) (n + 1) then bit_sampled_at low fall else None)) (has_all ending) true
+      × KnowsBy win low (n + 1) begin (before ++ option_to_list (if nat_lt (fall + sample_at) (n + 1) then bit_sampled_at low fall else None)) (has_all ending) true
   slot_ends low n begin fall before s ending a sample is reported kind = (
     at,
     ap (λ (r : Read). r.until) reads,
@@ -566,14 +465,14 @@ module _ (win : Windows) (ok : AreWindows win) where
           ∙ sample_slot low n fall s.xs s.reached.over (let x = s.after in omega (arith, x)) ∙ is
 
   -- the slot goes on after n
-  slot_going : (low : Line) (n begin fall left : ℕ) (xs : List Slot) (before : List Bool) → Reached win ok low begin (suc left) xs before fall → fall ≤ n → Waits win ok low fall (n + 1) (last_ending before)
+  slot_going : (low : Line) (n begin fall left : ℕ) (xs : List Slot) (before : List Bool) → Reached win low begin (suc left) xs before fall → fall ≤ n → Waits win ok low fall (n + 1) (last_ending before)
       → (sample : Option Sample) → (if fall + sample_at == n then sample_of (1 + length xs) (bit_sampled_at low fall) else None) ≡ sample → (reported : Told)
       → ((ending : Ending) → reported ≡ reported_with sample false ending) → reported ≡ reported_since win low n (Some begin)
   slot_going low n begin fall left xs before r l w sample is reported kind =
       going_reported low n begin sample reported (let x = ends_later win ok low begin left xs before fall (n + 1) r w in omega (arith, x))
       (ap (sample_in n 1) (known_waiting win ok low begin left xs before fall (n + 1) r w) ∙ sample_slot low n fall xs r.over l ∙ is) (kind (reading_by win low begin).ending)
 
-  slot_later : (low : Line) (n begin fall : ℕ) (before : List Bool) → AtSlot low n begin fall before → is_fall low n ≡ false → AtSlot low (n + 1) begin fall before
+  slot_later : (low : Line) (n begin fall : ℕ) (before : List Bool) → AtSlotBy win low n begin fall before → is_fall low n ≡ false → AtSlotBy win low (n + 1) begin fall before
   slot_later low n begin fall before s f = record {
     begun = begun_later low n begin s.begun;
     xs = s.xs;
@@ -591,21 +490,21 @@ module _ (win : Windows) (ok : AreWindows win) where
       ap (after_fall_by win fall) (next_here low fall n win.bit_total.most q a (omega arith) f) ∙ ap (λ b. let x : After = if b then Ends Short n else Next n in x) (let x : nat_lt n (fall + win.bit_total.least) ≡ true = grind (arith, nat_tests) in x)
   early_fall low n fall (Some ending) q a l f = ap (after_last fall ending) (next_here low fall n sample_at q a l f)
 
-  knows_so : (low : Line) (n begin : ℕ) (bits bits2 : List Bool) (whole : Bool) → bits ≡ bits2 → Knows low (n + 1) begin bits whole true → Knows low (n + 1) begin bits2 whole true
-  knows_so low n begin bits bits2 whole e k = subst (λ (bs : List Bool). Knows low (n + 1) begin bs whole true) e k
+  knows_so : (low : Line) (n begin : ℕ) (bits bits2 : List Bool) (whole : Bool) → bits ≡ bits2 → KnowsBy win low (n + 1) begin bits whole true → KnowsBy win low (n + 1) begin bits2 whole true
+  knows_so low n begin bits bits2 whole e k = subst (λ (bs : List Bool). KnowsBy win low (n + 1) begin bs whole true) e k
 
-  unsampled_step : (low : Line) (n begin fall : ℕ) (bits : List Bool) → AtUnsampled low n begin fall bits
-      → Steps low n Unsampled begin bits (hear_unsampled n (is_fall low n) (low n) (record { place = Unsampled; begin = begin; fall = fall; bits = bits }))
-  unfolding StandsIn
+  unsampled_step : (low : Line) (n begin fall : ℕ) (bits : List Bool) → AtUnsampledBy win low n begin fall bits
+      → StepsBy win low n Unsampled begin bits (hear_unsampled n (is_fall low n) (low n) (record { place = Unsampled; begin = begin; fall = fall; bits = bits }))
+  unfolding StandsInBy
   unsampled_step low n begin fall bits s = by_fall (is_fall low n) refl
     where
       h : Hears
       h = record { place = Unsampled; begin = begin; fall = fall; bits = bits }
 
-      slot : AtSlot low n begin fall bits
+      slot : AtSlotBy win low n begin fall bits
       slot = s.slot
 
-      breaks : is_fall low n ≡ true → Steps low n Unsampled begin bits (reported_so rest (Ended Short))
+      breaks : is_fall low n ≡ true → StepsBy win low n Unsampled begin bits (reported_so rest (Ended Short))
       breaks f =
           let d = slot_ends low n begin fall bits slot Short (early_fall low n fall (last_ending bits) slot.quiet slot.after s.early f) None
           (no_sample (fall + sample_at == n) (1 + length slot.xs) (bit_sampled_at low fall) (ap (bit_of low fall) (next_here low fall n sample_at slot.quiet slot.after s.early f))) (Ended Short) refl in
@@ -619,7 +518,7 @@ module _ (win : Windows) (ok : AreWindows win) where
           bit_of low e None = Some (not (low (e + sample_at)))
           bit_of low e (Some f) = None
 
-      goes : is_fall low n ≡ false → (fall + sample_at == n) ≡ false → n < fall + sample_at → Steps low n Unsampled begin bits (reported_so h Nothing)
+      goes : is_fall low n ≡ false → (fall + sample_at == n) ≡ false → n < fall + sample_at → StepsBy win low n Unsampled begin bits (reported_so h Nothing)
       goes f other l = record {
         stands = record { slot = slot_later low n begin fall bits slot f; early = omega arith };
         reported = slot_going low n begin fall slot.left slot.xs bits slot.reached (let x = slot.after in omega (arith, x))
@@ -637,7 +536,7 @@ module _ (win : Windows) (ok : AreWindows win) where
           ∙ ap (sample_of (1 + length slot.xs)) (value e f)
           ∙ ap (λ k. let o : Option Sample = Some (record { slot = k; value = not (low n) }) in o) (let x = slot.count in let y : 1 + length slot.xs ≡ length bits + 1 = omega (arith, x) in y)
 
-      by_last : fall + sample_at ≡ n → is_fall low n ≡ false → (last : Option Ending) → last_ending bits ≡ last → Steps low n Unsampled begin bits (sample_as last (not (low n)) h)
+      by_last : fall + sample_at ≡ n → is_fall low n ≡ false → (last : Option Ending) → last_ending bits ≡ last → StepsBy win low n Unsampled begin bits (sample_as last (not (low n)) h)
       by_last e f None k = record {
         stands = record {
           before = bits;
@@ -656,31 +555,31 @@ module _ (win : Windows) (ok : AreWindows win) where
           let d = slot_ends low n begin fall bits slot ending
           (ap (after_by win low fall) k ∙ ap (after_last fall ending) (next_none low fall (n + 1) sample_at (quiet_more low fall n slot.quiet f) (omega (arith, e))) ∙ ap (λ m. let a : After = Ends ending m in a) e)
           (Some (record { slot = length bits + 1; value = not (low n) })) (at_now e f) (Last (not (low n)) ending) refl in
-          record { stands = rests_so low n begin n slot.begun d.0 (d.1 ∙ subst IsPlain k (last_plain bits) n); reported = d.2; ends = (subst (λ b. Knows low (n + 1) begin (bits ++ not (low n) ∷ []) b true) (last_has bits ending k).0 (knows_so low n begin _ (bits ++ not (low n) ∷ []) (has_all ending) sampled_bits d.3), (last_has bits ending k).1) }
+          record { stands = rests_so low n begin n slot.begun d.0 (d.1 ∙ subst IsPlain k (last_plain bits) n); reported = d.2; ends = (subst (λ b. KnowsBy win low (n + 1) begin (bits ++ not (low n) ∷ []) b true) (last_has bits ending k).0 (knows_so low n begin _ (bits ++ not (low n) ∷ []) (has_all ending) sampled_bits d.3), (last_has bits ending k).1) }
         where
           sampled_bits : bits ++ option_to_list (if nat_lt (fall + sample_at) (n + 1) then bit_sampled_at low fall else None) ≡ bits ++ not (low n) ∷ []
           sampled_bits = ap (λ b. bits ++ option_to_list (if b then bit_sampled_at low fall else None)) (let x : nat_lt (fall + sample_at) (n + 1) ≡ true = grind (arith, nat_tests) in x)
               ∙ ap (λ (o : Option Bool). bits ++ option_to_list o) (value e f)
 
-      by_time : is_fall low n ≡ false → (b : Bool) → (n == fall + sample_at) ≡ b → Steps low n Unsampled begin bits (if b then sample_as (last_ending bits) (not (low n)) h else reported_so h Nothing)
+      by_time : is_fall low n ≡ false → (b : Bool) → (n == fall + sample_at) ≡ b → StepsBy win low n Unsampled begin bits (if b then sample_as (last_ending bits) (not (low n)) h else reported_so h Nothing)
       by_time f true k = by_last (let x : fall + sample_at ≡ n = grind (arith, nat_tests) in x) f (last_ending bits) refl
       by_time f false k =
           let l = s.early in let x : n < fall + sample_at = grind (arith, nat_tests) in
           goes f (let y : (fall + sample_at == n) ≡ false = grind (arith, nat_tests) in y) x
 
-      by_fall : (b : Bool) → is_fall low n ≡ b → Steps low n Unsampled begin bits (if b then reported_so rest (Ended Short) else if n == fall + sample_at then sample_as (last_ending bits) (not (low n)) h else reported_so h Nothing)
+      by_fall : (b : Bool) → is_fall low n ≡ b → StepsBy win low n Unsampled begin bits (if b then reported_so rest (Ended Short) else if n == fall + sample_at then sample_as (last_ending bits) (not (low n)) h else reported_so h Nothing)
       by_fall true f = breaks f
       by_fall false f = by_time f (n == fall + sample_at) refl
 
-  sampled_step : (low : Line) (n begin fall : ℕ) (bits : List Bool) → AtSampled low n begin fall bits
-      → Steps low n Sampled begin bits (hear_sampled_by win n (is_fall low n) (record { place = Sampled; begin = begin; fall = fall; bits = bits }))
-  unfolding StandsIn
+  sampled_step : (low : Line) (n begin fall : ℕ) (bits : List Bool) → AtSampledBy win low n begin fall bits
+      → StepsBy win low n Sampled begin bits (hear_sampled_by win n (is_fall low n) (record { place = Sampled; begin = begin; fall = fall; bits = bits }))
+  unfolding StandsInBy
   sampled_step low n begin fall bits s = by_late (nat_lt (fall + win.bit_total.most) n) refl
     where
       h : Hears
       h = record { place = Sampled; begin = begin; fall = fall; bits = bits }
 
-      slot : AtSlot low n begin fall s.before
+      slot : AtSlotBy win low n begin fall s.before
       slot = s.slot
 
       no : (fall + sample_at == n) ≡ false
@@ -704,11 +603,11 @@ module _ (win : Windows) (ok : AreWindows win) where
       more : length bits ≡ length s.before + 1
       more = ap (λ (bs : List Bool). length bs) s.reported ∙ length-append s.before (not (low (fall + sample_at)) ∷ [])
 
-      next_slot : (left : ℕ) → length s.before + left ≡ 159 → Reached win ok low begin (suc left) slot.xs s.before fall → is_fall low n ≡ true → fall + win.bit_total.least ≤ n → after_by win low fall (last_ending s.before) ≡ Next n
-          → Steps low n Sampled begin bits (reported_so (record { place = Unsampled; begin = begin; fall = n; bits = bits }) Nothing)
+      next_slot : (left : ℕ) → length s.before + left ≡ 159 → Reached win low begin (suc left) slot.xs s.before fall → is_fall low n ≡ true → fall + win.bit_total.least ≤ n → after_by win low fall (last_ending s.before) ≡ Next n
+          → StepsBy win low n Sampled begin bits (reported_so (record { place = Unsampled; begin = begin; fall = n; bits = bits }) Nothing)
       next_slot zero m r f far a = absurd (last_full s.before (omega arith) s.plain)
       next_slot (suc left) m r f far a =
-          let reached : Reached win ok low begin (suc left) (slot.xs ++ record { fall = fall; bit = bit_sampled_at low fall } ∷ []) bits n = subst (λ (bs : List Bool). Reached win ok low begin (suc left) (slot.xs ++ record { fall = fall; bit = bit_sampled_at low fall } ∷ []) bs n) before2
+          let reached : Reached win low begin (suc left) (slot.xs ++ record { fall = fall; bit = bit_sampled_at low fall } ∷ []) bits n = subst (λ (bs : List Bool). Reached win low begin (suc left) (slot.xs ++ record { fall = fall; bit = bit_sampled_at low fall } ∷ []) bs n) before2
           (reach_next win ok low begin (suc left) slot.xs s.before fall n r a far) in
           record {
             stands = record {
@@ -731,7 +630,7 @@ module _ (win : Windows) (ok : AreWindows win) where
           }
 
       by_soon : is_fall low n ≡ true → n ≤ fall + win.bit_total.most → (b : Bool) → nat_lt n (fall + win.bit_total.least) ≡ b
-          → Steps low n Sampled begin bits (if b then reported_so rest (Ended Short) else reported_so (record { place = Unsampled; begin = begin; fall = n; bits = bits }) Nothing)
+          → StepsBy win low n Sampled begin bits (if b then reported_so rest (Ended Short) else reported_so (record { place = Unsampled; begin = begin; fall = n; bits = bits }) Nothing)
       by_soon f l true k =
           let d = slot_ends low n begin fall s.before slot Short (here f l ∙ ap (λ b. let a : After = if b then Ends Short n else Next n in a) k) None (not_now fall n (1 + length slot.xs) (bit_sampled_at low fall) no) (Ended Short) refl in
           record { stands = rests_so low n begin n slot.begun d.0 d.1; reported = d.2; ends = knows_so low n begin _ bits false sampled_bits d.3 }
@@ -739,7 +638,7 @@ module _ (win : Windows) (ok : AreWindows win) where
           next_slot slot.left slot.room slot.reached f (let x : fall + win.bit_total.least ≤ n = grind (arith, nat_tests) in x) (here f l ∙ ap (λ b. let a : After = if b then Ends Short n else Next n in a) k)
 
       by_fall : n ≤ fall + win.bit_total.most → (b : Bool) → is_fall low n ≡ b
-          → Steps low n Sampled begin bits (if b then (if nat_lt n (fall + win.bit_total.least) then reported_so rest (Ended Short) else reported_so (record { place = Unsampled; begin = begin; fall = n; bits = bits }) Nothing) else reported_so h Nothing)
+          → StepsBy win low n Sampled begin bits (if b then (if nat_lt n (fall + win.bit_total.least) then reported_so rest (Ended Short) else reported_so (record { place = Unsampled; begin = begin; fall = n; bits = bits }) Nothing) else reported_so h Nothing)
       by_fall l true f = by_soon f l (nat_lt n (fall + win.bit_total.least)) refl
       by_fall l false f = record {
         stands = record { before = s.before; slot = slot_later low n begin fall s.before slot f; reported = s.reported; plain = s.plain; past = omega (arith, s.past); early = omega arith };
@@ -750,7 +649,7 @@ module _ (win : Windows) (ok : AreWindows win) where
       }
 
       by_late : (b : Bool) → nat_lt (fall + win.bit_total.most) n ≡ b
-          → Steps low n Sampled begin bits (if b then reported_so (starts n (is_fall low n)) (Ended Silent)
+          → StepsBy win low n Sampled begin bits (if b then reported_so (starts n (is_fall low n)) (Ended Silent)
           else if is_fall low n then (if nat_lt n (fall + win.bit_total.least) then reported_so rest (Ended Short) else reported_so (record { place = Unsampled; begin = begin; fall = n; bits = bits }) Nothing) else reported_so h Nothing)
       by_late true k =
           let l : fall + win.bit_total.most < n = grind (arith, nat_tests) in
@@ -763,9 +662,9 @@ module _ (win : Windows) (ok : AreWindows win) where
 
   -- ---- any step
 
-  pub step : (low : Line) (n : ℕ) (place : ReceiverState) (begin fall : ℕ) (bits : List Bool) → StandsIn low n place begin fall bits
-      → Steps low n place begin bits (hear_in_by win n (was_low low n) (low n) (record { place = place; begin = begin; fall = fall; bits = bits }))
-  unfolding StandsIn
+  pub step : (low : Line) (n : ℕ) (place : ReceiverState) (begin fall : ℕ) (bits : List Bool) → StandsInBy win low n place begin fall bits
+      → StepsBy win low n place begin bits (hear_in_by win n (was_low low n) (low n) (record { place = place; begin = begin; fall = fall; bits = bits }))
+  unfolding StandsInBy
   step low n Rest begin fall bits s = record { stands = starts_so low n s.past s.from (past_later low n 0 s.past s.from s.over) s.by s.quiet; reported = refl; ends = tt }
   step low n StartLow begin fall bits s = low_step low n begin fall bits s
   step low n StartHigh begin fall bits s = high_step low n begin fall bits s
@@ -773,9 +672,9 @@ module _ (win : Windows) (ok : AreWindows win) where
   step low n Sampled begin fall bits s = sampled_step low n begin fall bits s
 
   -- Where a line has been heard before n
-  pub stands_at : (low : Line) (n : ℕ) → StandsIn low n (hears_with win low n).place (hears_with win low n).begin (hears_with win low n).fall (hears_with win low n).bits
+  pub stands_at : (low : Line) (n : ℕ) → StandsInBy win low n (hears_with win low n).place (hears_with win low n).begin (hears_with win low n).fall (hears_with win low n).bits
   unfolding hears_with
   stands_at low zero = stands_first low
   stands_at low (suc n) =
-      subst (λ m. StandsIn low m (hears_with win low (suc n)).place (hears_with win low (suc n)).begin (hears_with win low (suc n)).fall (hears_with win low (suc n)).bits) (let x : n + 1 ≡ suc n = omega arith in x)
+      subst (λ m. StandsInBy win low m (hears_with win low (suc n)).place (hears_with win low (suc n)).begin (hears_with win low (suc n)).fall (hears_with win low (suc n)).bits) (let x : n + 1 ≡ suc n = omega arith in x)
       (step low n (hears_with win low n).place (hears_with win low n).begin (hears_with win low n).fall (hears_with win low n).bits (stands_at low n)).stands

@@ -13,6 +13,10 @@ has_ended low t x = nat_le (reading_of low x.begin).at t
 abbrev pub ended_by : Line → ℕ → List Listed
 ended_by low t = filter (has_ended low t) (readings_of low t)
 
+-- The readings that have ended by an instant are the first of those of the line, however much later it is cut.
+abbrev pub EndedAreFirst : Type 0
+EndedAreFirst = (low : ℕ → Bool) (t u : ℕ) → t ≤ u → (zs : List Listed) × (readings_of low u ≡ ended_by low t ++ zs)
+
 -- From one edge to the next at most one reading ends, at that next edge too; and where no edge follows, one at most
 -- is left, ended or open.
 pub record EndOneByOne : Type 0 where

@@ -23,6 +23,9 @@ pub record Hears : Type 0 where
 abbrev pub heard_by : Receiver → Hears
 heard_by r = record { place = r.place; begin = r.begin; fall = r.fall; bits = r.bits.items }
 
+abbrev pub hears_by : ReceiverState → ℕ → ℕ → List Bool → Hears
+hears_by place begin fall bits = record { place = place; begin = begin; fall = fall; bits = bits }
+
 -- outside a reading nothing is kept
 abbrev pub rest : Hears
 rest = record { place = Rest; begin = 0; fall = 0; bits = [] }

@@ -16,6 +16,7 @@ use Rattle.line_reading.specs.declared.sender.SenderState.{SenderState}
 use Rattle.line_reading.specs.declared.sender.SenderState.TheVariants.{Sending, Out, Stopped}
 use Rattle.line_reading.specs.Reading.{End, Known, known_at, reading_of}
 use Rattle.line_reading.specs.Kept.{running_of, reported_at}
+use Rattle.line_reading.specs.Sends.{after_reported}
 
 -- ---- what is known
 
@@ -127,6 +128,24 @@ PullsSo s t pull = (low : ℕ → Bool) → SenderStood s low t → pull ≡ sen
 
 abbrev pub ShowsState : Sender → SenderState → Type 0
 ShowsState s state = (low : ℕ → Bool) (t : ℕ) → SenderStood s low t → state ≡ state_before low s.begin (frame_bits s.frame) t
+
+-- ---- a sender, report by report
+
+-- What each instant reports of the reading that runs says how its sender goes on.
+abbrev pub SendersGoByReports : Type 0
+SendersGoByReports =
+    (low : ℕ → Bool) (n b : ℕ) (sent : List Bool) → 1 ≤ n → running_of low (n - 1) ≡ Some b
+    → state_before low b sent (n + 1) ≡ after_reported sent (state_before low b sent n) (reported_at low n)
+
+-- Where nothing is reported, it stays as it is.
+abbrev pub SilenceChangesNoSender : Type 0
+SilenceChangesNoSender = (sent : List Bool) (state : SenderState) → after_reported sent state Nothing ≡ state
+
+-- One that is as the line has it, and did not stop at t or later, pulls at t as a round has it.
+abbrev pub SendersPullByRound : Type 0
+SendersPullByRound =
+    (low : ℕ → Bool) (begin t last : ℕ) (f : List ℕ) (state : SenderState) → state ≡ state_before low begin (frame_bits f) t → IsBefore state last t
+    → (line_of (sender_stretches begin (frame_bits f)) t && may_pull state last t) ≡ sender_pulls begin (known_at t (reading_of low begin)) t f
 
 -- ---- changes
 

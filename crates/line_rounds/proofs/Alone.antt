@@ -8,8 +8,7 @@ use Rattle.line_wave.specs.Line.{line_of, covers, was_low, is_fall, IsWaveFrom, 
 use Rattle.line_reading.specs.Windows.{standard}
 use Rattle.line_reading.specs.Reading.{known_at, reading_of, start_of, reported_of}
 use Rattle.line_reading.specs.Readings.{Listed, part_until, part_listed, IsLone}
-use Rattle.line_reading.proofs.Waves.{falls_of_wave}
-use Rattle.line_reading.proofs.Ends.{Lately, lately}
+use Rattle.line_reading.proofs.Ends.{lately}
 use Rattle.line_rounds.specs.declared.Seat.{Seat}
 use Rattle.line_rounds.specs.declared.Outcome.{Outcome}
 use Rattle.line_rounds.specs.Round.{IsRound, rest_of, is_within, pulse_pulls}
@@ -23,6 +22,8 @@ use Rattle.line_rounds.proofs.Lasting.{rest_rises, rest_past, begun_by, contende
 use Rattle.line_rounds.proofs.OneOutcome.{covers_own}
 use Rattle.line_rounds.proofs.Still.{high_before}
 use Rattle.line_rounds.proofs.Afterwards.{no_fall_after}
+use Rattle.line_reading.specs.Over.{Lately}
+use Rattle.line_wave.proofs.Waves.{falls_of_wave}
 
 -- ---- high from the rest on
 

@@ -11,10 +11,11 @@ use Rattle.line_reading.specs.Reading.After.{Next, Ends}
 use Rattle.line_reading.specs.Windows.{standard, sample_at}
 use Rattle.line_reading.specs.Reading.{next_fall, next_rise, Read, read_slots, read_on, after_slot, after_fall, after_last, last_ending, last_heard, bit_sampled_at, read_start, reading_of, start_of, start_rise, start_fall, After}
 use Rattle.line_reading.proofs.Search.{found_first, found_none}
-use Rattle.line_reading.proofs.Causes.{IsPlain, last_plain}
-use Rattle.line_reading.proofs.Stood.{was_now}
+use Rattle.line_reading.proofs.Causes.{last_plain}
 use Rattle.line_rounds.specs.Falls.{AreRisingFrom, FallsAreRead}
 use Rattle.line_rounds.proofs.Walk.{NextFall, next_falls}
+use Rattle.line_reading.specs.Known.{IsPlain}
+use Rattle.line_wave.proofs.Waves.{was_now}
 
 -- falls one after another, from `from` to `until`
 abbrev AreFallsTo : Line → ℕ → ℕ → List ℕ → Type 0

@@ -8,7 +8,6 @@ use Rattle.line_wave.specs.Line.{Line, line_of, covers, is_fall, IsWave}
 use Rattle.line_wave.specs.Pulses.{IsNarrow, AreSparse}
 use Rattle.line_reading.specs.Reading.{reading_of}
 use Rattle.line_reading.proofs.Ends.{at_by}
-use Rattle.line_reading.proofs.Waves.{falls_of_wave}
 use Rattle.line_rounds.specs.declared.Seat.{Seat}
 use Rattle.line_rounds.specs.declared.Outcome.{Outcome}
 use Rattle.line_rounds.specs.Round.{IsRound}
@@ -22,6 +21,7 @@ use Rattle.line_rounds.proofs.Still.{high_after, sparse_order}
 use Rattle.line_rounds.proofs.Afterwards.{no_fall_after}
 use Rattle.line_rounds.proofs.Alone.{in_all}
 use Rattle.line_rounds.proofs.Few.{begins_within, few_begun}
+use Rattle.line_wave.proofs.Waves.{falls_of_wave}
 
 -- ---- the rest
 

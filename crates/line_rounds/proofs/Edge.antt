@@ -7,12 +7,13 @@ use Rattle.std.proofs.lemmas.Bool.Decides.{nat_tests}
 use Rattle.line_wave.specs.declared.Stretch.{Stretch}
 use Rattle.line_wave.specs.Line.{Line, was_low}
 use Rattle.line_reading.specs.Reading.{Known, known_at, reading_of}
-use Rattle.line_reading.proofs.Causes.{Agree, reading_alike}
+use Rattle.line_reading.proofs.Causes.{reading_alike}
 use Rattle.line_rounds.specs.declared.Seat.{Seat}
 use Rattle.line_reading.specs.Sending.{sender_pulls}
 use Rattle.line_rounds.specs.Round.{pulled_by, pulse_pulls, frames_of, is_within, is_acknowledged, is_broken, IsRoundLine}
 use Rattle.line_rounds.specs.Contend.{IsPulledBelow, RoundBelow}
 use Rattle.line_rounds.proofs.Unique.{same_was}
+use Rattle.line_reading.specs.Causality.{Agree}
 
 -- a pulse that begins at t or later pulls nothing before t
 taken_before : (begin : ℕ) (pulses later : List Stretch) (was : Bool) (k : Known) (t u : ℕ) → All (λ p. t ≤ p.from) later → u < t

@@ -6,12 +6,13 @@ use Rattle.std.proofs.lemmas.Bool.Decides.{nat_tests}
 use Rattle.line_wave.specs.declared.Stretch.{Stretch}
 use Rattle.line_wave.specs.Line.{Line, covers, was_low}
 use Rattle.line_reading.specs.Reading.{End, Known, known_at, reading_of}
-use Rattle.line_reading.proofs.Causes.{Agree, reading_alike}
+use Rattle.line_reading.proofs.Causes.{reading_alike}
 use Rattle.line_rounds.specs.declared.Seat.{Seat}
 use Rattle.line_reading.specs.Sending.{sender_pulls}
 use Rattle.line_rounds.specs.Round.{is_pulled, pulse_pulls, frames_of, is_within, is_acknowledged, is_broken, IsRoundLine}
 use Rattle.line_rounds.specs.Contend.{AlikeBelow, AlikePulses, HasLine, LaterPulses}
 use Rattle.line_rounds.proofs.Unique.{same_was}
+use Rattle.line_reading.specs.Causality.{Agree}
 
 -- the line below t, microsecond by microsecond
 line_below : List Seat → ℕ → List Stretch → ℕ → Line

@@ -7,7 +7,6 @@ use Rattle.line_wave.specs.declared.Stretch.{Stretch}
 use Rattle.line_wave.specs.Line.{Line, line_of, is_fall, was_low, IsWave, IsWaveFrom}
 use Rattle.line_wave.specs.Pulses.{AreSparse, AreFarApart, IsNarrow}
 use Rattle.line_reading.specs.Reading.{reading_of}
-use Rattle.line_reading.proofs.Waves.{falls_of_wave}
 use Rattle.line_rounds.specs.declared.Seat.{Seat}
 use Rattle.line_rounds.specs.Round.{frames_of, IsRoundLine}
 use Rattle.line_rounds.specs.Falls.{EachFallBegins, AreRisingFrom, FewFalls, WaveFits, RoundFits}
@@ -22,6 +21,7 @@ use Rattle.line_rounds.proofs.Alone.{in_all}
 use Rattle.line_rounds.proofs.AnyFalls.{falls_are_read}
 use Rattle.line_rounds.proofs.Edge.{round_below}
 use Rattle.line_rounds.proofs.Exists.{made_line, made_round}
+use Rattle.line_wave.proofs.Waves.{falls_of_wave}
 
 -- ---- the instants at which a pulse begins
 

@@ -11,7 +11,7 @@ use Rattle.line_frames.specs.declared.Ending.TheVariants.{Complete, Short, Silen
 use Rattle.line_reading.specs.Reading.After.{Next, Ends}
 use Rattle.line_reading.specs.Windows.{standard, sample_at}
 use Rattle.line_reading.specs.Reading.{next_fall, Slot, End, Known, known_at, known_slot, reading_of, read_start, read_slots, read_on, after_slot, after_fall, after_last, last_ending, last_heard, sample, bit_sampled_at, start_of, After}
-use Rattle.line_reading.proofs.Causes.{late_read, nothing}
+use Rattle.line_reading.proofs.Causes.{late_read}
 use Rattle.line_rounds.specs.declared.Seat.{Seat}
 use Rattle.line_reading.specs.Sending.{bit_read, destination, known_bits, is_whole, is_out_by, out_by}
 use Rattle.line_rounds.specs.Round.{is_held, sends_in, is_not_before, acknowledges}
@@ -21,6 +21,7 @@ use Rattle.line_rounds.proofs.Walk.{NextFall, next_falls, quiet_sample, Reached,
 use Rattle.line_rounds.proofs.Inside.{known_here}
 use Rattle.line_rounds.proofs.Law.{reached_start}
 use Rattle.line_rounds.specs.Machine as Machine
+use Rattle.line_reading.specs.Known.{nothing}
 
 -- who acknowledges after these bits
 sends_after : List Bool → Option (List ℕ) → Bool

@@ -12,8 +12,8 @@ use Rattle.line_frames.specs.Bits.{frame_bits, least_among, comes_before}
 use Rattle.line_frames.specs.declared.Ending.TheVariants.{BadStart}
 use Rattle.line_reading.specs.Windows.{standard}
 use Rattle.line_reading.specs.Reading.{next_fall, next_rise, Known, known_at, reading_of, read_start, start_of, start_rise, start_fall}
-use Rattle.line_reading.proofs.Search.{Found, found_first}
-use Rattle.line_reading.proofs.Causes.{late_read, nothing}
+use Rattle.line_reading.proofs.Search.{found_first}
+use Rattle.line_reading.proofs.Causes.{late_read}
 use Rattle.line_rounds.specs.declared.Seat.{Seat}
 use Rattle.line_reading.specs.Sending.{bit_read, destination, known_bits, is_whole, is_out_by, out_slot, goes_on, sender_pulls}
 use Rattle.line_rounds.specs.Round.{frames_of, winning_frames, is_within, pulse_pulls, is_acknowledged, is_broken, pulled_by}
@@ -24,6 +24,8 @@ use Rattle.line_rounds.proofs.Early.{Reports, OnTime, BeginsAt, falls_so, and_le
 use Rattle.line_rounds.proofs.Walk.{Reached, Scene}
 use Rattle.line_rounds.proofs.Inside.{not_whole, heard_start, stays_by}
 use Rattle.line_rounds.proofs.Losers.{Before, few_by, goes_by, goes_to, inside_walk}
+use Rattle.line_reading.specs.Searches.{Found}
+use Rattle.line_reading.specs.Known.{nothing}
 
 -- ---- elements
 

@@ -10,7 +10,7 @@ use Rattle.line_wave.proofs.Kept.{sparse_wave}
 use Rattle.line_wave.specs.Sender.{sender_stretches}
 use Rattle.line_frames.specs.Bits.{frame_bits}
 use Rattle.line_reading.specs.Reading.{End, Known, Read, Slot, known_at, known_slots, reading_of}
-use Rattle.line_reading.proofs.Causes.{known_start_low, nothing}
+use Rattle.line_reading.proofs.Causes.{known_start_low}
 use Rattle.line_reading.proofs.Ends.{until_by}
 use Rattle.line_rounds.specs.declared.Seat.{Seat}
 use Rattle.line_reading.specs.Sending.{goes_on, out_slot, sender_pulls}
@@ -21,6 +21,7 @@ use Rattle.line_rounds.proofs.Lays.{before_start}
 use Rattle.line_rounds.proofs.Early.{AreDone, and_left, and_mid, and_right, no_acks, or_cases}
 use Rattle.line_rounds.proofs.Law.{all_in}
 use Rattle.line_rounds.proofs.Spans.{AreReported, reading_spans}
+use Rattle.line_reading.specs.Known.{nothing}
 
 -- ---- before the round
 

@@ -4,9 +4,10 @@ use Rattle.std.proofs.lemmas.Bool.{cases_lt}
 use Rattle.line_wave.specs.declared.Stretch.{Stretch}
 use Rattle.line_wave.specs.Line.{Line, was_low}
 use Rattle.line_reading.specs.Reading.{known_at, reading_of}
-use Rattle.line_reading.proofs.Causes.{Agree, reading_alike}
+use Rattle.line_reading.proofs.Causes.{reading_alike}
 use Rattle.line_rounds.specs.declared.Seat.{Seat}
 use Rattle.line_rounds.specs.Round.{is_pulled, IsRoundLine, OneLine}
+use Rattle.line_reading.specs.Causality.{Agree}
 
 pub same_was : (low other : Line) (t : ℕ) → Agree t low other → was_low low t ≡ was_low other t
 same_was low other zero a = refl

@@ -1,5 +1,5 @@
 -- Along the slots of a reading.
-use Rattle.std.proofs.Common.{◌≡◌, ℕ, suc, ◌+◌, ◌-◌, ◌*◌, ◌<◌, ◌≤◌, Bool, true, false, nat_lt, if◌then◌else◌, List, [], ◌∷◌, ◌++◌, length, inl, inr, Option, Some, None, IsSome, refl, arith, ap, ◌∙◌, sym}
+use Rattle.std.proofs.Common.{◌≡◌, ℕ, suc, ◌+◌, ◌-◌, ◌*◌, ◌<◌, ◌≤◌, Bool, true, false, nat_lt, if◌then◌else◌, List, [], ◌∷◌, ◌++◌, length, append_assoc, inl, inr, Option, Some, None, IsSome, refl, arith, ap, ◌∙◌, sym}
 use Rattle.std.specs.List.{filter_map}
 use Rattle.std.specs.Option.{option_to_list}
 use Rattle.std.proofs.lemmas.Bool.Decides.{nat_tests}
@@ -11,16 +11,19 @@ use Rattle.line_frames.specs.declared.Ending.{Ending}
 use Rattle.line_frames.specs.declared.Ending.TheVariants.{Short}
 use Rattle.line_reading.specs.Reading.After.{Next, Ends}
 use Rattle.line_reading.specs.Windows.{standard, sample_at}
-use Rattle.line_reading.specs.Reading.{next_fall, Slot, Known, reading_of, read_slots, read_on, read_then, after_slot, after_fall, after_last, last_ending, bit_sampled_at}
+use Rattle.line_reading.specs.Reading.{next_fall, Read, Slot, Known, reading_of, read_slots, read_on, read_then, after_slot, after_fall, after_last, last_ending, bit_sampled_at}
 use Rattle.line_reading.proofs.Search.{found_first}
-use Rattle.line_reading.proofs.AlongBy.{slots_assoc}
 pub use Rattle.line_reading.proofs.AlongBy.{quiet_sample, reported_more}
-use Rattle.line_reading.proofs.Causes.{with_slots, AreSampled, known_in_slot}
+use Rattle.line_reading.proofs.Causes.{known_in_slot}
 use Rattle.line_rounds.specs.declared.Seat.{Seat}
 use Rattle.line_rounds.specs.Round.{frames_of}
 use Rattle.line_rounds.specs.Contend.{IsContended, Stays}
 use Rattle.line_rounds.proofs.Differ.{In}
 use Rattle.line_rounds.proofs.Early.{AreDone, Reports, OnTime, falls_so, next_on_time}
+use Rattle.line_reading.specs.Known.{with_slots, AreSampled}
+
+slots_assoc : (xs : List Slot) (s : Slot) (r : Read) → with_slots (xs ++ s ∷ []) r ≡ with_slots xs (read_then s r)
+slots_assoc xs s r = ap (λ (ys : List Slot). let q : Read = record { slots = ys; ending = r.ending; at = r.at; until = r.until } in q) (append_assoc xs (s ∷ []) r.slots)
 
 -- ---- a slot and the next one
 

@@ -13,7 +13,7 @@ use Rattle.line_frames.specs.declared.Ending.TheVariants.{Complete, Long}
 use Rattle.line_reading.specs.Reading.After.{Next, Ends}
 use Rattle.line_reading.specs.Windows.{sample_at}
 use Rattle.line_reading.specs.Reading.{Slot, Known, known_at, reading_of, read_start, read_slots, read_on, after_slot, last_ending, bit_sampled_at, start_of, After}
-use Rattle.line_reading.proofs.Causes.{known_front, late_read, nothing}
+use Rattle.line_reading.proofs.Causes.{known_front, late_read}
 use Rattle.line_rounds.specs.declared.Seat.{Seat}
 use Rattle.line_reading.specs.Sending.{bit_read, destination, out_slot}
 use Rattle.line_rounds.specs.Round.{frames_of, winning_frames}
@@ -24,6 +24,7 @@ use Rattle.line_rounds.proofs.Inside.{stays_by}
 use Rattle.line_rounds.proofs.Law.{in_at, in_filter, all_in, reached_start, on_time_start}
 use Rattle.line_frames.proofs.Slots.{length-frame_bits, eom_slot}
 use Rattle.std.proofs.lemmas.Option.{get_or_from_slice_get}
+use Rattle.line_reading.specs.Known.{nothing}
 
 -- ---- a sender's last slot ends the reading
 

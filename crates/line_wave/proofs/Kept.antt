@@ -6,9 +6,9 @@ use Rattle.std.proofs.lemmas.List.Sums.{length-filter, count_by-le-length}
 use Rattle.std.proofs.lemmas.Bool.Decides.{nat_tests}
 use Rattle.line_wave.specs.declared.Stretch.{Stretch}
 use Rattle.line_wave.proofs.Sparse.{take_all}
-use Rattle.line_wave.specs.Line.{IsWave, IsWaveFrom}
-use Rattle.line_wave.specs.Bounds.{latest_heard, latest_instant, most_pulls}
-use Rattle.line_wave.specs.Pulls.{EndsInTime, AreTimely, are_timely_from, TimelyTested}
+use Rattle.line_wave.specs.Line.{IsWave, IsWaveFrom, SomeAreWaves}
+use Rattle.line_wave.specs.Bounds.{latest_heard, most_pulls}
+use Rattle.line_wave.specs.Pulls.{EndsInTime, AreTimely, are_timely_from, EarlyPulsesArePulls, TimelyTested}
 use Rattle.line_wave.specs.Pulses.{IsNarrow, AreFarApart, AreSparse, SparseAreWaves}
 
 -- those in order are, from an earlier instant on, too
@@ -141,7 +141,7 @@ wave_filter_from : (test : Stretch → Bool) (from : ℕ) (ss : List Stretch) �
 wave_filter_from test from [] w = tt
 wave_filter_from test from (s ∷ ss) w = kept_wave from (test s) s (filter test ss) w.0 w.1 (wave_filter_from test (s.to + 1) ss w.2)
 
-pub wave_filter : (test : Stretch → Bool) (ss : List Stretch) → IsWave ss → IsWave (filter test ss)
+pub wave_filter : SomeAreWaves
 wave_filter test ss w = wave_filter_from test 0 ss w
 
 wave_drop_from : (n from : ℕ) (ss : List Stretch) → IsWaveFrom from ss → IsWaveFrom from (drop n ss)
@@ -200,7 +200,7 @@ timely_filter test ss h = record {
 }
 
 -- sparse pulses that begin early are pulls
-pub sparse_timely : (ss : List Stretch) → AreSparse ss → All (λ p. p.from ≤ latest_instant) ss → AreTimely ss
+pub sparse_timely : EarlyPulsesArePulls
 sparse_timely ss h early = record {
   few = (let f = h.few in omega (arith, f));
   order = sparse_wave ss h;

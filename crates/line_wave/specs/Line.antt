@@ -1,7 +1,7 @@
 -- The line: the set of its low microseconds, its falls and its rises (CEC 4: the line is low where anybody
 -- pulls it low, and high otherwise).
-use Rattle.std.specs.Prelude.{ℕ, ◌+◌, ◌-◌, ◌<◌, ◌≤◌, Bool, not, nat_lt, nat_le, ◌&&◌, List, [], ◌∷◌}
-use Rattle.std.specs.List.{list_any}
+use Rattle.std.specs.Prelude.{◌≡◌, ℕ, ◌+◌, ◌-◌, ◌==◌, ◌<◌, ◌≤◌, Bool, false, not, nat_lt, nat_le, ◌&&◌, List, [], ◌∷◌}
+use Rattle.std.specs.List.{filter, list_any}
 use Rattle.line_wave.specs.declared.Stretch.{Stretch}
 
 -- whether a line is low in a microsecond
@@ -35,3 +35,29 @@ IsWaveFrom from (s ∷ ss) = (from ≤ s.from) × (s.from < s.to) × IsWaveFrom 
 
 abbrev pub IsWave : List Stretch → Type 0
 IsWave ss = IsWaveFrom 0 ss
+
+-- ---- laws
+
+-- Just before the next microsecond a line is as it is in this one.
+abbrev pub LinesWereAsTheyAre : Type 0
+LinesWereAsTheyAre = (low : ℕ → Bool) (n : ℕ) → was_low low (n + 1) ≡ low n
+
+-- The line of a wave falls where a stretch begins.
+abbrev pub FallsOfWaves : Type 0
+FallsOfWaves = (ss : List Stretch) (from t : ℕ) → IsWaveFrom from ss → is_fall (line_of ss) t ≡ list_any (λ s. s.from == t) ss
+
+-- It rises where one ends.
+abbrev pub RisesOfWaves : Type 0
+RisesOfWaves = (ss : List Stretch) (from t : ℕ) → IsWaveFrom from ss → is_rise (line_of ss) t ≡ list_any (λ s. s.to == t) ss
+
+-- Before the wave it is high.
+abbrev pub QuietBeforeWaves : Type 0
+QuietBeforeWaves = (ss : List Stretch) (from t : ℕ) → IsWaveFrom from ss → t < from → line_of ss t ≡ false
+
+-- No stretch begins there.
+abbrev pub NoneBeginBeforeWaves : Type 0
+NoneBeginBeforeWaves = (ss : List Stretch) (from t : ℕ) → IsWaveFrom from ss → t < from → list_any (λ s. s.from == t) ss ≡ false
+
+-- Those stretches of a wave that pass a test are a wave.
+abbrev pub SomeAreWaves : Type 0
+SomeAreWaves = (test : Stretch → Bool) (ss : List Stretch) → IsWave ss → IsWave (filter test ss)

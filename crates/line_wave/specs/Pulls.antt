@@ -2,7 +2,8 @@
 use Rattle.std.specs.Prelude.{◌≡◌, ℕ, ◌+◌, ◌<◌, ◌≤◌, Bool, true, nat_lt, nat_le, ◌&&◌, ◌↔◌, List, [], ◌∷◌, length, All}
 use Rattle.line_wave.specs.declared.Stretch.{Stretch}
 use Rattle.line_wave.specs.Line.{IsWave}
-use Rattle.line_wave.specs.Bounds.{latest_heard, most_pulls}
+use Rattle.line_wave.specs.Pulses.{AreSparse}
+use Rattle.line_wave.specs.Bounds.{latest_heard, latest_instant, most_pulls}
 
 -- a pull ends before the latest instant that receivers and senders are told of
 abbrev pub EndsInTime : Stretch → Type 0
@@ -24,3 +25,7 @@ are_timely ps = nat_le (length ps) most_pulls && are_timely_from 0 ps
 
 abbrev pub TimelyTested : Type 0
 TimelyTested = (ps : List Stretch) → (are_timely ps ≡ true) ↔ AreTimely ps
+
+-- Sparse pulses that all begin by the latest instant are pulls.
+abbrev pub EarlyPulsesArePulls : Type 0
+EarlyPulsesArePulls = (ss : List Stretch) → AreSparse ss → All (λ p. p.from ≤ latest_instant) ss → AreTimely ss

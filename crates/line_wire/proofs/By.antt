@@ -8,7 +8,7 @@ use Rattle.line_reading.specs.declared.receiver.Told.{Told}
 use Rattle.line_reading.specs.declared.receiver.Told.TheVariants.{Nothing, Bit, Last, Ended}
 use Rattle.line_reading.specs.Reading.{last_ending}
 use Rattle.line_reading.specs.Hears.{Hears, Heard, reported_so, rest, starts, sample_as, hear_at}
-use Rattle.line_reading.proofs.Stood.{runs_in}
+use Rattle.line_reading.specs.Places.{runs_in}
 
 -- ---- what a microsecond leads to, while the reading runs
 

@@ -18,7 +18,6 @@ use Rattle.line_reading.specs.Sending.{known_bits}
 use Rattle.line_reading.proofs.AlongBy.{quiet_sample, reported_more}
 use Rattle.line_reading.proofs.Causes.{start_risen}
 use Rattle.line_reading.proofs.Search.{first_in_none, first_in_some}
-use Rattle.line_reading.proofs.Stood.{StandsIn, runs_in}
 use Rattle.line_rounds.specs.declared.Seat.{Seat}
 use Rattle.line_rounds.specs.Round.{is_acknowledged, is_broken}
 use Rattle.line_rounds.specs.Machine.{acks_after, acks_until, breaks_after, is_short}
@@ -28,6 +27,7 @@ use Rattle.line_wire.specs.Pulls.{IsHeld, held_in}
 use Rattle.line_wire.specs.Wire.{held_from}
 use Rattle.line_wire.proofs.Along.{Reached, next_here, next_none}
 use Rattle.line_wire.proofs.Lows.{reached_so, bad_whole, take_most}
+use Rattle.line_reading.specs.Places.{StandsIn, runs_in}
 
 -- from t on, for all instants after it
 abbrev pub HoldsAfter : List Seat → Line → ℕ → ℕ → ℕ → Type 0

@@ -14,11 +14,10 @@ use Rattle.line_reading.specs.Reading.{Known, known_at, reading_of}
 use Rattle.line_reading.specs.Hears.{Hears, Heard, heard_by, hear_in, hears, hears_with, rest, starts}
 use Rattle.line_reading.specs.Kept.{kept_before}
 use Rattle.line_reading.specs.Sending.{out_slot, state_by, state_before, may_pull, pull_of, sender_pulls, SenderStood}
-use Rattle.line_reading.proofs.Causes.{nothing, known_start_low}
+use Rattle.line_reading.proofs.Causes.{known_start_low}
 use Rattle.line_reading.proofs.Ends.{ends_after}
 use Rattle.line_reading.specs.declared.receiver.Receiver.{Receiver}
 use Rattle.line_reading.specs.declared.receiver.Told.{Told}
-pub use Rattle.line_reading.proofs.Stood.{was_now}
 use Rattle.line_rounds.specs.declared.Seat.{Seat}
 use Rattle.line_rounds.specs.Round.{frames_of, pulled_by, IsRoundLine}
 use Rattle.line_wire.specs.Listening.{IsReadOnce, IsSenderOf, SendsFor, AreBegun, AreSenders, IsSending, AreSending}
@@ -28,6 +27,8 @@ use Rattle.line_wire.proofs.Lows.{pulls_by_last, was_high, before_heard}
 use Rattle.line_wire.proofs.Told.{high_before}
 use Rattle.line_wire.specs.Line.{HaveBegun}
 use Rattle.line_wire.specs.Wire.{IsAt}
+use Rattle.line_reading.specs.Known.{nothing}
+pub use Rattle.line_wave.proofs.Waves.{was_now}
 
 -- ---- senders that begin
 

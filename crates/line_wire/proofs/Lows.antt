@@ -12,7 +12,7 @@ use Rattle.line_frames.specs.Bits.{frame_bits}
 use Rattle.line_reading.specs.Reading.{End, Known, Read, Slot, known_at, known_slot, bit_sampled_at, reading_of, read_start, start_of, start_fall, after_slot, after_fall, last_ending, read_slots}
 use Rattle.line_reading.specs.Reading.After.{Ends}
 use Rattle.line_reading.proofs.Search.{first_in_none}
-use Rattle.line_reading.proofs.Causes.{known_start_low, known_start_high, known_in_slot, start_risen, nothing}
+use Rattle.line_reading.proofs.Causes.{known_start_low, known_start_high, known_in_slot, start_risen}
 use Rattle.line_wire.proofs.Along.{AreOver, Reached, over_sampled, next_none, ends_so, known_ending}
 use Rattle.line_reading.specs.declared.receiver.ReceiverState.{ReceiverState}
 use Rattle.line_reading.specs.declared.receiver.ReceiverState.TheVariants.{Rest, StartLow, StartHigh, Unsampled, Sampled}
@@ -21,7 +21,7 @@ use Rattle.line_reading.specs.Hears.{Hears, heard_by, hears, wake_of}
 use Rattle.line_reading.specs.declared.receiver.Receiver.{Receiver}
 use Rattle.line_reading.specs.Kept.{running_of}
 use Rattle.line_reading.specs.Sending.{known_bits, is_whole, out_by, state_by, sender_pulls, pull_of, SenderStood}
-use Rattle.line_reading.proofs.Stood.{StandsIn, Knows, runs_in, stands_at}
+use Rattle.line_reading.proofs.Stood.{stands_at}
 pub use Rattle.line_reading.proofs.Keeping.{one_runs, before_heard, reported_heard, running_knows, runs_so}
 use Rattle.line_reading.proofs.Sent.{pulls_so}
 use Rattle.line_rounds.specs.declared.Seat.{Seat}
@@ -32,6 +32,8 @@ use Rattle.line_rounds.proofs.Walk as wire
 use Rattle.line_wire.specs.Listening.{IsReadOnce, AreSenders, AreSending, SendsFor, IsSending}
 use Rattle.line_wire.specs.Line.{last_of, HaveBegun}
 use Rattle.line_wire.specs.Pulls.{pull_in, until_of, takes_last, low_in, due_in, is_on, IsHeld, held_in, Stands}
+use Rattle.line_reading.specs.Known.{nothing}
+use Rattle.line_reading.specs.Places.{StandsIn, Knows, runs_in}
 
 -- ---- the last pull that began
 

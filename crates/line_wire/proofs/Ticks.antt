@@ -10,7 +10,7 @@ use Rattle.line_reading.specs.declared.sender.Sender.{Sender}
 use Rattle.line_reading.specs.Hears.{Hears, Heard, heard_by, hear_in, hears}
 use Rattle.line_reading.specs.Reading.{End, known_at, reading_of, read_slots, bits_of}
 use Rattle.line_reading.specs.Kept.{Sample, kept_before, reported_with, reported_in, reported_at, sample_in}
-use Rattle.line_reading.proofs.Stood.{runs_in, was_now, KnowsEnd, step, stands_at}
+use Rattle.line_reading.proofs.Stood.{step, stands_at}
 use Rattle.line_reading.specs.Sending.{known_bits}
 use Rattle.line_reading.specs.Follows.{StandsOn}
 use Rattle.line_rounds.specs.declared.Seat.{Seat}
@@ -21,6 +21,8 @@ use Rattle.line_wire.proofs.Ended.{EndsHeld, ends_held}
 use Rattle.line_wire.proofs.By.{GoesBy, goes_by}
 use Rattle.line_wire.proofs.Standing.{all_later, all_told, runs_after, until_by as until_at, reading_spans, reported_bits}
 use Rattle.line_wire.proofs.Lows.{due_is_heard, runs_in_it, runs_there, begin_is, before_heard, reported_heard}
+use Rattle.line_wave.proofs.Waves.{was_now}
+use Rattle.line_reading.specs.Places.{runs_in, KnowsEnd}
 
 -- what t tells of the reading that runs
 told_now : (low : Line) (begin t : ℕ) → IsReadOnce low begin → begin < t → t ≤ (reading_of low begin).at → reported_at low t ≡ reported_in low t (Some begin)

@@ -9,7 +9,7 @@ use Rattle.line_wave.specs.Line.{Line, line_of, covers, was_low, IsWave, IsWaveF
 use Rattle.line_wave.specs.Bounds.{latest_instant}
 use Rattle.line_wave.specs.Pulses.{AreSparse}
 use Rattle.line_reading.specs.Reading.{Known, known_at, reading_of}
-use Rattle.line_reading.proofs.Causes.{known_start_low, nothing}
+use Rattle.line_reading.proofs.Causes.{known_start_low}
 use Rattle.line_reading.proofs.Ends.{begin_by}
 use Rattle.line_rounds.specs.declared.Seat.{Seat}
 use Rattle.line_rounds.specs.declared.Outcome.{Outcome}
@@ -31,6 +31,7 @@ use Rattle.room_net.proofs.Each.{refill-all, length-each_from}
 use Rattle.room_net.specs.Step.{devices_after, device_after, is_sent}
 use Rattle.room_net.specs.Sound.{EndsEarly, IsSound}
 use Rattle.line_rounds.specs.Round.{close_in}
+use Rattle.line_reading.specs.Known.{nothing}
 
 -- ---- the line is low at the begin
 

@@ -16,7 +16,7 @@ use Rattle.line_reading.specs.Windows.{standard, sample_at}
 use Rattle.line_reading.specs.Reading.After.{Next, Ends}
 use Rattle.line_reading.specs.Reading.{next_fall, next_rise, Read, Slot, known_at, reading_of, read_slots, read_on, read_start, after_slot, after_fall, after_last, last_ending, last_heard, bit_sampled_at, start_of, start_fall, bits_of, After}
 use Rattle.line_reading.proofs.Search.{first_in_some, found_first, found_none}
-use Rattle.line_reading.proofs.Causes.{nothing, known_start_low, known_start_high, start_risen}
+use Rattle.line_reading.proofs.Causes.{known_start_low, known_start_high, start_risen}
 use Rattle.line_rounds.specs.declared.Seat.{Seat}
 use Rattle.line_rounds.specs.declared.Outcome.{Outcome}
 use Rattle.line_rounds.specs.Round.{IsRound, IsRoundLine, frames_of, is_acknowledged, is_broken, losers_from, rest_of, survivors_from}
@@ -34,6 +34,7 @@ use Rattle.line_rounds.proofs.Still.{high_before}
 use Rattle.line_rounds.proofs.OneOutcome.{one_outcome}
 use Rattle.timing_laws.specs.Nominal.{RoundsAreNominal}
 use Rattle.timing_laws.proofs.Slots.{Calm, IsSlotTime, OnSlot, Puller, SlotLow, Starter, falls_nominal, high_to, in_slot, low_for, quiet_slot, quiet_start, slot_low, soon_low, starter, who_makes}
+use Rattle.line_reading.specs.Known.{nothing}
 
 -- ---- from slot to slot
 

@@ -17,7 +17,7 @@ use Rattle.line_reading.specs.Reading.After.{Ends}
 use Rattle.line_reading.specs.Reading.{next_fall, Slot, End, Known, known_at, known_slot, reading_of, read_slots, after_slot, after_last, last_ending, last_heard, bit_sampled_at}
 use Rattle.line_reading.specs.Sending.{bit_read, out_slot, sender_pulls, goes_on}
 use Rattle.line_reading.proofs.Search.{first_in_none}
-use Rattle.line_reading.proofs.Causes.{nothing, known_front, late_read, known_in_slot}
+use Rattle.line_reading.proofs.Causes.{known_front, late_read, known_in_slot}
 use Rattle.line_rounds.specs.declared.Seat.{Seat}
 use Rattle.line_rounds.specs.Round.{IsRoundLine, frames_of, is_acknowledged, is_broken, winning_frames}
 use Rattle.line_rounds.specs.Contend.{AreFrames, pulled_through, Stays}
@@ -32,6 +32,7 @@ use Rattle.line_rounds.proofs.Holding.{acks_now, done_by}
 use Rattle.line_rounds.proofs.Lasting.{contended}
 use Rattle.line_rounds.proofs.Falls.{round_fall_by, FallBy}
 use Rattle.line_rounds.proofs.SameLine.{same_line}
+use Rattle.line_reading.specs.Known.{nothing}
 
 -- ---- a line without falls
 

@@ -1,19 +1,23 @@
--- On a wave the falls are where its stretches begin, and the rises where they end.
-use Rattle.std.proofs.Common.{◌≡◌, ℕ, ◌+◌, ◌-◌, ◌<◌, false, ◌||◌, ◌==◌, List, [], ◌∷◌, inl, inr, refl, arith, ap, ◌∙◌}
-use Rattle.std.specs.List.{list_any}
+-- A line just before an instant; and on a wave the falls are where its stretches begin, and the rises where they end.
+use Rattle.std.proofs.Common.{◌≡◌, ℕ, ◌+◌, ◌-◌, ◌<◌, true, false, ◌&&◌, ◌||◌, ◌==◌, nat_lt, [], ◌∷◌, inl, inr, refl, arith, ap, ◌∙◌}
 use Rattle.std.proofs.lemmas.Bool.Decides.{nat_tests}
 use Rattle.std.proofs.lemmas.Bool.{cases_lt}
 use Rattle.line_wave.specs.declared.Stretch.{Stretch}
-use Rattle.line_wave.specs.Line.{Line, line_of, covers, is_fall, is_rise, IsWaveFrom}
+use Rattle.line_wave.specs.Line.{Line, line_of, covers, is_fall, is_rise, LinesWereAsTheyAre, FallsOfWaves, RisesOfWaves, QuietBeforeWaves, NoneBeginBeforeWaves}
+
+pub was_now : LinesWereAsTheyAre
+was_now low n =
+    let x : nat_lt 0 (n + 1) ≡ true = grind (arith, nat_tests) in
+    ap (λ b. b && low (n + 1 - 1)) x ∙ ap low (let y : n + 1 - 1 ≡ n = omega arith in y)
 
 -- nothing comes before a wave begins
-pub quiet : (ss : List Stretch) (from t : ℕ) → IsWaveFrom from ss → t < from → line_of ss t ≡ false
+pub quiet : QuietBeforeWaves
 quiet [] from t w h = refl
 quiet (s ∷ ss) from t w h =
     let e : covers s t ≡ false = grind (arith, nat_tests, w.0) in
     rw e (quiet ss (s.to + 1) t w.2 (omega (arith, w.0, w.1)))
 
-pub no_begin : (ss : List Stretch) (from t : ℕ) → IsWaveFrom from ss → t < from → list_any (λ s. s.from == t) ss ≡ false
+pub no_begin : NoneBeginBeforeWaves
 no_begin [] from t w h = refl
 no_begin (s ∷ ss) from t w h =
     let e : (s.from == t) ≡ false = grind (arith, nat_tests, w.0) in
@@ -33,7 +37,7 @@ fall_of_first s rest t h q =
           let g : (s.from == t) ≡ false = grind (arith, nat_tests) in rw (e, f, g) refl)
     ]
 
-pub falls_of_wave : (ss : List Stretch) (from t : ℕ) → IsWaveFrom from ss → is_fall (line_of ss) t ≡ list_any (λ s. s.from == t) ss
+pub falls_of_wave : FallsOfWaves
 unfolding with_first
 falls_of_wave [] from t w = refl
 falls_of_wave (s ∷ ss) from t w =
@@ -49,7 +53,7 @@ rise_of_first s rest t h q =
           let g : (s.to == t) ≡ false = grind (arith, nat_tests) in rw (e, f, g) refl)
     ]
 
-pub rises_of_wave : (ss : List Stretch) (from t : ℕ) → IsWaveFrom from ss → is_rise (line_of ss) t ≡ list_any (λ s. s.to == t) ss
+pub rises_of_wave : RisesOfWaves
 unfolding with_first
 rises_of_wave [] from t w = grind (arith, nat_tests)
 rises_of_wave (s ∷ ss) from t w =
