@@ -3,9 +3,9 @@ use Rattle.std.proofs.Common.{◌≡◌, ℕ, ◌+◌, Bool, List, [], ◌++◌,
 use Rattle.std.specs.Io.KnownBytes.{Appends}
 use Rattle.text_core.specs.declared.sink.WriteFault.{WriteFault}
 use Rattle.text_core.specs.Written.{WrittenLine}
-use Rattle.text_core.proofs.CutShort.{Appends-trans}
+use Rattle.std.proofs.KnownBytes.{Appends-trans}
 use Rattle.text_core.specs.Cut.{CutOff, WrittenText, reported_count}
-use Rattle.text_core.proofs.Cutting.{cut_after, cut_front}
+use Rattle.text_core.proofs.Cutting.{cut_front, cut_later}
 use Rattle.audit_core.specs.Progress.{WritesOn, WritesText, length_after, result_of}
 
 -- nothing more is written
@@ -41,7 +41,11 @@ line_cut mid new was is line written inner cut now sum = record {
 }
   where
     cut_again_here : (old : Option (List ℕ)) (front : List ℕ) → written ≡ reported_count (length front) → Appends old mid front → CutOff old new (front ++ line) cut
-    cut_again_here old front e before = subst (λ (t : List ℕ). CutOff old new t cut) (append-nil (front ++ line)) (cut_after old mid new front line [] written inner.count cut e before now.0 now.1 sum)
+    cut_again_here old front e before =
+        cut_later old mid new front line written (record { count = reported_count inner.count }) cut e before (inner.count, now.0, refl, now.1) (sum ∙ same inner.count)
+
+    same : (n : ℕ) → reported_count (written + n) ≡ reported_count (written + reported_count n)
+    same n = omega arith
 
 pub writes_grown : (mid new : Option (List ℕ)) (was is : Bool) (line : List ℕ) (written : ℕ) (before after reported : Result ℕ WriteFault) → before ≡ Ok written → after ≡ length_after written reported → WrittenLine mid new was is line reported
     → WritesOn mid new was is line before after

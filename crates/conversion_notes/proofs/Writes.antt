@@ -4,7 +4,8 @@ use Rattle.std.specs.Io.KnownBytes.{Appends}
 use Rattle.std.proofs.lemmas.Grind.{flat_map-append}
 use Rattle.std.proofs.lemmas.List.{take_more, take_all}
 use Rattle.std.proofs.lemmas.Option.{slice_get_within, get_or_from_slice_get}
-use Rattle.text_core.proofs.CutShort.{Appends-trans, cut_short}
+use Rattle.std.proofs.KnownBytes.{Appends-trans}
+use Rattle.text_core.proofs.CutShort.{cut_short}
 use Rattle.edid_text_lines.specs.declared.line.Line.{Line}
 
 pub text_more : (f : Line → List ℕ) (ls : List Line) (n : ℕ) (l : Line) → slice_get ls n ≡ Some l → flat_map f (take (n + 1) ls) ≡ flat_map f (take n ls) ++ f l

@@ -5,7 +5,8 @@ use Rattle.std.proofs.lemmas.Grind.{flat_map-append}
 use Rattle.std.proofs.lemmas.List.{take_more, take_all}
 use Rattle.std.proofs.lemmas.Option.{slice_get_within, get_or_from_slice_get}
 use Rattle.std.proofs.Common.{subst}
-use Rattle.text_core.proofs.CutShort.{Appends-trans, cut_short}
+use Rattle.std.proofs.KnownBytes.{Appends-trans}
+use Rattle.text_core.proofs.CutShort.{cut_short}
 use Rattle.edid_text_lines.specs.Text.{line_text}
 use Rattle.edid_text_lines.specs.declared.line.Line.{Line}
 

@@ -6,7 +6,7 @@ use Rattle.std.proofs.lemmas.Grind.{flat_map-append}
 use Rattle.std.proofs.lemmas.List.{append-nil, take-append-le}
 use Rattle.std.proofs.lemmas.List.Elements.{filter-append}
 use Rattle.std.proofs.Math.Seq.{take-append-add}
-use Rattle.text_core.proofs.CutShort.{Appends-trans}
+use Rattle.std.proofs.KnownBytes.{Appends-trans}
 use Rattle.text_core.specs.Written.{Written, WrittenFront}
 use Rattle.text_core.specs.declared.sink.WriteFault.{WriteFault}
 use Rattle.message_text.specs.declared.assembler.AssembleError.{AssembleError}

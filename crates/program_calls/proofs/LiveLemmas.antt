@@ -6,7 +6,7 @@ use Rattle.std.proofs.lemmas.List.Elements.{All-append, All-cons, All-nil, All-w
 use Rattle.std.proofs.lemmas.List.Sums.{AllPass-from_list_all}
 use Rattle.text_core.specs.declared.buffered.Buffered.{Buffered}
 use Rattle.text_core.specs.Buffered.{below, pending}
-pub use Rattle.text_core.proofs.CutShort.{Appends-trans}
+pub use Rattle.std.proofs.KnownBytes.{Appends-trans}
 use Rattle.text_core.specs.Lines.{lines_of}
 use Rattle.json_live.specs.Object.{AreLiveObjects}
 use Rattle.json_live.specs.Put.{AreAllPut, mark}

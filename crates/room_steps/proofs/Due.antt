@@ -1,5 +1,5 @@
 -- Commands taken one after another: their texts so far, and the devices that they name.
-use Rattle.std.proofs.Common.{◌≡◌, ℕ, zero, suc, ◌+◌, ◌<◌, Bool, true, false, codes, List, [], ◌∷◌, ◌++◌, length, take, drop, get_or, Option, Some, None, Result, Ok, Err, inl, inr, ap, ◌∙◌, sym, refl, subst, arith, append_assoc, append-nil, if◌then◌else◌}
+use Rattle.std.proofs.Common.{◌≡◌, ℕ, zero, suc, ◌+◌, ◌<◌, Bool, true, false, codes, List, [], ◌∷◌, ◌++◌, length, take, drop, get_or, Option, Some, None, Result, Ok, Err, inl, inr, ap, ◌∙◌, sym, refl, subst, arith, append_assoc, append-nil, length-append, if◌then◌else◌}
 use Rattle.std.proofs.lemmas.Grind.{common_steps}
 use Rattle.std.proofs.lemmas.List.{take_more, take-append-drop}
 use Rattle.std.proofs.lemmas.List.Elements.{All-append, All-nil, All-from_recursion}
@@ -7,13 +7,13 @@ use Rattle.std.specs.List.{All}
 use Rattle.std.specs.Str.{bytes_eq}
 use Rattle.std.specs.Io.KnownBytes.{Appends}
 use Rattle.text_core.specs.declared.sink.WriteFault.{WriteFault}
-use Rattle.text_core.proofs.CutShort.{Appends-trans}
+use Rattle.std.proofs.KnownBytes.{Appends-trans}
 use Rattle.edid_tree.specs.Node.{Node}
 use Rattle.edid_tree.specs.Tree.{device_named}
 use Rattle.text_core.specs.Cut.{WrittenText, reported_count}
 use Rattle.text_core.specs.Lines.{lines_of, is_skipped}
 use Rattle.text_core.specs.Words.{words_of}
-use Rattle.text_core.proofs.Cutting.{cut_later, reported_parts}
+use Rattle.text_core.proofs.Cutting.{cut_later}
 use Rattle.line_rounds.specs.declared.Outcome.{Outcome}
 use Rattle.room_net.specs.State.{NetState}
 use Rattle.room_net.specs.Apply.{net_after}
@@ -114,6 +114,9 @@ next_due commands n command s mid t text first below is h due =
     let more : take (n + 1) commands ≡ take n commands ++ command ∷ [] = take_more commands n command below ∙ ap (λ c. take n commands ++ c ∷ []) is in
     subst (λ front. AreDue front s (text ++ first) t) (sym more) (due_more (take n commands) command s mid t text first h due)
 
+both_counted : (n m : ℕ) (xs ys : List ℕ) → n ≡ reported_count (length xs) → m ≡ reported_count (length ys) → reported_count (n + m) ≡ reported_count (length (xs ++ ys))
+both_counted n m xs ys e f = omega (arith, length-append xs ys)
+
 pub reached_more : (commands : List StepCommand) (n : ℕ) (command : StepCommand) (s mid t : Steps) (old between new : Option (List ℕ)) (was is : Bool) (written count m : ℕ) → n < length commands
     → get_or commands n command ≡ command → Reached commands n s mid old between written → (first : List ℕ) → IsDue command mid first t → WrittenText between new was is first (Ok count)
     → m ≡ reported_count (written + count) → Reached commands (n + 1) s t old new m
@@ -121,7 +124,7 @@ reached_more commands n command s mid t old between new was is written count m b
   text = r.text ++ first;
   due = next_due commands n command s mid t r.text first below same r.due due;
   so_far = Appends-trans old between new r.text first r.so_far wrote.1;
-  counted = reported ∙ reported_parts written count r.text first r.counted wrote.0;
+  counted = reported ∙ both_counted written count r.text first r.counted wrote.0;
 }
 
 -- the text of the next one was cut off

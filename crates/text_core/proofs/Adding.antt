@@ -3,7 +3,7 @@ use Rattle.std.proofs.Common.{◌≡◌, refl, ◌∙◌, ℕ, ◌+◌, ◌<◌,
 use Rattle.std.specs.Borrow.{GName}
 use Rattle.std.specs.Io.KnownBytes.{Appends}
 use Rattle.std.specs.List.{flat_map}
-use Rattle.text_core.proofs.CutShort.{Appends-trans}
+use Rattle.std.proofs.KnownBytes.{Appends-trans}
 use Rattle.text_core.proofs.Cutting.{more_parts}
 use Rattle.text_core.specs.Cut.{WrittenText, reported_count}
 use Rattle.text_core.specs.declared.sink.WriteFault.{WriteFault}

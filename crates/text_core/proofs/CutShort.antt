@@ -1,9 +1,10 @@
-use Rattle.std.proofs.Common.{◌≡◌, ℕ, ◌+◌, ◌<◌, ◌≤◌, suc, List, ◌++◌, length, take, drop, get_or, Option, None, Some, refl, sym, ap, ◌∙◌, append_assoc, arith, drop-cons}
+use Rattle.std.proofs.Common.{◌≡◌, ℕ, ◌+◌, ◌<◌, ◌≤◌, suc, List, ◌++◌, length, take, drop, get_or, Option, refl, sym, ap, ◌∙◌, arith, drop-cons}
 use Rattle.std.specs.List.{flat_map}
 use Rattle.std.specs.Io.KnownBytes.{Appends}
 use Rattle.std.proofs.lemmas.Grind.{flat_map-append}
 use Rattle.std.proofs.lemmas.List.{take-append-le, take-append-drop}
 use Rattle.std.proofs.lemmas.List.Folds.{length-flat_map-take}
+use Rattle.std.proofs.KnownBytes.{Appends-trans}
 use Rattle.std.proofs.Math.Seq.{take-append-add}
 
 -- the parts before one, that one, and the parts after it
@@ -21,12 +22,6 @@ cut_in f ps i k d h short =
     ap (take (length (flat_map f (take i ps)) + k)) (parted f ps i d h)
     ∙ take-append-add (flat_map f (take i ps)) (f (get_or ps i d) ++ flat_map f (drop (suc i) ps)) k
     ∙ ap (λ l. flat_map f (take i ps) ++ l) (rw take-append-le refl)
-
-pub Appends-trans : (a b c : Option (List ℕ)) (xs ys : List ℕ) → Appends a b xs → Appends b c ys → Appends a c (xs ++ ys)
-Appends-trans None b c xs ys p q = tt
-Appends-trans (Some x) None c xs ys p q = absurd p
-Appends-trans (Some x) (Some y) None xs ys p q = absurd q
-Appends-trans (Some x) (Some y) (Some z) xs ys p q = q ∙ ap (λ l. l ++ ys) p ∙ append_assoc x xs ys
 
 -- the parts before are written, and then the front of one
 pub cut_short : {X : Type 0} (f : X → List ℕ) (ps : List X) (i k n : ℕ) (d : X) (a b c : Option (List ℕ)) → i < length ps

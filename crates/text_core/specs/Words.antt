@@ -1,6 +1,7 @@
 -- Words of a line (own).
-use Rattle.std.specs.Prelude.{ℕ, ◌==◌, List, [], ◌∷◌, Option, Some, None}
+use Rattle.std.specs.Prelude.{◌≡◌, ℕ, ◌==◌, List, [], ◌∷◌, Option, Some, None, find}
 use Rattle.std.specs.List.{slice_split, join_with_byte, count_by, before_first}
+use Rattle.std.specs.Str.{bytes_eq}
 
 -- the words of a line, one space apart
 abbrev pub words_of : List ℕ → List (List ℕ)
@@ -37,3 +38,7 @@ text_of words = join_with_byte 32 words
 -- the spaces before the first quote: a quote and all after it belong to one word
 abbrev pub spaces_unquoted : List ℕ → ℕ
 spaces_unquoted text = count_by (λ b. b == 32) (before_first (λ b. b == 34) text)
+
+-- what is found in a list by a word has that word
+abbrev pub FoundByWord : Type 0 → Type 0
+FoundByWord T = (text : T → List ℕ) (xs : List T) (word : List ℕ) (found : T) → find (λ x. bytes_eq (text x) word) xs ≡ Some found → word ≡ text found
