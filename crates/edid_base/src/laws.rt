@@ -1,8 +1,6 @@
 //! Laws of the spellings: no two values have the same bytes, and the bytes of a base block are accepted. Laws of lists of bytes
 //! and of checksums.
-ghost use Rattle.std.specs.Prelude.{
-    ◌%◌, ◌++◌, ◌<◌, ◌≡◌, ◌∷◌, List, None, Option, [], drop, get_or, sum, take, true, ℕ,
-};
+ghost use Rattle.std.specs.Prelude.{◌%◌, ◌++◌, ◌<◌, ◌≡◌, ◌∷◌, List, None, Option, [], drop, get_or, sum, take, true, ℕ};
 ghost use Rattle.edid_base.specs.Base.{base_bytes};
 ghost use Rattle.edid_base.specs.Bytes.{are_bytes};
 ghost use Rattle.edid_base.specs.Check.{block_with_checksum};
@@ -77,8 +75,6 @@ pub fn lists_of_bytes()
 /// - `only`: a list of bytes whose sum is 0 modulo 256 is its front with the checksum of that.
 pub fn checksums_make_sums_zero()
     ensures zero { (front : List ℕ) → sum (block_with_checksum front) % 256 ≡ 0 }
-    ensures only {
-        (front : List ℕ) (last : ℕ) (xs : List ℕ) → last < 256 → sum xs % 256 ≡ 0 → front ++ (last ∷ []) ≡ xs
-            → block_with_checksum front ≡ xs
-    }
+    ensures only { (front : List ℕ) (last : ℕ) (xs : List ℕ) → last < 256 → sum xs % 256 ≡ 0 → front ++ (last ∷ []) ≡ xs
+        → block_with_checksum front ≡ xs }
 {}

@@ -1,7 +1,5 @@
 //! Laws of the words of lines.
-ghost use Rattle.std.specs.Prelude.{
-    ◌++◌, ◌<◌, ◌==◌, ◌^◌, ◌≡◌, List, length, not, true, ℕ,
-};
+ghost use Rattle.std.specs.Prelude.{◌++◌, ◌<◌, ◌==◌, ◌^◌, ◌≡◌, List, length, not, true, ℕ};
 ghost use Rattle.std.specs.Fmt.{decimal};
 ghost use Rattle.std.specs.List.{list_all, position_or_len};
 ghost use Rattle.edid_text_lines.specs.Formed.{BeginsSpaced, is_spaceless};
@@ -22,8 +20,6 @@ pub fn one_text_of_words()
 pub fn words_end_at_the_first_space()
     ensures word { (w : Keyword) → is_spaceless (word_text w) ≡ true }
     ensures fields { (f : Fields) → BeginsSpaced (fields_text f) }
-    ensures cut {
-        (w t : List ℕ) → is_spaceless w ≡ true → BeginsSpaced t → position_or_len (λ b. b == 32) (w ++ t) ≡ length w
-    }
+    ensures cut { (w t : List ℕ) → is_spaceless w ≡ true → BeginsSpaced t → position_or_len (λ b. b == 32) (w ++ t) ≡ length w }
     ensures number { (k n : ℕ) → k < 48 → n < 2 ^ 64 → list_all (λ c. not (c == k)) (decimal n) ≡ true }
 {}
