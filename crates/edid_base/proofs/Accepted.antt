@@ -2,7 +2,8 @@
 use Rattle.std.proofs.Common.{◌≡◌, ℕ, ◌+◌, ◌-◌, ◌*◌, ◌/◌, ◌%◌, ◌≤◌, ◌<◌, Bool, true, ◌&&◌, not, nat_le, nat_lt, cond, Some, None, List, [], ◌∷◌, ◌++◌, sum, arith, refl, eq-eqb}
 use borrow.Author.Tests.{tests}
 use Rattle.edid_base.proofs.OneMaker.{bounds}
-use Rattle.edid_base.proofs.PartLemmas.{both, sum_with}
+use Rattle.std.proofs.lemmas.Bool.{and_parts}
+use Rattle.edid_base.proofs.PartLemmas.{sum_with}
 use Rattle.edid_base.specs.Base.{base_bytes, front_bytes}
 use Rattle.edid_base.specs.Check.{check_of}
 use Rattle.edid_base.specs.Letters.{is_letter, is_number, has_letters}
@@ -47,8 +48,8 @@ made_of_letters : (b : Base) → has_letters (((b.maker.first - 64) * 1024 + (b.
     (((b.maker.first - 64) * 1024 + (b.maker.second - 64) * 32 + (b.maker.third - 64)) % 256) ≡ true
 made_of_letters b =
     let m = b.maker in
-    let all = both (is_letter m.first && is_letter m.second) (is_letter m.third) m.letters in
-    let two = both (is_letter m.first) (is_letter m.second) all.0 in
+    let all = and_parts (is_letter m.first && is_letter m.second) (is_letter m.third) m.letters in
+    let two = and_parts (is_letter m.first) (is_letter m.second) all.0 in
     let p = bounds m.first two.0 in let q = bounds m.second two.1 in let r = bounds m.third all.1 in
     lettered (m.first - 64) (m.second - 64) (m.third - 64) (omega arith) (omega arith) (omega arith) (omega arith) (omega arith) (omega arith)
 

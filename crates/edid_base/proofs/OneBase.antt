@@ -10,8 +10,7 @@ use Rattle.edid_base.proofs.OneMaker.{one_maker}
 use Rattle.edid_base.proofs.OneStandard.{one_standard, one_chroma}
 use Rattle.std.proofs.Common.{nat_le}
 use Rattle.std.proofs.lemmas.List.{length-replicate}
-use Rattle.std.proofs.lemmas.Bool.{leb-true}
-use Rattle.edid_base.proofs.PartLemmas.{both}
+use Rattle.std.proofs.lemmas.Bool.{and_parts, leb-true}
 use Rattle.edid_base.specs.Chars.{padding, text_bytes}
 use Rattle.edid_base.specs.declared.text.Text.{Text}
 use Rattle.edid_base.specs.declared.descriptor.Descriptor.TheVariants.{Timing as OfTiming, Name, Text as OfText, SerialText, Range, Dummy, Raw}
@@ -108,7 +107,7 @@ padding_len (suc n) = ap (λ k. suc k) (length-replicate n 0x20)
 
 text_len : (t : Text) → length (text_bytes t.chars.items) ≡ 13
 text_len t =
-    let most = leb-true _ _ (both (nat_le (length t.chars.items) 13) _ t.printable).0 in
+    let most = leb-true _ _ (and_parts (nat_le (length t.chars.items) 13) _ t.printable).0 in
     let pad = padding_len (13 - length t.chars.items) in
     omega (arith, length-append t.chars.items (padding (13 - length t.chars.items)), pad, most)
 

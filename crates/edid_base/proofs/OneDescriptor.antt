@@ -6,7 +6,7 @@ use borrow.Author.Tests.{tests}
 use Rattle.std.specs.List.{prefix_len, list_all}
 use Rattle.arrayvec.specs.ArrayVec.{ArrayVec}
 use Rattle.edid_base.proofs.Same.{same}
-use Rattle.edid_base.proofs.PartLemmas.{both}
+use Rattle.std.proofs.lemmas.Bool.{and_parts}
 use Rattle.edid_base.proofs.OneText.{one_text}
 use Rattle.edid_base.proofs.OneTiming.{one_timing}
 use Rattle.edid_base.specs.Bytes.{are_bytes}
@@ -33,11 +33,11 @@ rest_again : (xs : List ℕ) (n : ℕ) → list_all is_char xs ≡ true → drop
 rest_again [] zero h = refl
 rest_again [] (suc n) h = refl
 rest_again (x ∷ xs) n h =
-    let parts = both (is_char x) (list_all is_char xs) h in
+    let parts = and_parts (is_char x) (list_all is_char xs) h in
     rw (parts.0, one-add) (rest_again xs n parts.1)
 
 chars_of : (t : Text) → list_all is_char t.chars.items ≡ true
-chars_of t = (both _ (list_all is_char t.chars.items) t.printable).1
+chars_of t = (and_parts _ (list_all is_char t.chars.items) t.printable).1
 
 text_form : (t : Text) → is_text_form (text_bytes t.chars.items) ≡ true
 text_form t = rw (rest_again t.chars.items (13 - length t.chars.items) (chars_of t)) (padded (13 - length t.chars.items))

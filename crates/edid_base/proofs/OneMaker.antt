@@ -1,9 +1,8 @@
 -- Two bytes spell one maker at most.
 use Rattle.std.proofs.Common.{◌≡◌, ℕ, ◌+◌, ◌-◌, ◌*◌, ◌/◌, ◌%◌, ◌≤◌, ◌<◌, true, ◌&&◌, nat_le, IsTrue, get_or, ap, arith}
-use Rattle.std.proofs.lemmas.Bool.{leb-true}
+use Rattle.std.proofs.lemmas.Bool.{and_parts, leb-true}
 use Rattle.std.proofs.Math.Bool.{Bool-set}
 use Rattle.edid_base.proofs.Same.{same}
-use Rattle.edid_base.proofs.PartLemmas.{both}
 use Rattle.edid_base.specs.Letters.{is_letter}
 use Rattle.edid_base.specs.Maker.{maker_bytes}
 use Rattle.edid_base.specs.declared.maker.Maker.{Maker}
@@ -23,7 +22,7 @@ abbrev plain : Maker → Plain
 plain m = record { first = m.first; second = m.second; third = m.third }
 
 pub bounds : (n : ℕ) → is_letter n ≡ true → (65 ≤ n) × (n ≤ 90)
-bounds n h = let p = both (nat_le 65 n) (nat_le n 90) h in (leb-true _ _ p.0, leb-true _ _ p.1)
+bounds n h = let p = and_parts (nat_le 65 n) (nat_le n 90) h in (leb-true _ _ p.0, leb-true _ _ p.1)
 
 numbers : (a b c x y z : ℕ) → a < 27 → b < 27 → c < 27 → x < 27 → y < 27 → z < 27
     → (a * 1024 + b * 32 + c) / 256 % 256 ≡ (x * 1024 + y * 32 + z) / 256 % 256
@@ -34,10 +33,10 @@ numbers a b c x y z ha hb hc hx hy hz e f =
 
 pub one_maker : (a b : Maker) → maker_bytes a ≡ maker_bytes b → a ≡ b
 one_maker a b e =
-    let ab = both (is_letter a.first && is_letter a.second) (is_letter a.third) a.letters in
-    let a12 = both (is_letter a.first) (is_letter a.second) ab.0 in
-    let bb = both (is_letter b.first && is_letter b.second) (is_letter b.third) b.letters in
-    let b12 = both (is_letter b.first) (is_letter b.second) bb.0 in
+    let ab = and_parts (is_letter a.first && is_letter a.second) (is_letter a.third) a.letters in
+    let a12 = and_parts (is_letter a.first) (is_letter a.second) ab.0 in
+    let bb = and_parts (is_letter b.first && is_letter b.second) (is_letter b.third) b.letters in
+    let b12 = and_parts (is_letter b.first) (is_letter b.second) bb.0 in
     let p = bounds a.first a12.0 in
     let q = bounds a.second a12.1 in
     let r = bounds a.third ab.1 in

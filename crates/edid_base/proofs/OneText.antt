@@ -1,7 +1,7 @@
 -- 13 bytes spell one text at most.
 use Rattle.std.proofs.Common.{◌≡◌, ℕ, zero, suc, ◌-◌, true, List, [], ◌∷◌, ◌++◌, length, take, ap, refl, sym, ◌∙◌, one-add}
 use Rattle.std.specs.List.{prefix_len, list_all}
-use Rattle.edid_base.proofs.PartLemmas.{both}
+use Rattle.std.proofs.lemmas.Bool.{and_parts}
 use Rattle.edid_base.specs.Chars.{is_char, padding, text_bytes}
 
 -- the front of characters of a text and its padding is the text
@@ -9,7 +9,7 @@ pub front_again : (xs : List ℕ) (n : ℕ) → list_all is_char xs ≡ true →
 front_again [] zero h = refl
 front_again [] (suc n) h = refl
 front_again (x ∷ xs) n h =
-    let parts = both (is_char x) (list_all is_char xs) h in
+    let parts = and_parts (is_char x) (list_all is_char xs) h in
     let e = front_again xs n parts.1 in
     rw (parts.0, one-add) (ap (λ ys. x ∷ ys) e)
 

@@ -41,10 +41,6 @@ pub record IsHeader (xs : List ℕ) : Type 0 where
   pub b6 : get_or xs 6 0 ≡ 255
   pub b7 : get_or xs 7 0 ≡ 0
 
-pub both : (a b : Bool) → (a && b) ≡ true → (a ≡ true) × (b ≡ true)
-both true b h = (refl, h)
-both false b h = cc
-
 pub header_is : (xs : List ℕ) → has_header xs ≡ true → IsHeader xs
 header_is xs h =
     let front : xs ≡ header ++ drop 8 xs = (starts_is Decides-eqb xs header true (sym h)).0 refl in

@@ -1,8 +1,7 @@
 -- A base block has 128 bytes, and reports at 126 how many extensions follow.
 use Rattle.std.proofs.Common.{◌≡◌, ℕ, zero, suc, ◌+◌, ◌-◌, ◌*◌, nat_le, Option, Some, None, List, [], ◌∷◌, ◌++◌, length, get_or, flat_map, ap, arith, refl, ◌∙◌, append_assoc, length-append}
 use Rattle.std.proofs.lemmas.List.{length-replicate, get_or-append_right}
-use Rattle.std.proofs.lemmas.Bool.{leb-true}
-use Rattle.edid_base.proofs.PartLemmas.{both}
+use Rattle.std.proofs.lemmas.Bool.{and_parts, leb-true}
 use Rattle.edid_base.specs.Base.{base_bytes, front_bytes, product_bytes}
 use Rattle.edid_base.specs.Header.{header}
 use Rattle.edid_base.specs.Check.{check_of}
@@ -33,7 +32,7 @@ padding_len (suc n) = ap (λ k. suc k) (length-replicate n 0x20)
 
 text_len : (t : AnyText) → length (text_bytes t.chars.items) ≡ 13
 text_len t =
-    let most = leb-true _ _ (both (nat_le (length t.chars.items) 13) _ t.printable).0 in
+    let most = leb-true _ _ (and_parts (nat_le (length t.chars.items) 13) _ t.printable).0 in
     let pad = padding_len (13 - length t.chars.items) in
     omega (arith, length-append t.chars.items (padding (13 - length t.chars.items)), pad, most)
 

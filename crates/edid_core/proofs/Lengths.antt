@@ -1,18 +1,11 @@
 -- The lengths of EDIDs.
 use Rattle.std.proofs.Common.{◌≡◌, ℕ, zero, suc, ◌*◌, ◌+◌, ◌≤◌, ◌==◌, Bool, true, false, ◌||◌, ◌⊎◌, inl, inr, List, length, arith, refl, lit≤}
 use Rattle.std.proofs.lemmas.Bool.{eqb-true}
-use Rattle.edid_core.specs.Bytes.{has_length}
+use Rattle.edid_core.specs.Bytes.{has_length, IsCounted}
 
 either : (a b : Bool) → (a || b) ≡ true → (a ≡ true) ⊎ (b ≡ true)
 either true b h = inl refl
 either false b h = inr h
-
--- one block at least, and four at most
-pub record IsCounted (bytes : List ℕ) : Type 0 where
-  pub blocks : ℕ
-  pub least : 1 ≤ blocks
-  pub most : blocks ≤ 4
-  pub len : length bytes ≡ 128 * blocks
 
 pub counted : (bytes : List ℕ) → has_length bytes ≡ true → IsCounted bytes
 counted bytes h = by_third (either ((length bytes == 128) || (length bytes == 256) || (length bytes == 384)) (length bytes == 512) h)

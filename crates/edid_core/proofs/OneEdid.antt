@@ -1,23 +1,21 @@
 -- Bytes spell one EDID at most, and what an EDID spells is not refused.
 use Rattle.std.proofs.Common.{◌≡◌, ℕ, zero, suc, ◌+◌, ◌*◌, ◌%◌, ◌<◌, ◌≤◌, Result, Ok, Err, IfOk, IfErr, List, [], ◌∷◌, ◌++◌, length, get_or, take, drop, sum, flat_map, drop-drop, ap, arith, refl, sym, ◌∙◌, subst, length-append}
+use mathlib.Core.HLevel.{Σ_prop_path}
 use Rattle.std.proofs.Math.Nat.{ℕ_set}
-use Rattle.std.proofs.lemmas.List.{get_or-take, get_or_append_left}
+use Rattle.std.proofs.Math.Seq.{take-append_seam, drop-append_seam}
+use Rattle.std.proofs.lemmas.List.{get_or-take, get_or_append_left, take_at, drop_at}
 use Rattle.std.specs.Coded.{le_prop}
 use Rattle.arrayvec.specs.ArrayVec.{ArrayVec}
-use Rattle.edid_base.proofs.Accepted.{accepted}
-use Rattle.edid_base.proofs.PartLemmas.{sum_with}
+use Rattle.edid_base.proofs.Accepted.{accepted, summed_is}
 use Rattle.edid_base.specs.Check.{check_of}
 use Rattle.edid_base.proofs.OneBase.{one_base}
-use Rattle.edid_base.proofs.Same.{same}
 use Rattle.edid_base.specs.Base.{base_bytes}
 use Rattle.edid_base.specs.Refusals.{refusal}
 use Rattle.edid_base.specs.declared.base.Base.{Base}
-use Rattle.edid_cta.proofs.OneBlock.{append_same}
 use Rattle.edid_cta.proofs.OneExt.{one_ext}
 use Rattle.edid_cta.specs.Block.{block_bytes}
 use Rattle.edid_base.specs.Timing.{timing_bytes}
 use Rattle.edid_cta.specs.Ext.{ext_bytes}
-use Rattle.edid_base.specs.Check.{block_with_checksum}
 use Rattle.edid_cta.specs.Cta.{cta_front, bare_front}
 use Rattle.edid_cta.specs.declared.raw.Ext.{Ext as AnyExt}
 use Rattle.edid_cta.specs.declared.raw.Ext.TheVariants.{Cta, Bare, Raw}
@@ -37,6 +35,10 @@ made p h = record { base = p.0; extensions = p.1; counted = h.0; few = h.1 }
 facts_prop : (p : Base × ArrayVec AnyExt) → IsProp (facts p)
 facts_prop p = hlevel (ℕ_set, le_prop)
 
+-- values that are made of the same parts are one
+same : {A B : Type 0} {P : A → Type 0} (made : (x : A) → P x → B) → ((x : A) → IsProp (P x)) → (x y : A) (h : P x) (k : P y) → x ≡ y → made x h ≡ made y k
+same {A} {B} {P} made prop x y h k e = ap (λ (p : (x : A) × P x). made p.0 p.1) (Σ_prop_path prop {u = (x, h)} {v = (y, k)} e)
+
 one_part : (a b : Edid) → a.base ≡ b.base → a.extensions ≡ b.extensions → a ≡ b
 one_part a b e f =
     let all : (a.base, a.extensions) ≡ (b.base, b.extensions) = cc in
@@ -53,6 +55,13 @@ ext_len (Bare b) =
     omega (arith, l0, b.whole)
 ext_len (Raw r) = r.whole
 
+-- lists whose fronts are equally long, part by part
+append_same : {X : Type 0} (xs zs ys ws : List X) → length xs ≡ length zs → xs ++ ys ≡ zs ++ ws → (xs ≡ zs) × (ys ≡ ws)
+append_same xs zs ys ws l e = (
+  sym (take_at xs ys (length zs) l) ∙ ap (take (length zs)) e ∙ take-append_seam zs ws,
+  sym (drop_at xs ys (length zs) l) ∙ ap (drop (length zs)) e ∙ drop-append_seam zs ws,
+)
+
 one_list : (xs ys : List AnyExt) → length xs ≡ length ys → flat_map ext_bytes xs ≡ flat_map ext_bytes ys → xs ≡ ys
 one_list [] [] l e = refl
 one_list [] (y ∷ ys) l e = absurd (omega (arith, l))
@@ -68,29 +77,18 @@ one_edid a b e =
     let count : length a.extensions.items ≡ length b.extensions.items = sym a.counted ∙ ap (λ x. x.extensions) base ∙ b.counted in
     one_part a b base (ap (λ xs. record { items = xs }) (one_list a.extensions.items b.extensions.items count parts.1))
 
-take_front : (xs ys : List ℕ) → take (length xs) (xs ++ ys) ≡ xs
-take_front [] ys = refl
-take_front (x ∷ xs) ys = ap (λ t. x ∷ t) (take_front xs ys)
-
-drop_front : (xs ys : List ℕ) → drop (length xs) (xs ++ ys) ≡ ys
-drop_front [] ys = refl
-drop_front (x ∷ xs) ys = drop_front xs ys
-
 take_block : (xs ys : List ℕ) → length xs ≡ 128 → take 128 (xs ++ ys) ≡ xs
-take_block xs ys h = ap (λ n. take n (xs ++ ys)) (sym h) ∙ take_front xs ys
+take_block xs ys h = take_at xs ys 128 h
 
 drop_block : (xs ys : List ℕ) → length xs ≡ 128 → drop 128 (xs ++ ys) ≡ ys
-drop_block xs ys h = ap (λ n. drop n (xs ++ ys)) (sym h) ∙ drop_front xs ys
+drop_block xs ys h = drop_at xs ys 128 h
 
 take_base : (e : Edid) → take 128 (edid_bytes e) ≡ base_bytes e.base
 take_base e = take_block (base_bytes e.base) _ (base_len e.base)
 
-sum_of : (front : List ℕ) → sum (block_with_checksum front) % 256 ≡ 0
-sum_of front = let e = sum_with front (check_of front) in omega (arith, e)
-
 pub ext_sum : (x : AnyExt) → sum (ext_bytes x) % 256 ≡ 0
-ext_sum (Cta c) = sum_of (cta_front c.flags c.blocks.items c.timings.items c.tail.items)
-ext_sum (Bare b) = sum_of (bare_front b.flags b.tail)
+ext_sum (Cta c) = summed_is (cta_front c.flags c.blocks.items c.timings.items c.tail.items)
+ext_sum (Bare b) = summed_is (bare_front b.flags b.tail)
 ext_sum (Raw r) = r.checked
 
 pub exts_len : (xs : List AnyExt) → length (flat_map ext_bytes xs) ≡ 128 * length xs

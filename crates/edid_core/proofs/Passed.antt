@@ -9,7 +9,7 @@ use Rattle.edid_cta.specs.Ext.{ext_bytes}
 use Rattle.edid_cta.specs.Hdmi.{address_of}
 use Rattle.edid_cta.specs.declared.raw.Ext.{Ext}
 use Rattle.text_core.specs.declared.phys.Phys.{Phys}
-use Rattle.edid_core.specs.Address.{has_address, first_address}
+use Rattle.edid_core.specs.Address.{has_address, first_address, IsFirst}
 use Rattle.edid_core.specs.Passing.{passed_bytes, passed_extensions}
 use Rattle.edid_core.specs.declared.passing.AudioFrom.{AudioFrom}
 
@@ -32,11 +32,6 @@ passed_first audio address x xs f = rw f refl
 passed_later : (audio : AudioFrom) (address : Phys) (x : Ext) (xs : List Ext) → has_address x ≡ false
     → ext_bytes x ++ passed_extensions audio address xs ≡ passed_extensions audio address (x ∷ xs)
 passed_later audio address x xs f = rw f refl
-
--- where the first stands
-pub record IsFirst (xs : List Ext) (i : ℕ) : Type 0 where
-  pub place : i ≡ position_or_len has_address xs
-  pub known : i < length xs
 
 pub first_at : (xs : List Ext) (i : ℕ) → position has_address xs ≡ Some i → IsFirst xs i
 first_at xs i h =

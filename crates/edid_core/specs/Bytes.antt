@@ -1,5 +1,5 @@
 -- The bytes of a whole EDID (E-EDID Release A, section 2.2.1): the base block, and each extension after it.
-use Rattle.std.specs.Prelude.{◌≡◌, ◌≢◌, ℕ, ◌+◌, ◌*◌, ◌%◌, ◌<◌, ◌==◌, Bool, ◌||◌, IsTrue, List, ◌++◌, length, take, drop, slice_index, sum, flat_map, Some, None, codes}
+use Rattle.std.specs.Prelude.{◌≡◌, ◌≢◌, ℕ, ◌+◌, ◌*◌, ◌%◌, ◌<◌, ◌≤◌, ◌==◌, Bool, ◌||◌, IsTrue, List, ◌++◌, length, take, drop, slice_index, sum, flat_map, Some, None, codes}
 use Rattle.std.specs.Fmt.{decimal}
 use Rattle.edid_base.specs.declared.base.BaseError.{BaseError}
 use Rattle.edid_base.specs.declared.base.BaseError.TheVariants as bases
@@ -21,6 +21,13 @@ has_length bytes = (length bytes == 128) || (length bytes == 256) || (length byt
 
 abbrev pub HasLength : List ℕ → Type 0
 HasLength bytes = IsTrue (has_length bytes)
+
+-- bytes are whole blocks: one at least, and four at most
+pub record IsCounted (bytes : List ℕ) : Type 0 where
+  pub blocks : ℕ
+  pub least : 1 ≤ blocks
+  pub most : blocks ≤ 4
+  pub len : length bytes ≡ 128 * blocks
 
 -- byte 126 says how many blocks follow the first
 abbrev pub HasCount : List ℕ → Type 0

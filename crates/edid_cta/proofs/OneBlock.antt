@@ -1,10 +1,10 @@
 -- Bytes spell one list of data blocks at most, and a list begins as its bytes do.
 use Rattle.std.proofs.Common.{◌≡◌, ℕ, ◌+◌, ◌*◌, ◌<◌, ◌==◌, cond, IsTrue, List, [], ◌∷◌, ◌++◌, length, drop, get_or, flat_map, ap, arith, refl, sym, ◌∙◌, append_assoc}
+use mathlib.Core.HLevel.{Σ_prop_path}
 use Rattle.std.proofs.Math.Bool.{Bool-set}
 use Rattle.std.specs.Coded.{le_prop}
 use Rattle.arrayvec.specs.ArrayVec.{ArrayVec}
 use Rattle.edid_base.specs.Bytes.{are_bytes}
-use Rattle.edid_base.proofs.Same.{same}
 use Rattle.edid_cta.specs.Block.{kind_number, block_bytes}
 use Rattle.edid_cta.specs.declared.block.DataBlock.{DataBlock}
 use Rattle.edid_cta.specs.declared.block.BlockKind.{BlockKind}
@@ -18,6 +18,10 @@ append_same (x ∷ xs) (z ∷ zs) ys ws l e =
     let rest = append_same xs zs ys ws (omega arith) (ap (λ t. drop 1 t) e) in
     let first = ap (λ t. get_or t 0 x) e in
     let others = rest.0 in (cc, rest.1)
+
+-- values that are made of the same parts are one
+pub same : {A B : Type 0} {P : A → Type 0} (made : (x : A) → P x → B) → ((x : A) → IsProp (P x)) → (x y : A) (h : P x) (k : P y) → x ≡ y → made x h ≡ made y k
+same {A} {B} {P} made prop x y h k e = ap (λ (p : (x : A) × P x). made p.0 p.1) (Σ_prop_path prop {u = (x, h)} {v = (y, k)} e)
 
 abbrev kind_at : ℕ → BlockKind
 kind_at n =

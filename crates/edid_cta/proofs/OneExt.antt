@@ -4,7 +4,6 @@ use Rattle.std.proofs.Math.Bool.{Bool-set}
 use Rattle.std.proofs.Math.Nat.{ℕ_set}
 use Rattle.arrayvec.specs.ArrayVec.{ArrayVec}
 use Rattle.edid_base.specs.Bytes.{are_bytes}
-use Rattle.edid_base.proofs.Same.{same}
 use Rattle.edid_base.specs.Timing.{timing_bytes}
 use Rattle.edid_base.specs.declared.timing.Timing.{Timing}
 use Rattle.edid_cta.specs.Block.{block_bytes}
@@ -17,7 +16,7 @@ use Rattle.edid_cta.specs.declared.cta.Bare.{Bare}
 use Rattle.edid_cta.specs.declared.raw.RawExt.{RawExt}
 use Rattle.edid_cta.specs.declared.raw.Ext.{Ext}
 use Rattle.edid_cta.specs.declared.raw.Ext.TheVariants.{Cta as OfCta, Bare as OfBare, Raw}
-use Rattle.edid_cta.proofs.OneBlock.{append_same, one_blocks}
+use Rattle.edid_cta.proofs.OneBlock.{append_same, one_blocks, same}
 use Rattle.edid_cta.proofs.OneTimings.{one_timings}
 
 record Plain : Type 0 where

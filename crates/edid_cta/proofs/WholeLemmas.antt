@@ -1,8 +1,8 @@
 -- The parts of a block, one after another.
-use Rattle.std.proofs.Common.{◌≡◌, ℕ, ◌<◌, ◌≤◌, ◌+◌, ◌-◌, ◌%◌, List, [], ◌∷◌, ◌++◌, length, get_or, drop, take, sum, arith, sym, ◌∙◌, ap, drop-cons, drop-drop, length-drop}
+use Rattle.std.proofs.Common.{◌≡◌, ℕ, ◌<◌, ◌≤◌, ◌+◌, ◌-◌, ◌%◌, List, [], ◌∷◌, ◌++◌, length, get_or, drop, take, sum, arith, sym, ◌∙◌, ap, drop-cons, drop-drop, take-append-drop, length-drop}
 use Rattle.std.proofs.Math.Seq.{take-add}
 use Rattle.std.proofs.lemmas.List.{take_all, length-take-le}
-use Rattle.edid_base.proofs.PartLemmas.{piece, checked}
+use Rattle.edid_base.proofs.PartLemmas.{checked}
 use Rattle.edid_base.specs.Check.{block_with_checksum}
 
 pub whole_is : (xs : List ℕ) (a b c d : ℕ) (body : List ℕ) → length xs ≡ 128 → a ≡ get_or xs 0 0 → b ≡ get_or xs 1 0 → c ≡ get_or xs 2 0 → d ≡ get_or xs 3 0
@@ -11,7 +11,7 @@ whole_is xs a b c d body len ha hb hc hd hbody fits total =
     let none : length (drop 128 xs) ≤ 0 = simp length-drop (omega arith) in
     let end : drop 128 xs ≡ [] = sym (take_all 0 (drop 128 xs) none) in
     let d127 = drop-cons xs 127 0 (omega arith) in
-    let d4 = piece xs 4 123 in
+    let d4 = sym (take-append-drop 123 (drop 4 xs)) ∙ ap (λ t. take 123 (drop 4 xs) ++ t) (drop-drop 123 4 xs) in
     let d3 = drop-cons xs 3 0 (omega arith) in
     let d2 = drop-cons xs 2 0 (omega arith) in
     let d1 = drop-cons xs 1 0 (omega arith) in

@@ -2,11 +2,10 @@
 use Rattle.std.proofs.Common.{◌≡◌, ℕ, ◌-◌, ◌<◌, ◌≤◌, ◌==◌, true, List, [], ◌∷◌, ◌++◌, length, take, drop, flat_map, Option, Some, None, ap, subst, arith, refl, sym, ◌∙◌, length-append, codes}
 use Rattle.std.specs.Fmt.{decimal}
 use Rattle.std.specs.List.{position_or_len}
-use Rattle.std.proofs.lemmas.Bool.{ltb-true}
+use Rattle.std.proofs.lemmas.Bool.{and_parts, ltb-true}
 use Rattle.std.proofs.lemmas.List.{take_rest}
 use Rattle.std.proofs.Common.{nat_lt, ◌^◌}
 use Rattle.hex.specs.Hex.{encode_lower}
-use Rattle.edid_base.proofs.PartLemmas.{both}
 use Rattle.text_core.specs.Piece.{phys_text}
 use Rattle.text_core.specs.declared.phys.Phys.{Phys}
 use Rattle.edid_text_lines.specs.Text.{number_text, hex_word, fields_text}
@@ -38,7 +37,7 @@ no_numbers [] l f e = omega arith
 no_numbers (a ∷ ns) l f e = go ns (omega (arith, l))
   where
     small : a < 2 ^ 32
-    small = ltb-true _ _ (both (nat_lt a (2 ^ 32)) (are_numbers ns) f).0
+    small = ltb-true _ _ (and_parts (nat_lt a (2 ^ 32)) (are_numbers ns) f).0
 
     begins : (ns : List ℕ) → BeginsSpaced (flat_map number_text ns)
     begins [] = tt

@@ -1,18 +1,17 @@
 -- Bytes in hex.
 use Rattle.std.proofs.Common.{◌≡◌, ℕ, zero, suc, ◌/◌, ◌<◌, ◌≤◌, true, nat_lt, List, [], ◌∷◌, length, Result, Ok, Err, MatchResult, ap, subst, arith, refl, sym, ◌∙◌}
 use Rattle.std.proofs.lemmas.Grind.{common_steps}
-use Rattle.std.proofs.lemmas.Bool.{ltb-true}
+use Rattle.std.proofs.lemmas.Bool.{and_parts, ltb-true}
 use Rattle.hex.specs.Hex.{IsBytes, encode_lower, lower_digits, decode_sized}
 use Rattle.hex.specs.declared.error.FromHexError.{FromHexError}
 use Rattle.hex.proofs.HexLemmas.{length-encode_with, decode_sized-encode_lower}
-use Rattle.edid_base.proofs.PartLemmas.{both}
 use Rattle.edid_base.specs.Bytes.{are_bytes}
 use Rattle.edid_text_lines.specs.Text.{hex_word}
 
 pub are_bytes-is : (xs : List ℕ) → are_bytes xs ≡ true → IsBytes xs
 are_bytes-is [] h i = omega arith
-are_bytes-is (x ∷ xs) h zero = ltb-true _ _ (both (nat_lt x 256) (are_bytes xs) h).0
-are_bytes-is (x ∷ xs) h (suc i) = are_bytes-is xs (both (nat_lt x 256) (are_bytes xs) h).1 i
+are_bytes-is (x ∷ xs) h zero = ltb-true _ _ (and_parts (nat_lt x 256) (are_bytes xs) h).0
+are_bytes-is (x ∷ xs) h (suc i) = are_bytes-is xs (and_parts (nat_lt x 256) (are_bytes xs) h).1 i
 
 pub hex_short : (bs digits : List ℕ) → hex_word bs ≡ digits → length digits < 2 → bs ≡ []
 hex_short [] digits e h = refl

@@ -4,10 +4,9 @@ use Rattle.std.specs.Fmt.{decimal}
 use Rattle.std.specs.List.{position_or_len, list_all}
 use Rattle.std.specs.Str.{bytes_eq}
 use Rattle.std.proofs.lemmas.Grind.{common_steps}
-use Rattle.std.proofs.lemmas.Bool.{eqb-true, ltb-true}
+use Rattle.std.proofs.lemmas.Bool.{and_parts, eqb-true, ltb-true}
 use Rattle.std.proofs.lemmas.Fmt.{decimal_by_steps}
 use borrow.Author.Tests.{tests}
-use Rattle.edid_base.proofs.PartLemmas.{both}
 use Rattle.edid_text_lines.specs.Text.{number_text}
 use Rattle.edid_text_lines.specs.Formed.{is_spaceless, BeginsSpaced, are_numbers}
 
@@ -17,7 +16,7 @@ without k xs = list_all (λ c. not (c == k)) xs
 
 pub without-append : (k : ℕ) (xs ys : List ℕ) → without k xs ≡ true → without k ys ≡ true → without k (xs ++ ys) ≡ true
 without-append k [] ys h g = g
-without-append k (x ∷ xs) ys h g = let p = both (not (x == k)) (without k xs) h in rw p.0 (without-append k xs ys p.1 g)
+without-append k (x ∷ xs) ys h g = let p = and_parts (not (x == k)) (without k xs) h in rw p.0 (without-append k xs ys p.1 g)
 
 other : (k c : ℕ) → k < 48 → 48 ≤ c → not (c == k) ≡ true
 other k c h g = let e : (c == k) ≡ false = grind (arith, tests) in ap not e
@@ -35,7 +34,7 @@ pub cut_at : (w t : List ℕ) → is_spaceless w ≡ true → BeginsSpaced t →
 cut_at [] [] h b = refl
 cut_at [] (c ∷ cs) h b = let e : (c == 32) ≡ true = ap (λ n. n == 32) b in rw e refl
 cut_at (x ∷ w) t h b =
-    let p = both (not (x == 32)) (is_spaceless w) h in
+    let p = and_parts (not (x == 32)) (is_spaceless w) h in
     let e = is_false (x == 32) p.0 in
     let rest = cut_at w t p.1 b in
     rw (e, rest) (omega arith)
@@ -103,7 +102,7 @@ begins_so (m ∷ ms) t h = refl
 
 numbers_after : (xs ys : List ℕ) → are_numbers (xs ++ ys) ≡ true → are_numbers ys ≡ true
 numbers_after [] ys h = h
-numbers_after (x ∷ xs) ys h = numbers_after xs ys (both (nat_lt x (2 ^ 32)) (are_numbers (xs ++ ys)) h).1
+numbers_after (x ∷ xs) ys h = numbers_after xs ys (and_parts (nat_lt x (2 ^ 32)) (are_numbers (xs ++ ys)) h).1
 
 pub left_first : (done ns t text : List ℕ) → done ≡ [] → flat_map number_text ns ++ t ≡ text → Left done ns t text
 left_first done ns t text e h = record { ms = ns; split = ap (λ x. x ++ ns) (sym e); spelled = h }
@@ -114,7 +113,7 @@ next_of done ns t rest i count l len less all fit b = go l.ms l.split l.spelled
     go : (ms : List ℕ) → ns ≡ done ++ ms → flat_map number_text ms ++ t ≡ rest → Next done ns t rest
     go [] e f = let n = ap length e in absurd (omega (arith, n, length-append done [], len, less, all))
     go (m ∷ ms) e f =
-        let small = ltb-true _ _ (both (nat_lt m (2 ^ 32)) (are_numbers ms) (numbers_after done (m ∷ ms) (ap are_numbers (sym e) ∙ fit))).0 in
+        let small = ltb-true _ _ (and_parts (nat_lt m (2 ^ 32)) (are_numbers ms) (numbers_after done (m ∷ ms) (ap are_numbers (sym e) ∙ fit))).0 in
         record {
           m = m;
           ms = ms;
@@ -151,5 +150,5 @@ same_bytes [] [] h = refl
 same_bytes [] (y ∷ ys) h = cc
 same_bytes (x ∷ xs) [] h = cc
 same_bytes (x ∷ xs) (y ∷ ys) h =
-    let p = both (x == y) (bytes_eq xs ys) h in
+    let p = and_parts (x == y) (bytes_eq xs ys) h in
     let first = eqb-true x y p.0 in let others = same_bytes xs ys p.1 in cc

@@ -1,5 +1,5 @@
-use Rattle.std.proofs.Common.{drop, ap, ◌∙◌, refl, sym}
-use Rattle.edid_base.proofs.Bytes.{are_bytes-cells, are_bytes-cell, are_bytes-drop, are_bytes-take}
+use Rattle.std.proofs.Common.{get_or, drop, ap, ◌∙◌, refl, sym}
+use Rattle.edid_base.proofs.Bytes.{are_bytes-cells, are_bytes-cons, are_bytes-drop, are_bytes-take}
 use Rattle.edid_base.specs.Bytes.{are_bytes}
 use Rattle.edid_cta.proofs.WholeLemmas.{whole_is}
 use Rattle.edid_cta.proofs.ext.read_bare.Goals as goal
@@ -13,4 +13,4 @@ pub invariant_of-result-clause-bytes_fit : goal.invariant_of-result-clause-bytes
 invariant_of-result-clause-bytes_fit c =
     let bytes = c.args.bytes.now in
     let tail = ap are_bytes c.part.ensures ∙ are_bytes-take 123 (drop 4 bytes) (are_bytes-drop 4 bytes (are_bytes-cells bytes c.fits-bytes)) in
-    are_bytes-cell bytes c.part.result 3 c.fits-bytes tail
+    are_bytes-cons (get_or bytes 3 0) c.part.result (c.fits-bytes 3) tail

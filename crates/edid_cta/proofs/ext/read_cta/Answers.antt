@@ -1,6 +1,6 @@
 use Rattle.std.proofs.Common.{◌-◌, ◌++◌, get_or, drop, refl, sym, ap, ◌∙◌, flat_map}
 use Rattle.edid_base.specs.Timing.{timing_bytes}
-use Rattle.edid_base.proofs.Bytes.{are_bytes-cells, are_bytes-cell, are_bytes-drop, are_bytes-take, are_bytes-after}
+use Rattle.edid_base.proofs.Bytes.{are_bytes-cells, are_bytes-cons, are_bytes-drop, are_bytes-take, are_bytes-after}
 use Rattle.edid_base.specs.Bytes.{are_bytes}
 use Rattle.edid_cta.proofs.WholeLemmas.{whole_is, body_is, length_between}
 use Rattle.edid_cta.proofs.ext.read_cta.Goals as goal
@@ -27,4 +27,4 @@ returns-clause-bytes_fit c =
     let whole = are_bytes-take (127 - end) (drop end bytes) (are_bytes-drop end bytes (are_bytes-cells bytes c.fits-bytes)) in
     let after = are_bytes-after timings rest (ap are_bytes c.read_timings-timings.ensures.found ∙ whole) in
     let tail = c.append.ensures.items ∙ ap (λ xs. xs ++ rest) c.new-tail.ensures in
-    are_bytes-cell bytes c.append.new.block.items 3 c.fits-bytes (ap are_bytes tail ∙ after)
+    are_bytes-cons (get_or bytes 3 0) c.append.new.block.items (c.fits-bytes 3) (ap are_bytes tail ∙ after)
