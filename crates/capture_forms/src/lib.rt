@@ -8,7 +8,7 @@ mod format;
 mod reading;
 mod writing;
 
-pub use capture_core::{CaptureError, CaptureFault, Cause};
+pub use capture_core::{CaptureError, Cause};
 pub use form::CaptureForm;
 pub use format::Format;
 pub use reading::read_capture;

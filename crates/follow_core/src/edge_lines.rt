@@ -3,10 +3,10 @@ ghost use Rattle.std.specs.Prelude.{◌≡◌, ◌+◌, ◌≤◌, IfErr, IfOk, 
 ghost use Rattle.line_wave.specs.Bounds.{latest_instant};
 ghost use Rattle.capture_monitor.specs.EdgeFile.{edge_line_of, is_in_turn, turns, word_out_of_turn, word_past};
 
-use capture_core::{CaptureFault, Cause};
+use capture_core::Cause;
 use capture_monitor::{EdgeLine, edge_line_in};
 use line_wave::Edge;
-use text_core::is_skipped;
+use text_core::{At, at_word, is_skipped};
 
 /// A reader of the lines of an edge file.
 #[derive(Clone, Copy, Debug)]
@@ -17,12 +17,6 @@ pub struct EdgeReader {
     from: u64,
     /// The end, once it was read.
     end: Option<u64>,
-}
-
-fn fault_at(line: u64, cause: Cause, word: usize) -> CaptureFault
-    ensures { result ≡ record { line = line; cause = cause; word = word } }
-{
-    CaptureFault { line, cause, word }
 }
 
 // The word at fault of a line that stands after the end.
@@ -84,7 +78,7 @@ impl EdgeReader {
     }
 
     // A line that is not skipped, before the end.
-    fn take_said(&mut self, number: u64, line: &[u8]) -> Result<Option<Edge>, CaptureFault>
+    fn take_said(&mut self, number: u64, line: &[u8]) -> Result<Option<Edge>, At<Cause>>
         requires open { self.old.end ≡ None }
         requires early { IsEarlyFile self.old }
         ensures takes { Takes (after_said number (edge_line_of line.now) self.old) result self.new }
@@ -93,11 +87,11 @@ impl EdgeReader {
         ensures edge { IfOk result (λ edge. IfSome edge (λ e. e.at ≤ latest_instant)) }
     {
         match edge_line_in(line) {
-            Err(word) => Err(fault_at(number, Cause::Line, word)),
+            Err(word) => Err(at_word(word, Cause::Line).on_line(number)),
             Ok(said) => match said {
                 EdgeLine::Edge(edge) => {
                     if !self.is_in_turn(edge) {
-                        return Err(fault_at(number, Cause::Order, self.word_out_of_turn(edge)));
+                        return Err(at_word(self.word_out_of_turn(edge), Cause::Order).on_line(number));
                     }
                     self.is_low = edge.low;
                     self.from = edge.at + 1;
@@ -105,7 +99,7 @@ impl EdgeReader {
                 }
                 EdgeLine::End(end) => {
                     if self.from > end + 1 {
-                        return Err(fault_at(number, Cause::Order, 0));
+                        return Err(at_word(0, Cause::Order).on_line(number));
                     }
                     self.end = Some(end);
                     Ok(None)
@@ -119,7 +113,7 @@ impl EdgeReader {
     /// # Errors
     ///
     /// The line is at fault.
-    pub fn take(&mut self, number: u64, line: &[u8]) -> Result<Option<Edge>, CaptureFault>
+    pub fn take(&mut self, number: u64, line: &[u8]) -> Result<Option<Edge>, At<Cause>>
         requires early { IsEarlyFile self.old }
         ensures takes { Takes (took_line number line.now self.old) result self.new }
         ensures place { IfErr result (λ fault. fault.line ≡ number) }
@@ -131,7 +125,7 @@ impl EdgeReader {
         }
         match self.end {
             None => self.take_said(number, line),
-            Some(_) => Err(fault_at(number, Cause::Line, word_past(edge_line_in(line)))),
+            Some(_) => Err(at_word(word_past(edge_line_in(line)), Cause::Line).on_line(number)),
         }
     }
 
@@ -140,14 +134,14 @@ impl EdgeReader {
     /// # Errors
     ///
     /// The end is missing.
-    pub fn end(&self, number: u64) -> Result<u64, CaptureFault>
+    pub fn end(&self, number: u64) -> Result<u64, At<Cause>>
         requires early { IsEarlyFile self.now }
         ensures end { result ≡ end_of self.now.end number }
         ensures place { IfErr result (λ fault. fault.line ≡ number) }
         ensures early { IfOk result (λ end. end ≤ latest_instant) }
     {
         match self.end {
-            None => Err(fault_at(number, Cause::Line, 0)),
+            None => Err(at_word(0, Cause::Line).on_line(number)),
             Some(end) => Ok(end),
         }
     }
