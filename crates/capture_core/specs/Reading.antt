@@ -1,14 +1,15 @@
 -- How a capture of any form is read: word by word and line by line, up to the first fault (own). A form says how its lines are
 -- parted into words, what a word leads to, and how its texts end.
-use Rattle.std.specs.Prelude.{◌≡◌, ℕ, suc, ◌+◌, Bool, List, [], ◌∷◌, ◌++◌, length, Option, Some, None, Result, Ok, Err}
+use Rattle.std.specs.Prelude.{◌≡◌, ℕ, suc, ◌+◌, ◌≤◌, Bool, List, [], ◌∷◌, ◌++◌, length, Option, Some, None, Result, Ok, Err}
 use Rattle.std.specs.Option.{option_to_list}
 use Rattle.std.specs.List.{slice_split}
 use Rattle.std.specs.Global.{Vec}
 use Rattle.line_wave.specs.declared.Edge.{Edge}
+use Rattle.line_wave.specs.Bounds.{latest_instant}
 use Rattle.text_core.specs.At.{at_line}
 use Rattle.text_core.specs.declared.at.At.{At}
 use Rattle.text_core.specs.declared.at.AtWord.{AtWord}
-use Rattle.capture_core.specs.Edges.{Captured}
+use Rattle.capture_core.specs.Edges.{AreInTurn, Captured, EndBy}
 use Rattle.capture_core.specs.Track.{last_edge}
 use Rattle.capture_core.specs.declared.track.Track.{Track}
 use Rattle.capture_core.specs.declared.fault.Cause.{Cause}
@@ -92,6 +93,12 @@ end_read line track (Err cause) = Err (at_line line (record { cause = cause; wor
 abbrev pub lines_read : {S : Type 0} → Form S → ℕ → List (List ℕ) → S → Result Captured (At Cause)
 lines_read form number [] s = end_read number (form.track s) (form.ended s)
 lines_read form number (line ∷ lines) s = read_on (line_read form number line s) (lines_read form (number + 1) lines)
+
+-- What is left of a text that is read goes on from where the reader stands: edges in turn, and an end that is not before them,
+-- within the limit.
+abbrev pub LinesGoOn : {S : Type 0} → Form S → Type 0
+LinesGoOn {S} form = (number : ℕ) (lines : List (List ℕ)) (s : S) (e : Captured) → (form.track s).at ≤ latest_instant → lines_read form number lines s ≡ Ok e
+    → AreInTurn (form.track s).was_low (form.track s).at e.edges × EndBy e.end e.edges × ((form.track s).at ≤ e.end) × (e.end ≤ latest_instant)
 
 -- ---- what is returned
 

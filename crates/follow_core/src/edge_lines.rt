@@ -1,10 +1,10 @@
 //! A reader of the lines of an edge file, as they come.
 ghost use Rattle.std.specs.Prelude.{◌≡◌, ◌+◌, ◌≤◌, IfErr, IfOk, IfSome, OnOk};
 ghost use Rattle.line_wave.specs.Bounds.{latest_instant};
-ghost use Rattle.capture_monitor.specs.EdgeFile.{edge_line_of, is_in_turn, turns, word_out_of_turn, word_past};
+ghost use Rattle.capture_monitor.specs.EdgeFile.{edge_line_of};
 
 use capture_core::Cause;
-use capture_monitor::{EdgeLine, edge_line_in};
+use capture_monitor::{EdgeLine, edge_line_in, is_in_turn, word_out_of_turn, word_past};
 use line_wave::Edge;
 use text_core::{At, at_word, is_skipped};
 
@@ -17,16 +17,6 @@ pub struct EdgeReader {
     from: u64,
     /// The end, once it was read.
     end: Option<u64>,
-}
-
-// The word at fault of a line that stands after the end.
-fn word_past(line: Result<EdgeLine, usize>) -> usize
-    ensures { result ≡ word_past line }
-{
-    match line {
-        Err(word) => word,
-        Ok(_) => 0,
-    }
 }
 
 impl EdgeReader {
@@ -56,27 +46,6 @@ impl EdgeReader {
         }
     }
 
-    // Whether the edge turns the line.
-    fn turns(&self, edge: Edge) -> bool
-        ensures { result ≡ turns self.now.is_low edge }
-    {
-        edge.low != self.is_low
-    }
-
-    // Whether an edge turns the line, and comes late enough.
-    fn is_in_turn(&self, edge: Edge) -> bool
-        ensures { result ≡ is_in_turn self.now.is_low self.now.from edge }
-    {
-        self.turns(edge) && self.from <= edge.at
-    }
-
-    // The word at fault of an edge that is not in turn.
-    fn word_out_of_turn(&self, edge: Edge) -> usize
-        ensures { result ≡ word_out_of_turn self.now.is_low edge }
-    {
-        if self.turns(edge) { 0 } else { 1 }
-    }
-
     // A line that is not skipped, before the end.
     fn take_said(&mut self, number: u64, line: &[u8]) -> Result<Option<Edge>, At<Cause>>
         requires open { self.old.end ≡ None }
@@ -90,8 +59,9 @@ impl EdgeReader {
             Err(word) => Err(at_word(word, Cause::Line).on_line(number)),
             Ok(said) => match said {
                 EdgeLine::Edge(edge) => {
-                    if !self.is_in_turn(edge) {
-                        return Err(at_word(self.word_out_of_turn(edge), Cause::Order).on_line(number));
+                    if !is_in_turn(self.is_low, self.from, edge) {
+                        let word = word_out_of_turn(self.is_low, edge);
+                        return Err(at_word(word, Cause::Order).on_line(number));
                     }
                     self.is_low = edge.low;
                     self.from = edge.at + 1;
@@ -125,7 +95,7 @@ impl EdgeReader {
         }
         match self.end {
             None => self.take_said(number, line),
-            Some(_) => Err(at_word(word_past(edge_line_in(line)), Cause::Line).on_line(number)),
+            Some(_) => Err(at_word(word_past(line), Cause::Line).on_line(number)),
         }
     }
 
