@@ -4,28 +4,29 @@ use Rattle.std.specs.Option.{option_to_list}
 use Rattle.std.specs.List.{position_or_len, slice_split}
 use Rattle.std.proofs.lemmas.Bool.Decides.{nat_tests}
 use Rattle.line_wave.specs.declared.Edge.{Edge}
+use Rattle.text_core.specs.At.{at_line}
 use Rattle.text_core.specs.Lines.{lines_of}
+use Rattle.text_core.specs.declared.at.At.{At}
+use Rattle.text_core.specs.declared.at.AtWord.{AtWord}
 use Rattle.text_core.proofs.LineLemmas.{split_none}
 use Rattle.capture_core.specs.Edges.{Captured}
 use Rattle.capture_core.specs.Track.{last_edge}
-use Rattle.capture_core.specs.Reading.{Form, Passed, Step, at_word, end_read, fault_at, line_read, lines_read, onto, read_on, with_edges, word_read, words_read}
+use Rattle.capture_core.specs.Reading.{Form, Passed, Step, at_word, end_read, line_read, lines_read, onto, read_on, with_edges, word_read, words_read}
 use Rattle.capture_core.specs.declared.fault.Cause.{Cause}
-use Rattle.capture_core.specs.declared.fault.CaptureFault.{CaptureFault}
-use Rattle.capture_core.specs.declared.fault.Slip.{Slip}
 
-onto_more : {S : Type 0} (a b : List Edge) (r : Result (Passed S) CaptureFault) → onto a (onto b r) ≡ onto (a ++ b) r
+onto_more : {S : Type 0} (a b : List Edge) (r : Result (Passed S) (At Cause)) → onto a (onto b r) ≡ onto (a ++ b) r
 onto_more a b (Ok p) = ap (λ es. Ok (record { edges = es; state = p.state })) (sym (append_assoc a b p.edges))
 onto_more a b (Err f) = refl
 
-both : (a b : List Edge) (r : Result Captured CaptureFault) → with_edges a (with_edges b r) ≡ with_edges (a ++ b) r
+both : (a b : List Edge) (r : Result Captured (At Cause)) → with_edges a (with_edges b r) ≡ with_edges (a ++ b) r
 both a b (Ok e) = ap (λ es. Ok (record { edges = es; end = e.end })) (sym (append_assoc a b e.edges))
 both a b (Err f) = refl
 
-pub onto_none : {S : Type 0} (r : Result (Passed S) CaptureFault) → r ≡ onto [] r
+pub onto_none : {S : Type 0} (r : Result (Passed S) (At Cause)) → r ≡ onto [] r
 onto_none (Ok p) = refl
 onto_none (Err f) = refl
 
-pub with_none : (r : Result Captured CaptureFault) → r ≡ with_edges [] r
+pub with_none : (r : Result Captured (At Cause)) → r ≡ with_edges [] r
 with_none (Ok e) = refl
 with_none (Err f) = refl
 
@@ -37,7 +38,7 @@ pub word_taken : {S : Type 0} (form : Form S) (line number : ℕ) (word : List �
 word_taken form line number word words s step h = ap (λ stepped. word_read line stepped (words_read form line (number + 1) words)) h
 
 -- one more word, after those before it
-pub word_more : {S : Type 0} (form : Form S) (line number : ℕ) (word : List ℕ) (parts rest : List (List ℕ)) (s : S) (step : Step S) (so_far : List Edge) (all : Result (Passed S) CaptureFault)
+pub word_more : {S : Type 0} (form : Form S) (line number : ℕ) (word : List ℕ) (parts rest : List (List ℕ)) (s : S) (step : Step S) (so_far : List Edge) (all : Result (Passed S) (At Cause))
     → all ≡ onto so_far (words_read form line number parts s) → parts ≡ word ∷ rest → form.took number word s ≡ Ok step
     → all ≡ onto (so_far ++ option_to_list step.edge) (words_read form line (number + 1) rest step.state)
 word_more form line number word parts rest s step so_far all is cut h =
@@ -47,7 +48,7 @@ word_more form line number word parts rest s step so_far all is cut h =
 -- ---- lines
 
 -- no word is left
-pub words_over : {S : Type 0} (form : Form S) (line number : ℕ) (s : S) (so_far : List Edge) (all : Result (Passed S) CaptureFault) → all ≡ onto so_far (words_read form line number [] s)
+pub words_over : {S : Type 0} (form : Form S) (line number : ℕ) (s : S) (so_far : List Edge) (all : Result (Passed S) (At Cause)) → all ≡ onto so_far (words_read form line number [] s)
     → all ≡ Ok (record { edges = so_far; state = s })
 words_over form line number s so_far all is = is ∙ ap (λ es. Ok (record { edges = es; state = s })) (append-nil so_far)
 
@@ -57,7 +58,7 @@ pub line_passed : {S : Type 0} (form : Form S) (number : ℕ) (line : List ℕ) 
 line_passed form number line lines s t edges h = ap (λ p. read_on p (lines_read form (number + 1) lines)) h
 
 -- one more line, after those before it
-pub line_more : {S : Type 0} (form : Form S) (number : ℕ) (line text after : List ℕ) (s t : S) (old more new : List Edge) (all : Result Captured CaptureFault)
+pub line_more : {S : Type 0} (form : Form S) (number : ℕ) (line text after : List ℕ) (s t : S) (old more new : List Edge) (all : Result Captured (At Cause))
     → all ≡ with_edges old (lines_read form number (lines_of text) s) → lines_of text ≡ line ∷ lines_of after → new ≡ old ++ more → line_read form number line s ≡ Ok (record { edges = more; state = t })
     → all ≡ with_edges new (lines_read form (number + 1) (lines_of after) t)
 line_more form number line text after s t old more new all so_far cut grown passed =
@@ -65,7 +66,7 @@ line_more form number line text after s t old more new all so_far cut grown pass
     ∙ both old more (lines_read form (number + 1) (lines_of after) t) ∙ ap (λ es. with_edges es (lines_read form (number + 1) (lines_of after) t)) (sym grown)
 
 -- no line is left
-pub text_over : {S : Type 0} (form : Form S) (number : ℕ) (text : List ℕ) (s : S) (old new : List Edge) (end : ℕ) (all : Result Captured CaptureFault)
+pub text_over : {S : Type 0} (form : Form S) (number : ℕ) (text : List ℕ) (s : S) (old new : List Edge) (end : ℕ) (all : Result Captured (At Cause))
     → all ≡ with_edges old (lines_read form number (lines_of text) s) → lines_of text ≡ [] → new ≡ old ++ option_to_list (last_edge (form.track s)) → form.ended s ≡ Ok end
     → all ≡ Ok (record { edges = new; end = end })
 text_over form number text s old new end all is none grown over =
@@ -73,8 +74,8 @@ text_over form number text s old new end all is none grown over =
     ∙ ap (λ es. Ok (record { edges = es; end = end })) (sym grown)
 
 -- it may not end here
-pub text_open : {S : Type 0} (form : Form S) (number : ℕ) (text : List ℕ) (s : S) (old : List Edge) (cause : Cause) (all : Result Captured CaptureFault)
-    → all ≡ with_edges old (lines_read form number (lines_of text) s) → lines_of text ≡ [] → form.ended s ≡ Err cause → all ≡ Err (fault_at number (record { cause = cause; word = 0 }))
+pub text_open : {S : Type 0} (form : Form S) (number : ℕ) (text : List ℕ) (s : S) (old : List Edge) (cause : Cause) (all : Result Captured (At Cause))
+    → all ≡ with_edges old (lines_read form number (lines_of text) s) → lines_of text ≡ [] → form.ended s ≡ Err cause → all ≡ Err (at_line number (record { cause = cause; word = 0 }))
 text_open form number text s old cause all is none over =
     is ∙ ap (λ lines. with_edges old (lines_read form number lines s)) none ∙ ap (λ o. with_edges old (end_read number (form.track s) o)) over
 
@@ -89,14 +90,14 @@ pub record LineOnward (S : Type 0) (form : Form S) (number : ℕ) (line : List �
 pub line_onward : {S : Type 0} (form : Form S) (number : ℕ) (line : List ℕ) (lines : List (List ℕ)) (s : S) (e : Captured) → lines_read form number (line ∷ lines) s ≡ Ok e → LineOnward S form number line lines s e
 line_onward {S} form number line lines s e h = by (line_read form number line s) refl h
   where
-    more : (p : Passed S) (o : Result Captured CaptureFault) → line_read form number line s ≡ Ok p → lines_read form (number + 1) lines p.state ≡ o → with_edges p.edges o ≡ Ok e
+    more : (p : Passed S) (o : Result Captured (At Cause)) → line_read form number line s ≡ Ok p → lines_read form (number + 1) lines p.state ≡ o → with_edges p.edges o ≡ Ok e
         → LineOnward S form number line lines s e
     more p (Err f) t r k = cc
     more p (Ok rest) t r k =
         let is : record { edges = p.edges ++ rest.edges; end = rest.end } ≡ e = cc in
         record { passed = p; is_passed = t; rest = rest; read = r; is = sym is }
 
-    by : (o : Result (Passed S) CaptureFault) → line_read form number line s ≡ o → read_on o (lines_read form (number + 1) lines) ≡ Ok e → LineOnward S form number line lines s e
+    by : (o : Result (Passed S) (At Cause)) → line_read form number line s ≡ o → read_on o (lines_read form (number + 1) lines) ≡ Ok e → LineOnward S form number line lines s e
     by (Err f) t k = cc
     by (Ok p) t k = more p (lines_read form (number + 1) lines p.state) t refl k
 
@@ -147,9 +148,9 @@ onward {S} form number line lines s e one h = by (form.took 0 line s) refl
     same : (p q : Passed S) → line_read form number line s ≡ Ok p → line_read form number line s ≡ Ok q → p ≡ q
     same p q a b = cc
 
-    by : (o : Result (Step S) Slip) → form.took 0 line s ≡ o → Onward S form number line lines s e
+    by : (o : Result (Step S) (AtWord Cause)) → form.took 0 line s ≡ o → Onward S form number line lines s e
     by (Err slip) t =
-        let refused : line_read form number line s ≡ Err (fault_at number slip) =
+        let refused : line_read form number line s ≡ Err (at_line number slip) =
         ap (λ ws. words_read form number 0 ws s) one ∙ ap (λ o. word_read number o (words_read form number 1 [])) t in
         let read : line_read form number line s ≡ Ok l.passed = l.is_passed in
         cc

@@ -1,5 +1,6 @@
 //! What is wrong with a capture.
 use std::alloc::AllocError;
+use text_core::At;
 use thiserror::Error;
 
 /// What is wrong with a line of a capture.
@@ -31,44 +32,11 @@ pub enum Cause {
     End,
 }
 
-/// What is wrong with a line, and the number of the word at fault.
-#[derive(Clone, Copy, Debug, PartialEq, Eq)]
-pub struct Slip {
-    pub cause: Cause,
-    pub word: usize,
-}
-
-impl Slip {
-    ghost use Rattle.std.specs.Prelude.{◌≡◌};
-    ghost use Rattle.capture_core.specs.Reading.{fault_at};
-
-    /// The fault of the line of this number.
-    pub fn on_line(self, line: u64) -> CaptureFault
-        ensures { result ≡ fault_at line self }
-    {
-        CaptureFault {
-            line,
-            cause: self.cause,
-            word: self.word,
-        }
-    }
-}
-
-/// The first line at fault, counted from 1, what is wrong with it, and the word at fault, counted from 0, or where it is
-/// missing the number that it would have. Words are parted as the form has it; two gaps have an empty word between them.
-#[derive(Clone, Copy, Debug, PartialEq, Eq, Error)]
-#[error("line {line}: {cause}")]
-pub struct CaptureFault {
-    pub line: u64,
-    pub cause: Cause,
-    pub word: usize,
-}
-
-/// Why a capture is not read.
+/// Why a capture is not read. Words of a line are parted as the form has it; two gaps have an empty word between them.
 #[derive(Debug, Drop, Error)]
 pub enum CaptureError {
     #[error("{0}")]
-    Fault(CaptureFault),
+    Fault(At<Cause>),
     #[error("no memory")]
     Memory,
 }

@@ -9,7 +9,7 @@ mod seconds;
 mod track;
 
 pub use capture::Capture;
-pub use fault::{CaptureError, CaptureFault, Cause, Slip};
+pub use fault::{CaptureError, Cause};
 pub use reading::{TakesWords, no_gap, read_lines};
 pub use seconds::{decimals_in, instant_of, nine_digits};
 pub use track::{GoesBack, Track};

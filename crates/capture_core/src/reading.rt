@@ -5,11 +5,11 @@ ghost use Rattle.text_core.specs.Lines.{lines_of};
 ghost use Rattle.std.specs.List.{slice_split};
 ghost use Rattle.capture_core.specs.Reading.{Form, GivesEdges, PassesLine, Takes, left_length, line_read, lines_read, words_left};
 
-use crate::fault::{CaptureError, Cause, Slip};
+use crate::fault::{CaptureError, Cause};
 use crate::track::Track;
 use line_wave::Edge;
 use std::alloc::{AllocError, Global};
-use text_core::first_line;
+use text_core::{AtWord, at_word, first_line};
 
 /// A reader of the words of a form, in order.
 pub trait TakesWords<'a> {
@@ -27,7 +27,7 @@ pub trait TakesWords<'a> {
         ensures { result ≡ position form.is_gap line.now };
 
     /// Takes the next word, which has this number in its line, and returns the edge that is known by it.
-    fn take(&mut self, number: usize, word: &'a [u8]) -> Result<Option<Edge>, Slip>
+    fn take(&mut self, number: usize, word: &'a [u8]) -> Result<Option<Edge>, AtWord<Cause>>
         ensures { Takes (form.took number word.now (state self.old)) result (state self.new) };
 
     /// Where it stands on the line of the bus.
@@ -115,10 +115,7 @@ pub fn read_lines<'a, R: TakesWords<'a>>(
         number += 1;
     }
     match reader.end() {
-        Err(cause) => {
-            let slip = Slip { cause, word: 0 };
-            Err(CaptureError::Fault(slip.on_line(number)))
-        }
+        Err(cause) => Err(CaptureError::Fault(at_word(0, cause).on_line(number))),
         Ok(end) => {
             add(&mut edges, reader.track().last())?;
             Ok((edges, end))

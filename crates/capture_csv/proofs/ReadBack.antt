@@ -15,6 +15,7 @@ use Rattle.line_wave.specs.declared.Stretch.{Stretch}
 use Rattle.line_wave.specs.Line.{IsWaveFrom}
 use Rattle.text_core.specs.Lines.{lines_of}
 use Rattle.text_core.specs.Number.{number_of}
+use Rattle.text_core.specs.declared.at.At.{At}
 use Rattle.capture_core.specs.Edges.{Captured, edges_of}
 use Rattle.capture_core.specs.Seconds.{decimals_of, dot_in, instant_of, nine, nine_digits}
 use Rattle.capture_core.specs.Track.{differ}
@@ -27,7 +28,7 @@ use Rattle.capture_core.proofs.Ends.{EndsBy, ends_by}
 use Rattle.capture_core.proofs.Texts as texts
 use Rattle.capture_core.proofs.Texts.{line_before}
 use Rattle.capture_core.specs.Reading.{at_word, lines_read, with_edges}
-use Rattle.capture_core.specs.declared.fault.CaptureFault.{CaptureFault}
+use Rattle.capture_core.specs.declared.fault.Cause.{Cause}
 use Rattle.capture_core.proofs.Passing.{alone, whole}
 use Rattle.capture_csv.specs.Clock.{cut_decimals}
 use Rattle.capture_csv.specs.Csv.{csv_form, edges_in, fields_of, level_by, moved_by, moved_to, nanos_by, nanos_of, named_read, row_by, row_in, row_of, signed_by, since, since_by, time_of, took, took_by, with_row, without_return, word_at_fault}
@@ -210,7 +211,7 @@ move_reported t at again b low after = ap (λ m. moved_by from_zero m low (stood
 move_same : (t : ℕ) (again was is low : Bool) → moved_to from_zero (Some t) low (stood again t was is) ≡ Ok (record { state = stood (again_by low is) t was low; edge = None })
 move_same t again was is low = ap (λ m. moved_by from_zero m low (stood again t was is)) (moving.move_same t was is)
 
-abbrev with_end : List Edge → ℕ → Result Captured CaptureFault
+abbrev with_end : List Edge → ℕ → Result Captured (At Cause)
 with_end edges end = Ok (record { edges = edges; end = end })
 
 -- what the rest of a file is read as, where a rise may be due
@@ -284,7 +285,7 @@ head_read more =
     (line_before (codes "0.000000000,1") more (shown 10 (codes "0.000000000,1") refl))
     ∙ same (lines_read csv_form 3 (lines_of more) (stood true 0 false false))
   where
-    same : (r : Result Captured CaptureFault) → with_edges [] r ≡ r
+    same : (r : Result Captured (At Cause)) → with_edges [] r ≡ r
     same (Ok e) = refl
     same (Err f) = refl
 

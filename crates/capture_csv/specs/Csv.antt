@@ -7,13 +7,13 @@ use Rattle.std.specs.Str.{bytes_eq}
 use Rattle.line_wave.specs.Bounds.{latest_instant}
 use Rattle.text_core.specs.Lines.{lines_of}
 use Rattle.text_core.specs.Number.{number_of}
+use Rattle.text_core.specs.declared.at.At.{At}
 use Rattle.capture_core.specs.Edges.{Captured}
 use Rattle.capture_core.specs.Seconds.{dot_in, instant_of}
 use Rattle.capture_core.specs.Track.{Moved, first_track as line_begun, differ, track_move, with_level}
 use Rattle.capture_core.specs.Reading.{Form, Step, at_word, lines_read}
 use Rattle.capture_core.specs.declared.fault.Cause.{Cause}
 use Rattle.capture_core.specs.declared.fault.Cause.TheVariants as cause
-use Rattle.capture_core.specs.declared.fault.CaptureFault.{CaptureFault}
 use Rattle.capture_csv.specs.Clock.{clock_fraction, clock_seconds, cut_decimals}
 use Rattle.capture_csv.specs.declared.row.Row.{Row}
 use Rattle.capture_csv.specs.declared.row.Time.{Time}
@@ -190,16 +190,16 @@ csv_form = record {
 }
 
 -- where no name is the signal's, those after that of the time are at fault
-abbrev pub no_signal : CaptureFault
+abbrev pub no_signal : At Cause
 no_signal = record { line = 1; cause = cause.Signal; word = 1 }
 
-abbrev pub column_read : Option ℕ → List (List ℕ) → Result Captured CaptureFault
+abbrev pub column_read : Option ℕ → List (List ℕ) → Result Captured (At Cause)
 column_read None lines = Err no_signal
 column_read (Some column) lines = lines_read csv_form 2 lines (first_reader column)
 
-abbrev pub named_read : List ℕ → List (List ℕ) → Result Captured CaptureFault
+abbrev pub named_read : List ℕ → List (List ℕ) → Result Captured (At Cause)
 named_read signal [] = Err no_signal
 named_read signal (line ∷ lines) = column_read (column_of signal line) lines
 
-abbrev pub edges_in : List ℕ → List ℕ → Result Captured CaptureFault
+abbrev pub edges_in : List ℕ → List ℕ → Result Captured (At Cause)
 edges_in signal text = named_read signal (lines_of text)

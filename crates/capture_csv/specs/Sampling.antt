@@ -4,8 +4,8 @@ use Rattle.std.specs.Prelude.{◌≡◌, ℕ, ◌+◌, ◌/◌, ◌≤◌, not, 
 use Rattle.std.specs.Option.{option_to_list}
 use Rattle.text_core.specs.Lines.{lines_of}
 use Rattle.line_wave.specs.Bounds.{latest_instant}
-use Rattle.capture_core.specs.Edges.{AreInTurn, Captured, EndBy, IsCapture, line_of_edges}
-use Rattle.capture_core.specs.Reading.{Step, lines_read}
+use Rattle.capture_core.specs.Edges.{Captured, IsCapture, line_of_edges}
+use Rattle.capture_core.specs.Reading.{LinesGoOn, Step}
 use Rattle.capture_core.specs.Track.{differ}
 use Rattle.capture_core.specs.Samples.{Level, level_of}
 use Rattle.capture_csv.specs.Csv.{column_of, csv_form, edges_in, ends_after, or_first, row_of, since, took}
@@ -52,11 +52,9 @@ CsvFilesAreSampled = (signal text : List ℕ) (e : Captured) → edges_in signal
 
 -- ---- a file that is read line by line
 
--- What is left of a file that is read goes on from where the reader stands: edges in turn, and an end that is not before them,
--- within the limit.
+-- What is left of a file that is read goes on from where the reader stands.
 abbrev pub CsvLinesGoOn : Type 0
-CsvLinesGoOn = (number : ℕ) (lines : List (List ℕ)) (r : CsvReader) (e : Captured) → r.track.at ≤ latest_instant → lines_read csv_form number lines r ≡ Ok e
-    → AreInTurn r.track.was_low r.track.at e.edges × EndBy e.end e.edges × (r.track.at ≤ e.end) × (e.end ≤ latest_instant)
+CsvLinesGoOn = LinesGoOn csv_form
 
 -- The reader, and the edge that is known by a row, stay within the limit.
 abbrev pub CsvLinesAreEarly : Type 0

@@ -2,8 +2,9 @@
 ghost use Rattle.std.specs.Prelude.{◌≡◌};
 
 use crate::row::{Row, Time, row_of, since, word_at_fault};
-use capture_core::{Cause, Slip, TakesWords, Track, instant_of, no_gap};
+use capture_core::{Cause, TakesWords, Track, instant_of, no_gap};
 use line_wave::{Edge, LATEST_INSTANT};
+use text_core::{AtWord, at_word};
 
 /// How long a capture goes on after its last row, in microseconds, since the form has no end.
 const ENDS_AFTER: u64 = 10_000;
@@ -97,16 +98,11 @@ impl<'a> TakesWords<'a> for CsvReader {
         no_gap(line)
     }
 
-    fn take(&mut self, _number: usize, line: &'a [u8]) -> Result<Option<Edge>, Slip> {
+    fn take(&mut self, _number: usize, line: &'a [u8]) -> Result<Option<Edge>, AtWord<Cause>> {
         let column = self.column;
         match self.take_line(line) {
             Ok(edge) => Ok(edge),
-            Err(cause) => {
-                Err(Slip {
-                    cause,
-                    word: word_at_fault(column, line),
-                })
-            }
+            Err(cause) => Err(at_word(word_at_fault(column, line), cause)),
         }
     }
 

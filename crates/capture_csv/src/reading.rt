@@ -5,20 +5,16 @@ ghost use Rattle.capture_csv.specs.Csv.{column_of, edges_in};
 
 use crate::fields::{column_in, first_field, without_return};
 use crate::reader::CsvReader;
-use capture_core::{Capture, CaptureError, CaptureFault, Cause, read_lines};
+use capture_core::{Capture, CaptureError, Cause, read_lines};
 use line_wave::Edge;
 use std::alloc::Global;
-use text_core::first_line;
+use text_core::{at_word, first_line};
 
 // No name after that of the time is the signal's.
 fn no_signal() -> CaptureError
     ensures { result ≡ CaptureError.Fault (record { line = 1; cause = Cause.Signal; word = 1 }) }
 {
-    CaptureError::Fault(CaptureFault {
-        line: 1,
-        cause: Cause::Signal,
-        word: 1,
-    })
+    CaptureError::Fault(at_word(1, Cause::Signal).on_line(1))
 }
 
 /// The column of a signal, by the first line, which has the names; that of the time is 0. An empty name stands for the first after it.

@@ -1,10 +1,11 @@
 -- What a capture of each form is read as, and what is wrong with it (own).
 use Rattle.std.specs.Prelude.{ℕ, List, Result, Ok, Err}
+use Rattle.text_core.specs.declared.at.At.{At}
 use Rattle.capture_core.specs.Edges.{Captured}
 use Rattle.capture_core.specs.declared.fault.Cause.TheVariants.{Line, Order}
-use Rattle.capture_core.specs.declared.fault.CaptureFault.{CaptureFault}
 use Rattle.capture_core.specs.declared.fault.CaptureError.{CaptureError}
 use Rattle.capture_core.specs.declared.fault.CaptureError.TheVariants.{Fault, Memory}
+use Rattle.capture_core.specs.declared.fault.Cause.{Cause}
 use Rattle.capture_csv.specs.Csv.{edges_in as csv_edges}
 use Rattle.capture_monitor.specs.EdgeFile.{EdgeFile, file_of}
 use Rattle.capture_monitor.specs.declared.edge_file.EdgeFault.{EdgeFault}
@@ -18,11 +19,11 @@ use Rattle.capture_forms.specs.declared.form.CaptureForm.TheVariants.{Edges, Vcd
 
 -- ---- edge files
 
-abbrev pub edge_fault_of : EdgeFault → CaptureFault
+abbrev pub edge_fault_of : EdgeFault → At Cause
 edge_fault_of (edge_fault.Line line word) = record { line = line; cause = Line; word = word }
 edge_fault_of (edge_fault.Order line word) = record { line = line; cause = Order; word = word }
 
-abbrev pub of_edges : Result EdgeFile EdgeFault → Result Captured CaptureFault
+abbrev pub of_edges : Result EdgeFile EdgeFault → Result Captured (At Cause)
 of_edges (Ok f) = Ok (record { edges = f.edges; end = f.end })
 of_edges (Err fault) = Err (edge_fault_of fault)
 
@@ -34,7 +35,7 @@ edge_error edge.Memory = Memory
 -- ---- what a text is read as
 
 -- a signal has a name in a dump and in comma-separated values
-abbrev pub capture_in : CaptureForm → List ℕ → List ℕ → Result Captured CaptureFault
+abbrev pub capture_in : CaptureForm → List ℕ → List ℕ → Result Captured (At Cause)
 capture_in Edges signal text = of_edges (file_of text)
 capture_in Vcd signal text = vcd_edges signal text
 capture_in Pin signal text = pin_edges text

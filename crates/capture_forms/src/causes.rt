@@ -2,8 +2,9 @@
 ghost use Rattle.std.specs.Prelude.{◌≡◌};
 ghost use Rattle.capture_forms.specs.Captures.{edge_error};
 
-use capture_core::{CaptureError, CaptureFault, Cause};
+use capture_core::{CaptureError, Cause};
 use capture_monitor::EdgeError;
+use text_core::At;
 
 /// What an error of an edge file is as one of a capture.
 pub fn edge_error(error: EdgeError) -> CaptureError
@@ -11,14 +12,14 @@ pub fn edge_error(error: EdgeError) -> CaptureError
 {
     match error {
         EdgeError::Line { line, word } => {
-            CaptureError::Fault(CaptureFault {
+            CaptureError::Fault(At {
                 line,
                 cause: Cause::Line,
                 word,
             })
         }
         EdgeError::Order { line, word } => {
-            CaptureError::Fault(CaptureFault {
+            CaptureError::Fault(At {
                 line,
                 cause: Cause::Order,
                 word,

@@ -7,7 +7,7 @@ mod form;
 mod reading;
 mod writing;
 
-pub use capture_core::{CaptureError, CaptureFault, Cause};
+pub use capture_core::{CaptureError, Cause};
 pub use form::CaptureForm;
 pub use reading::read_capture;
 pub use writing::{add_end, add_round, add_start};

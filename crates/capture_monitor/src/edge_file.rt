@@ -3,7 +3,7 @@ ghost use Rattle.std.specs.Prelude.{◌≡◌, ◌+◌, ◌<◌, false, length};
 ghost use Rattle.std.specs.Option.{option_copied};
 ghost use Rattle.text_core.specs.Lines.{lines_of};
 ghost use Rattle.text_core.specs.Words.{words_after};
-ghost use Rattle.capture_monitor.specs.EdgeFile.{edge_line_of, edge_line_at, line_alone, marked_by, time_of, word_past};
+ghost use Rattle.capture_monitor.specs.EdgeFile.{edge_line_of, edge_line_at, is_in_turn, line_alone, marked_by, time_of, turns, word_out_of_turn, word_past};
 
 use line_wave::{Edge, LATEST_INSTANT};
 use text_core::{first_line, first_word, is_skipped, number_in};
@@ -92,14 +92,35 @@ pub fn edge_line_in(line: &[u8]) -> Result<EdgeLine, usize>
     marked_by(time_of(time), rest)
 }
 
-// The word at fault of a line that stands after the end.
-fn word_past(line: &[u8]) -> usize
+/// The word at fault of a line that stands after the end.
+pub fn word_past(line: &[u8]) -> usize
     ensures { result ≡ word_past (edge_line_of line.now) }
 {
     match edge_line_in(line) {
         Err(word) => word,
         Ok(_) => 0,
     }
+}
+
+// Whether an edge turns a line that is low, or high.
+fn turns(is_low: bool, edge: Edge) -> bool
+    ensures { result ≡ turns is_low edge }
+{
+    edge.low != is_low
+}
+
+/// Whether an edge turns a line that is low, or high, and does not come before this instant.
+pub fn is_in_turn(is_low: bool, from: u64, edge: Edge) -> bool
+    ensures { result ≡ is_in_turn is_low from edge }
+{
+    turns(is_low, edge) && from <= edge.at
+}
+
+/// The word at fault of an edge that is not in turn.
+pub fn word_out_of_turn(is_low: bool, edge: Edge) -> usize
+    ensures { result ≡ word_out_of_turn is_low edge }
+{
+    if turns(is_low, edge) { 0 } else { 1 }
 }
 
 // A reader of the lines of an edge file: what is left of it, the number of the next line, whether the line of the bus
@@ -113,7 +134,7 @@ pub struct EdgeLines<'a> {
 }
 
 impl<'a> EdgeLines<'a> {
-    ghost use Rattle.capture_monitor.specs.EdgeFile.{EndsSo, ReadsLine, ReadsOn, is_in_turn, turns, word_out_of_turn};
+    ghost use Rattle.capture_monitor.specs.EdgeFile.{EndsSo, ReadsLine, ReadsOn};
 
     /// A reader of this file.
     pub fn new(text: &'a [u8]) -> Self
@@ -126,27 +147,6 @@ impl<'a> EdgeLines<'a> {
             is_low: false,
             from: 0,
         }
-    }
-
-    // Whether the edge turns the line.
-    fn turns(&self, edge: Edge) -> bool
-        ensures { result ≡ turns self.now.is_low edge }
-    {
-        edge.low != self.is_low
-    }
-
-    // Whether the edge turns the line, and comes late enough.
-    fn is_in_turn(&self, edge: Edge) -> bool
-        ensures { result ≡ is_in_turn self.now.is_low self.now.from edge }
-    {
-        self.turns(edge) && self.from <= edge.at
-    }
-
-    // The word at fault of an edge that is not in turn.
-    fn word_out_of_turn(&self, edge: Edge) -> usize
-        ensures { result ≡ word_out_of_turn self.now.is_low edge }
-    {
-        if self.turns(edge) { 0 } else { 1 }
     }
 
     // Nothing stands after the end.
@@ -178,10 +178,10 @@ impl<'a> EdgeLines<'a> {
             Err(word) => Err(EdgeFault::Line { line: number, word }),
             Ok(line) => match line {
                 EdgeLine::Edge(edge) => {
-                    if !self.is_in_turn(edge) {
+                    if !is_in_turn(self.is_low, self.from, edge) {
                         return Err(EdgeFault::Order {
                             line: number,
-                            word: self.word_out_of_turn(edge),
+                            word: word_out_of_turn(self.is_low, edge),
                         });
                     }
                     self.is_low = edge.low;

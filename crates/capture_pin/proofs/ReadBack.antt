@@ -13,6 +13,7 @@ use Rattle.line_wave.specs.declared.Edge.{Edge}
 use Rattle.line_wave.specs.declared.Stretch.{Stretch}
 use Rattle.line_wave.specs.Line.{IsWaveFrom}
 use Rattle.text_core.specs.Lines.{is_skipped, lines_of}
+use Rattle.text_core.specs.declared.at.At.{At}
 use Rattle.capture_core.specs.Edges.{Captured, edges_of}
 use Rattle.capture_core.specs.Seconds.{dot_in, instant_of, nine_digits}
 use Rattle.capture_core.proofs.Decimals.{decimals_again}
@@ -22,7 +23,7 @@ use Rattle.capture_core.proofs.Bytes.{Lacks, digits_lack, dot_at, no_byte, shown
 use Rattle.capture_core.proofs.Ends.{EndsBy, ends_by}
 use Rattle.capture_core.proofs.Texts.{line_before}
 use Rattle.capture_core.specs.Reading.{at_word, lines_read, with_edges}
-use Rattle.capture_core.specs.declared.fault.CaptureFault.{CaptureFault}
+use Rattle.capture_core.specs.declared.fault.Cause.{Cause}
 use Rattle.capture_pin.proofs.Sampled.{alone, whole}
 use Rattle.capture_pin.specs.Pin.{first_reader, code_of, event_by, event_by_start, event_cut, event_of, fraction_of, after_event, moved_by, moved_to, nanos_by, pin_form, took, word_at_fault}
 use Rattle.capture_pin.specs.Text.{event_line, event_text, head, round_text, stretch_text, PinFilesAreReadBack}
@@ -128,7 +129,7 @@ reported_line : (number t level : ℕ) (low : Bool) (more : List ℕ) (k u : Pin
 reported_line number t level low more k u edge zero early other code move =
     line_in number (event_line t level) more k u edge (line_plain t level early other) (event_taken t level low k zero early code ∙ move)
 
-abbrev with_end : List Edge → ℕ → Result Captured CaptureFault
+abbrev with_end : List Edge → ℕ → Result Captured (At Cause)
 with_end edges end = Ok (record { edges = edges; end = end })
 
 -- what the rest of a file is read as, where a rise may be due
@@ -238,7 +239,7 @@ head_line : (number : ℕ) (line rest : List ℕ) (t u : PinReader) → list_all
     → lines_read pin_form number (lines_of (line ++ 10 ∷ rest)) t ≡ lines_read pin_form (number + 1) (lines_of rest) u
 head_line number line rest t u all h = line_in number line rest t u None (shown 10 line all) h ∙ same (lines_read pin_form (number + 1) (lines_of rest) u)
   where
-    same : (r : Result Captured CaptureFault) → with_edges [] r ≡ r
+    same : (r : Result Captured (At Cause)) → with_edges [] r ≡ r
     same (Ok e) = refl
     same (Err f) = refl
 

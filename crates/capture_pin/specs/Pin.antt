@@ -6,13 +6,13 @@ use Rattle.std.specs.List.{position_or_len}
 use Rattle.std.specs.Str.{bytes_eq}
 use Rattle.text_core.specs.Lines.{lines_of, is_skipped}
 use Rattle.text_core.specs.Number.{number_of}
+use Rattle.text_core.specs.declared.at.At.{At}
 use Rattle.capture_core.specs.Edges.{Captured}
 use Rattle.capture_core.specs.Seconds.{decimals_of, dot_in, instant_of}
 use Rattle.capture_core.specs.Track.{Moved, first_track as line_begun, track_move, with_level}
 use Rattle.capture_core.specs.Reading.{Form, Step, at_word, lines_read}
 use Rattle.capture_core.specs.declared.fault.Cause.{Cause}
 use Rattle.capture_core.specs.declared.fault.Cause.TheVariants as cause
-use Rattle.capture_core.specs.declared.fault.CaptureFault.{CaptureFault}
 use Rattle.capture_core.specs.declared.track.Track.{Track}
 use Rattle.capture_pin.specs.declared.line.Event.{Event}
 use Rattle.capture_pin.specs.declared.reader.PinReader.{PinReader}
@@ -116,5 +116,5 @@ pin_form = record {
   ended = λ r. Ok r.track.at;
 }
 
-abbrev pub edges_in : List ℕ → Result Captured CaptureFault
+abbrev pub edges_in : List ℕ → Result Captured (At Cause)
 edges_in text = lines_read pin_form 1 (lines_of text) first_reader

@@ -4,9 +4,9 @@ use Rattle.std.specs.Prelude.{◌≡◌, ℕ, ◌+◌, ◌-◌, ◌/◌, ◌≤�
 use Rattle.std.specs.Option.{option_to_list}
 use Rattle.text_core.specs.Lines.{lines_of, is_skipped}
 use Rattle.line_wave.specs.Bounds.{latest_instant}
-use Rattle.capture_core.specs.Edges.{AreInTurn, Captured, EndBy, IsCapture, line_of_edges}
+use Rattle.capture_core.specs.Edges.{Captured, IsCapture, line_of_edges}
 use Rattle.capture_core.specs.Samples.{Level, level_of}
-use Rattle.capture_core.specs.Reading.{Step, lines_read}
+use Rattle.capture_core.specs.Reading.{LinesGoOn, Step}
 use Rattle.capture_pin.specs.Pin.{edges_in, event_of, pin_form, start_in_comment, took}
 use Rattle.capture_pin.specs.declared.line.Event.{Event}
 use Rattle.capture_pin.specs.declared.reader.PinReader.{PinReader}
@@ -56,11 +56,9 @@ PinFilesAreSampled = (text : List ℕ) (e : Captured) → edges_in text ≡ Ok e
 
 -- ---- a file that is read line by line
 
--- What is left of a file that is read goes on from where the reader stands: edges in turn, and an end that is not before them,
--- within the limit.
+-- What is left of a file that is read goes on from where the reader stands.
 abbrev pub PinLinesGoOn : Type 0
-PinLinesGoOn = (number : ℕ) (lines : List (List ℕ)) (r : PinReader) (e : Captured) → r.track.at ≤ latest_instant → lines_read pin_form number lines r ≡ Ok e
-    → AreInTurn r.track.was_low r.track.at e.edges × EndBy e.end e.edges × (r.track.at ≤ e.end) × (e.end ≤ latest_instant)
+PinLinesGoOn = LinesGoOn pin_form
 
 -- The reader, and the edge that is known by a line, stay within the limit.
 abbrev pub PinLinesAreEarly : Type 0

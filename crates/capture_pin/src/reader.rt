@@ -2,9 +2,9 @@
 ghost use Rattle.std.specs.Prelude.{◌≡◌, Some};
 
 use crate::line::{Event, event_of, start_in_comment, word_at_fault};
-use capture_core::{Cause, Slip, TakesWords, Track, instant_of, no_gap};
+use capture_core::{Cause, TakesWords, Track, instant_of, no_gap};
 use line_wave::Edge;
-use text_core::is_skipped;
+use text_core::{AtWord, at_word, is_skipped};
 
 /// A reader of the lines of a file.
 #[derive(Clone, Copy, Debug)]
@@ -87,15 +87,10 @@ impl<'a> TakesWords<'a> for PinReader {
         no_gap(line)
     }
 
-    fn take(&mut self, _number: usize, line: &'a [u8]) -> Result<Option<Edge>, Slip> {
+    fn take(&mut self, _number: usize, line: &'a [u8]) -> Result<Option<Edge>, AtWord<Cause>> {
         match self.take_line(line) {
             Ok(edge) => Ok(edge),
-            Err(cause) => {
-                Err(Slip {
-                    cause,
-                    word: word_at_fault(line),
-                })
-            }
+            Err(cause) => Err(at_word(word_at_fault(line), cause)),
         }
     }
 

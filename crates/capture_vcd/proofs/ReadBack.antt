@@ -8,6 +8,7 @@ use Rattle.line_wave.specs.declared.Edge.{Edge}
 use Rattle.line_wave.specs.declared.Stretch.{Stretch}
 use Rattle.line_wave.specs.Line.{IsWaveFrom}
 use Rattle.text_core.specs.Lines.{lines_of}
+use Rattle.text_core.specs.declared.at.At.{At}
 use Rattle.capture_core.specs.Edges.{Captured, edges_of}
 use Rattle.capture_core.specs.Track.{first_track as line_begun}
 use Rattle.capture_core.proofs.Ends.{EndsBy, ends_by}
@@ -15,7 +16,7 @@ use Rattle.capture_core.proofs.Moving.{due, move_kept, move_reported, move_same,
 use Rattle.capture_core.proofs.Numbers.{number_again, some_length}
 use Rattle.capture_core.proofs.Texts.{Lacks, line_before, shown}
 use Rattle.capture_core.specs.Reading.{at_word, lines_read, with_edges, words_read}
-use Rattle.capture_core.specs.declared.fault.CaptureFault.{CaptureFault}
+use Rattle.capture_core.specs.declared.fault.Cause.{Cause}
 use Rattle.capture_core.proofs.Passing.{alone, line_passed}
 use Rattle.capture_vcd.specs.Scale.{instant_of}
 use Rattle.capture_vcd.specs.Dump.{State, after_time, dump_form, first_state, no_edge, parts_of, timed_by, took}
@@ -135,7 +136,7 @@ end_reported number at end true after low = by (nat_lt at end) refl
         let same : at ≡ end = grind (arith, nat_tests) in
         rw same (alone_in number (time_line end) [] (stood end true false) (stood end true false) None (time_plain end (omega arith)) (time_parts end (omega arith)) (time_same end true false low))
 
-abbrev with_end : List Edge → ℕ → Result Captured CaptureFault
+abbrev with_end : List Edge → ℕ → Result Captured (At Cause)
 with_end edges end = Ok (record { edges = edges; end = end })
 
 read_back : (ss : List Stretch) (end number at : ℕ) (b : Bool) → IsWaveFrom (cond b (at + 1) at) ss → EndsBy end ss → at ≤ end → end ≤ 2000000000000
@@ -156,7 +157,7 @@ head_line : (number : ℕ) (line rest : List ℕ) (s t : State) → list_all (λ
 head_line number line rest s t all h =
     ap (λ lines. lines_read dump_form number lines s) (line_before line rest (shown (λ c. c == 10) line all)) ∙ line_passed dump_form number line (lines_of rest) s t [] h ∙ same (lines_read dump_form (number + 1) (lines_of rest) t)
   where
-    same : (r : Result Captured CaptureFault) → with_edges [] r ≡ r
+    same : (r : Result Captured (At Cause)) → with_edges [] r ≡ r
     same (Ok e) = refl
     same (Err f) = refl
 

@@ -9,6 +9,7 @@ use Rattle.std.proofs.lemmas.Slice.Eq.{bytes_eq-Decides}
 use Rattle.line_wave.specs.declared.Edge.{Edge}
 use Rattle.text_core.specs.Lines.{lines_of}
 use Rattle.text_core.specs.Number.{is_numeral, value_of}
+use Rattle.text_core.specs.declared.at.At.{At}
 use Rattle.capture_core.specs.Edges.{Captured, IsCapture}
 use Rattle.capture_core.specs.Samples.{Sample, level_in}
 use Rattle.capture_core.specs.Track.{Moved, first_track as line_begun, last_edge, track_move, with_level}
@@ -16,7 +17,7 @@ use Rattle.capture_core.specs.declared.track.Track.{Track}
 use Rattle.capture_core.proofs.Recording.{Records, moved_at, records_capture, records_end, records_level, records_line, records_moved}
 use Rattle.capture_core.specs.Reading.{Passed as PassedOf, Step as StepOf, at_word, end_read, lines_read, onto, word_read, words_read}
 use Rattle.capture_core.specs.declared.fault.Cause.TheVariants as cause
-use Rattle.capture_core.specs.declared.fault.CaptureFault.{CaptureFault}
+use Rattle.capture_core.specs.declared.fault.Cause.{Cause}
 use Rattle.capture_core.proofs.Passing.{line_onward}
 use Rattle.capture_vcd.specs.Scale.{count_times, counted_word, instant_of, micros, of_unit, unit_of, within}
 use Rattle.capture_vcd.specs.Dump.{State, Stepped, dump_form, end_by, first_state, edges_in, free, in_field, in_section, is_end, is_high, is_mark, is_vector, is_none, is_other_value, no_edge, keyword, end_of_definitions, named_by, parts_of, scalar, scale_begun, scale_made, scale_made_by, after_time, timed_by, took, after_value, vector_value}
@@ -339,7 +340,7 @@ words_run : (line number : ℕ) (words : List (List ℕ)) (s : State) (p : Passe
 words_run line number [] s p h = let is : record { edges = []; state = s } ≡ p = cc in ap Some is
 words_run line number (word ∷ words) s p h = by (took word s) h (λ t q e. words_run line (number + 1) words t q e)
   where
-    next : (step : Step) (r : Result Passed CaptureFault) → words_read dump_form line (number + 1) words step.state ≡ r → onto (option_to_list step.edge) r ≡ Ok p
+    next : (step : Step) (r : Result Passed (At Cause)) → words_read dump_form line (number + 1) words step.state ≡ r → onto (option_to_list step.edge) r ≡ Ok p
         → ((t : State) (q : Passed) → words_read dump_form line (number + 1) words t ≡ Ok q → run words t ≡ Some q) → run_onto (option_to_list step.edge) (run words step.state) ≡ Some p
     next step (Err f) e k ih = cc
     next step (Ok q) e k ih =

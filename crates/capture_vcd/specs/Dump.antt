@@ -5,12 +5,12 @@ use Rattle.std.specs.Option.{option_copied}
 use Rattle.std.specs.List.{list_all, slice_split}
 use Rattle.std.specs.Str.{bytes_eq}
 use Rattle.text_core.specs.Lines.{lines_of}
+use Rattle.text_core.specs.declared.at.At.{At}
 use Rattle.capture_core.specs.Edges.{Captured}
 use Rattle.capture_core.specs.Track.{Moved, first_track as line_begun, track_move, with_level}
 use Rattle.capture_core.specs.Reading.{Form, Step, at_word, lines_read}
 use Rattle.capture_core.specs.declared.fault.Cause.{Cause}
 use Rattle.capture_core.specs.declared.fault.Cause.TheVariants as cause
-use Rattle.capture_core.specs.declared.fault.CaptureFault.{CaptureFault}
 use Rattle.capture_core.specs.declared.track.Track.{Track}
 use Rattle.capture_vcd.specs.Scale.{counted_word, instant_of, unit_of}
 use Rattle.capture_vcd.specs.declared.scale.Count.{Count}
@@ -219,5 +219,5 @@ dump_form = record {
 }
 
 -- what is read of a dump, and its wire of this name
-abbrev pub edges_in : List ℕ → List ℕ → Result Captured CaptureFault
+abbrev pub edges_in : List ℕ → List ℕ → Result Captured (At Cause)
 edges_in name text = lines_read dump_form 1 (lines_of text) (first_state name)

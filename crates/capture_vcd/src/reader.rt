@@ -5,9 +5,9 @@ ghost use Rattle.capture_vcd.specs.Dump.{is_bit, is_high, is_other_value, is_mar
 
 use crate::scale::{Count, Scale, counted_word, instant_of, unit_of};
 use crate::words::space_in;
-use capture_core::{Cause, Slip, TakesWords, Track};
+use capture_core::{Cause, TakesWords, Track};
 use line_wave::Edge;
-use text_core::{after, byte_at};
+use text_core::{AtWord, after, at_word, byte_at};
 
 /// What the next word of a variable's definition is.
 #[derive(Clone, Copy, Debug, PartialEq, Eq)]
@@ -354,15 +354,10 @@ impl<'a> TakesWords<'a> for VcdReader<'a> {
         space_in(line)
     }
 
-    fn take(&mut self, number: usize, word: &'a [u8]) -> Result<Option<Edge>, Slip> {
+    fn take(&mut self, number: usize, word: &'a [u8]) -> Result<Option<Edge>, AtWord<Cause>> {
         match self.take_word(word) {
             Ok(edge) => Ok(edge),
-            Err(cause) => {
-                Err(Slip {
-                    cause,
-                    word: number,
-                })
-            }
+            Err(cause) => Err(at_word(number, cause)),
         }
     }
 

@@ -6,9 +6,10 @@ use Rattle.line_wave.specs.declared.Edge.{Edge}
 use Rattle.line_wave.specs.Line.{Line}
 use Rattle.line_reading.specs.declared.times.Windows.{Windows}
 use Rattle.line_reading.specs.Readings.{Listed}
+use Rattle.text_core.specs.declared.at.At.{At}
 use Rattle.capture_core.specs.Edges.{Captured, line_of_edges}
 use Rattle.capture_core.specs.Reading.{with_edges}
-use Rattle.capture_core.specs.declared.fault.CaptureFault.{CaptureFault}
+use Rattle.capture_core.specs.declared.fault.Cause.{Cause}
 use Rattle.capture_monitor.specs.EdgeFile.{EdgeLinesGoOn}
 use Rattle.capture_monitor.specs.Monitor.{HeardBeforeBy}
 use Rattle.capture_monitor.specs.ReadBy.{readings_by}
@@ -256,7 +257,7 @@ ending_alone {A} old edge end before after (Err (Capture fault)) a b g = absurd 
 ending_alone {A} old edge end before after (Err Read) a b g = absurd g.1
 
 -- a line at fault
-pub line_refused : (signal : List ℕ) (number : ℕ) (line : List ℕ) (old taken new : AuditFollower) (fault : CaptureFault) (bytes : Option (List ℕ)) → TakesLine signal old.lines number line (Err fault) taken.lines → fault.line ≡ number
+pub line_refused : (signal : List ℕ) (number : ℕ) (line : List ℕ) (old taken new : AuditFollower) (fault : At Cause) (bytes : Option (List ℕ)) → TakesLine signal old.lines number line (Err fault) taken.lines → fault.line ≡ number
     → Hears signal number line old new bytes bytes (Err (Capture fault))
 line_refused signal number line old taken new fault bytes takes place = record {
   put = Appends-nil bytes;
@@ -289,7 +290,7 @@ read_end form signal win timing past number f last text w ends = ap (lines_captu
 none_left : (form : LineForm) (signal : List ℕ) (past rest : List (List ℕ)) → rest ≡ [] → lines_captured form signal (past ++ rest) ≡ lines_captured form signal past
 none_left form signal past rest none = ap (λ ls. lines_captured form signal (past ++ ls)) none ∙ ap (lines_captured form signal) (append-nil past)
 
-same_capture : (r : Result Captured CaptureFault) (a b : Captured) → r ≡ Ok a → r ≡ Ok b → a ≡ b
+same_capture : (r : Result Captured (At Cause)) (a b : Captured) → r ≡ Ok a → r ≡ Ok b → a ≡ b
 same_capture (Ok d) a b x y = cc
 same_capture (Err f) a b x y = cc
 
@@ -325,7 +326,7 @@ end_heard number f last before after (Err Memory) ends g = end_cut number f last
 end_heard number f last before after (Err (Capture fault)) ends g = absurd g.1
 end_heard number f last before after (Err Read) ends g = absurd g.1
 
-pub end_refused : (number : ℕ) (f : AuditFollower) (fault : CaptureFault) (bytes : Option (List ℕ)) → EndsLines f.lines number (Err fault) → fault.line ≡ number → Ends number f bytes bytes (Err (Capture fault))
+pub end_refused : (number : ℕ) (f : AuditFollower) (fault : At Cause) (bytes : Option (List ℕ)) → EndsLines f.lines number (Err fault) → fault.line ≡ number → Ends number f bytes bytes (Err (Capture fault))
 end_refused number f fault bytes ends place = record {
   put = Appends-nil bytes;
   place = place;

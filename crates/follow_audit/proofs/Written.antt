@@ -5,9 +5,10 @@ use Rattle.std.proofs.KnownBytes.{Appends-kept, Appends-nil, Appends-trans}
 use Rattle.std.proofs.lemmas.List.Elements.{All-append, All-cons, All-nil}
 use Rattle.text_core.specs.declared.buffered.Buffered.{Buffered}
 use Rattle.text_core.specs.Lines.{lines_of}
+use Rattle.text_core.specs.declared.at.At.{At}
 use Rattle.line_reading.specs.declared.times.Windows.{Windows}
 use Rattle.capture_core.specs.Edges.{Captured}
-use Rattle.capture_core.specs.declared.fault.CaptureFault.{CaptureFault}
+use Rattle.capture_core.specs.declared.fault.Cause.{Cause}
 use Rattle.capture_forms.specs.Captures.{capture_in}
 use Rattle.live_incoming.specs.Incoming.{IsNext, IsWhole, Leads, text_of_lines}
 use Rattle.follow_core.specs.Follow.{AreFirst, AreLeft, HaveCome}
@@ -121,7 +122,7 @@ pub handed_after : (result : Result (Unit {0}) FollowAuditError) (old mid new : 
 handed_after (Ok done) old mid new before h = tt
 handed_after (Err error) old mid new before h = λ none. h (before none)
 
-same_capture : (r : Result Captured CaptureFault) (a b : Captured) → r ≡ Ok a → r ≡ Ok b → a ≡ b
+same_capture : (r : Result Captured (At Cause)) (a b : Captured) → r ≡ Ok a → r ≡ Ok b → a ≡ b
 same_capture (Ok d) a b x y = cc
 same_capture (Err f) a b x y = cc
 
@@ -262,10 +263,10 @@ by_lines forms.Pin signal text = refl
 by_lines forms.Csv signal text = refl
 
 -- a fault is that of the input
-abbrev IsFaultOf : LineForm → List ℕ → Option (List ℕ) → CaptureFault → Type 0
+abbrev IsFaultOf : LineForm → List ℕ → Option (List ℕ) → At Cause → Type 0
 IsFaultOf form signal known fault = IfSome known (λ text. capture_in (form_as form) signal text ≡ Err fault)
 
-refused_line : (form : LineForm) (signal : List ℕ) (known now next : Option (List ℕ)) (past : List (List ℕ)) (line : List ℕ) (fault : CaptureFault) → Come known now past → Leads now next line
+refused_line : (form : LineForm) (signal : List ℕ) (known now next : Option (List ℕ)) (past : List (List ℕ)) (line : List ℕ) (fault : At Cause) → Come known now past → Leads now next line
     → ((rest : List (List ℕ)) → lines_captured form signal (past ++ line ∷ rest) ≡ Err fault) → IsFaultOf form signal known fault
 refused_line form signal None now next past line fault a b refused = tt
 refused_line form signal (Some xs) None next past line fault a b refused = absurd a
@@ -273,7 +274,7 @@ refused_line form signal (Some xs) (Some ys) None past line fault a b refused = 
 refused_line form signal (Some xs) (Some ys) (Some zs) past line fault a b refused =
     by_lines form signal xs ∙ ap (lines_captured form signal) (a ∙ ap (λ ls. past ++ ls) b) ∙ refused (lines_of zs)
 
-refused_end : (form : LineForm) (signal : List ℕ) (known now : Option (List ℕ)) (past : List (List ℕ)) (fault : CaptureFault) → Come known now past → IsAtEnd now → lines_captured form signal past ≡ Err fault → IsFaultOf form signal known fault
+refused_end : (form : LineForm) (signal : List ℕ) (known now : Option (List ℕ)) (past : List (List ℕ)) (fault : At Cause) → Come known now past → IsAtEnd now → lines_captured form signal past ≡ Err fault → IsFaultOf form signal known fault
 refused_end form signal None now past fault a end refused = tt
 refused_end form signal (Some xs) None past fault a end refused = absurd a
 refused_end form signal (Some xs) (Some ys) past fault a end refused =

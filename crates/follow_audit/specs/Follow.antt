@@ -4,12 +4,13 @@ use Rattle.std.specs.Prelude.{◌≡◌, ℕ, ◌+◌, ◌≤◌, Bool, true, fa
 use Rattle.std.specs.Io.KnownBytes.{Appends}
 use Rattle.std.specs.Option.{option_to_list}
 use Rattle.text_core.specs.Lines.{lines_of}
+use Rattle.text_core.specs.declared.at.At.{At}
 use Rattle.line_wave.specs.declared.Edge.{Edge}
 use Rattle.line_reading.specs.declared.times.Windows.{Windows}
 use Rattle.line_reading.specs.Readings.{Listed}
 use Rattle.capture_core.specs.Edges.{Captured, line_of_edges}
 use Rattle.capture_core.specs.Reading.{with_edges}
-use Rattle.capture_core.specs.declared.fault.CaptureFault.{CaptureFault}
+use Rattle.capture_core.specs.declared.fault.Cause.{Cause}
 use Rattle.capture_monitor.specs.Joined.{captured_by}
 use Rattle.audit_core.specs.Audit.{audit_text_of}
 use Rattle.capture_forms.specs.Captures.{capture_in}
@@ -115,7 +116,7 @@ pub record HasHeard (signal : List ℕ) (number : ℕ) (line : List ℕ) (old ne
   pub prompt : IsPrompt new
 
 -- it is at fault, and nothing is written
-pub record IsAtFault (signal : List ℕ) (number : ℕ) (line : List ℕ) (old : AuditFollower) (before after : Option (List ℕ)) (fault : CaptureFault) : Type 0 where
+pub record IsAtFault (signal : List ℕ) (number : ℕ) (line : List ℕ) (old : AuditFollower) (before after : Option (List ℕ)) (fault : At Cause) : Type 0 where
   pub put : Appends before after []
   pub place : fault.line ≡ number
   pub refused : (form : LineForm) (windows : Windows) (timing : Bool) (past : List (List ℕ)) (so_far : List ℕ) → IsFollowed form signal windows timing past number old so_far
@@ -149,7 +150,7 @@ pub record HasWritten (number : ℕ) (f : AuditFollower) (before after : Option 
       → IsWhole form signal windows timing past (so_far ++ text)
 
 -- or the end is missing
-pub record LacksEnd (number : ℕ) (f : AuditFollower) (before after : Option (List ℕ)) (fault : CaptureFault) : Type 0 where
+pub record LacksEnd (number : ℕ) (f : AuditFollower) (before after : Option (List ℕ)) (fault : At Cause) : Type 0 where
   pub put : Appends before after []
   pub place : fault.line ≡ number
   pub refused : (form : LineForm) (signal : List ℕ) (windows : Windows) (timing : Bool) (past : List (List ℕ)) (so_far : List ℕ) → IsFollowed form signal windows timing past number f so_far
@@ -190,7 +191,7 @@ pub record IsUpToDate (form : LineForm) (signal : List ℕ) (windows : Windows) 
   pub put : Appends old new text
 
 -- the fault is that of the input, and at the line after these
-pub record StopsAtFault (form : LineForm) (signal : List ℕ) (windows : Windows) (timing : Bool) (known old new : Option (List ℕ)) (fault : CaptureFault) : Type 0 where
+pub record StopsAtFault (form : LineForm) (signal : List ℕ) (windows : Windows) (timing : Bool) (known old new : Option (List ℕ)) (fault : At Cause) : Type 0 where
   pub past : List (List ℕ)
   pub next : Option (List ℕ)
   pub came : HaveCome known past next

@@ -4,13 +4,14 @@ use Rattle.std.specs.Option.{option_to_list}
 use Rattle.line_wave.specs.declared.Edge.{Edge as EdgeOf}
 use Rattle.line_wave.specs.Bounds.{latest_instant}
 use Rattle.text_core.specs.Lines.{is_skipped}
+use Rattle.text_core.specs.At.{at_line}
+use Rattle.text_core.specs.declared.at.At.{At}
+use Rattle.text_core.specs.declared.at.AtWord.{AtWord}
 use Rattle.capture_core.specs.Edges.{AreInTurn, Captured, EndBy}
 use Rattle.capture_core.specs.Track.{last_edge}
 use Rattle.capture_core.specs.Reading.{end_read as end_of_lines}
 use Rattle.capture_core.specs.declared.fault.Cause.{Cause}
-use Rattle.capture_core.specs.Reading.{Step, Takes, fault_at, lines_read, read_on, with_edges, word_read, words_read}
-use Rattle.capture_core.specs.declared.fault.CaptureFault.{CaptureFault}
-use Rattle.capture_core.specs.declared.fault.Slip.{Slip}
+use Rattle.capture_core.specs.Reading.{Step, Takes, lines_read, read_on, with_edges, word_read, words_read}
 use Rattle.capture_core.proofs.Passing.{alone, whole, without_word}
 use Rattle.capture_pin.specs.Pin.{pin_form, took, word_at_fault}
 use Rattle.capture_pin.specs.Sampling.{PinLinesAreEarly, PinLinesGoOn}
@@ -32,11 +33,11 @@ use Rattle.follow_core.specs.declared.lines.CaptureLines.TheVariants.{File, Pin,
 
 -- ---- edges before what is left
 
-pub with_none : (r : Result Captured CaptureFault) → r ≡ with_edges [] r
+pub with_none : (r : Result Captured (At Cause)) → r ≡ with_edges [] r
 with_none (Ok e) = refl
 with_none (Err f) = refl
 
-pub both : (a b : List EdgeOf) (r : Result Captured CaptureFault) → with_edges a (with_edges b r) ≡ with_edges (a ++ b) r
+pub both : (a b : List EdgeOf) (r : Result Captured (At Cause)) → with_edges a (with_edges b r) ≡ with_edges (a ++ b) r
 both a b (Ok e) = ap (λ es. Ok (record { edges = es; end = e.end })) (sym (append_assoc a b e.edges))
 both a b (Err f) = refl
 
@@ -47,7 +48,7 @@ one_more x (Err f) = refl
 -- ---- an edge file
 
 -- what a step leads to, before what is left
-abbrev Leads : EdgeReader → ℕ → List ℕ → Result (Step EdgeReader) CaptureFault → Type 0
+abbrev Leads : EdgeReader → ℕ → List ℕ → Result (Step EdgeReader) (At Cause) → Type 0
 Leads e number line (Ok step) = (rest : List (List ℕ)) → lines_left [] (File e) number (line ∷ rest) ≡ with_edges (option_to_list step.edge) (lines_left [] (File step.state) (number + 1) rest)
 Leads e number line (Err f) = (rest : List (List ℕ)) → lines_left [] (File e) number (line ∷ rest) ≡ Err f
 
@@ -101,7 +102,7 @@ line_left e number line = by (is_skipped line) refl
     by true h = rw h (skipped_left e number line h)
     by false h = rw h (end_or e.end refl h)
 
-pub file_takes : (signal : List ℕ) (old new : EdgeReader) (number : ℕ) (line : List ℕ) (result : Result (Option EdgeOf) CaptureFault) → Takes (took_line number line old) result new → TakesLine signal (File old) number line result (File new)
+pub file_takes : (signal : List ℕ) (old new : EdgeReader) (number : ℕ) (line : List ℕ) (result : Result (Option EdgeOf) (At Cause)) → Takes (took_line number line old) result new → TakesLine signal (File old) number line result (File new)
 file_takes signal old new number line (Ok edge) h = subst (Leads old number line) h (line_left old number line)
 file_takes signal old new number line (Err f) h = subst (Leads old number line) h (line_left old number line)
 
@@ -111,11 +112,11 @@ pub pin_takes : (signal : List ℕ) (old new : PinReader) (number : ℕ) (line :
     → TakesLine signal (Pin old) number line (Ok edge) (Pin new)
 pin_takes signal old new number line edge h = λ rest. alone pin_form number line rest old (record { state = new; edge = edge }) (whole line) h
 
-pub pin_refuses : (signal : List ℕ) (old new : PinReader) (number : ℕ) (line : List ℕ) (slip : Slip) (f : CaptureFault) → pin_form.took 0 line old ≡ Err slip → fault_at number slip ≡ f
+pub pin_refuses : (signal : List ℕ) (old new : PinReader) (number : ℕ) (line : List ℕ) (slip : AtWord Cause) (f : At Cause) → pin_form.took 0 line old ≡ Err slip → at_line number slip ≡ f
     → TakesLine signal (Pin old) number line (Err f) (Pin new)
 pin_refuses signal old new number line slip f h is = λ rest. refused rest ∙ ap Err is
   where
-    refused : (rest : List (List ℕ)) → lines_read pin_form number (line ∷ rest) old ≡ Err (fault_at number slip)
+    refused : (rest : List (List ℕ)) → lines_read pin_form number (line ∷ rest) old ≡ Err (at_line number slip)
     refused rest =
         ap (λ ws. read_on (words_read pin_form number 0 ws old) (lines_read pin_form (number + 1) rest)) (whole line)
         ∙ ap (λ o. read_on (word_read number o (words_read pin_form number 1 [])) (lines_read pin_form (number + 1) rest)) h
@@ -129,18 +130,18 @@ pin_early early old new line edge l h = early line old (record { state = new; ed
 pub names_take : (signal : List ℕ) (number : ℕ) (line : List ℕ) (rows : CsvReader) → rows_by number (column_of signal line) ≡ Ok rows → TakesLine signal Names number line (Ok None) (Rows rows)
 names_take signal number line rows h = λ rest. ap (rows_left (number + 1) rest) h ∙ with_none (lines_read csv_form (number + 1) rest rows)
 
-pub names_refuse : (signal : List ℕ) (number : ℕ) (line : List ℕ) (new : CaptureLines) (f : CaptureFault) → rows_by number (column_of signal line) ≡ Err f → TakesLine signal Names number line (Err f) new
+pub names_refuse : (signal : List ℕ) (number : ℕ) (line : List ℕ) (new : CaptureLines) (f : At Cause) → rows_by number (column_of signal line) ≡ Err f → TakesLine signal Names number line (Err f) new
 names_refuse signal number line new f h = λ rest. ap (rows_left (number + 1) rest) h
 
 pub row_takes : (signal : List ℕ) (old new : CsvReader) (number : ℕ) (line : List ℕ) (edge : Option EdgeOf) → csv_form.took 0 line old ≡ Ok (record { state = new; edge = edge })
     → TakesLine signal (Rows old) number line (Ok edge) (Rows new)
 row_takes signal old new number line edge h = λ rest. alone csv_form number line rest old (record { state = new; edge = edge }) (whole line) h
 
-pub row_refuses : (signal : List ℕ) (old new : CsvReader) (number : ℕ) (line : List ℕ) (slip : Slip) (f : CaptureFault) → csv_form.took 0 line old ≡ Err slip → fault_at number slip ≡ f
+pub row_refuses : (signal : List ℕ) (old new : CsvReader) (number : ℕ) (line : List ℕ) (slip : AtWord Cause) (f : At Cause) → csv_form.took 0 line old ≡ Err slip → at_line number slip ≡ f
     → TakesLine signal (Rows old) number line (Err f) (Rows new)
 row_refuses signal old new number line slip f h is = λ rest. refused rest ∙ ap Err is
   where
-    refused : (rest : List (List ℕ)) → lines_read csv_form number (line ∷ rest) old ≡ Err (fault_at number slip)
+    refused : (rest : List (List ℕ)) → lines_read csv_form number (line ∷ rest) old ≡ Err (at_line number slip)
     refused rest =
         ap (λ ws. read_on (words_read csv_form number 0 ws old) (lines_read csv_form (number + 1) rest)) (whole line)
         ∙ ap (λ o. read_on (word_read number o (words_read csv_form number 1 [])) (lines_read csv_form (number + 1) rest)) h
@@ -153,7 +154,7 @@ row_early early old new line edge l h =
 pub rows_end : (r : CsvReader) (number end : ℕ) (edge : Option EdgeOf) → csv_form.ended r ≡ Ok end → edge ≡ last_edge r.track → EndsLines (Rows r) number (Ok (record { edge = edge; end = end }))
 rows_end r number end edge h last = ap (end_of_lines number r.track) h ∙ ap (λ (o : Option EdgeOf). Ok (record { edges = option_to_list o; end = end })) (sym last)
 
-pub rows_end_not : (r : CsvReader) (number : ℕ) (f : CaptureFault) (cause : Cause) → csv_form.ended r ≡ Err cause → EndsLines (Rows r) number (Err f)
+pub rows_end_not : (r : CsvReader) (number : ℕ) (f : At Cause) (cause : Cause) → csv_form.ended r ≡ Err cause → EndsLines (Rows r) number (Err f)
 rows_end_not r number f cause h = cc
 
 pub rows_end_early : (csv : CsvLinesGoOn) (r : CsvReader) (end : ℕ) → r.track.at ≤ latest_instant → csv_form.ended r ≡ Ok end → end ≤ latest_instant

@@ -8,9 +8,10 @@ use Rattle.line_wave.specs.Bounds.{latest_instant}
 use Rattle.line_wave.specs.Line.{Line, was_low}
 use Rattle.line_reading.specs.declared.times.Windows.{Windows}
 use Rattle.line_reading.specs.Readings.{Listed}
+use Rattle.text_core.specs.declared.at.At.{At}
 use Rattle.capture_core.specs.Edges.{AreInTurn, Captured, EndBy, level_at, line_of_edges}
 use Rattle.capture_core.specs.Reading.{with_edges}
-use Rattle.capture_core.specs.declared.fault.CaptureFault.{CaptureFault}
+use Rattle.capture_core.specs.declared.fault.Cause.{Cause}
 use Rattle.capture_monitor.specs.Monitor.{FollowsCalmBy, FollowsEdgeBy, FollowsEndBy, HeardBeforeBy}
 use Rattle.capture_monitor.specs.ReadBy.{ended_before_by, readings_by}
 use Rattle.capture_monitor.specs.Watch.{listed_line, readings_text, reported_text}
@@ -214,7 +215,7 @@ told_front win m known low edges end text w =
 -- ---- a line
 
 -- of lines that are read these edges are the first
-pub split_read : (edges : List Edge) (r : Result Captured CaptureFault) (c : Captured) → with_edges edges r ≡ Ok c → (d : Captured) × (r ≡ Ok d) × (c ≡ record { edges = edges ++ d.edges; end = d.end })
+pub split_read : (edges : List Edge) (r : Result Captured (At Cause)) (c : Captured) → with_edges edges r ≡ Ok c → (d : Captured) × (r ≡ Ok d) × (c ≡ record { edges = edges ++ d.edges; end = d.end })
 split_read edges (Ok d) c h = (d, refl, (let x : record { edges = edges ++ d.edges; end = d.end } ≡ c = cc in sym x))
 split_read edges (Err f) c h = cc
 
@@ -265,7 +266,7 @@ goes_on file pin csv signal lines number from is early rest c h =
     ((r.is_low, subst (λ n. AreInTurn r.is_low n c.edges) (sym is) r.turn), omega (arith, is, reach))
 
 -- a line at fault
-pub line_refused : (form : LineForm) (signal : List ℕ) (win : Windows) (past : List (List ℕ)) (number : ℕ) (line : List ℕ) (old : Follower) (lines : CaptureLines) (fault : CaptureFault) (text : List ℕ) → IsFollowed form signal win past number old text
+pub line_refused : (form : LineForm) (signal : List ℕ) (win : Windows) (past : List (List ℕ)) (number : ℕ) (line : List ℕ) (old : Follower) (lines : CaptureLines) (fault : At Cause) (text : List ℕ) → IsFollowed form signal win past number old text
     → TakesLine signal old.lines number line (Err fault) lines → (rest : List (List ℕ)) → lines_captured form signal (past ++ line ∷ rest) ≡ Err fault
 line_refused form signal win past number line old lines fault text w takes rest = w.read (line ∷ rest) ∙ ap (with_edges w.edges) (takes rest)
 
@@ -291,6 +292,6 @@ end_followed form signal win past number f mid last heard one two text w ends ed
     next : HasTold win mid.monitor mid.known low [] last.end (text ++ reported_text one)
     next = edge.told win low [] last.end text first
 
-pub end_refused : (form : LineForm) (signal : List ℕ) (win : Windows) (past : List (List ℕ)) (number : ℕ) (f : Follower) (fault : CaptureFault) (text : List ℕ) → IsFollowed form signal win past number f text → EndsLines f.lines number (Err fault)
+pub end_refused : (form : LineForm) (signal : List ℕ) (win : Windows) (past : List (List ℕ)) (number : ℕ) (f : Follower) (fault : At Cause) (text : List ℕ) → IsFollowed form signal win past number f text → EndsLines f.lines number (Err fault)
     → lines_captured form signal past ≡ Err fault
 end_refused form signal win past number f fault text w ends = ap (lines_captured form signal) (sym (append-nil past)) ∙ w.read [] ∙ ap (with_edges w.edges) (end_same signal f.lines number ∙ ends)

@@ -7,8 +7,9 @@ use Rattle.text_core.specs.declared.buffered.Buffered.{Buffered}
 use Rattle.text_core.specs.Lines.{lines_of}
 use Rattle.text_core.specs.Written.{WrittenLine}
 use Rattle.text_core.specs.declared.sink.WriteFault.{WriteFault}
+use Rattle.text_core.specs.declared.at.At.{At}
 use Rattle.line_reading.specs.declared.times.Windows.{Windows}
-use Rattle.capture_core.specs.declared.fault.CaptureFault.{CaptureFault}
+use Rattle.capture_core.specs.declared.fault.Cause.{Cause}
 use Rattle.capture_forms.specs.Captures.{capture_in}
 use Rattle.live_incoming.specs.Incoming.{IsNext, IsWhole, Leads, text_of_lines}
 use Rattle.follow_core.specs.Follow.{AreFirst, Ends, Follows, HasHeard, HaveCome, Hears, HearsEnd, HearsLine, IsCut, IsCutLast, IsFollowed, IsFront, IsOfWriting, IsOverBy, IsPrompt, IsReady, IsUpToDate, Puts, heard_text, text_of}
@@ -64,7 +65,7 @@ hears signal number line old new heard before after (Err (Write count)) h prompt
   prompt = prompt;
 }
 
-pub fault_heard : (signal : List ℕ) (number : ℕ) (line : List ℕ) (old new : Follower) (bytes : Option (List ℕ)) (fault : CaptureFault) → HearsLine signal number line old (Err fault) new → fault.line ≡ number
+pub fault_heard : (signal : List ℕ) (number : ℕ) (line : List ℕ) (old new : Follower) (bytes : Option (List ℕ)) (fault : At Cause) → HearsLine signal number line old (Err fault) new → fault.line ≡ number
     → Hears signal number line old new bytes bytes (Err (Capture fault))
 fault_heard signal number line old new bytes fault h place = record { put = Appends-nil bytes; place = place; refused = h }
 
@@ -89,7 +90,7 @@ ends number f heard before after (Err (Write count)) h put writes = record {
   all = λ form signal win past so_far w. subst (λ t. IsAll form signal win past (so_far ++ t)) put.2 (h form signal win past so_far w);
 }
 
-pub fault_ends : (number : ℕ) (f : Follower) (bytes : Option (List ℕ)) (fault : CaptureFault) → HearsEnd number f (Err fault) → fault.line ≡ number → Ends number f bytes bytes (Err (Capture fault))
+pub fault_ends : (number : ℕ) (f : Follower) (bytes : Option (List ℕ)) (fault : At Cause) → HearsEnd number f (Err fault) → fault.line ≡ number → Ends number f bytes bytes (Err (Capture fault))
 fault_ends number f bytes fault h place = record { put = Appends-nil bytes; place = place; refused = h }
 
 -- ---- an input
@@ -196,10 +197,10 @@ by_lines forms.Pin signal text = refl
 by_lines forms.Csv signal text = refl
 
 -- a fault is that of the input
-abbrev IsFaultOf : LineForm → List ℕ → Option (List ℕ) → CaptureFault → Type 0
+abbrev IsFaultOf : LineForm → List ℕ → Option (List ℕ) → At Cause → Type 0
 IsFaultOf form signal known fault = IfSome known (λ text. capture_in (form_as form) signal text ≡ Err fault)
 
-refused_line : (form : LineForm) (signal : List ℕ) (known now next : Option (List ℕ)) (past : List (List ℕ)) (line : List ℕ) (fault : CaptureFault) → Come known now past → Leads now next line
+refused_line : (form : LineForm) (signal : List ℕ) (known now next : Option (List ℕ)) (past : List (List ℕ)) (line : List ℕ) (fault : At Cause) → Come known now past → Leads now next line
     → ((rest : List (List ℕ)) → lines_captured form signal (past ++ line ∷ rest) ≡ Err fault) → IsFaultOf form signal known fault
 refused_line form signal None now next past line fault a b refused = tt
 refused_line form signal (Some xs) None next past line fault a b refused = absurd a
@@ -207,7 +208,7 @@ refused_line form signal (Some xs) (Some ys) None past line fault a b refused = 
 refused_line form signal (Some xs) (Some ys) (Some zs) past line fault a b refused =
     by_lines form signal xs ∙ ap (lines_captured form signal) (a ∙ ap (λ ls. past ++ ls) b) ∙ refused (lines_of zs)
 
-refused_end : (form : LineForm) (signal : List ℕ) (known now : Option (List ℕ)) (past : List (List ℕ)) (fault : CaptureFault) → Come known now past → IsAtEnd now → lines_captured form signal past ≡ Err fault → IsFaultOf form signal known fault
+refused_end : (form : LineForm) (signal : List ℕ) (known now : Option (List ℕ)) (past : List (List ℕ)) (fault : At Cause) → Come known now past → IsAtEnd now → lines_captured form signal past ≡ Err fault → IsFaultOf form signal known fault
 refused_end form signal None now past fault a end refused = tt
 refused_end form signal (Some xs) None past fault a end refused = absurd a
 refused_end form signal (Some xs) (Some ys) past fault a end refused =

@@ -2,12 +2,13 @@
 use Rattle.std.specs.Prelude.{◌≡◌, ℕ, ◌+◌, ◌<◌, ◌≤◌, ◌⊎◌, Bool, true, false, List, [], ◌∷◌, ◌++◌, length, Option, Some, None, IfErr, IfSome, Result, Ok, Err}
 use Rattle.std.specs.Io.KnownBytes.{Appends}
 use Rattle.text_core.specs.Lines.{lines_of}
+use Rattle.text_core.specs.declared.at.At.{At}
 use Rattle.line_wave.specs.declared.Edge.{Edge}
 use Rattle.line_wave.specs.Line.{Line, was_low}
 use Rattle.line_reading.specs.declared.times.Windows.{Windows}
 use Rattle.capture_core.specs.Edges.{AreInTurn, Captured, EndBy, level_at, line_of_edges}
 use Rattle.capture_core.specs.Reading.{with_edges}
-use Rattle.capture_core.specs.declared.fault.CaptureFault.{CaptureFault}
+use Rattle.capture_core.specs.declared.fault.Cause.{Cause}
 use Rattle.capture_monitor.specs.Joined.{captured_by}
 use Rattle.capture_monitor.specs.Monitor.{HeardBeforeBy}
 use Rattle.capture_monitor.specs.ReadBy.{ended_before_by}
@@ -83,7 +84,7 @@ pub record TellsCalm (old : Follower) (from : ℕ) (reported : Option Listed) (n
       → HasTold windows new.monitor new.known low edges end (text ++ reported_text reported)
 
 -- a line has come
-abbrev pub HearsLine : List ℕ → ℕ → List ℕ → Follower → Result EndedReadings CaptureFault → Follower → Type 0
+abbrev pub HearsLine : List ℕ → ℕ → List ℕ → Follower → Result EndedReadings (At Cause) → Follower → Type 0
 HearsLine signal number line old (Ok heard) new = (form : LineForm) (windows : Windows) (past : List (List ℕ)) (text : List ℕ) → IsFollowed form signal windows past number old text
     → IsFollowed form signal windows (past ++ line ∷ []) (number + 1) new (text ++ heard_text heard)
 HearsLine signal number line old (Err fault) new = (form : LineForm) (windows : Windows) (past : List (List ℕ)) (text : List ℕ) → IsFollowed form signal windows past number old text
@@ -95,7 +96,7 @@ pub record IsWhole (form : LineForm) (signal : List ℕ) (windows : Windows) (li
   pub read : lines_captured form signal lines ≡ Ok capture
   pub all : text_of windows capture ≡ text
 
-abbrev pub HearsEnd : ℕ → Follower → Result EndedReadings CaptureFault → Type 0
+abbrev pub HearsEnd : ℕ → Follower → Result EndedReadings (At Cause) → Type 0
 HearsEnd number f (Ok heard) = (form : LineForm) (signal : List ℕ) (windows : Windows) (past : List (List ℕ)) (text : List ℕ) → IsFollowed form signal windows past number f text
     → IsWhole form signal windows past (text ++ heard_text heard)
 HearsEnd number f (Err fault) = (form : LineForm) (signal : List ℕ) (windows : Windows) (past : List (List ℕ)) (text : List ℕ) → IsFollowed form signal windows past number f text
@@ -135,7 +136,7 @@ pub record HasHeard (signal : List ℕ) (number : ℕ) (line : List ℕ) (old ne
   pub prompt : IsPrompt new
 
 -- it is at fault, and nothing is written
-pub record IsAtFault (signal : List ℕ) (number : ℕ) (line : List ℕ) (old : Follower) (before after : Option (List ℕ)) (fault : CaptureFault) : Type 0 where
+pub record IsAtFault (signal : List ℕ) (number : ℕ) (line : List ℕ) (old : Follower) (before after : Option (List ℕ)) (fault : At Cause) : Type 0 where
   pub put : Appends before after []
   pub place : fault.line ≡ number
   pub refused : (form : LineForm) (windows : Windows) (past : List (List ℕ)) (so_far : List ℕ) → IsFollowed form signal windows past number old so_far
@@ -164,7 +165,7 @@ pub record HasWritten (number : ℕ) (f : Follower) (before after : Option (List
   pub all : (form : LineForm) (signal : List ℕ) (windows : Windows) (past : List (List ℕ)) (so_far : List ℕ) → IsFollowed form signal windows past number f so_far
       → IsWhole form signal windows past (so_far ++ text)
 
-pub record LacksEnd (number : ℕ) (f : Follower) (before after : Option (List ℕ)) (fault : CaptureFault) : Type 0 where
+pub record LacksEnd (number : ℕ) (f : Follower) (before after : Option (List ℕ)) (fault : At Cause) : Type 0 where
   pub put : Appends before after []
   pub place : fault.line ≡ number
   pub refused : (form : LineForm) (signal : List ℕ) (windows : Windows) (past : List (List ℕ)) (so_far : List ℕ) → IsFollowed form signal windows past number f so_far → lines_captured form signal past ≡ Err fault
@@ -212,12 +213,12 @@ pub record IsUpToDate (form : LineForm) (signal : List ℕ) (windows : Windows) 
   pub put : Appends old new text
 
 -- a line is at fault whatever comes after it, or the end is missing
-abbrev pub IsRefused : LineForm → List ℕ → List (List ℕ) → Option (List ℕ) → CaptureFault → Type 0
+abbrev pub IsRefused : LineForm → List ℕ → List (List ℕ) → Option (List ℕ) → At Cause → Type 0
 IsRefused form signal past (Some line) fault = (rest : List (List ℕ)) → lines_captured form signal (past ++ line ∷ rest) ≡ Err fault
 IsRefused form signal past None fault = lines_captured form signal past ≡ Err fault
 
 -- the fault is that of the input, and at the line after these
-pub record StopsAtFault (form : LineForm) (signal : List ℕ) (windows : Windows) (known old new : Option (List ℕ)) (fault : CaptureFault) : Type 0 where
+pub record StopsAtFault (form : LineForm) (signal : List ℕ) (windows : Windows) (known old new : Option (List ℕ)) (fault : At Cause) : Type 0 where
   pub past : List (List ℕ)
   pub next : Option (List ℕ)
   pub came : HaveCome known past next

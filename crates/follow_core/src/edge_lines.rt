@@ -1,12 +1,12 @@
 //! A reader of the lines of an edge file, as they come.
 ghost use Rattle.std.specs.Prelude.{◌≡◌, ◌+◌, ◌≤◌, IfErr, IfOk, IfSome, OnOk};
 ghost use Rattle.line_wave.specs.Bounds.{latest_instant};
-ghost use Rattle.capture_monitor.specs.EdgeFile.{edge_line_of, is_in_turn, turns, word_out_of_turn, word_past};
+ghost use Rattle.capture_monitor.specs.EdgeFile.{edge_line_of};
 
-use capture_core::{CaptureFault, Cause};
-use capture_monitor::{EdgeLine, edge_line_in};
+use capture_core::Cause;
+use capture_monitor::{EdgeLine, edge_line_in, is_in_turn, word_out_of_turn, word_past};
 use line_wave::Edge;
-use text_core::is_skipped;
+use text_core::{At, at_word, is_skipped};
 
 /// A reader of the lines of an edge file.
 #[derive(Clone, Copy, Debug)]
@@ -17,22 +17,6 @@ pub struct EdgeReader {
     from: u64,
     /// The end, once it was read.
     end: Option<u64>,
-}
-
-fn fault_at(line: u64, cause: Cause, word: usize) -> CaptureFault
-    ensures { result ≡ record { line = line; cause = cause; word = word } }
-{
-    CaptureFault { line, cause, word }
-}
-
-// The word at fault of a line that stands after the end.
-fn word_past(line: Result<EdgeLine, usize>) -> usize
-    ensures { result ≡ word_past line }
-{
-    match line {
-        Err(word) => word,
-        Ok(_) => 0,
-    }
 }
 
 impl EdgeReader {
@@ -62,29 +46,8 @@ impl EdgeReader {
         }
     }
 
-    // Whether the edge turns the line.
-    fn turns(&self, edge: Edge) -> bool
-        ensures { result ≡ turns self.now.is_low edge }
-    {
-        edge.low != self.is_low
-    }
-
-    // Whether an edge turns the line, and comes late enough.
-    fn is_in_turn(&self, edge: Edge) -> bool
-        ensures { result ≡ is_in_turn self.now.is_low self.now.from edge }
-    {
-        self.turns(edge) && self.from <= edge.at
-    }
-
-    // The word at fault of an edge that is not in turn.
-    fn word_out_of_turn(&self, edge: Edge) -> usize
-        ensures { result ≡ word_out_of_turn self.now.is_low edge }
-    {
-        if self.turns(edge) { 0 } else { 1 }
-    }
-
     // A line that is not skipped, before the end.
-    fn take_said(&mut self, number: u64, line: &[u8]) -> Result<Option<Edge>, CaptureFault>
+    fn take_said(&mut self, number: u64, line: &[u8]) -> Result<Option<Edge>, At<Cause>>
         requires open { self.old.end ≡ None }
         requires early { IsEarlyFile self.old }
         ensures takes { Takes (after_said number (edge_line_of line.now) self.old) result self.new }
@@ -93,11 +56,12 @@ impl EdgeReader {
         ensures edge { IfOk result (λ edge. IfSome edge (λ e. e.at ≤ latest_instant)) }
     {
         match edge_line_in(line) {
-            Err(word) => Err(fault_at(number, Cause::Line, word)),
+            Err(word) => Err(at_word(word, Cause::Line).on_line(number)),
             Ok(said) => match said {
                 EdgeLine::Edge(edge) => {
-                    if !self.is_in_turn(edge) {
-                        return Err(fault_at(number, Cause::Order, self.word_out_of_turn(edge)));
+                    if !is_in_turn(self.is_low, self.from, edge) {
+                        let word = word_out_of_turn(self.is_low, edge);
+                        return Err(at_word(word, Cause::Order).on_line(number));
                     }
                     self.is_low = edge.low;
                     self.from = edge.at + 1;
@@ -105,7 +69,7 @@ impl EdgeReader {
                 }
                 EdgeLine::End(end) => {
                     if self.from > end + 1 {
-                        return Err(fault_at(number, Cause::Order, 0));
+                        return Err(at_word(0, Cause::Order).on_line(number));
                     }
                     self.end = Some(end);
                     Ok(None)
@@ -119,7 +83,7 @@ impl EdgeReader {
     /// # Errors
     ///
     /// The line is at fault.
-    pub fn take(&mut self, number: u64, line: &[u8]) -> Result<Option<Edge>, CaptureFault>
+    pub fn take(&mut self, number: u64, line: &[u8]) -> Result<Option<Edge>, At<Cause>>
         requires early { IsEarlyFile self.old }
         ensures takes { Takes (took_line number line.now self.old) result self.new }
         ensures place { IfErr result (λ fault. fault.line ≡ number) }
@@ -131,7 +95,7 @@ impl EdgeReader {
         }
         match self.end {
             None => self.take_said(number, line),
-            Some(_) => Err(fault_at(number, Cause::Line, word_past(edge_line_in(line)))),
+            Some(_) => Err(at_word(word_past(line), Cause::Line).on_line(number)),
         }
     }
 
@@ -140,14 +104,14 @@ impl EdgeReader {
     /// # Errors
     ///
     /// The end is missing.
-    pub fn end(&self, number: u64) -> Result<u64, CaptureFault>
+    pub fn end(&self, number: u64) -> Result<u64, At<Cause>>
         requires early { IsEarlyFile self.now }
         ensures end { result ≡ end_of self.now.end number }
         ensures place { IfErr result (λ fault. fault.line ≡ number) }
         ensures early { IfOk result (λ end. end ≤ latest_instant) }
     {
         match self.end {
-            None => Err(fault_at(number, Cause::Line, 0)),
+            None => Err(at_word(0, Cause::Line).on_line(number)),
             Some(end) => Ok(end),
         }
     }

@@ -1,5 +1,6 @@
 //! Why a capture is not followed any further.
-use capture_core::CaptureFault;
+use capture_core::Cause;
+use text_core::At;
 use thiserror::Error;
 
 /// Why a capture is not followed any further.
@@ -12,7 +13,7 @@ pub enum FollowError {
     TooLong,
     /// The first line at fault.
     #[error("{0}")]
-    Capture(CaptureFault),
+    Capture(At<Cause>),
     /// A `put` took none. So many bytes were handed on.
     #[error("write fault after {0} bytes")]
     Write(u128),

@@ -6,13 +6,14 @@ ghost use Rattle.line_reading.specs.Windows.{AreWindows};
 ghost use Rattle.follow_core.specs.Follow.{HearsEnd, HearsLine, IsFollowed, IsPrompt, IsReady, TellsCalm, TellsEdge};
 
 use crate::lines::{CaptureLines, LineForm};
-use capture_core::CaptureFault;
+use capture_core::Cause;
 use capture_csv::csv_lines_go_on;
 use capture_monitor::{Monitor, edge_lines_go_on};
 use capture_pin::pin_lines_go_on;
 use line_frames::Reading;
 use line_reading::Windows;
 use line_wave::Edge;
+use text_core::At;
 
 /// What has ended by a line: two readings at most.
 #[derive(Debug, Drop)]
@@ -92,7 +93,7 @@ impl Follower {
         signal: &[u8],
         number: u64,
         line: &[u8],
-    ) -> Result<EndedReadings, CaptureFault>
+    ) -> Result<EndedReadings, At<Cause>>
         requires ready { IsReady self.old }
         ensures hears { HearsLine signal.now number line.now self.old result self.new }
         ensures place { IfErr result (λ fault. fault.line ≡ number) }
@@ -116,7 +117,7 @@ impl Follower {
     /// # Errors
     ///
     /// The end is missing.
-    pub fn end(self, number: u64) -> Result<EndedReadings, CaptureFault>
+    pub fn end(self, number: u64) -> Result<EndedReadings, At<Cause>>
         requires ready { IsReady self }
         ensures hears { HearsEnd number self result }
         ensures place { IfErr result (λ fault. fault.line ≡ number) }

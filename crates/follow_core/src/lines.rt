@@ -6,10 +6,11 @@ ghost use Rattle.follow_core.specs.Lines.{EndsLines, TakesLine, no_signal, rows_
 ghost use Rattle.follow_core.specs.declared.lines.CaptureLines.TheVariants.{Pin, Rows};
 
 use crate::edge_lines::EdgeReader;
-use capture_core::{CaptureFault, Cause, Slip, TakesWords};
+use capture_core::{Cause, TakesWords};
 use capture_csv::{CsvReader, column_of, csv_lines_are_early, csv_lines_go_on};
 use capture_pin::{PinReader, pin_lines_are_early};
 use line_wave::Edge;
+use text_core::{At, at_word};
 
 /// A form that is read line by line.
 #[derive(Clone, Copy, Debug, PartialEq, Eq)]
@@ -43,7 +44,7 @@ pub enum CaptureLines {
 }
 
 // Takes a line of a file of pin events.
-fn take_pin(reader: &mut PinReader, number: u64, line: &[u8]) -> Result<Option<Edge>, CaptureFault>
+fn take_pin(reader: &mut PinReader, number: u64, line: &[u8]) -> Result<Option<Edge>, At<Cause>>
     requires early { reader.old.track.at ≤ latest_instant }
     ensures takes { (signal : List ℕ) → TakesLine signal (Pin reader.old) number line.now result (Pin reader.new) }
     ensures place { IfErr result (λ fault. fault.line ≡ number) }
@@ -59,18 +60,14 @@ fn take_pin(reader: &mut PinReader, number: u64, line: &[u8]) -> Result<Option<E
 }
 
 // No name is that of the signal.
-fn no_signal(number: u64) -> CaptureFault
+fn no_signal(number: u64) -> At<Cause>
     ensures { result ≡ no_signal number }
 {
-    CaptureFault {
-        line: number,
-        cause: Cause::Signal,
-        word: 1,
-    }
+    at_word(1, Cause::Signal).on_line(number)
 }
 
 // Takes the line of the names.
-fn take_names(signal: &[u8], number: u64, line: &[u8]) -> Result<CsvReader, CaptureFault>
+fn take_names(signal: &[u8], number: u64, line: &[u8]) -> Result<CsvReader, At<Cause>>
     ensures rows { result ≡ rows_by number (column_of signal.now line.now) }
     ensures early { IfOk result (λ rows. rows.track.at ≤ latest_instant) }
     ensures place { IfErr result (λ fault. fault.line ≡ number) }
@@ -82,7 +79,7 @@ fn take_names(signal: &[u8], number: u64, line: &[u8]) -> Result<CsvReader, Capt
 }
 
 // Takes a row of comma-separated values.
-fn take_row(reader: &mut CsvReader, number: u64, line: &[u8]) -> Result<Option<Edge>, CaptureFault>
+fn take_row(reader: &mut CsvReader, number: u64, line: &[u8]) -> Result<Option<Edge>, At<Cause>>
     requires early { reader.old.track.at ≤ latest_instant }
     ensures takes { (signal : List ℕ) → TakesLine signal (Rows reader.old) number line.now result (Rows reader.new) }
     ensures place { IfErr result (λ fault. fault.line ≡ number) }
@@ -98,7 +95,7 @@ fn take_row(reader: &mut CsvReader, number: u64, line: &[u8]) -> Result<Option<E
 }
 
 // What is known after the last row.
-fn end_rows(reader: &CsvReader, number: u64) -> Result<Last, CaptureFault>
+fn end_rows(reader: &CsvReader, number: u64) -> Result<Last, At<Cause>>
     requires early { reader.now.track.at ≤ latest_instant }
     ensures ends { EndsLines (Rows reader.now) number result }
     ensures place { IfErr result (λ fault. fault.line ≡ number) }
@@ -108,10 +105,7 @@ fn end_rows(reader: &CsvReader, number: u64) -> Result<Last, CaptureFault>
     // No effect at run time. The proof reads from it that the end is within the limit.
     csv_lines_go_on();
     match reader.end() {
-        Err(cause) => {
-            let slip = Slip { cause, word: 0 };
-            Err(slip.on_line(number))
-        }
+        Err(cause) => Err(at_word(0, cause).on_line(number)),
         Ok(end) => Ok(Last {
             edge: reader.track().last(),
             end,
@@ -146,7 +140,7 @@ impl CaptureLines {
         signal: &[u8],
         number: u64,
         line: &[u8],
-    ) -> Result<Option<Edge>, CaptureFault>
+    ) -> Result<Option<Edge>, At<Cause>>
         requires early { IsEarly self.old }
         ensures takes { TakesLine signal.now self.old number line.now result self.new }
         ensures place { IfErr result (λ fault. fault.line ≡ number) }
@@ -185,7 +179,7 @@ impl CaptureLines {
     /// # Errors
     ///
     /// The end is missing.
-    pub fn end(&self, number: u64) -> Result<Last, CaptureFault>
+    pub fn end(&self, number: u64) -> Result<Last, At<Cause>>
         requires early { IsEarly self.now }
         ensures ends { EndsLines self.now number result }
         ensures place { IfErr result (λ fault. fault.line ≡ number) }

@@ -1,7 +1,7 @@
 //! Why what is asked for of a capture is not written.
-use capture_core::{CaptureError, CaptureFault};
+use capture_core::{CaptureError, Cause};
 use std::alloc::AllocError;
-use text_core::WriteFault;
+use text_core::{At, WriteFault};
 use thiserror::Error;
 
 /// Why what is asked for of a capture is not written.
@@ -15,7 +15,7 @@ pub enum MonitorFault {
     TooLong,
     /// The first line at fault.
     #[error("{0}")]
-    Line(CaptureFault),
+    Line(At<Cause>),
     /// A strict audit has a remark. All of it was written.
     #[error("the audit has a remark")]
     Remarked,
