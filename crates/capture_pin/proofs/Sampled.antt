@@ -15,7 +15,7 @@ use Rattle.capture_core.specs.Reading.{Step, lines_read}
 pub use Rattle.capture_core.proofs.Passing.{alone, onward, whole, without_word}
 use Rattle.capture_pin.specs.Pin.{Stepped, first_reader, edges_in, event_by_start, event_of, after_event, track_with_level, moved_by, moved_to, pin_form, reader_with_start, start_in_comment, took, word_at_fault}
 use Rattle.capture_pin.specs.Sampling.{PinFilesAreSampled, PinLinesAreEarly, PinLinesGoOn, event_in, last_time, level_by, level_reported, levels_in, or_start, start_after, time_by}
-use Rattle.capture_pin.specs.declared.line.Event.{Event}
+use Rattle.capture_pin.specs.declared.line.PinEvent.{PinEvent}
 use Rattle.capture_pin.specs.declared.reader.PinReader.{PinReader}
 
 -- ---- a line
@@ -32,7 +32,7 @@ abbrev GoesBy : Track → Stepped → ℕ → ℕ → Option Level → Type 0
 GoesBy old (Err c) start time level = Unit {0}
 GoesBy old (Ok step) start time level = Goes old step start time level
 
-event_goes : (r : PinReader) (e : Event) → GoesBy r.track (after_event (Some e) r) r.start (e.nanos - r.start) (level_reported (e.nanos - r.start) e.low)
+event_goes : (r : PinReader) (e : PinEvent) → GoesBy r.track (after_event (Some e) r) r.start (e.nanos - r.start) (level_reported (e.nanos - r.start) e.low)
 event_goes r e = by (nat_lt e.nanos r.start)
   where
     reported : (low : Option Bool) (m : Moved) → track_move (rounded (e.nanos - r.start)) r.track ≡ Some m → e.nanos - r.start ≤ 2000000000000000
@@ -78,7 +78,7 @@ line_goes r line time at early = by (is_skipped line)
     comment None = record { start_is = refl; at = at; early = early; more = λ edges samples end k. k }
     comment (Some n) = record { start_is = refl; at = at; early = early; more = λ edges samples end k. k }
 
-    event : (o : Option Event) → GoesBy r.track (after_event o r) r.start (time_by r.start o time) (level_by r.start o)
+    event : (o : Option PinEvent) → GoesBy r.track (after_event o r) r.start (time_by r.start o time) (level_by r.start o)
     event None = tt
     event (Some e) = event_goes r e
 

@@ -14,7 +14,7 @@ use Rattle.capture_core.specs.Reading.{Form, Step, at_word, lines_read}
 use Rattle.capture_core.specs.declared.fault.Cause.{Cause}
 use Rattle.capture_core.specs.declared.fault.Cause.TheVariants as cause
 use Rattle.capture_core.specs.declared.track.Track.{Track}
-use Rattle.capture_pin.specs.declared.line.Event.{Event}
+use Rattle.capture_pin.specs.declared.line.PinEvent.{PinEvent}
 use Rattle.capture_pin.specs.declared.reader.PinReader.{PinReader}
 
 -- ---- a line
@@ -43,15 +43,15 @@ nanos_by (Some whole) (Some nanos) = Some (whole * 1000000000 + nanos)
 abbrev pub nanos_of : List ℕ → List ℕ → Option ℕ
 nanos_of seconds fraction = nanos_by (number_of seconds) (fraction_of fraction)
 
-abbrev pub event_by : Option ℕ → Option (Option Bool) → Option Event
+abbrev pub event_by : Option ℕ → Option (Option Bool) → Option PinEvent
 event_by None low = None
 event_by (Some nanos) None = None
 event_by (Some nanos) (Some low) = Some (record { nanos = nanos; low = low })
 
-abbrev pub event_cut : List ℕ → List ℕ → Option Event
+abbrev pub event_cut : List ℕ → List ℕ → Option PinEvent
 event_cut seconds rest = if slice_index rest 9 == 32 then event_by (nanos_of seconds (take 9 rest)) (code_of (drop 10 rest)) else None
 
-abbrev pub event_of : List ℕ → Option Event
+abbrev pub event_of : List ℕ → Option PinEvent
 event_of line = event_cut (take (dot_in line) line) (drop (dot_in line + 1) line)
 
 abbrev pub word_start : List ℕ → Option ℕ
@@ -83,11 +83,11 @@ moved_to None low r = Err cause.Late
 moved_to (Some u) low r = moved_by (track_move u r.track) low r
 
 -- no event comes before the start
-abbrev pub event_by_start : Bool → Event → PinReader → Stepped
+abbrev pub event_by_start : Bool → PinEvent → PinReader → Stepped
 event_by_start true e r = Err cause.Order
 event_by_start false e r = moved_to (instant_of (e.nanos - r.start)) e.low r
 
-abbrev pub after_event : Option Event → PinReader → Stepped
+abbrev pub after_event : Option PinEvent → PinReader → Stepped
 after_event None r = Err cause.Word
 after_event (Some e) r = event_by_start (nat_lt e.nanos r.start) e r
 

@@ -8,7 +8,7 @@ use Rattle.capture_core.specs.Edges.{Captured, IsCapture, line_of_edges}
 use Rattle.capture_core.specs.Samples.{Level, level_of}
 use Rattle.capture_core.specs.Reading.{LinesGoOn, Step}
 use Rattle.capture_pin.specs.Pin.{edges_in, event_of, pin_form, start_in_comment, took}
-use Rattle.capture_pin.specs.declared.line.Event.{Event}
+use Rattle.capture_pin.specs.declared.line.PinEvent.{PinEvent}
 use Rattle.capture_pin.specs.declared.reader.PinReader.{PinReader}
 
 abbrev pub or_start : Option ℕ → ℕ → ℕ
@@ -19,7 +19,7 @@ or_start (Some noted) start = noted
 abbrev pub start_after : List ℕ → ℕ → ℕ
 start_after line start = if is_skipped line then or_start (start_in_comment line) start else start
 
-abbrev pub event_in : List ℕ → Option Event
+abbrev pub event_in : List ℕ → Option PinEvent
 event_in line = if is_skipped line then None else event_of line
 
 abbrev pub level_reported : ℕ → Option Bool → Option Level
@@ -27,7 +27,7 @@ level_reported since None = None
 level_reported since (Some low) = Some (record { since = since; low = low })
 
 -- events of other pins give no level
-abbrev pub level_by : ℕ → Option Event → Option Level
+abbrev pub level_by : ℕ → Option PinEvent → Option Level
 level_by start None = None
 level_by start (Some e) = level_reported (e.nanos - start) e.low
 
@@ -35,7 +35,7 @@ abbrev pub levels_in : ℕ → List (List ℕ) → List Level
 levels_in start [] = []
 levels_in start (line ∷ lines) = option_to_list (level_by start (event_in line)) ++ levels_in (start_after line start) lines
 
-abbrev pub time_by : ℕ → Option Event → ℕ → ℕ
+abbrev pub time_by : ℕ → Option PinEvent → ℕ → ℕ
 time_by start None time = time
 time_by start (Some e) time = e.nanos - start
 

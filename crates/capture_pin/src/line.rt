@@ -7,7 +7,7 @@ use text_core::{after, before, byte_at, len_before, number_in};
 
 /// What a line says.
 #[derive(Clone, Copy, Debug, PartialEq, Eq)]
-pub struct Event {
+pub struct PinEvent {
     /// The time in nanoseconds.
     pub nanos: u128,
     /// Whether the line is low, where the event is one of the CEC pin.
@@ -50,7 +50,7 @@ fn nanos_of(seconds: &[u8], fraction: &[u8]) -> Option<u128>
 }
 
 // What a line says, cut at its dot.
-fn event_cut(seconds: &[u8], rest: &[u8]) -> Option<Event>
+fn event_cut(seconds: &[u8], rest: &[u8]) -> Option<PinEvent>
     ensures { result ≡ event_cut seconds.now rest.now }
 {
     if byte_at(rest, 9) != b' ' {
@@ -58,11 +58,11 @@ fn event_cut(seconds: &[u8], rest: &[u8]) -> Option<Event>
     }
     let nanos = nanos_of(seconds, before(rest, 9))?;
     let low = code_of(after(rest, 10))?;
-    Some(Event { nanos, low })
+    Some(PinEvent { nanos, low })
 }
 
 /// What a line says: seconds, a dot, nine digits, a space, a code.
-pub fn event_of(line: &[u8]) -> Option<Event>
+pub fn event_of(line: &[u8]) -> Option<PinEvent>
     ensures { result ≡ event_of line.now }
 {
     let dot = len_before(line, b'.');

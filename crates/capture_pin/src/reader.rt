@@ -1,7 +1,7 @@
 //! A reader of a file of pin events, line by line.
 ghost use Rattle.std.specs.Prelude.{◌≡◌, Some};
 
-use crate::line::{Event, event_of, start_in_comment, word_at_fault};
+use crate::line::{PinEvent, event_of, start_in_comment, word_at_fault};
 use capture_core::{Cause, TakesWords, Track, instant_of, no_gap};
 use line_wave::Edge;
 use text_core::{AtWord, at_word, is_skipped};
@@ -47,7 +47,7 @@ impl PinReader {
     }
 
     // An event, which comes at the start or later.
-    fn take_event(&mut self, event: Event) -> Result<Option<Edge>, Cause>
+    fn take_event(&mut self, event: PinEvent) -> Result<Option<Edge>, Cause>
         ensures { Takes (after_event (Some event) self.old) result self.new }
     {
         if event.nanos < self.start {

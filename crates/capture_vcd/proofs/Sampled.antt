@@ -24,8 +24,8 @@ use Rattle.capture_vcd.specs.Dump.{State, Stepped, dump_form, end_by, first_stat
 use Rattle.capture_vcd.specs.Wire.{Change, Part, Wire, DumpsAreSampled, IsSampled, change_by, change_of, changes_in, femtoseconds, first_of, id_after, is_alone, is_by, is_scalar, is_some_word, last_tick, level_of, scale_after, scale_by, section_after, tick_after, unit_in, unit_made, wire_by, wire_end, wire_from, wire_in, words_in}
 use Rattle.capture_vcd.specs.declared.scale.Count.{Count}
 use Rattle.capture_vcd.specs.declared.scale.Count.TheVariants.{One, Ten, Hundred}
-use Rattle.capture_vcd.specs.declared.reader.Field.{Field}
-use Rattle.capture_vcd.specs.declared.reader.Field.TheVariants as field
+use Rattle.capture_vcd.specs.declared.reader.DefinitionField.{DefinitionField}
+use Rattle.capture_vcd.specs.declared.reader.DefinitionField.TheVariants as field
 use Rattle.capture_vcd.specs.declared.scale.Scale.{Scale as ScaleOf}
 use Rattle.capture_vcd.specs.declared.scale.Unit.{Unit as UnitOf}
 use Rattle.capture_vcd.specs.declared.scale.Unit.TheVariants.{Second, Millisecond, Microsecond, Nanosecond, Picosecond, Femtosecond}
@@ -645,7 +645,7 @@ name_leads name is_bit p noted own candidate scale id word kind size is b ns oi 
           called_so more ∙ ap (λ b. if b then Some candidate else own) t,
         ))
 
-field_leads : (name : List ℕ) (f : Field) (p : Part) (noted : Option ScaleOf) (own : Option (List ℕ)) (candidate : List ℕ) (scale : Option ScaleOf) (id : Option (List ℕ)) (word : List ℕ)
+field_leads : (name : List ℕ) (f : DefinitionField) (p : Part) (noted : Option ScaleOf) (own : Option (List ℕ)) (candidate : List ℕ) (scale : Option ScaleOf) (id : Option (List ℕ)) (word : List ℕ)
     → Defines (section.Variable f) (Some p) noted own candidate scale id name → is_end word ≡ false → LeadsBy (no_edge (in_field f word (defining name (section.Variable f) noted own candidate))) name (Some p) scale id word
 field_leads name field.Kind p noted own candidate scale id word d e =
     goes_on name (section.Variable field.Size) p noted own candidate scale id word e (word, ap (λ (q : Part). longer q word) d.0, d.1, d.2)
@@ -656,7 +656,7 @@ field_leads name (field.Id is_bit) p noted own candidate scale id word d e =
 field_leads name (field.Name is_bit) p noted own candidate scale id word d e =
     name_leads name is_bit p noted own candidate scale id word d.0 d.1 d.2 d.3 d.4 d.5 e (is_bit && is_none own && ((length name == 0) || bytes_eq word name)) refl
 
-variable_leads : (name : List ℕ) (f : Field) (p : Part) (noted : Option ScaleOf) (own : Option (List ℕ)) (candidate : List ℕ) (scale : Option ScaleOf) (id : Option (List ℕ)) (word : List ℕ)
+variable_leads : (name : List ℕ) (f : DefinitionField) (p : Part) (noted : Option ScaleOf) (own : Option (List ℕ)) (candidate : List ℕ) (scale : Option ScaleOf) (id : Option (List ℕ)) (word : List ℕ)
     → Defines (section.Variable f) (Some p) noted own candidate scale id name → (c : Bool) → is_end word ≡ c
     → LeadsBy (if c then Err cause.Word else no_edge (in_field f word (defining name (section.Variable f) noted own candidate))) name (Some p) scale id word
 variable_leads name f p noted own candidate scale id word d true e = tt

@@ -16,8 +16,8 @@ use Rattle.capture_vcd.specs.Scale.{counted_word, instant_of, unit_of}
 use Rattle.capture_vcd.specs.declared.scale.Count.{Count}
 use Rattle.capture_vcd.specs.declared.scale.Unit.{Unit as UnitOf}
 use Rattle.capture_vcd.specs.declared.scale.Scale.{Scale as ScaleOf}
-use Rattle.capture_vcd.specs.declared.reader.Field.{Field}
-use Rattle.capture_vcd.specs.declared.reader.Field.TheVariants as field
+use Rattle.capture_vcd.specs.declared.reader.DefinitionField.{DefinitionField}
+use Rattle.capture_vcd.specs.declared.reader.DefinitionField.TheVariants as field
 use Rattle.capture_vcd.specs.declared.reader.Section.{Section}
 use Rattle.capture_vcd.specs.declared.reader.Section.TheVariants as section
 use Rattle.capture_vcd.specs.declared.reader.VcdReader.{VcdReader}
@@ -185,7 +185,7 @@ after_name is_bit word s =
     else record s { section = section.Skipped }
 
 -- a variable has a type, a size, an identifier and a name
-abbrev pub in_field : Field → List ℕ → State → State
+abbrev pub in_field : DefinitionField → List ℕ → State → State
 in_field field.Kind word s = record s { section = section.Variable field.Size }
 in_field field.Size word s = record s { section = section.Variable (field.Id (bytes_eq word (codes "1"))) }
 in_field (field.Id is_bit) word s = record s { section = section.Variable (field.Name is_bit); candidate = word }

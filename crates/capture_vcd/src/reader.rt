@@ -11,7 +11,7 @@ use text_core::{AtWord, after, at_word, byte_at};
 
 /// What the next word of a variable's definition is.
 #[derive(Clone, Copy, Debug, PartialEq, Eq)]
-pub enum Field {
+pub enum DefinitionField {
     Kind,
     Size,
     /// The identifier, of a variable of one bit or of another one.
@@ -31,7 +31,7 @@ pub enum Section {
     /// The time scale, of which this is the unit.
     Unit(Count),
     /// The definition of a variable.
-    Variable(Field),
+    Variable(DefinitionField),
     /// A change, of which the value is read: whether the wire is low by it, where it is a value of one bit.
     Value(Option<bool>),
 }
@@ -186,7 +186,7 @@ impl<'a> VcdReader<'a> {
         if word == b"$timescale".as_slice() {
             self.section = Section::Scale;
         } else if word == b"$var".as_slice() {
-            self.section = Section::Variable(Field::Kind);
+            self.section = Section::Variable(DefinitionField::Kind);
         } else if word != b"$end".as_slice() {
             self.section = Section::Skipped;
         }
@@ -285,19 +285,19 @@ impl<'a> VcdReader<'a> {
     }
 
     // A word of a variable's definition.
-    fn take_field(&mut self, field: Field, word: &'a [u8])
+    fn take_field(&mut self, field: DefinitionField, word: &'a [u8])
         ensures { state_of_reader self.new ≡ in_field field word.now (state_of_reader self.old) }
     {
         match field {
-            Field::Kind => self.section = Section::Variable(Field::Size),
-            Field::Size => {
-                self.section = Section::Variable(Field::Id(word == b"1".as_slice()));
+            DefinitionField::Kind => self.section = Section::Variable(DefinitionField::Size),
+            DefinitionField::Size => {
+                self.section = Section::Variable(DefinitionField::Id(word == b"1".as_slice()));
             }
-            Field::Id(is_bit) => {
+            DefinitionField::Id(is_bit) => {
                 self.candidate = word;
-                self.section = Section::Variable(Field::Name(is_bit));
+                self.section = Section::Variable(DefinitionField::Name(is_bit));
             }
-            Field::Name(is_bit) => self.take_name(is_bit, word),
+            DefinitionField::Name(is_bit) => self.take_name(is_bit, word),
         }
     }
 

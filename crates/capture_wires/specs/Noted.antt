@@ -6,7 +6,7 @@ use Rattle.std.specs.List.{concat, flat_map, list_any, range_with_len}
 use Rattle.line_wave.specs.declared.Stretch.{Stretch}
 use Rattle.line_wave.specs.Line.{line_of}
 use Rattle.capture_wires.specs.Wires.{changes_from, turns}
-use Rattle.capture_wires.specs.declared.noted.Note.{Note}
+use Rattle.capture_wires.specs.declared.noted.WireText.{WireText}
 
 -- a byte of a text: no space may stand in it
 abbrev pub escaped : ℕ → List ℕ
@@ -18,7 +18,7 @@ pub record Noted : Type 0 where
   pub id : ℕ
   pub text : List ℕ
 
-abbrev pub noted : Note → Noted
+abbrev pub noted : WireText → Noted
 noted note = record { at = note.at; id = note.id; text = note.text.now }
 
 abbrev pub note_line : Noted → List ℕ

@@ -10,4 +10,4 @@ mod noted;
 pub use definitions::{add_closing, add_closing_with, add_opening, add_variable};
 pub use drive::Drive;
 pub use instants::is_low;
-pub use noted::{Note, add_noted_wires, add_wires};
+pub use noted::{WireText, add_noted_wires, add_wires};

@@ -16,15 +16,15 @@ use text_core::{Counted, Sink};
 
 /// What a wire of text has from an instant on: the wire by its identifier, and the text.
 #[derive(Clone, Copy, Debug)]
-pub struct Note<'a> {
+pub struct WireText<'a> {
     pub at: u64,
     pub id: u8,
     pub text: &'a [u8],
 }
 
-impl Default for Note<'_> {
+impl Default for WireText<'_> {
     fn default() -> Self {
-        Note {
+        WireText {
             at: 0,
             id: 0,
             text: &[],
@@ -66,7 +66,7 @@ fn add_id<S: Sink>(out: &mut Counted<'_, S>, id: u8)
 }
 
 // Adds what a wire of text has from now on.
-fn add_note<S: Sink>(out: &mut Counted<'_, S>, note: &Note<'_>)
+fn add_note<S: Sink>(out: &mut Counted<'_, S>, note: &WireText<'_>)
     ensures { Adds out.old out.new (note_line (noted note.now)) }
 {
     out.add(b"s");
@@ -76,7 +76,7 @@ fn add_note<S: Sink>(out: &mut Counted<'_, S>, note: &Note<'_>)
 
 // Adds what is noted at an instant.
 #[tactic(auto, using(text_core::proofs::Adding::nothing))]
-fn add_note_at<S: Sink>(out: &mut Counted<'_, S>, t: u64, note: &Note<'_>)
+fn add_note_at<S: Sink>(out: &mut Counted<'_, S>, t: u64, note: &WireText<'_>)
     ensures { Adds out.old out.new (note_at t (noted note.now)) }
 {
     if note.at == t {
@@ -85,7 +85,7 @@ fn add_note_at<S: Sink>(out: &mut Counted<'_, S>, t: u64, note: &Note<'_>)
 }
 
 #[tactic(auto, using(text_core::proofs::Adding::nothing))]
-fn add_notes_at<S: Sink>(out: &mut Counted<'_, S>, t: u64, notes: &[Note<'_>])
+fn add_notes_at<S: Sink>(out: &mut Counted<'_, S>, t: u64, notes: &[WireText<'_>])
     ensures { Adds out.old out.new (notes_at t (map noted notes.now)) }
 {
     let Some((note, others)) = notes.split_first() else {
@@ -96,7 +96,7 @@ fn add_notes_at<S: Sink>(out: &mut Counted<'_, S>, t: u64, notes: &[Note<'_>])
 }
 
 // Whether something is noted at an instant.
-fn is_noted(t: u64, notes: &[Note<'_>]) -> bool
+fn is_noted(t: u64, notes: &[WireText<'_>]) -> bool
     ensures { result ≡ is_noted t (map noted notes.now) }
 {
     match notes {
@@ -106,7 +106,7 @@ fn is_noted(t: u64, notes: &[Note<'_>]) -> bool
 }
 
 // The first note after `t`, or `next` where that is sooner.
-fn next_note(notes: &[Note<'_>], t: u64, next: u64) -> u64
+fn next_note(notes: &[WireText<'_>], t: u64, next: u64) -> u64
     requires { t < next }
     ensures later { t < result }
     ensures near { result ≤ next }
@@ -146,7 +146,7 @@ fn add_timed<S: Sink>(
     line: &[Stretch],
     drives: &[Drive],
     pulses: &[Stretch],
-    notes: &[Note<'_>],
+    notes: &[WireText<'_>],
 )
     requires { length drives.now ≤ 90 }
     ensures { Adds out.old out.new ((concat (codes "#" ∷ decimal t ∷ codes "\n" ∷ []) ++ changes_from t 0 (line.now ∷ (drives.now ++ pulses.now ∷ []))) ++ notes_at t (map noted notes.now)) }
@@ -164,7 +164,7 @@ fn add_instant<S: Sink>(
     line: &[Stretch],
     drives: &[Drive],
     pulses: &[Stretch],
-    notes: &[Note<'_>],
+    notes: &[WireText<'_>],
 )
     requires { length drives.now ≤ 90 }
     ensures { Adds out.old out.new (noted_instant (line.now ∷ (drives.now ++ pulses.now ∷ [])) (map noted notes.now) t) }
@@ -183,7 +183,7 @@ pub fn add_noted_wires<S: Sink>(
     line: &[Stretch],
     drives: &[Drive],
     pulses: &[Stretch],
-    notes: &[Note<'_>],
+    notes: &[WireText<'_>],
     from: u64,
     to: u64,
 )

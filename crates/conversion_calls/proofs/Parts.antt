@@ -6,16 +6,16 @@ use Rattle.edid_core.specs.declared.edid.Edid.{Edid}
 use Rattle.rules_check.specs.Findings.{findings}
 use Rattle.rules_check.specs.declared.rule.Origin.{Origin}
 use Rattle.conversion_calls.specs.Form.{form_text, parts_text}
-use Rattle.conversion_calls.specs.declared.form.Form.{Form}
-use Rattle.conversion_calls.specs.declared.form.Form.TheVariants.{Text, Hex, Bytes}
+use Rattle.conversion_calls.specs.declared.form.EdidForm.{EdidForm}
+use Rattle.conversion_calls.specs.declared.form.EdidForm.TheVariants.{Text, Hex, Bytes}
 
 -- an EDID is written as its parts are
-pub form_whole : (form : Form) (p : Edid) → parts_text form p.base p.extensions.items ≡ form_text form p
+pub form_whole : (form : EdidForm) (p : Edid) → parts_text form p.base p.extensions.items ≡ form_text form p
 form_whole Text p = refl
 form_whole Hex p = refl
 form_whole Bytes p = refl
 
-pub same_form : (form : Form) (base : Base) (exts : List Ext) (p : Edid) → p.base ≡ base → p.extensions.items ≡ exts → parts_text form base exts ≡ form_text form p
+pub same_form : (form : EdidForm) (base : Base) (exts : List Ext) (p : Edid) → p.base ≡ base → p.extensions.items ≡ exts → parts_text form base exts ≡ form_text form p
 same_form form base exts p of_base of_exts =
     sym (ap (λ (b : Base). parts_text form b p.extensions.items) of_base ∙ ap (λ (xs : List Ext). parts_text form base xs) of_exts) ∙ form_whole form p
 

@@ -9,7 +9,7 @@ use Rattle.edid_core.specs.declared.edid.Edid.{Edid as EdidValue}
 use Rattle.edid_texts.specs.declared.parse.TextError.{TextError}
 use Rattle.edid_texts.specs.declared.parse.TextError.TheVariants as texts
 use Rattle.conversion_calls.specs.Form.{form_text}
-use Rattle.conversion_calls.specs.declared.form.Form.{Form}
+use Rattle.conversion_calls.specs.declared.form.EdidForm.{EdidForm}
 use Rattle.conversion_calls.specs.declared.edid_text.EdidToTextError.{EdidToTextError}
 use Rattle.conversion_calls.specs.declared.edid_text.EdidToTextError.TheVariants.{Edid, Write}
 use Rattle.conversion_calls.specs.declared.edid_text.TextToHexError.{TextToHexError}
@@ -45,7 +45,7 @@ IsNoText text cause = IsRefusal (lines_with_feeds text) cause × ((e : EdidValue
 
 -- The text is an EDID's, which is written in a form, whole or its front; or it is none, and nothing is written. Reading
 -- a text takes no memory.
-abbrev pub FormAnswers : Form → Option (List ℕ) → Option (List ℕ) → Bool → Bool → List ℕ → Result (Unit {0}) TextToHexError → Type 0
+abbrev pub FormAnswers : EdidForm → Option (List ℕ) → Option (List ℕ) → Bool → Bool → List ℕ → Result (Unit {0}) TextToHexError → Type 0
 FormAnswers form old new was is text (Ok done) = (e : EdidValue) × (edid_text e ≡ text) × Appends old new (form_text form e) × (is ≡ was)
 FormAnswers form old new was is text (Err (hex.Write count)) = (e : EdidValue) × (edid_text e ≡ text) × IsCutAt old new is (form_text form e) count
 FormAnswers form old new was is text (Err (hex.Syntax number)) = IsNoText text (texts.Syntax number) × (new ≡ old) × (is ≡ was)

@@ -12,7 +12,7 @@ use Rattle.conversion_calls.specs.EdidFindings.{faults_of}
 use Rattle.conversion_calls.specs.EdidText.{IsCutAt}
 use Rattle.conversion_calls.specs.Form.{form_text}
 use Rattle.conversion_calls.specs.Passing.{IsPassedOn, IsNotPassedOn}
-use Rattle.conversion_calls.specs.declared.form.Form.{Form}
+use Rattle.conversion_calls.specs.declared.form.EdidForm.{EdidForm}
 use Rattle.conversion_calls.specs.declared.passing.Passing.{Passing}
 use Rattle.conversion_calls.specs.declared.passing.PassOnError.{PassOnError}
 use Rattle.conversion_calls.specs.declared.passing.PassOnError.TheVariants.{PortRange, Edid, NoHdmiBlock, Write}
@@ -32,7 +32,7 @@ is_check_cut _ = false
 -- ---- the EDID that is passed on
 
 -- It is written, whole or its front; or there is none, for the first reason, and nothing is written.
-abbrev pub PassedAnswers : Option (List ℕ) → Option (List ℕ) → Bool → Bool → List ℕ → Passing → Form → Result (Unit {0}) PassOnError → Type 0
+abbrev pub PassedAnswers : Option (List ℕ) → Option (List ℕ) → Bool → Bool → List ℕ → Passing → EdidForm → Result (Unit {0}) PassOnError → Type 0
 PassedAnswers old new was is bytes passing form (Ok done) = (p : EdidValue) × IsPassedOn bytes passing p × Appends old new (form_text form p) × (is ≡ was)
 PassedAnswers old new was is bytes passing form (Err (Write count)) = (p : EdidValue) × IsPassedOn bytes passing p × IsCutAt old new is (form_text form p) count
 PassedAnswers old new was is bytes passing form (Err PortRange) = IsNotPassedOn bytes passing PortRange × IsUntouched old new was is

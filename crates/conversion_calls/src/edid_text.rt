@@ -1,9 +1,9 @@
 //! EDIDs from bytes to text, and from text to bytes.
 ghost use Rattle.std.specs.Prelude.{◌≡◌, ◌↔◌, false, IsTrue};
 ghost use Rattle.conversion_calls.specs.EdidText.{FormAnswers, TextAnswers, is_hex_cut, is_text_cut};
-ghost use Rattle.conversion_calls.specs.declared.form.Form.{Form};
+ghost use Rattle.conversion_calls.specs.declared.form.EdidForm.{EdidForm};
 
-use crate::form::{Form, write_edid};
+use crate::form::{EdidForm, write_edid};
 use arrayvec::ArrayVec;
 use edid_core::{EdidError, read_parts};
 use edid_texts::{TextError, parse_text, write_parts};
@@ -100,7 +100,7 @@ pub fn edid_to_text<S: Sink>(bytes: &[u8], out: &mut S) -> Result<(), EdidToText
 pub fn text_to_edid<S: Sink>(
     alloc: Global,
     text: &[u8],
-    form: Form,
+    form: EdidForm,
     out: &mut S,
 ) -> Result<(), TextToHexError>
     ensures answers { FormAnswers form (S.contents out.old) (S.contents out.new) (S.is_stuck out.old) (S.is_stuck out.new) text.now result }
@@ -113,14 +113,14 @@ pub fn text_to_edid<S: Sink>(
     }
 }
 
-/// Writes the bytes of the EDID that a text gives, as one line of lower-case hex: `text_to_edid` with `Form::Hex`.
+/// Writes the bytes of the EDID that a text gives, as one line of lower-case hex: `text_to_edid` with `EdidForm::Hex`.
 ///
 /// # Errors
 ///
 /// As of `text_to_edid`.
 pub fn text_to_hex<S: Sink>(alloc: Global, text: &[u8], out: &mut S) -> Result<(), TextToHexError>
-    ensures answers { FormAnswers Form.Hex (S.contents out.old) (S.contents out.new) (S.is_stuck out.old) (S.is_stuck out.new) text.now result }
+    ensures answers { FormAnswers EdidForm.Hex (S.contents out.old) (S.contents out.new) (S.is_stuck out.old) (S.is_stuck out.new) text.now result }
     ensures write { S.is_stuck out.old ≡ false → (IsTrue (is_hex_cut result) ↔ IsTrue (S.is_stuck out.new)) }
 {
-    text_to_edid(alloc, text, Form::Hex, out)
+    text_to_edid(alloc, text, EdidForm::Hex, out)
 }

@@ -15,7 +15,7 @@ use text_core::{Piece, Sink, WriteFault, put_all, write_line};
 
 /// How an EDID is written.
 #[derive(Clone, Copy, Debug, PartialEq, Eq)]
-pub enum Form {
+pub enum EdidForm {
     /// Its text, a line for each part.
     Text,
     /// Its bytes, as one line of lower-case hex.
@@ -69,20 +69,20 @@ fn bytes_of(base: &Base, extensions: &[Ext]) -> ArrayVec<u8, 512>
 pub(crate) fn write_in<S: Sink>(
     base: &Base,
     extensions: &ArrayVec<Ext, 3>,
-    form: Form,
+    form: EdidForm,
     out: &mut S,
 ) -> Result<(), WriteFault>
     ensures { WrittenAll (S.contents out.old) (S.contents out.new) (S.is_stuck out.old) (S.is_stuck out.new) (parts_text form base.now extensions.now.items) result }
 {
     match form {
-        Form::Text => write_parts(base, extensions, out),
-        Form::Hex => write_hex_line(bytes_of(base, extensions.as_slice()).as_slice(), out),
-        Form::Bytes => write_bytes(bytes_of(base, extensions.as_slice()).as_slice(), out),
+        EdidForm::Text => write_parts(base, extensions, out),
+        EdidForm::Hex => write_hex_line(bytes_of(base, extensions.as_slice()).as_slice(), out),
+        EdidForm::Bytes => write_bytes(bytes_of(base, extensions.as_slice()).as_slice(), out),
     }
 }
 
 /// Writes an EDID in a form.
-pub(crate) fn write_edid<S: Sink>(edid: &Edid, form: Form, out: &mut S) -> Result<(), WriteFault>
+pub(crate) fn write_edid<S: Sink>(edid: &Edid, form: EdidForm, out: &mut S) -> Result<(), WriteFault>
     ensures { WrittenAll (S.contents out.old) (S.contents out.new) (S.is_stuck out.old) (S.is_stuck out.new) (form_text form edid.now) result }
 {
     write_in(&edid.base, &edid.extensions, form, out)

@@ -3,7 +3,7 @@ ghost use Rattle.std.specs.Prelude.{◌≡◌, ◌↔◌, false, IsTrue};
 ghost use Rattle.text_core.specs.Written.{WrittenLine};
 ghost use Rattle.conversion_calls.specs.PassedOn.{AddressAnswers, PassedAnswers, PassedFindingAnswers, address_line, is_cut, is_check_cut};
 
-use crate::form::{Form, write_in};
+use crate::form::{EdidForm, write_in};
 use crate::in_place::first_address;
 use crate::passing::{PassOnError, Passing, pass_on};
 use arrayvec::ArrayVec;
@@ -25,7 +25,7 @@ use text_core::{Phys, Piece, Sink, WriteFault, write_line};
 pub fn write_passed_on<S: Sink>(
     bytes: &[u8],
     passing: Passing,
-    form: Form,
+    form: EdidForm,
     out: &mut S,
 ) -> Result<(), PassOnError>
     ensures answers { PassedAnswers (S.contents out.old) (S.contents out.new) (S.is_stuck out.old) (S.is_stuck out.new) bytes.now passing form result }

@@ -11,7 +11,7 @@ use crate::messages::{
     active_source, menu_status, report_audio_status, report_of, report_power_status,
     set_system_audio_mode, system_audio_mode_status,
 };
-use crate::record::{Heard, Note, Record, copy_of};
+use crate::record::{Heard, HeardReport, Record, copy_of};
 use crate::say::{Says, cast, refuse, reply, report, silence};
 use crate::ways::{below, is_nowhere, port_towards};
 use arrayvec::ArrayVec;
@@ -189,7 +189,7 @@ impl Record {
     fn note(&mut self, heard: &Heard) -> Says
         ensures { does self.new result.items ≡ hears heard.now self.old }
     {
-        self.heard = Some(Note {
+        self.heard = Some(HeardReport {
             from: heard.from,
             opcode: heard.opcode,
             first: heard.first,

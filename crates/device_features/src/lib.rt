@@ -18,6 +18,6 @@ pub use keys::{Key, VolumeKey, has_key};
 pub use kinds::{Identity, addresses, second_addresses};
 pub use laws::keys_are_named_by_their_words;
 pub use messages::report_of;
-pub use record::{Heard, Note, Port, Record, Volume};
+pub use record::{Heard, HeardReport, Port, Record, Volume};
 pub use say::{DataBlocks, Say, Says, refuse};
 pub use ways::{NOWHERE, is_nowhere};

@@ -104,7 +104,7 @@ impl Volume {
 
 /// The last report that was heard: who sent it, its opcode, and its first operand.
 #[derive(Clone, Copy)]
-pub struct Note {
+pub struct HeardReport {
     pub from: Addr,
     pub opcode: u8,
     pub first: u8,
@@ -136,7 +136,7 @@ pub struct Record {
     pub osd: ArrayVec<u8, 16>,
     /// The user control code that is held down.
     pub held: Option<u8>,
-    pub heard: Option<Note>,
+    pub heard: Option<HeardReport>,
     /// Who asked for the status of the deck at each change.
     pub sub: Option<Addr>,
 }

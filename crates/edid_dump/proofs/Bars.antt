@@ -7,7 +7,7 @@ use Rattle.std.proofs.lemmas.List.Elements.{All-append, All-cons, All-drop, All-
 use Rattle.text_core.specs.Lines.{lines_of}
 use Rattle.edid_dump.specs.declared.digits.Column.{Column}
 use Rattle.edid_dump.specs.declared.digits.Column.TheVariants.{Absent, AfterBar}
-use Rattle.edid_dump.specs.declared.rows.Form.TheVariants.{Bars, Colon, Plain}
+use Rattle.edid_dump.specs.declared.rows.DumpForm.TheVariants.{Bars, Colon, Plain}
 use Rattle.edid_dump.specs.Digits.{is_column, onto, pairs}
 use Rattle.edid_dump.specs.Rows.{counted_bytes, digits_start, form_of, has_header, has_offset, header, row, row_from}
 use Rattle.edid_dump.specs.Dump.{dumped_from, gathered_by, ordered}

@@ -4,7 +4,7 @@ use Rattle.std.specs.Option.{option_map}
 use Rattle.std.specs.List.{list_any}
 use Rattle.std.proofs.lemmas.List.{take_all}
 use Rattle.std.proofs.lemmas.Bool.Decides.{nat_tests}
-use Rattle.edid_dump.specs.declared.rows.Form.{Form}
+use Rattle.edid_dump.specs.declared.rows.DumpForm.{DumpForm}
 use Rattle.edid_dump.specs.declared.dump.DumpError.{DumpError}
 use Rattle.edid_dump.specs.declared.dump.DumpError.TheVariants.{Long}
 use Rattle.edid_dump.specs.Digits.{bytes_with_row}
@@ -28,12 +28,12 @@ repeated_more (suc left) bytes h =
     ap (λ n. with_repeats n (bytes ++ slice_index bytes (length bytes - 16) ∷ [])) e
 
 -- a row is added, or has no room
-pub row_other : (form : Form) (number : ℕ) (skips : Bool) (bytes line : List ℕ) (o : Option (List ℕ)) (n : Option ℕ) (more : List ℕ → Answer) → n ≡ None → n ≡ option_map length o
+pub row_other : (form : DumpForm) (number : ℕ) (skips : Bool) (bytes line : List ℕ) (o : Option (List ℕ)) (n : Option ℕ) (more : List ℕ → Answer) → n ≡ None → n ≡ option_map length o
     → with_row form number skips bytes line o more ≡ dump_at_end number skips bytes
 row_other form number skips bytes line None n more e f = refl
 row_other form number skips bytes line (Some next) n more e f = cc
 
-pub row_long : (form : Form) (number : ℕ) (skips : Bool) (bytes line : List ℕ) (o : Option (List ℕ)) (count above : ℕ) (more : List ℕ → Answer) → Some count ≡ option_map length o
+pub row_long : (form : DumpForm) (number : ℕ) (skips : Bool) (bytes line : List ℕ) (o : Option (List ℕ)) (count above : ℕ) (more : List ℕ → Answer) → Some count ≡ option_map length o
     → above ≡ left_out form skips bytes line → 512 < length bytes + above + count → with_row form number skips bytes line o more ≡ Err (Long number)
 row_long form number skips bytes line None count above more e a h = cc
 row_long form number skips bytes line (Some next) count above more e a h =
@@ -41,7 +41,7 @@ row_long form number skips bytes line (Some next) count above more e a h =
     let long : nat_lt 512 (length bytes + left_out form skips bytes line + length next) ≡ true = grind (arith, nat_tests) in
     rw long refl
 
-pub row_taken : (form : Form) (number : ℕ) (skips : Bool) (bytes line now new : List ℕ) (o : Option (List ℕ)) (count above : ℕ) (more : List ℕ → Answer) → Some count ≡ option_map length o
+pub row_taken : (form : DumpForm) (number : ℕ) (skips : Bool) (bytes line now new : List ℕ) (o : Option (List ℕ)) (count above : ℕ) (more : List ℕ → Answer) → Some count ≡ option_map length o
     → above ≡ left_out form skips bytes line → length bytes + above + count ≤ 512 → now ≡ with_repeats above bytes → bytes_with_row now o ≡ Some new
     → with_row form number skips bytes line o more ≡ more new
 row_taken form number skips bytes line now new None count above more e a h r f = cc
@@ -55,23 +55,23 @@ row_taken form number skips bytes line now new (Some next) count above more e a 
     rw short (ap more front)
 
 -- the lines so far
-pub gathered_more : (form : Form) (number : ℕ) (skips s : Bool) (bytes b line : List ℕ) (lines after : List (List ℕ)) (all : Answer) → all ≡ bytes_of_rows form number skips bytes lines
+pub gathered_more : (form : DumpForm) (number : ℕ) (skips s : Bool) (bytes b line : List ℕ) (lines after : List (List ℕ)) (all : Answer) → all ≡ bytes_of_rows form number skips bytes lines
     → lines ≡ line ∷ after → with_line form number skips bytes line (λ t now. bytes_of_rows (next_form form) (number + 1) t now after) ≡ after_line number Row s b (λ t now. bytes_of_rows (next_form form) (number + 1) t now after)
     → all ≡ bytes_of_rows (next_form form) (number + 1) s b after
 gathered_more form number skips s bytes b line lines after all h e k = h ∙ ap (bytes_of_rows form number skips bytes) e ∙ k
 
-pub gathered_long : (form : Form) (number : ℕ) (skips s : Bool) (bytes b line : List ℕ) (lines after : List (List ℕ)) (all : Answer) → all ≡ bytes_of_rows form number skips bytes lines
+pub gathered_long : (form : DumpForm) (number : ℕ) (skips s : Bool) (bytes b line : List ℕ) (lines after : List (List ℕ)) (all : Answer) → all ≡ bytes_of_rows form number skips bytes lines
     → lines ≡ line ∷ after → with_line form number skips bytes line (λ t now. bytes_of_rows (next_form form) (number + 1) t now after) ≡ after_line number TooLong s b (λ t now. bytes_of_rows (next_form form) (number + 1) t now after)
     → all ≡ Err (Long number)
 gathered_long form number skips s bytes b line lines after all h e k = h ∙ ap (bytes_of_rows form number skips bytes) e ∙ k
 
-pub gathered_end : (form : Form) (number : ℕ) (skips s : Bool) (bytes b line : List ℕ) (lines after : List (List ℕ)) (all : Answer) → all ≡ bytes_of_rows form number skips bytes lines
+pub gathered_end : (form : DumpForm) (number : ℕ) (skips s : Bool) (bytes b line : List ℕ) (lines after : List (List ℕ)) (all : Answer) → all ≡ bytes_of_rows form number skips bytes lines
     → lines ≡ line ∷ after → with_line form number skips bytes line (λ t now. bytes_of_rows (next_form form) (number + 1) t now after) ≡ after_line number Other s b (λ t now. bytes_of_rows (next_form form) (number + 1) t now after)
     → all ≡ dump_at_end number s b
 gathered_end form number skips s bytes b line lines after all h e k = h ∙ ap (bytes_of_rows form number skips bytes) e ∙ k
 
 -- the lines before a dump
-pub dumped_here : (number : ℕ) (line : List ℕ) (lines after : List (List ℕ)) (form : Form) (all : Answer) → all ≡ dumped_from number lines → lines ≡ line ∷ after → form_of line ≡ Some form
+pub dumped_here : (number : ℕ) (line : List ℕ) (lines after : List (List ℕ)) (form : DumpForm) (all : Answer) → all ≡ dumped_from number lines → lines ≡ line ∷ after → form_of line ≡ Some form
     → all ≡ ordered form (bytes_of_rows form number false [] lines)
 dumped_here number line lines after form all h e f =
     h ∙ ap (dumped_from number) e ∙ ap (λ o. gathered_by o number (line ∷ after) (dumped_from (number + 1) after)) f ∙ ap (λ ls. ordered form (bytes_of_rows form number false [] ls)) (sym e)
@@ -84,7 +84,7 @@ dumped_later number line lines after all h e f =
 abbrev any_form : List (List ℕ) → Bool
 any_form lines = list_any (λ line. is_some (form_of line)) lines
 
-pub any_here : (line : List ℕ) (lines after : List (List ℕ)) (form : Form) (all : Bool) → all ≡ any_form lines → lines ≡ line ∷ after → form_of line ≡ Some form → true ≡ all
+pub any_here : (line : List ℕ) (lines after : List (List ℕ)) (form : DumpForm) (all : Bool) → all ≡ any_form lines → lines ≡ line ∷ after → form_of line ≡ Some form → true ≡ all
 any_here line lines after form all h e f = sym (h ∙ ap any_form e ∙ ap (λ o. is_some o || any_form after) f)
 
 pub any_later : (line : List ℕ) (lines after : List (List ℕ)) (all : Bool) → all ≡ any_form lines → lines ≡ line ∷ after → form_of line ≡ None → all ≡ any_form after

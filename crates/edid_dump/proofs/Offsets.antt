@@ -7,7 +7,7 @@ use Rattle.std.proofs.lemmas.List.Elements.{All-append, All-cons, All-head, All-
 use Rattle.text_core.specs.Lines.{lines_of}
 use Rattle.text_core.specs.Piece.{hex_text}
 use Rattle.edid_dump.specs.declared.digits.Column.TheVariants.{AfterGap}
-use Rattle.edid_dump.specs.declared.rows.Form.TheVariants.{Colon, Plain}
+use Rattle.edid_dump.specs.declared.rows.DumpForm.TheVariants.{Colon, Plain}
 use Rattle.edid_dump.specs.Digits.{onto, pairs}
 use Rattle.edid_dump.specs.Rows.{counted_bytes, digits_start, form_of, has_header, has_offset, header, row, row_from}
 use Rattle.edid_dump.specs.Printed.{OffsetsAreRead, by_twos, character, colon_line, colon_text, offset_text}

@@ -9,8 +9,8 @@ use Rattle.text_core.specs.Lines.{lines_of, without_empty_end}
 use Rattle.text_core.specs.Piece.{hex_text}
 use Rattle.edid_dump.specs.declared.digits.Column.{Column}
 use Rattle.edid_dump.specs.declared.digits.Column.TheVariants.{Absent}
-use Rattle.edid_dump.specs.declared.rows.Form.{Form}
-use Rattle.edid_dump.specs.declared.rows.Form.TheVariants.{Plain}
+use Rattle.edid_dump.specs.declared.rows.DumpForm.{DumpForm}
+use Rattle.edid_dump.specs.declared.rows.DumpForm.TheVariants.{Plain}
 use Rattle.edid_dump.specs.declared.dump.DumpError.{DumpError}
 use Rattle.edid_dump.specs.declared.dump.DumpError.TheVariants.{Cut, Long}
 use Rattle.edid_dump.specs.Digits.{is_column, onto, pairs}
@@ -44,18 +44,18 @@ byte_line b h = All-cons (λ c. (c == 10) ≡ false) (mark (b / 16)) (mark (b % 
 -- ---- rows of a dump
 
 -- these lines are rows of a form, with these bytes
-abbrev pub AreRows : Form → List (List ℕ) → List (List ℕ) → Type 0
+abbrev pub AreRows : DumpForm → List (List ℕ) → List (List ℕ) → Type 0
 AreRows form [] [] = Unit {0}
 AreRows form [] (part ∷ parts) = ⊥
 AreRows form (line ∷ lines) [] = ⊥
 AreRows form (line ∷ lines) (part ∷ parts) = (is_repeat form line ≡ false) × (row form line ≡ Some part) × AreRows form lines parts
 
 -- a form whose rows are all of it
-pub record IsSteady (form : Form) : Type 0 where
+pub record IsSteady (form : DumpForm) : Type 0 where
   pub stays : next_form form ≡ form
   pub same : (bytes : List ℕ) → in_order form bytes ≡ bytes
 
-one_more : (form : Form) (number : ℕ) (bytes line part : List ℕ) (lines : List (List ℕ)) → IsSteady form → is_repeat form line ≡ false → row form line ≡ Some part → length bytes + length part ≤ 512
+one_more : (form : DumpForm) (number : ℕ) (bytes line part : List ℕ) (lines : List (List ℕ)) → IsSteady form → is_repeat form line ≡ false → row form line ≡ Some part → length bytes + length part ≤ 512
     → bytes_of_rows form number false bytes (line ∷ lines) ≡ bytes_of_rows form (number + 1) false (bytes ++ part) lines
 one_more form number bytes line part lines steady other is short =
     let go : List ℕ → Result (List ℕ) DumpError = λ now. bytes_of_rows (next_form form) (number + 1) false now lines in
@@ -65,7 +65,7 @@ one_more form number bytes line part lines steady other is short =
     ∙ ap (λ b. if b then Err (Long number) else go (bytes ++ part)) room
     ∙ ap (λ f. bytes_of_rows f (number + 1) false (bytes ++ part) lines) steady.stays
 
-pub rows_gathered : (form : Form) (lines parts : List (List ℕ)) (number : ℕ) (bytes : List ℕ) → IsSteady form → AreRows form lines parts → length (bytes ++ concat parts) ≤ 512 → length (bytes ++ concat parts) % 128 ≡ 0
+pub rows_gathered : (form : DumpForm) (lines parts : List (List ℕ)) (number : ℕ) (bytes : List ℕ) → IsSteady form → AreRows form lines parts → length (bytes ++ concat parts) ≤ 512 → length (bytes ++ concat parts) % 128 ≡ 0
     → bytes_of_rows form number false bytes lines ≡ Ok (bytes ++ concat parts)
 rows_gathered form [] [] number bytes steady rows most blocks =
     let e : bytes ++ [] ≡ bytes = append-nil bytes in
@@ -81,7 +81,7 @@ rows_gathered form (line ∷ lines) (part ∷ parts) number bytes steady rows mo
     ∙ ap Ok e
 
 -- a dump of these rows
-pub rows_dumped : (form : Form) (text line part : List ℕ) (lines parts : List (List ℕ)) → IsSteady form → lines_of text ≡ line ∷ lines → form_of line ≡ Some form → AreRows form (line ∷ lines) (part ∷ parts)
+pub rows_dumped : (form : DumpForm) (text line part : List ℕ) (lines parts : List (List ℕ)) → IsSteady form → lines_of text ≡ line ∷ lines → form_of line ≡ Some form → AreRows form (line ∷ lines) (part ∷ parts)
     → IsParted part parts → edid_in_dump text ≡ Ok (concat (part ∷ parts))
 rows_dumped form text line part lines parts steady split first rows is =
     ap (dumped_from 1) split ∙ ap (λ o. gathered_by o 1 (line ∷ lines) (dumped_from 2 lines)) first

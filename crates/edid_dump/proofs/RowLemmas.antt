@@ -4,20 +4,20 @@ use Rattle.std.specs.Option.{option_map}
 use Rattle.std.specs.Str.{bytes_eq}
 use Rattle.std.proofs.lemmas.Bool.{false≢true}
 use Rattle.edid_dump.specs.declared.digits.Column.{Column}
-use Rattle.edid_dump.specs.declared.rows.Form.{Form}
+use Rattle.edid_dump.specs.declared.rows.DumpForm.{DumpForm}
 use Rattle.edid_dump.specs.Digits.{bytes_with_row, listed, pairs}
 use Rattle.edid_dump.specs.Rows.{begins_with, column_of, counted_bytes, digits_read, digits_start, is_list, may_have, row, row_from}
 
 -- the digits of a form without a list are pairs
-pub read_pairs : (form : Form) (column : Column) (text : List ℕ) → column ≡ column_of form → is_list form ≡ false → digits_read form text ≡ pairs column text
+pub read_pairs : (form : DumpForm) (column : Column) (text : List ℕ) → column ≡ column_of form → is_list form ≡ false → digits_read form text ≡ pairs column text
 read_pairs form column text e h = ap (λ b. if b then listed text else pairs (column_of form) text) h ∙ ap (λ c. pairs c text) (sym e)
 
 -- the count of a row, from that of its pairs
-abbrev pub chosen : Form → Option ℕ → Option ℕ
+abbrev pub chosen : DumpForm → Option ℕ → Option ℕ
 chosen form None = None
 chosen form (Some n) = if may_have form n then Some n else None
 
-counts : (form : Form) (o : Option (List ℕ)) → option_map length (counted_bytes form o) ≡ chosen form (option_map length o)
+counts : (form : DumpForm) (o : Option (List ℕ)) → option_map length (counted_bytes form o) ≡ chosen form (option_map length o)
 counts form None = refl
 counts form (Some bytes) = by (may_have form (length bytes))
   where
@@ -25,17 +25,17 @@ counts form (Some bytes) = by (may_have form (length bytes))
     by true = refl
     by false = refl
 
-pub row_by_count : (form : Form) (line : List ℕ) (start : ℕ) (body : List ℕ) (count : Option ℕ) → Some start ≡ digits_start form line
+pub row_by_count : (form : DumpForm) (line : List ℕ) (start : ℕ) (body : List ℕ) (count : Option ℕ) → Some start ≡ digits_start form line
     → body ≡ drop start line → count ≡ option_map length (digits_read form body) → option_map length (row form line) ≡ chosen form count
 row_by_count form line start body count h b e =
     let same : digits_read form body ≡ digits_read form (drop start line) = ap (digits_read form) b in
     ap (λ s. option_map length (row_from form line s)) (sym h) ∙ counts form (digits_read form (drop start line))
     ∙ ap (λ o. chosen form (option_map length o)) (sym same) ∙ ap (chosen form) (sym e)
 
-pub chosen_all : (form : Form) (n : ℕ) → may_have form n ≡ true → chosen form (Some n) ≡ Some n
+pub chosen_all : (form : DumpForm) (n : ℕ) → may_have form n ≡ true → chosen form (Some n) ≡ Some n
 chosen_all form n h = ap (λ b. if b then Some n else None) h
 
-pub chosen_none : (form : Form) (n : ℕ) → may_have form n ≡ false → chosen form (Some n) ≡ None
+pub chosen_none : (form : DumpForm) (n : ℕ) → may_have form n ≡ false → chosen form (Some n) ≡ None
 chosen_none form n h = ap (λ b. if b then Some n else None) h
 
 pub counted_some : (o : Option (List ℕ)) (n : ℕ) → Some n ≡ option_map length o → IsSome o
@@ -43,7 +43,7 @@ counted_some None n h = cc
 counted_some (Some bytes) n h = refl
 
 -- a row's bytes are those of its pairs
-whole : (form : Form) (o : Option (List ℕ)) → IsSome (counted_bytes form o) → counted_bytes form o ≡ o
+whole : (form : DumpForm) (o : Option (List ℕ)) → IsSome (counted_bytes form o) → counted_bytes form o ≡ o
 whole form None h = refl
 whole form (Some bytes) h = by (may_have form (length bytes)) h
   where
@@ -51,12 +51,12 @@ whole form (Some bytes) h = by (may_have form (length bytes)) h
     by true h = refl
     by false h = absurd (false≢true h)
 
-pub row_pairs : (form : Form) (line : List ℕ) (start : ℕ) → digits_start form line ≡ Some start → IsSome (row form line) → row form line ≡ digits_read form (drop start line)
+pub row_pairs : (form : DumpForm) (line : List ℕ) (start : ℕ) → digits_start form line ≡ Some start → IsSome (row form line) → row form line ≡ digits_read form (drop start line)
 row_pairs form line start h some =
     let at : row form line ≡ counted_bytes form (digits_read form (drop start line)) = ap (row_from form line) h in
     at ∙ whole form (digits_read form (drop start line)) (ap is_some (sym at) ∙ some)
 
-pub row_absent : (form : Form) (line : List ℕ) → digits_start form line ≡ None → row form line ≡ None
+pub row_absent : (form : DumpForm) (line : List ℕ) → digits_start form line ≡ None → row form line ≡ None
 row_absent form line h = ap (row_from form line) h
 
 -- a front of a front

@@ -2,7 +2,7 @@
 -- the lines are rows of the same form (own).
 use Rattle.std.specs.Prelude.{◌≡◌, ℕ, zero, suc, ◌+◌, ◌-◌, ◌%◌, ◌==◌, ◌&&◌, not, nat_lt, Bool, true, false, if◌then◌else◌, List, [], ◌∷◌, ◌++◌, length, slice_index, Option, Some, None, Result, Ok, Err}
 use Rattle.text_core.specs.Lines.{lines_of}
-use Rattle.edid_dump.specs.declared.rows.Form.{Form}
+use Rattle.edid_dump.specs.declared.rows.DumpForm.{DumpForm}
 use Rattle.edid_dump.specs.declared.dump.DumpError.{DumpError}
 use Rattle.edid_dump.specs.declared.dump.DumpError.TheVariants.{NoDump, Cut, Long}
 use Rattle.std.specs.List.{list_any}
@@ -18,7 +18,7 @@ with_repeats zero bytes = bytes
 with_repeats (suc count) bytes = with_repeats count (bytes ++ slice_index bytes (length bytes - 16) ∷ [])
 
 -- how many bytes were left out before a row: none, or those up to its offset
-abbrev pub left_out : Form → Bool → List ℕ → List ℕ → ℕ
+abbrev pub left_out : DumpForm → Bool → List ℕ → List ℕ → ℕ
 left_out form false bytes line = 0
 left_out form true bytes line = place_of form line - length bytes
 
@@ -26,29 +26,29 @@ left_out form true bytes line = place_of form line - length bytes
 abbrev pub dump_at_end : ℕ → Bool → List ℕ → Result (List ℕ) DumpError
 dump_at_end number skips bytes = if not skips && (length bytes % 128 == 0) then Ok bytes else Err (Cut number)
 
-abbrev pub with_row : Form → ℕ → Bool → List ℕ → List ℕ → Option (List ℕ) → (List ℕ → Result (List ℕ) DumpError) → Result (List ℕ) DumpError
+abbrev pub with_row : DumpForm → ℕ → Bool → List ℕ → List ℕ → Option (List ℕ) → (List ℕ → Result (List ℕ) DumpError) → Result (List ℕ) DumpError
 with_row form number skips bytes line None more = dump_at_end number skips bytes
 with_row form number skips bytes line (Some next) more =
     if nat_lt 512 (length bytes + left_out form skips bytes line + length next) then Err (Long number)
     else more (with_repeats (left_out form skips bytes line) bytes ++ next)
 
 -- a line of a dump: where it stands for rows that it repeats, or is a row, the dump goes on
-abbrev pub with_line : Form → ℕ → Bool → List ℕ → List ℕ → (Bool → List ℕ → Result (List ℕ) DumpError) → Result (List ℕ) DumpError
+abbrev pub with_line : DumpForm → ℕ → Bool → List ℕ → List ℕ → (Bool → List ℕ → Result (List ℕ) DumpError) → Result (List ℕ) DumpError
 with_line form number skips bytes line more =
     if is_repeat form line then more true bytes
     else with_row form number skips bytes line (row form line) (more false)
 
 -- the bytes so far, and those of the rows that follow; an EDID has at most 512
-abbrev pub bytes_of_rows : Form → ℕ → Bool → List ℕ → List (List ℕ) → Result (List ℕ) DumpError
+abbrev pub bytes_of_rows : DumpForm → ℕ → Bool → List ℕ → List (List ℕ) → Result (List ℕ) DumpError
 bytes_of_rows form number skips bytes [] = dump_at_end number skips bytes
 bytes_of_rows form number skips bytes (line ∷ lines) = with_line form number skips bytes line (λ now_skips now. bytes_of_rows (next_form form) (number + 1) now_skips now lines)
 
 -- bytes that are printed in words are swapped back
-abbrev pub ordered : Form → Result (List ℕ) DumpError → Result (List ℕ) DumpError
+abbrev pub ordered : DumpForm → Result (List ℕ) DumpError → Result (List ℕ) DumpError
 ordered form (Ok bytes) = Ok (in_order form bytes)
 ordered form (Err error) = Err error
 
-abbrev pub gathered_by : Option Form → ℕ → List (List ℕ) → Result (List ℕ) DumpError → Result (List ℕ) DumpError
+abbrev pub gathered_by : Option DumpForm → ℕ → List (List ℕ) → Result (List ℕ) DumpError → Result (List ℕ) DumpError
 gathered_by None number lines later = later
 gathered_by (Some form) number lines later = ordered form (bytes_of_rows form number false [] lines)
 

@@ -5,8 +5,8 @@ use Rattle.std.specs.Str.{bytes_eq}
 use Rattle.std.specs.Char.{is_ascii_hexdigit}
 use Rattle.edid_dump.specs.declared.digits.Column.{Column}
 use Rattle.edid_dump.specs.declared.digits.Column.TheVariants.{Absent, AfterGap, AfterBar, AfterAngle}
-use Rattle.edid_dump.specs.declared.rows.Form.{Form}
-use Rattle.edid_dump.specs.declared.rows.Form.TheVariants.{Plain, Colon, Bars, Octal, Six, LogPairs, LogDigits, Short, Words, Opened, Listed}
+use Rattle.edid_dump.specs.declared.rows.DumpForm.{DumpForm}
+use Rattle.edid_dump.specs.declared.rows.DumpForm.TheVariants.{Plain, Colon, Bars, Octal, Six, LogPairs, LogDigits, Short, Words, Opened, Listed}
 use Rattle.edid_dump.specs.Digits.{is_blank, list_start, listed, octal_of, offset_of, pairs, swapped}
 
 -- eight digits
@@ -32,7 +32,7 @@ tail_start count line =
 -- where the digits of a row begin: with the line; after an offset of eight digits and a colon, or two spaces, or alone; after
 -- one of seven or six digits, or of two and a colon; at sixteen pairs one blank apart, or 32 digits, that end a line of a log;
 -- after what opens a list
-abbrev pub digits_start : Form → List ℕ → Option ℕ
+abbrev pub digits_start : DumpForm → List ℕ → Option ℕ
 digits_start Plain line = Some 0
 digits_start Colon line = if has_offset line && (slice_index line 8 == 58) then Some 9 else None
 digits_start Bars line =
@@ -46,7 +46,7 @@ digits_start Words line = after_number 7 line
 digits_start Opened line = Some (list_start line)
 digits_start Listed line = Some 0
 
-abbrev pub column_of : Form → Column
+abbrev pub column_of : DumpForm → Column
 column_of Plain = Absent
 column_of Colon = AfterGap
 column_of Bars = AfterBar
@@ -60,17 +60,17 @@ column_of Opened = Absent
 column_of Listed = Absent
 
 -- whether it has a list
-abbrev pub is_list : Form → Bool
+abbrev pub is_list : DumpForm → Bool
 is_list Opened = true
 is_list Listed = true
 is_list _ = false
 
 -- the bytes of its digits
-abbrev pub digits_read : Form → List ℕ → Option (List ℕ)
+abbrev pub digits_read : DumpForm → List ℕ → Option (List ℕ)
 digits_read form text = if is_list form then listed text else pairs (column_of form) text
 
 -- a row of a log has sixteen bytes
-abbrev pub may_have : Form → ℕ → Bool
+abbrev pub may_have : DumpForm → ℕ → Bool
 may_have Plain count = true
 may_have Colon count = true
 may_have Bars count = true
@@ -83,23 +83,23 @@ may_have Words count = true
 may_have Opened count = true
 may_have Listed count = true
 
-abbrev pub counted_bytes : Form → Option (List ℕ) → Option (List ℕ)
+abbrev pub counted_bytes : DumpForm → Option (List ℕ) → Option (List ℕ)
 counted_bytes form None = None
 counted_bytes form (Some bytes) = if may_have form (length bytes) then Some bytes else None
 
-abbrev pub row_from : Form → List ℕ → Option ℕ → Option (List ℕ)
+abbrev pub row_from : DumpForm → List ℕ → Option ℕ → Option (List ℕ)
 row_from form line None = None
 row_from form line (Some start) = counted_bytes form (digits_read form (drop start line))
 
 -- the bytes of a line, where it is a row of this form
-abbrev pub row : Form → List ℕ → Option (List ℕ)
+abbrev pub row : DumpForm → List ℕ → Option (List ℕ)
 row form line = row_from form line (digits_start form line)
 
 -- a line of hexdump or od for those that it leaves out since they repeat the one above
 abbrev pub is_star : List ℕ → Bool
 is_star line = (length line == 1) && (slice_index line 0 == 42)
 
-abbrev pub is_repeat : Form → List ℕ → Bool
+abbrev pub is_repeat : DumpForm → List ℕ → Bool
 is_repeat Bars line = is_star line
 is_repeat Octal line = is_star line
 is_repeat Six line = is_star line
@@ -107,19 +107,19 @@ is_repeat Words line = is_star line
 is_repeat _ line = false
 
 -- the number of its first byte, where rows may be left out: of eight hex digits, seven octal ones, six or seven hex ones
-abbrev pub place_of : Form → List ℕ → ℕ
+abbrev pub place_of : DumpForm → List ℕ → ℕ
 place_of Octal line = octal_of line
 place_of Six line = offset_of line / 256
 place_of Words line = offset_of line / 16
 place_of _ line = offset_of line
 
 -- what opens a list stands on its first row alone
-abbrev pub next_form : Form → Form
+abbrev pub next_form : DumpForm → DumpForm
 next_form Opened = Listed
 next_form form = form
 
 -- the bytes of all rows in their order
-abbrev pub in_order : Form → List ℕ → List ℕ
+abbrev pub in_order : DumpForm → List ℕ → List ℕ
 in_order Words bytes = swapped bytes
 in_order _ bytes = bytes
 
@@ -139,7 +139,7 @@ abbrev pub words_header : List ℕ
 words_header = 255 ∷ 0 ∷ 255 ∷ 255 ∷ 255 ∷ 255 ∷ 0 ∷ 255 ∷ []
 
 -- the form of a line that an EDID begins with, the first that fits
-abbrev pub form_of : List ℕ → Option Form
+abbrev pub form_of : List ℕ → Option DumpForm
 form_of line =
     if has_header (row Plain line) then Some Plain
     else if has_header (row Colon line) then Some Colon

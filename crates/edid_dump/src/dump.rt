@@ -7,7 +7,7 @@ ghost use Rattle.edid_dump.specs.declared.dump.DumpError.{DumpError as Refusal};
 ghost use Rattle.edid_dump.specs.declared.dump.DumpError.TheVariants.{NoDump};
 
 use crate::lists::swapped;
-use crate::rows::{Form, form_of, is_repeat, next_form, place_of, push_row, row_count};
+use crate::rows::{DumpForm, form_of, is_repeat, next_form, place_of, push_row, row_count};
 use arrayvec::ArrayVec;
 use text_core::{byte_at, first_line};
 use thiserror::Error;
@@ -43,7 +43,7 @@ enum Taken {
 }
 
 // How many bytes were left out before a row.
-fn left_out(form: Form, skips: bool, bytes: &[u8], line: &[u8]) -> usize
+fn left_out(form: DumpForm, skips: bool, bytes: &[u8], line: &[u8]) -> usize
     ensures value { result ≡ left_out form skips bytes.now line.now }
     ensures small { result < 4294967296 }
 {
@@ -69,7 +69,7 @@ fn push_repeated(count: usize, bytes: &mut ArrayVec<u8, MOST>)
 }
 
 // Adds the bytes of a line, where it is a row that has room.
-fn take_row(form: Form, line: &[u8], skips: bool, bytes: &mut ArrayVec<u8, MOST>) -> Taken
+fn take_row(form: DumpForm, line: &[u8], skips: bool, bytes: &mut ArrayVec<u8, MOST>) -> Taken
     ensures { (number : ℕ) (more : List ℕ → Result (List ℕ) Refusal) → with_row form number skips bytes.old.items line.now (row form line.now) more ≡ after_line number result skips bytes.new.items (λ _ now. more now) }
 {
     let Some(count) = row_count(form, line) else {
@@ -85,7 +85,7 @@ fn take_row(form: Form, line: &[u8], skips: bool, bytes: &mut ArrayVec<u8, MOST>
 }
 
 // Takes a line of a dump.
-fn take_line(form: Form, line: &[u8], skips: &mut bool, bytes: &mut ArrayVec<u8, MOST>) -> Taken
+fn take_line(form: DumpForm, line: &[u8], skips: &mut bool, bytes: &mut ArrayVec<u8, MOST>) -> Taken
     ensures { (number : ℕ) (more : Bool → List ℕ → Result (List ℕ) Refusal) → with_line form number skips.old bytes.old.items line.now more ≡ after_line number result skips.new bytes.new.items more }
 {
     if is_repeat(form, line) {
@@ -114,7 +114,7 @@ fn end(number: u64, skips: bool, bytes: ArrayVec<u8, MOST>) -> Result<ArrayVec<u
 }
 
 // The bytes of the dump whose first row begins a text.
-fn gather(form: Form, first: u64, text: &[u8]) -> Result<ArrayVec<u8, MOST>, DumpError>
+fn gather(form: DumpForm, first: u64, text: &[u8]) -> Result<ArrayVec<u8, MOST>, DumpError>
     requires { first + length text.now < 2 ^ 64 }
     ensures { Gives result (bytes_of_rows form first false [] (lines_of text.now)) }
 {
@@ -137,26 +137,26 @@ fn gather(form: Form, first: u64, text: &[u8]) -> Result<ArrayVec<u8, MOST>, Dum
 }
 
 // The bytes of words swapped back.
-fn in_order(form: Form, bytes: ArrayVec<u8, MOST>) -> ArrayVec<u8, MOST>
+fn in_order(form: DumpForm, bytes: ArrayVec<u8, MOST>) -> ArrayVec<u8, MOST>
     ensures { result.items ≡ in_order form bytes.items }
 {
     match form {
-        Form::Words => swapped(&bytes),
-        Form::Plain
-        | Form::Colon
-        | Form::Bars
-        | Form::Octal
-        | Form::Six
-        | Form::LogPairs
-        | Form::LogDigits
-        | Form::Short
-        | Form::Opened
-        | Form::Listed => bytes,
+        DumpForm::Words => swapped(&bytes),
+        DumpForm::Plain
+        | DumpForm::Colon
+        | DumpForm::Bars
+        | DumpForm::Octal
+        | DumpForm::Six
+        | DumpForm::LogPairs
+        | DumpForm::LogDigits
+        | DumpForm::Short
+        | DumpForm::Opened
+        | DumpForm::Listed => bytes,
     }
 }
 
 // The bytes of the dump, in their order.
-fn gather_in_order(form: Form, first: u64, text: &[u8]) -> Result<ArrayVec<u8, MOST>, DumpError>
+fn gather_in_order(form: DumpForm, first: u64, text: &[u8]) -> Result<ArrayVec<u8, MOST>, DumpError>
     requires { first + length text.now < 2 ^ 64 }
     ensures { Gives result (ordered form (bytes_of_rows form first false [] (lines_of text.now))) }
 {
@@ -167,7 +167,7 @@ fn gather_in_order(form: Form, first: u64, text: &[u8]) -> Result<ArrayVec<u8, M
 }
 
 // The first line that an EDID begins with: its form, its number, and the text from it on.
-fn find(text: &[u8]) -> Option<(Form, u64, &[u8])>
+fn find(text: &[u8]) -> Option<(DumpForm, u64, &[u8])>
     ensures found { MatchOption result (edid_in_dump text.now ≡ Err NoDump) (λ s. edid_in_dump text.now ≡ ordered s.0 (bytes_of_rows s.0 s.1 false [] (lines_of s.2.now))) }
     ensures room { IfSome result (λ s. s.1 + length s.2.now < 2 ^ 64) }
     ensures some { is_some result ≡ has_dump text.now }

@@ -5,7 +5,7 @@ ghost use Rattle.std.specs.List.{list_all};
 ghost use Rattle.std.specs.Char.{is_ascii_hexdigit};
 ghost use Rattle.edid_dump.specs.Digits.{bytes_with_row};
 ghost use Rattle.edid_dump.specs.Rows.{after_number, begins_with, column_of, digits_read, digits_start, form_of, has_header, has_number, has_offset, is_list, is_repeat, is_short, is_star, may_have, next_form, place_of, row, tail_start, words_header};
-ghost use Rattle.edid_dump.specs.declared.rows.Form.TheVariants.{Words};
+ghost use Rattle.edid_dump.specs.declared.rows.DumpForm.TheVariants.{Words};
 
 use crate::digits::{Column, is_blank, octal_of, offset_of, pair_count, push_pairs};
 use crate::lists::{list_start, listed_count, push_listed};
@@ -14,7 +14,7 @@ use text_core::{after, before, byte_at};
 
 /// The form of a dump's rows.
 #[derive(Clone, Copy, Debug, PartialEq, Eq)]
-pub enum Form {
+pub enum DumpForm {
     /// Digits and blanks alone, as `xxd -p`, `edid-decode` and `xrandr` print them.
     Plain,
     /// An offset and a colon, digits, two spaces and characters, as `xxd` prints them.
@@ -95,83 +95,83 @@ fn tail_start(count: usize, line: &[u8]) -> Option<usize>
 }
 
 // Where the digits of a row begin.
-fn digits_start(form: Form, line: &[u8]) -> Option<usize>
+fn digits_start(form: DumpForm, line: &[u8]) -> Option<usize>
     ensures { result ≡ digits_start form line.now }
 {
     match form {
-        Form::Plain => Some(0),
-        Form::Colon => {
+        DumpForm::Plain => Some(0),
+        DumpForm::Colon => {
             let is_row = has_offset(line) && byte_at(line, 8) == b':';
             if is_row { Some(9) } else { None }
         }
-        Form::Bars => {
+        DumpForm::Bars => {
             let is_row = has_offset(line)
                 && (line.len() == 8 || (byte_at(line, 8) == b' ' && byte_at(line, 9) == b' '));
             if is_row { Some(8) } else { None }
         }
-        Form::LogPairs => tail_start(47, line),
-        Form::LogDigits => tail_start(32, line),
-        Form::Octal | Form::Words => after_number(7, line),
-        Form::Six => after_number(6, line),
-        Form::Short => { if is_short(line) { Some(3) } else { None } }
-        Form::Opened => Some(list_start(line)),
-        Form::Listed => Some(0),
+        DumpForm::LogPairs => tail_start(47, line),
+        DumpForm::LogDigits => tail_start(32, line),
+        DumpForm::Octal | DumpForm::Words => after_number(7, line),
+        DumpForm::Six => after_number(6, line),
+        DumpForm::Short => { if is_short(line) { Some(3) } else { None } }
+        DumpForm::Opened => Some(list_start(line)),
+        DumpForm::Listed => Some(0),
     }
 }
 
-fn column_of(form: Form) -> Column
+fn column_of(form: DumpForm) -> Column
     ensures { result ≡ column_of form }
 {
     match form {
-        Form::Plain
-        | Form::LogPairs
-        | Form::LogDigits
-        | Form::Words
-        | Form::Opened
-        | Form::Listed => Column::Absent,
-        Form::Colon => Column::AfterGap,
-        Form::Short => Column::AfterGap,
-        Form::Octal | Form::Six => Column::AfterAngle,
-        Form::Bars => Column::AfterBar,
+        DumpForm::Plain
+        | DumpForm::LogPairs
+        | DumpForm::LogDigits
+        | DumpForm::Words
+        | DumpForm::Opened
+        | DumpForm::Listed => Column::Absent,
+        DumpForm::Colon => Column::AfterGap,
+        DumpForm::Short => Column::AfterGap,
+        DumpForm::Octal | DumpForm::Six => Column::AfterAngle,
+        DumpForm::Bars => Column::AfterBar,
     }
 }
 
-fn may_have(form: Form, count: usize) -> bool
+fn may_have(form: DumpForm, count: usize) -> bool
     ensures { result ≡ may_have form count }
 {
     match form {
-        Form::Plain
-        | Form::Colon
-        | Form::Bars
-        | Form::Octal
-        | Form::Six
-        | Form::Short
-        | Form::Words
-        | Form::Opened
-        | Form::Listed => true,
-        Form::LogPairs | Form::LogDigits => count == 16,
+        DumpForm::Plain
+        | DumpForm::Colon
+        | DumpForm::Bars
+        | DumpForm::Octal
+        | DumpForm::Six
+        | DumpForm::Short
+        | DumpForm::Words
+        | DumpForm::Opened
+        | DumpForm::Listed => true,
+        DumpForm::LogPairs | DumpForm::LogDigits => count == 16,
     }
 }
 
-fn is_list(form: Form) -> bool
+fn is_list(form: DumpForm) -> bool
     ensures { result ≡ is_list form }
 {
     match form {
-        Form::Opened | Form::Listed => true,
-        Form::Plain
-        | Form::Colon
-        | Form::Bars
-        | Form::Octal
-        | Form::Six
-        | Form::LogPairs
-        | Form::LogDigits
-        | Form::Short
-        | Form::Words => false,
+        DumpForm::Opened | DumpForm::Listed => true,
+        DumpForm::Plain
+        | DumpForm::Colon
+        | DumpForm::Bars
+        | DumpForm::Octal
+        | DumpForm::Six
+        | DumpForm::LogPairs
+        | DumpForm::LogDigits
+        | DumpForm::Short
+        | DumpForm::Words => false,
     }
 }
 
 // How many bytes digits spell, as a row of this form has them.
-fn digit_count(form: Form, text: &[u8]) -> Option<usize>
+fn digit_count(form: DumpForm, text: &[u8]) -> Option<usize>
     ensures { result ≡ option_map length (digits_read form text.now) }
 {
     if is_list(form) {
@@ -182,7 +182,7 @@ fn digit_count(form: Form, text: &[u8]) -> Option<usize>
 }
 
 // Adds the bytes that they spell, as far as there is room.
-fn push_digits(form: Form, text: &[u8], bytes: &mut ArrayVec<u8, 512>)
+fn push_digits(form: DumpForm, text: &[u8], bytes: &mut ArrayVec<u8, 512>)
     requires { IsSome (digits_read form text.now) }
     ensures { bytes_with_row bytes.old.items (digits_read form text.now) ≡ Some bytes.new.items }
 {
@@ -195,7 +195,7 @@ fn push_digits(form: Form, text: &[u8], bytes: &mut ArrayVec<u8, 512>)
 
 /// How many bytes a line has, where it is a row of this form.
 #[tactic(auto, using(crate::proofs::RowLemmas::row_by_count, crate::proofs::RowLemmas::row_absent))]
-pub fn row_count(form: Form, line: &[u8]) -> Option<usize>
+pub fn row_count(form: DumpForm, line: &[u8]) -> Option<usize>
     ensures { result ≡ option_map length (row form line.now) }
 {
     let Some(start) = digits_start(form, line) else {
@@ -213,7 +213,7 @@ pub fn row_count(form: Form, line: &[u8]) -> Option<usize>
 
 /// Adds the bytes of a row, as far as there is room.
 #[tactic(auto, using(crate::proofs::RowLemmas::row_absent))]
-pub fn push_row(form: Form, line: &[u8], bytes: &mut ArrayVec<u8, 512>)
+pub fn push_row(form: DumpForm, line: &[u8], bytes: &mut ArrayVec<u8, 512>)
     requires { IsSome (row form line.now) }
     ensures { bytes_with_row bytes.old.items (row form line.now) ≡ Some bytes.new.items }
 {
@@ -230,63 +230,63 @@ fn is_star(line: &[u8]) -> bool
 }
 
 /// Whether a line stands for rows that repeat the one above.
-pub fn is_repeat(form: Form, line: &[u8]) -> bool
+pub fn is_repeat(form: DumpForm, line: &[u8]) -> bool
     ensures { result ≡ is_repeat form line.now }
 {
     match form {
-        Form::Bars | Form::Octal | Form::Six | Form::Words => is_star(line),
-        Form::Plain
-        | Form::Colon
-        | Form::LogPairs
-        | Form::LogDigits
-        | Form::Short
-        | Form::Opened
-        | Form::Listed => false,
+        DumpForm::Bars | DumpForm::Octal | DumpForm::Six | DumpForm::Words => is_star(line),
+        DumpForm::Plain
+        | DumpForm::Colon
+        | DumpForm::LogPairs
+        | DumpForm::LogDigits
+        | DumpForm::Short
+        | DumpForm::Opened
+        | DumpForm::Listed => false,
     }
 }
 
 /// The number of a row's first byte, in a form of which rows may be left out.
-pub fn place_of(form: Form, line: &[u8]) -> u64
+pub fn place_of(form: DumpForm, line: &[u8]) -> u64
     ensures value { result ≡ place_of form line.now }
     ensures small { result < 2 ^ 32 }
 {
     match form {
-        Form::Octal => octal_of(line),
-        Form::Six => offset_of(line) / 0x100,
-        Form::Words => offset_of(line) / 0x10,
-        Form::Plain
-        | Form::Colon
-        | Form::Bars
-        | Form::LogPairs
-        | Form::LogDigits
-        | Form::Short
-        | Form::Opened
-        | Form::Listed => offset_of(line),
+        DumpForm::Octal => octal_of(line),
+        DumpForm::Six => offset_of(line) / 0x100,
+        DumpForm::Words => offset_of(line) / 0x10,
+        DumpForm::Plain
+        | DumpForm::Colon
+        | DumpForm::Bars
+        | DumpForm::LogPairs
+        | DumpForm::LogDigits
+        | DumpForm::Short
+        | DumpForm::Opened
+        | DumpForm::Listed => offset_of(line),
     }
 }
 
 /// The form of the row after one of this form.
-pub fn next_form(form: Form) -> Form
+pub fn next_form(form: DumpForm) -> DumpForm
     ensures { result ≡ next_form form }
 {
     match form {
-        Form::Opened => Form::Listed,
-        Form::Plain
-        | Form::Colon
-        | Form::Bars
-        | Form::Octal
-        | Form::Six
-        | Form::LogPairs
-        | Form::LogDigits
-        | Form::Short
-        | Form::Words
-        | Form::Listed => form,
+        DumpForm::Opened => DumpForm::Listed,
+        DumpForm::Plain
+        | DumpForm::Colon
+        | DumpForm::Bars
+        | DumpForm::Octal
+        | DumpForm::Six
+        | DumpForm::LogPairs
+        | DumpForm::LogDigits
+        | DumpForm::Short
+        | DumpForm::Words
+        | DumpForm::Listed => form,
     }
 }
 
 // Whether a row begins with these bytes.
 #[tactic(auto, using(crate::proofs::RowLemmas::begins_absent, crate::proofs::RowLemmas::counted_some))]
-fn begins_with(front: &[u8], form: Form, line: &[u8]) -> bool
+fn begins_with(front: &[u8], form: DumpForm, line: &[u8]) -> bool
     ensures { result ≡ begins_with front.now (row form line.now) }
 {
     let Some(_count) = row_count(form, line) else {
@@ -297,7 +297,7 @@ fn begins_with(front: &[u8], form: Form, line: &[u8]) -> bool
     before(&bytes, 8) == front
 }
 
-fn has_header(form: Form, line: &[u8]) -> bool
+fn has_header(form: DumpForm, line: &[u8]) -> bool
     ensures { result ≡ has_header (row form line.now) }
 {
     begins_with(HEADER, form, line)
@@ -306,33 +306,33 @@ fn has_header(form: Form, line: &[u8]) -> bool
 fn begins_in_words(line: &[u8]) -> bool
     ensures { result ≡ begins_with words_header (row Words line.now) }
 {
-    begins_with(WORDS_HEADER, Form::Words, line)
+    begins_with(WORDS_HEADER, DumpForm::Words, line)
 }
 
 /// The form of a line that an EDID begins with.
-pub fn form_of(line: &[u8]) -> Option<Form>
+pub fn form_of(line: &[u8]) -> Option<DumpForm>
     ensures { result ≡ form_of line.now }
 {
-    if has_header(Form::Plain, line) {
-        Some(Form::Plain)
-    } else if has_header(Form::Colon, line) {
-        Some(Form::Colon)
-    } else if has_header(Form::Bars, line) {
-        Some(Form::Bars)
-    } else if has_header(Form::Octal, line) {
-        Some(Form::Octal)
-    } else if has_header(Form::Six, line) {
-        Some(Form::Six)
-    } else if has_header(Form::LogPairs, line) {
-        Some(Form::LogPairs)
-    } else if has_header(Form::LogDigits, line) {
-        Some(Form::LogDigits)
-    } else if has_header(Form::Short, line) {
-        Some(Form::Short)
+    if has_header(DumpForm::Plain, line) {
+        Some(DumpForm::Plain)
+    } else if has_header(DumpForm::Colon, line) {
+        Some(DumpForm::Colon)
+    } else if has_header(DumpForm::Bars, line) {
+        Some(DumpForm::Bars)
+    } else if has_header(DumpForm::Octal, line) {
+        Some(DumpForm::Octal)
+    } else if has_header(DumpForm::Six, line) {
+        Some(DumpForm::Six)
+    } else if has_header(DumpForm::LogPairs, line) {
+        Some(DumpForm::LogPairs)
+    } else if has_header(DumpForm::LogDigits, line) {
+        Some(DumpForm::LogDigits)
+    } else if has_header(DumpForm::Short, line) {
+        Some(DumpForm::Short)
     } else if begins_in_words(line) {
-        Some(Form::Words)
-    } else if has_header(Form::Opened, line) {
-        Some(Form::Opened)
+        Some(DumpForm::Words)
+    } else if has_header(DumpForm::Opened, line) {
+        Some(DumpForm::Opened)
     } else {
         None
     }

@@ -5,7 +5,7 @@ use Rattle.std.specs.Result.{is_err}
 use Rattle.std.specs.Str.{bytes_eq}
 use Rattle.text_core.specs.Number.{number_of}
 use Rattle.text_core.specs.Phys.{digit_value, is_hex_digit}
-use Rattle.edid_spelling.specs.declared.audio.Descriptor.{Descriptor}
+use Rattle.edid_spelling.specs.declared.audio.AudioDescriptor.{AudioDescriptor}
 use Rattle.edid_spelling.specs.Rows.{Row, row, stands_for, parts_of, bits_of, fault_place}
 
 -- the format, which bits 6 to 3 of the first byte number
@@ -93,7 +93,7 @@ unfoldable pub descriptor_of : List ℕ → List ℕ → List ℕ → List ℕ �
 descriptor_of format channels rates third = descriptor_of_format (stands_for format_rows format) channels rates third
 
 -- those of the code
-abbrev pub descriptor_bytes : Descriptor → List ℕ
+abbrev pub descriptor_bytes : AudioDescriptor → List ℕ
 descriptor_bytes d = d.first ∷ d.rates ∷ d.third ∷ []
 
 -- ---- a block of ten descriptors at most

@@ -9,17 +9,17 @@ use Rattle.edid_spelling.specs.declared.hdmi.Flag.{Flag as FlagValue}
 use Rattle.edid_spelling.specs.declared.hdmi.Flag.TheVariants.{Ai, Deep30, Deep36, Deep48, Deep444, DualLink, Graphics, Photo, Cinema, Game, Stereo, Format1, Format2, Format3, Format4}
 use Rattle.edid_spelling.specs.declared.hdmi.HdmiRow.{HdmiRow as CodeRow}
 use Rattle.edid_spelling.specs.declared.hdmi.Said.{Said}
-use Rattle.edid_spelling.specs.declared.hdmi.Says.{Says}
-use Rattle.edid_spelling.specs.declared.hdmi.Says.TheVariants.{Flag, Clock, Latency, InterlacedLatency}
+use Rattle.edid_spelling.specs.declared.hdmi.HdmiWord.{HdmiWord}
+use Rattle.edid_spelling.specs.declared.hdmi.HdmiWord.TheVariants.{Flag, Clock, Latency, InterlacedLatency}
 
 -- ---- the words
 
 -- a word, and what it says
 pub record HdmiRow : Type 0 where
   pub word : List ℕ
-  pub says : Says
+  pub says : HdmiWord
 
-abbrev pub hdmi_row : List ℕ → Says → HdmiRow
+abbrev pub hdmi_row : List ℕ → HdmiWord → HdmiRow
 hdmi_row word says = record { word = word; says = says }
 
 -- the same of the code
@@ -127,7 +127,7 @@ after_delays number (Err word) on = Err (number + 1 + word)
 after_delays number (Ok delays) on = on delays
 
 -- A row's word with this number, and those after it, of which the rows' values are taken off: what on says of the others.
-abbrev pub said_by_row : Says → Said → ℕ → List (List ℕ) → (Said → ℕ → List (List ℕ) → Result Said ℕ) → Result Said ℕ
+abbrev pub said_by_row : HdmiWord → Said → ℕ → List (List ℕ) → (Said → ℕ → List (List ℕ) → Result Said ℕ) → Result Said ℕ
 said_by_row (Flag flag) s number words on = on (with_flag flag s) (number + 1) words
 said_by_row Clock s number words on =
     after_clock number (clock_of (number_of (first_of words))) (λ clock. on (record s { max_clock = clock }) (number + 2) (others_of words))

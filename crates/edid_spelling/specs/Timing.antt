@@ -2,10 +2,10 @@
 use Rattle.std.specs.Prelude.{ℕ, ◌==◌, nat_le, if◌then◌else◌, List, [], ◌∷◌, Option, Some, None, Result, Ok, Err}
 use Rattle.text_core.specs.Number.{number_of}
 use Rattle.edid_spelling.specs.Rows.{first_of, others_of}
-use Rattle.edid_spelling.specs.declared.timing.Format.{Format}
+use Rattle.edid_spelling.specs.declared.timing.TimingFormat.{TimingFormat}
 use Rattle.edid_spelling.specs.declared.timing.Sides.{Sides}
 
-abbrev pub format : ℕ → ℕ → ℕ → ℕ → ℕ → ℕ → ℕ → ℕ → ℕ → ℕ → ℕ → Format
+abbrev pub format : ℕ → ℕ → ℕ → ℕ → ℕ → ℕ → ℕ → ℕ → ℕ → ℕ → ℕ → TimingFormat
 format code clock width across height down h_offset h_sync v_offset v_sync flags = record {
   code = code;
   clock = clock;
@@ -22,7 +22,7 @@ format code clock width across height down h_offset h_sync v_offset v_sync flags
 
 -- The formats, of those of which a detailed timing has room for each field: the code; the clock in 10 kHz; the picture and its
 -- blanking, across and down; sync offset and width, across and down; flags. Of two fields one, with the lesser blanking.
-unfoldable pub format_rows : List Format
+unfoldable pub format_rows : List TimingFormat
 format_rows =
     format 2 2700 720 138 480 45 16 62 9 6 24 ∷
     format 3 2700 720 138 480 45 16 62 9 6 24 ∷
@@ -50,15 +50,15 @@ format_rows =
     format 95 29700 3840 560 2160 90 176 88 8 10 30 ∷
     format 97 59400 3840 560 2160 90 176 88 8 10 30 ∷ []
 
-abbrev pub format_with : List Format → ℕ → Option Format
+abbrev pub format_with : List TimingFormat → ℕ → Option TimingFormat
 format_with [] code = None
 format_with (f ∷ formats) code = if f.code == code then Some f else format_with formats code
 
-abbrev pub format_at : Option ℕ → Option Format
+abbrev pub format_at : Option ℕ → Option TimingFormat
 format_at None = None
 format_at (Some code) = format_with format_rows code
 
-abbrev pub format_named : List ℕ → Option Format
+abbrev pub format_named : List ℕ → Option TimingFormat
 format_named word = format_at (number_of word)
 
 -- ---- the image
@@ -89,16 +89,16 @@ pub record Timed : Type 0 where
   pub flags : ℕ
 
 -- the numbers of the line, without borders
-abbrev pub numbers_of : Format → Sides → List ℕ
+abbrev pub numbers_of : TimingFormat → Sides → List ℕ
 numbers_of f s =
     f.clock ∷ f.width ∷ f.horizontal_blanking ∷ f.height ∷ f.vertical_blanking ∷ f.horizontal_offset ∷ f.horizontal_sync
     ∷ f.vertical_offset ∷ f.vertical_sync ∷ s.across ∷ s.down ∷ 0 ∷ 0 ∷ []
 
-abbrev pub timed_by : Format → Result Sides ℕ → Result Timed ℕ
+abbrev pub timed_by : TimingFormat → Result Sides ℕ → Result Timed ℕ
 timed_by f (Err number) = Err number
 timed_by f (Ok sides) = Ok (record { numbers = numbers_of f sides; flags = f.flags })
 
-abbrev pub timing_by : Option Format → List (List ℕ) → Result Timed ℕ
+abbrev pub timing_by : Option TimingFormat → List (List ℕ) → Result Timed ℕ
 timing_by None words = Err 2
 timing_by (Some f) words = timed_by f (sizes_of words)
 

@@ -13,7 +13,7 @@ use text_core::{digit_value, first_word, is_hex_digit, number_in};
 
 /// The three bytes of a descriptor.
 #[derive(Clone, Copy)]
-struct Descriptor {
+struct AudioDescriptor {
     first: u8,
     rates: u8,
     third: u8,
@@ -171,7 +171,7 @@ fn descriptor_of(
     channels: &[u8],
     rates: &[u8],
     third: &[u8],
-) -> Result<Descriptor, usize>
+) -> Result<AudioDescriptor, usize>
     ensures { MatchResult result (λ d. descriptor_of format.now channels.now rates.now third.now ≡ Ok (descriptor_bytes d)) (λ word. (descriptor_of format.now channels.now rates.now third.now ≡ Err word) × (word < 4)) }
 {
     let Some(format) = format_of(format) else {
@@ -186,14 +186,14 @@ fn descriptor_of(
     let Some(third) = third_of(format, third) else {
         return Err(3);
     };
-    Ok(Descriptor {
+    Ok(AudioDescriptor {
         first: first_byte(format, channels),
         rates,
         third,
     })
 }
 
-fn push_descriptor(payload: &mut ArrayVec<u8, 128>, descriptor: Descriptor)
+fn push_descriptor(payload: &mut ArrayVec<u8, 128>, descriptor: AudioDescriptor)
     requires { array_vec_len payload.old ≤ 32 }
     ensures items { payload.new.items ≡ payload.old.items ++ descriptor_bytes descriptor }
     ensures len { array_vec_len payload.new ≡ array_vec_len payload.old + 3 }

@@ -44,7 +44,7 @@ pub enum Flag {
 
 /// What a word says, and the values after it.
 #[derive(Clone, Copy)]
-pub enum Says {
+pub enum HdmiWord {
     Flag(Flag),
     /// Max_TMDS_Clock, in MHz.
     Clock,
@@ -58,7 +58,7 @@ pub enum Says {
 #[derive(Clone, Copy)]
 pub struct HdmiRow {
     pub word: &'static str,
-    pub says: Says,
+    pub says: HdmiWord,
 }
 
 /// The latencies of video and of its sound, as bytes.
@@ -110,24 +110,24 @@ macro_rules! hdmi_rows {
 }
 
 const WORDS: &[HdmiRow] = hdmi_rows! {
-    "ai" Says::Flag(Flag::Ai);
-    "30-bit" Says::Flag(Flag::Deep30);
-    "36-bit" Says::Flag(Flag::Deep36);
-    "48-bit" Says::Flag(Flag::Deep48);
-    "y444" Says::Flag(Flag::Deep444);
-    "dvi-dual" Says::Flag(Flag::DualLink);
-    "tmds" Says::Clock;
-    "graphics-content" Says::Flag(Flag::Graphics);
-    "photo-content" Says::Flag(Flag::Photo);
-    "cinema-content" Says::Flag(Flag::Cinema);
-    "game-content" Says::Flag(Flag::Game);
-    "latency" Says::Latency;
-    "interlaced-latency" Says::InterlacedLatency;
-    "3d-present" Says::Flag(Flag::Stereo);
-    "vic-1" Says::Flag(Flag::Format1);
-    "vic-2" Says::Flag(Flag::Format2);
-    "vic-3" Says::Flag(Flag::Format3);
-    "vic-4" Says::Flag(Flag::Format4);
+    "ai" HdmiWord::Flag(Flag::Ai);
+    "30-bit" HdmiWord::Flag(Flag::Deep30);
+    "36-bit" HdmiWord::Flag(Flag::Deep36);
+    "48-bit" HdmiWord::Flag(Flag::Deep48);
+    "y444" HdmiWord::Flag(Flag::Deep444);
+    "dvi-dual" HdmiWord::Flag(Flag::DualLink);
+    "tmds" HdmiWord::Clock;
+    "graphics-content" HdmiWord::Flag(Flag::Graphics);
+    "photo-content" HdmiWord::Flag(Flag::Photo);
+    "cinema-content" HdmiWord::Flag(Flag::Cinema);
+    "game-content" HdmiWord::Flag(Flag::Game);
+    "latency" HdmiWord::Latency;
+    "interlaced-latency" HdmiWord::InterlacedLatency;
+    "3d-present" HdmiWord::Flag(Flag::Stereo);
+    "vic-1" HdmiWord::Flag(Flag::Format1);
+    "vic-2" HdmiWord::Flag(Flag::Format2);
+    "vic-3" HdmiWord::Flag(Flag::Format3);
+    "vic-4" HdmiWord::Flag(Flag::Format4);
 };
 
 /// What no words say.
@@ -314,17 +314,17 @@ fn said_from(
                         return said_from(others, said, number, rest);
                     }
                     match row.says {
-                        Says::Flag(flag) => {
+                        HdmiWord::Flag(flag) => {
                             said_from(others, with_flag(flag, said), number + 1, more)
                         }
-                        Says::Clock => {
+                        HdmiWord::Clock => {
                             let (clock, more) = next_word(more);
                             let Some(clock) = clock_of(number_in(clock)) else {
                                 return Err(number + 1);
                             };
                             said_from(others, with_clock(clock, said), number + 2, more)
                         }
-                        Says::Latency => {
+                        HdmiWord::Latency => {
                             let (video, more) = next_word(more);
                             let (audio, more) = next_word(more);
                             match delays_of(video, audio) {
@@ -339,7 +339,7 @@ fn said_from(
                                 }
                             }
                         }
-                        Says::InterlacedLatency => {
+                        HdmiWord::InterlacedLatency => {
                             let (video, more) = next_word(more);
                             let (audio, more) = next_word(more);
                             match delays_of(video, audio) {

@@ -11,7 +11,7 @@ use text_core::{first_word, number_in};
 /// The timing of a format of CTA-861: its video code, the clock in 10 kHz, and what stands across and down, of one field where the
 /// picture is two.
 #[derive(Clone, Copy)]
-pub struct Format {
+pub struct TimingFormat {
     pub code: u64,
     pub clock: u32,
     pub width: u32,
@@ -46,7 +46,7 @@ const LONGEST: u64 = 4095;
 // Rows of the table, a format each.
 macro_rules! formats {
     ($($code:literal $clock:literal $width:literal $across:literal $height:literal $down:literal $h_offset:literal $h_sync:literal $v_offset:literal $v_sync:literal $flags:literal;)*) => {
-        &[$(Format {
+        &[$(TimingFormat {
             code: $code,
             clock: $clock,
             width: $width,
@@ -62,7 +62,7 @@ macro_rules! formats {
     };
 }
 
-const FORMATS: &[Format] = formats! {
+const FORMATS: &[TimingFormat] = formats! {
     2 2700 720 138 480 45 16 62 9 6 0x18;
     3 2700 720 138 480 45 16 62 9 6 0x18;
     4 7425 1280 370 720 30 110 40 5 5 0x1e;
@@ -90,7 +90,7 @@ const FORMATS: &[Format] = formats! {
     97 59400 3840 560 2160 90 176 88 8 10 0x1e;
 };
 
-fn format_with(formats: &[Format], code: u64) -> Option<Format>
+fn format_with(formats: &[TimingFormat], code: u64) -> Option<TimingFormat>
     ensures { result ≡ format_with formats.now code }
 {
     match formats {
@@ -107,7 +107,7 @@ fn format_with(formats: &[Format], code: u64) -> Option<Format>
 
 // The format of a code in digits.
 #[tactic(auto, unfolding(crate::specs::Timing::format_rows))]
-fn format_named(word: &[u8]) -> Option<Format>
+fn format_named(word: &[u8]) -> Option<TimingFormat>
     ensures { result ≡ format_named word.now }
 {
     format_with(FORMATS, number_in(word)?)
@@ -148,7 +148,7 @@ fn sizes_in(rest: Option<&[u8]>) -> Result<Sides, usize>
     }
 }
 
-fn numbers_of(format: Format, sides: Sides) -> ArrayVec<u32, 13>
+fn numbers_of(format: TimingFormat, sides: Sides) -> ArrayVec<u32, 13>
     ensures { result.items ≡ numbers_of format sides }
 {
     ArrayVec::from([

@@ -12,12 +12,12 @@ use Rattle.edid_text_lines.specs.Text.{number_text, hex_word, fields_text}
 use Rattle.edid_text_lines.specs.Formed.{FormedFields, are_numbers, BeginsSpaced}
 use Rattle.edid_text_lines.specs.declared.line.Fields.{Fields}
 use Rattle.edid_text_lines.specs.declared.line.Fields.TheVariants.{Nothing, Letters, Numbers, Timed, Bytes, Address, Quoted}
-use Rattle.edid_text_lines.specs.declared.line.Form.{Form}
-use Rattle.edid_text_lines.specs.declared.line.Form.TheVariants.{Unused, Timing}
+use Rattle.edid_text_lines.specs.declared.line.LineContent.{LineContent}
+use Rattle.edid_text_lines.specs.declared.line.LineContent.TheVariants.{Unused, Timing}
 use Rattle.arrayvec.specs.ArrayVec.{ArrayVec}
 use Rattle.edid_text_lines.proofs.Words.{cut_at, without_decimal}
 
-pub as_timing : (form : Form) (f : Fields) (text : List ℕ) (r : Option Fields) → form ≡ Timing
+pub as_timing : (form : LineContent) (f : Fields) (text : List ℕ) (r : Option Fields) → form ≡ Timing
     → ((ns : List ℕ) (flags : ℕ) → length ns ≡ 13 → are_numbers ns ≡ true → flags < 256 → flat_map number_text ns ++ (32 ∷ encode_lower (flags ∷ [])) ≡ text → r ≡ Some (Timed (record { items = ns }) flags))
     → FormedFields form f → fields_text f ≡ text → r ≡ Some f
 as_timing form f text r is clause formed e = at f (subst (λ x. FormedFields x f) is formed) e
@@ -59,7 +59,7 @@ no_numbers (a ∷ ns) l f e = go ns (omega (arith, l))
             let one = length-append (number_text n) (flat_map number_text ns) in
             omega (arith, len, one, six, k)
 
-pub as_unused : (form : Form) (f : Fields) (text : List ℕ) (r : Option Fields) → form ≡ Unused → text ≡ codes " unused"
+pub as_unused : (form : LineContent) (f : Fields) (text : List ℕ) (r : Option Fields) → form ≡ Unused → text ≡ codes " unused"
     → ((xs : List ℕ) → length xs ≤ 8 → 32 ∷ xs ≡ text → r ≡ Some (Letters (record { items = xs })))
     → FormedFields form f → fields_text f ≡ text → r ≡ Some f
 as_unused form f text r is same clause formed e = at f (subst (λ x. FormedFields x f) is formed) e

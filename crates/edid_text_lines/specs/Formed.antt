@@ -6,8 +6,8 @@ use Rattle.edid_text_lines.specs.declared.line.Keyword.{Keyword}
 use Rattle.edid_text_lines.specs.declared.line.Keyword.TheVariants.{Edid, Maker, Product, Serial, Made, Input, Size, Gamma, Features, Chroma, Established, Standard, Timing, Name, Text, SerialText, Range, Dummy, Raw, Cta, CtaNone, Tag0, Audio, Video, Vendor, Speakers, Tag5, Tag6, Extended, Hdmi, Tail, Ext}
 use Rattle.edid_text_lines.specs.declared.line.Fields.{Fields}
 use Rattle.edid_text_lines.specs.declared.line.Fields.TheVariants.{Nothing, Letters, Numbers, Timed, Bytes, Address, Quoted}
-use Rattle.edid_text_lines.specs.declared.line.Form.{Form}
-use Rattle.edid_text_lines.specs.declared.line.Form.TheVariants.{Empty, Three, One, Two, Eight, Unused, Timing as OfTiming, Hex, Address as OfAddress, Quoted as OfQuoted}
+use Rattle.edid_text_lines.specs.declared.line.LineContent.{LineContent}
+use Rattle.edid_text_lines.specs.declared.line.LineContent.TheVariants.{Empty, Three, One, Two, Eight, Unused, Timing as OfTiming, Hex, Address as OfAddress, Quoted as OfQuoted}
 use Rattle.edid_text_lines.specs.declared.line.Line.{Line}
 
 -- no space is among these characters
@@ -23,7 +23,7 @@ abbrev pub are_numbers : List ℕ → Bool
 are_numbers ns = list_all (λ n. nat_lt n (2 ^ 32)) ns
 
 -- what stands after a word
-abbrev pub form_of : Keyword → Form
+abbrev pub form_of : Keyword → LineContent
 form_of Edid = Three
 form_of Maker = Three
 form_of Product = One
@@ -61,7 +61,7 @@ abbrev pub HasNumbers : ℕ → List ℕ → Type 0
 HasNumbers count ns = (length ns ≡ count) × (are_numbers ns ≡ true)
 
 -- fields of a form
-abbrev pub FormedFields : Form → Fields → Type 0
+abbrev pub FormedFields : LineContent → Fields → Type 0
 FormedFields Empty Nothing = Unit {0}
 FormedFields Three (Letters letters) = length letters.items ≡ 3
 FormedFields One (Numbers numbers) = HasNumbers 1 numbers.items

@@ -46,7 +46,7 @@ pub enum Keyword {
 /// What stands after a word: nothing, three letters, so many numbers, `unused` or three numbers, a
 /// detailed timing, bytes in hex, a physical address and bytes, characters in quotes.
 #[derive(Clone, Copy, Debug, PartialEq, Eq)]
-pub enum Form {
+pub enum LineContent {
     Empty,
     Three,
     One,
@@ -141,7 +141,7 @@ macro_rules! spelled {
 macro_rules! form_match {
     ($at:expr, $($word:ident $text:literal $form:ident;)*) => {
         match $at {
-            $(Keyword::$word => Form::$form,)*
+            $(Keyword::$word => LineContent::$form,)*
         }
     };
 }
@@ -162,7 +162,7 @@ pub const WORD_TEXTS: &[&str] = words!(spelled, 0);
 
 impl Keyword {
     /// What stands after the word.
-    pub fn form(self) -> Form
+    pub fn form(self) -> LineContent
         ensures { result ≡ form_of self }
     {
         words!(form_match, self)

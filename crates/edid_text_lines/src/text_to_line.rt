@@ -12,7 +12,7 @@ ghost use Rattle.edid_text_lines.specs.declared.line.Fields.{Fields as FieldsVal
 ghost use Rattle.edid_text_lines.specs.declared.line.Line.{Line as LineValue};
 ghost use Rattle.edid_text_lines.specs.declared.line.Keyword.{Keyword as WordValue};
 
-use crate::line::{Fields, Form, Keyword, Line, WORDS};
+use crate::line::{Fields, LineContent, Keyword, Line, WORDS};
 use arrayvec::ArrayVec;
 use text_core::Phys;
 
@@ -185,21 +185,21 @@ fn quoted_field(text: &[u8]) -> Option<Fields>
 }
 
 /// The fields of a form that a text may spell.
-fn read_fields(form: Form, text: &[u8]) -> Option<Fields>
+fn read_fields(form: LineContent, text: &[u8]) -> Option<Fields>
     ensures { (f : FieldsValue) → FormedFields form f → fields_text f ≡ text.now → result ≡ Some f }
 {
     match form {
-        Form::Empty => Some(Fields::Nothing),
-        Form::Three => letters_field(text),
-        Form::One => numbers_field(text, 1),
-        Form::Two => numbers_field(text, 2),
-        Form::Eight => numbers_field(text, 8),
-        Form::Unused if text == b" unused".as_slice() => letters_field(text),
-        Form::Unused => numbers_field(text, 3),
-        Form::Timing => timing_field(text),
-        Form::Hex => bytes_field(text),
-        Form::Address => address_field(text),
-        Form::Quoted => quoted_field(text),
+        LineContent::Empty => Some(Fields::Nothing),
+        LineContent::Three => letters_field(text),
+        LineContent::One => numbers_field(text, 1),
+        LineContent::Two => numbers_field(text, 2),
+        LineContent::Eight => numbers_field(text, 8),
+        LineContent::Unused if text == b" unused".as_slice() => letters_field(text),
+        LineContent::Unused => numbers_field(text, 3),
+        LineContent::Timing => timing_field(text),
+        LineContent::Hex => bytes_field(text),
+        LineContent::Address => address_field(text),
+        LineContent::Quoted => quoted_field(text),
     }
 }
 

@@ -12,8 +12,8 @@ use Rattle.edid_text_lines.specs.Formed.{form_of, FormedFields, are_numbers}
 use Rattle.edid_text_lines.specs.Text.{word_text, number_text, hex_word, fields_text, line_text}
 use Rattle.edid_text_lines.specs.declared.line.Fields.{Fields}
 use Rattle.edid_text_lines.specs.declared.line.Fields.TheVariants.{Nothing, Letters, Numbers, Timed, Bytes, Address, Quoted}
-use Rattle.edid_text_lines.specs.declared.line.Form.{Form}
-use Rattle.edid_text_lines.specs.declared.line.Form.TheVariants.{Empty, Three, One, Two, Eight, Unused, Timing as OfTiming, Hex, Address as OfAddress, Quoted as OfQuoted}
+use Rattle.edid_text_lines.specs.declared.line.LineContent.{LineContent}
+use Rattle.edid_text_lines.specs.declared.line.LineContent.TheVariants.{Empty, Three, One, Two, Eight, Unused, Timing as OfTiming, Hex, Address as OfAddress, Quoted as OfQuoted}
 use Rattle.edid_text_lines.specs.declared.line.Line.{Line}
 use Rattle.edid_text_lines.specs.declared.line.Keyword.{Keyword}
 use Rattle.edid_text_lines.specs.declared.line.Keyword.TheVariants.{Edid, Maker, Product, Serial, Made, Input, Size, Gamma, Features, Chroma, Established, Standard, Timing, Name, Text, SerialText, Range, Dummy, Raw, Cta, CtaNone, Tag0, Audio, Video, Vendor, Speakers, Tag5, Tag6, Extended, Hdmi, Tail, Ext}
@@ -168,7 +168,7 @@ numbers_feed (n ∷ ns) h =
     feed-append (decimal n) (flat_map number_text ns) (clean_feed (decimal n) (decimal_clean n p.0)) (numbers_feed ns p.1)
 
 -- the fields of a line
-fields_feed : (form : Form) (f : Fields) → FormedFields form f → PlainFields f → has_no_feed (fields_text f) ≡ true
+fields_feed : (form : LineContent) (f : Fields) → FormedFields form f → PlainFields f → has_no_feed (fields_text f) ≡ true
 fields_feed form Nothing h k = refl
 fields_feed form (Letters letters) h k = clean_feed letters.items k
 fields_feed form (Bytes bytes) h k = clean_feed (hex_word bytes.items) (hex_clean bytes.items)
@@ -177,7 +177,7 @@ fields_feed form (Address p bytes) h k =
 fields_feed form (Quoted chars) h k = feed-append chars.items (34 ∷ []) k refl
 fields_feed form (Numbers numbers) h k = numbers_feed numbers.items (fits form h)
   where
-    fits : (form : Form) → FormedFields form (Numbers numbers) → are_numbers numbers.items ≡ true
+    fits : (form : LineContent) → FormedFields form (Numbers numbers) → are_numbers numbers.items ≡ true
     fits One h = h.1
     fits Two h = h.1
     fits Eight h = h.1
@@ -191,7 +191,7 @@ fields_feed form (Numbers numbers) h k = numbers_feed numbers.items (fits form h
 fields_feed form (Timed numbers flags) h k =
     feed-append (flat_map number_text numbers.items) (32 ∷ encode_lower (flags ∷ [])) (numbers_feed numbers.items (fits form h)) (clean_feed (encode_lower (flags ∷ [])) (flags_clean flags))
   where
-    fits : (form : Form) → FormedFields form (Timed numbers flags) → are_numbers numbers.items ≡ true
+    fits : (form : LineContent) → FormedFields form (Timed numbers flags) → are_numbers numbers.items ≡ true
     fits OfTiming h = h.0.1
     fits One h = absurd h
     fits Two h = absurd h

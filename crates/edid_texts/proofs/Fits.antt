@@ -24,8 +24,8 @@ use Rattle.edid_text_lines.specs.Formed.{form_of, FormedFields, are_numbers}
 use Rattle.edid_text_lines.specs.Text.{word_text, hex_word, fields_text}
 use Rattle.edid_text_lines.specs.declared.line.Fields.{Fields}
 use Rattle.edid_text_lines.specs.declared.line.Fields.TheVariants.{Nothing, Letters, Numbers, Timed, Bytes, Address, Quoted}
-use Rattle.edid_text_lines.specs.declared.line.Form.{Form}
-use Rattle.edid_text_lines.specs.declared.line.Form.TheVariants.{One, Two, Eight, Unused, Timing as OfTimed}
+use Rattle.edid_text_lines.specs.declared.line.LineContent.{LineContent}
+use Rattle.edid_text_lines.specs.declared.line.LineContent.TheVariants.{One, Two, Eight, Unused, Timing as OfTimed}
 use Rattle.edid_text_lines.specs.declared.line.Line.{Line}
 use Rattle.edid_text_lines.specs.declared.line.Keyword.{Keyword}
 use Rattle.edid_text_lines.specs.declared.line.Keyword.TheVariants.{Chroma, Vendor, Hdmi}
@@ -214,14 +214,14 @@ before_at w i (suc j) (n ∷ m ∷ ns) f h =
     let same : suc i + j ≡ i + suc j = omega arith in
     subst (λ k. NumberAt w k (get_or (map decimal (m ∷ ns)) j [])) same (before_at w (suc i) j (m ∷ ns) f.1 (omega arith))
 
-numbers_of : (form : Form) (ns : List ℕ) → FormedFields form (Numbers (record { items = ns })) → are_numbers ns ≡ true
+numbers_of : (form : LineContent) (ns : List ℕ) → FormedFields form (Numbers (record { items = ns })) → are_numbers ns ≡ true
 numbers_of One ns h = h.1
 numbers_of Two ns h = h.1
 numbers_of Eight ns h = h.1
 numbers_of Unused ns h = h.1
 numbers_of form ns h = absurd h
 
-timed_of : (form : Form) (ns : List ℕ) (flags : ℕ) → FormedFields form (Timed (record { items = ns }) flags) → are_numbers ns ≡ true
+timed_of : (form : LineContent) (ns : List ℕ) (flags : ℕ) → FormedFields form (Timed (record { items = ns }) flags) → are_numbers ns ≡ true
 timed_of OfTimed ns flags h = h.0.1
 timed_of form ns flags h = absurd h
 

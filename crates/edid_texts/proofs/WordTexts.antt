@@ -16,8 +16,8 @@ use Rattle.edid_text_lines.specs.Text.{word_text, number_text, hex_word, fields_
 use Rattle.edid_texts.specs.Words.{has_words}
 use Rattle.edid_text_lines.specs.declared.line.Fields.{Fields}
 use Rattle.edid_text_lines.specs.declared.line.Fields.TheVariants.{Nothing, Letters, Numbers, Timed, Bytes, Address, Quoted}
-use Rattle.edid_text_lines.specs.declared.line.Form.{Form}
-use Rattle.edid_text_lines.specs.declared.line.Form.TheVariants.{Empty, Three, One, Two, Eight, Unused, Timing as OfTiming, Hex, Address as OfAddress, Quoted as OfQuoted}
+use Rattle.edid_text_lines.specs.declared.line.LineContent.{LineContent}
+use Rattle.edid_text_lines.specs.declared.line.LineContent.TheVariants.{Empty, Three, One, Two, Eight, Unused, Timing as OfTiming, Hex, Address as OfAddress, Quoted as OfQuoted}
 use Rattle.edid_text_lines.specs.declared.line.Keyword.{Keyword}
 use Rattle.edid_text_lines.specs.declared.line.Line.{Line}
 use Rattle.edid_texts.proofs.CutTexts.{hex_clean, flags_clean, decimal_clean, phys_clean, word_clean, number_fits}
@@ -89,7 +89,7 @@ numbers_spaces (n ∷ ns) ys h =
     all
 
 -- the fields of a line
-fields_spaces : (form : Form) (f : Fields) → FormedFields form f → PlainFields f → suc (spaces (fields_text f)) ≡ words_of f
+fields_spaces : (form : LineContent) (f : Fields) → FormedFields form f → PlainFields f → suc (spaces (fields_text f)) ≡ words_of f
 fields_spaces form Nothing h k = refl
 fields_spaces form (Letters letters) h k = let none = clean_spaces letters.items k in omega (arith, none)
 fields_spaces form (Bytes bytes) h k = let none = clean_spaces (hex_word bytes.items) (hex_clean bytes.items) in omega (arith, none)
@@ -103,7 +103,7 @@ fields_spaces form (Numbers numbers) h k =
     let all = ap spaces (sym (append-nil (flat_map number_text numbers.items))) ∙ numbers_spaces numbers.items [] (fits form h) in
     omega (arith, all)
   where
-    fits : (form : Form) → FormedFields form (Numbers numbers) → are_numbers numbers.items ≡ true
+    fits : (form : LineContent) → FormedFields form (Numbers numbers) → are_numbers numbers.items ≡ true
     fits One h = h.1
     fits Two h = h.1
     fits Eight h = h.1
@@ -120,7 +120,7 @@ fields_spaces form (Timed numbers flags) h k =
     let one : spaces (32 ∷ encode_lower (flags ∷ [])) ≡ 1 = omega (arith, none) in
     omega (arith, all, one)
   where
-    fits : (form : Form) → FormedFields form (Timed numbers flags) → are_numbers numbers.items ≡ true
+    fits : (form : LineContent) → FormedFields form (Timed numbers flags) → are_numbers numbers.items ≡ true
     fits OfTiming h = h.0.1
     fits One h = absurd h
     fits Two h = absurd h
@@ -185,7 +185,7 @@ same_front xs ys x y e =
     let parts = append_same xs ys (x ∷ []) (y ∷ []) one e in
     (parts.0, ap (λ t. get_or t 0 x) parts.1)
 
-pub formed_words : (form : Form) (f : Fields) → FormedFields form f → has_words form (words_of f) ≡ true
+pub formed_words : (form : LineContent) (f : Fields) → FormedFields form f → has_words form (words_of f) ≡ true
 formed_words Empty Nothing h = refl
 formed_words Three (Letters letters) h = refl
 formed_words One (Numbers numbers) h = ap (λ k. suc k == 2) h.0

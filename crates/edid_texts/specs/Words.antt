@@ -4,8 +4,8 @@ use Rattle.std.specs.Fmt.{decimal}
 use Rattle.text_core.specs.Piece.{phys_text}
 use Rattle.text_core.specs.declared.phys.Phys.{Phys}
 use Rattle.edid_texts.specs.Draft.{Draft, OfBegun, OfWhole, OfOpened, OfBare}
-use Rattle.edid_text_lines.specs.declared.line.Form.{Form}
-use Rattle.edid_text_lines.specs.declared.line.Form.TheVariants.{Empty, Three, One, Two, Eight, Unused, Timing as OfTiming, Hex, Address, Quoted}
+use Rattle.edid_text_lines.specs.declared.line.LineContent.{LineContent}
+use Rattle.edid_text_lines.specs.declared.line.LineContent.TheVariants.{Empty, Three, One, Two, Eight, Unused, Timing as OfTiming, Hex, Address, Quoted}
 use Rattle.edid_text_lines.specs.declared.line.Keyword.{Keyword}
 use Rattle.edid_text_lines.specs.declared.line.Keyword.TheVariants.{Edid, Maker, Product, Serial, Made, Input, Size, Gamma, Features, Chroma, Established, Standard, Timing, Name, Text, SerialText, Range, Dummy, Raw, Cta, CtaNone, Tag0, Audio, Video, Vendor, Speakers, Tag5, Tag6, Extended, Hdmi, Tail, Ext}
 use Rattle.edid_texts.specs.declared.place.NextLine.{NextLine}
@@ -76,7 +76,7 @@ may_begin AtTail word = is_tail_word word
 may_begin AtEnd word = false
 
 -- how many words the lines of a form have
-abbrev pub has_words : Form → ℕ → Bool
+abbrev pub has_words : LineContent → ℕ → Bool
 has_words Empty n = n == 1
 has_words Three n = n == 2
 has_words One n = n == 2

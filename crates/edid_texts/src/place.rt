@@ -2,7 +2,7 @@
 ghost use Rattle.std.specs.Prelude.{◌≡◌};
 ghost use Rattle.edid_texts.specs.Words.{in_base, at_ext, is_tail_word, in_timings, in_blocks, may_begin, has_words};
 
-use edid_text_lines::{Form, Keyword};
+use edid_text_lines::{LineContent, Keyword};
 
 /// What may stand next.
 #[derive(Clone, Copy, Debug, PartialEq, Eq)]
@@ -105,19 +105,19 @@ pub fn may_begin(place: NextLine, word: Keyword) -> bool
 }
 
 /// Whether some line of a form has so many words.
-pub fn has_words(form: Form, count: usize) -> bool
+pub fn has_words(form: LineContent, count: usize) -> bool
     ensures { result ≡ has_words form count }
 {
     match form {
-        Form::Empty => count == 1,
-        Form::Three => count == 2,
-        Form::One => count == 2,
-        Form::Two => count == 3,
-        Form::Eight => count == 9,
-        Form::Unused => count == 2 || count == 4,
-        Form::Timing => count == 15,
-        Form::Hex => count == 2,
-        Form::Address => count == 3,
-        Form::Quoted => count == 2,
+        LineContent::Empty => count == 1,
+        LineContent::Three => count == 2,
+        LineContent::One => count == 2,
+        LineContent::Two => count == 3,
+        LineContent::Eight => count == 9,
+        LineContent::Unused => count == 2 || count == 4,
+        LineContent::Timing => count == 15,
+        LineContent::Hex => count == 2,
+        LineContent::Address => count == 3,
+        LineContent::Quoted => count == 2,
     }
 }

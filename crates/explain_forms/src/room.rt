@@ -1,5 +1,5 @@
 //! The lines of an EDID's text: how many fields they have, and the room that they take in an extension.
-use edid_text_lines::{Form, word_of};
+use edid_text_lines::{LineContent, word_of};
 use explain_lists::{Draft, word_at, word_count};
 use explain_marks::{InputLine, is_line_end};
 use text_core::spaces_unquoted;
@@ -92,14 +92,14 @@ pub fn add_lack_of_room(draft: &mut Draft, place: InputLine<'_>) -> bool {
 }
 
 // How many fields a line of a form has, as it is said.
-fn count_of(form: Form) -> (usize, &'static str) {
+fn count_of(form: LineContent) -> (usize, &'static str) {
     match form {
-        Form::Empty => (0, "no field"),
-        Form::Three | Form::One | Form::Hex | Form::Quoted => (1, "one field"),
-        Form::Two | Form::Address => (2, "two fields"),
-        Form::Eight => (8, "eight fields"),
-        Form::Unused => (3, "three fields, or `unused`"),
-        Form::Timing => (14, "14 fields"),
+        LineContent::Empty => (0, "no field"),
+        LineContent::Three | LineContent::One | LineContent::Hex | LineContent::Quoted => (1, "one field"),
+        LineContent::Two | LineContent::Address => (2, "two fields"),
+        LineContent::Eight => (8, "eight fields"),
+        LineContent::Unused => (3, "three fields, or `unused`"),
+        LineContent::Timing => (14, "14 fields"),
     }
 }
 
@@ -119,7 +119,7 @@ pub fn add_field_count(draft: &mut Draft, line: &str) -> bool {
     let form = keyword.form();
     let count = spaces_unquoted(line.as_bytes());
     let (wanted, fields) = count_of(form);
-    let is_right = count == wanted || (form == Form::Unused && count == 1);
+    let is_right = count == wanted || (form == LineContent::Unused && count == 1);
     if is_right || has_odd_blanks(line) {
         return false;
     }

@@ -17,7 +17,7 @@ use Rattle.text_core.specs.Words.{words_of}
 use Rattle.capture_core.proofs.Numbers.{number_again}
 use Rattle.capture_core.proofs.Texts.{shown}
 use Rattle.message_table.specs.DeckWords.{deck_info_byte}
-use Rattle.device_features.specs.declared.record.Note.{Note}
+use Rattle.device_features.specs.declared.record.HeardReport.{HeardReport}
 use Rattle.device_core.specs.State.{State, addresses_held}
 use Rattle.device_core.specs.Place as place
 use Rattle.device_core.specs.declared.device.SubmitError.TheVariants as submit
@@ -162,7 +162,7 @@ plain_hex_dash : (xs : List ℕ) → IsPlain (hex_or_dash xs)
 plain_hex_dash [] = plain_codes (codes "-") refl
 plain_hex_dash (x ∷ xs) = plain_hexes (x ∷ xs)
 
-plain_note : (n : Note) → IsPlain (note_text n)
+plain_note : (n : HeardReport) → IsPlain (note_text n)
 plain_note n =
     plain_more (nibble_text (n.from % 16)) (codes ":" ++ hex_text n.opcode ++ codes ":" ++ hex_text n.first) (plain_nibble (n.from % 16))
     (plain_more (codes ":") (hex_text n.opcode ++ codes ":" ++ hex_text n.first) (plain_codes (codes ":") refl)

@@ -10,7 +10,7 @@ use Rattle.conversion_calls.specs.declared.edid_text.EdidToTextError.{EdidToText
 use Rattle.conversion_calls.specs.declared.edid_text.EdidToTextError.TheVariants as reads
 use Rattle.conversion_calls.specs.declared.edid_text.TextToHexError.{TextToHexError}
 use Rattle.conversion_calls.specs.declared.edid_text.TextToHexError.TheVariants as texts
-use Rattle.conversion_calls.specs.declared.form.Form.TheVariants.{Bytes}
+use Rattle.conversion_calls.specs.declared.form.EdidForm.TheVariants.{Bytes}
 use Rattle.conversion_notes.specs.EdidMeaning.{MeaningAnswers, meaning_of}
 use Rattle.library_answers.specs.Room.{IsPut}
 use Rattle.library_answers.specs.declared.answer.Answer.{Answer}

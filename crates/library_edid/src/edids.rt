@@ -2,7 +2,7 @@
 ghost use Rattle.std.specs.Prelude.{◌≡◌, ◌≤◌, ◌<◌};
 ghost use Rattle.library_edid.specs.Edids.{AreFindingsPut, AreFindingsRefused, IsEdidPut, IsMeaningPut, IsMeaningRefused, IsTextRefused, edid_answer, text_answer};
 
-use conversion_calls::{EdidToTextError, Form, TextToHexError, edid_to_findings, text_to_edid};
+use conversion_calls::{EdidToTextError, EdidForm, TextToHexError, edid_to_findings, text_to_edid};
 use conversion_notes::edid_to_meaning;
 use json_trace::Held;
 use library_answers::{Answer, Code, edid_code, put, refused};
@@ -37,7 +37,7 @@ pub fn put_edid_bytes(alloc: Global, text: &[u8], room: &mut [u8]) -> Answer
     ensures refused { 1 < result.code → IsTextRefused text.now room.old room.new result }
 {
     let mut edid = Held::new(alloc);
-    match text_to_edid(alloc, text, Form::Bytes, &mut edid) {
+    match text_to_edid(alloc, text, EdidForm::Bytes, &mut edid) {
         Ok(()) => put(edid.bytes(), room),
         Err(error) => text_refused(&error),
     }

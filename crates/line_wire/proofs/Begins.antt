@@ -5,7 +5,7 @@ use Rattle.std.proofs.lemmas.Grind.{common_steps}
 use Rattle.line_reading.specs.declared.receiver.Told.{Told}
 use Rattle.line_reading.specs.declared.sender.Sender.{Sender}
 use Rattle.line_rounds.specs.declared.Seat.{Seat}
-use Rattle.line_wire.specs.declared.senders.Places.{Places}
+use Rattle.line_wire.specs.declared.senders.SenderPlaces.{SenderPlaces}
 use Rattle.line_wire.specs.Pulls.{StandIn}
 use Rattle.line_wire.specs.Listening.{IsSenderOf, AreBegun, HeardOne, AllHeard}
 
@@ -98,7 +98,7 @@ heard_item reported t k (o ∷ olds) [] h e = absurd h
 heard_item reported t zero (o ∷ olds) (n ∷ news) h e = heard_one_none reported t o n e h.0
 heard_item reported t (suc k) (o ∷ olds) (n ∷ news) h e = heard_item reported t k olds news h.1 e
 
-pub heard_stand : (reported : Told) (t : ℕ) (places : Places) (olds news : List (Option Sender)) → AllHeard reported t olds news → StandIn places olds → StandIn places news
+pub heard_stand : (reported : Told) (t : ℕ) (places : SenderPlaces) (olds news : List (Option Sender)) → AllHeard reported t olds news → StandIn places olds → StandIn places news
 heard_stand reported t places olds news h s = record {
   order = s.order;
   few = (let x = heard_count reported t olds news h in omega (arith, x, s.few));

@@ -7,7 +7,7 @@ use Rattle.line_rounds.specs.declared.recorder.Recorder.{Recorder}
 use Rattle.line_wire.specs.declared.reading.Ended.{Ended as Ending_kept}
 use Rattle.line_rounds.specs.Machine.{wave_after, low_since, IsReady}
 use Rattle.line_wire.specs.declared.edge_wire.EdgeWire.{EdgeWire}
-use Rattle.line_wire.specs.declared.senders.Places.{Places}
+use Rattle.line_wire.specs.declared.senders.SenderPlaces.{SenderPlaces}
 use Rattle.line_wire.specs.Line.{HaveBegun}
 use Rattle.line_wire.specs.Pulls.{StandIn}
 use Rattle.line_wire.specs.Told.{told_of}
@@ -96,7 +96,7 @@ heard_on past w v is_low rec b early kept places time level told wave_is since_i
   kept = record {
     low = λ u x y. kept.low u (omega (arith, x, time)) y;
     near = (let x = kept.near in omega (arith, x, time));
-    places = subst (λ (ps : Places). StandIn ps v.senders.items) places kept.places;
+    places = subst (λ (ps : SenderPlaces). StandIn ps v.senders.items) places kept.places;
   };
   fresh = λ e. absurd (omega (arith, e, b.from));
   level = level;

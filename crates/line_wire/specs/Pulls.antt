@@ -14,7 +14,7 @@ use Rattle.line_reading.specs.Sending.{pull_of}
 use Rattle.line_rounds.specs.declared.Seat.{Seat}
 use Rattle.line_rounds.specs.Round.{is_acknowledged, is_broken}
 use Rattle.line_rounds.specs.Machine.{acks_until}
-use Rattle.line_wire.specs.declared.senders.Places.{Places}
+use Rattle.line_wire.specs.declared.senders.SenderPlaces.{SenderPlaces}
 use Rattle.line_wire.specs.Listening.{AreSenders, AreSending}
 
 -- a seat's sender pulls at t
@@ -23,7 +23,7 @@ pull_in t None = false
 pull_in t (Some s) = pull_of s t
 
 -- these senders stand at these places: there are none elsewhere
-pub record StandIn (places : Places) (senders : List (Option Sender)) : Type 0 where
+pub record StandIn (places : SenderPlaces) (senders : List (Option Sender)) : Type 0 where
   pub order : places.from ≤ places.to
   pub few : places.to ≤ length senders
   pub before : (k : ℕ) → k < places.from → slice_index_or senders k None ≡ None

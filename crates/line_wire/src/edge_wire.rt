@@ -14,7 +14,7 @@ ghost use Rattle.line_wire.specs.Steps.{EdgeBy, StandsAfter};
 
 use crate::followers::{is_acknowledged, is_broken};
 use crate::reading::Ended;
-use crate::senders::{Places, Pull, copied_senders, hear_all, places_of, pull_at, senders_of};
+use crate::senders::{SenderPlaces, Pull, copied_senders, hear_all, places_of, pull_at, senders_of};
 use crate::wakes::{steady_until, until_begin, until_due, until_end, until_held, wakes_in};
 use arrayvec::ArrayVec;
 use line_frames::{Ending, Reading};
@@ -35,7 +35,7 @@ pub struct EdgeWire {
     receiver: Receiver,
     senders: ArrayVec<Option<Sender>, 15>,
     /// Where in that list senders stand: there are none elsewhere.
-    places: Places,
+    places: SenderPlaces,
     /// What the senders do, for as long as that lasts.
     pull: Pull,
     /// What the receiver reported of the reading: its bits, and how it ended.

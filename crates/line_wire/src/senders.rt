@@ -21,7 +21,7 @@ pub struct Pull {
 
 /// Places in a list of senders, from one on, up to and without another.
 #[derive(Clone, Copy, Debug)]
-pub struct Places {
+pub struct SenderPlaces {
     pub from: usize,
     pub to: usize,
 }
@@ -78,11 +78,11 @@ fn end_place(senders: &[Option<Sender>], from: usize) -> usize
 }
 
 /// The places between which all senders stand.
-pub fn places_of(senders: &[Option<Sender>]) -> Places
+pub fn places_of(senders: &[Option<Sender>]) -> SenderPlaces
     ensures { StandIn result senders.now }
 {
     let from = first_place(senders);
-    Places {
+    SenderPlaces {
         from,
         to: end_place(senders, from),
     }
@@ -108,7 +108,7 @@ fn pull_with(sender: &Option<Sender>, pull: Pull, t: u64) -> Pull
 }
 
 /// What the senders at these places do from `t` on, if they hear nothing more: there are none elsewhere.
-pub fn pull_at(senders: &[Option<Sender>], places: Places, t: u64) -> Pull
+pub fn pull_at(senders: &[Option<Sender>], places: SenderPlaces, t: u64) -> Pull
     requires early { t ≤ latest_heard }
     requires places { StandIn places senders.now }
     ensures near { result.until ≤ t + first_slot }
@@ -155,7 +155,7 @@ fn hear_one(sender: &mut Option<Sender>, reported: Told, t: u64) -> bool
 }
 
 /// Each sender hears what the receiver reports at microsecond `t`; they stand at these places. Returns whether one stopped.
-pub fn hear_all(senders: &mut [Option<Sender>], places: Places, reported: Told, t: u64) -> bool
+pub fn hear_all(senders: &mut [Option<Sender>], places: SenderPlaces, reported: Told, t: u64) -> bool
     requires early { t ≤ latest_heard }
     requires places { StandIn places senders.old }
     ensures heard { AllHeard reported t senders.old senders.new }

@@ -8,7 +8,7 @@ ghost use Rattle.meaning_cta.specs.Audio.{format_number, format_name, extension_
 
 use arrayvec::ArrayVec;
 use edid_base::append;
-use meaning_fields::{Field, Says, append_fields, choices, field_rows};
+use meaning_fields::{Field, FieldSays, append_fields, choices, field_rows};
 use meaning_words::{
     Bit, NOTE, Note, PAGE, Page, append_between, append_counted, append_line, append_named_hex,
     append_spaced, bit_rows,
@@ -50,32 +50,32 @@ const SIZES: &[Bit] = bit_rows! {
 };
 
 const JOINT: &[Field] = field_rows! {
-    0 1 1 4 Says::Words { before: "", texts: choices! { ""; ", joint object coding (Dolby Atmos)"; ", joint object coding with ACMOD 28 alone"; ", joint object coding (Dolby Atmos), also with ACMOD 28"; } };
-    0 1 4 64 Says::Hex(", reserved bits ");
+    0 1 1 4 FieldSays::Words { before: "", texts: choices! { ""; ", joint object coding (Dolby Atmos)"; ", joint object coding with ACMOD 28 alone"; ", joint object coding (Dolby Atmos), also with ACMOD 28"; } };
+    0 1 4 64 FieldSays::Hex(", reserved bits ");
 };
 
 const MATS: &[Field] = field_rows! {
-    0 1 1 4 Says::Words { before: "", texts: choices! { ", TrueHD alone"; ", objects and channels (Dolby Atmos), hash needed"; ", TrueHD alone, no hash needed"; ", objects and channels (Dolby Atmos), no hash needed"; } };
-    0 1 4 64 Says::Hex(", reserved bits ");
+    0 1 1 4 FieldSays::Words { before: "", texts: choices! { ", TrueHD alone"; ", objects and channels (Dolby Atmos), hash needed"; ", TrueHD alone, no hash needed"; ", objects and channels (Dolby Atmos), no hash needed"; } };
+    0 1 4 64 FieldSays::Hex(", reserved bits ");
 };
 
 const PROFILES: &[Field] = field_rows! {
-    0 1 1 8 Says::Number { before: ", profile ", times: 1, plus: 0, after: "" };
-    0 1 8 32 Says::Hex(", reserved bits ");
+    0 1 1 8 FieldSays::Number { before: ", profile ", times: 1, plus: 0, after: "" };
+    0 1 8 32 FieldSays::Hex(", reserved bits ");
 };
 
 const FRAMES: &[Field] = field_rows! {
-    0 1 2 4 Says::Words { before: "", texts: choices! { ""; ", frames of 960 samples"; ", frames of 1024 samples"; ", frames of 1024 and of 960 samples"; } };
-    0 1 1 2 Says::Hex(", reserved bits ");
+    0 1 2 4 FieldSays::Words { before: "", texts: choices! { ""; ", frames of 960 samples"; ", frames of 1024 samples"; ", frames of 1024 and of 960 samples"; } };
+    0 1 1 2 FieldSays::Hex(", reserved bits ");
 };
 
 const SURROUNDS: &[Field] = field_rows! {
-    0 1 2 4 Says::Words { before: "", texts: choices! { ""; ", frames of 960 samples"; ", frames of 1024 samples"; ", frames of 1024 and of 960 samples"; } };
-    0 1 1 2 Says::Words { before: "", texts: choices! { ", surround implicit"; ", surround implicit and explicit"; } };
+    0 1 2 4 FieldSays::Words { before: "", texts: choices! { ""; ", frames of 960 samples"; ", frames of 1024 samples"; ", frames of 1024 and of 960 samples"; } };
+    0 1 1 2 FieldSays::Words { before: "", texts: choices! { ", surround implicit"; ", surround implicit and explicit"; } };
 };
 
 const LEVELS: &[Field] = field_rows! {
-    0 1 1 8 Says::Words { before: ", level ", texts: choices! { ""; ", level 1"; ", level 2"; ", level 3"; ", level 4"; ", level 5"; } };
+    0 1 1 8 FieldSays::Words { before: ", level ", texts: choices! { ""; ", level 1"; ", level 2"; ", level 3"; ", level 4"; ", level 5"; } };
 };
 
 fn format_number(first: u8) -> u8

@@ -6,7 +6,7 @@ ghost use Rattle.meaning_cta.specs.Stereo.{entries, entry_rows, entry_text, firs
 
 use arrayvec::ArrayVec;
 use edid_base::append;
-use meaning_fields::{Field, Says, append_fields, append_place, choices, field_rows};
+use meaning_fields::{Field, FieldSays, append_fields, append_place, choices, field_rows};
 use meaning_words::{
     Bit, NOTE, Note, PAGE, Page, after, append_bits, append_line, append_rest, append_words,
     bit_rows, byte_at, is_set,
@@ -39,9 +39,9 @@ const WEIGHTS: &[u32] = &[
 
 /// 2D_VIC_order, 3D_Structure and 3D_Detail
 const ENTRIES: &[Field] = field_rows! {
-    0 1 1 16 Says::Words { before: ", 3D structure ", texts: choices! { ", 3D frame packing"; ", 3D field alternative"; ", 3D line alternative"; ", 3D side by side (full)"; ", 3D L + depth"; ", 3D L + depth + graphics"; ", 3D top and bottom"; ", reserved 3D structure 7"; ", 3D side by side (half)"; } };
-    1 1 16 16 Says::Words { before: ", detail ", texts: choices! { ""; ", horizontal"; ", reserved detail 2"; ", reserved detail 3"; ", reserved detail 4"; ", reserved detail 5"; ", all quincunx"; ", quincunx odd left, odd right"; ", quincunx odd left, even right"; ", quincunx even left, odd right"; ", quincunx even left, even right"; } };
-    1 1 1 16 Says::Hex(", reserved bits ");
+    0 1 1 16 FieldSays::Words { before: ", 3D structure ", texts: choices! { ", 3D frame packing"; ", 3D field alternative"; ", 3D line alternative"; ", 3D side by side (full)"; ", 3D L + depth"; ", 3D L + depth + graphics"; ", 3D top and bottom"; ", reserved 3D structure 7"; ", 3D side by side (half)"; } };
+    1 1 16 16 FieldSays::Words { before: ", detail ", texts: choices! { ""; ", horizontal"; ", reserved detail 2"; ", reserved detail 3"; ", reserved detail 4"; ", reserved detail 5"; ", all quincunx"; ", quincunx odd left, odd right"; ", quincunx odd left, even right"; ", quincunx even left, odd right"; ", quincunx even left, even right"; } };
+    1 1 1 16 FieldSays::Hex(", reserved bits ");
 };
 
 fn high_first(bytes: &[u8]) -> u32

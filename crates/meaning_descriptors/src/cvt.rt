@@ -6,23 +6,23 @@ ghost use Rattle.meaning_fields.specs.Fields.{field_words};
 ghost use Rattle.meaning_descriptors.specs.Cvt.{code_line, code_text, cvt_meanings, head_lines, head_rows, line_count, picture_text, rate_rows, used_line, width_of};
 
 use arrayvec::ArrayVec;
-use meaning_fields::{Field, Says, append_block, append_fields, choices, field_rows};
+use meaning_fields::{Field, FieldSays, append_block, append_fields, choices, field_rows};
 use meaning_words::{NOTE, Note, PAGE, Page, after, append_between, append_line, before, byte_at};
 
 const RATES: &[Field] = field_rows! {
-    2 1 32 4 Says::Words { before: "", texts: choices! { ", preferred at 50 Hz"; ", preferred at 60 Hz"; ", preferred at 75 Hz"; ", preferred at 85 Hz"; } };
-    2 1 16 2 Says::Word(", 50 Hz");
-    2 1 8 2 Says::Word(", 60 Hz");
-    2 1 4 2 Says::Word(", 75 Hz");
-    2 1 2 2 Says::Word(", 85 Hz");
-    2 1 1 2 Says::Word(", 60 Hz with reduced blanking");
-    1 1 1 4 Says::Hex(", reserved bits ");
-    2 1 128 2 Says::Hex(", reserved bits ");
+    2 1 32 4 FieldSays::Words { before: "", texts: choices! { ", preferred at 50 Hz"; ", preferred at 60 Hz"; ", preferred at 75 Hz"; ", preferred at 85 Hz"; } };
+    2 1 16 2 FieldSays::Word(", 50 Hz");
+    2 1 8 2 FieldSays::Word(", 60 Hz");
+    2 1 4 2 FieldSays::Word(", 75 Hz");
+    2 1 2 2 FieldSays::Word(", 85 Hz");
+    2 1 1 2 FieldSays::Word(", 60 Hz with reduced blanking");
+    1 1 1 4 FieldSays::Hex(", reserved bits ");
+    2 1 128 2 FieldSays::Hex(", reserved bits ");
 };
 
 const HEAD: &[Field] = field_rows! {
-    4 1 1 256 Says::Hex(", byte 5 is ");
-    5 1 1 256 Says::Number { before: ", revision ", times: 1, plus: 0, after: "" };
+    4 1 1 256 FieldSays::Hex(", byte 5 is ");
+    5 1 1 256 FieldSays::Number { before: ", revision ", times: 1, plus: 0, after: "" };
 };
 
 fn line_count(code: &[u8]) -> u64

@@ -6,7 +6,7 @@ ghost use Rattle.meaning_descriptors.specs.Descriptors.{colour_meanings, colour_
 
 use crate::cvt::append_cvt;
 use crate::established::append_established;
-use meaning_fields::{Field, Says, append_block, field_rows};
+use meaning_fields::{Field, FieldSays, append_block, field_rows};
 use meaning_words::{PAGE, Page, byte_at};
 
 /// The tag of established timings III.
@@ -17,14 +17,14 @@ const CVT: u8 = 0xf8;
 const COLOURS: u8 = 0xf9;
 
 const COLOUR_FIELDS: &[Field] = field_rows! {
-    4 1 1 256 Says::Hex(", byte 5 is ");
-    5 1 1 256 Says::Number { before: ", revision ", times: 1, plus: 0, after: "" };
-    6 2 1 65536 Says::Number { before: ", red a3 ", times: 1, plus: 0, after: " hundredths" };
-    8 2 1 65536 Says::Number { before: ", red a2 ", times: 1, plus: 0, after: " hundredths" };
-    10 2 1 65536 Says::Number { before: ", green a3 ", times: 1, plus: 0, after: " hundredths" };
-    12 2 1 65536 Says::Number { before: ", green a2 ", times: 1, plus: 0, after: " hundredths" };
-    14 2 1 65536 Says::Number { before: ", blue a3 ", times: 1, plus: 0, after: " hundredths" };
-    16 2 1 65536 Says::Number { before: ", blue a2 ", times: 1, plus: 0, after: " hundredths" };
+    4 1 1 256 FieldSays::Hex(", byte 5 is ");
+    5 1 1 256 FieldSays::Number { before: ", revision ", times: 1, plus: 0, after: "" };
+    6 2 1 65536 FieldSays::Number { before: ", red a3 ", times: 1, plus: 0, after: " hundredths" };
+    8 2 1 65536 FieldSays::Number { before: ", red a2 ", times: 1, plus: 0, after: " hundredths" };
+    10 2 1 65536 FieldSays::Number { before: ", green a3 ", times: 1, plus: 0, after: " hundredths" };
+    12 2 1 65536 FieldSays::Number { before: ", green a2 ", times: 1, plus: 0, after: " hundredths" };
+    14 2 1 65536 FieldSays::Number { before: ", blue a3 ", times: 1, plus: 0, after: " hundredths" };
+    16 2 1 65536 FieldSays::Number { before: ", blue a2 ", times: 1, plus: 0, after: " hundredths" };
 };
 
 fn append_colours(page: &mut Page, bytes: &[u8])

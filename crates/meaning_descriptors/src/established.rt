@@ -4,7 +4,7 @@ ghost use Rattle.arrayvec.specs.ArrayVec.{array_vec_len};
 ghost use Rattle.meaning_words.specs.Notes.{own_line, set_lines};
 ghost use Rattle.meaning_descriptors.specs.Established.{established_meanings, first_lines, first_rows, second_lines, second_rows, spare_lines, spare_rows, three_bytes};
 
-use meaning_fields::{Field, Says, append_block, field_rows};
+use meaning_fields::{Field, FieldSays, append_block, field_rows};
 use meaning_words::{Bit, PAGE, Page, append_bit_lines, bit_rows, byte_at};
 
 const FIRST: &[Bit] = bit_rows! {
@@ -62,14 +62,14 @@ const SECOND: &[Bit] = bit_rows! {
 };
 
 const SPARE: &[Field] = field_rows! {
-    4 1 1 256 Says::Hex(", byte 5 is ");
-    5 1 1 256 Says::Number { before: ", revision ", times: 1, plus: 0, after: "" };
-    12 1 1 256 Says::Hex(", byte 13 is ");
-    13 1 1 256 Says::Hex(", byte 14 is ");
-    14 1 1 256 Says::Hex(", byte 15 is ");
-    15 1 1 256 Says::Hex(", byte 16 is ");
-    16 1 1 256 Says::Hex(", byte 17 is ");
-    17 1 1 256 Says::Hex(", byte 18 is ");
+    4 1 1 256 FieldSays::Hex(", byte 5 is ");
+    5 1 1 256 FieldSays::Number { before: ", revision ", times: 1, plus: 0, after: "" };
+    12 1 1 256 FieldSays::Hex(", byte 13 is ");
+    13 1 1 256 FieldSays::Hex(", byte 14 is ");
+    14 1 1 256 FieldSays::Hex(", byte 15 is ");
+    15 1 1 256 FieldSays::Hex(", byte 16 is ");
+    16 1 1 256 FieldSays::Hex(", byte 17 is ");
+    17 1 1 256 FieldSays::Hex(", byte 18 is ");
 };
 
 fn three_bytes(bytes: &[u8], place: usize) -> u32

@@ -9,7 +9,7 @@ ghost use Rattle.meaning_displayid.specs.Sections.{all_data, block_lines, data_l
 use crate::timings::{append_left, append_timings};
 use arrayvec::ArrayVec;
 use edid_base::{append, are_zeros};
-use meaning_fields::{Field, Says, append_block, append_fields, choices, field_rows};
+use meaning_fields::{Field, FieldSays, append_block, append_fields, choices, field_rows};
 use meaning_words::{
     NOTE, Note, PAGE, Page, after, append_line, append_named_hex, append_rest, append_words,
     before, byte_at,
@@ -21,60 +21,60 @@ const TYPE_1_CLOCK: u64 = 10;
 const TYPE_7_CLOCK: u64 = 1;
 
 const HEAD: &[Field] = field_rows! {
-    1 1 16 16 Says::Number { before: ", version ", times: 1, plus: 0, after: "" };
-    1 1 1 16 Says::Number { before: ".", times: 1, plus: 0, after: "" };
-    2 1 1 256 Says::Number { before: ", ", times: 1, plus: 0, after: " bytes of data" };
-    3 1 1 256 Says::Words { before: ", product type ", texts: choices! { ", an extension"; ", a test structure"; ", a panel"; ", a stand-alone display"; ", a television receiver"; ", a repeater"; ", a direct drive monitor"; } };
-    4 1 1 256 Says::Above { before: ", ", times: 1, after: " further sections" };
+    1 1 16 16 FieldSays::Number { before: ", version ", times: 1, plus: 0, after: "" };
+    1 1 1 16 FieldSays::Number { before: ".", times: 1, plus: 0, after: "" };
+    2 1 1 256 FieldSays::Number { before: ", ", times: 1, plus: 0, after: " bytes of data" };
+    3 1 1 256 FieldSays::Words { before: ", product type ", texts: choices! { ", an extension"; ", a test structure"; ", a panel"; ", a stand-alone display"; ", a television receiver"; ", a repeater"; ", a direct drive monitor"; } };
+    4 1 1 256 FieldSays::Above { before: ", ", times: 1, after: " further sections" };
 };
 
 const USES: &[Field] = field_rows! {
-    1 1 16 16 Says::Number { before: ", version ", times: 1, plus: 0, after: "" };
-    1 1 1 16 Says::Number { before: ".", times: 1, plus: 0, after: "" };
-    2 1 1 256 Says::Number { before: ", ", times: 1, plus: 0, after: " bytes of data" };
-    3 1 1 256 Says::Words { before: ", use ", texts: choices! { ", an extension"; ", a test structure"; ", a generic display"; ", a television"; ", for desktop work"; ", for desktop games"; ", for presentations"; ", for virtual reality"; ", for augmented reality"; } };
-    4 1 1 256 Says::Above { before: ", ", times: 1, after: " further sections" };
+    1 1 16 16 FieldSays::Number { before: ", version ", times: 1, plus: 0, after: "" };
+    1 1 1 16 FieldSays::Number { before: ".", times: 1, plus: 0, after: "" };
+    2 1 1 256 FieldSays::Number { before: ", ", times: 1, plus: 0, after: " bytes of data" };
+    3 1 1 256 FieldSays::Words { before: ", use ", texts: choices! { ", an extension"; ", a test structure"; ", a generic display"; ", a television"; ", for desktop work"; ", for desktop games"; ", for presentations"; ", for virtual reality"; ", for augmented reality"; } };
+    4 1 1 256 FieldSays::Above { before: ", ", times: 1, after: " further sections" };
 };
 
 const PARAMETERS: &[Field] = field_rows! {
-    0 2 1 65536 Says::Number { before: ", ", times: 1, plus: 0, after: " x " };
-    2 2 1 65536 Says::Number { before: "", times: 1, plus: 0, after: " in tenths of 1 mm" };
-    4 2 1 65536 Says::Number { before: ", ", times: 1, plus: 0, after: "x" };
-    6 2 1 65536 Says::Number { before: "", times: 1, plus: 0, after: " pixels" };
-    8 1 128 2 Says::Word(", audio");
-    8 1 64 2 Says::Word(", separate audio");
-    8 1 32 2 Says::Word(", audio override");
-    8 1 16 2 Says::Word(", power management");
-    8 1 8 2 Says::Word(", fixed timing");
-    8 1 4 2 Says::Word(", fixed format");
-    8 1 2 2 Says::Word(", AI");
-    8 1 1 2 Says::Word(", deinterlacing");
-    9 1 1 256 Says::Number { before: ", gamma code ", times: 1, plus: 0, after: "" };
-    10 1 1 256 Says::Share { before: ", aspect ", plus: 100, by: 100 };
-    11 1 1 16 Says::Number { before: ", native ", times: 1, plus: 1, after: " bits a colour" };
-    11 1 16 16 Says::Number { before: ", overall ", times: 1, plus: 1, after: " bits a colour" };
+    0 2 1 65536 FieldSays::Number { before: ", ", times: 1, plus: 0, after: " x " };
+    2 2 1 65536 FieldSays::Number { before: "", times: 1, plus: 0, after: " in tenths of 1 mm" };
+    4 2 1 65536 FieldSays::Number { before: ", ", times: 1, plus: 0, after: "x" };
+    6 2 1 65536 FieldSays::Number { before: "", times: 1, plus: 0, after: " pixels" };
+    8 1 128 2 FieldSays::Word(", audio");
+    8 1 64 2 FieldSays::Word(", separate audio");
+    8 1 32 2 FieldSays::Word(", audio override");
+    8 1 16 2 FieldSays::Word(", power management");
+    8 1 8 2 FieldSays::Word(", fixed timing");
+    8 1 4 2 FieldSays::Word(", fixed format");
+    8 1 2 2 FieldSays::Word(", AI");
+    8 1 1 2 FieldSays::Word(", deinterlacing");
+    9 1 1 256 FieldSays::Number { before: ", gamma code ", times: 1, plus: 0, after: "" };
+    10 1 1 256 FieldSays::Share { before: ", aspect ", plus: 100, by: 100 };
+    11 1 1 16 FieldSays::Number { before: ", native ", times: 1, plus: 1, after: " bits a colour" };
+    11 1 16 16 FieldSays::Number { before: ", overall ", times: 1, plus: 1, after: " bits a colour" };
 };
 
 const TILES: &[Field] = field_rows! {
-    0 1 128 2 Says::Word(", in one enclosure");
-    0 1 64 2 Says::Word(", with bezels");
-    0 1 32 2 Says::Hex(", reserved bits ");
-    0 1 8 4 Says::Words { before: ", some alone ", texts: choices! { ""; ", some alone at their place"; } };
-    0 1 1 8 Says::Words { before: ", one alone ", texts: choices! { ""; ", one alone at its place"; ", one alone scaled"; ", one alone cloned"; } };
-    1 1 16 16 Says::Number { before: ", ", times: 1, plus: 1, after: " across" };
-    1 1 1 16 Says::Number { before: ", ", times: 1, plus: 1, after: " down" };
-    2 1 16 16 Says::Number { before: ", column ", times: 1, plus: 1, after: "" };
-    2 1 1 16 Says::Number { before: ", row ", times: 1, plus: 1, after: "" };
-    3 1 1 256 Says::Hex(", high bits ");
-    4 2 1 65536 Says::Number { before: ", ", times: 1, plus: 1, after: "x" };
-    6 2 1 65536 Says::Number { before: "", times: 1, plus: 1, after: " pixels" };
+    0 1 128 2 FieldSays::Word(", in one enclosure");
+    0 1 64 2 FieldSays::Word(", with bezels");
+    0 1 32 2 FieldSays::Hex(", reserved bits ");
+    0 1 8 4 FieldSays::Words { before: ", some alone ", texts: choices! { ""; ", some alone at their place"; } };
+    0 1 1 8 FieldSays::Words { before: ", one alone ", texts: choices! { ""; ", one alone at its place"; ", one alone scaled"; ", one alone cloned"; } };
+    1 1 16 16 FieldSays::Number { before: ", ", times: 1, plus: 1, after: " across" };
+    1 1 1 16 FieldSays::Number { before: ", ", times: 1, plus: 1, after: " down" };
+    2 1 16 16 FieldSays::Number { before: ", column ", times: 1, plus: 1, after: "" };
+    2 1 1 16 FieldSays::Number { before: ", row ", times: 1, plus: 1, after: "" };
+    3 1 1 256 FieldSays::Hex(", high bits ");
+    4 2 1 65536 FieldSays::Number { before: ", ", times: 1, plus: 1, after: "x" };
+    6 2 1 65536 FieldSays::Number { before: "", times: 1, plus: 1, after: " pixels" };
 };
 
 const INTERFACES: &[Field] = field_rows! {
-    0 1 16 16 Says::Words { before: ", interface ", texts: choices! { ", analog"; ", LVDS"; ", TMDS"; ", RSDS"; ", DVI-D"; ", DVI-I analog"; ", DVI-I digital"; ", HDMI-A"; ", HDMI-B"; ", MDDI"; ", DisplayPort"; ", a proprietary interface"; } };
-    0 1 1 16 Says::Number { before: ", links ", times: 1, plus: 0, after: "" };
-    1 1 16 16 Says::Number { before: ", version ", times: 1, plus: 0, after: "" };
-    1 1 1 16 Says::Number { before: ".", times: 1, plus: 0, after: "" };
+    0 1 16 16 FieldSays::Words { before: ", interface ", texts: choices! { ", analog"; ", LVDS"; ", TMDS"; ", RSDS"; ", DVI-D"; ", DVI-I analog"; ", DVI-I digital"; ", HDMI-A"; ", HDMI-B"; ", MDDI"; ", DisplayPort"; ", a proprietary interface"; } };
+    0 1 1 16 FieldSays::Number { before: ", links ", times: 1, plus: 0, after: "" };
+    1 1 16 16 FieldSays::Number { before: ", version ", times: 1, plus: 0, after: "" };
+    1 1 1 16 FieldSays::Number { before: ".", times: 1, plus: 0, after: "" };
 };
 
 fn append_head(page: &mut Page, bytes: &[u8])

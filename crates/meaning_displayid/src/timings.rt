@@ -7,7 +7,7 @@ ghost use Rattle.meaning_displayid.specs.Timings.{clock_of, clock_text, front_te
 
 use arrayvec::ArrayVec;
 use edid_base::append;
-use meaning_fields::{Field, Says, append_fields, choices, field_rows};
+use meaning_fields::{Field, FieldSays, append_fields, choices, field_rows};
 use meaning_words::{
     NOTE, Note, PAGE, Page, after, append_between, append_line, append_rest, append_thousandths,
     append_words, before, byte_at, nearest,
@@ -17,18 +17,18 @@ use meaning_words::{
 const TIMING: usize = 20;
 
 const TIMINGS: &[Field] = field_rows! {
-    6 2 1 65536 Says::Number { before: ", h blanking ", times: 1, plus: 1, after: "" };
-    8 2 1 32768 Says::Number { before: ", offset ", times: 1, plus: 1, after: "" };
-    10 2 1 65536 Says::Number { before: ", width ", times: 1, plus: 1, after: "" };
-    9 1 128 2 Says::Words { before: "", texts: choices! { ", -h"; ", +h"; } };
-    14 2 1 65536 Says::Number { before: ", v blanking ", times: 1, plus: 1, after: "" };
-    16 2 1 32768 Says::Number { before: ", offset ", times: 1, plus: 1, after: "" };
-    18 2 1 65536 Says::Number { before: ", width ", times: 1, plus: 1, after: "" };
-    17 1 128 2 Says::Words { before: "", texts: choices! { ", -v"; ", +v"; } };
-    3 1 128 2 Says::Word(", preferred");
-    3 1 32 4 Says::Words { before: ", stereo ", texts: choices! { ""; ", stereo"; ", stereo by the user"; } };
-    3 1 16 2 Says::Word(", interlaced");
-    3 1 1 16 Says::Words { before: ", aspect ", texts: choices! { ", 1:1"; ", 5:4"; ", 4:3"; ", 15:9"; ", 16:9"; ", 16:10"; ", 64:27"; ", 256:135"; ""; } };
+    6 2 1 65536 FieldSays::Number { before: ", h blanking ", times: 1, plus: 1, after: "" };
+    8 2 1 32768 FieldSays::Number { before: ", offset ", times: 1, plus: 1, after: "" };
+    10 2 1 65536 FieldSays::Number { before: ", width ", times: 1, plus: 1, after: "" };
+    9 1 128 2 FieldSays::Words { before: "", texts: choices! { ", -h"; ", +h"; } };
+    14 2 1 65536 FieldSays::Number { before: ", v blanking ", times: 1, plus: 1, after: "" };
+    16 2 1 32768 FieldSays::Number { before: ", offset ", times: 1, plus: 1, after: "" };
+    18 2 1 65536 FieldSays::Number { before: ", width ", times: 1, plus: 1, after: "" };
+    17 1 128 2 FieldSays::Words { before: "", texts: choices! { ", -v"; ", +v"; } };
+    3 1 128 2 FieldSays::Word(", preferred");
+    3 1 32 4 FieldSays::Words { before: ", stereo ", texts: choices! { ""; ", stereo"; ", stereo by the user"; } };
+    3 1 16 2 FieldSays::Word(", interlaced");
+    3 1 1 16 FieldSays::Words { before: ", aspect ", texts: choices! { ", 1:1"; ", 5:4"; ", 4:3"; ", 15:9"; ", 16:9"; ", 16:10"; ", 64:27"; ", 256:135"; ""; } };
 };
 
 fn two_at(timing: &[u8], place: usize) -> u64

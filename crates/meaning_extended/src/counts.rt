@@ -4,11 +4,11 @@ ghost use Rattle.arrayvec.specs.ArrayVec.{array_vec_len};
 ghost use Rattle.meaning_words.specs.Notes.{own_line};
 ghost use Rattle.meaning_extended.specs.Counts.{count_meanings, count_rows};
 
-use meaning_fields::{Field, Says, append_block, field_rows};
+use meaning_fields::{Field, FieldSays, append_block, field_rows};
 use meaning_words::{PAGE, Page};
 
 const COUNT: &[Field] = field_rows! {
-    0 1 1 256 Says::Number { before: " ", times: 1, plus: 0, after: "" };
+    0 1 1 256 FieldSays::Number { before: " ", times: 1, plus: 0, after: "" };
 };
 
 /// Appends the count of extensions that stands in the place of that in the base block (HDMI 2.1, section 10.3.7).

@@ -7,7 +7,7 @@ ghost use Rattle.meaning_extended.specs.Forum.{alone_words, clock_words, compres
 use arrayvec::ArrayVec;
 use edid_base::append;
 use edid_layout::ForumBlock;
-use meaning_fields::{Field, Says, append_block, choices, field_rows};
+use meaning_fields::{Field, FieldSays, append_block, choices, field_rows};
 use meaning_words::{
     Bit, NOTE, Note, PAGE, Page, after, append_between, append_bits, append_word, append_words,
     before, bit_rows,
@@ -56,10 +56,10 @@ const STREAMS: &[Bit] = bit_rows! {
 };
 
 const COMPRESSION: &[Field] = field_rows! {
-    8 1 16 16 Says::Words { before: ", DSC rate ", texts: choices! { ""; ", DSC over FRL at 3 Gbit/s on 3 lanes"; ", DSC over FRL at 6 Gbit/s on 3 lanes"; ", DSC over FRL at 6 Gbit/s on 4 lanes"; ", DSC over FRL at 8 Gbit/s on 4 lanes"; ", DSC over FRL at 10 Gbit/s on 4 lanes"; ", DSC over FRL at 12 Gbit/s on 4 lanes"; } };
-    8 1 1 16 Says::Words { before: ", DSC slices ", texts: choices! { ""; ", DSC in 1 slice up to 340 MHz"; ", DSC in 2 slices up to 340 MHz"; ", DSC in 4 slices up to 340 MHz"; ", DSC in 8 slices up to 340 MHz"; ", DSC in 8 slices up to 400 MHz"; ", DSC in 12 slices up to 400 MHz"; ", DSC in 16 slices up to 400 MHz"; } };
-    9 1 1 64 Says::Number { before: ", DSC chunks of a line up to ", times: 1024, plus: 1024, after: " bytes" };
-    9 1 64 4 Says::Hex(", reserved bits ");
+    8 1 16 16 FieldSays::Words { before: ", DSC rate ", texts: choices! { ""; ", DSC over FRL at 3 Gbit/s on 3 lanes"; ", DSC over FRL at 6 Gbit/s on 3 lanes"; ", DSC over FRL at 6 Gbit/s on 4 lanes"; ", DSC over FRL at 8 Gbit/s on 4 lanes"; ", DSC over FRL at 10 Gbit/s on 4 lanes"; ", DSC over FRL at 12 Gbit/s on 4 lanes"; } };
+    8 1 1 16 FieldSays::Words { before: ", DSC slices ", texts: choices! { ""; ", DSC in 1 slice up to 340 MHz"; ", DSC in 2 slices up to 340 MHz"; ", DSC in 4 slices up to 340 MHz"; ", DSC in 8 slices up to 340 MHz"; ", DSC in 8 slices up to 400 MHz"; ", DSC in 12 slices up to 400 MHz"; ", DSC in 16 slices up to 400 MHz"; } };
+    9 1 1 64 FieldSays::Number { before: ", DSC chunks of a line up to ", times: 1024, plus: 1024, after: " bytes" };
+    9 1 64 4 FieldSays::Hex(", reserved bits ");
 };
 
 // Appends what the link can do.
@@ -278,8 +278,8 @@ pub fn append_forum(page: &mut Page, payload: &[u8])
 
 /// Two reserved bytes before sink capabilities.
 const SPARE: &[Field] = field_rows! {
-    0 1 1 256 Says::Hex(", byte 1 is ");
-    1 1 1 256 Says::Hex(", byte 2 is ");
+    0 1 1 256 FieldSays::Hex(", byte 1 is ");
+    1 1 1 256 FieldSays::Hex(", byte 2 is ");
 };
 
 // Appends reserved bytes that are not 0.

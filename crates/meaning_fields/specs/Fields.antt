@@ -8,8 +8,8 @@ use Rattle.meaning_words.specs.Rates.{nearest}
 use Rattle.meaning_fields.specs.Luminance.{luminance}
 use Rattle.meaning_fields.specs.declared.fields.Choice.{Choice}
 use Rattle.meaning_fields.specs.declared.fields.Field.{Field}
-use Rattle.meaning_fields.specs.declared.fields.Says.{Says}
-use Rattle.meaning_fields.specs.declared.fields.Says.TheVariants.{Word, Words, Number, Above, Hex, Share, Light}
+use Rattle.meaning_fields.specs.declared.fields.FieldSays.{FieldSays}
+use Rattle.meaning_fields.specs.declared.fields.FieldSays.TheVariants.{Word, Words, Number, Above, Hex, Share, Light}
 
 -- ---- what is said of a value
 
@@ -89,7 +89,7 @@ block_meanings name rows size p = below (name ++ (field_words rows p ++ rest_wor
 abbrev pub text_in_code : Choice → List ℕ
 text_in_code c = c.text.now
 
-abbrev pub says_in_code : Says → ℕ → ℕ → List ℕ
+abbrev pub says_in_code : FieldSays → ℕ → ℕ → List ℕ
 says_in_code (Word text) weight = word text.now
 says_in_code (Words before texts) weight = words before.now (map text_in_code texts.now)
 says_in_code (Number before times plus after) weight = number before.now times plus after.now
@@ -105,7 +105,7 @@ abbrev pub are_short : List Choice → Bool
 are_short texts = list_all (λ c. nat_le (length c.text.now) 60) texts
 
 -- at most 60 characters are said
-abbrev pub is_short : ℕ → Says → Bool
+abbrev pub is_short : ℕ → FieldSays → Bool
 is_short range (Word text) = nat_le (length text.now) 60
 is_short range (Words before texts) = nat_le (length before.now) 29 && are_short texts.now
 is_short range (Number before times plus after) = nat_le (length before.now + length after.now) 40 && nat_le (times * range + plus) 1099511627776

@@ -27,7 +27,7 @@ macro_rules! choices {
 
 /// What a field says of its value, in at most 60 characters.
 #[derive(Clone, Copy)]
-pub enum Says {
+pub enum FieldSays {
     /// A text, where the value is not 0.
     Word(&'static str),
     /// One of some texts, by the value; past the last of them the value after `before`, as reserved.
@@ -67,7 +67,7 @@ pub struct Field {
     pub count: usize,
     pub weight: u64,
     pub range: u64,
-    pub says: Says,
+    pub says: FieldSays,
 }
 
 /// Rows of fields: place and count of bytes, weight and range of bits, and what they say.
@@ -231,7 +231,7 @@ fn append_light(note: &mut Note, before: &str, value: u64)
 }
 
 #[tactic(auto, using(crate::proofs::Products::product_small, crate::proofs::Products::plus_small))]
-fn append_said(note: &mut Note, says: &Says, weight: u64, range: u64, value: u64)
+fn append_said(note: &mut Note, says: &FieldSays, weight: u64, range: u64, value: u64)
     requires short { IsTrue (is_short range says.now) }
     requires within { value < range }
     requires weight { weight ≤ 4294967296 }
@@ -241,22 +241,22 @@ fn append_said(note: &mut Note, says: &Says, weight: u64, range: u64, value: u64
     ensures len { array_vec_len note.new ≤ array_vec_len note.old + 60 }
 {
     match says {
-        Says::Word(text) => append_word_of(note, text, value),
-        Says::Words { before, texts } => append_words_of(note, before, texts, value),
-        Says::Number {
+        FieldSays::Word(text) => append_word_of(note, text, value),
+        FieldSays::Words { before, texts } => append_words_of(note, before, texts, value),
+        FieldSays::Number {
             before,
             times,
             plus,
             after,
         } => append_product(note, before, *times, *plus, value, after),
-        Says::Above {
+        FieldSays::Above {
             before,
             times,
             after,
         } => append_above(note, before, *times, value, after),
-        Says::Hex(before) => append_hex_of(note, before, weight, value),
-        Says::Share { before, plus, by } => append_share(note, before, *plus, *by, value),
-        Says::Light(before) => append_light(note, before, value),
+        FieldSays::Hex(before) => append_hex_of(note, before, weight, value),
+        FieldSays::Share { before, plus, by } => append_share(note, before, *plus, *by, value),
+        FieldSays::Light(before) => append_light(note, before, value),
     }
 }
 

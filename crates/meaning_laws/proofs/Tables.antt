@@ -7,7 +7,7 @@ use Rattle.std.proofs.lemmas.List.Sums.{sum_by-cons}
 use Rattle.edid_base.specs.declared.standard.StandardTiming.{StandardTiming}
 use Rattle.meaning_words.specs.Notes.{Row, is_set, set_line, set_lines}
 use Rattle.meaning_words.specs.Formats.{formats, find_code, format_of}
-use Rattle.meaning_words.specs.declared.formats.Format.{Format}
+use Rattle.meaning_words.specs.declared.formats.VideoFormat.{VideoFormat}
 use Rattle.meaning_base.specs.Figures.{standard_height}
 use Rattle.meaning_laws.specs.Rising.{rise}
 
@@ -17,14 +17,14 @@ both false b h = cc
 
 -- ---- formats
 
-abbrev code : Format → ℕ
+abbrev code : VideoFormat → ℕ
 code f = f.code
 
 pub codes_rise : rise (map code formats) ≡ true
 codes_rise = refl
 
 -- each later code is greater
-later : (g : Format) (gs : List Format) (f : Format) (k : ℕ) → rise (map code (g ∷ gs)) ≡ true → slice_get gs k ≡ Some f → g.code < f.code
+later : (g : VideoFormat) (gs : List VideoFormat) (f : VideoFormat) (k : ℕ) → rise (map code (g ∷ gs)) ≡ true → slice_get gs k ≡ Some f → g.code < f.code
 later g [] f k r h = absurd (no h)
   where
     no : None ≡ Some f → ⊥
@@ -40,17 +40,17 @@ later g (h ∷ hs) f (suc k) r e =
     let rest = later h hs f k p.1 e in
     omega (arith, less, rest)
 
-rest_rises : (g : Format) (gs : List Format) → rise (map code (g ∷ gs)) ≡ true → rise (map code gs) ≡ true
+rest_rises : (g : VideoFormat) (gs : List VideoFormat) → rise (map code (g ∷ gs)) ≡ true → rise (map code gs) ≡ true
 rest_rises g [] r = refl
 rest_rises g (h ∷ hs) r = (both (nat_lt g.code h.code) (rise (map code (h ∷ hs))) r).1
 
-chosen : (v : Bool) (g : Format) (rest : Option Format) → v ≡ true → cond v (Some g) rest ≡ Some g
+chosen : (v : Bool) (g : VideoFormat) (rest : Option VideoFormat) → v ≡ true → cond v (Some g) rest ≡ Some g
 chosen v g rest e = rw e refl
 
-passed : (v : Bool) (g : Format) (rest : Option Format) → v ≡ false → cond v (Some g) rest ≡ rest
+passed : (v : Bool) (g : VideoFormat) (rest : Option VideoFormat) → v ≡ false → cond v (Some g) rest ≡ rest
 passed v g rest e = rw e refl
 
-pub found_in : (fs : List Format) (f : Format) (k : ℕ) → rise (map code fs) ≡ true → slice_get fs k ≡ Some f → find_code fs f.code ≡ Some f
+pub found_in : (fs : List VideoFormat) (f : VideoFormat) (k : ℕ) → rise (map code fs) ≡ true → slice_get fs k ≡ Some f → find_code fs f.code ≡ Some f
 found_in [] f k r h = absurd (no h)
   where
     no : None ≡ Some f → ⊥
@@ -63,7 +63,7 @@ found_in (g ∷ gs) f (suc k) r h =
     let other : g.code ≡ f.code → ⊥ = λ (e : g.code ≡ f.code). omega (arith, e, less) in
     passed (g.code == f.code) g (find_code gs f.code) (ne_eqb g.code f.code other) ∙ found_in gs f k (rest_rises g gs r) h
 
-pub found : (f : Format) (k : ℕ) → slice_get formats k ≡ Some f → format_of f.code ≡ Some f
+pub found : (f : VideoFormat) (k : ℕ) → slice_get formats k ≡ Some f → format_of f.code ≡ Some f
 unfolding format_of
 found f k h = found_in formats f k codes_rise h
 

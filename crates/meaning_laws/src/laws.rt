@@ -3,7 +3,7 @@ ghost use Rattle.std.specs.Prelude.{ℕ, ◌≡◌, ◌<◌, true, Some, length,
 ghost use Rattle.edid_base.specs.declared.standard.StandardTiming.{StandardTiming as StandardValue};
 ghost use Rattle.meaning_words.specs.Notes.{is_set, set_lines};
 ghost use Rattle.meaning_words.specs.Formats.{formats, format_of};
-ghost use Rattle.meaning_words.specs.declared.formats.Format.{Format as FormatValue};
+ghost use Rattle.meaning_words.specs.declared.formats.VideoFormat.{VideoFormat as FormatValue};
 ghost use Rattle.meaning_base.specs.Established.{established_rows};
 ghost use Rattle.meaning_base.specs.Figures.{standard_height};
 ghost use Rattle.meaning_laws.specs.Rising.{rise};

@@ -6,7 +6,7 @@ ghost use Rattle.meaning_fields.specs.Fields.{are_fields, block_meanings, row_in
 ghost use Rattle.meaning_vendor.specs.Dolby.{dolby_meanings, long_rows, nought_rows, one_meanings, one_more, one_rows, point_rows, red_bits, short_meanings, short_rows, two_meanings, two_rows, vision};
 
 use arrayvec::ArrayVec;
-use meaning_fields::{Field, Says, append_block, append_fields, append_share, choices, field_rows};
+use meaning_fields::{Field, FieldSays, append_block, append_fields, append_share, choices, field_rows};
 use meaning_words::{Note, PAGE, Page, after, append_rest, append_words, byte_at};
 
 /// The name of the block.
@@ -15,61 +15,61 @@ const VISION: &[u8] = b", Dolby Vision";
 const ALL: usize = 128;
 
 const NOUGHT: &[Field] = field_rows! {
-    0 1 32 8 Says::Number { before: " version ", times: 1, plus: 0, after: "" };
+    0 1 32 8 FieldSays::Number { before: " version ", times: 1, plus: 0, after: "" };
 };
 
 const ONE: &[Field] = field_rows! {
-    0 1 32 8 Says::Number { before: " version ", times: 1, plus: 0, after: "" };
-    0 1 4 8 Says::Number { before: ", display management ", times: 1, plus: 2, after: ".x" };
-    0 1 1 2 Says::Word(", YCbCr 4:2:2 at 12 bits");
-    0 1 2 2 Says::Word(", 2160p60");
-    1 1 1 2 Says::Word(", global dimming");
-    1 1 2 128 Says::Number { before: ", up to ", times: 50, plus: 100, after: " cd/m2" };
-    2 1 2 128 Says::Number { before: ", down to (", times: 1, plus: 0, after: "/127)^2 cd/m2" };
-    2 1 1 2 Says::Words { before: "", texts: choices! { ", near BT.709"; ", near P3-D65"; } };
+    0 1 32 8 FieldSays::Number { before: " version ", times: 1, plus: 0, after: "" };
+    0 1 4 8 FieldSays::Number { before: ", display management ", times: 1, plus: 2, after: ".x" };
+    0 1 1 2 FieldSays::Word(", YCbCr 4:2:2 at 12 bits");
+    0 1 2 2 FieldSays::Word(", 2160p60");
+    1 1 1 2 FieldSays::Word(", global dimming");
+    1 1 2 128 FieldSays::Number { before: ", up to ", times: 50, plus: 100, after: " cd/m2" };
+    2 1 2 128 FieldSays::Number { before: ", down to (", times: 1, plus: 0, after: "/127)^2 cd/m2" };
+    2 1 1 2 FieldSays::Words { before: "", texts: choices! { ", near BT.709"; ", near P3-D65"; } };
 };
 
 const LONG: &[Field] = field_rows! {
-    3 1 1 256 Says::Hex(", byte 4 is ");
-    4 1 1 256 Says::Share { before: ", red ", plus: 0, by: 256 };
-    5 1 1 256 Says::Share { before: " ", plus: 0, by: 256 };
-    6 1 1 256 Says::Share { before: ", green ", plus: 0, by: 256 };
-    7 1 1 256 Says::Share { before: " ", plus: 0, by: 256 };
-    8 1 1 256 Says::Share { before: ", blue ", plus: 0, by: 256 };
-    9 1 1 256 Says::Share { before: " ", plus: 0, by: 256 };
+    3 1 1 256 FieldSays::Hex(", byte 4 is ");
+    4 1 1 256 FieldSays::Share { before: ", red ", plus: 0, by: 256 };
+    5 1 1 256 FieldSays::Share { before: " ", plus: 0, by: 256 };
+    6 1 1 256 FieldSays::Share { before: ", green ", plus: 0, by: 256 };
+    7 1 1 256 FieldSays::Share { before: " ", plus: 0, by: 256 };
+    8 1 1 256 FieldSays::Share { before: ", blue ", plus: 0, by: 256 };
+    9 1 1 256 FieldSays::Share { before: " ", plus: 0, by: 256 };
 };
 
 const SHORT: &[Field] = field_rows! {
-    3 1 1 4 Says::Words { before: ", latency ", texts: choices! { ", standard latency"; ", standard and low latency"; } };
-    3 1 32 8 Says::Share { before: ", blue ", plus: 32, by: 256 };
-    3 1 4 8 Says::Share { before: " ", plus: 8, by: 256 };
-    4 1 2 128 Says::Share { before: ", green ", plus: 0, by: 256 };
-    5 1 2 128 Says::Share { before: " ", plus: 128, by: 256 };
-    6 1 8 32 Says::Share { before: ", red ", plus: 160, by: 256 };
+    3 1 1 4 FieldSays::Words { before: ", latency ", texts: choices! { ", standard latency"; ", standard and low latency"; } };
+    3 1 32 8 FieldSays::Share { before: ", blue ", plus: 32, by: 256 };
+    3 1 4 8 FieldSays::Share { before: " ", plus: 8, by: 256 };
+    4 1 2 128 FieldSays::Share { before: ", green ", plus: 0, by: 256 };
+    5 1 2 128 FieldSays::Share { before: " ", plus: 128, by: 256 };
+    6 1 8 32 FieldSays::Share { before: ", red ", plus: 160, by: 256 };
 };
 
 const TWO: &[Field] = field_rows! {
-    0 1 32 8 Says::Number { before: " version ", times: 1, plus: 0, after: "" };
-    0 1 4 8 Says::Number { before: ", display management ", times: 1, plus: 2, after: ".x" };
-    0 1 1 2 Says::Word(", YCbCr 4:2:2 at 12 bits");
-    0 1 2 2 Says::Word(", backlight control");
-    1 1 1 4 Says::Number { before: ", backlight from ", times: 25, plus: 25, after: " cd/m2 on" };
-    1 1 4 2 Says::Word(", global dimming");
-    1 1 8 32 Says::Number { before: ", least PQ code ", times: 20, plus: 0, after: "" };
-    2 1 8 32 Says::Number { before: ", greatest PQ code ", times: 65, plus: 2055, after: "" };
-    2 1 1 4 Says::Words { before: "", texts: choices! { ", low latency"; ", low latency, also over HDMI"; ", standard and low latency"; ", standard and low latency, also over HDMI"; } };
-    2 1 4 2 Says::Hex(", reserved bits ");
-    3 1 1 2 Says::Word(", 4:4:4 at 12 bits");
-    4 1 1 2 Says::Word(", 4:4:4 at 10 bits");
+    0 1 32 8 FieldSays::Number { before: " version ", times: 1, plus: 0, after: "" };
+    0 1 4 8 FieldSays::Number { before: ", display management ", times: 1, plus: 2, after: ".x" };
+    0 1 1 2 FieldSays::Word(", YCbCr 4:2:2 at 12 bits");
+    0 1 2 2 FieldSays::Word(", backlight control");
+    1 1 1 4 FieldSays::Number { before: ", backlight from ", times: 25, plus: 25, after: " cd/m2 on" };
+    1 1 4 2 FieldSays::Word(", global dimming");
+    1 1 8 32 FieldSays::Number { before: ", least PQ code ", times: 20, plus: 0, after: "" };
+    2 1 8 32 FieldSays::Number { before: ", greatest PQ code ", times: 65, plus: 2055, after: "" };
+    2 1 1 4 FieldSays::Words { before: "", texts: choices! { ", low latency"; ", low latency, also over HDMI"; ", standard and low latency"; ", standard and low latency, also over HDMI"; } };
+    2 1 4 2 FieldSays::Hex(", reserved bits ");
+    3 1 1 2 FieldSays::Word(", 4:4:4 at 12 bits");
+    4 1 1 2 FieldSays::Word(", 4:4:4 at 10 bits");
 };
 
 const POINTS: &[Field] = field_rows! {
-    5 1 8 32 Says::Share { before: ", red ", plus: 160, by: 256 };
-    6 1 8 32 Says::Share { before: " ", plus: 64, by: 256 };
-    3 1 2 128 Says::Share { before: ", green ", plus: 0, by: 256 };
-    4 1 2 128 Says::Share { before: " ", plus: 128, by: 256 };
-    5 1 1 8 Says::Share { before: ", blue ", plus: 32, by: 256 };
-    6 1 1 8 Says::Share { before: " ", plus: 8, by: 256 };
+    5 1 8 32 FieldSays::Share { before: ", red ", plus: 160, by: 256 };
+    6 1 8 32 FieldSays::Share { before: " ", plus: 64, by: 256 };
+    3 1 2 128 FieldSays::Share { before: ", green ", plus: 0, by: 256 };
+    4 1 2 128 FieldSays::Share { before: " ", plus: 128, by: 256 };
+    5 1 1 8 FieldSays::Share { before: ", blue ", plus: 32, by: 256 };
+    6 1 1 8 FieldSays::Share { before: " ", plus: 8, by: 256 };
 };
 
 fn append_named(page: &mut Page, fields: &[Field], size: usize, payload: &[u8])

@@ -6,23 +6,23 @@ ghost use Rattle.meaning_vendor.specs.Sync.{plain_rows, sync_meanings, sync_rows
 
 use arrayvec::ArrayVec;
 use edid_base::append;
-use meaning_fields::{Field, Says, append_fields, append_least, field_rows};
+use meaning_fields::{Field, FieldSays, append_fields, append_least, field_rows};
 use meaning_words::{Note, PAGE, Page, after, append_rest, append_words, byte_at};
 
 const SYNC: &[Field] = field_rows! {
-    0 1 1 256 Says::Number { before: " version ", times: 1, plus: 0, after: "" };
-    1 1 1 256 Says::Number { before: ".", times: 1, plus: 0, after: "" };
-    2 1 1 256 Says::Number { before: ", from ", times: 1, plus: 0, after: " Hz" };
-    3 1 1 256 Says::Number { before: " to ", times: 1, plus: 0, after: " Hz" };
-    4 1 1 256 Says::Hex(", by MCCS with VCP code ");
-    5 1 4 2 Says::Word(", luminances without local dimming");
-    5 1 1 4 Says::Hex(", reserved bits ");
-    5 1 8 32 Says::Hex(", reserved bits ");
-    6 1 1 256 Says::Light(", up to ");
+    0 1 1 256 FieldSays::Number { before: " version ", times: 1, plus: 0, after: "" };
+    1 1 1 256 FieldSays::Number { before: ".", times: 1, plus: 0, after: "" };
+    2 1 1 256 FieldSays::Number { before: ", from ", times: 1, plus: 0, after: " Hz" };
+    3 1 1 256 FieldSays::Number { before: " to ", times: 1, plus: 0, after: " Hz" };
+    4 1 1 256 FieldSays::Hex(", by MCCS with VCP code ");
+    5 1 4 2 FieldSays::Word(", luminances without local dimming");
+    5 1 1 4 FieldSays::Hex(", reserved bits ");
+    5 1 8 32 FieldSays::Hex(", reserved bits ");
+    6 1 1 256 FieldSays::Light(", up to ");
 };
 
 const PLAIN: &[Field] = field_rows! {
-    8 1 1 256 Says::Light(", without local dimming up to ");
+    8 1 1 256 FieldSays::Light(", without local dimming up to ");
 };
 
 fn sync_note(payload: &[u8]) -> Note

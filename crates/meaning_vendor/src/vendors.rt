@@ -4,27 +4,27 @@ ghost use Rattle.arrayvec.specs.ArrayVec.{array_vec_len};
 ghost use Rattle.meaning_words.specs.Notes.{own_line};
 ghost use Rattle.meaning_vendor.specs.Vendors.{plus_meanings, plus_rows, soft_meanings, soft_rows, sound_meanings, sound_rows};
 
-use meaning_fields::{Field, Says, append_block, field_rows};
+use meaning_fields::{Field, FieldSays, append_block, field_rows};
 use meaning_words::{PAGE, Page};
 
 const PLUS: &[Field] = field_rows! {
-    0 1 1 4 Says::Number { before: " version ", times: 1, plus: 0, after: "" };
-    0 1 4 64 Says::Hex(", other bits of byte 1 are ");
+    0 1 1 4 FieldSays::Number { before: " version ", times: 1, plus: 0, after: "" };
+    0 1 4 64 FieldSays::Hex(", other bits of byte 1 are ");
 };
 
 const SOUND: &[Field] = field_rows! {
-    0 1 1 8 Says::Number { before: " version ", times: 1, plus: 1, after: "" };
-    0 1 128 2 Says::Word(", headphones alone");
-    0 1 64 2 Says::Word(", height speakers");
-    0 1 32 2 Says::Word(", surround speakers");
-    0 1 16 2 Says::Word(", centre speaker");
+    0 1 1 8 FieldSays::Number { before: " version ", times: 1, plus: 1, after: "" };
+    0 1 128 2 FieldSays::Word(", headphones alone");
+    0 1 64 2 FieldSays::Word(", height speakers");
+    0 1 32 2 FieldSays::Word(", surround speakers");
+    0 1 16 2 FieldSays::Word(", centre speaker");
 };
 
 const SOFT: &[Field] = field_rows! {
-    0 1 1 256 Says::Number { before: " version ", times: 1, plus: 0, after: "" };
-    1 1 64 2 Says::Word(", for the desktop");
-    1 1 32 2 Says::Word(", by others");
-    1 1 1 32 Says::Number { before: ", use case ", times: 1, plus: 0, after: "" };
+    0 1 1 256 FieldSays::Number { before: " version ", times: 1, plus: 0, after: "" };
+    1 1 64 2 FieldSays::Word(", for the desktop");
+    1 1 32 2 FieldSays::Word(", by others");
+    1 1 1 32 FieldSays::Number { before: ", use case ", times: 1, plus: 0, after: "" };
 };
 
 /// Appends what a block of HDR10+ means, of the bytes after the identifier.

@@ -1,14 +1,14 @@
 -- Video formats by their codes (CTA-861-G, table 3).
 use Rattle.std.specs.Prelude.{ℕ, ◌==◌, Bool, true, false, if◌then◌else◌, List, [], ◌∷◌, Option, Some, None}
-use Rattle.meaning_words.specs.declared.formats.Format.{Format}
+use Rattle.meaning_words.specs.declared.formats.VideoFormat.{VideoFormat}
 use Rattle.meaning_words.specs.declared.formats.Aspect.{Aspect}
 use Rattle.meaning_words.specs.declared.formats.Aspect.TheVariants.{FourThirds, SixteenNinths, SixtyFourTwentySevenths, Cinema}
 
-abbrev pub row : ℕ → ℕ → ℕ → Bool → ℕ → Aspect → Format
+abbrev pub row : ℕ → ℕ → ℕ → Bool → ℕ → Aspect → VideoFormat
 row code width height interlaced rate aspect = record { code = code; width = width; height = height; interlaced = interlaced; rate = rate; aspect = aspect }
 
 -- code, width, height, interlaced, rate in Hz, aspect
-abbrev pub formats : List Format
+abbrev pub formats : List VideoFormat
 formats =
     row 1 640 480 false 60 FourThirds ∷
     row 2 720 480 false 60 FourThirds ∷
@@ -166,9 +166,9 @@ formats =
     row 219 4096 2160 false 120 Cinema ∷ []
 
 -- the first of a list with this code
-abbrev pub find_code : List Format → ℕ → Option Format
+abbrev pub find_code : List VideoFormat → ℕ → Option VideoFormat
 find_code [] code = None
 find_code (f ∷ fs) code = if f.code == code then Some f else find_code fs code
 
-unfoldable pub format_of : ℕ → Option Format
+unfoldable pub format_of : ℕ → Option VideoFormat
 format_of code = find_code formats code

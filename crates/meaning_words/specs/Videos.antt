@@ -2,7 +2,7 @@
 use Rattle.std.specs.Prelude.{ℕ, ◌-◌, ◌&&◌, nat_lt, Bool, true, false, if◌then◌else◌, List, ◌++◌, map, Option, Some, None, codes}
 use Rattle.std.specs.Fmt.{decimal}
 use Rattle.meaning_words.specs.Formats.{format_of}
-use Rattle.meaning_words.specs.declared.formats.Format.{Format}
+use Rattle.meaning_words.specs.declared.formats.VideoFormat.{VideoFormat}
 use Rattle.meaning_words.specs.declared.formats.Aspect.{Aspect}
 use Rattle.meaning_words.specs.declared.formats.Aspect.TheVariants.{FourThirds, SixteenNinths, SixtyFourTwentySevenths, Cinema}
 
@@ -16,13 +16,13 @@ abbrev pub scan_text : Bool → List ℕ
 scan_text true = codes "i at "
 scan_text false = codes " at "
 
-abbrev pub picture_text : Format → List ℕ
+abbrev pub picture_text : VideoFormat → List ℕ
 picture_text f = decimal f.width ++ (codes "x" ++ (decimal f.height ++ scan_text f.interlaced))
 
-abbrev pub format_text : Format → List ℕ
+abbrev pub format_text : VideoFormat → List ℕ
 format_text f = picture_text f ++ (decimal f.rate ++ (codes " Hz " ++ aspect_text f.aspect))
 
-abbrev pub known_text : Option Format → List ℕ
+abbrev pub known_text : Option VideoFormat → List ℕ
 known_text None = codes "reserved"
 known_text (Some f) = format_text f
 

@@ -17,7 +17,7 @@ pub enum Aspect {
 
 /// A video format.
 #[derive(Clone, Copy, Debug, PartialEq, Eq)]
-pub struct Format {
+pub struct VideoFormat {
     /// Its video identification code.
     pub code: u8,
     /// Pixels of a line.
@@ -32,7 +32,7 @@ pub struct Format {
 
 macro_rules! formats {
     ($($code:literal $width:literal $height:literal $interlaced:literal $rate:literal $aspect:ident;)*) => {
-        &[$(Format {
+        &[$(VideoFormat {
             code: $code,
             width: $width,
             height: $height,
@@ -44,7 +44,7 @@ macro_rules! formats {
 }
 
 // Code, width, height, whether it is interlaced, rate and aspect, in the order of the codes.
-const FORMATS: &[Format] = formats! {
+const FORMATS: &[VideoFormat] = formats! {
     1 640 480 false 60 FourThirds;
     2 720 480 false 60 FourThirds;
     3 720 480 false 60 SixteenNinths;
@@ -202,7 +202,7 @@ const FORMATS: &[Format] = formats! {
 };
 
 /// The first format of a list that has this code.
-fn find(formats: &[Format], code: u8) -> Option<Format>
+fn find(formats: &[VideoFormat], code: u8) -> Option<VideoFormat>
     ensures { result ≡ find_code formats.now code }
 {
     if let [format, rest @ ..] = formats {
@@ -215,7 +215,7 @@ fn find(formats: &[Format], code: u8) -> Option<Format>
 }
 
 /// The format that a video identification code stands for.
-pub fn format_of(code: u8) -> Option<Format>
+pub fn format_of(code: u8) -> Option<VideoFormat>
     ensures { result ≡ format_of code }
 {
     find(FORMATS, code)

@@ -26,7 +26,7 @@ mod timings;
 mod videos;
 
 pub use bits::{Bit, append_bit_lines, append_bits, append_spaced, is_set};
-pub use formats::{Aspect, Format, format_of};
+pub use formats::{Aspect, VideoFormat, format_of};
 pub use laws::nearest_is_one;
 pub use notes::{
     NOTE, Note, PAGE, Page, append_between, append_counted, append_decimal, append_digit,

@@ -4,7 +4,7 @@ ghost use Rattle.arrayvec.specs.ArrayVec.{array_vec_len};
 ghost use Rattle.meaning_words.specs.Notes.{own_line};
 ghost use Rattle.meaning_words.specs.Videos.{aspect_text, scan_text, picture_text, format_text, code_text, is_native, code_of, native_text, video_text, video_meanings};
 
-use crate::formats::{Aspect, Format, format_of};
+use crate::formats::{Aspect, VideoFormat, format_of};
 use crate::notes::{NOTE, Note, PAGE, Page, append_decimal, append_line};
 use arrayvec::ArrayVec;
 use edid_base::append;
@@ -28,7 +28,7 @@ fn scan_text(interlaced: bool) -> &'static str
     if interlaced { "i at " } else { " at " }
 }
 
-fn append_picture(note: &mut Note, format: Format)
+fn append_picture(note: &mut Note, format: VideoFormat)
     requires { array_vec_len note.old + 46 ≤ NOTE }
     ensures items { note.new.items ≡ note.old.items ++ picture_text format }
     ensures len { array_vec_len note.new ≤ array_vec_len note.old + 46 }
@@ -39,7 +39,7 @@ fn append_picture(note: &mut Note, format: Format)
     append(note, scan_text(format.interlaced).as_bytes());
 }
 
-fn append_format(note: &mut Note, format: Format)
+fn append_format(note: &mut Note, format: VideoFormat)
     requires { array_vec_len note.old + 77 ≤ NOTE }
     ensures items { note.new.items ≡ note.old.items ++ format_text format }
     ensures len { array_vec_len note.new ≤ array_vec_len note.old + 77 }

@@ -127,16 +127,16 @@ fn step(place: HexState, character: u8) -> Result<(HexState, Option<u8>), DisCau
 
 // The bytes that were read: the first sixteen, and whether there are more.
 #[derive(Drop)]
-struct Bytes {
+struct LineBytes {
     first: ArrayVec<u8, 16>,
     is_long: bool,
 }
 
-impl Bytes {
+impl LineBytes {
     fn new() -> Self
         ensures { AreBytes result [] }
     {
-        Bytes {
+        LineBytes {
             first: ArrayVec::new(),
             is_long: false,
         }
@@ -172,12 +172,12 @@ fn first_character(text: &[u8]) -> Option<(u8, &[u8])>
 }
 
 // The bytes that a text spells.
-fn read_bytes(text: &[u8]) -> Result<Bytes, DisCause>
+fn read_bytes(text: &[u8]) -> Result<LineBytes, DisCause>
     ensures { MatchResult result
         (λ bytes. (all : List ℕ) × (bytes_from Between text.now ≡ Ok all) × AreBytes bytes all)
         (λ cause. bytes_from Between text.now ≡ Err cause) }
 {
-    let mut bytes = Bytes::new();
+    let mut bytes = LineBytes::new();
     let mut place = HexState::Between;
     let mut rest = text;
     'characters: while let Some((character, more)) = first_character(rest) {

@@ -10,7 +10,7 @@ use Rattle.message_lay.specs.declared.fault.LayCause.{LayCause}
 use Rattle.text_core.specs.declared.at.AtWord.{AtWord}
 use Rattle.message_lay.specs.declared.pulls.Fault.{Fault}
 use Rattle.message_lay.specs.declared.pulls.Fault.TheVariants as faults
-use Rattle.message_lay.specs.declared.words.Numbers.{Numbers}
+use Rattle.message_lay.specs.declared.words.FaultNumbers.{FaultNumbers}
 use Rattle.message_lay.specs.declared.words.Verb.{Verb}
 use Rattle.message_lay.specs.declared.words.Verb.TheVariants.{Eom, Bit, Start, Last, Drive, Glitch}
 
@@ -52,22 +52,22 @@ abbrev pub number_in : ℕ → List (List ℕ) → Result (ℕ × List (List ℕ
 number_in at [] = Err (at_word at Word)
 number_in at (word ∷ words) = number_by at (number_of word) words
 
-abbrev pub third_in : ℕ → ℕ → Result (ℕ × List (List ℕ)) (AtWord LayCause) → Result (Numbers × List (List ℕ)) (AtWord LayCause)
+abbrev pub third_in : ℕ → ℕ → Result (ℕ × List (List ℕ)) (AtWord LayCause) → Result (FaultNumbers × List (List ℕ)) (AtWord LayCause)
 third_in first second (Err fault) = Err fault
 third_in first second (Ok p) = Ok (record { first = first; second = second; third = p.0 }, p.1)
 
-abbrev pub second_in : ℕ → ℕ → Result (ℕ × List (List ℕ)) (AtWord LayCause) → Result (Numbers × List (List ℕ)) (AtWord LayCause)
+abbrev pub second_in : ℕ → ℕ → Result (ℕ × List (List ℕ)) (AtWord LayCause) → Result (FaultNumbers × List (List ℕ)) (AtWord LayCause)
 second_in count first (Err fault) = Err fault
 second_in count first (Ok p) =
     if nat_le count 2 then Ok (record { first = first; second = p.0; third = 0 }, p.1) else third_in first p.0 (number_in 4 p.1)
 
-abbrev pub first_in : ℕ → Result (ℕ × List (List ℕ)) (AtWord LayCause) → Result (Numbers × List (List ℕ)) (AtWord LayCause)
+abbrev pub first_in : ℕ → Result (ℕ × List (List ℕ)) (AtWord LayCause) → Result (FaultNumbers × List (List ℕ)) (AtWord LayCause)
 first_in count (Err fault) = Err fault
 first_in count (Ok p) =
     if nat_le count 1 then Ok (record { first = p.0; second = 0; third = 0 }, p.1) else second_in count p.0 (number_in 3 p.1)
 
 -- one to three numbers from word 2 on, and the words after them
-abbrev pub numbers_in : ℕ → List (List ℕ) → Result (Numbers × List (List ℕ)) (AtWord LayCause)
+abbrev pub numbers_in : ℕ → List (List ℕ) → Result (FaultNumbers × List (List ℕ)) (AtWord LayCause)
 numbers_in count words = first_in count (number_in 2 words)
 
 -- ---- what they say
@@ -108,7 +108,7 @@ glitch_of slot after low =
     else Ok (faults.Glitch slot after low)
 
 -- a verb and its numbers; `last K`, `drive K`
-abbrev pub fault_of : Verb → Numbers → Result Fault (AtWord LayCause)
+abbrev pub fault_of : Verb → FaultNumbers → Result Fault (AtWord LayCause)
 fault_of Eom n = eom_of n.first (bit_in n.second)
 fault_of Bit n = bit_of n.first (times_in 3 n.second n.third)
 fault_of Start n = start_of (times_in 2 n.first n.second)
@@ -126,7 +126,7 @@ abbrev pub head_of : ℕ → List (List ℕ) → Result Fault (AtWord LayCause) 
 head_of at words (Err fault) = Err fault
 head_of at words (Ok fault) = Ok (record { fault = fault; at = at; words = words })
 
-abbrev pub fault_after : Verb → Result (Numbers × List (List ℕ)) (AtWord LayCause) → Result Head (AtWord LayCause)
+abbrev pub fault_after : Verb → Result (FaultNumbers × List (List ℕ)) (AtWord LayCause) → Result Head (AtWord LayCause)
 fault_after verb (Err fault) = Err fault
 fault_after verb (Ok p) = head_of (2 + verb_words verb) p.1 (fault_of verb p.0)
 

@@ -24,7 +24,7 @@ pub enum Verb {
 
 /// The numbers after the verb of a fault, 0 where it has fewer.
 #[derive(Clone, Copy, Debug, PartialEq, Eq)]
-pub struct Numbers {
+pub struct FaultNumbers {
     pub first: u64,
     pub second: u64,
     pub third: u64,
@@ -76,7 +76,10 @@ fn verb_words(verb: Verb) -> usize
 }
 
 /// The number of the next word, which has this number, and what stands after it.
-fn number_in<'a>(rest: Option<&'a [u8]>, at: usize) -> Result<(u64, Option<&'a [u8]>), AtWord<LayCause>>
+fn number_in<'a>(
+    rest: Option<&'a [u8]>,
+    at: usize,
+) -> Result<(u64, Option<&'a [u8]>), AtWord<LayCause>>
     ensures { MatchResult result
         (λ p. number_in at (words_after (option_copied rest.entry)) ≡ Ok (p.0, words_after (option_copied p.1)))
         (λ fault. number_in at (words_after (option_copied rest.entry)) ≡ Err fault) }
@@ -96,7 +99,7 @@ fn third_in<'a>(
     first: u64,
     second: u64,
     rest: Option<&'a [u8]>,
-) -> Result<(Numbers, Option<&'a [u8]>), AtWord<LayCause>>
+) -> Result<(FaultNumbers, Option<&'a [u8]>), AtWord<LayCause>>
     ensures { MatchResult result
         (λ p. third_in first second (number_in 4 (words_after (option_copied rest.entry))) ≡ Ok (p.0, words_after (option_copied p.1)))
         (λ fault. third_in first second (number_in 4 (words_after (option_copied rest.entry))) ≡ Err fault) }
@@ -104,7 +107,7 @@ fn third_in<'a>(
     match number_in(rest, 4) {
         Err(fault) => Err(fault),
         Ok((third, after)) => Ok((
-            Numbers {
+            FaultNumbers {
                 first,
                 second,
                 third,
@@ -119,7 +122,7 @@ fn second_in<'a>(
     count: usize,
     first: u64,
     rest: Option<&'a [u8]>,
-) -> Result<(Numbers, Option<&'a [u8]>), AtWord<LayCause>>
+) -> Result<(FaultNumbers, Option<&'a [u8]>), AtWord<LayCause>>
     ensures { MatchResult result
         (λ p. second_in count first (number_in 3 (words_after (option_copied rest.entry))) ≡ Ok (p.0, words_after (option_copied p.1)))
         (λ fault. second_in count first (number_in 3 (words_after (option_copied rest.entry))) ≡ Err fault) }
@@ -129,7 +132,7 @@ fn second_in<'a>(
         Ok((second, after)) => {
             if count <= 2 {
                 return Ok((
-                    Numbers {
+                    FaultNumbers {
                         first,
                         second,
                         third: 0,
@@ -146,7 +149,7 @@ fn second_in<'a>(
 fn numbers_in<'a>(
     count: usize,
     rest: Option<&'a [u8]>,
-) -> Result<(Numbers, Option<&'a [u8]>), AtWord<LayCause>>
+) -> Result<(FaultNumbers, Option<&'a [u8]>), AtWord<LayCause>>
     ensures { MatchResult result
         (λ p. numbers_in count (words_after (option_copied rest.entry)) ≡ Ok (p.0, words_after (option_copied p.1)))
         (λ fault. numbers_in count (words_after (option_copied rest.entry)) ≡ Err fault) }
@@ -156,7 +159,7 @@ fn numbers_in<'a>(
         Ok((first, after)) => {
             if count <= 1 {
                 return Ok((
-                    Numbers {
+                    FaultNumbers {
                         first,
                         second: 0,
                         third: 0,
@@ -228,7 +231,7 @@ fn glitch_of(slot: u64, after: u64, low: u64) -> Result<Fault, AtWord<LayCause>>
 }
 
 /// The fault of a verb and its numbers.
-fn fault_of(verb: Verb, numbers: Numbers) -> Result<Fault, AtWord<LayCause>>
+fn fault_of(verb: Verb, numbers: FaultNumbers) -> Result<Fault, AtWord<LayCause>>
     ensures { result ≡ fault_of verb numbers }
 {
     match verb {
@@ -276,7 +279,9 @@ fn fault_after<'a>(
 
 /// The fault of the words after the instant, the number of the word after it, and what stands from that word on. A line has no
 /// fault where the word after its instant is no verb of one.
-pub fn fault_in<'a>(rest: Option<&'a [u8]>) -> Result<(Fault, usize, Option<&'a [u8]>), AtWord<LayCause>>
+pub fn fault_in<'a>(
+    rest: Option<&'a [u8]>,
+) -> Result<(Fault, usize, Option<&'a [u8]>), AtWord<LayCause>>
     ensures near { IfOk result (λ p. p.1 < 8) }
     ensures read { MatchResult result
         (λ p. fault_in (words_after (option_copied rest.entry)) ≡ Ok (record { fault = p.0; at = p.1; words = words_after (option_copied p.2) }))

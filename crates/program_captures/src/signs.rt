@@ -83,7 +83,7 @@ fn more_by_margin(capture: &Capture) -> u64 {
 
 /// What was counted of a line, edge by edge.
 #[derive(Clone, Copy, Debug)]
-struct Counts {
+struct EdgeCounts {
     // the edge before, and the fall before with how long it was low
     last: u64,
     fall: Option<u64>,
@@ -108,8 +108,8 @@ fn is_total_near(total: u64, width: u64) -> bool {
     }
 }
 
-impl Counts {
-    const NONE: Counts = Counts {
+impl EdgeCounts {
+    const NONE: EdgeCounts = EdgeCounts {
         last: 0,
         fall: None,
         width: 0,
@@ -152,8 +152,8 @@ impl Counts {
     }
 }
 
-fn counts_of(edges: &[Edge]) -> Counts {
-    let mut counts = Counts::NONE;
+fn counts_of(edges: &[Edge]) -> EdgeCounts {
+    let mut counts = EdgeCounts::NONE;
     for edge in edges {
         counts.edge(*edge);
     }
@@ -161,7 +161,7 @@ fn counts_of(edges: &[Edge]) -> Counts {
 }
 
 // For how long a line is low up to an end.
-fn low_until(counts: &Counts, edges: &[Edge], end: u64) -> u64 {
+fn low_until(counts: &EdgeCounts, edges: &[Edge], end: u64) -> u64 {
     match edges.last() {
         Some(edge) if edge.low => counts.low.saturating_add(end.saturating_sub(edge.at)),
         _ => counts.low,

@@ -14,8 +14,8 @@ use Rattle.conversion_calls.specs.EdidFindings.{faults_of}
 use Rattle.conversion_calls.specs.Form.{form_text, hex_line}
 use Rattle.conversion_calls.specs.PassedOn.{Reports, address_line}
 use Rattle.conversion_calls.specs.Passing.{IsPassedOn}
-use Rattle.conversion_calls.specs.declared.form.Form.{Form}
-use Rattle.conversion_calls.specs.declared.form.Form.TheVariants as forms
+use Rattle.conversion_calls.specs.declared.form.EdidForm.{EdidForm}
+use Rattle.conversion_calls.specs.declared.form.EdidForm.TheVariants as forms
 use Rattle.conversion_calls.specs.declared.passing.Passing.{Passing}
 use Rattle.conversion_calls.specs.declared.passing.Destination.TheVariants as to
 use Rattle.text_core.specs.declared.phys.Phys.{Phys}
@@ -43,7 +43,7 @@ use Rattle.cli_words.specs.declared.choice.Source.TheVariants as sources
 use Rattle.cli_words.specs.declared.choice.View.{View}
 use Rattle.cli_words.specs.declared.choice.View.TheVariants.{Whole, Meaning, Findings, Address, Readout}
 
-abbrev pub form_of : EdidShape → Form
+abbrev pub form_of : EdidShape → EdidForm
 form_of shapes.Text = forms.Text
 form_of shapes.Hex = forms.Hex
 form_of shapes.Bytes = forms.Bytes

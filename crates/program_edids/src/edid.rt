@@ -15,7 +15,7 @@ use crate::edid_judged::{unless_failed, write_counted_rules, write_own_rules};
 use arrayvec::ArrayVec;
 use cli_words::{EdidReading, EdidShape, Recipient, Sound, Source, View};
 use conversion_calls::{
-    Destination as PassedTo, Form, Passing, check_passed_on, edid_to_findings, edid_to_text,
+    Destination as PassedTo, EdidForm, Passing, check_passed_on, edid_to_findings, edid_to_text,
     write_address, write_passed_on,
 };
 use conversion_notes::edid_to_meaning;
@@ -33,13 +33,13 @@ const LEAST: usize = 128;
 
 const MOST: usize = 512;
 
-fn form_of(shape: EdidShape) -> Form
+fn form_of(shape: EdidShape) -> EdidForm
     ensures { result ≡ form_of shape }
 {
     match shape {
-        EdidShape::Text => Form::Text,
-        EdidShape::Hex => Form::Hex,
-        EdidShape::Bytes => Form::Bytes,
+        EdidShape::Text => EdidForm::Text,
+        EdidShape::Hex => EdidForm::Hex,
+        EdidShape::Bytes => EdidForm::Bytes,
     }
 }
 

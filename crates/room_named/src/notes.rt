@@ -9,7 +9,7 @@ ghost use Rattle.room_named.specs.Names.{bit_id, bit_notes, frame_id, line_notes
 
 use crate::names::{bit_name, said_text};
 use arrayvec::ArrayVec;
-use capture_wires::{Drive, Note, add_closing_with, add_noted_wires};
+use capture_wires::{Drive, WireText, add_closing_with, add_noted_wires};
 use line_frames::Reading;
 use line_wave::Stretch;
 use text_core::{Counted, Sink};
@@ -41,7 +41,7 @@ pub fn add_named_closing<S: Sink>(out: &mut Counted<'_, S>, count: u8)
 
 // Notes bits from this number on.
 fn put_bits<'a>(
-    notes: &mut ArrayVec<Note<'a>, MOST_NOTES>,
+    notes: &mut ArrayVec<WireText<'a>, MOST_NOTES>,
     number: u8,
     falls: &[Stretch],
     bits: &[bool],
@@ -57,7 +57,7 @@ fn put_bits<'a>(
     let Some((bit, bits)) = bits.split_first() else {
         return;
     };
-    notes.push(Note {
+    notes.push(WireText {
         at: fall.from,
         id: BIT,
         text: bit_name(number, *bit).as_bytes(),
@@ -66,7 +66,7 @@ fn put_bits<'a>(
 }
 
 // Notes the start bit, and the bits after it.
-fn put_line<'a>(notes: &mut ArrayVec<Note<'a>, MOST_NOTES>, wave: &[Stretch], bits: &[bool])
+fn put_line<'a>(notes: &mut ArrayVec<WireText<'a>, MOST_NOTES>, wave: &[Stretch], bits: &[bool])
     requires room { length notes.old.items ≤ 1 }
     requires bits { length bits.now ≤ 160 }
     ensures notes { map noted notes.new.items ≡ map noted notes.old.items ++ line_notes wave.now bits.now }
@@ -75,7 +75,7 @@ fn put_line<'a>(notes: &mut ArrayVec<Note<'a>, MOST_NOTES>, wave: &[Stretch], bi
     let Some((fall, falls)) = wave.split_first() else {
         return;
     };
-    notes.push(Note {
+    notes.push(WireText {
         at: fall.from,
         id: BIT,
         text: b"start",
@@ -84,16 +84,16 @@ fn put_line<'a>(notes: &mut ArrayVec<Note<'a>, MOST_NOTES>, wave: &[Stretch], bi
 }
 
 // Notes that nothing is on the line any more.
-fn put_end<'a>(notes: &mut ArrayVec<Note<'a>, MOST_NOTES>, at: u64)
+fn put_end<'a>(notes: &mut ArrayVec<WireText<'a>, MOST_NOTES>, at: u64)
     requires { length notes.old.items ≤ 162 }
     ensures { map noted notes.new.items ≡ map noted notes.old.items ++ (note at frame_id [] ∷ note at bit_id [] ∷ []) }
 {
-    notes.push(Note {
+    notes.push(WireText {
         at,
         id: FRAME,
         text: &[],
     });
-    notes.push(Note {
+    notes.push(WireText {
         at,
         id: BIT,
         text: &[],
@@ -102,7 +102,7 @@ fn put_end<'a>(notes: &mut ArrayVec<Note<'a>, MOST_NOTES>, at: u64)
 
 // Notes what the two wires have in a round, of which this is read.
 fn put_notes<'a>(
-    notes: &mut ArrayVec<Note<'a>, MOST_NOTES>,
+    notes: &mut ArrayVec<WireText<'a>, MOST_NOTES>,
     said: &'a [u8],
     wave: &[Stretch],
     reading: &Reading,
@@ -111,7 +111,7 @@ fn put_notes<'a>(
     requires said { said.now ≡ said_text reading.now }
     ensures { map noted notes.new.items ≡ round_notes wave.now reading.now }
 {
-    notes.push(Note {
+    notes.push(WireText {
         at: reading.begin,
         id: FRAME,
         text: said,

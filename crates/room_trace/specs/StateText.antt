@@ -9,7 +9,7 @@ use Rattle.text_core.specs.declared.phys.Phys.{Phys}
 use Rattle.text_core.specs.Piece.{nibble_text, hex_text, hex_or_dash, phys_text, dash_or, switch_text}
 use Rattle.message_table.specs.declared.message.Triple.{Triple}
 use Rattle.message_table.specs.DeckWords.{deck_info_byte}
-use Rattle.device_features.specs.declared.record.Note.{Note}
+use Rattle.device_features.specs.declared.record.HeardReport.{HeardReport}
 use Rattle.device_core.specs.State.{State, addresses_held}
 use Rattle.device_core.specs.Place.{is_on_wire}
 use Rattle.device_features.specs.Kinds.{is_outside}
@@ -37,7 +37,7 @@ abbrev pub language_bytes : Triple → List ℕ
 language_bytes t = t.first ∷ t.second ∷ t.third ∷ []
 
 -- initiator, opcode and first operand of the last report that was heard
-abbrev pub note_text : Note → List ℕ
+abbrev pub note_text : HeardReport → List ℕ
 note_text n = nibble_text (n.from % 16) ++ codes ":" ++ hex_text n.opcode ++ codes ":" ++ hex_text n.first
 
 -- the line, from the text of the logical address, the bytes of the language and the text of what was heard

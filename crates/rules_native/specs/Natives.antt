@@ -8,7 +8,7 @@ use Rattle.edid_cta.specs.Hdmi.{blocks_of}
 use Rattle.edid_cta.specs.declared.block.DataBlock.{DataBlock}
 use Rattle.edid_cta.specs.declared.raw.Ext.{Ext}
 use Rattle.meaning_words.specs.Formats.{format_of}
-use Rattle.meaning_words.specs.declared.formats.Format.{Format}
+use Rattle.meaning_words.specs.declared.formats.VideoFormat.{VideoFormat}
 use Rattle.rules_values.specs.BlockParts.{is_video_kind}
 use Rattle.rules_values.specs.ExtParts.{native_count, timings_of}
 use Rattle.rules_native.specs.declared.picture.Picture.{Picture}
@@ -19,7 +19,7 @@ timing_picture t =
     if nat_lt t.flags 128 then record { width = t.horizontal_active; height = t.vertical_active; interlaced = false }
     else record { width = t.horizontal_active; height = 2 * t.vertical_active; interlaced = true }
 
-abbrev pub format_pictures : Option Format → List Picture
+abbrev pub format_pictures : Option VideoFormat → List Picture
 format_pictures None = []
 format_pictures (Some f) = record { width = f.width; height = f.height; interlaced = f.interlaced } ∷ []
 

@@ -10,7 +10,7 @@ use crate::picture::Picture;
 use arrayvec::ArrayVec;
 use edid_base::{Base, Timing};
 use edid_cta::{BlockKind, DataBlock, Ext};
-use meaning_words::{Format, format_of};
+use meaning_words::{VideoFormat, format_of};
 use rules_values::{native_count, timings_of};
 
 /// The most native pictures: 15 timings, as far as four bits count, and the codes that three extensions have room for.
@@ -37,7 +37,7 @@ fn timing_picture(timing: &Timing) -> Picture
 }
 
 /// Appends the picture of a format.
-fn append_format(pictures: &mut ArrayVec<Picture, MAX_PICTURES>, format: Option<Format>)
+fn append_format(pictures: &mut ArrayVec<Picture, MAX_PICTURES>, format: Option<VideoFormat>)
     requires { array_vec_len pictures.old + 1 ≤ MAX_PICTURES }
     ensures items { pictures.new.items ≡ pictures.old.items ++ format_pictures format }
     ensures len { array_vec_len pictures.new ≤ array_vec_len pictures.old + 1 }

@@ -8,7 +8,7 @@ use Rattle.edid_base.specs.declared.descriptor.Descriptor.{Descriptor}
 use Rattle.edid_base.specs.declared.descriptor.Descriptor.TheVariants.{Range}
 use Rattle.edid_base.specs.declared.timing.Timing.{Timing}
 use Rattle.rules_rates.specs.declared.pace.Pace.{Pace}
-use Rattle.rules_rates.specs.declared.span.Span.{Span}
+use Rattle.rules_rates.specs.declared.span.RateSpan.{RateSpan}
 
 -- ---- how fast
 
@@ -23,32 +23,32 @@ timing_pace t = record { clock = t.clock * 10; pixels = t.horizontal_active + t.
 -- ---- spans
 
 -- the greatest is below the least
-abbrev pub is_reversed : Span → Bool
+abbrev pub is_reversed : RateSpan → Bool
 is_reversed span = nat_lt span.greatest span.least
 
 -- A greatest of 0 limits nothing, nor do limits that are reversed.
-abbrev pub limits_rates : Span → Bool
+abbrev pub limits_rates : RateSpan → Bool
 limits_rates span = nat_lt 0 span.greatest && not (is_reversed span)
 
 -- A rate of `count / per` is one unit and more below the least or above the greatest. It is no rate where `per` is 0.
-abbrev pub is_outside : Span → ℕ → ℕ → Bool
+abbrev pub is_outside : RateSpan → ℕ → ℕ → Bool
 is_outside span count per =
     limits_rates span && nat_lt 0 per && (nat_le (count + per) (span.least * per) || nat_le ((span.greatest + 1) * per) count)
 
 -- ---- limits
 
 -- in 1.4 two bits of byte 4 add 255 to the greatest rate, or to both (E-EDID 1.4, section 3.10.3.3)
-abbrev pub raised_span : Revision → ℕ → ℕ → ℕ → Span
+abbrev pub raised_span : Revision → ℕ → ℕ → ℕ → RateSpan
 raised_span Three bits least greatest = record { least = least; greatest = greatest }
 raised_span Four bits least greatest =
     record { least = if bits == 3 then least + 255 else least; greatest = if nat_le 2 bits then greatest + 255 else greatest }
 
 -- in fields a second
-abbrev pub field_span : Revision → List ℕ → Span
+abbrev pub field_span : Revision → List ℕ → RateSpan
 field_span r l = raised_span r (slice_index l 0 % 4) (slice_index l 1) (slice_index l 2)
 
 -- in thousands of lines a second
-abbrev pub line_span : Revision → List ℕ → Span
+abbrev pub line_span : Revision → List ℕ → RateSpan
 line_span r l = raised_span r (slice_index l 0 / 4 % 4) (slice_index l 3) (slice_index l 4)
 
 abbrev pub has_reversed : Revision → Descriptor → Bool

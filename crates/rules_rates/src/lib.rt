@@ -13,4 +13,4 @@ pub use limits::{field_span, has_reversed_limits, is_out_of_range, line_span, ti
 pub use maps::{has_past, has_slow, is_slow, some_past, some_slow};
 pub use pace::Pace;
 pub use paces::{CodePace, pace_of};
-pub use span::Span;
+pub use span::RateSpan;

@@ -3,7 +3,7 @@ ghost use Rattle.std.specs.Prelude.{◌≡◌, ◌<◌, ◌^◌};
 ghost use Rattle.rules_rates.specs.Limits.{timing_pace, is_reversed, limits_rates, is_outside, raised_span, field_span, line_span, has_reversed, has_reversed_limits, is_field_rate_outside, is_line_rate_outside, is_clock_above, excludes, is_out_of_range};
 
 use crate::pace::Pace;
-use crate::span::Span;
+use crate::span::RateSpan;
 use edid_base::{Base, Descriptor, RangeLimits, Revision, Timing};
 
 /// What bits of 1.4 add to a rate.
@@ -34,21 +34,21 @@ pub fn timing_pace(timing: &Timing) -> Pace
 }
 
 /// Whether the greatest rate is below the least.
-fn is_reversed(span: Span) -> bool
+fn is_reversed(span: RateSpan) -> bool
     ensures { result ≡ is_reversed span }
 {
     span.greatest < span.least
 }
 
 /// Whether a span limits rates: a greatest rate of 0 limits none, nor do limits that are reversed.
-pub fn limits_rates(span: Span) -> bool
+pub fn limits_rates(span: RateSpan) -> bool
     ensures { result ≡ limits_rates span }
 {
     0 < span.greatest && !is_reversed(span)
 }
 
 /// Whether a rate of `count` by `per` is one unit and more outside a span.
-pub fn is_outside(span: Span, count: u64, per: u64) -> bool
+pub fn is_outside(span: RateSpan, count: u64, per: u64) -> bool
     requires least { span.least < 512 }
     requires greatest { span.greatest < 512 }
     requires count_fits { count < 2 ^ 48 }
@@ -61,15 +61,15 @@ pub fn is_outside(span: Span, count: u64, per: u64) -> bool
 }
 
 /// The span of two bytes, which two bits raise in 1.4.
-fn raised_span(revision: Revision, bits: u8, least: u8, greatest: u8) -> Span
+fn raised_span(revision: Revision, bits: u8, least: u8, greatest: u8) -> RateSpan
     ensures value { result ≡ raised_span revision bits least greatest }
     ensures least { result.least < 512 }
     ensures greatest { result.greatest < 512 }
 {
     let (least, greatest) = (u64::from(least), u64::from(greatest));
     match revision {
-        Revision::Three => Span { least, greatest },
-        Revision::Four => Span {
+        Revision::Three => RateSpan { least, greatest },
+        Revision::Four => RateSpan {
             least: if bits == 3 { least + OFFSET } else { least },
             greatest: if 2 <= bits {
                 greatest + OFFSET
@@ -81,7 +81,7 @@ fn raised_span(revision: Revision, bits: u8, least: u8, greatest: u8) -> Span
 }
 
 /// The limits of the field rate, in fields a second.
-pub fn field_span(revision: Revision, limits: &RangeLimits) -> Span
+pub fn field_span(revision: Revision, limits: &RangeLimits) -> RateSpan
     ensures value { result ≡ field_span revision limits.now.bytes }
     ensures least { result.least < 512 }
     ensures greatest { result.greatest < 512 }
@@ -91,7 +91,7 @@ pub fn field_span(revision: Revision, limits: &RangeLimits) -> Span
 }
 
 /// The limits of the line rate, in thousands of lines a second.
-pub fn line_span(revision: Revision, limits: &RangeLimits) -> Span
+pub fn line_span(revision: Revision, limits: &RangeLimits) -> RateSpan
     ensures value { result ≡ line_span revision limits.now.bytes }
     ensures least { result.least < 512 }
     ensures greatest { result.greatest < 512 }

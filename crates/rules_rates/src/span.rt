@@ -2,7 +2,7 @@
 
 /// A least and a greatest rate.
 #[derive(Clone, Copy, Debug, PartialEq, Eq)]
-pub struct Span {
+pub struct RateSpan {
     pub least: u64,
     pub greatest: u64,
 }

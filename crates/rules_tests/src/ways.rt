@@ -1,7 +1,7 @@
 //! The ways in which an EDID is written.
 use crate::displays::bytes_of;
 use conversion_calls::{
-    Destination, Form, PassOnError, Passing, check_passed_on, edid_to_text, text_to_edid,
+    Destination, EdidForm, PassOnError, Passing, check_passed_on, edid_to_text, text_to_edid,
     write_address, write_passed_on,
 };
 use edid_core::AudioFrom;
@@ -89,7 +89,7 @@ pub(crate) fn address_reported(rt: &(impl Abort + AllocGlobal), words: &str) -> 
 fn passed(
     rt: &(impl Abort + AllocGlobal),
     words: &str,
-    form: Form,
+    form: EdidForm,
 ) -> (Vec<u8>, Result<(), PassOnError>) {
     let (place, rest) = words.split_once(' ').expect(rt, "a place");
     let (audio, edid) = rest.split_once(' ').expect(rt, "whose audio");
@@ -112,8 +112,8 @@ fn is_text_of(rt: &(impl Abort + AllocGlobal), text: &[u8], bytes: &[u8], digits
     let mut read = Vec::new(rt.alloc());
     let mut hex = Vec::new(rt.alloc());
     let mut again = Vec::new(rt.alloc());
-    text_to_edid(rt.alloc(), text, Form::Bytes, &mut Writes::new(&mut read)).expect(rt, "an EDID");
-    text_to_edid(rt.alloc(), text, Form::Hex, &mut Writes::new(&mut hex)).expect(rt, "an EDID");
+    text_to_edid(rt.alloc(), text, EdidForm::Bytes, &mut Writes::new(&mut read)).expect(rt, "an EDID");
+    text_to_edid(rt.alloc(), text, EdidForm::Hex, &mut Writes::new(&mut hex)).expect(rt, "an EDID");
     edid_to_text(bytes, &mut Writes::new(&mut again)).expect(rt, "an EDID");
     read.as_slice() == bytes && hex.as_slice() == digits && again.as_slice() == text
 }
@@ -126,13 +126,13 @@ fn hex_line(rt: &(impl Abort + AllocGlobal), bytes: &[u8]) -> String {
 
 /// The bytes of what is passed on in hex, where the other two forms tell the same.
 pub(crate) fn passed_reported(rt: &(impl Abort + AllocGlobal), words: &str) -> String {
-    let (bytes, done) = passed(rt, words, Form::Bytes);
+    let (bytes, done) = passed(rt, words, EdidForm::Bytes);
     if let Err(error) = done {
         return error_reported(rt, error);
     }
     let line = hex_line(rt, &bytes);
-    let (digits, _) = passed(rt, words, Form::Hex);
-    let (text, _) = passed(rt, words, Form::Text);
+    let (digits, _) = passed(rt, words, EdidForm::Hex);
+    let (text, _) = passed(rt, words, EdidForm::Text);
     if digits.as_slice() != line.as_str().as_bytes() || !is_text_of(rt, &text, &bytes, &digits) {
         return String::from_str(rt.alloc(), "forms differ").expect(rt, "a text");
     }
@@ -185,7 +185,7 @@ fn fronts(rt: &(impl Abort + AllocGlobal), room: usize) -> String {
         bytes: Vec::new(rt.alloc()),
         room,
     };
-    let on = write_passed_on(&tv, passing, Form::Bytes, &mut Writes::new(&mut passed));
+    let on = write_passed_on(&tv, passing, EdidForm::Bytes, &mut Writes::new(&mut passed));
     let mut checked = Narrow {
         bytes: Vec::new(rt.alloc()),
         room,

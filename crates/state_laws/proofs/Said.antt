@@ -13,7 +13,7 @@ use Rattle.text_core.specs.declared.kind.Kind.{Kind}
 use Rattle.text_core.specs.declared.kind.Kind.TheVariants.{Tv, Amp, Player, Recorder, Switch, Combo, Outside, OutsideTv}
 use Rattle.text_core.specs.declared.phys.Phys.{Phys}
 use Rattle.message_table.specs.DeckWords.{deck_info_byte}
-use Rattle.device_features.specs.declared.record.Note.{Note}
+use Rattle.device_features.specs.declared.record.HeardReport.{HeardReport}
 use Rattle.device_features.specs.Kinds.{is_outside}
 use Rattle.device_core.specs.State.{State, addresses_held}
 use Rattle.device_core.specs.Place.{is_on_wire}
@@ -56,7 +56,7 @@ phys_is p h =
       ),
     )
 
-note_is : (n : Note) → are_bytes (note_bytes n) ≡ true → IsTextOf note_parts (note_text n)
+note_is : (n : HeardReport) → are_bytes (note_bytes n) ≡ true → IsTextOf note_parts (note_text n)
 note_is n h =
     let opcode = first_of (nat_lt n.opcode 256) (nat_lt n.first 256 && true) h in
     let first = first_of (nat_lt n.first 256) true (second_of (nat_lt n.opcode 256) (nat_lt n.first 256 && true) h) in
@@ -113,7 +113,7 @@ maybe_number : (o : Option ℕ) → IsSmall o → IsText number_parts (dash_or d
 maybe_number None h = inr refl
 maybe_number (Some n) h = inl (number_is n h)
 
-maybe_note : (o : Option Note) → are_bytes (bytes_of note_bytes o) ≡ true → IsText note_parts (dash_or note_text o)
+maybe_note : (o : Option HeardReport) → are_bytes (bytes_of note_bytes o) ≡ true → IsText note_parts (dash_or note_text o)
 maybe_note None h = inr refl
 maybe_note (Some n) h = inl (note_is n h)
 

@@ -4,7 +4,7 @@ use Rattle.std.specs.List.{All}
 use Rattle.text_core.specs.Bytes.{are_bytes}
 use Rattle.text_core.specs.declared.phys.Phys.{Phys}
 use Rattle.message_table.specs.DeckWords.{deck_info_byte}
-use Rattle.device_features.specs.declared.record.Note.{Note}
+use Rattle.device_features.specs.declared.record.HeardReport.{HeardReport}
 use Rattle.device_core.specs.State.{State}
 use Rattle.room_trace.specs.StateText.{language_bytes, state_line}
 use Rattle.expect_text.specs.StateWords.{IsStateWord}
@@ -14,7 +14,7 @@ use Rattle.expect_text.specs.StateWords.{IsStateWord}
 abbrev pub phys_bytes : Phys → List ℕ
 phys_bytes p = p.high ∷ p.low ∷ []
 
-abbrev pub note_bytes : Note → List ℕ
+abbrev pub note_bytes : HeardReport → List ℕ
 note_bytes n = n.opcode ∷ n.first ∷ []
 
 abbrev pub bytes_of : {T : Type 0} → (T → List ℕ) → Option T → List ℕ
