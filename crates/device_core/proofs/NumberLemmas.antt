@@ -1,4 +1,4 @@
--- What a device keeps: its number, and no address before it has polled one.
+-- What a device keeps: its number, its kind, and no address before it has polled one.
 use Rattle.message_table.specs.Words.{reason_byte}
 use Rattle.message_table.specs.declared.words.Reason.TheVariants.{Unrecognized}
 use Rattle.std.proofs.Common.{◌≡◌, ℕ, ◌==◌, ◌%◌, Bool, true, false, not, ◌&&◌, ◌||◌, nat_lt, if◌then◌else◌, List, [], ◌∷◌, ◌++◌, length, Option, Some, None, refl, ap, ◌∙◌, ◌+◌}
@@ -16,7 +16,7 @@ use Rattle.device_features.specs.declared.keys.Key.{Key}
 use Rattle.device_core.specs.declared.keys.KeyError.{KeyError}
 use Rattle.device_core.specs.declared.device.SubmitError.{SubmitError}
 use Rattle.device_core.specs.State.{State, addresses_held, holds, with_queued, source, speaks, frame_of, one_more}
-use Rattle.device_features.specs.Kinds.{addresses, is_nowhere, is_switch, second_addresses, type_of}
+use Rattle.device_features.specs.Kinds.{addresses, is_nowhere, is_outside, is_switch, second_addresses, type_of}
 use Rattle.device_core.specs.Say.{say, say_all, after_effect}
 use Rattle.device_features.specs.declared.say.Say.{Say}
 use Rattle.device_features.specs.declared.say.Say.TheVariants.{Reply, Cast, Report, Refuse}
@@ -25,8 +25,12 @@ use Rattle.device_core.specs.Effects.{by_decoded, after_frame, is_for}
 use Rattle.device_features.specs.Effects.{effect_of, refuses, heard_of}
 use Rattle.device_core.specs.Keys.{own_doing, keyed_by, key_fault}
 use Rattle.device_features.specs.Keys.{pressing, releasing}
-use Rattle.device_core.specs.Place.{tries, unregistered, start_place, fresh, with_reports, reported_by, reported_from, after_joining, place_after_fate, polled_at, class_of_poll, after_front, after_failure, front_is_poll, frame_sent, sent_by, submitted_by, submit_fault}
-use Rattle.device_core.specs.Clean.{HoldsNothingYet, KeepsNumber}
+use Rattle.device_core.specs.Place.{tries, unregistered, start_place, fresh, with_reports, reported_by, reported_from, after_joining, place_after_fate, polled_at, class_of_poll, after_front, after_failure, front_is_poll, frame_sent, sent_by, submitted_by, submit_fault, is_off}
+use Rattle.device_core.specs.declared.outside.Act.{Act}
+use Rattle.device_core.specs.declared.outside.Act.TheVariants.{Hold, Empty}
+use Rattle.device_core.specs.declared.keys.KeyError.TheVariants.{NotForKind, OffWire}
+use Rattle.device_core.specs.Outside.{after_act, acted_by}
+use Rattle.device_core.specs.Clean.{HoldsNothingYet, KeepsKind, KeepsNumber}
 use Rattle.device_core.proofs.OnceLemmas.{reported-place, fifteen, tries-holds}
 
 -- ---- no address before a poll
@@ -170,4 +174,23 @@ numbers_stay = record {
   submitting = λ limit at frame d. (submitted-same d frame at (submit_fault limit d frame)).0;
   following = λ limit at frame d. (followed-same limit at frame d).0;
   keying = λ limit at key press d. (keyed-same limit at key press d (key_fault d key)).0;
+}
+
+acted-kind : (d : State) (act : Act) → (after_act d act).kind ≡ d.kind
+acted-kind d act = by (is_off d.place) (is_outside d.kind) act
+  where
+    by : (off outside : Bool) (act : Act) → (acted_by d (if off then Some OffWire else (if outside then None else Some NotForKind)) act).kind ≡ d.kind
+    by true outside act = refl
+    by false false act = refl
+    by false true (Hold first second) = refl
+    by false true Empty = refl
+
+pub kinds_stay : KeepsKind
+kinds_stay = record {
+  joining = λ limit number at phys d. (joined-same limit number at phys d).1;
+  reporting = λ limit at fate d. (sent-same limit at fate d (polled_at d.place)).1;
+  submitting = λ limit at frame d. (submitted-same d frame at (submit_fault limit d frame)).1;
+  following = λ limit at frame d. (followed-same limit at frame d).1;
+  keying = λ limit at key press d. (keyed-same limit at key press d (key_fault d key)).1;
+  acting = acted-kind;
 }

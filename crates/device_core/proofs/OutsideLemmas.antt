@@ -51,15 +51,6 @@ number d act = by (is_off d.place) (is_outside d.kind) act
     by false true (Hold first second) = refl
     by false true Empty = refl
 
-pub acted-kind : (d : State) (act : Act) → (after_act d act).kind ≡ d.kind
-acted-kind d act = by (is_off d.place) (is_outside d.kind) act
-  where
-    by : (off outside : Bool) (act : Act) → (acted_by d (if off then Some OffWire else (if outside then None else Some NotForKind)) act).kind ≡ d.kind
-    by true outside act = refl
-    by false false act = refl
-    by false true (Hold first second) = refl
-    by false true Empty = refl
-
 wire : (d : State) (act : Act) → is_on_wire (after_act d act) ≡ is_on_wire d
 wire d act = by (is_off d.place) (is_outside d.kind) act refl
   where

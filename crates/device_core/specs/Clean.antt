@@ -10,6 +10,8 @@ use Rattle.device_core.specs.declared.device.Queued.{Queued}
 use Rattle.device_core.specs.State.{State, holds}
 use Rattle.device_core.specs.Place.{after_sending, polled_at, after_waiting, after_joining, after_leaving, after_submission, front_of}
 use Rattle.device_core.specs.Effects.{after_frame}
+use Rattle.device_core.specs.declared.outside.Act.{Act}
+use Rattle.device_core.specs.Outside.{after_act}
 use Rattle.device_features.specs.declared.keys.Key.{Key}
 use Rattle.device_features.specs.Kinds.{is_outside}
 use Rattle.device_core.specs.Keys.{after_key}
@@ -63,3 +65,12 @@ pub record KeepsNumber : Type 0 where
   pub submitting : (limit at : ℕ) (frame : List ℕ) (d : State) → (after_submission limit d frame at).number ≡ d.number
   pub following : (limit at : ℕ) (frame : List ℕ) (d : State) → (after_frame limit d frame at).number ≡ d.number
   pub keying : (limit at : ℕ) (key : Key) (press : Bool) (d : State) → (after_key limit d key press at).number ≡ d.number
+
+-- A device stays of its kind, whatever it does and is told.
+pub record KeepsKind : Type 0 where
+  pub joining : (limit number at : ℕ) (phys : Phys) (d : State) → (after_joining limit d number phys at).kind ≡ d.kind
+  pub reporting : (limit at : ℕ) (fate : Fate) (d : State) → (after_sending limit d fate at).kind ≡ d.kind
+  pub submitting : (limit at : ℕ) (frame : List ℕ) (d : State) → (after_submission limit d frame at).kind ≡ d.kind
+  pub following : (limit at : ℕ) (frame : List ℕ) (d : State) → (after_frame limit d frame at).kind ≡ d.kind
+  pub keying : (limit at : ℕ) (key : Key) (press : Bool) (d : State) → (after_key limit d key press at).kind ≡ d.kind
+  pub acting : (d : State) (act : Act) → (after_act d act).kind ≡ d.kind

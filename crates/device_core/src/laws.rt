@@ -1,7 +1,8 @@
-//! Why no address is held twice.
+//! What a device keeps and does by itself, and why no address is held twice.
 ghost use Rattle.device_core.specs.Once.{AddressesAreFound, FatesKeepOnce};
-ghost use Rattle.device_core.specs.Clean.{HoldsNothingYet, KeepsClean, KeepsNumber, KeepsPlace};
+ghost use Rattle.device_core.specs.Clean.{HoldsNothingYet, KeepsClean, KeepsKind, KeepsNumber, KeepsPlace};
 ghost use Rattle.device_core.specs.Listed.{HoldsListed};
+ghost use Rattle.device_core.specs.Outside.{OnlyOutside};
 ghost use Rattle.device_core.specs.PlaceLaw.{PlaceGoesByFates};
 
 /// The fates of a round keep each address below 15 with one holder.
@@ -42,4 +43,14 @@ pub fn joining_holds_nothing()
 /// A device keeps its number from when it joins until it leaves.
 pub fn numbers_stay()
     ensures { KeepsNumber }
+{}
+
+/// A device stays of its kind, whatever it does and is told.
+pub fn kinds_stay()
+    ensures { KeepsKind }
+{}
+
+/// A device from outside holds and sends what it is told, and does nothing by itself.
+pub fn only_outside()
+    ensures { OnlyOutside }
 {}

@@ -15,8 +15,8 @@ pub use device_features::{Key, HeardReport, Port, Record, Volume, VolumeKey};
 pub use free_time::FreeTime;
 pub use keys::KeyError;
 pub use laws::{
-    addresses_are_found, addresses_are_listed, fates_keep_once, joining_holds_nothing,
-    numbers_stay, only_polls_move, place_goes_by_fates, queues_go_elsewhere,
+    addresses_are_found, addresses_are_listed, fates_keep_once, joining_holds_nothing, kinds_stay,
+    numbers_stay, only_outside, only_polls_move, place_goes_by_fates, queues_go_elsewhere,
 };
 pub use line_frames::Fate;
-pub use outside::{Act, only_outside};
+pub use outside::Act;

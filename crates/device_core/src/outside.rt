@@ -1,6 +1,6 @@
 //! What a device from outside is told.
 ghost use Rattle.std.specs.Prelude.{◌≡◌, Some, None, MatchResult};
-ghost use Rattle.device_core.specs.Outside.{act_fault, after_act, acted_by, class_after_drop, OnlyOutside};
+ghost use Rattle.device_core.specs.Outside.{act_fault, after_act, acted_by, class_after_drop};
 
 use crate::device::Device;
 use crate::free_time::FreeTime;
@@ -58,8 +58,3 @@ impl<const Q: usize> Device<Q> {
         Ok(())
     }
 }
-
-/// A device from outside holds and sends what it is told, and does nothing by itself.
-pub fn only_outside()
-    ensures { OnlyOutside }
-{}

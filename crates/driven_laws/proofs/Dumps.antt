@@ -33,7 +33,7 @@ use Rattle.room_run.proofs.OneRun.{runs_close_soon, texts_have_one_run}
 use Rattle.room_run.proofs.WholeLine.{lines_are_of_the_rounds}
 use Rattle.room_driven.specs.Driven.{Drives, IsDrivenBy}
 use Rattle.room_driven.specs.Emulate.{IsDrivesOf}
-use Rattle.room_driven.proofs.Counts.{count_started}
+use Rattle.room_net.proofs.Kept.{started_count}
 use Rattle.room_driven.proofs.HasDrives.{runs_have_drives}
 use Rattle.capture_laws.proofs.Formats.{is_capture, lines_are_read_back}
 use Rattle.capture_laws.proofs.ReadBack.{over_by_script, same_line}
@@ -55,7 +55,7 @@ stands_started tree pulses order = record {
   later = λ k p l. omega arith;
   rested = omega arith;
   closed = omega arith;
-  seats = count_started tree pulses;
+  seats = started_count tree pulses;
 }
 
 -- where its dump ends

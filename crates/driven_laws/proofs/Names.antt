@@ -30,14 +30,15 @@ use Rattle.room_net.specs.State.{each_from, loose, after_move, moved_by, first_n
 use Rattle.room_driven.specs.Driven.{names_of}
 use Rattle.wires_laws.specs.Dumps.{is_word}
 use Rattle.driven_laws.specs.Dumps.{names_in}
+use Rattle.driven_laws.specs.Names.{MovesKeepNames, NamesAreWords, NamesStart, QueueingKeepsNames, ReportsKeepNames}
 
 -- ---- a device keeps its name
 
-pub two : (t : Bool) (x y : State) (name : List ℕ) → x.name ≡ name → y.name ≡ name → (if t then x else y).name ≡ name
+two : (t : Bool) (x y : State) (name : List ℕ) → x.name ≡ name → y.name ≡ name → (if t then x else y).name ≡ name
 two true x y name h k = h
 two false x y name h k = k
 
-pub name-queued : (limit at from to : ℕ) (bytes : List ℕ) (d : State) → (with_queued limit at from to bytes d).name ≡ d.name
+pub name-queued : QueueingKeepsNames
 name-queued limit at from to bytes d =
     two (not (speaks d) || holds d.place to) d
     (if nat_lt (length d.queue) limit then record d { queue = d.queue ++ record { frame = frame_of from to bytes; ready = at } ∷ [] } else record d { dropped = one_more d.dropped }) d.name refl
@@ -49,7 +50,7 @@ name-reported_from limit at (Some from) d =
     two (nat_lt from 15 || is_switch d.kind) (with_queued limit at from 15 (0x84 ∷ d.phys.high ∷ d.phys.low ∷ type_of d.kind from ∷ []) d) d d.name
     (name-queued limit at from 15 (0x84 ∷ d.phys.high ∷ d.phys.low ∷ type_of d.kind from ∷ []) d) refl
 
-pub name-reported_by : (limit at : ℕ) (units : List (Option ℕ)) (d : State) → (reported_by limit at units d).name ≡ d.name
+pub name-reported_by : ReportsKeepNames
 name-reported_by limit at [] d = refl
 name-reported_by limit at (unit ∷ units) d = name-reported_by limit at units (reported_from limit at unit d) ∙ name-reported_from limit at unit d
 
@@ -69,7 +70,7 @@ name-moved at number false None d = refl
 name-moved at number true (Some address) d = refl
 name-moved at number true None d = refl
 
-pub names-each : (n at : ℕ) (tree : List Node) (ds : List State) → names_of (each_from n (moved_by at tree) ds) ≡ names_of ds
+pub names-each : MovesKeepNames
 names-each n at tree [] = refl
 names-each n at tree (d ∷ ds) = ap₂ (λ x xs. x ∷ xs) (name-moved at n (is_on_wire d) (address_of tree n) d) (names-each (n + 1) at tree ds)
 
@@ -77,7 +78,7 @@ names-loose : (tree : List Node) → names_of (loose tree) ≡ names_in tree
 names-loose [] = refl
 names-loose (node ∷ tree) = ap (λ xs. node.name ∷ xs) (names-loose tree)
 
-pub names_started : (tree : List Node) (pulses : List Stretch) → names_of (first_net tree pulses).devices ≡ names_in tree
+pub names_started : NamesStart
 names_started tree pulses = names-each 0 0 tree (loose tree) ∙ names-loose tree
 
 -- ---- a name is one word
@@ -229,7 +230,7 @@ named_lines (line ∷ lines) number plan end h e =
       | Err fault ↦ λ k e. (cc)
     ] (keeps_line plan line h) e
 
-pub names_are_words : (topology : List ℕ) (plan : Plan) → topology_of topology ≡ Ok plan → All (λ name. is_word name ≡ true) (names_in plan.tree)
+pub names_are_words : NamesAreWords
 names_are_words topology plan h = words plan.tree (named_lines (lines_of topology) 1 (record { tree = []; edid = None }) plan (All-nil (λ (n : Node). is_name n.name ≡ true)) h)
   where
     words : (tree : List Node) → AreNamed tree → All (λ name. is_word name ≡ true) (names_in tree)

@@ -20,10 +20,9 @@ use Rattle.room_net.specs.State.{NetState, next_start}
 use Rattle.room_net.specs.Apply.{net_after}
 use Rattle.room_net.specs.Step.{after_round, seats_of}
 use Rattle.room_net.specs.Framed.{AreFramed}
-use Rattle.room_net.proofs.Each.{length-each_from}
 use Rattle.room_net.proofs.Framed.{framed-applied, framed-round, seats_fit}
-use Rattle.room_net.proofs.Lines.{begun, kept}
-use Rattle.room_net.proofs.Progress.{led}
+use Rattle.room_net.proofs.Kept.{event_keeps, round_count}
+use Rattle.room_net.proofs.Lines.{begun, least_led}
 use Rattle.room_script.specs.Script.{AreFramedEvents}
 use Rattle.room_script.specs.declared.script.TimedEvent.{TimedEvent}
 use Rattle.capture_forms.specs.declared.form.CaptureForm.TheVariants.{Vcd}
@@ -34,7 +33,6 @@ use Rattle.room_run.specs.declared.run.Totals.{Totals}
 use Rattle.room_run.specs.Run.{Config, turn_at, first_time, IsEventTurn, IsRoundTurn}
 use Rattle.room_run.proofs.Advance.{round_begins}
 use Rattle.room_driven.specs.Driven.{Drives, IsDrivenBy}
-use Rattle.room_driven.proofs.Counts.{count_applied}
 use Rattle.driven_laws.specs.Rounds.{IsRuled, Laid, drives, pulls, rounds_by, rounds_in}
 
 -- ---- where a run stands
@@ -50,14 +48,14 @@ pub record Stands (count from : ℕ) (s : NetState) : Type 0 where
 
 stands_applied : (count from at : ℕ) (e : TimedEvent) (events : List TimedEvent) (s : NetState) → AreFramedEvents (e ∷ events) → Stands count from s → Stands count from (net_after at e.event s)
 stands_applied count from at e events s framed h =
-    let k = kept at e.event s in
+    let k = event_keeps at e.event s (net_after at e.event s) refl in
     record {
       order = subst IsWave (sym k.pulses) h.order;
       framed = framed-applied at e.event s framed.0 h.framed;
       later = subst (λ (ps : List Stretch). All (λ p. from ≤ p.from) ps) (sym k.pulses) h.later;
       rested = omega (arith, k.rest, h.rested);
       closed = omega (arith, k.rest, k.close, h.closed);
-      seats = count_applied at e.event s (net_after at e.event s) refl ∙ h.seats;
+      seats = k.devices ∙ h.seats;
     }
 
 stands_event : (count from at : ℕ) (events : List TimedEvent) (c d : Config) (line : List ℕ) → IsEventTurn (Line Vcd) at events c line d → c.events ≡ events
@@ -74,7 +72,7 @@ from_next : (from begin : ℕ) (s : NetState) → All (λ p. from ≤ p.from) s.
 from_next from begin s later rested next = by_cause (least_start s.rest s.devices) s.pulses refl later next
   where
     device : (t : ℕ) → least_start s.rest s.devices ≡ Some t → from ≤ t
-    device t e = let l = led s.rest t s.devices e in omega (arith, l.late, rested)
+    device t e = let l = least_led s.rest t s.devices e in omega (arith, l.late, rested)
 
     by_cause : (least : Option ℕ) (ps : List Stretch) → least_start s.rest s.devices ≡ least → All (λ p. from ≤ p.from) ps → sooner least (first_onset ps) ≡ Some begin → from ≤ begin
     by_cause None [] a h k = cc
@@ -112,7 +110,7 @@ stands_round count from begin s o h = record {
   later = later_than o.rest s.pulses;
   rested = omega arith;
   closed = rests o;
-  seats = length-each_from 0 _ s.devices ∙ h.seats;
+  seats = round_count s begin o ∙ h.seats;
 }
   where
     rests : (o : Outcome) → o.rest ≤ close_in o

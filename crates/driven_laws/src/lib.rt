@@ -4,6 +4,6 @@
 mod laws;
 
 pub use laws::{
-    dumps_are_read_as_lines, dumps_report_drives, rounds_are_ruled, rounds_are_the_traces,
-    texts_have_drives,
+    dumps_are_read_as_lines, dumps_report_drives, names_are_the_topologys, names_stay,
+    rounds_are_ruled, rounds_are_the_traces, texts_have_drives,
 };

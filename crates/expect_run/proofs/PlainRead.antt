@@ -14,9 +14,10 @@ use Rattle.room_script.specs.declared.script.ScriptCause.TheVariants.{End}
 use Rattle.room_script.specs.declared.script.ScriptError.TheVariants as errors
 use Rattle.room_script.specs.declared.script.ScriptLineError.{ScriptLineError}
 use Rattle.room_script.specs.declared.script.ScriptLineError.TheVariants.{Fault, Memory}
-use Rattle.room_script.proofs.Adding.{AreFew, few_pulses}
+use Rattle.room_script.specs.Lines.{AreFew, AreSound}
+use Rattle.room_script.proofs.Adding.{few_pulses}
 use Rattle.room_script.proofs.Reading.{last_line}
-use Rattle.room_script.proofs.Sound.{AreSound, sound_start}
+use Rattle.room_script.proofs.Sound.{sound_start}
 use Rattle.expect_text.specs.Line.{after_name, is_expectation, plain_part, plain_script, unlabelled_words}
 use Rattle.expect_run.proofs.EachLine.{Lacking, lines_each}
 

@@ -18,7 +18,7 @@ use Rattle.room_script.specs.declared.script.TimedEvent.{TimedEvent}
 use Rattle.room_event.specs.declared.event.EventError.{EventError}
 use Rattle.room_net.specs.State.{NetState}
 use Rattle.room_run.proofs.Ports.{event_ports}
-use Rattle.room_run.proofs.Whole.{IsTold}
+use Rattle.room_run.specs.Turns.{IsTold}
 use Rattle.room_run.specs.Happening.{IsApplied}
 use Rattle.room_run.specs.Run.{event_text}
 use Rattle.room_run.specs.declared.run.Totals.{Totals}

@@ -5,14 +5,13 @@ use Rattle.std.proofs.lemmas.List.Elements.{All-cons, All-nil, All-weaker, filte
 use Rattle.std.specs.List.{All}
 use Rattle.line_wave.specs.declared.Stretch.{Stretch}
 use Rattle.line_wave.specs.Bounds.{latest_event}
-use Rattle.room_script.specs.Topology.{Plan}
+use Rattle.room_script.specs.Topology.{Plan, topology_of}
 use Rattle.room_script.specs.Script.{Course, IsSchedule, IsScriptRead, ScriptFault, pulses_ended}
 use Rattle.room_script.specs.declared.script.TimedEvent.{TimedEvent}
 use Rattle.room_script.proofs.OneReading.{one_script}
 use Rattle.room_script.proofs.Sound.{scripts_are_sound}
 use Rattle.room_run.specs.declared.run.Totals.{Totals}
 use Rattle.room_run.specs.Emulate.{IsTraceOf}
-use Rattle.room_run.proofs.Accepted.{one_plan}
 use Rattle.room_run.specs.Causal.{AgreeBefore}
 use Rattle.room_run.proofs.Causality.{traces_are_causal}
 use Rattle.expect_text.specs.Line.{cut_script}
@@ -110,9 +109,12 @@ until_low time (Some from) = omega arith
 same_course : (a b : Course) → ◌≡◌ {A = Result Course ScriptFault} (Ok a) (Ok b) → a ≡ b
 same_course a b e = cc
 
+same_ok : {F : Type 0} (p q : Plan) (r : Result Plan F) → r ≡ Ok p → r ≡ Ok q → q ≡ p
+same_ok p q r a b = cc
+
 -- the texts of the cut script spell the same topology, and the course that ends at the time
 same_plan : (topology script other x y : List ℕ) (s t : Totals) → (p : IsTraceOf topology script x s) → (q : IsTraceOf topology other y t) → q.plan ≡ p.plan
-same_plan topology script other x y s t p q = one_plan topology p.plan q.plan p.accepted.plan_is q.accepted.plan_is
+same_plan topology script other x y s t p q = same_ok p.plan q.plan (topology_of topology) p.accepted.plan_is q.accepted.plan_is
 
 cut_is : (topology script x y : List ℕ) (s t : Totals) (time : ℕ) → time ≤ latest_event → (p : IsTraceOf topology script x s) → (q : IsTraceOf topology (cut_script time script) y t)
     → IsCut time p.course q.course

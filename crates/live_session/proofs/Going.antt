@@ -17,7 +17,6 @@ use Rattle.room_run.specs.declared.run.Turn.TheVariants.{Stop, Apply, Round}
 use Rattle.room_run.specs.Run.{Config, turn_at, turn_of, first_time}
 use Rattle.room_run.specs.Happening.{Happening, Happens, HappensBy, text_of}
 use Rattle.room_run.specs.Heard.{Hears}
-use Rattle.room_run.proofs.Running.{hears_more}
 use Rattle.room_run.proofs.Whole.{heard_text, trace_by}
 use Rattle.room_run.specs.Certain.{LeadsIf, IsHeldBy}
 use Rattle.live_session.specs.declared.edges.InstantRange.{InstantRange}
@@ -101,6 +100,10 @@ goes_more : (Holds : Turn → Config → Type 0) (until : ℕ) (xs : List Happen
 goes_more Holds until [] c mid d x goes turn holds =
     (d, subst (λ (e : Config). Happens until e x d) goes turn, subst (λ (e : Config). Holds (turn_at until e) d) goes holds, refl)
 goes_more Holds until (y ∷ ys) c mid d x (first, step, held, goes) turn holds = (first, step, held, goes_more Holds until ys first mid d x goes turn holds)
+
+hears_more : {R : Type 0} (hears : R → Happening → R → Type 0) (xs : List Happening) (r m s : R) (x : Happening) → Hears hears r xs m → hears m x s → Hears hears r (xs ++ x ∷ []) s
+hears_more hears [] r m s x heard next = (s, subst (λ k. hears k x s) heard next, refl)
+hears_more hears (y ∷ ys) r m s x (first, step, heard) next = (first, step, hears_more hears ys first m s x heard next)
 
 -- one turn more
 pub reached_more : {R : Type 0} (hears : R → Happening → R → Type 0) (ended : Bool) (until : ℕ) (c d e : Config) (old mid new : R) (x : Happening) → Reached hears ended until c d old mid

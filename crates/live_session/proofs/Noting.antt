@@ -7,7 +7,8 @@ use Rattle.room_net.specs.State.{NetState}
 use Rattle.room_script.specs.Script.{Notes, IsLineRead}
 use Rattle.room_script.specs.declared.script.TimedEvent.{TimedEvent}
 use Rattle.room_script.specs.declared.fault.ScriptLineFault.{ScriptLineFault}
-use Rattle.room_script.proofs.Sound.{AreSound, line-keeps}
+use Rattle.room_script.specs.Lines.{AreSound}
+use Rattle.room_script.proofs.Sound.{line-keeps}
 use Rattle.room_run.specs.Certain.{with_pulses}
 use Rattle.live_session.specs.declared.answer.RefusalCause.TheVariants.{Past}
 use Rattle.live_session.specs.declared.live.Step.TheVariants.{Go, Finish}

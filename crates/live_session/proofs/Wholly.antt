@@ -11,8 +11,10 @@ use Rattle.room_net.specs.State.{first_net}
 use Rattle.room_script.specs.Script.{Notes, IsLineRead}
 use Rattle.room_script.specs.declared.script.TimedEvent.{TimedEvent}
 use Rattle.room_script.specs.declared.fault.ScriptLineFault.{ScriptLineFault}
-pub use Rattle.room_script.proofs.Sound.{AreSound, line-keeps, sound_start}
+pub use Rattle.room_script.specs.Lines.{AreSound}
+use Rattle.room_script.proofs.Sound.{line-keeps, sound_start}
 use Rattle.room_run.specs.declared.run.Reporting.TheVariants.{Trace}
+use Rattle.room_run.specs.declared.run.Reporting.{Reporting}
 use Rattle.room_run.specs.declared.run.Turn.{Turn}
 use Rattle.room_run.specs.Run.{Config, start, start_reported, end_reported, Leads, IsRunText, IsRunTextFrom}
 use Rattle.room_run.specs.Certain.{ComesFrom, LeadsIf, LeadsBy, with_more}
@@ -26,12 +28,21 @@ use Rattle.live_session.specs.Turns.{IsReported, Goes, GoesWith, MayCome, certai
 use Rattle.live_session.specs.Command.{command_of}
 use Rattle.live_session.specs.Session.{Session, Standing, first_session, refuse, with_line_counted, standing, with_standing, standing_with, step_noted, step_by, step_to, after_to, step_wait, after_wait, step_show, span_of, is_late, is_past, refuses_pulse, rises_before, is_given_before, horizon_by, new_events, new_pulses, IsEdgeStep, IsEdgeStepBy, IsStepBy, IsDue, SessionGoes}
 use Rattle.live_session.specs.Whole.{reported_of, AreLines, SessionsReportFronts, SessionsReportTraces}
-use Rattle.live_session.proofs.Below.{all_on, framed-started, reported_is_front, turns_stay_certain}
+use Rattle.live_session.proofs.Below.{framed-started, reported_is_front, turns_stay_certain}
 use Rattle.live_session.proofs.Extends.{line_extends}
 use Rattle.live_session.proofs.Going.{goes_of}
 use Rattle.live_session.proofs.Noting.{taken, drop_all}
 
 -- ---- while a session goes on
+
+-- some, and others after them
+all_on : (Holds : Turn → Config → Type 0) (reporting : Reporting) (until n m : ℕ) (c mid d : Config) (text more : List ℕ) → LeadsIf Holds reporting until n c text mid
+    → LeadsIf Holds reporting until m mid more d → (turns : ℕ) × LeadsIf Holds reporting until turns c (text ++ more) d
+all_on Holds reporting until zero m c mid d text more l k =
+    (m, subst (λ t. LeadsIf Holds reporting until m c t d) (ap (λ t. t ++ more) (sym l.0)) (subst (λ x. LeadsIf Holds reporting until m x more d) l.1 k))
+all_on Holds reporting until (suc n) m c mid d text more (first, head, rest, turn, over, after, e) k =
+    let go = all_on Holds reporting until n m first mid d rest more after k in
+    (suc go.0, (first, head, rest ++ more, turn, over, go.1, ap (λ t. t ++ more) e ∙ append_assoc head rest more))
 
 pub record SoFar (edid : Option Edid) (tree : List Node) (s : Session) (reported : List ℕ) : Type 0 where
   pub edid_is : s.edid ≡ edid

@@ -15,7 +15,7 @@ use Rattle.room_run.specs.declared.run.Turn.{Turn}
 use Rattle.room_run.specs.declared.run.Turn.TheVariants.{Stop, Apply, Round}
 use Rattle.room_run.specs.Run.{Config, start, turn_at, IsTurnBy, Leads, IsRunTextFrom}
 use Rattle.room_run.proofs.HasRun.{runs_have_texts}
-use Rattle.room_driven.specs.Driven.{names_of, round_drives, IsDrivenBy, Drives, IsDriven, IsDrivenFrom}
+use Rattle.room_driven.specs.Driven.{names_of, round_drives, IsDrivenBy, Drives, IsDriven, IsDrivenFrom, RunsHaveDrives}
 
 driven_by : (turn : Turn) (c d : Config) (line : List ℕ) → IsTurnBy (Line Vcd) turn c line d → (text : List ℕ) × IsDrivenBy turn c line text d
 driven_by Stop c d line t = absurd t
@@ -45,8 +45,7 @@ driven_from end c line totals w =
       },
     )
 
-pub runs_have_drives : (tree : List Node) (pulses : List Stretch) (events : List TimedEvent) (end : ℕ) → IsWave pulses
-    → (text : List ℕ) × (totals : Totals) × IsDriven end (start (first_net tree pulses) events) text totals
+pub runs_have_drives : RunsHaveDrives
 runs_have_drives tree pulses events end order =
     let line = runs_have_texts (Line Vcd) tree pulses events end order in
     let c = start (first_net tree pulses) events in

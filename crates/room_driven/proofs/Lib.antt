@@ -1,4 +1,5 @@
 pub mod Counts
+pub mod Written
 pub mod Turns
 pub mod Running
 pub mod HasDrives

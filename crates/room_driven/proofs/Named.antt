@@ -19,7 +19,7 @@ use Rattle.room_run.specs.declared.run.Turn.{Turn}
 use Rattle.room_run.specs.declared.run.Turn.TheVariants.{Stop, Apply, Round}
 use Rattle.room_run.specs.Run.{Config, start, turn_at, turn_of, first_time, round_turn, counted_round, IsEventTurn}
 use Rattle.room_run.specs.Happening.{Happening, OfEvent, OfRound, HappensBy, Happens, Goes, after_event}
-use Rattle.room_run.proofs.Whole.{IsTold}
+use Rattle.room_run.specs.Turns.{IsTold}
 use Rattle.room_driven.specs.Driven.{names_of, drives_of_turn, Drives, IsDriven, IsDrivenBy}
 use Rattle.room_driven.specs.Named.{IsDump, IsNamed, head_of, wires_of_turn}
 use Rattle.room_driven.specs.declared.wires.Wires.{Wires}

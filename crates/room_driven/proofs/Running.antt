@@ -11,7 +11,7 @@ use Rattle.room_run.specs.declared.run.Turn.{Turn}
 use Rattle.room_run.specs.declared.run.Turn.TheVariants.{Stop, Apply, Round}
 use Rattle.room_run.specs.Run.{Config, turn_at, IsEventTurn}
 use Rattle.room_run.specs.Happening.{Happening, HappensBy, Goes, line_of_turn}
-use Rattle.room_run.proofs.Whole.{IsTold}
+use Rattle.room_run.specs.Turns.{IsTold}
 use Rattle.room_driven.specs.Driven.{names_of, drives_of_turn, IsDrivenBy, Drives, IsDriven}
 use Rattle.room_driven.proofs.Turns.{front_of_text, whole_text}
 

@@ -2,12 +2,14 @@
 -- (IEEE 1364-2005, 18).
 use Rattle.std.specs.Prelude.{◌≡◌, ℕ, zero, suc, ◌+◌, ◌-◌, max, List, [], ◌∷◌, ◌++◌, map}
 use Rattle.line_wave.specs.declared.Stretch.{Stretch}
+use Rattle.line_wave.specs.Line.{IsWave}
 use Rattle.line_rounds.specs.declared.Seat.{Seat}
 use Rattle.line_rounds.specs.declared.Outcome.{Outcome}
 use Rattle.capture_wires.specs.Wires.{head, wires_text}
 use Rattle.room_drives.specs.Stretches.{drives_of}
 use Rattle.device_core.specs.State.{State}
-use Rattle.room_net.specs.State.{NetState}
+use Rattle.edid_tree.specs.Node.{Node}
+use Rattle.room_net.specs.State.{NetState, first_net}
 use Rattle.room_net.specs.Step.{seats_of}
 use Rattle.capture_vcd.specs.Text.{last}
 use Rattle.capture_forms.specs.declared.form.CaptureForm.TheVariants.{Vcd}
@@ -15,7 +17,8 @@ use Rattle.room_run.specs.declared.run.Reporting.TheVariants.{Line}
 use Rattle.room_run.specs.declared.run.Totals.{Totals}
 use Rattle.room_run.specs.declared.run.Turn.{Turn}
 use Rattle.room_run.specs.declared.run.Turn.TheVariants.{Stop, Apply, Round}
-use Rattle.room_run.specs.Run.{Config, turn_at, IsEventTurn, IsRoundTurn}
+use Rattle.room_script.specs.declared.script.TimedEvent.{TimedEvent}
+use Rattle.room_run.specs.Run.{Config, start, turn_at, IsEventTurn, IsRoundTurn}
 use Rattle.room_run.specs.Happening.{Happening, OfEvent, OfRound}
 
 -- the names of the devices' wires
@@ -61,6 +64,11 @@ pub record IsDriven (end : ℕ) (c : Config) (text : List ℕ) (totals : Totals)
   pub rest : List ℕ
   pub run : IsDrivenFrom end c rest totals
   pub whole : text ≡ head (names_of c.net.devices) ++ rest
+
+-- each run has such a text
+abbrev pub RunsHaveDrives : Type 0
+RunsHaveDrives = (tree : List Node) (pulses : List Stretch) (events : List TimedEvent) (end : ℕ) → IsWave pulses
+    → (text : List ℕ) × (totals : Totals) × IsDriven end (start (first_net tree pulses) events) text totals
 
 -- ---- what hears of a run
 

@@ -4,9 +4,11 @@
 mod drives_text;
 mod emulate;
 mod head;
+mod laws;
 mod round;
 mod run;
 mod wires;
 
 pub use emulate::emulate_drives;
+pub use laws::runs_have_drives;
 pub use wires::Wires;

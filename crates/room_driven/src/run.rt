@@ -55,7 +55,7 @@ fn write_drives<S: Sink, W: Wire>(
 /// # Errors
 ///
 /// A `put` took none. Its count, which stays at its greatest value, says how much of the text was written.
-#[tactic(auto, using(room_run::proofs::Whole::written_ok, room_run::proofs::Whole::written_same, room_run::proofs::Whole::written_stuck))]
+#[tactic(auto, using(crate::proofs::Written::written_ok, crate::proofs::Written::written_same, crate::proofs::Written::written_stuck))]
 pub fn run<S: Sink, W: Wire>(
     out: &mut S,
     wires: Wires,

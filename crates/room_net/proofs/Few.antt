@@ -1,5 +1,5 @@
 -- Each round begins well after the one before, or takes a pulse.
-use Rattle.std.proofs.Common.{◌≡◌, ℕ, nat_lt, List, [], ◌∷◌, length, inl, inr, sym, ap, subst, arith}
+use Rattle.std.proofs.Common.{◌≡◌, ℕ, nat_lt, List, [], ◌∷◌, length, inl, inr, refl, sym, ap, subst, arith}
 use Rattle.std.specs.List.{filter}
 use Rattle.std.proofs.lemmas.List.Elements.{filter_passes}
 use Rattle.std.proofs.lemmas.Bool.Decides.{nat_tests}
@@ -11,12 +11,14 @@ use Rattle.room_net.specs.Apply.{net_after}
 use Rattle.room_net.specs.Step.{after_round}
 use Rattle.room_net.specs.Line.{Happens, Goes}
 use Rattle.room_net.specs.Few.{RunsAreShort}
-use Rattle.room_net.proofs.Lines.{kept, wave_kept}
-use Rattle.room_net.proofs.Progress.{ComeLater, going}
+use Rattle.room_net.proofs.Kept.{event_keeps}
+use Rattle.room_net.proofs.Lines.{wave_kept}
+use Rattle.room_net.specs.Progress.{ComeLater}
+use Rattle.room_net.proofs.Progress.{going}
 
 later_kept : (at : ℕ) (event : Event) (s : NetState) → ComeLater s.rest s.pulses → ComeLater (net_after at event s).rest (net_after at event s).pulses
 later_kept at event s h =
-    let k = kept at event s in
+    let k = event_keeps at event s (net_after at event s) refl in
     let rested : ComeLater (net_after at event s).rest s.pulses = subst (λ rest. ComeLater rest s.pulses) (sym k.rest) h in
     subst (λ (ps : List Stretch). ComeLater (net_after at event s).rest ps) (sym k.pulses) rested
 
@@ -27,7 +29,7 @@ later_after rest pulses k p l = (let e = filter_passes (λ (q : Stretch). nat_lt
 pub runs_are_short : RunsAreShort
 runs_are_short s t [] end wave later m b = omega arith
 runs_are_short s t (Happens at event ∷ ms) end wave later m b =
-    let k = kept at event s in
+    let k = event_keeps at event s (net_after at event s) refl in
     let left : length (net_after at event s).pulses ≡ length s.pulses = ap length k.pulses in
     let rest : (net_after at event s).rest ≡ s.rest = k.rest in
     let more = runs_are_short (net_after at event s) t ms end (wave_kept at event s wave) (later_kept at event s later) m.1 b in

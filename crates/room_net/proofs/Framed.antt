@@ -47,6 +47,7 @@ use Rattle.room_net.specs.Apply.{net_after, applied_unless, event_fault, changed
 use Rattle.room_net.specs.Step.{sent_in, seat_of, seats_of, is_among, followed_unless, followed_in, after_fate, device_after, is_sent, after_round}
 use Rattle.room_event.specs.Events.{IsFramedEvent}
 use Rattle.room_net.specs.Framed.{HasBlock, IsFramed, AreFramed}
+use Rattle.room_net.specs.Kept.{EventsKeepFramed, FramedSeatsFit, RoundsKeepFramed, StartsAreFramed}
 
 -- ---- a device
 
@@ -188,7 +189,7 @@ framed-loose : (tree : List Node) → All IsFramed (loose tree)
 framed-loose [] = All-nil IsFramed
 framed-loose (node ∷ tree) = All-cons IsFramed (fresh node.kind node.name node.ports) (loose tree) (All-nil HasBlock) (framed-loose tree)
 
-pub framed-started : (tree : List Node) (pulses : List Stretch) → AreFramed (first_net tree pulses)
+pub framed-started : StartsAreFramed
 framed-started tree pulses = framed-rewired 0 tree (loose tree) (framed-loose tree)
 
 HasBlockIfSome : Option (List ℕ) → Type 0
@@ -222,10 +223,10 @@ framed-applied_unless None at (SendNamed device names frame) s e h = framed-sent
 framed-applied_unless None at (Outside device act) s e h =
     framed-changed device (λ d. after_act d act) s.devices (λ d f. framed-acted_by d (act_fault d) act f) h
 
-pub framed-applied : (at : ℕ) (event : Event) (s : NetState) → IsFramedEvent event → AreFramed s → AreFramed (net_after at event s)
+pub framed-applied : EventsKeepFramed
 framed-applied at event s e h = framed-applied_unless (event_fault s event) at event s e h
 
-pub framed-round : (s : NetState) (begin : ℕ) (o : Outcome) → AreFramed s → AreFramed (after_round s begin o)
+pub framed-round : RoundsKeepFramed
 framed-round s begin o h =
     framed-each 0 (λ number d. device_after (contends s.rest begin d) (is_sent s.rest begin o s.devices) o number d) s.devices
     (λ number d f. framed-after (contends s.rest begin d) (is_sent s.rest begin o s.devices) o number d f) h
@@ -259,5 +260,5 @@ frames_fit rest begin (x ∷ xs) h = by_frame (sent_in rest begin x) (sent_fits 
     by_frame None k r = r
     by_frame (Some f) k r = All-cons (λ (g : List ℕ). 0 < length g) f (frames_of (map (seat_of rest begin) xs)) k r
 
-pub seats_fit : (s : NetState) (begin : ℕ) → AreFramed s → AreFrames (seats_of s begin)
+pub seats_fit : FramedSeatsFit
 seats_fit s begin h = frames_fit s.rest begin s.devices h

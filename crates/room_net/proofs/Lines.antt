@@ -21,15 +21,15 @@ use Rattle.line_rounds.proofs.Alone.{rounds_are_lone}
 use Rattle.line_rounds.proofs.Differ.{In}
 use Rattle.line_rounds.proofs.Law.{all_in, in_filter}
 use Rattle.room_event.specs.declared.event.Event.{Event}
-use Rattle.room_event.specs.declared.event.Event.TheVariants.{Plug, Unplug, Key, Send, SendNamed, Outside}
-use Rattle.room_event.specs.declared.event.EventError.{EventError}
 use Rattle.room_net.specs.Start.{sooner, least_start, first_onset}
 use Rattle.room_net.specs.State.{NetState, next_start}
-use Rattle.room_net.specs.Apply.{net_after, applied_unless, event_fault, named_frame, after_sent}
-use Rattle.room_net.specs.Step.{seats_of, after_round}
+use Rattle.room_net.specs.Apply.{net_after}
+use Rattle.room_net.specs.Step.{seat_of, seats_of, after_round}
+use Rattle.room_net.specs.Progress.{LeastIsLed, RoundsAreBegun}
 use Rattle.room_net.specs.Line.{Move, Happens, Goes, GoesFrom, Moves, rounds_of, run_wave, ComesAfter, AreFollowing, RunsAreInOrder, RunsAreOver, RunsAreRead, RunsAreWaves}
 use Rattle.room_net.specs.Framed.{AreFramed}
 use Rattle.room_net.proofs.Framed.{framed-applied, framed-round, seats_fit}
+use Rattle.room_net.proofs.Kept.{event_keeps}
 use Rattle.room_net.proofs.Progress.{or_true, true_or, wave-weaker, Led, led}
 
 -- ---- what begins a round
@@ -72,7 +72,11 @@ sends_any (s ∷ seats) f i = by_frame (λ k. sends_any seats f k) s.sends i
     by_frame later None k = later k
     by_frame later (Some g) k = refl
 
-pub begun : (s : NetState) (begin : ℕ) → next_start s ≡ Some begin → is_begun (seats_of s begin) begin s.pulses ≡ true
+-- who sends at the least start
+pub least_led : LeastIsLed
+least_led rest t xs h = let l = led rest t xs h in record { late = l.late; sends = sends_any (map (seat_of rest t) xs) l.frame l.sent }
+
+pub begun : RoundsAreBegun
 unfolding Cause NoSooner
 begun s begin next = by_cause (cause s begin next).0
   where
@@ -149,30 +153,9 @@ next_past p s begin past next = by_cause (cause s begin next).0
 
 -- ---- events leave pulses and rest
 
-pub record Kept (s t : NetState) : Type 0 where
-  pub pulses : t.pulses ≡ s.pulses
-  pub rest : t.rest ≡ s.rest
-  pub close : t.close ≡ s.close
-
-kept_sent : (at device : ℕ) (frame : Option (List ℕ)) (s : NetState) → Kept s (record (after_sent at device frame s) { heard = None })
-kept_sent at device None s = record { pulses = refl; rest = refl; close = refl }
-kept_sent at device (Some frame) s = record { pulses = refl; rest = refl; close = refl }
-
-kept_unless : (fault : Option EventError) (at : ℕ) (event : Event) (s : NetState) → Kept s (applied_unless fault at event s)
-kept_unless (Some error) at event s = record { pulses = refl; rest = refl; close = refl }
-kept_unless None at (Plug child parent port) s = record { pulses = refl; rest = refl; close = refl }
-kept_unless None at (Unplug child) s = record { pulses = refl; rest = refl; close = refl }
-kept_unless None at (Key device key press) s = record { pulses = refl; rest = refl; close = refl }
-kept_unless None at (Send device frame) s = record { pulses = refl; rest = refl; close = refl }
-kept_unless None at (SendNamed device names frame) s = kept_sent at device (named_frame s.devices names frame) s
-kept_unless None at (Outside device act) s = record { pulses = refl; rest = refl; close = refl }
-
-pub kept : (at : ℕ) (event : Event) (s : NetState) → Kept s (net_after at event s)
-kept at event s = kept_unless (event_fault s event) at event s
-
 past_kept : (p : Part) (at : ℕ) (event : Event) (s : NetState) → IsPast p s → IsPast p (net_after at event s)
 past_kept p at event s past =
-    let k = kept at event s in
+    let k = event_keeps at event s (net_after at event s) refl in
     record {
       rest = omega (arith, past.rest, k.rest);
       soon = omega (arith, past.soon, k.rest);
@@ -180,7 +163,7 @@ past_kept p at event s past =
     }
 
 pub wave_kept : (at : ℕ) (event : Event) (s : NetState) → IsWave s.pulses → IsWave (net_after at event s).pulses
-wave_kept at event s h = subst (λ (ps : List Stretch). IsWave ps) (sym (kept at event s).pulses) h
+wave_kept at event s h = subst (λ (ps : List Stretch). IsWave ps) (sym (event_keeps at event s (net_after at event s) refl).pulses) h
 
 -- ---- the rounds of a run are in order
 
@@ -234,7 +217,7 @@ last_first end p (q ∷ ps) h l = l
 -- where no round follows, the close stays
 close_stays : (s t : NetState) (ms : List Move) → Moves s ms t → map part_of (rounds_of ms) ≡ [] → t.close ≡ s.close
 close_stays s t [] m e = ap (λ (x : NetState). x.close) m
-close_stays s t (Happens at event ∷ ms) m e = close_stays (net_after at event s) t ms m.1 e ∙ (kept at event s).close
+close_stays s t (Happens at event ∷ ms) m e = close_stays (net_after at event s) t ms m.1 e ∙ (event_keeps at event s (net_after at event s) refl).close
 close_stays s t (Goes begin o ∷ ms) m e = cc
 
 last_by : (s t : NetState) (ms : List Move) → Moves s ms t → LastBy t.close (map part_of (rounds_of ms))
@@ -373,8 +356,8 @@ following s t (Goes begin o ∷ ms) m h = (
   following (after_round s begin o) t ms m.1 h.2,
 )
 
-pub runs_in_order : RunsAreInOrder
-runs_in_order s t ms wave framed m = following s t ms m (in_order s t ms wave framed m)
+pub runs_are_in_order : RunsAreInOrder
+runs_are_in_order s t ms wave framed m = following s t ms m (in_order s t ms wave framed m)
 
 -- ---- from the last close on the line is high
 
@@ -438,8 +421,8 @@ high_end end (p ∷ ps) h a u l =
     both_no true y e f = e
     both_no false y e f = f
 
-pub runs_over : RunsAreOver
-runs_over s t ms wave framed m u l =
+pub runs_are_over : RunsAreOver
+runs_are_over s t ms wave framed m u l =
     let order : AreInOrder (map part_of (rounds_of ms)) = in_order s t ms wave framed m in
     ap (λ ss. line_of ss u) (sym (same_wave (rounds_of ms)))
     ∙ high_end t.close (map part_of (rounds_of ms)) order (rest_all t.close (map part_of (rounds_of ms)) order (rest_by s t ms m)) u l

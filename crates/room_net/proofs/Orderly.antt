@@ -20,8 +20,8 @@ use Rattle.line_frames.specs.declared.Fate.{Fate}
 use Rattle.line_frames.specs.declared.Fate.TheVariants.{Unacked}
 use Rattle.device_features.specs.declared.keys.Key.{Key}
 use Rattle.device_core.specs.State.{State, addresses_held, holds, is_held}
-use Rattle.device_core.specs.Place.{is_off, is_on_wire, is_allocating, polled_at, front_by, front_of, ready_of, fresh, after_joining, after_leaving, submit_fault, after_submission}
-use Rattle.device_core.specs.Keys.{key_fault, after_key}
+use Rattle.device_core.specs.Place.{is_off, is_on_wire, is_allocating, polled_at, front_by, front_of, ready_of, fresh, after_joining, after_leaving, after_submission}
+use Rattle.device_core.specs.Keys.{after_key}
 use Rattle.device_core.specs.declared.outside.Act.{Act}
 use Rattle.device_core.specs.Outside.{after_act}
 use Rattle.device_features.specs.Kinds.{is_outside}
@@ -31,8 +31,8 @@ use Rattle.device_core.proofs.OnceLemmas.{fates_keep_once}
 use Rattle.device_core.proofs.CleanLemmas.{keeps_place}
 use Rattle.device_core.proofs.KeptLemmas.{keeps_clean}
 use Rattle.device_core.proofs.ListedLemmas.{holds_listed}
-use Rattle.device_core.proofs.NumberLemmas.{followed-same, joined-same, joining_holds_nothing, keyed-same, numbers_stay, sent-same, submitted-same}
-use Rattle.device_core.proofs.OutsideLemmas.{acted-kind, only_outside}
+use Rattle.device_core.proofs.NumberLemmas.{joining_holds_nothing, kinds_stay, numbers_stay}
+use Rattle.device_core.proofs.OutsideLemmas.{only_outside}
 use Rattle.room_event.specs.declared.event.Event.{Event}
 use Rattle.room_event.specs.declared.event.Event.TheVariants.{Plug, Unplug, Key as Press, Send, SendNamed, Outside}
 use Rattle.room_event.specs.declared.event.EventError.{EventError}
@@ -115,17 +115,17 @@ keeps-by number d e kind place own clean = record {
 
 pub keeps-keyed : (at : ℕ) (key : Key) (press : Bool) (number : ℕ) (d : State) → Keeps number d (after_key 16 d key press at)
 keeps-keyed at key press number d =
-    keeps-by number d (after_key 16 d key press at) (keyed-same 16 at key press d (key_fault d key)).1 (keeps_place.keying 16 at key press d) (numbers_stay.keying 16 at key press d)
+    keeps-by number d (after_key 16 d key press at) (kinds_stay.keying 16 at key press d) (keeps_place.keying 16 at key press d) (numbers_stay.keying 16 at key press d)
     (λ in_d. keeps_clean.keying 16 at key press d)
 
 pub keeps-submitted : (at : ℕ) (frame : List ℕ) (number : ℕ) (d : State) → Keeps number d (after_submission 16 d frame at)
 keeps-submitted at frame number d =
-    keeps-by number d (after_submission 16 d frame at) (submitted-same d frame at (submit_fault 16 d frame)).1 (keeps_place.submitting 16 at frame d) (numbers_stay.submitting 16 at frame d)
+    keeps-by number d (after_submission 16 d frame at) (kinds_stay.submitting 16 at frame d) (keeps_place.submitting 16 at frame d) (numbers_stay.submitting 16 at frame d)
     (keeps_clean.submitting 16 at frame d)
 
 pub keeps-acted : (act : Act) (number : ℕ) (d : State) → Keeps number d (after_act d act)
 keeps-acted act number d = record {
-  kind = acted-kind d act;
+  kind = kinds_stay.acting d act;
   holding = λ in_d a h. subst (λ (x : State). holds x.place a ≡ true) (only_outside.acting d act in_d) h;
   clean = λ in_d h. ap is_clean (only_outside.acting d act in_d) ∙ h;
   numbered = λ on was. only_outside.number d act ∙ was (sym (only_outside.wire d act) ∙ on);
@@ -133,7 +133,7 @@ keeps-acted act number d = record {
 
 keeps-joined : (at number : ℕ) (phys : Phys) (d : State) → Keeps number d (after_joining 16 d number phys at)
 keeps-joined at number phys d = record {
-  kind = (joined-same 16 number at phys d).1;
+  kind = kinds_stay.joining 16 number at phys d;
   holding = λ in_d a h. (let x : true ≡ false = sym h ∙ joining_holds_nothing.joining 16 number at a phys d in cc);
   clean = λ in_d h. keeps_clean.joining 16 number at phys d;
   numbered = λ on was. numbers_stay.joining 16 number at phys d;
@@ -262,7 +262,7 @@ unless-number false (Some frame) at d = numbers_stay.following 16 at frame d
 unless-kind : (sends : Bool) (frame : Option (List ℕ)) (at : ℕ) (d : State) → (followed_unless sends frame at d).kind ≡ d.kind
 unless-kind sends None at d = refl
 unless-kind true (Some frame) at d = refl
-unless-kind false (Some frame) at d = (followed-same 16 at frame d).1
+unless-kind false (Some frame) at d = kinds_stay.following 16 at frame d
 
 unless-clean : (sends : Bool) (frame : Option (List ℕ)) (at : ℕ) (d : State) → is_clean d ≡ true → is_clean (followed_unless sends frame at d) ≡ true
 unless-clean sends None at d h = h
@@ -544,7 +544,7 @@ after_clean own any o i d h = by_wire (is_on_wire d)
     by_wire false = h
 
 informed-kind : (own any : Bool) (fate : Fate) (at : ℕ) (d : State) → (after_fate own any fate at d).kind ≡ d.kind
-informed-kind true any fate at d = (sent-same 16 at fate d (polled_at d.place)).1
+informed-kind true any fate at d = kinds_stay.reporting 16 at fate d
 informed-kind false true fate at d = refl
 informed-kind false false fate at d = refl
 

@@ -24,7 +24,7 @@ use Rattle.device_core.specs.declared.free_time.FreeTime.TheVariants.{Retry, New
 use Rattle.room_net.specs.Start.{next_turn, start_from, start_by, start_of, sooner, least_start, first_onset, is_at, contends}
 use Rattle.room_net.specs.State.{NetState, next_start}
 use Rattle.room_net.specs.Step.{sent_in, seat_of, seats_of, after_round}
-use Rattle.room_net.specs.Progress.{IsProgress}
+use Rattle.room_net.specs.Progress.{ComeLater, IsGoing, IsProgress, RoundsGoOn}
 use Rattle.room_net.proofs.Ahead.{front-ready}
 use Rattle.line_rounds.proofs.Bounds.{rounds_are_short}
 use Rattle.room_net.proofs.Each.{refill-all, length-each_from}
@@ -184,10 +184,6 @@ led rest t (x ∷ xs) h = step (start_of rest x) (least_start rest xs) refl refl
 
 -- ---- the step
 
--- the pulses come after the last low stretch
-abbrev pub ComeLater : ℕ → List Stretch → Type 0
-ComeLater rest pulses = All (λ p. rest ≤ p.from) pulses
-
 less_pulses : (rest : ℕ) (p : Stretch) (ps : List Stretch) → p.from < rest → length (filter (λ q. nat_lt rest q.from) (p ∷ ps)) < length (p ∷ ps)
 less_pulses rest p ps h =
     let e : nat_lt rest p.from ≡ false = grind (arith, nat_tests) in
@@ -195,14 +191,7 @@ less_pulses rest p ps h =
     rw e (omega arith)
 
 -- it comes later, pulls, and takes what it had
-pub record IsGoing (before : NetState) (begin : ℕ) (after : NetState) : Type 0 where
-  pub apart : (before.rest + 7200 ≤ begin) ⊎ (length after.pulses < length before.pulses)
-  pub kept : length after.pulses ≤ length before.pulses
-  pub later : before.rest ≤ begin
-  pub low : begin < after.rest
-
-pub going : (s : NetState) (begin : ℕ) (o : Outcome) → IsWave s.pulses → ComeLater s.rest s.pulses → next_start s ≡ Some begin
-    → IsWave o.wave → IsRound (seats_of s begin) begin s.pulses o → IsGoing s begin (after_round s begin o)
+pub going : RoundsGoOn
 going s begin o order later next wave round = by_cause (least_start s.rest s.devices) s.pulses refl refl next
   where
     low_then : line_of o.wave begin ≡ true → begin < o.rest

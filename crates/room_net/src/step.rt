@@ -5,7 +5,6 @@ ghost use Rattle.device_features.specs.Kinds.{is_outside};
 ghost use Rattle.device_core.specs.Place.{front_of, is_on_wire};
 ghost use Rattle.line_frames.specs.Blocks.{frame_in};
 ghost use Rattle.room_net.specs.Start.{contends};
-ghost use Rattle.room_net.specs.Line.{RunsAreInOrder, RunsAreOver, RunsAreRead, RunsAreWaves};
 ghost use Rattle.room_net.specs.Sound.{IsReadyBy};
 ghost use Rattle.room_net.specs.Step.{seat_of, is_address, holds_one, is_among, followed_unless, after_fate, device_after, is_contended, devices_after, OneStep};
 
@@ -178,26 +177,4 @@ pub(crate) fn end_round(devices: &mut [Device<16>], rest: u64, begin: u64, outco
 /// The next round is the same, and leads to the same state, over whichever wire it is run.
 pub fn one_step()
     ensures { OneStep }
-{}
-
-/// The readings of a run's whole line, cut at its last close or later, are its rounds' readings, in order, each
-/// once.
-pub fn runs_are_read()
-    ensures { RunsAreRead }
-{}
-
-/// The stretches of a run's rounds, one round after another, neither overlap nor touch: each is a fall and a rise
-/// of the whole line.
-pub fn runs_are_waves()
-    ensures { RunsAreWaves }
-{}
-
-/// Each round of a run begins at the close of the one before or later, and after its last low stretch.
-pub fn runs_are_in_order()
-    ensures { RunsAreInOrder }
-{}
-
-/// From its last close on the line of a run is high.
-pub fn runs_are_over()
-    ensures { RunsAreOver }
 {}

@@ -19,6 +19,7 @@ use Rattle.edid_core.specs.Root.{IsRoot}
 use Rattle.room_run.specs.declared.run.Reporting.{Reporting}
 use Rattle.capture_forms.specs.declared.form.CaptureForm.{CaptureForm}
 use Rattle.room_run.specs.declared.run.Reporting.TheVariants.{Trace, Line}
+use Rattle.room_run.specs.Accepted.{ScriptsBeginEarly, ScriptsEndEarly, TextsAreOfOneRun, TopologiesHaveDevices}
 use Rattle.room_run.specs.Run.{start, IsTrace, IsRunText}
 use Rattle.room_run.specs.Emulate.{IsAccepted, IsTraceOf, IsLineOf, TextsHaveOneTrace, TextsHaveOneLine}
 use Rattle.room_run.proofs.Turns.{one_trace, one_run_text}
@@ -44,15 +45,15 @@ rooted (line ∷ lines) number plan end h =
       | Err fault ↦ λ k. (cc)
     ] h
 
-pub has_device : (text : List ℕ) (plan : Plan) → topology_of text ≡ Ok plan → 0 < length plan.tree
+pub has_device : TopologiesHaveDevices
 has_device text plan h = some_device plan.tree (rooted (lines_of text) 1 (record { tree = []; edid = None }) plan h)
 
 -- the pulses and pulls of a script end by the latest instant
-pub ends_early : (pulses : List Stretch) → All (λ p. p.from ≤ latest_event) pulses → All IsNoWider pulses → All EndsEarly pulses
+pub ends_early : ScriptsEndEarly
 ends_early pulses all wide = λ i d l. (let h : (get_or pulses i d).from ≤ latest_event = all i d l in let w = wide i d l in omega (arith, h, w))
 
 -- times within the limit of scripts are within that of runs
-pub early : (pulses : List Stretch) → All (λ p. p.from ≤ latest_event) pulses → All (λ p. p.from ≤ latest_instant) pulses
+pub early : ScriptsBeginEarly
 early pulses all = λ i d l. (let h : (get_or pulses i d).from ≤ latest_event = all i d l in omega arith)
 
 same_plan : (p q : Plan) (r : Result Plan TopologyFault) → r ≡ Ok p → r ≡ Ok q → p ≡ q
@@ -91,8 +92,7 @@ one_run_of topology script text totals plan course reporting t s other otherwise
     (subst (λ (q : Plan). IsRunText reporting otherwise.end (start (first_net q.tree otherwise.pulses) otherwise.events) text totals) p reported)
 
 -- texts spell one topology, one EDID and one script
-pub one_trace_of : (topology script text : List ℕ) (totals : Totals) (plan : Plan) (course : Course) (edid : Option Edid) → topology_of topology ≡ Ok plan → IsScriptRead plan.tree script (Ok course)
-    → IsRoot plan.edid edid → IsTraceOf topology script text totals → IsTrace edid course.end (start (first_net plan.tree course.pulses) course.events) text totals
+pub one_trace_of : TextsAreOfOneRun
 one_trace_of topology script text totals plan course edid t s e w =
     let r : w.edid ≡ edid = one_root plan.edid w.edid edid (subst (λ q. IsRoot q.edid w.edid) (one_plan topology plan w.plan t w.accepted.plan_is) w.root) e in
     subst (λ x. IsTrace x course.end (start (first_net plan.tree course.pulses) course.events) text totals) r

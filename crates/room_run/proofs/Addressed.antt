@@ -4,10 +4,11 @@ use Rattle.std.specs.Option.{ForSome}
 use Rattle.edid_core.specs.Address.{edid_address}
 use Rattle.edid_core.specs.Root.{HasAddress}
 use Rattle.edid_core.specs.declared.edid.Edid.{Edid}
+use Rattle.room_run.specs.Accepted.{AddressedEach, AddressesAreThere}
 
-pub each_address : (e : Option Edid) → HasAddress e → ForSome e (λ root. IsSome (edid_address root))
+pub each_address : AddressesAreThere
 each_address e has root is = subst HasAddress is has
 
-pub has_address : (e : Option Edid) → ForSome e (λ root. IsSome (edid_address root)) → HasAddress e
+pub has_address : AddressedEach
 has_address None each = tt
 has_address (Some root) each = each root refl

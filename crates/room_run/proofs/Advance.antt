@@ -1,4 +1,4 @@
--- What a turn leaves as it was, and how far a round brings the run.
+-- How far a turn brings the run, and what it counts.
 use Rattle.std.proofs.Common.{◌≡◌, ℕ, suc, ◌+◌, ◌-◌, ◌<◌, ◌≤◌, Bool, true, false, nat_lt, max, if◌then◌else◌, List, ◌∷◌, length, filter, Option, Some, None, ap, sym, refl, subst, arith}
 use Rattle.std.proofs.lemmas.Bool.Decides.{nat_tests}
 use Rattle.line_wave.specs.declared.Stretch.{Stretch}
@@ -9,48 +9,21 @@ use Rattle.line_rounds.specs.declared.Outcome.{Outcome}
 use Rattle.line_rounds.specs.Round.{close_in}
 use Rattle.room_script.specs.declared.script.TimedEvent.{TimedEvent}
 use Rattle.room_script.specs.Script.{IsSchedule}
-use Rattle.room_event.specs.declared.event.Event.{Event}
-use Rattle.room_event.specs.declared.event.Event.TheVariants.{Plug, Unplug, Key, Send, SendNamed, Outside}
 use Rattle.room_event.specs.declared.event.EventError.{EventError}
 use Rattle.room_net.specs.State.{NetState, next_start}
-use Rattle.room_net.specs.Apply.{net_after, applied_unless, event_fault, named_frame, after_sent}
 use Rattle.room_net.specs.Progress.{IsProgress}
-use Rattle.room_net.proofs.Soundness.{length-with_plug}
 use Rattle.room_run.specs.declared.run.Totals.{Totals}
 use Rattle.room_run.specs.declared.run.Reporting.{Reporting}
 use Rattle.room_run.specs.declared.run.Turn.TheVariants.{Stop, Apply, Round}
+use Rattle.room_run.specs.Turns.{Brought, EventsAreRefused, EventsKeepComplete, EventsKeepRounds, RoundTurnsBegin, RoundsAreCounted, SchedulesGoOn}
 use Rattle.room_run.specs.Run.{IsRoundTurn, counted_event, counted_round, turn_of, is_by, round_turn, event_turn}
 
--- an event leaves the pulses, the close and the rest, and how many devices there are
-pub record Kept (s t : NetState) : Type 0 where
-  pub pulses : t.pulses ≡ s.pulses
-  pub close : t.close ≡ s.close
-  pub rest : t.rest ≡ s.rest
-  pub count : length t.tree ≡ length s.tree
-
-kept_sent : (at device : ℕ) (frame : Option (List ℕ)) (s : NetState) → Kept s (record (after_sent at device frame s) { heard = None })
-kept_sent at device None s = record { pulses = refl; close = refl; rest = refl; count = refl }
-kept_sent at device (Some frame) s = record { pulses = refl; close = refl; rest = refl; count = refl }
-
-kept_unless : (fault : Option EventError) (at : ℕ) (event : Event) (s : NetState) → Kept s (applied_unless fault at event s)
-kept_unless (Some error) at event s = record { pulses = refl; close = refl; rest = refl; count = refl }
-kept_unless None at (Plug child parent port) s = record { pulses = refl; close = refl; rest = refl; count = length-with_plug s.tree child _ }
-kept_unless None at (Unplug child) s = record { pulses = refl; close = refl; rest = refl; count = length-with_plug s.tree child _ }
-kept_unless None at (Key device key press) s = record { pulses = refl; close = refl; rest = refl; count = refl }
-kept_unless None at (Send device frame) s = record { pulses = refl; close = refl; rest = refl; count = refl }
-kept_unless None at (SendNamed device names frame) s = kept_sent at device (named_frame s.devices names frame) s
-kept_unless None at (Outside device act) s = record { pulses = refl; close = refl; rest = refl; count = refl }
-
-pub event_keeps : (at : ℕ) (event : Event) (s t : NetState) → t ≡ net_after at event s → Kept s t
-event_keeps at event s t e = subst (Kept s) (sym e) (kept_unless (event_fault s event) at event s)
-
 -- the events that are left
-pub next_schedule : (count end from : ℕ) (rest : List TimedEvent) (e : TimedEvent) (others : List TimedEvent) → rest ≡ e ∷ others → IsSchedule count end from rest
-    → IsSchedule count end e.at others
+pub next_schedule : SchedulesGoOn
 next_schedule count end from rest e others split s = (subst (IsSchedule count end from) split s).3
 
 -- a round's turn begins at the next start, before the end
-pub round_begins : (end : ℕ) (s : NetState) (time : Option ℕ) (x : ℕ) → turn_of end s time ≡ Round x → (next_start s ≡ Some x) × (x < end)
+pub round_begins : RoundTurnsBegin
 round_begins end s time x h = by_time time h
   where
     from_round : (o : Option ℕ) → round_turn end o ≡ Round x → (o ≡ Some x) × (x < end)
@@ -72,14 +45,6 @@ round_begins end s time x h = by_time time h
     by_time : (t : Option ℕ) → turn_of end s t ≡ Round x → (next_start s ≡ Some x) × (x < end)
     by_time None k = from_round (next_start s) k
     by_time (Some at) k = by_test (max s.close at) (is_by (max s.close at) (next_start s)) k
-
--- a round brings the rest and the close on
-pub record Brought (end : ℕ) (s t : NetState) : Type 0 where
-  pub sooner : s.rest < t.rest
-  pub before : s.rest < end
-  pub close : t.close ≤ max latest_instant (end + 458500)
-  pub rest : t.rest ≤ max latest_instant (end + 458500)
-  pub tree : t.tree ≡ s.tree
 
 -- what a state keeps after a round
 record Rested (s t : NetState) : Type 0 where
@@ -105,19 +70,16 @@ round_brings reporting end begin s t totals counted line p soon turn =
 pub left_in_order : (rest : ℕ) (ps : List Stretch) → IsWave ps → IsWave (filter (λ q. nat_lt rest q.from) ps)
 left_in_order rest ps h = wave_filter (λ (q : Stretch). nat_lt rest q.from) ps h
 
-pub same_begin : {begin x : ℕ} → Some begin ≡ Some x → begin ≡ x
-same_begin e = cc
-
 pub smaller : (events old new : ℕ) → old < new → old < latest_event → events + (latest_instant - new) < events + (latest_instant - old)
 smaller events old new sooner before = omega arith
 
 -- ---- counts
 
-pub rounds_kept : (fault : Option EventError) (totals : Totals) (rest : ℕ) → totals.rounds ≤ rest → (counted_event fault totals).rounds ≤ rest
+pub rounds_kept : EventsKeepRounds
 rounds_kept None totals rest h = h
 rounds_kept (Some error) totals rest h = h
 
-pub complete_kept : (fault : Option EventError) (totals : Totals) → totals.complete ≤ totals.rounds → (counted_event fault totals).complete ≤ (counted_event fault totals).rounds
+pub complete_kept : EventsKeepComplete
 complete_kept None totals h = h
 complete_kept (Some error) totals h = h
 
@@ -125,14 +87,12 @@ refused_by : (fault : Option EventError) (totals : Totals) → (counted_event fa
 refused_by None totals = omega arith
 refused_by (Some error) totals = omega arith
 
-pub refused_kept : (fault : Option EventError) (totals : Totals) (rest : List TimedEvent) (e : TimedEvent) (others : List TimedEvent) (most : ℕ) → rest ≡ e ∷ others
-    → totals.refused + length rest ≤ most → (counted_event fault totals).refused + length others ≤ most
+pub refused_kept : EventsAreRefused
 refused_kept fault totals rest e others most split h =
     let more : length rest ≡ suc (length others) = ap length split in
     omega (arith, refused_by fault totals)
 
-pub counts_brought : (old new : Totals) (is : Bool) → new ≡ counted_round is old
-    → (new.rounds ≡ old.rounds + 1) × (new.complete ≤ old.complete + 1) × (new.refused ≡ old.refused)
+pub counts_brought : RoundsAreCounted
 counts_brought old new is e = subst (λ t. (t.rounds ≡ old.rounds + 1) × (t.complete ≤ old.complete + 1) × (t.refused ≡ old.refused)) (sym e) (by is)
   where
     by : (b : Bool) → ((counted_round b old).rounds ≡ old.rounds + 1) × ((counted_round b old).complete ≤ old.complete + 1) × ((counted_round b old).refused ≡ old.refused)

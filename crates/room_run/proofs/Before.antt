@@ -12,9 +12,10 @@ use Rattle.room_run.specs.declared.run.Reporting.{Reporting}
 use Rattle.room_run.specs.declared.run.Totals.{Totals}
 use Rattle.room_run.specs.declared.run.Turn.{Turn}
 use Rattle.room_run.specs.declared.run.Turn.TheVariants.{Stop, Apply, Round}
+use Rattle.room_run.specs.Turns.{TurnsAreOne}
 use Rattle.room_run.specs.Run.{Config, turn_at, counted_round, round_reported, IsEventTurn, IsRoundTurn, IsTurnBy, IsTurn, Leads}
 use Rattle.room_run.proofs.Turns.{same_outcome}
-use Rattle.room_run.specs.Certain.{IsOverBy, LeadsIf, IsHeldBy, IsHeld, AllBefore, AllBeforeIsOne}
+use Rattle.room_run.specs.Certain.{IsOverBy, LeadsIf, IsHeldBy, IsHeld, AllBefore, AllBeforeIsOne, NoneAfterHeld, NoTurn}
 
 -- ---- there are such
 
@@ -69,7 +70,7 @@ one_event : (reporting : Reporting) (at : ℕ) (events : List TimedEvent) (c : C
 one_event reporting at [] c line other d e r s = (r.0 ∙ sym s.0, r.1 ∙ sym s.1)
 one_event reporting at (x ∷ xs) c line other d e r s = (r.0 ∙ sym s.0, r.1 ∙ sym s.1)
 
-pub one_turn : (reporting : Reporting) (turn : Turn) (c : Config) (line other : List ℕ) (d e : Config) → IsTurnBy reporting turn c line d → IsTurnBy reporting turn c other e → (line ≡ other) × (d ≡ e)
+pub one_turn : TurnsAreOne
 one_turn reporting Stop c line other d e r s = absurd r
 one_turn reporting (Apply at) c line other d e r s = one_event reporting at c.events c line other d e r s
 one_turn reporting (Round begin) c line other d e r s =
@@ -86,10 +87,6 @@ no_turn_before reporting until (Round begin) c d line (outcome, after, wave, nex
     let one = one_next begin c.net d.net after t.0.outcome outcome t.0.wave wave t.0.next next in
     let close : d.net.close ≡ after.close = ap (λ (n : NetState). n.close) one.1 in
     omega (arith, close, late, over)
-
--- no turn of which something holds comes after a place
-abbrev pub NoTurn : (Turn → Config → Type 0) → Reporting → ℕ → Config → Type 0
-NoTurn Holds reporting until c = (line : List ℕ) (d : Config) → IsTurn reporting until c line d → Holds (turn_at until c) d → ⊥
 
 -- some turns of which it holds come first in all of them
 pub all_begin : (Holds : Turn → Config → Type 0) (reporting : Reporting) (until n m : ℕ) (c d last : Config) (text whole : List ℕ) → LeadsIf Holds reporting until n c text d
@@ -111,7 +108,7 @@ pub ends : (Holds : Turn → Config → Type 0) (reporting : Reporting) (until m
 ends Holds reporting until zero d last rest none l = (l.0, l.1)
 ends Holds reporting until (suc more) d last rest none (mid, line, others, turn, over, after, e) = absurd (none line mid turn over)
 
-pub held_ends : (reporting : Reporting) (until : ℕ) (c : Config) → IsHeld until c → NoTurn (IsOverBy until) reporting until c
+pub held_ends : NoneAfterHeld
 held_ends reporting until c held line d turn over = no_turn_before reporting until (turn_at until c) c d line held turn over
 
 pub all_before_is_one : AllBeforeIsOne
@@ -129,12 +126,3 @@ one_more_if Holds reporting until zero c mid d text line l turn over =
     (d, line, [], subst (λ x. IsTurn reporting until x line d) l.1 turn, subst (λ x. Holds (turn_at until x) d) l.1 over, (refl, refl), ap (λ t. t ++ line) l.0 ∙ sym (append-nil line))
 one_more_if Holds reporting until (suc n) c mid d text line (first, head, rest, turn, over, after, e) last end =
     (first, head, rest ++ line, turn, over, one_more_if Holds reporting until n first mid d rest line after last end, ap (λ t. t ++ line) e ∙ append_assoc head rest line)
-
--- some, and others after them
-pub all_on : (Holds : Turn → Config → Type 0) (reporting : Reporting) (until n m : ℕ) (c mid d : Config) (text more : List ℕ) → LeadsIf Holds reporting until n c text mid
-    → LeadsIf Holds reporting until m mid more d → (turns : ℕ) × LeadsIf Holds reporting until turns c (text ++ more) d
-all_on Holds reporting until zero m c mid d text more l k =
-    (m, subst (λ t. LeadsIf Holds reporting until m c t d) (ap (λ t. t ++ more) (sym l.0)) (subst (λ x. LeadsIf Holds reporting until m x more d) l.1 k))
-all_on Holds reporting until (suc n) m c mid d text more (first, head, rest, turn, over, after, e) k =
-    let go = all_on Holds reporting until n m first mid d rest more after k in
-    (suc go.0, (first, head, rest ++ more, turn, over, go.1, ap (λ t. t ++ more) e ∙ append_assoc head rest more))

@@ -36,9 +36,10 @@ use Rattle.room_run.specs.declared.run.Totals.{Totals}
 use Rattle.room_run.specs.declared.run.Turn.{Turn}
 use Rattle.room_run.specs.declared.run.Turn.TheVariants.{Stop, Apply, Round}
 use Rattle.room_run.specs.Run.{Config, start, turn_at, turn_of, is_by, round_turn, event_turn, first_time, event_reported, counted_event, start_reported, IsEventTurn, IsRoundTurn, IsTurnBy, IsTurn, Leads}
-use Rattle.room_run.proofs.Advance.{round_begins, event_keeps}
+use Rattle.room_net.proofs.Kept.{event_keeps}
+use Rattle.room_run.proofs.Advance.{round_begins}
 use Rattle.room_run.proofs.Turns.{front_of_text}
-use Rattle.room_run.specs.Certain.{with_pulses, with_more, ComesFrom, IsOverBy, LeadsBy, TurnsAreCertain, TurnsStayCertain, ReportedIsFront}
+use Rattle.room_run.specs.Certain.{with_pulses, with_more, LatePulsesDoNotPull, RoundTurnsStay, RoundsStay, ComesFrom, IsOverBy, LeadsBy, TurnsAreCertain, TurnsStayCertain, ReportedIsFront}
 
 -- ---- a pulse that begins after the close is no pulse of the round
 
@@ -52,8 +53,7 @@ is_high low rest t h l = by_test (nat_lt 0 t) (low (t - 1)) (h (t - 1) (omega (a
     by_test true b e = e
     by_test false b e = refl
 
-pub is_late : (begin : ℕ) (low : WaveLine) (rest until t : ℕ) (p : Stretch) → ((u : ℕ) → rest ≤ u → low u ≡ false) → rest < until
-    → (reading_of low begin).until < until → until ≤ p.from → pulse_pulls begin (known_at t (reading_of low begin)).ended (was_low low t) t p ≡ false
+pub is_late : LatePulsesDoNotPull
 is_late begin low rest until t p high r k l =
     elim (cases_lt t p.from) [
       | inl lt ↦ (let e : covers p t ≡ false = not_covered p t lt in rw e refl)
@@ -87,8 +87,7 @@ none_late begin low rest until t pulses later high r k late =
     (λ i d m. is_late begin low rest until t (slice_index_or later i d) high r k (late i d m)))
     ∙ or_false (list_any (pulse_pulls begin (known_at t (reading_of low begin)).ended (was_low low t) t) pulses)
 
-pub round_more : (seats : List Seat) (begin until : ℕ) (pulses later : List Stretch) (o : Outcome) → ((u : ℕ) → o.rest ≤ u → line_of o.wave u ≡ false)
-    → close_in o < until → All (λ p. until ≤ p.from) later → IsRound seats begin pulses o → IsRound seats begin (pulses ++ later) o
+pub round_more : RoundsStay
 round_more seats begin until pulses later o high c late r = record {
   line = λ t. r.line t ∙ same t;
   starts = r.starts;
@@ -186,8 +185,7 @@ not_by until b s time h = by_test (is_by (max s.close time) (next_start s)) refl
 rounds : (end b : ℕ) (o : Option ℕ) → o ≡ Some b → b < end → round_turn end o ≡ Round b
 rounds end b o e l = let t : nat_lt b end ≡ true = grind (arith, nat_tests) in subst (λ x. round_turn end x ≡ Round b) (sym e) (rw t refl)
 
-pub round_same : (until end b : ℕ) (s : NetState) (xs events : List TimedEvent) (later : List Stretch) → turn_of until s (first_time xs) ≡ Round b → ComesFrom until events later end
-    → turn_of end (with_pulses later s) (first_time (xs ++ events)) ≡ Round b
+pub round_same : RoundTurnsStay
 round_same until end b s xs events later h f = by_events xs events h f.scheduled
   where
     begins : (time : Option ℕ) → turn_of until s time ≡ Round b → (next_start (with_pulses later s) ≡ Some b) × (b < until)

@@ -11,7 +11,9 @@ use Rattle.room_script.proofs.Sound.{scripts_are_sound}
 use Rattle.room_net.specs.State.{NetState, next_start, first_net}
 use Rattle.room_net.specs.Apply.{net_after, event_fault}
 use Rattle.room_net.specs.Step.{after_round, seats_of}
-use Rattle.room_net.proofs.Progress.{ComeLater, going}
+use Rattle.room_net.specs.Progress.{ComeLater}
+use Rattle.room_net.proofs.Kept.{event_keeps}
+use Rattle.room_net.proofs.Progress.{going}
 use Rattle.message_text.specs.ReadingText.{is_complete}
 use Rattle.room_run.specs.declared.run.Reporting.{Reporting}
 use Rattle.room_run.specs.declared.run.Reporting.TheVariants.{Trace, Line}
@@ -20,7 +22,7 @@ use Rattle.room_run.specs.declared.run.Turn.{Turn}
 use Rattle.room_run.specs.declared.run.Turn.TheVariants.{Stop, Apply, Round}
 use Rattle.room_run.specs.Run.{Config, start, turn_at, turn_of, first_time, round_turn, counted_event, counted_round, IsEventTurn, IsTurnBy, IsTurn, IsRunTextFrom, event_reported, round_reported, start_reported, end_reported}
 use Rattle.room_run.specs.HasRun.{RunsHaveTexts, TextsHaveTraces}
-use Rattle.room_run.proofs.Advance.{event_keeps, left_in_order, round_begins}
+use Rattle.room_run.proofs.Advance.{left_in_order, round_begins}
 
 -- ---- one turn
 

@@ -9,7 +9,7 @@ use Rattle.room_net.specs.Apply.{net_after}
 use Rattle.room_net.specs.Step.{after_round}
 use Rattle.room_net.specs.Line.{Move, Happens, Goes, Moves, rounds_of, run_wave}
 use Rattle.room_net.proofs.Framed.{framed-started}
-use Rattle.room_net.proofs.Lines.{runs_are_read, runs_are_waves, runs_over}
+use Rattle.room_net.proofs.Lines.{runs_are_over, runs_are_read, runs_are_waves}
 use Rattle.room_script.specs.Script.{AreFramedEvents}
 use Rattle.room_script.specs.declared.script.TimedEvent.{TimedEvent}
 use Rattle.room_run.specs.declared.run.Turn.{Turn}
@@ -61,7 +61,7 @@ runs_read reporting tree pulses events end turns text d order framed leads =
     let m = moved reporting end turns (start (first_net tree pulses) events) d text leads framed in
     record {
       wave = subst (λ (os : List Outcome). IsWave (run_wave os)) m.rounds (runs_are_waves (first_net tree pulses) d.net m.moves order (framed-started tree pulses) m.goes);
-      over = λ u l. subst (λ (os : List Outcome). line_of (run_wave os) u ≡ false) m.rounds (runs_over (first_net tree pulses) d.net m.moves order (framed-started tree pulses) m.goes u (omega (arith, l)));
+      over = λ u l. subst (λ (os : List Outcome). line_of (run_wave os) u ≡ false) m.rounds (runs_are_over (first_net tree pulses) d.net m.moves order (framed-started tree pulses) m.goes u (omega (arith, l)));
       readings = subst (λ (os : List Outcome). readings_of (line_of (run_wave os)) (max end d.net.close) ≡ map outcome_listed os) m.rounds
           (runs_are_read (first_net tree pulses) d.net m.moves (max end d.net.close) order (framed-started tree pulses) m.goes (omega arith));
     }

@@ -25,7 +25,8 @@ use Rattle.room_run.specs.Run.{Config, start, turn_at, first_time, counted_round
 use Rattle.room_run.specs.RunLine.{rounds_by, rounds_in}
 use Rattle.room_run.specs.OneRun.{rounds_reported, OneRun, rounds_of_trace, TextsHaveOneRun, Part, OfEvent, OfRound, part_text, part_rounds, TracesHaveParts, AreOverBy, RunsCloseSoon}
 use Rattle.room_run.proofs.Turns.{same_outcome, no_turn}
-use Rattle.room_run.proofs.Advance.{event_keeps, left_in_order, round_begins}
+use Rattle.room_net.proofs.Kept.{event_keeps}
+use Rattle.room_run.proofs.Advance.{left_in_order, round_begins}
 use Rattle.room_run.proofs.Accepted.{one_plan, one_course}
 
 -- ---- one turn, whatever is told of it

@@ -8,7 +8,8 @@ use Rattle.edid_core.specs.declared.edid.Edid.{Edid}
 use Rattle.edid_tree.specs.Node.{Node}
 use Rattle.edid_tree.specs.Path.{is_on_wire}
 use Rattle.room_trace.specs.PortText.{lines_of_new, port_lines}
-use Rattle.room_run.proofs.Advance.{event_keeps}
+use Rattle.room_net.proofs.Kept.{event_keeps}
+use Rattle.room_run.specs.Turns.{PortsAreThoseBefore}
 
 -- parts that are the same for each number of a range
 same_parts : (f g : ℕ → List ℕ) (a n : ℕ) → ((k : ℕ) → k < a + n → f k ≡ g k) → flat_map f (range_with_len a n) ≡ flat_map g (range_with_len a n)
@@ -23,9 +24,7 @@ same_lines at (Some root) f g tree h =
     (λ k b. ap (λ was. lines_of_new at root tree was k) (h k (omega arith)))
 
 -- what came onto the wire by an event is told by what was on it before
-pub event_ports : (at : ℕ) (edid : Option Edid) (e : TimedEvent) (s t : NetState) (before after : List Node) (was : List Bool) → t ≡ net_after at e.event s → before ≡ s.tree → after ≡ t.tree
-    → ((k : ℕ) → k < length before → get_or was k false ≡ is_on_wire before k)
-    → port_lines at edid (λ device. get_or was device false) after ≡ port_lines at edid (is_on_wire s.tree) (net_after at e.event s).tree
+pub event_ports : PortsAreThoseBefore
 event_ports at edid e s t before after was step b a reported =
     let kept = event_keeps at e.event s t step in
     let count : length after ≡ length before = ap length a ∙ kept.count ∙ sym (ap length b) in

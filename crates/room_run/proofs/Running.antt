@@ -13,8 +13,9 @@ use Rattle.room_run.specs.declared.run.Totals.{Totals}
 use Rattle.room_run.specs.declared.run.Reporting.{Reporting}
 use Rattle.room_run.specs.declared.run.Reporting.TheVariants.{Line}
 use Rattle.room_run.specs.declared.run.Turn.TheVariants.{Apply, Round}
+use Rattle.room_run.specs.Turns.{EventTurns, EventsHappen, RoundTurns, RoundsBringOn, RoundsHappen}
 use Rattle.room_run.specs.Run.{Config, turn_of, first_time, counted_event, counted_round, event_reported, round_reported, IsRoundTurn, IsTurn, IsTurnBy}
-use Rattle.room_run.proofs.Advance.{Brought, round_brings}
+use Rattle.room_run.proofs.Advance.{round_brings}
 use Rattle.room_run.specs.Happening.{Happening, OfEvent, OfRound, Happens, HappensBy, Goes}
 use Rattle.room_run.specs.Heard.{Hears}
 
@@ -42,23 +43,18 @@ reached_more hears end c d e old mid new x r turn next = record {
 
 -- ---- one turn, from what the calls report
 
-pub event_happens : (end at : ℕ) (net new : NetState) (e : TimedEvent) (rest others : List TimedEvent) (totals counted : Totals)
-    → rest ≡ e ∷ others → turn_of end net (first_time rest) ≡ Apply at → new ≡ net_after at e.event net → counted ≡ counted_event (event_fault net e.event) totals
-    → Happens end (record { net = net; events = rest; totals = totals }) (OfEvent at e net) (record { net = new; events = others; totals = counted })
+pub event_happens : EventsHappen
 event_happens end at net new e rest others totals counted split turn step count =
     subst (λ t. HappensBy t (record { net = net; events = rest; totals = totals }) (OfEvent at e net) (record { net = new; events = others; totals = counted })) (sym turn)
     (record { event = e; others = others; next = split; is = refl; after = λ i. record { net = step i; events = others; totals = count i } })
 
-pub round_happens : (end begin : ℕ) (net new : NetState) (rest : List TimedEvent) (totals counted : Totals) (o : Outcome)
-    → turn_of end net (first_time rest) ≡ Round begin → IsWave o.wave → IsNextRound net begin o new → counted ≡ counted_round (is_complete o.reading.ending) totals
-    → Happens end (record { net = net; events = rest; totals = totals }) (OfRound begin net o) (record { net = new; events = rest; totals = counted })
+pub round_happens : RoundsHappen
 round_happens end begin net new rest totals counted o turn wave next count =
     subst (λ t. HappensBy t (record { net = net; events = rest; totals = totals }) (OfRound begin net o) (record { net = new; events = rest; totals = counted })) (sym turn)
     (record { outcome = o; wave = wave; next = next; is = refl; totals = count; events = refl })
 
 -- how far it brings the run
-pub brings : (end begin : ℕ) (net new : NetState) (totals counted : Totals) (o : Outcome) → IsProgress net begin new → begin < end
-    → IsWave o.wave → IsNextRound net begin o new → counted ≡ counted_round (is_complete o.reading.ending) totals → Brought end net new
+pub brings : RoundsBringOn
 brings end begin net new totals counted o p soon wave next count =
     round_brings (Line Edges) end begin net new totals counted (round_reported (Line Edges) new.devices o) p soon
     (record { outcome = o; wave = wave; next = next; reported = refl; totals = count })
@@ -66,16 +62,12 @@ brings end begin net new totals counted o p soon wave next count =
 -- ---- the same as turns that report a text
 
 -- an event's turn
-pub event_turn_is : (reporting : Reporting) (end at : ℕ) (net : NetState) (e : TimedEvent) (others : List TimedEvent) (totals : Totals) → turn_of end net (first_time (e ∷ others)) ≡ Apply at
-    → IsTurn reporting end (record { net = net; events = e ∷ others; totals = totals }) (event_reported reporting at e net)
-    (record { net = net_after at e.event net; events = others; totals = counted_event (event_fault net e.event) totals })
+pub event_turn_is : EventTurns
 event_turn_is reporting end at net e others totals h =
     subst (λ turn. IsTurnBy reporting turn (record { net = net; events = e ∷ others; totals = totals }) (event_reported reporting at e net)
     (record { net = net_after at e.event net; events = others; totals = counted_event (event_fault net e.event) totals })) (sym h) (refl, refl)
 
 -- a round's turn
-pub round_turn_is : (reporting : Reporting) (end begin : ℕ) (net after : NetState) (events : List TimedEvent) (totals counted : Totals) (line : List ℕ) → turn_of end net (first_time events) ≡ Round begin
-    → IsRoundTurn reporting begin net totals line after counted
-    → IsTurn reporting end (record { net = net; events = events; totals = totals }) line (record { net = after; events = events; totals = counted })
+pub round_turn_is : RoundTurns
 round_turn_is reporting end begin net after events totals counted line h turn =
     subst (λ t. IsTurnBy reporting t (record { net = net; events = events; totals = totals }) line (record { net = after; events = events; totals = counted })) (sym h) (turn, refl)

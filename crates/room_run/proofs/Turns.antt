@@ -12,10 +12,11 @@ use Rattle.room_script.specs.declared.script.TimedEvent.{TimedEvent}
 use Rattle.room_run.specs.declared.run.Reporting.{Reporting}
 use Rattle.room_run.specs.declared.run.Reporting.TheVariants.{Trace}
 use Rattle.message_text.specs.ReadingText.{is_complete}
+use Rattle.room_run.specs.Turns.{NoneAfterStop, SameOutcomesAreOne, TextsBeginSo}
 use Rattle.room_run.specs.Run.{Config, turn_at, counted_round, IsEventTurn, IsRoundTurn, IsTurnBy, IsTurn, Leads, IsRunTextFrom, start_reported, round_reported, end_reported, OneRunText, OneTrace}
 
 -- outcomes that report the same are one
-pub same_outcome : (o p : Outcome) → SameOutcome o p → o ≡ p
+pub same_outcome : SameOutcomesAreOne
 same_outcome o p s = λ i. record {
   reading = record { begin = s.begin i; at = s.at i; ending = s.ending i; bits = record { items = s.bits i } };
   survivors = record { items = s.survivors i };
@@ -51,7 +52,7 @@ one_turn : (reporting : Reporting) (end : ℕ) (c : Config) (line other : List �
 one_turn reporting end c line other d e r s = one_turn_by reporting (turn_at end c) c line other d e r s
 
 -- there is no turn where the run stops
-pub no_turn : (reporting : Reporting) (end : ℕ) (c : Config) (line : List ℕ) (d : Config) → turn_at end c ≡ Stop → IsTurn reporting end c line d → ⊥
+pub no_turn : NoneAfterStop
 no_turn reporting end c line d stops r = subst (λ turn. IsTurnBy reporting turn c line d) stops r
 
 -- some turns come first in every way to where the run stops
@@ -80,8 +81,7 @@ stays reporting end zero d last rest stops l = (l.0, l.1)
 stays reporting end (suc more) d last rest stops (mid, line, others, turn, after, e) = absurd (no_turn reporting end d line mid stops turn)
 
 -- what the turns so far told is the front of the text
-pub front_of_text : (reporting : Reporting) (end n : ℕ) (c d : Config) (body text : List ℕ) (totals : Totals) → Leads reporting end n c body d → IsRunTextFrom reporting end c text totals
-    → (rest : List ℕ) × (text ≡ body ++ rest)
+pub front_of_text : TextsBeginSo
 front_of_text reporting end n c d body text totals l w =
     let go = leads_on reporting end n w.turns c d w.last body w.body l w.leads w.stops in
     (go.1 ++ end_reported reporting end w.last.net, w.whole ∙ ap (λ b. b ++ end_reported reporting end w.last.net) go.3 ∙ append_assoc body go.1 _)

@@ -20,6 +20,7 @@ use Rattle.room_run.specs.declared.run.Reporting.{Reporting}
 use Rattle.room_run.specs.declared.run.Reporting.TheVariants.{Line, Trace}
 use Rattle.room_run.specs.declared.run.Turn.{Turn}
 use Rattle.room_run.specs.declared.run.Turn.TheVariants.{Stop, Apply, Round}
+use Rattle.room_run.specs.Turns.{IsTold, RunsAreTold, SaysOf, TracesSay}
 use Rattle.room_run.specs.Run.{Config, turn_at, start_reported, end_reported, event_text, IsEventTurn, IsRunText, IsTurnBy, Leads}
 use Rattle.room_run.specs.Happening.{Happening, HappensBy, Goes, IsApplied, line_of_turn, text_of}
 use Rattle.room_run.specs.Heard.{Hears, IsRunWritten}
@@ -41,10 +42,7 @@ heard_text {R} {K} hears tally kept said one (x ∷ xs) r s (mid, first, rest) =
 
 -- ---- what is said of each turn is what is reported of it
 
-abbrev pub SaysOf : Reporting → (Happening → List ℕ) → Type 0
-SaysOf reporting said = (turn : Turn) (c : Config) (x : Happening) (d : Config) → HappensBy turn c x d → IsTurnBy reporting turn c (said x) d
-
-pub trace_by : (edid : Option Edid) → SaysOf (Trace edid) (text_of edid)
+pub trace_by : TracesSay
 trace_by edid Stop c x d h = absurd h
 trace_by edid (Apply at) c x d h =
     subst (λ (es : List TimedEvent). IsEventTurn (Trace edid) at es c (text_of edid x) d) (sym h.next) (ap (text_of edid) h.is, h.after)
@@ -73,15 +71,7 @@ leads_of reporting said turn end (x ∷ xs) c d (mid, step, goes) =
 
 -- ---- the whole text
 
--- the texts of a run, by what was said of its turns so far: each begins so, and where the run stops there it is that and what stands last
-pub record IsTold (IsText : List ℕ → Totals → Type 0) (first body tail : List ℕ) (totals : Totals) (goes_on : Bool) : Type 0 where
-  pub whole : goes_on ≡ true → IsText (first ++ (body ++ tail)) totals
-  pub front : (text : List ℕ) (t : Totals) → IsText text t → (rest : List ℕ) × (text ≡ (first ++ body) ++ rest)
-  pub same : goes_on ≡ true → (text : List ℕ) (t : Totals) → IsText text t → text ≡ (first ++ body) ++ tail
-
-pub run_told : (reporting : Reporting) (said : Happening → List ℕ) (turn : SaysOf reporting said) (end : ℕ) (c last : Config) (xs : List Happening) (totals : Totals) (goes_on : Bool)
-    → (goes_on ≡ true → turn_at end last ≡ Stop) → Goes end c xs last → totals ≡ last.totals
-    → IsTold (IsRunText reporting end c) (start_reported reporting c.net) (flat_map said xs) (end_reported reporting end last.net) totals goes_on
+pub run_told : RunsAreTold
 run_told reporting said turn end c last xs totals goes_on stops goes same =
     let first = start_reported reporting c.net in
     let body = flat_map said xs in

@@ -1,8 +1,11 @@
 -- What is certain of a run before its script is known to the end (this profile's own).
-use Rattle.std.specs.Prelude.{◌≡◌, ℕ, zero, suc, ◌≤◌, ◌<◌, List, [], ◌++◌, All}
+use Rattle.std.specs.Prelude.{◌≡◌, ℕ, zero, suc, ◌≤◌, ◌<◌, false, List, [], ◌++◌, All}
 use Rattle.line_wave.specs.declared.Stretch.{Stretch}
-use Rattle.line_wave.specs.Line.{IsWave}
+use Rattle.line_wave.specs.Line.{Line as WaveLine, IsWave, line_of, was_low}
+use Rattle.line_reading.specs.Reading.{known_at, reading_of}
+use Rattle.line_rounds.specs.declared.Seat.{Seat}
 use Rattle.line_rounds.specs.declared.Outcome.{Outcome}
+use Rattle.line_rounds.specs.Round.{IsRound, close_in, pulse_pulls}
 use Rattle.edid_tree.specs.Node.{Node}
 use Rattle.room_net.specs.State.{NetState, first_net}
 use Rattle.room_net.specs.Framed.{AreFramed}
@@ -13,7 +16,7 @@ use Rattle.room_run.specs.declared.run.Reporting.{Reporting}
 use Rattle.room_run.specs.declared.run.Totals.{Totals}
 use Rattle.room_run.specs.declared.run.Turn.{Turn}
 use Rattle.room_run.specs.declared.run.Turn.TheVariants.{Stop, Apply, Round}
-use Rattle.room_run.specs.Run.{Config, start, start_reported, turn_at, IsTurn, IsRunText, Leads}
+use Rattle.room_run.specs.Run.{Config, first_time, start, start_reported, turn_at, turn_of, IsTurn, IsRunText, Leads}
 
 -- ---- what may still come
 
@@ -68,7 +71,29 @@ pub record AllBefore (reporting : Reporting) (until : ℕ) (c : Config) (text : 
   pub leads : LeadsBy reporting until turns c text d
   pub held : IsHeld until d
 
+-- no turn of which something holds comes after a place
+abbrev pub NoTurn : (Turn → Config → Type 0) → Reporting → ℕ → Config → Type 0
+NoTurn Holds reporting until c = (line : List ℕ) (d : Config) → IsTurn reporting until c line d → Holds (turn_at until c) d → ⊥
+
+abbrev pub NoneAfterHeld : Type 0
+NoneAfterHeld = (reporting : Reporting) (until : ℕ) (c : Config) → IsHeld until c → NoTurn (IsOverBy until) reporting until c
+
 -- ---- the laws
+
+-- a pulse that begins once a round is over, and its line high, pulls nothing in it
+abbrev pub LatePulsesDoNotPull : Type 0
+LatePulsesDoNotPull = (begin : ℕ) (low : WaveLine) (rest until t : ℕ) (p : Stretch) → ((u : ℕ) → rest ≤ u → low u ≡ false) → rest < until
+    → (reading_of low begin).until < until → until ≤ p.from → pulse_pulls begin (known_at t (reading_of low begin)).ended (was_low low t) t p ≡ false
+
+-- so the round is the same with it,
+abbrev pub RoundsStay : Type 0
+RoundsStay = (seats : List Seat) (begin until : ℕ) (pulses later : List Stretch) (o : Outcome) → ((u : ℕ) → o.rest ≤ u → line_of o.wave u ≡ false)
+    → close_in o < until → All (λ p. until ≤ p.from) later → IsRound seats begin pulses o → IsRound seats begin (pulses ++ later) o
+
+-- and so is the turn that it is
+abbrev pub RoundTurnsStay : Type 0
+RoundTurnsStay = (until end b : ℕ) (s : NetState) (xs events : List TimedEvent) (later : List Stretch) → turn_of until s (first_time xs) ≡ Round b → ComesFrom until events later end
+    → turn_of end (with_pulses later s) (first_time (xs ++ events)) ≡ Round b
 
 -- The turns that are over before an instant are turns of each run that may still come of what is known, whatever comes for
 -- that instant or later: they report the same, and lead to the same place.

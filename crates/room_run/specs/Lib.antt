@@ -2,6 +2,8 @@ pub mod Run
 pub mod Happening
 pub mod Heard
 pub mod Emulate
+pub mod Accepted
+pub mod Turns
 pub mod RunLine
 pub mod OneRun
 pub mod HasRun

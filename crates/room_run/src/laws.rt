@@ -1,12 +1,16 @@
 //! Laws of runs.
 ghost use Rattle.room_run.specs.Run.{OneRunText, OneTrace};
 ghost use Rattle.room_run.specs.RunLine.{EdgesAreTheLine, LinesAreOfTheRounds, RunsAreRead, RunsAreShort};
+ghost use Rattle.room_run.specs.Accepted.{AddressedEach, AddressesAreThere, ScriptsBeginEarly, ScriptsEndEarly, TextsAreOfOneRun, TopologiesHaveDevices};
 ghost use Rattle.room_run.specs.Emulate.{TextsHaveOneLine, TextsHaveOneTrace};
 ghost use Rattle.room_run.specs.HasRun.{RunsHaveTexts, TextsHaveTraces};
 ghost use Rattle.room_run.specs.OneRun.{OneRun, RunsCloseSoon, TextsHaveOneRun, TracesHaveParts};
-ghost use Rattle.room_run.specs.Certain.{AllBeforeIsOne, ReportedIsFront, TurnsAreCertain, TurnsStayCertain};
+ghost use Rattle.room_run.specs.Certain.{AllBeforeIsOne, LatePulsesDoNotPull, NoneAfterHeld, ReportedIsFront, RoundTurnsStay, RoundsStay, TurnsAreCertain, TurnsStayCertain};
 ghost use Rattle.room_run.specs.Causal.{RunsAreCausal, TracesAreCausal};
 ghost use Rattle.room_run.specs.HeldTrace.{TextsHaveOneHeldTrace};
+ghost use Rattle.room_run.specs.Turns.{EventTurns, EventsAreRefused, EventsHappen, EventsKeepComplete, EventsKeepRounds, NoneAfterStop, PortsAreThoseBefore};
+ghost use Rattle.room_run.specs.Turns.{RoundTurns, RoundTurnsBegin, RoundsAreCounted, RoundsBringOn, RoundsHappen, RunsAreTold, SameOutcomesAreOne};
+ghost use Rattle.room_run.specs.Turns.{SchedulesGoOn, TextsBeginSo, TracesSay, TurnsAreOne};
 
 use line_rounds::one_outcome;
 use room_script::one_script;
@@ -128,4 +132,74 @@ pub fn runs_are_causal()
 /// What the trace of a topology and a script has before an instant depends on what the script says before that instant alone.
 pub fn traces_are_causal()
     ensures { TracesAreCausal }
+{}
+
+/// What the texts of a topology and a script spell fits a run: its pulses and pulls begin and end within the limits of runs, and
+/// there is a device. A trace of the texts is a trace of that run.
+pub fn accepted_texts_fit_runs()
+    ensures early { ScriptsBeginEarly }
+    ensures ends { ScriptsEndEarly }
+    ensures device { TopologiesHaveDevices }
+    ensures trace { TextsAreOfOneRun }
+{}
+
+/// The EDID that ports pass on has an address, where one is given: said of none or one, or of each that is given, it is the
+/// same.
+pub fn passed_edids_have_addresses()
+    ensures each { AddressesAreThere }
+    ensures all { AddressedEach }
+{}
+
+/// A round's turn begins at the next start, before the end, and brings the rest and the close on. After an event's turn the
+/// events that are left are in order.
+pub fn turns_bring_on()
+    ensures begins { RoundTurnsBegin }
+    ensures brings { RoundsBringOn }
+    ensures left { SchedulesGoOn }
+{}
+
+/// An event counts no round, and one refused event at most. A round counts itself, and itself as complete at most.
+pub fn totals_count_turns()
+    ensures rounds { EventsKeepRounds }
+    ensures complete { EventsKeepComplete }
+    ensures refused { EventsAreRefused }
+    ensures counts { RoundsAreCounted }
+{}
+
+/// What the calls report of an event or a round is what happens in that turn, and a turn of the run that reports a text.
+pub fn calls_are_turns()
+    ensures event { EventsHappen }
+    ensures round { RoundsHappen }
+    ensures event_turn { EventTurns }
+    ensures round_turn { RoundTurns }
+{}
+
+/// Outcomes that report the same are one, and a turn reports one text and leads to one place. No turn comes where the run stops,
+/// and none that is over before an instant comes where what is next is not over before it.
+pub fn turns_are_one()
+    ensures outcome { SameOutcomesAreOne }
+    ensures turn { TurnsAreOne }
+    ensures none { NoneAfterStop }
+    ensures held { NoneAfterHeld }
+{}
+
+/// What the turns so far report is the front of each text of the run, and where the run stops it is that text but for what stands
+/// last. What is said of each turn in a trace is what is reported of it.
+pub fn turns_tell_the_text()
+    ensures front { TextsBeginSo }
+    ensures told { RunsAreTold }
+    ensures trace { TracesSay }
+{}
+
+/// A pulse that begins once a round has closed pulls nothing in it: the round stays the same whatever comes then or later, and so
+/// does the turn that it is.
+pub fn rounds_stay()
+    ensures late { LatePulsesDoNotPull }
+    ensures round { RoundsStay }
+    ensures turn { RoundTurnsStay }
+{}
+
+/// The ports whose devices come onto the wire by an event are told by which devices were on it before.
+pub fn ports_go_by_what_was()
+    ensures { PortsAreThoseBefore }
 {}

@@ -27,25 +27,12 @@ use Rattle.room_script.specs.Fault.{at_word}
 use Rattle.room_script.specs.declared.fault.ScriptLineFault.{ScriptLineFault}
 use Rattle.room_script.specs.declared.script.ScriptCause.TheVariants.{Word, Width, Order, TooMany, End}
 use Rattle.room_script.specs.Script.{Notes, time_of, last_time, last_end, notes_with_event, plug_read, plug_words, unplug_read, unplug_words, key_read, key_words, act_read, hold_words, drop_words, send_read, frame_event, event_words, unless_fault, pulse_refusal, pulse_read, pulse_words, touches, notes_with_pull, pull_read, pull_words, is_before, level_of, pin_falls, pin_rises, pin_stays_high, pin_stays_low, notes_with_level, pin_read, pin_words, pulses_ended, end_read, end_words, other_words, IsSendRead, IsEventRead, IsWordsRead, IsLineRead}
+use Rattle.room_script.specs.Lines.{AreFew, IsMore, LinesAdd, LinesAreOfScripts, LinesKeepFew, pulls_held}
 use Rattle.line_wave.specs.Bounds.{latest_event, most_pulses, most_pulls, widest_pull}
 
 -- ---- what a line adds
 
--- how many pulls are still to come of a pin
-abbrev pub held : Option ℕ → ℕ
-held None = 0
-held (Some from) = 1
-
-pub record IsMore (waiting : ℕ) (old new : Notes) : Type 0 where
-  pub events : List TimedEvent
-  pub pulses : List Stretch
-  pub events_are : new.events ≡ old.events ++ events
-  pub pulses_are : new.pulses ≡ old.pulses ++ pulses
-  pub few_events : length events ≤ 1
-  pub few_pulses : length pulses ≤ 1
-  pub room : waiting + length pulses + held new.pin ≤ max (waiting + held old.pin) most_pulls
-
-none_held : (pin : Option ℕ) → is_some pin ≡ false → held pin ≡ 0
+none_held : (pin : Option ℕ) → is_some pin ≡ false → pulls_held pin ≡ 0
 none_held None h = refl
 none_held (Some from) h = cc
 
@@ -95,7 +82,7 @@ with_fall waiting notes from few = record {
 }
 
 -- one that was low and rises
-with_rise : (waiting : ℕ) (notes : Notes) (pull : Stretch) (end : Option ℕ) → held notes.pin ≡ 1 → IsMore waiting notes (record notes { pulses = notes.pulses ++ pull ∷ []; end = end; pin = None })
+with_rise : (waiting : ℕ) (notes : Notes) (pull : Stretch) (end : Option ℕ) → pulls_held notes.pin ≡ 1 → IsMore waiting notes (record notes { pulses = notes.pulses ++ pull ∷ []; end = end; pin = None })
 with_rise waiting notes pull end low = record {
   events = [];
   pulses = pull ∷ [];
@@ -285,7 +272,7 @@ high-adds waiting notes time =
     adds_if waiting notes (is_before (last_end notes.pulses) time) _ _ (adds_err waiting notes _ refl)
     (adds_if waiting notes (is_some notes.end) _ _ (adds_err waiting notes _ refl) (adds_ok waiting notes notes (with_none waiting notes)))
 
-rise-adds : (waiting : ℕ) (notes : Notes) (from time : ℕ) → held notes.pin ≡ 1 → Adds waiting notes (pin_rises notes from time)
+rise-adds : (waiting : ℕ) (notes : Notes) (from time : ℕ) → pulls_held notes.pin ≡ 1 → Adds waiting notes (pin_rises notes from time)
 rise-adds waiting notes from time low =
     adds_if waiting notes (nat_le time from) _ _ (adds_err waiting notes _ refl) (adds_ok waiting notes _ (with_rise waiting notes (record { from = from; to = time }) notes.end low))
 
@@ -296,7 +283,7 @@ level-adds : (waiting : ℕ) (notes : Notes) (time : ℕ) (pin : Option ℕ) (le
 level-adds waiting notes time None false is = fall-adds waiting notes time
 level-adds waiting notes time None true is = high-adds waiting notes time
 level-adds waiting notes time (Some from) false is = low-adds waiting notes from time
-level-adds waiting notes time (Some from) true is = rise-adds waiting notes from time (ap held is)
+level-adds waiting notes time (Some from) true is = rise-adds waiting notes from time (ap pulls_held is)
 
 pin_read-adds : (waiting : ℕ) (notes : Notes) (time : Option ℕ) (level : Option Bool) → Adds waiting notes (pin_read notes waiting time level)
 pin_read-adds waiting notes None level = adds_err waiting notes _ refl
@@ -324,7 +311,7 @@ end_read-adds waiting notes (Some time) =
   where
     ended : (pin : Option ℕ) → notes.pin ≡ pin → IsMore waiting notes (record notes { pulses = pulses_ended pin notes.pulses time; end = Some time; pin = None })
     ended None is = with_end waiting notes time
-    ended (Some from) is = with_rise waiting notes (record { from = from; to = max time (min from latest_event + 1) }) (Some time) (ap held is)
+    ended (Some from) is = with_rise waiting notes (record { from = from; to = max time (min from latest_event + 1) }) (Some time) (ap pulls_held is)
 
 end_words-adds : (waiting : ℕ) (notes : Notes) (many : ℕ) (words : Option (List ℕ)) → Adds waiting notes (end_words notes many words)
 end_words-adds waiting notes many None = adds_err waiting notes _ refl
@@ -345,18 +332,14 @@ words-add waiting tree notes line (verb ∷ words) next h =
     (λ q. adds_next waiting notes (other_words notes waiting verb words) next (other_words-adds waiting notes verb words) (sym q)) h
 
 -- a line that is taken
-pub line_adds : (waiting : ℕ) (tree : List Node) (notes : Notes) (line : ℕ) (text : List ℕ) (next : Notes) → IsLineRead tree notes waiting line text (Ok next) → IsMore waiting notes next
+pub line_adds : LinesAdd
 line_adds waiting tree notes line text next h =
     by_cond (is_skipped text) (Ok next ≡ Ok notes) (IsWordsRead tree notes waiting line (words_of text) (Ok next)) (IsMore waiting notes next)
     (λ p. adds_next waiting notes (Ok notes) next (adds_ok waiting notes notes (with_none waiting notes)) (sym p))
     (λ q. words-add waiting tree notes line (words_of text) next q) h
 
--- what a script pulls low is few, with the pull of a pin that is low
-abbrev pub AreFew : Notes → Type 0
-AreFew notes = length notes.pulses + held notes.pin ≤ most_pulls
-
--- and stays so
-pub few_pulses : (tree : List Node) (notes : Notes) (line : ℕ) (text : List ℕ) (next : Notes) → IsLineRead tree notes (length notes.pulses) line text (Ok next) → AreFew notes → AreFew next
+-- what a script pulls low stays few
+pub few_pulses : LinesKeepFew
 few_pulses tree notes line text next read few =
     let more = line_adds (length notes.pulses) tree notes line text next read in
     let long : length next.pulses ≡ length notes.pulses + length more.pulses = ap length more.pulses_are ∙ length-append notes.pulses more.pulses in
@@ -521,8 +504,7 @@ words_again tree notes next waiting line (verb ∷ words) few h = by_verb (bytes
     by_verb false k = other_again notes next waiting verb words few k
 
 -- a line that is taken is one of a script too, where its pulses and pulls are few in all
-pub read_again : (tree : List Node) (notes next : Notes) (waiting line : ℕ) (text : List ℕ) → length next.pulses ≤ most_pulses → IsLineRead tree notes waiting line text (Ok next)
-    → IsLineRead tree notes (length notes.pulses) line text (Ok next)
+pub read_again : LinesAreOfScripts
 read_again tree notes next waiting line text few h = by_text (is_skipped text) h
   where
     by_text : (b : Bool) → cond {A = Type 0} b (◌≡◌ {A = Result Notes ScriptLineFault} (Ok next) (Ok notes)) (IsWordsRead tree notes waiting line (words_of text) (Ok next))

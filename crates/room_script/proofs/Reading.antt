@@ -11,6 +11,7 @@ use Rattle.room_script.specs.declared.script.ScriptLineError.TheVariants.{Fault,
 use Rattle.room_event.specs.declared.event.HeaderNames.{HeaderNames}
 use Rattle.text_core.proofs.PartedLemmas.{words_of-some}
 use Rattle.room_script.specs.Header.{has_names, digits_of, with_digits, digits_text, header_names}
+use Rattle.room_script.specs.Lines.{LinesEnd, LinesFollow}
 use Rattle.room_script.specs.Script.{Course, Notes, ScriptFault, time_of, send_read, course_at_end, IsFrameOf, IsSendRead, IsLineRead, AreLinesRead, GivesNotes, Gives}
 
 pub text_of-words_of : (text : List ℕ) → text_of (words_of text) ≡ text
@@ -58,14 +59,12 @@ gives_send tree notes now line time name frame word others words result at devic
     subst P (sym whole) (gives (IsSendRead tree notes line time (name ∷ word ∷ others)) now result _ read (r, subst FrameOf parted is, refl))
 
 -- the first of some lines, and those after it
-pub line_read : (tree : List Node) (texts after : List (List ℕ)) (text : List ℕ) (line : ℕ) (notes next : Notes) (read : Result Course ScriptFault) → texts ≡ text ∷ after → IsLineRead tree notes (length notes.pulses) line text (Ok next)
-    → AreLinesRead tree after (line + 1) next read → AreLinesRead tree texts line notes read
+pub line_read : LinesFollow
 line_read tree texts after text line notes next read split first rest =
     let P : List (List ℕ) → Type 0 = λ t. AreLinesRead tree t line notes read in subst P (sym split) (Ok next, first, rest)
 
 -- after the last line
-pub last_line : (tree : List Node) (texts : List (List ℕ)) (line : ℕ) (notes : Notes) (time : ℕ) → texts ≡ [] → notes.end ≡ Some time
-    → AreLinesRead tree texts line notes (Ok (record { events = notes.events; pulses = notes.pulses; end = time }))
+pub last_line : LinesEnd
 last_line tree texts line notes time none end =
     let course : Course = record { events = notes.events; pulses = notes.pulses; end = time } in
     let read : Ok course ≡ course_at_end notes line notes.end = sym (ap (course_at_end notes line) end) in

@@ -32,7 +32,8 @@ use Rattle.room_event.specs.declared.event.Event.TheVariants.{Plug, Unplug, Key,
 use Rattle.room_event.specs.declared.event.HeaderNames.{HeaderNames}
 use Rattle.room_script.specs.declared.script.TimedEvent.{TimedEvent}
 use Rattle.room_script.specs.declared.fault.ScriptLineFault.{ScriptLineFault}
-use Rattle.room_script.proofs.Adding.{AreFew, few_pulses, none_while_low}
+use Rattle.room_script.specs.Lines.{AreFew, AreSound, IsEarly, LinesKeepSound, NoneAreSound, SoundAreTimely}
+use Rattle.room_script.proofs.Adding.{few_pulses, none_while_low}
 use Rattle.room_script.specs.Script.{Course, Notes, within_limit, time_of, last_time, last_end, notes_with_event, plug_read, plug_words, unplug_read, unplug_words, key_read, key_words, act_read, hold_words, drop_words, send_read, frame_event, event_words, unless_fault, pulse_refusal, notes_with_pulse, pulse_read, pulse_words, touches, notes_with_pull, pull_read, pull_words, is_before, level_of, pin_falls, pin_rises, pin_stays_high, pin_stays_low, notes_with_level, pin_read, pin_words, pulses_ended, end_read, end_words, other_words, course_at_end, no_notes, IsFrameOf, IsSendRead, IsEventRead, IsWordsRead, IsLineRead, IsSchedule, AreFramedEvents, IsNoWider, MayFall, IsScript, Onward, AreLinesRead, ScriptsAreSound}
 
 -- ---- times
@@ -164,21 +165,7 @@ touches-apart (Some end) time h = grind (arith, nat_tests, h)
 
 -- ---- what the lines so far keep
 
--- within the limit of times
-abbrev pub IsEarly : Stretch → Type 0
-IsEarly pulse = pulse.from ≤ latest_event
-
-pub record AreSound (count : ℕ) (notes : Notes) : Type 0 where
-  pub schedule : IsSchedule count (last_time notes.events + 1) 0 notes.events
-  pub framed : AreFramedEvents notes.events
-  pub order : IsWave notes.pulses
-  pub wide : All IsNoWider notes.pulses
-  pub early : All IsEarly notes.pulses
-  pub ended : (time : ℕ) → notes.end ≡ Some time → IsSchedule count time 0 notes.events × (time ≤ latest_event)
-  pub held : (from : ℕ) → notes.pin ≡ Some from → MayFall notes.pulses from
-  pub let_go : (time : ℕ) → notes.end ≡ Some time → notes.pin ≡ None
-
-pub sound_start : (count : ℕ) → AreSound count no_notes
+pub sound_start : NoneAreSound
 sound_start count = record { schedule = tt; framed = tt; order = tt; wide = All-nil IsNoWider; early = All-nil IsEarly; ended = λ t e. (cc); held = λ t e. (cc); let_go = λ t e. refl }
 
 Keeps : ℕ → Result Notes ScriptLineFault → Type 0
@@ -564,7 +551,7 @@ words-keep tree notes waiting line (verb ∷ words) next s h =
     (λ q. keeps_next (length tree) (other_words notes waiting verb words) next (other_words-keeps (length tree) notes waiting verb words s) (sym q)) h
 
 -- a line that is taken keeps it
-pub line-keeps : (tree : List Node) (notes : Notes) (waiting line : ℕ) (text : List ℕ) (next : Notes) → AreSound (length tree) notes → IsLineRead tree notes waiting line text (Ok next) → AreSound (length tree) next
+pub line-keeps : LinesKeepSound
 line-keeps tree notes waiting line text next s h =
     by_cond (is_skipped text) (Ok next ≡ Ok notes) (IsWordsRead tree notes waiting line (words_of text) (Ok next)) (AreSound (length tree) next)
     (λ p. keeps_next (length tree) (Ok notes) next (keeps_ok (length tree) notes s) (sym p))
@@ -579,7 +566,7 @@ timely pulses few order wide early = record {
 }
 
 -- the same as a test
-pub tested : (pulses : List Stretch) → length pulses ≤ most_pulls → IsWave pulses → All IsNoWider pulses → All IsEarly pulses → are_timely pulses ≡ true
+pub tested : SoundAreTimely
 tested pulses few order wide early = (timely_tested pulses).1 (timely pulses few order wide early)
 
 -- what the lines keep at the end is a script

@@ -4,3 +4,4 @@ pub mod Header
 pub mod Holding
 pub mod Topology
 pub mod Script
+pub mod Lines

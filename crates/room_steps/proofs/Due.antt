@@ -21,7 +21,7 @@ use Rattle.room_script.specs.declared.script.TimedEvent.{TimedEvent}
 use Rattle.room_run.specs.declared.run.Turn.{Turn}
 use Rattle.room_run.specs.declared.run.Turn.TheVariants as turns
 use Rattle.room_run.specs.Run.{turn_of}
-use Rattle.room_run.proofs.Advance.{event_keeps}
+use Rattle.room_net.proofs.Kept.{event_keeps}
 use Rattle.room_step_text.specs.declared.break_at.Break.{Break}
 use Rattle.room_step_text.specs.declared.break_at.Break.TheVariants.{Opcode, AnyBreak}
 use Rattle.room_step_text.specs.declared.commands.StepCommand.{StepCommand}

@@ -15,7 +15,7 @@ use Rattle.room_script.specs.declared.script.TimedEvent.{TimedEvent}
 use Rattle.room_run.specs.declared.run.Turn.{Turn}
 use Rattle.room_run.specs.declared.run.Turn.TheVariants.{Stop, Apply, Round}
 use Rattle.room_run.specs.Run.{turn_of, first_time}
-use Rattle.room_run.proofs.Advance.{round_begins, same_begin}
+use Rattle.room_run.proofs.Advance.{round_begins}
 use Rattle.room_steps.specs.declared.position.Ahead.{Ahead}
 use Rattle.room_steps.specs.declared.position.Position.{Position}
 use Rattle.room_steps.specs.declared.position.RunInput.{RunInput}
@@ -27,6 +27,9 @@ use Rattle.room_steps.specs.Ready.{AreAlike, Begins, InsideIf, IsAhead, IsInside
 use Rattle.room_steps.proofs.Passing.{ready_event}
 use Rattle.room_steps.proofs.Rounds.{alike_point, ready_round}
 use Rattle.room_steps.proofs.Taken.{taken_as}
+
+same_begin : {begin x : ℕ} → Some begin ≡ Some x → begin ≡ x
+same_begin e = cc
 
 ready_from : (end : ℕ) (s : NetState) (es : List TimedEvent) (first : Bool) → IsReady end (record { net = s; events = es; is_first = first }) → IsReady end (passed_from end s es first)
 unfolding passed_from

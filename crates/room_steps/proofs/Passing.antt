@@ -10,7 +10,8 @@ use Rattle.room_run.specs.declared.run.Turn.TheVariants.{Stop, Apply, Round}
 use Rattle.room_run.specs.Run.{turn_of, first_time, event_text}
 use Rattle.room_run.specs.Happening.{Happening, OfEvent, text_of}
 use Rattle.room_run.specs.Heard.{Hears}
-use Rattle.room_run.proofs.Advance.{event_keeps, next_schedule}
+use Rattle.room_net.proofs.Kept.{event_keeps}
+use Rattle.room_run.proofs.Advance.{next_schedule}
 use Rattle.room_steps.specs.Steps.{Point, passed_from, passed_by, passed_text_from, text_by}
 use Rattle.room_steps.specs.Ready.{IsReady, happened_by, happened_from}
 

@@ -16,7 +16,8 @@ use Rattle.room_run.specs.declared.run.Turn.TheVariants.{Stop, Apply, Round}
 use Rattle.room_run.specs.Run.{first_time}
 use Rattle.room_run.specs.Happening.{Happening, OfEvent}
 use Rattle.room_run.specs.Heard.{Hears}
-use Rattle.room_run.proofs.Advance.{event_keeps, round_begins}
+use Rattle.room_net.proofs.Kept.{event_keeps}
+use Rattle.room_run.proofs.Advance.{round_begins}
 use Rattle.room_steps.specs.declared.position.Position.{Position}
 use Rattle.room_steps.specs.Steps.{Point, IsOver, turn_at, after_events, passed_from}
 use Rattle.room_steps.specs.Ready.{AreAlike, Begins, HearsFirst, IsReady, Passes, happened, point_of}

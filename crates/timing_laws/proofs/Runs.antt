@@ -38,8 +38,9 @@ use Rattle.room_net.specs.Step.{after_round, seats_of}
 use Rattle.room_net.specs.Framed.{AreFramed}
 use Rattle.room_net.specs.Line.{Move, Happens, Goes, GoesFrom, Moves, rounds_of, run_wave}
 pub use Rattle.room_net.proofs.Framed.{framed-applied, framed-round, seats_fit}
-pub use Rattle.room_net.proofs.Lines.{begun, kept}
-pub use Rattle.room_net.proofs.Progress.{Led, led}
+pub use Rattle.room_net.specs.Progress.{IsLed}
+pub use Rattle.room_net.proofs.Kept.{event_keeps}
+pub use Rattle.room_net.proofs.Lines.{begun, least_led}
 use Rattle.timing_laws.specs.Times.{AreFree, AreInTime, AsksForMore}
 use Rattle.timing_laws.proofs.Nominal.{IsOwnEnding, ends_later, rounds_are_nominal}
 use Rattle.timing_laws.proofs.Widths.{Later, none_later, sender_remarks}
@@ -362,17 +363,9 @@ rounds_free (o ∷ os) h t old left past free = (
 
 -- ---- a run
 
-pub sends_any : (seats : List Seat) (f : List ℕ) → In f (frames_of seats) → list_any (λ (s : Seat). is_some s.sends) seats ≡ true
-sends_any [] f i = absurd i
-sends_any (s ∷ seats) f i = by_frame (λ k. sends_any seats f k) s.sends i
-  where
-    by_frame : (In f (frames_of seats) → list_any (λ (x : Seat). is_some x.sends) seats ≡ true) → (o : Option (List ℕ)) → In f (cons_option o (frames_of seats)) → (is_some o || list_any (λ (x : Seat). is_some x.sends) seats) ≡ true
-    by_frame later None k = later k
-    by_frame later (Some g) k = refl
-
 -- without pulses it is a device that starts
-pub leads : (s : NetState) (begin : ℕ) → s.pulses ≡ [] → next_start s ≡ Some begin → Led s.rest begin s.devices
-leads s begin none next = led s.rest begin s.devices (by (least_start s.rest s.devices) (ap (λ (ps : List Stretch). sooner (least_start s.rest s.devices) (first_onset ps)) (sym none) ∙ next))
+pub leads : (s : NetState) (begin : ℕ) → s.pulses ≡ [] → next_start s ≡ Some begin → IsLed s.rest begin s.devices
+leads s begin none next = least_led s.rest begin s.devices (by (least_start s.rest s.devices) (ap (λ (ps : List Stretch). sooner (least_start s.rest s.devices) (first_onset ps)) (sym none) ∙ next))
   where
     by : (o : Option ℕ) → sooner o None ≡ Some begin → o ≡ Some begin
     by None h = h
@@ -390,11 +383,11 @@ timed s begin o framed none g = record {
     round : IsRound (seats_of s begin) begin [] o
     round = subst (λ (ps : List Stretch). IsRound (seats_of s begin) begin ps o) none g.round
 
-    lead : Led s.rest begin s.devices
+    lead : IsLed s.rest begin s.devices
     lead = leads s begin none g.begins
 
     sends : list_any (λ (x : Seat). is_some x.sends) (seats_of s begin) ≡ true
-    sends = sends_any (seats_of s begin) lead.frame lead.sent
+    sends = lead.sends
 
     later : (begin + 2100 + 2400 * length o.reading.bits.items < o.reading.at) × (0 < length o.reading.bits.items) × IsOwnEnding o.reading.ending
     later = ends_later (seats_of s begin) begin o (seats_fit s begin framed) round sends
@@ -449,7 +442,7 @@ rested_after s begin o framed none g = record { low = low; soon = soon }
 apart_next : (o : Outcome) (s t : NetState) (ms : List Move) → Rested o s.rest → s.pulses ≡ [] → Moves s ms t → Apart o (rounds_of ms)
 apart_next o s t [] r none m = tt
 apart_next o s t (Happens at event ∷ ms) r none m =
-    apart_next o (net_after at event s) t ms (subst (λ (rest : ℕ). Rested o rest) (sym (kept at event s).rest) r) ((kept at event s).pulses ∙ none) m.1
+    apart_next o (net_after at event s) t ms (subst (λ (rest : ℕ). Rested o rest) (sym (event_keeps at event s (net_after at event s) refl).rest) r) ((event_keeps at event s (net_after at event s) refl).pulses ∙ none) m.1
 apart_next o s t (Goes begin p ∷ ms) r none m =
     let late : s.rest + 7200 ≤ begin = (leads s begin none m.0.begins).late in
     let starts : p.reading.begin ≡ begin = m.0.round.starts in
@@ -459,7 +452,7 @@ apart_next o s t (Goes begin p ∷ ms) r none m =
 
 pub runs_are_timed : (s t : NetState) (ms : List Move) → AreFramed s → s.pulses ≡ [] → Moves s ms t → AreTimed (rounds_of ms)
 runs_are_timed s t [] framed none m = tt
-runs_are_timed s t (Happens at event ∷ ms) framed none m = runs_are_timed (net_after at event s) t ms (framed-applied at event s m.0 framed) ((kept at event s).pulses ∙ none) m.1
+runs_are_timed s t (Happens at event ∷ ms) framed none m = runs_are_timed (net_after at event s) t ms (framed-applied at event s m.0 framed) ((event_keeps at event s (net_after at event s) refl).pulses ∙ none) m.1
 runs_are_timed s t (Goes begin o ∷ ms) framed none m = (
   timed s begin o framed none m.0,
   apart_next o (after_round s begin o) t ms (rested_after s begin o framed none m.0) left m.1,

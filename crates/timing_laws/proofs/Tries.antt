@@ -37,7 +37,7 @@ use Rattle.room_net.specs.State.{NetState, next_start}
 use Rattle.room_net.specs.Step.{after_round, is_sent, seat_of, seats_of, sent_in}
 use Rattle.timing_laws.specs.Attempts.{AreOfSix, IsOfSix}
 use Rattle.timing_laws.proofs.Nominal.{LastStarts, last_starts}
-use Rattle.timing_laws.proofs.Runs.{AreTimed, In, Led, OldBefore, come_here, final_by_round, framed-applied, framed-round, kept, leads, old_before, rested_after, runs_are_timed, seats_fit, sends_any}
+use Rattle.timing_laws.proofs.Runs.{AreTimed, In, IsLed, OldBefore, come_here, event_keeps, final_by_round, framed-applied, framed-round, leads, old_before, rested_after, runs_are_timed, seats_fit}
 use Rattle.timing_laws.proofs.Waits.{AreKept, Counted, IsFront, IsKept, all_late, kept-applied, kept-round, started_again}
 
 -- ---- what is kept of frames
@@ -325,11 +325,11 @@ round_of_six s begin o framed none g a p most kept_all bounded late past = by (n
     round : IsRound (seats_of s begin) begin [] o
     round = subst (λ (ps : List Stretch). IsRound (seats_of s begin) begin ps o) none g.round
 
-    lead : Led s.rest begin s.devices
+    lead : IsLed s.rest begin s.devices
     lead = leads s begin none g.begins
 
     starts : LastStarts (seats_of s begin) bits
-    starts = (last_starts (seats_of s begin) begin o (seats_fit s begin framed) round (sends_any (seats_of s begin) lead.frame lead.sent)).0
+    starts = (last_starts (seats_of s begin) begin o (seats_fit s begin framed) round lead.sends).0
 
     soon_begin : nat_lt (free_before p o.reading.begin) 12000 ≡ true → begin < s.rest + 12000
     soon_begin e =
@@ -355,8 +355,8 @@ pub runs_of_six : (s t : NetState) (ms : List Move) → AreFramed s → s.pulses
     → (most : ℕ) → AreKept s.rest most s.devices → IsBounded most s.rest tape.attempts → tape.previous.final_bit ≤ s.rest → AreOfSix tape (map outcome_listed (rounds_of ms))
 runs_of_six s t [] framed none m tape old left past most kept_all bounded final = tt
 runs_of_six s t (Happens at event ∷ ms) framed none m tape old left past most kept_all bounded final =
-    let rest : (net_after at event s).rest ≡ s.rest = (kept at event s).rest in
-    runs_of_six (net_after at event s) t ms (framed-applied at event s m.0 framed) ((kept at event s).pulses ∙ none) m.1 tape old left past most
+    let rest : (net_after at event s).rest ≡ s.rest = (event_keeps at event s (net_after at event s) refl).rest in
+    runs_of_six (net_after at event s) t ms (framed-applied at event s m.0 framed) ((event_keeps at event s (net_after at event s) refl).pulses ∙ none) m.1 tape old left past most
     (subst (λ (r : ℕ). AreKept r most (net_after at event s).devices) (sym rest) (kept-applied s.rest most at event s kept_all))
     (subst (λ (r : ℕ). IsBounded most r tape.attempts) (sym rest) bounded)
     (omega (arith, rest, final))
@@ -383,7 +383,7 @@ runs_of_six s t (Goes begin o ∷ ms) framed none m tape old left past most kept
     here : (come_to x tape).place ≡ edges_of o.wave ++ edges_of (run_wave (rounds_of ms))
     here = come_here o (rounds_of ms) timed tape old left past
 
-    lead : Led s.rest begin s.devices
+    lead : IsLed s.rest begin s.devices
     lead = leads s begin none m.0.begins
 
     late : s.rest + 7200 ≤ begin
@@ -402,7 +402,7 @@ runs_of_six s t (Goes begin o ∷ ms) framed none m tape old left past most kept
     round = subst (λ (ps : List Stretch). IsRound (seats_of s begin) begin ps o) none m.0.round
 
     begun : o.reading.ending ≢ BadStart
-    begun = (last_starts (seats_of s begin) begin o (seats_fit s begin framed) round (sends_any (seats_of s begin) lead.frame lead.sent)).1
+    begun = (last_starts (seats_of s begin) begin o (seats_fit s begin framed) round lead.sends).1
 
     counted : Counted s.rest begin most now
     counted = by (nat_lt free 12000) refl

@@ -1,7 +1,7 @@
 use Rattle.std.proofs.Common.{◌+◌, ◌≤◌, length}
 use Rattle.text_core.specs.Lines.{lines_of}
 use Rattle.room_script.specs.Script.{notes_of}
-use Rattle.room_script.proofs.Sound.{AreSound}
+use Rattle.room_script.specs.Lines.{AreSound}
 use Rattle.expect_run.proofs.PlainRead.{HoldsFew, Leads}
 use Rattle.expect_run.proofs.plain.parse_plain.Given as goal
 

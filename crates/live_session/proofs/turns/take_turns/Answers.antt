@@ -1,11 +1,16 @@
-use Rattle.std.proofs.Common.{rules, arith, ◌≡◌, ◌∷◌, ◌∙◌, subst, sym, length, Bool, None}
+use Rattle.std.proofs.Common.{rules, arith, ◌≡◌, ◌∷◌, ◌∙◌, ◌+◌, ◌-◌, ◌<◌, ℕ, subst, sym, length, Bool, None}
+use Rattle.line_wave.specs.Bounds.{latest_event, latest_instant}
 use Rattle.room_run.specs.declared.run.Turn.TheVariants.{Stop, Apply, Round}
 use Rattle.room_run.specs.Run.{turn_of, first_time}
-use Rattle.room_run.proofs.Advance.{event_keeps, next_schedule, round_begins, smaller, rounds_kept, complete_kept, refused_kept, counts_brought}
+use Rattle.room_net.proofs.Kept.{event_keeps}
+use Rattle.room_run.proofs.Advance.{next_schedule, round_begins, rounds_kept, complete_kept, refused_kept, counts_brought}
 use Rattle.room_run.proofs.Running.{brings, event_happens, round_happens}
 use Rattle.live_session.specs.Turns.{IsOn}
 use Rattle.live_session.proofs.Going.{drop_next, next_event, heard_is, next_round, reached_more}
 use Rattle.live_session.proofs.turns.take_turns.Goals as goal
+
+smaller : (events old new : ℕ) → old < new → old < latest_event → events + (latest_instant - new) < events + (latest_instant - old)
+smaller events old new sooner before = omega arith
 
 pub turns-preserved-in-Apply : goal.turns-preserved-in-Apply
 turns-preserved-in-Apply g c =

@@ -5,7 +5,7 @@ use Rattle.room_net.specs.State.{first_net}
 use Rattle.room_run.specs.Run.{start}
 use Rattle.room_driven.specs.Named.{IsDump}
 use Rattle.room_run.proofs.Accepted.{early, ends_early, has_device}
-use Rattle.room_driven.proofs.Counts.{count_started}
+use Rattle.room_net.proofs.Kept.{started_count}
 use Rattle.room_driven.proofs.HasDump.{dump_of_texts, runs_have_dumps}
 use Rattle.room_driven.proofs.emulate.emulate_drives.Goals as goal
 
@@ -21,7 +21,7 @@ pub on_heap-requires-clause-ends : goal.on_heap-requires-clause-ends
 on_heap-requires-clause-ends g c = rw c.deref.ensures.value (ends_early c.in_ok-script.script.pulses.items c.in_ok-script.ensures.script.early c.in_ok-script.ensures.script.wide)
 
 pub run-requires-clause-few : goal.run-requires-clause-few
-run-requires-clause-few g c = rw (c.deref_mut.ensures.value, c.in-Ok.ensures) (omega (arith, count_started c.in_ok-topology.topology.tree c.in_ok-script.script.pulses.items, c.count-count.ensures.value, c.count-count.ensures.fits))
+run-requires-clause-few g c = rw (c.deref_mut.ensures.value, c.in-Ok.ensures) (omega (arith, started_count c.in_ok-topology.topology.tree c.in_ok-script.script.pulses.items, c.count-count.ensures.value, c.count-count.ensures.fits))
 
 pub returns-clause-cut : goal.returns-clause-cut
 returns-clause-cut g c =

@@ -1,7 +1,7 @@
 use Rattle.std.proofs.Common.{arith}
 use Rattle.room_run.specs.Run.{start}
-use Rattle.room_run.proofs.Whole.{written_cut}
 use Rattle.room_driven.specs.Named.{IsDump}
+use Rattle.room_driven.proofs.Written.{written_cut}
 use Rattle.room_driven.proofs.run.run.Goals as goal
 
 pub write_drives-requires-clause-fresh : goal.write_drives-requires-clause-fresh

@@ -1,7 +1,8 @@
 use Rattle.std.proofs.Common.{rules, arith, ◌≡◌, ◌∷◌, sym, length}
 use Rattle.room_run.specs.declared.run.Turn.TheVariants.{Apply, Round}
 use Rattle.room_run.specs.Run.{turn_of, first_time, start}
-use Rattle.room_run.proofs.Advance.{event_keeps, next_schedule, round_begins, smaller, rounds_kept, complete_kept, refused_kept, counts_brought}
+use Rattle.room_net.proofs.Kept.{event_keeps}
+use Rattle.room_run.proofs.Advance.{next_schedule, round_begins, smaller, rounds_kept, complete_kept, refused_kept, counts_brought}
 use Rattle.room_net.specs.Step.{IsNextRound}
 use Rattle.room_run.proofs.Running.{brings, event_happens, reached_more, round_happens}
 use Rattle.room_run.proofs.turn_by_turn.run_turns.Goals as goal

@@ -1,5 +1,5 @@
 use Rattle.device_core.proofs.OutsideLemmas as lemmas
-use Rattle.device_core.proofs.outside.only_outside.Goals as goal
+use Rattle.device_core.proofs.laws.only_outside.Goals as goal
 
 pub returns : goal.returns
 returns c = lemmas.only_outside

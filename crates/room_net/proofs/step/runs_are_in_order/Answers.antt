@@ -1,5 +1,0 @@
-use Rattle.room_net.proofs.Lines as Lines
-use Rattle.room_net.proofs.step.runs_are_in_order.Goals as goal
-
-pub returns : goal.returns
-returns c = Lines.runs_in_order

@@ -1,0 +1,84 @@
+-- What holds of the notes of a script line by line.
+use Rattle.std.specs.Prelude.{◌≡◌, ℕ, ◌+◌, ◌≤◌, true, List, [], ◌∷◌, ◌++◌, length, max, Option, Some, None, Result, Ok, All}
+use Rattle.line_wave.specs.declared.Stretch.{Stretch}
+use Rattle.line_wave.specs.Line.{IsWave}
+use Rattle.line_wave.specs.Pulls.{are_timely}
+use Rattle.line_wave.specs.Bounds.{latest_event, most_pulls, most_pulses}
+use Rattle.edid_tree.specs.Node.{Node}
+use Rattle.room_script.specs.declared.script.TimedEvent.{TimedEvent}
+use Rattle.room_script.specs.Script.{Course, Notes, ScriptFault, last_time, no_notes, AreFramedEvents, AreLinesRead, IsLineRead, IsNoWider, IsSchedule, MayFall}
+
+-- ---- what the lines so far keep
+
+-- a pull that begins within the limit of times
+abbrev pub IsEarly : Stretch → Type 0
+IsEarly pulse = pulse.from ≤ latest_event
+
+-- notes that may become a script for so many devices: events in order, and pulses and pulls in order, which the pull of a pin
+-- that is low may follow
+pub record AreSound (count : ℕ) (notes : Notes) : Type 0 where
+  pub schedule : IsSchedule count (last_time notes.events + 1) 0 notes.events
+  pub framed : AreFramedEvents notes.events
+  pub order : IsWave notes.pulses
+  pub wide : All IsNoWider notes.pulses
+  pub early : All IsEarly notes.pulses
+  pub ended : (time : ℕ) → notes.end ≡ Some time → IsSchedule count time 0 notes.events × (time ≤ latest_event)
+  pub held : (from : ℕ) → notes.pin ≡ Some from → MayFall notes.pulses from
+  pub let_go : (time : ℕ) → notes.end ≡ Some time → notes.pin ≡ None
+
+-- before the first line they are sound,
+abbrev pub NoneAreSound : Type 0
+NoneAreSound = (count : ℕ) → AreSound count no_notes
+
+-- each line that is taken keeps them so,
+abbrev pub LinesKeepSound : Type 0
+LinesKeepSound = (tree : List Node) (notes : Notes) (waiting line : ℕ) (text : List ℕ) (next : Notes) → AreSound (length tree) notes
+    → IsLineRead tree notes waiting line text (Ok next) → AreSound (length tree) next
+
+-- and what they pull low passes the test of pulls, where it is few
+abbrev pub SoundAreTimely : Type 0
+SoundAreTimely = (pulses : List Stretch) → length pulses ≤ most_pulls → IsWave pulses → All IsNoWider pulses → All IsEarly pulses → are_timely pulses ≡ true
+
+-- ---- what a line adds
+
+-- how many pulls are still to come of a pin
+abbrev pub pulls_held : Option ℕ → ℕ
+pulls_held None = 0
+pulls_held (Some from) = 1
+
+-- one event and one pulse or pull more at most, and that where there is room
+pub record IsMore (waiting : ℕ) (old new : Notes) : Type 0 where
+  pub events : List TimedEvent
+  pub pulses : List Stretch
+  pub events_are : new.events ≡ old.events ++ events
+  pub pulses_are : new.pulses ≡ old.pulses ++ pulses
+  pub few_events : length events ≤ 1
+  pub few_pulses : length pulses ≤ 1
+  pub room : waiting + length pulses + pulls_held new.pin ≤ max (waiting + pulls_held old.pin) most_pulls
+
+-- what a script pulls low is few, with the pull of a pin that is low
+abbrev pub AreFew : Notes → Type 0
+AreFew notes = length notes.pulses + pulls_held notes.pin ≤ most_pulls
+
+abbrev pub LinesAdd : Type 0
+LinesAdd = (waiting : ℕ) (tree : List Node) (notes : Notes) (line : ℕ) (text : List ℕ) (next : Notes) → IsLineRead tree notes waiting line text (Ok next) → IsMore waiting notes next
+
+abbrev pub LinesKeepFew : Type 0
+LinesKeepFew = (tree : List Node) (notes : Notes) (line : ℕ) (text : List ℕ) (next : Notes) → IsLineRead tree notes (length notes.pulses) line text (Ok next) → AreFew notes → AreFew next
+
+-- A line that is taken while few of the pulses wait is one of a script too, where its pulses and pulls are few in all.
+abbrev pub LinesAreOfScripts : Type 0
+LinesAreOfScripts = (tree : List Node) (notes next : Notes) (waiting line : ℕ) (text : List ℕ) → length next.pulses ≤ most_pulses → IsLineRead tree notes waiting line text (Ok next)
+    → IsLineRead tree notes (length notes.pulses) line text (Ok next)
+
+-- ---- lines, one after another
+
+-- the first of some lines, and those after it
+abbrev pub LinesFollow : Type 0
+LinesFollow = (tree : List Node) (texts after : List (List ℕ)) (text : List ℕ) (line : ℕ) (notes next : Notes) (read : Result Course ScriptFault) → texts ≡ text ∷ after
+    → IsLineRead tree notes (length notes.pulses) line text (Ok next) → AreLinesRead tree after (line + 1) next read → AreLinesRead tree texts line notes read
+
+-- after the last line
+abbrev pub LinesEnd : Type 0
+LinesEnd = (tree : List Node) (texts : List (List ℕ)) (line : ℕ) (notes : Notes) (time : ℕ) → texts ≡ [] → notes.end ≡ Some time
+    → AreLinesRead tree texts line notes (Ok (record { events = notes.events; pulses = notes.pulses; end = time }))
