@@ -4,7 +4,7 @@ use Rattle.std.proofs.lemmas.List.{length-map, take-append-le, length-set}
 use Rattle.std.proofs.lemmas.Option.{slice_get_within}
 use Rattle.std.proofs.Math.Seq.{take-append-add}
 use Rattle.hex.specs.Hex.{IsBytes}
-use Rattle.edid_base.proofs.Bytes.{are_bytes-append, are_bytes-take}
+use Rattle.edid_base.proofs.Bytes.{are_bytes-append, are_bytes-at, are_bytes-take}
 use Rattle.edid_base.specs.Bytes.{are_bytes}
 use Rattle.edid_base.specs.declared.base.Base.{Base}
 use Rattle.edid_base.specs.declared.descriptor.Descriptor.{Descriptor}
@@ -12,11 +12,10 @@ use Rattle.edid_base.specs.declared.standard.StandardTiming.{StandardTiming}
 use Rattle.edid_texts.specs.Lines.{head_lines, base_lines, standard_line, descriptor_line}
 use Rattle.edid_text_lines.specs.declared.line.Line.{Line}
 use Rattle.edid_texts.proofs.Gets.{get_left, get_right}
-use Rattle.edid_text_lines.proofs.Hexes.{are_bytes-is}
 
 -- the bytes of a base block
 pub byte_fits : (b : Base) → IsBytes (b.week ∷ b.input ∷ b.width ∷ b.height ∷ b.gamma ∷ b.features ∷ b.extensions ∷ b.established)
-byte_fits b = are_bytes-is (b.week ∷ b.input ∷ b.width ∷ b.height ∷ b.gamma ∷ b.features ∷ b.extensions ∷ b.established) b.bytes_fit
+byte_fits b i = are_bytes-at (b.week ∷ b.input ∷ b.width ∷ b.height ∷ b.gamma ∷ b.features ∷ b.extensions ∷ b.established) i b.bytes_fit
 
 -- an element of a list, by its line
 got : {X : Type 0} (f : X → Line) (xs : List X) (i : ℕ) (l : Line) → slice_get (map f xs) i ≡ Some l → (x : X) × (f x ≡ l)

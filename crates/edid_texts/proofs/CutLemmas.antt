@@ -30,12 +30,16 @@ cut_at (x ∷ xs) i e h = cases (λ k. cut_at xs (position_or_len (λ b. b == 10
         let rest = again (omega arith) in
         ap (onto_line x) rest ∙ ap (λ k. take (suc k) (x ∷ xs) ∷ lines_with_feeds (drop (suc k) (x ∷ xs))) m
 
-pub lines_some : (text : List ℕ) (i : ℕ) → position (λ b. b == 10) text ≡ Some i
-    → lines_with_feeds text ≡ take (i + 1) text ∷ lines_with_feeds (take (length text - (i + 1)) (drop (i + 1) text))
-lines_some text i h =
+pub first_ended : (text : List ℕ) (i : ℕ) → position (λ b. b == 10) text ≡ Some i
+    → lines_with_feeds text ≡ take (i + 1) text ∷ lines_with_feeds (drop (i + 1) text)
+first_ended text i h =
     let at = found_at text i h in
     let one : suc i ≡ i + 1 = omega arith in
-    rw rest_of (cut_at text i at.0 at.1 ∙ ap (λ k. take k text ∷ lines_with_feeds (drop k text)) one)
+    cut_at text i at.0 at.1 ∙ ap (λ k. take k text ∷ lines_with_feeds (drop k text)) one
+
+pub lines_some : (text : List ℕ) (i : ℕ) → position (λ b. b == 10) text ≡ Some i
+    → lines_with_feeds text ≡ take (i + 1) text ∷ lines_with_feeds (take (length text - (i + 1)) (drop (i + 1) text))
+lines_some text i h = rw rest_of (first_ended text i h)
 
 alone : (xs : List ℕ) → length xs ≤ position_or_len (λ b. b == 10) xs → 0 < length xs → lines_with_feeds xs ≡ xs ∷ []
 alone [] h some = absurd (omega arith)

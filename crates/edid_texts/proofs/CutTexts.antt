@@ -1,13 +1,14 @@
 -- A text and its lines.
 use Rattle.std.proofs.Common.{◌≡◌, ℕ, zero, suc, ◌+◌, ◌/◌, ◌%◌, ◌^◌, ◌<◌, ◌==◌, Bool, true, false, ◌&&◌, not, nat_lt, cond, List, [], ◌∷◌, ◌++◌, map, slice_index, flat_map, ap, arith, refl, sym, ◌∙◌, append_assoc, codes}
 use Rattle.std.specs.Fmt.{decimal}
-use Rattle.std.proofs.lemmas.Bool.{ltb-true}
+use Rattle.std.proofs.lemmas.Bool.{and_parts, ltb-true}
 use Rattle.std.proofs.lemmas.Fmt.{decimal_by_steps}
 use Rattle.hex.specs.Hex.{encode_lower, encode_with, lower_digits}
-use Rattle.edid_base.proofs.PartLemmas.{both}
 use Rattle.text_core.specs.Piece.{nibble_text, phys_text}
 use Rattle.text_core.specs.declared.phys.Phys.{Phys}
-use Rattle.edid_texts.specs.Cut.{lines_with_feeds, onto_line}
+use Rattle.edid_texts.specs.Cut.{lines_with_feeds, onto_line, has_no_feed, AreLines}
+use Rattle.edid_texts.specs.Lines.{edid_lines}
+use Rattle.edid_core.specs.declared.edid.Edid.{Edid as WholeEdid}
 use Rattle.edid_text_lines.specs.Formed.{form_of, FormedFields, are_numbers}
 use Rattle.edid_text_lines.specs.Text.{word_text, number_text, hex_word, fields_text, line_text}
 use Rattle.edid_text_lines.specs.declared.line.Fields.{Fields}
@@ -17,7 +18,7 @@ use Rattle.edid_text_lines.specs.declared.line.LineContent.TheVariants.{Empty, T
 use Rattle.edid_text_lines.specs.declared.line.Line.{Line}
 use Rattle.edid_text_lines.specs.declared.line.Keyword.{Keyword}
 use Rattle.edid_text_lines.specs.declared.line.Keyword.TheVariants.{Edid, Maker, Product, Serial, Made, Input, Size, Gamma, Features, Chroma, Established, Standard, Timing, Name, Text, SerialText, Range, Dummy, Raw, Cta, CtaNone, Tag0, Audio, Video, Vendor, Speakers, Tag5, Tag6, Extended, Hdmi, Tail, Ext}
-use Rattle.edid_texts.proofs.Good.{is_clean, are_clean, has_no_feed, PlainFields, Good, EachGood, and, clean-cons}
+use Rattle.edid_texts.proofs.Good.{is_clean, are_clean, PlainFields, Good, EachGood, and, clean-cons, edid_good}
 
 -- a line of all the characters of some lines
 joined_onto : (b : ℕ) (ls : List (List ℕ)) → flat_map (λ x. x) (onto_line b ls) ≡ b ∷ flat_map (λ x. x) ls
@@ -39,7 +40,7 @@ joined_lines (l ∷ ls) = ap (λ t. line_text l ++ t) (joined_lines ls)
 pub line_split : (w rest : List ℕ) → has_no_feed w ≡ true → lines_with_feeds (w ++ (10 ∷ rest)) ≡ (w ++ (10 ∷ [])) ∷ lines_with_feeds rest
 line_split [] rest h = refl
 line_split (c ∷ w) rest h =
-    let p = both (not (c == 10)) (has_no_feed w) h in
+    let p = and_parts (not (c == 10)) (has_no_feed w) h in
     cases (line_split w rest p.1) (c == 10) p.0
   where
     cases : lines_with_feeds (w ++ (10 ∷ rest)) ≡ (w ++ (10 ∷ [])) ∷ lines_with_feeds rest → (v : Bool) → not v ≡ true
@@ -52,7 +53,7 @@ line_split (c ∷ w) rest h =
 
 pub clean-append : (xs ys : List ℕ) → are_clean xs ≡ true → are_clean ys ≡ true → are_clean (xs ++ ys) ≡ true
 clean-append [] ys h k = k
-clean-append (x ∷ xs) ys h k = let p = both (is_clean x) (are_clean xs) h in and (is_clean x) (are_clean (xs ++ ys)) p.0 (clean-append xs ys p.1 k)
+clean-append (x ∷ xs) ys h k = let p = and_parts (is_clean x) (are_clean xs) h in and (is_clean x) (are_clean (xs ++ ys)) p.0 (clean-append xs ys p.1 k)
 
 -- hex digits, and what stands past them
 digit_clean : (n : ℕ) → is_clean (slice_index lower_digits n) ≡ true
@@ -148,16 +149,16 @@ word_clean Ext = refl
 clean_feed : (xs : List ℕ) → are_clean xs ≡ true → has_no_feed xs ≡ true
 clean_feed [] h = refl
 clean_feed (x ∷ xs) h =
-    let p = both (is_clean x) (are_clean xs) h in
-    and (not (x == 10)) (has_no_feed xs) (both _ _ (both (not (x == 10) && not (x == 32)) (not (x == 34)) p.0).0).0 (clean_feed xs p.1)
+    let p = and_parts (is_clean x) (are_clean xs) h in
+    and (not (x == 10)) (has_no_feed xs) (and_parts _ _ (and_parts (not (x == 10) && not (x == 32)) (not (x == 34)) p.0).0).0 (clean_feed xs p.1)
 
 feed-append : (xs ys : List ℕ) → has_no_feed xs ≡ true → has_no_feed ys ≡ true → has_no_feed (xs ++ ys) ≡ true
 feed-append [] ys h k = k
-feed-append (x ∷ xs) ys h k = let p = both (not (x == 10)) (has_no_feed xs) h in and (not (x == 10)) (has_no_feed (xs ++ ys)) p.0 (feed-append xs ys p.1 k)
+feed-append (x ∷ xs) ys h k = let p = and_parts (not (x == 10)) (has_no_feed xs) h in and (not (x == 10)) (has_no_feed (xs ++ ys)) p.0 (feed-append xs ys p.1 k)
 
 pub number_fits : (n : ℕ) (ns : List ℕ) → are_numbers (n ∷ ns) ≡ true → (n < 2 ^ 64) × (are_numbers ns ≡ true)
 number_fits n ns h =
-    let p = both (nat_lt n (2 ^ 32)) (are_numbers ns) h in
+    let p = and_parts (nat_lt n (2 ^ 32)) (are_numbers ns) h in
     let less = ltb-true _ _ p.0 in
     (omega (arith, less), p.1)
 
@@ -214,3 +215,10 @@ one_line_of l rest h =
 pub lines_again : (ls : List Line) → EachGood ls → lines_with_feeds (flat_map line_text ls) ≡ map line_text ls
 lines_again [] h = refl
 lines_again (l ∷ ls) h = one_line_of l (flat_map line_text ls) h.0 ∙ ap (λ x. line_text l ∷ x) (lines_again ls h.1)
+
+are_lines : (ls : List Line) → EachGood ls → AreLines ls
+are_lines [] h = tt
+are_lines (l ∷ ls) h = (λ rest. one_line_of l rest h.0, are_lines ls h.1)
+
+pub edid_are_lines : (e : WholeEdid) → AreLines (edid_lines e)
+edid_are_lines e = are_lines (edid_lines e) (edid_good e)

@@ -1,7 +1,7 @@
 -- What a line adds to an extension.
 use Rattle.std.proofs.Common.{◌≡◌, ℕ, zero, suc, ◌+◌, ◌-◌, ◌<◌, ◌⊎◌, inl, inr, true, false, List, [], ◌∷◌, ◌++◌, length, map, replicate, flat_map, ap, ap₂, arith, refl, sym, ◌∙◌, append_assoc}
 use Rattle.edid_base.proofs.Bytes.{are_bytes-append, are_bytes-cons}
-use Rattle.edid_base.proofs.PartLemmas.{both}
+use Rattle.std.proofs.lemmas.Bool.{and_parts}
 use Rattle.edid_base.specs.Timing.{timing_bytes}
 use Rattle.edid_base.specs.Bytes.{are_bytes}
 use Rattle.edid_base.specs.declared.timing.Timing.{Timing as DetailedTiming}
@@ -101,7 +101,7 @@ same_tail left bytes tail h e = ap (bytes_line Tail) (ap bytes_without_zeros e �
 pub tail_reported : (o : Opened) (bytes tail : List ℕ) → ends o.left bytes ≡ true → tail ≡ padded_bytes o.left bytes
     → whole_lines o.whole ++ (bytes_line Cta (o.flags ∷ []) ∷ (map block_line o.blocks.items ++ (map timing_line o.timings.items ++ (tail_line tail ∷ [])))) ≡ draft_lines (OfOpened o) ++ bytes_line Tail bytes ∷ []
 tail_reported o bytes tail h e =
-    let line = same_tail o.left bytes tail (both _ _ h).0 e in
+    let line = same_tail o.left bytes tail (and_parts _ _ h).0 e in
     let bs = map block_line o.blocks.items in
     let ts = map timing_line o.timings.items in
     ap (λ l. whole_lines o.whole ++ (bytes_line Cta (o.flags ∷ []) ∷ (bs ++ (ts ++ (l ∷ []))))) line

@@ -6,7 +6,7 @@ use Rattle.std.proofs.Math.Seq.{drop-cons}
 use Rattle.std.proofs.lemmas.List.Splits.{length-slice_split}
 use Rattle.std.proofs.lemmas.List.Sums.{sum_by-take-le}
 use borrow.Author.Tests.{tests}
-use Rattle.edid_base.proofs.PartLemmas.{both}
+use Rattle.std.proofs.lemmas.Bool.{and_parts}
 use Rattle.text_core.specs.Piece.{phys_text}
 use Rattle.text_core.specs.Words.{words_of}
 use Rattle.text_core.specs.declared.phys.Phys.{Phys}
@@ -35,7 +35,7 @@ pub words_front : (w t : List ℕ) → is_spaceless w ≡ true → BeginsSpaced 
 words_front [] [] h b = refl
 words_front [] (c ∷ cs) h b = let e : (c == 32) ≡ true = ap (λ n. n == 32) b in rw e refl
 words_front (x ∷ w) t h b =
-    let p = both (not (x == 32)) (is_spaceless w) h in
+    let p = and_parts (not (x == 32)) (is_spaceless w) h in
     let e = is_false (x == 32) p.0 in
     let rest = words_front w t p.1 b in
     rw (e, rest) refl
@@ -60,9 +60,9 @@ timed_front w ns hex k = numbers_words (word_text w) ns (32 ∷ hex) (solid w) k
 clean_spaceless : (xs : List ℕ) → are_clean xs ≡ true → is_spaceless xs ≡ true
 clean_spaceless [] h = refl
 clean_spaceless (c ∷ cs) h =
-    let p = both (is_clean c) (are_clean cs) h in
-    let q = both (not (c == 10) && not (c == 32)) (not (c == 34)) p.0 in
-    let r = both (not (c == 10)) (not (c == 32)) q.0 in
+    let p = and_parts (is_clean c) (are_clean cs) h in
+    let q = and_parts (not (c == 10) && not (c == 32)) (not (c == 34)) p.0 in
+    let r = and_parts (not (c == 10)) (not (c == 32)) q.0 in
     and (not (c == 32)) (is_spaceless cs) r.1 (clean_spaceless cs p.1)
 
 pub address_front : (w : Keyword) (p : Phys) (hex : List ℕ) → words_of (word_text w ++ (32 ∷ (phys_text p ++ (32 ∷ hex)))) ≡ word_text w ∷ phys_text p ∷ words_of hex

@@ -5,7 +5,6 @@ use Rattle.std.proofs.lemmas.List.{length-map, length-take-le}
 use Rattle.edid_base.specs.declared.base.Base.{Base}
 use Rattle.edid_base.specs.declared.timing.Timing.{Timing as DetailedTiming}
 use Rattle.edid_base.specs.Timing.{timing_bytes}
-use Rattle.edid_cta.proofs.OneBlock.{append_same}
 use Rattle.edid_cta.specs.Block.{block_bytes}
 use Rattle.edid_cta.specs.Cta.{is_tail}
 use Rattle.edid_cta.specs.declared.block.DataBlock.{DataBlock}
@@ -20,8 +19,7 @@ use Rattle.edid_core.specs.declared.edid.Edid.{Edid}
 use Rattle.edid_text_lines.specs.declared.line.Line.{Line}
 use Rattle.edid_text_lines.specs.declared.line.Keyword.{Keyword}
 use Rattle.edid_text_lines.specs.declared.line.Keyword.TheVariants.{Cta, CtaNone, Ext}
-use Rattle.edid_core.proofs.BaseLemmas.{length-flat}
-use Rattle.edid_texts.proofs.Gets.{get_right, base_count, in_base}
+use Rattle.edid_texts.proofs.Gets.{append_same, get_right, base_count, in_base}
 use Rattle.edid_texts.proofs.Sorts.{sort_of, block_sort, same_size, not_timing, not_tail, timing_not_tail}
 
 -- the first line of some
@@ -174,7 +172,10 @@ pub record AfterOpened (o : Opened) (zs : List Line) : Type 0 where
   pub order : (o.timings.items ≡ []) ⊎ (blocks ≡ [])
 
 pub length-timings : (ts : List DetailedTiming) → length (flat_map timing_bytes ts) ≡ 18 * length ts
-length-timings ts = length-flat timing_bytes 18 (λ t. refl) ts
+length-timings [] = omega arith
+length-timings (t ∷ ts) =
+    let one : length (timing_bytes t) ≡ 18 = refl in
+    omega (arith, length-append (timing_bytes t) (flat_map timing_bytes ts), one, length-timings ts)
 
 cta_after : (o : Opened) (c : CtaBlock) (more zs : List Line) → cta_lines c ++ more ≡ opened_lines o ++ zs → AfterOpened o zs
 cta_after o c more zs e =

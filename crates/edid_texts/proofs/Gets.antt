@@ -1,7 +1,8 @@
 -- The line at a place.
-use Rattle.std.proofs.Common.{◌≡◌, ℕ, zero, suc, ◌+◌, ◌-◌, ◌*◌, ◌<◌, ◌≤◌, List, [], ◌∷◌, ◌++◌, length, map, get_or, Option, Some, None, option_map, slice_get, flat_map, ap, arith, refl, sym, ◌∙◌, length-append, drop, drop-cons}
+use Rattle.std.proofs.Common.{◌≡◌, ℕ, zero, suc, ◌+◌, ◌-◌, ◌*◌, ◌<◌, ◌≤◌, List, [], ◌∷◌, ◌++◌, length, map, get_or, Option, Some, None, option_map, slice_get, flat_map, ap, arith, refl, sym, ◌∙◌, length-append, take, drop, drop-cons}
 use Rattle.std.proofs.lemmas.Option.{slice_get-get_or, slice_get-map}
-use Rattle.std.proofs.lemmas.List.{length-map}
+use Rattle.std.proofs.Math.Seq.{take-append_seam, drop-append_seam}
+use Rattle.std.proofs.lemmas.List.{length-map, take_at, drop_at}
 use Rattle.edid_base.specs.Timing.{timing_bytes}
 use Rattle.edid_base.specs.declared.base.Base.{Base}
 use Rattle.edid_base.specs.declared.descriptor.Descriptor.{Descriptor}
@@ -24,6 +25,13 @@ pub get_right : {X : Type 0} (xs ys : List X) (i j : ℕ) → i ≡ length xs + 
 get_right [] ys i j h = let e : i ≡ j = omega arith in ap (slice_get ys) e
 get_right (x ∷ xs) ys zero j h = absurd (omega arith)
 get_right (x ∷ xs) ys (suc i) j h = get_right xs ys i j (omega arith)
+
+-- lists whose fronts are equally long, part by part
+pub append_same : {X : Type 0} (xs zs ys ws : List X) → length xs ≡ length zs → xs ++ ys ≡ zs ++ ws → (xs ≡ zs) × (ys ≡ ws)
+append_same xs zs ys ws l e = (
+  sym (take_at xs ys (length zs) l) ∙ ap (take (length zs)) e ∙ take-append_seam zs ws,
+  sym (drop_at xs ys (length zs) l) ∙ ap (drop (length zs)) e ∙ drop-append_seam zs ws,
+)
 
 -- an element, and what is made of it
 pub get_made : {X : Type 0} (f : X → Line) (xs : List X) (i : ℕ) (x : X) → i < length xs → x ≡ get_or xs i x → slice_get (map f xs) i ≡ Some (f x)

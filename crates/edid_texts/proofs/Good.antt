@@ -1,10 +1,9 @@
 -- What each line of an EDID is like.
 use Rattle.std.proofs.Common.{◌≡◌, ℕ, ◌^◌, ◌<◌, ◌≤◌, ◌==◌, Bool, true, false, ◌&&◌, not, nat_lt, nat_le, cond, List, [], ◌∷◌, ◌++◌, length, map, flat_map, Option, Some, None, ap, arith, refl, length-drop}
 use Rattle.std.specs.List.{list_all}
-use Rattle.std.proofs.lemmas.Bool.{leb-true, ltb-true}
+use Rattle.std.proofs.lemmas.Bool.{and_parts, leb-true, ltb-true}
 use borrow.Author.Tests.{tests}
 use Rattle.edid_base.proofs.Bytes.{are_bytes-drop, are_bytes-at}
-use Rattle.edid_base.proofs.PartLemmas.{both}
 use Rattle.edid_base.specs.Bytes.{are_bytes}
 use Rattle.edid_base.specs.Chars.{is_char}
 use Rattle.edid_base.specs.Letters.{is_letter}
@@ -24,6 +23,7 @@ use Rattle.edid_cta.specs.declared.block.BlockKind.TheVariants.{Tag0 as OfTag0, 
 use Rattle.edid_cta.specs.declared.raw.Ext.{Ext as Extension}
 use Rattle.edid_cta.specs.declared.raw.Ext.TheVariants.{Cta as OfCta, Bare as OfBare, Raw as OfRawExt}
 use Rattle.edid_text_lines.specs.Formed.{Formed, are_numbers}
+use Rattle.edid_texts.specs.Cut.{has_no_feed}
 use Rattle.edid_texts.specs.Lines.{bytes_line, revision_letters, standard_line, timing_line, descriptor_line, head_lines, base_lines, address_line, payload_line, block_line, bytes_without_zeros, tail_line, ext_lines, edid_lines}
 use Rattle.edid_cta.specs.Hdmi.{has_identifier}
 use Rattle.edid_base.specs.Timing.{timing_numbers}
@@ -43,9 +43,6 @@ is_clean c = not (c == 10) && not (c == 32) && not (c == 34)
 
 abbrev pub are_clean : List ℕ → Bool
 are_clean xs = list_all is_clean xs
-
-abbrev pub has_no_feed : List ℕ → Bool
-has_no_feed xs = list_all (λ c. not (c == 10)) xs
 
 abbrev pub PlainFields : Fields → Type 0
 PlainFields (Letters letters) = are_clean letters.items ≡ true
@@ -85,12 +82,12 @@ pub clean-cons : (c : ℕ) (xs : List ℕ) → 35 ≤ c → are_clean xs ≡ tru
 clean-cons c xs h k = and (is_clean c) (are_clean xs) (large_clean c h) k
 
 letter_least : (c : ℕ) → is_letter c ≡ true → 35 ≤ c
-letter_least c h = let least = leb-true _ _ (both (nat_le 65 c) (nat_le c 90) h).0 in omega (arith, least)
+letter_least c h = let least = leb-true _ _ (and_parts (nat_le 65 c) (nat_le c 90) h).0 in omega (arith, least)
 
 maker_clean : (m : AnyMaker) → are_clean (m.first ∷ m.second ∷ m.third ∷ []) ≡ true
 maker_clean m =
-    let all = both (is_letter m.first && is_letter m.second) (is_letter m.third) m.letters in
-    let two = both (is_letter m.first) (is_letter m.second) all.0 in
+    let all = and_parts (is_letter m.first && is_letter m.second) (is_letter m.third) m.letters in
+    let two = and_parts (is_letter m.first) (is_letter m.second) all.0 in
     clean-cons m.first (m.second ∷ m.third ∷ []) (letter_least m.first two.0) (
     clean-cons m.second (m.third ∷ []) (letter_least m.second two.1) (
     clean-cons m.third [] (letter_least m.third all.1) refl))
@@ -159,16 +156,16 @@ timing_good t =
 chars_plain : (xs : List ℕ) → list_all is_char xs ≡ true → has_no_feed xs ≡ true
 chars_plain [] h = refl
 chars_plain (x ∷ xs) h =
-    let p = both (is_char x) (list_all is_char xs) h in
-    let least = leb-true _ _ (both (nat_le 0x20 x) (nat_le x 0x7e) (both _ _ p.0).0).0 in
+    let p = and_parts (is_char x) (list_all is_char xs) h in
+    let least = leb-true _ _ (and_parts (nat_le 0x20 x) (nat_le x 0x7e) (and_parts _ _ p.0).0).0 in
     let first : (x == 10) ≡ false = grind (arith, tests) in
     and (not (x == 10)) (has_no_feed xs) (ap not first) (chars_plain xs p.1)
 
 text_short : (t : AnyText) → length t.chars.items ≤ 13
-text_short t = leb-true _ _ (both (nat_le (length t.chars.items) 13) _ t.printable).0
+text_short t = leb-true _ _ (and_parts (nat_le (length t.chars.items) 13) _ t.printable).0
 
 text_plain : (t : AnyText) → has_no_feed t.chars.items ≡ true
-text_plain t = chars_plain t.chars.items (both (nat_le (length t.chars.items) 13) _ t.printable).1
+text_plain t = chars_plain t.chars.items (and_parts (nat_le (length t.chars.items) 13) _ t.printable).1
 
 pub descriptor_good : (d : Descriptor) → Good (descriptor_line d)
 descriptor_good (OfTiming t) = timing_good t
@@ -272,7 +269,7 @@ block_good b = at b.kind b.payload.items b.short b.bytes_fit
 trimmed_bytes : (xs : List ℕ) → are_bytes xs ≡ true → are_bytes (bytes_without_zeros xs) ≡ true
 trimmed_bytes [] h = refl
 trimmed_bytes (x ∷ xs) h =
-    let p = both (nat_lt x 256) (are_bytes xs) h in
+    let p = and_parts (nat_lt x 256) (are_bytes xs) h in
     cases ((x == 0) && (length (bytes_without_zeros xs) == 0)) p.0 (trimmed_bytes xs p.1)
   where
     cases : (v : Bool) → nat_lt x 256 ≡ true → are_bytes (bytes_without_zeros xs) ≡ true → are_bytes (cond v [] (x ∷ bytes_without_zeros xs)) ≡ true
@@ -284,7 +281,7 @@ tail_good tail h k = let less = trimmed_le tail in ((omega (arith, less, h), tri
 
 ext_good : (x : Extension) → EachGood (ext_lines x)
 ext_good (OfCta c) =
-    let fit = both (nat_lt c.flags 256) (are_bytes c.tail.items) c.bytes_fit in
+    let fit = and_parts (nat_lt c.flags 256) (are_bytes c.tail.items) c.bytes_fit in
     let whole = c.whole in
     let flags : c.flags < 256 = ltb-true _ _ fit.0 in (
       ((omega arith, one_byte_good c.flags flags), tt),
@@ -293,7 +290,7 @@ ext_good (OfCta c) =
           (tail_good c.tail.items (omega (arith, whole)) fit.1, tt))),
     )
 ext_good (OfBare b) =
-    let fit = both (nat_lt b.flags 256) (are_bytes b.tail) b.bytes_fit in
+    let fit = and_parts (nat_lt b.flags 256) (are_bytes b.tail) b.bytes_fit in
     let whole = b.whole in
     let flags : b.flags < 256 = ltb-true _ _ fit.0 in
     (((omega arith, one_byte_good b.flags flags), tt), (tail_good b.tail (omega (arith, whole)) fit.1, tt))

@@ -1,12 +1,11 @@
 -- For the first words of a line that are right, an accepted text has such a line that begins with them.
 use Rattle.std.proofs.Common.{◌≡◌, ℕ, zero, suc, ◌+◌, ◌-◌, ◌<◌, ◌≤◌, ◌==◌, Bool, true, false, ◌&&◌, ◌||◌, not, nat_lt, nat_le, cond, List, [], ◌∷◌, ◌++◌, length, map, take, get_or, Some, ap, subst, arith, refl, sym, ◌∙◌}
 use Rattle.std.specs.Fmt.{decimal}
-use Rattle.std.proofs.lemmas.Bool.{eqb-true, leb-true, ltb-true}
+use Rattle.std.proofs.lemmas.Bool.{and_parts, eqb-true, leb-true, ltb-true}
 use Rattle.std.proofs.lemmas.List.{take-append-le}
 use Rattle.hex.specs.Hex.{encode_lower}
 use Rattle.text_core.specs.Piece.{phys_text}
 use Rattle.text_core.specs.Words.{spaces_unquoted, words_of}
-use Rattle.edid_base.proofs.PartLemmas.{both}
 use Rattle.edid_base.specs.Bytes.{are_bytes}
 use Rattle.edid_base.specs.Chroma.{chroma_numbers}
 use Rattle.edid_base.specs.Standard.{standard_numbers}
@@ -82,7 +81,7 @@ made_like : (b : Base) (n k : ℕ) (front : List ℕ) → n ≡ 4 → word_count
 made_like b n k front at count first f less =
     let p = pick Made (words_of front) k 1 0 (f 1 (omega arith)) refl in
     let fit = small_byte p.n p.fits in
-    let others = (both (nat_lt b.week 256) (are_bytes (b.input ∷ b.width ∷ b.height ∷ b.gamma ∷ b.features ∷ b.extensions ∷ b.established)) b.bytes_fit).1 in
+    let others = (and_parts (nat_lt b.week 256) (are_bytes (b.input ∷ b.width ∷ b.height ∷ b.gamma ∷ b.features ∷ b.extensions ∷ b.established)) b.bytes_fit).1 in
     let a : Base = record b { week = p.n; bytes_fit = and (nat_lt p.n 256) (are_bytes (b.input ∷ b.width ∷ b.height ∷ b.gamma ∷ b.features ∷ b.extensions ∷ b.established)) (a_byte p.n fit) others } in
     let l = numbers_line Made (p.n ∷ b.year ∷ []) in
     let follows : Follows (take n (base_lines b)) l = other_base a b n l (subst (λ m. take (m + 1) (base_lines a) ≡ take m (base_lines b) ++ l ∷ []) (sym at) refl) in
@@ -95,9 +94,9 @@ size_like b n k front at count first f less =
     let p = pick Size (words_of front) k 1 0 (f 1 (omega arith)) refl in
     let fit = small_byte p.n p.fits in
     let rest = b.height ∷ b.gamma ∷ b.features ∷ b.extensions ∷ b.established in
-    let one = both (nat_lt b.week 256) (are_bytes (b.input ∷ b.width ∷ rest)) b.bytes_fit in
-    let two = both (nat_lt b.input 256) (are_bytes (b.width ∷ rest)) one.1 in
-    let three = both (nat_lt b.width 256) (are_bytes rest) two.1 in
+    let one = and_parts (nat_lt b.week 256) (are_bytes (b.input ∷ b.width ∷ rest)) b.bytes_fit in
+    let two = and_parts (nat_lt b.input 256) (are_bytes (b.width ∷ rest)) one.1 in
+    let three = and_parts (nat_lt b.width 256) (are_bytes rest) two.1 in
     let new = and (nat_lt p.n 256) (are_bytes rest) (a_byte p.n fit) three.1 in
     let a : Base = record b { width = p.n; bytes_fit = and (nat_lt b.week 256) (are_bytes (b.input ∷ p.n ∷ rest)) one.0 (and (nat_lt b.input 256) (are_bytes (p.n ∷ rest)) two.0 new) } in
     let l = numbers_line Size (p.n ∷ b.height ∷ []) in
@@ -141,8 +140,8 @@ standard_like : (b : Base) (n k : ℕ) (front : List ℕ) → 11 ≤ n → n < 1
 standard_like b n k front least most count first f less =
     let p1 = pick Standard (words_of front) k 1 248 (f 1 (omega arith)) refl in
     let p2 = pick Standard (words_of front) k 2 0 (f 2 (omega arith)) refl in
-    let q1 = both (nat_le 248 p1.n && nat_le p1.n 2288) _ p1.fits in
-    let q2 = both (nat_le 248 p1.n) (nat_le p1.n 2288) q1.0 in
+    let q1 = and_parts (nat_le 248 p1.n && nat_le p1.n 2288) _ p1.fits in
+    let q2 = and_parts (nat_le 248 p1.n) (nat_le p1.n 2288) q1.0 in
     let aspect = leb-true _ _ p2.fits in
     let s : StandardTiming = record {
       width = p1.n;
@@ -164,7 +163,7 @@ standard_like b n k front least most count first f less =
     ((λ h. first), (p1.reported, (p2.reported, ((λ h. absurd (omega (arith, h, less, count))), tt)))) (omega (arith, less, count))
 
 up_to : (least n most : ℕ) → (nat_le least n && nat_le n most) ≡ true → n ≤ most
-up_to least n most h = leb-true _ _ (both (nat_le least n) (nat_le n most) h).1
+up_to least n most h = leb-true _ _ (and_parts (nat_le least n) (nat_le n most) h).1
 
 -- a detailed timing that begins with the words that are right
 record Timed (front : List ℕ) (k : ℕ) : Type 0 where
@@ -187,7 +186,7 @@ timed front k f =
     let p11 = pick Timing words k 11 0 (f 11 (omega arith)) refl in
     let p12 = pick Timing words k 12 0 (f 12 (omega arith)) refl in
     let p13 = pick Timing words k 13 0 (f 13 (omega arith)) refl in
-    let some = leb-true _ _ (both (nat_le 1 p1.n) (nat_le p1.n 65535) p1.fits).0 in
+    let some = leb-true _ _ (and_parts (nat_le 1 p1.n) (nat_le p1.n 65535) p1.fits).0 in
     let m1 = up_to 1 p1.n 65535 p1.fits in
     let m2 = up_to 0 p2.n 4095 p2.fits in
     let m3 = up_to 0 p3.n 4095 p3.fits in
@@ -313,7 +312,7 @@ begun_like b n k Made front few at words first f more less = made_like b n k fro
 begun_like b n k Size front few at words first f more less = size_like b n k front (eqb-true _ _ at) (eqb-true _ _ words) first f less
 begun_like b n k Chroma front few at words first f more less = chroma_like b n k front (eqb-true _ _ at) (eqb-true _ _ words) first f less
 begun_like b n k Standard front few at words first f more less =
-    let p = both (nat_le 11 n) (nat_lt n 19) at in
+    let p = and_parts (nat_le 11 n) (nat_lt n 19) at in
     standard_like b n k front (leb-true _ _ p.0) (ltb-true _ _ p.1) (four (word_count front == 2) refl words) first f less
   where
     four : (v : Bool) → (word_count front == 2) ≡ v → (v || (word_count front == 4)) ≡ true → word_count front ≡ 4

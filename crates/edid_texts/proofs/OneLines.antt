@@ -1,9 +1,8 @@
 -- No two EDIDs have the same lines.
 use Rattle.std.proofs.Common.{◌≡◌, ℕ, suc, ◌+◌, ◌-◌, ◌*◌, ◌/◌, ◌%◌, ◌≤◌, ◌==◌, Bool, true, false, ◌&&◌, nat_le, cond, List, [], ◌∷◌, ◌++◌, length, map, drop, get_or, slice_index, replicate, flat_map, Option, Some, None, ap, arith, refl, sym, ◌∙◌}
 use Rattle.std.specs.Int.{w16, w32, to_le_bytes, to_be_bytes}
-use Rattle.std.proofs.lemmas.Bool.{eqb-true}
+use Rattle.std.proofs.lemmas.Bool.{and_parts, eqb-true}
 use Rattle.std.proofs.lemmas.List.{length-map}
-use Rattle.edid_base.proofs.PartLemmas.{both}
 use Rattle.edid_base.specs.Base.{base_bytes, product_bytes, display_bytes}
 use Rattle.edid_base.specs.Header.{header}
 use Rattle.edid_base.specs.Chars.{text_bytes}
@@ -22,7 +21,6 @@ use Rattle.edid_base.specs.declared.descriptor.Descriptor.{Descriptor}
 use Rattle.edid_base.specs.declared.descriptor.Descriptor.TheVariants.{Timing as OfTiming, Name as OfName, Text as OfText, SerialText as OfSerialText, Range as OfRange, Dummy as OfDummy, Raw as OfRaw}
 use Rattle.edid_base.specs.declared.standard.StandardTiming.{StandardTiming}
 use Rattle.edid_base.specs.declared.timing.Timing.{Timing as DetailedTiming}
-use Rattle.edid_cta.proofs.OneBlock.{append_same}
 use Rattle.edid_cta.specs.Block.{kind_number, block_bytes}
 use Rattle.edid_cta.specs.Ext.{ext_bytes}
 use Rattle.edid_cta.specs.declared.block.DataBlock.{DataBlock}
@@ -40,7 +38,7 @@ use Rattle.edid_text_lines.specs.declared.line.Line.{Line}
 use Rattle.edid_text_lines.specs.declared.line.Keyword.{Keyword}
 use Rattle.edid_text_lines.specs.declared.line.Keyword.TheVariants.{Name, Text, Range, Tag0, Audio, Video, Vendor, Speakers, Tag5, Tag6}
 use Rattle.edid_texts.proofs.Fronts.{body_lines, parted, some_line}
-use Rattle.edid_texts.proofs.Gets.{base_count}
+use Rattle.edid_texts.proofs.Gets.{append_same, base_count}
 use Rattle.edid_core.proofs.OneEdid.{one_edid}
 use Rattle.edid_texts.proofs.Sorts.{long_hdmi, not_timing, not_tail, timing_not_tail}
 use Rattle.edid_texts.proofs.TailLemmas.{padded_trimmed}
@@ -138,15 +136,15 @@ descriptor_is OfDummy = refl
 descriptor_is (OfRaw r) = refl
 
 hdmi_is : (p : List ℕ) → has_identifier p ≡ true → 3 ∷ 12 ∷ 0 ∷ slice_index p 3 ∷ slice_index p 4 ∷ drop 5 p ≡ p
-hdmi_is p h = at p (long_hdmi p h) (both _ _ h)
+hdmi_is p h = at p (long_hdmi p h) (and_parts _ _ h)
   where
     at : (p : List ℕ) → 5 ≤ length p → ((nat_le 5 (length p) && (slice_index p 0 == 3) && (slice_index p 1 == 12)) ≡ true) × ((slice_index p 2 == 0) ≡ true)
         → 3 ∷ 12 ∷ 0 ∷ slice_index p 3 ∷ slice_index p 4 ∷ drop 5 p ≡ p
     at (a ∷ b ∷ c ∷ d ∷ e ∷ p) k f =
-        let more = both (nat_le 5 (length (a ∷ b ∷ c ∷ d ∷ e ∷ p)) && (a == 3)) (b == 12) f.0 in
+        let more = and_parts (nat_le 5 (length (a ∷ b ∷ c ∷ d ∷ e ∷ p)) && (a == 3)) (b == 12) f.0 in
         let third : c ≡ 0 = eqb-true _ _ f.1 in
         let second : b ≡ 12 = eqb-true _ _ more.1 in
-        let first : a ≡ 3 = eqb-true _ _ (both (nat_le 5 (length (a ∷ b ∷ c ∷ d ∷ e ∷ p))) (a == 3) more.0).1 in
+        let first : a ≡ 3 = eqb-true _ _ (and_parts (nat_le 5 (length (a ∷ b ∷ c ∷ d ∷ e ∷ p))) (a == 3) more.0).1 in
         ap (λ x. x ∷ 12 ∷ 0 ∷ d ∷ e ∷ p) (sym first) ∙ ap (λ x. a ∷ x ∷ 0 ∷ d ∷ e ∷ p) (sym second) ∙ ap (λ x. a ∷ b ∷ x ∷ d ∷ e ∷ p) (sym third)
     at [] k f = absurd (omega arith)
     at (a ∷ []) k f = absurd (omega arith)

@@ -1,9 +1,8 @@
 -- The words of a line are looked at one after the other.
 use Rattle.std.proofs.Common.{◌≡◌, ℕ, zero, suc, ◌+◌, ◌-◌, ◌%◌, ◌^◌, ◌<◌, ◌≤◌, ◌==◌, Bool, true, false, ◌&&◌, nat_le, cond, List, [], ◌∷◌, ◌++◌, length, drop, get_or, ap, subst, arith, refl, sym, ◌∙◌}
-use Rattle.std.proofs.lemmas.Bool.{eqb-true, leb-true}
+use Rattle.std.proofs.lemmas.Bool.{and_parts, eqb-true, leb-true}
 use borrow.Author.Tests.{tests}
 use Rattle.text_core.specs.Words.{words_of}
-use Rattle.edid_base.proofs.PartLemmas.{both}
 use Rattle.edid_text_lines.specs.declared.line.Keyword.{Keyword}
 use Rattle.edid_text_lines.specs.declared.line.Keyword.TheVariants.{Made, Size, Chroma, Standard, Timing, Hdmi}
 use Rattle.edid_text_lines.specs.Formed.{form_of}
@@ -44,9 +43,9 @@ small_number Chroma i n h = at_most n 1023 h (omega arith)
 small_number Standard i n h = at (i == 1) h
   where
     at : (v : Bool) → cond v (nat_le 248 n && nat_le n 2288 && (n % 8 == 0)) (nat_le n 3) ≡ true → n < 2 ^ 32
-    at true h = at_most n 2288 (both (nat_le 248 n) (nat_le n 2288) (both (nat_le 248 n && nat_le n 2288) (n % 8 == 0) h).0).1 (omega arith)
+    at true h = at_most n 2288 (and_parts (nat_le 248 n) (nat_le n 2288) (and_parts (nat_le 248 n && nat_le n 2288) (n % 8 == 0) h).0).1 (omega arith)
     at false h = at_most n 3 h (omega arith)
-small_number Timing i n h = at_most n (get_or timing_most (i - 1) 0) (both (nat_le (cond (i == 1) 1 0) n) (nat_le n (get_or timing_most (i - 1) 0)) h).1 (small_timing (i - 1))
+small_number Timing i n h = at_most n (get_or timing_most (i - 1) 0) (and_parts (nat_le (cond (i == 1) 1 0) n) (nat_le n (get_or timing_most (i - 1) 0)) h).1 (small_timing (i - 1))
 small_number w i n h = absurd (clash h)
 
 -- a word of a line other than `hdmi` is a number

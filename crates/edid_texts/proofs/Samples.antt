@@ -1,9 +1,8 @@
 -- For each word that may stand next, and each count of words, an accepted text has such a line there.
 use Rattle.std.proofs.Common.{◌≡◌, ℕ, zero, suc, ◌+◌, ◌-◌, ◌*◌, ◌<◌, ◌≤◌, ◌==◌, Bool, true, false, ◌||◌, nat_lt, nat_le, cond, List, [], ◌∷◌, ◌++◌, length, map, take, drop, set, get_or, flat_map, replicate, Option, Some, None, slice_get, ap, arith, refl, sym, ◌∙◌, append_assoc, append-nil, length-append, take-append-drop}
-use Rattle.std.proofs.lemmas.Bool.{eqb-true, leb-true, ltb-true}
+use Rattle.std.proofs.lemmas.Bool.{and_parts, eqb-true, leb-true, ltb-true}
 use Rattle.std.proofs.lemmas.Grind.{flat_map-append}
 use Rattle.std.proofs.lemmas.List.{map-append, length-set}
-use Rattle.edid_base.proofs.PartLemmas.{both}
 use Rattle.edid_base.specs.declared.base.Base.{Base}
 use Rattle.edid_base.specs.declared.descriptor.Descriptor.{Descriptor}
 use Rattle.edid_base.specs.declared.descriptor.Descriptor.TheVariants.{Timing as OfTiming, Name as OfName, Text as OfText, SerialText as OfSerialText, Range as OfRange, Dummy as OfDummy, Raw as OfRaw}
@@ -151,7 +150,7 @@ a_descriptor b n m c w d least most count is size =
 
 a_standard_line : (b : Base) (n m : ℕ) → in_base n Standard ≡ true → has_words (form_of Standard) m ≡ true → Sample (take n (base_lines b)) Standard m
 a_standard_line b n m at count =
-    let p = both (nat_le 11 n) (nat_lt n 19) at in
+    let p = and_parts (nat_le 11 n) (nat_lt n 19) at in
     let least = leb-true _ _ p.0 in
     let most = ltb-true _ _ p.1 in
     cases (m == 2) refl count least most

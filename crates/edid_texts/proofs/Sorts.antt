@@ -1,7 +1,6 @@
 -- Lines of data blocks, timings and tails.
 use Rattle.std.proofs.Common.{◌≡◌, ℕ, suc, ◌+◌, ◌≤◌, ◌⊎◌, inl, inr, Bool, true, false, nat_le, cond, List, length, ap, arith, refl, sym, ◌∙◌, length-drop}
-use Rattle.std.proofs.lemmas.Bool.{leb-true}
-use Rattle.edid_base.proofs.PartLemmas.{both}
+use Rattle.std.proofs.lemmas.Bool.{and_parts, leb-true}
 use Rattle.edid_base.specs.declared.timing.Timing.{Timing as DetailedTiming}
 use Rattle.edid_cta.specs.Block.{block_bytes}
 use Rattle.edid_cta.specs.declared.block.DataBlock.{DataBlock}
@@ -54,7 +53,7 @@ block_sort b = at b.kind b.payload.items
     at OfExtended p = refl
 
 pub long_hdmi : (p : List ℕ) → has_identifier p ≡ true → 5 ≤ length p
-long_hdmi p h = leb-true _ _ (both (nat_le 5 (length p)) _ (both _ _ (both _ _ h).0).0).0
+long_hdmi p h = leb-true _ _ (and_parts (nat_le 5 (length p)) _ (and_parts _ _ (and_parts _ _ h).0).0).0
 
 pub block_size : (b : DataBlock) → size_of (block_line b).fields ≡ length (block_bytes b)
 block_size b = at b.kind b.payload.items

@@ -1,14 +1,13 @@
 -- The words of a line's text.
+use Rattle.std.proofs.Math.Seq.{take-append_seam}
 use Rattle.std.proofs.Common.{◌≡◌, ℕ, suc, ◌+◌, ◌≤◌, ◌==◌, Bool, true, false, ◌&&◌, ◌||◌, not, cond, List, [], ◌∷◌, ◌++◌, length, take, drop, get_or, position, flat_map, Some, None, ap, subst, arith, refl, sym, ◌∙◌, append_assoc, append-nil, length-append, take-append-drop}
 use Rattle.std.specs.Fmt.{decimal}
 use Rattle.std.specs.List.{count_by, position_or_len}
-use Rattle.std.proofs.lemmas.Bool.{eqb-true}
+use Rattle.std.proofs.lemmas.Bool.{and_parts, eqb-true}
 use Rattle.std.proofs.lemmas.Grind.{common_steps}
 use Rattle.std.proofs.lemmas.List.{take_all}
 use Rattle.std.proofs.lemmas.List.Sums.{sum_by-cons}
 use Rattle.hex.specs.Hex.{encode_lower}
-use Rattle.edid_base.proofs.PartLemmas.{both}
-use Rattle.edid_cta.proofs.OneBlock.{append_same}
 use Rattle.text_core.specs.Piece.{phys_text}
 use Rattle.edid_text_lines.specs.Formed.{form_of, BeginsSpaced, FormedFields, are_numbers}
 use Rattle.edid_texts.specs.Refusal.{first_word, word_count}
@@ -24,7 +23,8 @@ use Rattle.edid_texts.proofs.CutTexts.{hex_clean, flags_clean, decimal_clean, ph
 use Rattle.edid_texts.proofs.Good.{is_clean, are_clean, PlainFields, Good}
 use Rattle.edid_text_lines.proofs.OneWord.{solid, fields_begin}
 use Rattle.edid_texts.proofs.Samples.{words_of}
-use Rattle.edid_text_lines.proofs.Words.{cut_at, take_front}
+use Rattle.edid_text_lines.proofs.Words.{cut_at}
+use Rattle.edid_texts.proofs.Gets.{append_same}
 
 -- what stands before a character
 pub before_some : (k : ℕ) (xs : List ℕ) (i : ℕ) → position (λ b. b == k) xs ≡ Some i → take i xs ≡ take (position_or_len (λ b. b == k) xs) xs
@@ -59,9 +59,9 @@ spaces_is (c ∷ cs) = quote (spaces_is cs) (c == 34)
 spaces_clean : (xs ys : List ℕ) → are_clean xs ≡ true → spaces (xs ++ ys) ≡ spaces ys
 spaces_clean [] ys h = refl
 spaces_clean (c ∷ cs) ys h =
-    let p = both (is_clean c) (are_clean cs) h in
-    let q = both (not (c == 10) && not (c == 32)) (not (c == 34)) p.0 in
-    let r = both (not (c == 10)) (not (c == 32)) q.0 in
+    let p = and_parts (is_clean c) (are_clean cs) h in
+    let q = and_parts (not (c == 10) && not (c == 32)) (not (c == 34)) p.0 in
+    let r = and_parts (not (c == 10)) (not (c == 32)) q.0 in
     passed (c == 34) (c == 32) q.1 r.1 (spaces_clean cs ys p.1)
   where
     passed : (v w : Bool) → not v ≡ true → not w ≡ true → spaces (cs ++ ys) ≡ spaces ys → cond v 0 (cond w (suc (spaces (cs ++ ys))) (spaces (cs ++ ys))) ≡ spaces ys
@@ -138,7 +138,7 @@ front_text l = word_text l.word ++ fields_text l.fields
 
 pub first_is : (l : Line) → first_word (front_text l) ≡ word_text l.word
 first_is l =
-    ap (λ n. take n (front_text l)) (cut_at (word_text l.word) (fields_text l.fields) (solid l.word) (fields_begin l.fields)) ∙ take_front (word_text l.word) (fields_text l.fields)
+    ap (λ n. take n (front_text l)) (cut_at (word_text l.word) (fields_text l.fields) (solid l.word) (fields_begin l.fields)) ∙ take-append_seam (word_text l.word) (fields_text l.fields)
 
 -- what begins with a space
 after_space : (xs : List ℕ) → BeginsSpaced (drop (position_or_len (λ c. c == 32) xs) xs)

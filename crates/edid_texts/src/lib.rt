@@ -4,6 +4,7 @@
 mod base_steps;
 mod draft;
 mod fields;
+mod laws;
 mod line_to_block;
 mod line_to_value;
 mod parse;
@@ -16,6 +17,7 @@ mod value_to_lines;
 mod writing;
 
 pub use edid_core::{Edid, EdidError, edid_from_bytes, edid_to_bytes};
+pub use laws::{edids_have_few_lines, lines_end_with_feeds, lines_of_edids_are_lines};
 pub use parse::{TextError, parse_text};
 pub use value_to_lines::line_at;
 pub use writing::{write_parts, write_text};
