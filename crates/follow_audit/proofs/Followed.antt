@@ -25,7 +25,7 @@ use Rattle.follow_audit.specs.Follow.{Ends, Goes, GoesCut, GoesEnd, GoesLast, Go
 use Rattle.follow_audit.specs.Listener.{Finishes, IsAudited, IsOfListening, Puts, PutsAll, PutsFront, SaysAllKnown, TakesEdge}
 use Rattle.follow_audit.specs.Teller.{IsTold, TellsCalm, TellsEdge, TellsEnd}
 use Rattle.follow_audit.specs.declared.error.FollowAuditError.{FollowAuditError}
-use Rattle.follow_audit.specs.declared.error.FollowAuditError.TheVariants.{Capture, Memory, Read, TooLong, Write}
+use Rattle.follow_audit.specs.declared.error.FollowAuditError.TheVariants.{Capture, Memory, Read, TooLong, Waiting, Write}
 use Rattle.follow_audit.specs.declared.follower.AuditFollower.{AuditFollower}
 use Rattle.follow_audit.specs.declared.listener.Listener.{Listener}
 use Rattle.follow_audit.specs.declared.teller.Teller.{Teller}
@@ -53,7 +53,8 @@ nothing_more text rest whole h = h ∙ ap (λ t. t ++ rest) (sym (append-nil tex
 
 going_errs : (error : FollowAuditError) → IsOfListening error → IsOfGoing error
 going_errs (Write count) h = tt
-going_errs TooLong h = tt
+going_errs Waiting h = tt
+going_errs TooLong h = h
 going_errs (Capture fault) h = h
 going_errs Read h = h
 going_errs Memory h = tt
@@ -234,27 +235,30 @@ pub line_heard_so : (signal : List ℕ) (number : ℕ) (line : List ℕ) (old ta
     → Hears signal number line old new before after result
 line_heard_so signal number line old taken new edge before after (Ok done) teller listener takes on g prompt = line_heard signal number line old taken new edge before after teller listener takes on g prompt
 line_heard_so signal number line old taken new edge before after (Err (Write count)) teller listener takes on g prompt = line_stopped signal number line old taken edge before after teller listener takes on g.0
-line_heard_so signal number line old taken new edge before after (Err TooLong) teller listener takes on g prompt = line_stopped signal number line old taken edge before after teller listener takes on g.0
+line_heard_so signal number line old taken new edge before after (Err Waiting) teller listener takes on g prompt = line_stopped signal number line old taken edge before after teller listener takes on g.0
 line_heard_so signal number line old taken new edge before after (Err Memory) teller listener takes on g prompt = line_stopped signal number line old taken edge before after teller listener takes on g.0
 line_heard_so signal number line old taken new edge before after (Err (Capture fault)) teller listener takes on g prompt = absurd g.1
 line_heard_so signal number line old taken new edge before after (Err Read) teller listener takes on g prompt = absurd g.1
+line_heard_so signal number line old taken new edge before after (Err TooLong) teller listener takes on g prompt = absurd g.1
 
 -- what goes on puts more than a fault of the capture would
 pub going_alone : {A : Type 0} (old new : AuditFollower) (edge : Option Edge) (before after : Option (List ℕ)) (result : Result (Unit {0}) FollowAuditError) (a b : A) → Goes old edge new before after result → IfErr result (λ error. LeavesAlone error a b)
 going_alone {A} old new edge before after (Ok done) a b g = tt
 going_alone {A} old new edge before after (Err (Write count)) a b g = tt
-going_alone {A} old new edge before after (Err TooLong) a b g = tt
+going_alone {A} old new edge before after (Err Waiting) a b g = tt
 going_alone {A} old new edge before after (Err Memory) a b g = tt
 going_alone {A} old new edge before after (Err (Capture fault)) a b g = absurd g.1
 going_alone {A} old new edge before after (Err Read) a b g = absurd g.1
+going_alone {A} old new edge before after (Err TooLong) a b g = absurd g.1
 
 pub ending_alone : {A : Type 0} (old : AuditFollower) (edge : Option Edge) (end : ℕ) (before after : Option (List ℕ)) (result : Result (Unit {0}) FollowAuditError) (a b : A) → GoesEnd old edge end before after result → IfErr result (λ error. LeavesAlone error a b)
 ending_alone {A} old edge end before after (Ok done) a b g = tt
 ending_alone {A} old edge end before after (Err (Write count)) a b g = tt
-ending_alone {A} old edge end before after (Err TooLong) a b g = tt
+ending_alone {A} old edge end before after (Err Waiting) a b g = tt
 ending_alone {A} old edge end before after (Err Memory) a b g = tt
 ending_alone {A} old edge end before after (Err (Capture fault)) a b g = absurd g.1
 ending_alone {A} old edge end before after (Err Read) a b g = absurd g.1
+ending_alone {A} old edge end before after (Err TooLong) a b g = absurd g.1
 
 -- a line at fault
 pub line_refused : (signal : List ℕ) (number : ℕ) (line : List ℕ) (old taken new : AuditFollower) (fault : At Cause) (bytes : Option (List ℕ)) → TakesLine signal old.lines number line (Err fault) taken.lines → fault.line ≡ number
@@ -321,10 +325,11 @@ pub end_heard : (number : ℕ) (f : AuditFollower) (last : Last) (before after :
     → Ends number f before after result
 end_heard number f last before after (Ok done) ends g = end_written number f last before after ends g
 end_heard number f last before after (Err (Write count)) ends g = end_cut number f last before after ends g.0
-end_heard number f last before after (Err TooLong) ends g = end_cut number f last before after ends g.0
+end_heard number f last before after (Err Waiting) ends g = end_cut number f last before after ends g.0
 end_heard number f last before after (Err Memory) ends g = end_cut number f last before after ends g.0
 end_heard number f last before after (Err (Capture fault)) ends g = absurd g.1
 end_heard number f last before after (Err Read) ends g = absurd g.1
+end_heard number f last before after (Err TooLong) ends g = absurd g.1
 
 pub end_refused : (number : ℕ) (f : AuditFollower) (fault : At Cause) (bytes : Option (List ℕ)) → EndsLines f.lines number (Err fault) → fault.line ≡ number → Ends number f bytes bytes (Err (Capture fault))
 end_refused number f fault bytes ends place = record {

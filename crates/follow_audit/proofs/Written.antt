@@ -1,5 +1,5 @@
 -- A capture that is followed over a reader and a sink, with what there is to remark.
-use Rattle.std.proofs.Common.{◌≡◌, ℕ, ◌+◌, Bool, true, false, List, [], ◌∷◌, ◌++◌, length, length-append, Option, Some, None, IfSome, Ok, Err, Result, All, refl, sym, ap, subst, ◌∙◌, append_assoc, append-nil, arith}
+use Rattle.std.proofs.Common.{◌≡◌, inr, ℕ, ◌+◌, Bool, true, false, List, [], ◌∷◌, ◌++◌, length, length-append, Option, Some, None, IfSome, Ok, Err, Result, All, refl, sym, ap, subst, ◌∙◌, append_assoc, append-nil, arith}
 use Rattle.std.specs.Io.KnownBytes.{Appends, IsAtEnd, Keeps, append_known, prepend_known}
 use Rattle.std.proofs.KnownBytes.{Appends-kept, Appends-nil, Appends-trans}
 use Rattle.std.proofs.lemmas.List.Elements.{All-append, All-cons, All-nil}
@@ -11,13 +11,14 @@ use Rattle.capture_core.specs.Edges.{Captured}
 use Rattle.capture_core.specs.declared.fault.Cause.{Cause}
 use Rattle.capture_forms.specs.Captures.{capture_in}
 use Rattle.live_incoming.specs.Incoming.{IsNext, IsWhole, Leads, text_of_lines}
-use Rattle.follow_core.specs.Follow.{AreFirst, AreLeft, HaveCome}
+use Rattle.live_incoming.specs.declared.incoming.IncomingFault.TheVariants as line_fault
+use Rattle.follow_core.specs.Follow.{AreFirst, AreLeft, Come, HaveCome, LongLinesAreTooMuch}
 use Rattle.follow_core.specs.Lines.{form_as, lines_captured}
 use Rattle.follow_core.specs.declared.lines.LineForm.{LineForm}
 use Rattle.follow_core.specs.declared.lines.LineForm.TheVariants as forms
 use Rattle.follow_audit.specs.Follow.{Ends, Follows, HasBegun, HasCut, HasHeard, HasStopped, Hears, HoldsNothing, IsFollowed, IsHandedOn, IsPrompt, IsReady, IsUpToDate, LeavesAlone, kind_of, text_of}
 use Rattle.follow_audit.specs.declared.error.FollowAuditError.{FollowAuditError}
-use Rattle.follow_audit.specs.declared.error.FollowAuditError.TheVariants.{Capture, Memory, Read, TooLong, Write}
+use Rattle.follow_audit.specs.declared.error.FollowAuditError.TheVariants.{Capture, Memory, Read, TooLong, Waiting, Write}
 use Rattle.follow_audit.specs.declared.follower.AuditFollower.{AuditFollower}
 use Rattle.follow_audit.proofs.Followed.{followed_front, lines_again}
 
@@ -30,6 +31,7 @@ line_as signal number line old new before after (Write count) h = h
 line_as signal number line old new before after (Capture fault) h = h
 line_as signal number line old new before after Read h = h
 line_as signal number line old new before after TooLong h = h
+line_as signal number line old new before after Waiting h = h
 line_as signal number line old new before after Memory h = h
 
 as_line : (signal : List ℕ) (number : ℕ) (line : List ℕ) (old new : AuditFollower) (before after : Option (List ℕ)) (error : FollowAuditError) → Hears signal number line old new before after (Err (kind_of error))
@@ -38,6 +40,7 @@ as_line signal number line old new before after (Write count) h = h
 as_line signal number line old new before after (Capture fault) h = h
 as_line signal number line old new before after Read h = h
 as_line signal number line old new before after TooLong h = h
+as_line signal number line old new before after Waiting h = h
 as_line signal number line old new before after Memory h = h
 
 end_as : (number : ℕ) (f : AuditFollower) (before after : Option (List ℕ)) (error : FollowAuditError) → Ends number f before after (Err error) → Ends number f before after (Err (kind_of error))
@@ -45,6 +48,7 @@ end_as number f before after (Write count) h = h
 end_as number f before after (Capture fault) h = h
 end_as number f before after Read h = h
 end_as number f before after TooLong h = h
+end_as number f before after Waiting h = h
 end_as number f before after Memory h = h
 
 as_end : (number : ℕ) (f : AuditFollower) (before after : Option (List ℕ)) (error : FollowAuditError) → Ends number f before after (Err (kind_of error)) → Ends number f before after (Err error)
@@ -52,6 +56,7 @@ as_end number f before after (Write count) h = h
 as_end number f before after (Capture fault) h = h
 as_end number f before after Read h = h
 as_end number f before after TooLong h = h
+as_end number f before after Waiting h = h
 as_end number f before after Memory h = h
 
 pub heard_handed : (signal : List ℕ) (number : ℕ) (line : List ℕ) (old new : AuditFollower) (before mid after : Option (List ℕ)) → Hears signal number line old new before mid (Ok tt) → Keeps mid after
@@ -65,9 +70,10 @@ line_kept : (signal : List ℕ) (number : ℕ) (line : List ℕ) (old new : Audi
     → Hears signal number line old new before after (Err error)
 line_kept signal number line old new before mid after (Capture fault) h k = record { put = Appends-kept before mid after [] h.put k; place = h.place; refused = h.refused }
 line_kept signal number line old new before mid after (Write count) h k = stop_kept signal number line old before mid after h k
-line_kept signal number line old new before mid after TooLong h k = stop_kept signal number line old before mid after h k
+line_kept signal number line old new before mid after Waiting h k = stop_kept signal number line old before mid after h k
 line_kept signal number line old new before mid after Memory h k = stop_kept signal number line old before mid after h k
 line_kept signal number line old new before mid after Read h k = h
+line_kept signal number line old new before mid after TooLong h k = h
 
 pub stopped_handed : (signal : List ℕ) (number : ℕ) (line : List ℕ) (old new : AuditFollower) (before mid after : Option (List ℕ)) (error other : FollowAuditError) → Hears signal number line old new before mid (Err error) → Keeps mid after
     → kind_of other ≡ kind_of error → Hears signal number line old new before after (Err other)
@@ -93,9 +99,10 @@ cut_kept number f before mid after h k = record { text = h.text; put = Appends-k
 end_kept : (number : ℕ) (f : AuditFollower) (before mid after : Option (List ℕ)) (error : FollowAuditError) → Ends number f before mid (Err error) → Keeps mid after → Ends number f before after (Err error)
 end_kept number f before mid after (Capture fault) h k = record { put = Appends-kept before mid after [] h.put k; place = h.place; refused = h.refused }
 end_kept number f before mid after (Write count) h k = cut_kept number f before mid after h k
-end_kept number f before mid after TooLong h k = cut_kept number f before mid after h k
+end_kept number f before mid after Waiting h k = cut_kept number f before mid after h k
 end_kept number f before mid after Memory h k = cut_kept number f before mid after h k
 end_kept number f before mid after Read h k = h
+end_kept number f before mid after TooLong h k = h
 
 pub cut_handed : (number : ℕ) (f : AuditFollower) (before mid after : Option (List ℕ)) (error other : FollowAuditError) → Ends number f before mid (Err error) → Keeps mid after → kind_of other ≡ kind_of error
     → Ends number f before after (Err other)
@@ -107,14 +114,16 @@ cut_handed number f before mid after error other h k same =
 pub alone_pending : {S : Type 0} (error : FollowAuditError) (old new : Buffered S) → LeavesAlone error old new → LeavesAlone error old.pending.items new.pending.items
 alone_pending {S} (Capture fault) old new h = ap (λ (b : Buffered S). b.pending.items) h
 alone_pending {S} Read old new h = ap (λ (b : Buffered S). b.pending.items) h
-alone_pending {S} TooLong old new h = tt
+alone_pending {S} TooLong old new h = ap (λ (b : Buffered S). b.pending.items) h
+alone_pending {S} Waiting old new h = tt
 alone_pending {S} Memory old new h = tt
 alone_pending {S} (Write count) old new h = tt
 
 pub handed_alone : (error : FollowAuditError) (old new : List ℕ) → LeavesAlone error old new → old ≡ [] → IsHandedOn error new
 handed_alone (Capture fault) old new h none = h ∙ none
 handed_alone Read old new h none = h ∙ none
-handed_alone TooLong old new h none = tt
+handed_alone TooLong old new h none = h ∙ none
+handed_alone Waiting old new h none = tt
 handed_alone Memory old new h none = tt
 handed_alone (Write count) old new h none = tt
 
@@ -150,12 +159,6 @@ next_line old new line false is h = cc
 pub next_end : (old new : Option (List ℕ)) (line : List ℕ) (more : Bool) → more ≡ false → IsNext old new line (Ok more) → IsAtEnd old
 next_end old new line true is h = cc
 next_end old new line false is h = h
-
--- these lines came
-abbrev pub Come : Option (List ℕ) → Option (List ℕ) → List (List ℕ) → Type 0
-Come None after lines = Unit {0}
-Come (Some before) None lines = ⊥
-Come (Some before) (Some after) lines = lines_of before ≡ lines ++ lines_of after
 
 pub record Going (form : LineForm) (signal : List ℕ) (win : Windows) (timing : Bool) (known now before after : Option (List ℕ)) (f : AuditFollower) (number : ℕ) : Type 0 where
   pub past : List (List ℕ)
@@ -245,17 +248,6 @@ up_to_date form signal win timing known now before mid after f number g none = r
   put = subst (λ t. Appends before after t) (append-nil g.text) (Appends-trans before mid after g.text [] g.put none);
 }
 
-begun : (form : LineForm) (signal : List ℕ) (win : Windows) (timing : Bool) (known now before after : Option (List ℕ)) (f : AuditFollower) (number : ℕ) → Going form signal win timing known now before after f number
-    → HasBegun form signal win timing known before after
-begun form signal win timing known now before after f number g = record {
-  past = g.past;
-  more = true;
-  came = came_some known now g.past g.come;
-  text = g.text;
-  front = followed_front form signal win timing g.past number f g.text g.followed;
-  put = g.put;
-}
-
 -- an input in a form, by its lines
 by_lines : (form : LineForm) (signal text : List ℕ) → capture_in (form_as form) signal text ≡ lines_captured form signal (lines_of text)
 by_lines forms.Edges signal text = refl
@@ -304,9 +296,10 @@ line_stops form signal win timing known now next before mid after old new number
   written = up_to_date form signal win timing known now before mid after old number g h.put;
 }
 line_stops form signal win timing known now next before mid after old new number line (Write count) g leads h = line_begun form signal win timing known now next before mid after old number line g leads h
-line_stops form signal win timing known now next before mid after old new number line TooLong g leads h = line_begun form signal win timing known now next before mid after old number line g leads h
+line_stops form signal win timing known now next before mid after old new number line Waiting g leads h = line_begun form signal win timing known now next before mid after old number line g leads h
 line_stops form signal win timing known now next before mid after old new number line Memory g leads h = line_begun form signal win timing known now next before mid after old number line g leads h
 line_stops form signal win timing known now next before mid after old new number line Read g leads h = absurd h
+line_stops form signal win timing known now next before mid after old new number line TooLong g leads h = absurd h
 
 -- nothing more is read
 pub reading_stops : (form : LineForm) (signal : List ℕ) (win : Windows) (timing : Bool) (known now before after : Option (List ℕ)) (f : AuditFollower) (number : ℕ) → Going form signal win timing known now before after f number
@@ -317,9 +310,23 @@ reading_stops form signal win timing known now before after f number g = record 
   written = up_to_date form signal win timing known now before after after f number g (Appends-nil after);
 }
 
-pub length_stops : (form : LineForm) (signal : List ℕ) (win : Windows) (timing : Bool) (known now before after : Option (List ℕ)) (f : AuditFollower) (number : ℕ) → Going form signal win timing known now before after f number
-    → Follows form signal win timing known before after (Err TooLong)
-length_stops form signal win timing known now before after f number g = begun form signal win timing known now before after f number g
+-- a line is too long
+pub length_stops : (too_long : LongLinesAreTooMuch) (form : LineForm) (signal : List ℕ) (win : Windows) (timing : Bool) (known now next before after : Option (List ℕ)) (f : AuditFollower) (number : ℕ) (line : List ℕ)
+    → Going form signal win timing known now before after f number → IsNext now next line (Err line_fault.TooLong) → Follows form signal win timing known before after (Err TooLong)
+length_stops too_long form signal win timing known now next before after f number line g h = record {
+  past = g.past;
+  over = too_long known now next g.past line g.come h;
+  written = up_to_date form signal win timing known now before after after f number g (Appends-nil after);
+}
+
+-- as many lines as are counted
+pub lines_run_out : (form : LineForm) (signal : List ℕ) (win : Windows) (timing : Bool) (known now before after : Option (List ℕ)) (f : AuditFollower) (number : ℕ) → Going form signal win timing known now before after f number
+    → number ≡ 18446744073709551615 + 1 → Follows form signal win timing known before after (Err TooLong)
+lines_run_out form signal win timing known now before after f number g last = record {
+  past = g.past;
+  over = inr (let count = g.count in omega (arith, count, last), came_first known now g.past g.come);
+  written = up_to_date form signal win timing known now before after after f number g (Appends-nil after);
+}
 
 -- no line is left
 input_of : (form : LineForm) (known now : Option (List ℕ)) (past : List (List ℕ)) → Come known now past → All IsWhole past → IsAtEnd now
@@ -361,6 +368,7 @@ end_stops form signal win timing known now before mid after f number (Err (Captu
   written = up_to_date form signal win timing known now before mid after f number g h.put;
 }
 end_stops form signal win timing known now before mid after f number (Err (Write count)) g end h = end_begun form signal win timing known now before mid after f number g end h
-end_stops form signal win timing known now before mid after f number (Err TooLong) g end h = end_begun form signal win timing known now before mid after f number g end h
+end_stops form signal win timing known now before mid after f number (Err Waiting) g end h = end_begun form signal win timing known now before mid after f number g end h
 end_stops form signal win timing known now before mid after f number (Err Memory) g end h = end_begun form signal win timing known now before mid after f number g end h
 end_stops form signal win timing known now before mid after f number (Err Read) g end h = absurd h
+end_stops form signal win timing known now before mid after f number (Err TooLong) g end h = absurd h

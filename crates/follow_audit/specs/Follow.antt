@@ -14,14 +14,14 @@ use Rattle.capture_core.specs.declared.fault.Cause.{Cause}
 use Rattle.capture_monitor.specs.Joined.{captured_by}
 use Rattle.audit_core.specs.Audit.{audit_text_of}
 use Rattle.capture_forms.specs.Captures.{capture_in}
-use Rattle.follow_core.specs.Follow.{AreFirst, AreLeft, HaveCome, IsRefused, NoneBefore}
+use Rattle.follow_core.specs.Follow.{AreFirst, AreLeft, HaveCome, IsRefused, IsTooMuch, NoneBefore}
 use Rattle.follow_core.specs.Lines.{IsEarly, form_as, from_of, lines_captured, lines_left}
 use Rattle.follow_core.specs.declared.lines.LineForm.{LineForm}
 use Rattle.follow_audit.specs.Listener.{IsAudited, SaysAllKnown}
 use Rattle.follow_audit.specs.Teller.{IsTold}
 use Rattle.follow_audit.specs.Teller.{IsEarly as IsEarlyTold}
 use Rattle.follow_audit.specs.declared.error.FollowAuditError.{FollowAuditError}
-use Rattle.follow_audit.specs.declared.error.FollowAuditError.TheVariants.{Capture, Memory, Read, TooLong, Write}
+use Rattle.follow_audit.specs.declared.error.FollowAuditError.TheVariants.{Capture, Memory, Read, TooLong, Waiting, Write}
 use Rattle.follow_audit.specs.declared.follower.AuditFollower.{AuditFollower}
 
 -- the audit of a whole capture
@@ -72,13 +72,14 @@ pub record GoesTo (old : AuditFollower) (edge : Option Edge) (before after : Opt
   pub front : (windows : Windows) (all left : List Edge) (end : ℕ) (so_far : List ℕ) → NoneBefore (from_of old.lines) left → from_of old.lines ≤ end + 1
       → IsAt windows old all (option_to_list edge ++ left) end so_far → IsFrontOfAll windows old.listener.timing all end (so_far ++ text)
 
--- neither a fault of a line nor of a reader
+-- neither a fault of a line nor of a reader, nor that more came than is followed
 abbrev pub IsOfGoing : FollowAuditError → Type 0
 IsOfGoing (Write count) = Unit {0}
-IsOfGoing TooLong = Unit {0}
+IsOfGoing Waiting = Unit {0}
 IsOfGoing Memory = Unit {0}
 IsOfGoing (Capture fault) = ⊥
 IsOfGoing Read = ⊥
+IsOfGoing TooLong = ⊥
 
 abbrev pub Goes : AuditFollower → Option Edge → AuditFollower → Option (List ℕ) → Option (List ℕ) → Result (Unit {0}) FollowAuditError → Type 0
 Goes old edge new before after (Ok done) = GoesOn old edge new before after
@@ -133,9 +134,10 @@ abbrev pub Hears : List ℕ → ℕ → List ℕ → AuditFollower → AuditFoll
 Hears signal number line old new before after (Ok done) = HasHeard signal number line old new before after
 Hears signal number line old new before after (Err (Capture fault)) = IsAtFault signal number line old before after fault
 Hears signal number line old new before after (Err (Write count)) = HasStopped signal number line old before after
-Hears signal number line old new before after (Err TooLong) = HasStopped signal number line old before after
+Hears signal number line old new before after (Err Waiting) = HasStopped signal number line old before after
 Hears signal number line old new before after (Err Memory) = HasStopped signal number line old before after
 Hears signal number line old new before after (Err Read) = ⊥
+Hears signal number line old new before after (Err TooLong) = ⊥
 
 -- no line is left: the audit of the whole is written
 pub record IsWhole (form : LineForm) (signal : List ℕ) (windows : Windows) (timing : Bool) (lines : List (List ℕ)) (text : List ℕ) : Type 0 where
@@ -167,9 +169,10 @@ abbrev pub Ends : ℕ → AuditFollower → Option (List ℕ) → Option (List �
 Ends number f before after (Ok done) = HasWritten number f before after
 Ends number f before after (Err (Capture fault)) = LacksEnd number f before after fault
 Ends number f before after (Err (Write count)) = HasCut number f before after
-Ends number f before after (Err TooLong) = HasCut number f before after
+Ends number f before after (Err Waiting) = HasCut number f before after
 Ends number f before after (Err Memory) = HasCut number f before after
 Ends number f before after (Err Read) = ⊥
+Ends number f before after (Err TooLong) = ⊥
 
 -- ---- an input
 
@@ -206,6 +209,12 @@ pub record StopsAtRead (form : LineForm) (signal : List ℕ) (windows : Windows)
   pub came : AreFirst known past
   pub written : IsUpToDate form signal windows timing past old new
 
+-- more came than is followed: all is written that the lines before say
+pub record StopsAtLength (form : LineForm) (signal : List ℕ) (windows : Windows) (timing : Bool) (known old new : Option (List ℕ)) : Type 0 where
+  pub past : List (List ℕ)
+  pub over : IsTooMuch known past
+  pub written : IsUpToDate form signal windows timing past old new
+
 -- lines of it have come, all of them or not, and a front of the audit is written
 pub record HasBegun (form : LineForm) (signal : List ℕ) (windows : Windows) (timing : Bool) (known old new : Option (List ℕ)) : Type 0 where
   pub past : List (List ℕ)
@@ -219,7 +228,8 @@ abbrev pub Follows : LineForm → List ℕ → Windows → Bool → Option (List
 Follows form signal windows timing known old new (Ok done) = HasFollowed form signal windows timing known old new
 Follows form signal windows timing known old new (Err (Capture fault)) = StopsAtFault form signal windows timing known old new fault
 Follows form signal windows timing known old new (Err Read) = StopsAtRead form signal windows timing known old new
-Follows form signal windows timing known old new (Err TooLong) = HasBegun form signal windows timing known old new
+Follows form signal windows timing known old new (Err TooLong) = StopsAtLength form signal windows timing known old new
+Follows form signal windows timing known old new (Err Waiting) = HasBegun form signal windows timing known old new
 Follows form signal windows timing known old new (Err Memory) = HasBegun form signal windows timing known old new
 Follows form signal windows timing known old new (Err (Write count)) = HasBegun form signal windows timing known old new
 
@@ -227,7 +237,8 @@ Follows form signal windows timing known old new (Err (Write count)) = HasBegun 
 abbrev pub IsHandedOn : FollowAuditError → List ℕ → Type 0
 IsHandedOn (Capture fault) pending = pending ≡ []
 IsHandedOn Read pending = pending ≡ []
-IsHandedOn TooLong pending = Unit {0}
+IsHandedOn TooLong pending = pending ≡ []
+IsHandedOn Waiting pending = Unit {0}
 IsHandedOn Memory pending = Unit {0}
 IsHandedOn (Write count) pending = Unit {0}
 
@@ -235,7 +246,8 @@ IsHandedOn (Write count) pending = Unit {0}
 abbrev pub LeavesAlone : {A : Type 0} → FollowAuditError → A → A → Type 0
 LeavesAlone (Capture fault) old new = new ≡ old
 LeavesAlone Read old new = new ≡ old
-LeavesAlone TooLong old new = Unit {0}
+LeavesAlone TooLong old new = new ≡ old
+LeavesAlone Waiting old new = Unit {0}
 LeavesAlone Memory old new = Unit {0}
 LeavesAlone (Write count) old new = Unit {0}
 
@@ -245,6 +257,7 @@ kind_of (Write count) = Write 0
 kind_of (Capture fault) = Capture fault
 kind_of Read = Read
 kind_of TooLong = TooLong
+kind_of Waiting = Waiting
 kind_of Memory = Memory
 
 -- where nothing was held back before

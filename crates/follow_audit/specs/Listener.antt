@@ -12,7 +12,7 @@ use Rattle.audit_core.specs.Audit.{after_all, audit_text_of, first_tape, remarks
 use Rattle.audit_core.specs.Progress.{WritesOn}
 use Rattle.follow_audit.specs.Settled.{IsKnown, is_settled, later}
 use Rattle.follow_audit.specs.declared.error.FollowAuditError.{FollowAuditError}
-use Rattle.follow_audit.specs.declared.error.FollowAuditError.TheVariants.{Capture, Memory, Read, TooLong, Write}
+use Rattle.follow_audit.specs.declared.error.FollowAuditError.TheVariants.{Capture, Memory, Read, TooLong, Waiting, Write}
 use Rattle.follow_audit.specs.declared.listener.Listener.{Listener}
 
 -- the line of a reading, of which what there is to remark is not written
@@ -94,7 +94,8 @@ IsFrontOf timing edges ended text = (end : ℕ) (more : List Listed) → (rest :
 -- readings that have ended are told one after another: what goes on with the audit is put, or a front of it
 abbrev pub IsOfListening : FollowAuditError → Type 0
 IsOfListening (Write count) = Unit {0}
-IsOfListening TooLong = Unit {0}
+IsOfListening Waiting = Unit {0}
+IsOfListening TooLong = ⊥
 IsOfListening (Capture fault) = ⊥
 IsOfListening Read = ⊥
 IsOfListening Memory = ⊥

@@ -8,10 +8,12 @@ use thiserror::Error;
 pub enum FollowAuditError {
     #[error("read fault")]
     Read,
-    /// A line has more than 4,096 bytes, there are more than 18,446,744,073,709,551,615 lines, or a reading has ended before it is
-    /// known what there is to remark of the one before, which no line of the bus was seen to do.
+    /// A line has more than 4,096 bytes, or there are more than 18,446,744,073,709,551,615 lines.
     #[error("input too long")]
     TooLong,
+    /// A reading has ended before it is known what there is to remark of the one before, which no line of the bus was seen to do.
+    #[error("two readings wait")]
+    Waiting,
     /// The first line at fault.
     #[error("{0}")]
     Capture(At<Cause>),

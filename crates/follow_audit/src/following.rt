@@ -8,7 +8,7 @@ ghost use Rattle.follow_audit.specs.Follow.{Ends, Follows, Hears, HoldsNothing, 
 use crate::error::FollowAuditError;
 use crate::follower::AuditFollower;
 use arrayvec::ArrayVec;
-use follow_core::LineForm;
+use follow_core::{LineForm, long_lines_are_too_much};
 use line_reading::Windows;
 use live_incoming::{IncomingFault, Lines};
 use std::alloc::Global;
@@ -25,8 +25,8 @@ fn stopped<S: Sink>(error: FollowAuditError, out: &mut Buffered<S>) -> FollowAud
     ensures alone { (start : List ℕ) → LeavesAlone error start (pending out.old) → LeavesAlone result start (pending out.new) }
 {
     match error {
-        FollowAuditError::Read | FollowAuditError::Capture(_) => error,
-        FollowAuditError::TooLong | FollowAuditError::Memory => {
+        FollowAuditError::Read | FollowAuditError::TooLong | FollowAuditError::Capture(_) => error,
+        FollowAuditError::Waiting | FollowAuditError::Memory => {
             let _ = out.flush();
             error
         }
@@ -89,9 +89,9 @@ fn finish<S: Sink>(
 ///
 /// # Errors
 ///
-/// The first line at fault, counted from 1; a line has more than 4,096 bytes; no memory; a read or a write failed. What was written
-/// before stays written: the front of the text of each capture that begins with the lines before, and, where a line is at fault or a
-/// read failed, all of it that these say.
+/// The first line at fault, counted from 1; a line has more than 4,096 bytes; two readings wait; no memory; a read or a write failed.
+/// What was written before stays written: the front of the text of each capture that begins with the lines before, and, where a line
+/// is at fault or too long or a read failed, all of it that these say.
 pub fn follow_audit<R: Read, S: Sink>(
     alloc: Global,
     form: LineForm,
@@ -112,7 +112,11 @@ pub fn follow_audit<R: Read, S: Sink>(
     for read in 0..MOST_LINES {
         match lines.next(input, &mut line) {
             Err(IncomingFault::Read) => return Err(FollowAuditError::Read),
-            Err(IncomingFault::TooLong) => return Err(FollowAuditError::TooLong),
+            Err(IncomingFault::TooLong) => {
+                // No effect at run time. The proof reads from it that the line is too long.
+                long_lines_are_too_much();
+                return Err(FollowAuditError::TooLong);
+            }
             Ok(more) => {
                 if !more {
                     return finish(follower, alloc, read + 1, out);

@@ -169,7 +169,7 @@ impl Listener {
     ///
     /// # Errors
     ///
-    /// `Write` where the sink takes no more, and `TooLong`. Then a front of that was written.
+    /// `Write` where the sink takes no more, and `Waiting`. Then a front of that was written.
     pub(crate) fn tell<S: Sink>(
         &mut self,
         first: Option<Reading>,
@@ -182,10 +182,10 @@ impl Listener {
         let mut progress = TextProgress::new();
         self.settle(&mut progress, out);
         if !self.hear(first, &mut progress, out) {
-            return Err(FollowAuditError::TooLong);
+            return Err(FollowAuditError::Waiting);
         }
         if !self.hear(second, &mut progress, out) {
-            return Err(FollowAuditError::TooLong);
+            return Err(FollowAuditError::Waiting);
         }
         match progress.result() {
             Ok(()) => Ok(()),

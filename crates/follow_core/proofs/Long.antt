@@ -11,12 +11,12 @@ use Rattle.line_reading.specs.declared.times.Windows.{Windows}
 use Rattle.live_incoming.specs.Incoming.{IsNext, IsWhole, longest_line}
 use Rattle.live_incoming.specs.declared.incoming.IncomingFault.{IncomingFault}
 use Rattle.live_incoming.specs.declared.incoming.IncomingFault.TheVariants as line_fault
-use Rattle.follow_core.specs.Follow.{Follows, HoldsNothing, HaveCome, IsHandedOn, IsOfWriting, line_error}
+use Rattle.follow_core.specs.Follow.{Come, Follows, HoldsNothing, HaveCome, IsHandedOn, IsOfWriting, LongLinesAreTooMuch, line_error}
 use Rattle.follow_core.specs.declared.error.FollowError.{FollowError}
 use Rattle.follow_core.specs.declared.error.FollowError.TheVariants.{Capture, Read, TooLong, Write}
 use Rattle.follow_core.specs.declared.follower.Follower.{Follower}
 use Rattle.follow_core.specs.declared.lines.LineForm.{LineForm}
-use Rattle.follow_core.proofs.Written.{Come, Going, came_first, up_to_date}
+use Rattle.follow_core.proofs.Written.{Going, came_first, up_to_date}
 
 -- ---- a line of which so much has come
 
@@ -66,6 +66,9 @@ long_line (Some xs) (Some ys) (Some zs) past front come whole long takes =
       (k.0, come ∙ ap (λ t. past ++ lines_of t) takes ∙ ap (λ parts. past ++ without_empty_end parts) b.is ∙ ap (λ ls. past ++ ls) k.1 ∙ sym (append_assoc past (line ∷ []) k.0)),
     )
 
+pub long_lines_are_too_much : LongLinesAreTooMuch
+long_lines_are_too_much known now next past line come h = inl (long_line known now next past h.0 come h.1 h.2 h.3)
+
 -- ---- no line was read
 
 pub line_fails : (form : LineForm) (signal : List ℕ) (win : Windows) (known now next before after : Option (List ℕ)) (f : Follower) (number : ℕ) (line : List ℕ) (fault : IncomingFault) → Going form signal win known now before after f number
@@ -77,7 +80,7 @@ line_fails form signal win known now next before after f number line line_fault.
 }
 line_fails form signal win known now next before after f number line line_fault.TooLong g h = record {
   past = g.past;
-  over = inl (long_line known now next g.past h.0 g.come h.1 h.2 h.3);
+  over = long_lines_are_too_much known now next g.past line g.come h;
   written = up_to_date form signal win known now before after after f number g (Appends-nil after);
 }
 

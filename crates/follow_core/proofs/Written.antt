@@ -12,7 +12,7 @@ use Rattle.line_reading.specs.declared.times.Windows.{Windows}
 use Rattle.capture_core.specs.declared.fault.Cause.{Cause}
 use Rattle.capture_forms.specs.Captures.{capture_in}
 use Rattle.live_incoming.specs.Incoming.{IsNext, IsWhole, Leads, text_of_lines}
-use Rattle.follow_core.specs.Follow.{AreFirst, Ends, Follows, HasHeard, HaveCome, Hears, HearsEnd, HearsLine, IsCut, IsCutLast, IsFollowed, IsFront, IsOfWriting, IsOverBy, IsPrompt, IsReady, IsUpToDate, Puts, heard_text, text_of}
+use Rattle.follow_core.specs.Follow.{AreFirst, Come, Ends, Follows, HasHeard, HaveCome, Hears, HearsEnd, HearsLine, IsCut, IsCutLast, IsFollowed, IsFront, IsOfWriting, IsOverBy, IsPrompt, IsReady, IsUpToDate, Puts, heard_text, text_of}
 use Rattle.follow_core.specs.Follow.{IsWhole as IsAll}
 use Rattle.follow_core.specs.Lines.{form_as, lines_captured}
 use Rattle.follow_core.specs.declared.error.FollowError.{FollowError}
@@ -107,12 +107,6 @@ next_line old new line false is h = cc
 pub next_end : (old new : Option (List ℕ)) (line : List ℕ) (more : Bool) → more ≡ false → IsNext old new line (Ok more) → IsAtEnd old
 next_end old new line true is h = cc
 next_end old new line false is h = h
-
--- these lines came
-abbrev pub Come : Option (List ℕ) → Option (List ℕ) → List (List ℕ) → Type 0
-Come None after lines = Unit {0}
-Come (Some before) None lines = ⊥
-Come (Some before) (Some after) lines = lines_of before ≡ lines ++ lines_of after
 
 pub record Going (form : LineForm) (signal : List ℕ) (win : Windows) (known now before after : Option (List ℕ)) (f : Follower) (number : ℕ) : Type 0 where
   pub past : List (List ℕ)

@@ -15,7 +15,7 @@ use Rattle.capture_monitor.specs.ReadBy.{ended_before_by}
 use Rattle.capture_monitor.specs.Watch.{readings_text, reported_text}
 use Rattle.capture_monitor.specs.declared.monitor.Monitor.{Monitor as Watcher}
 use Rattle.capture_forms.specs.Captures.{capture_in}
-use Rattle.live_incoming.specs.Incoming.{longest_line}
+use Rattle.live_incoming.specs.Incoming.{IsNext, longest_line}
 use Rattle.live_incoming.specs.declared.incoming.IncomingFault.{IncomingFault}
 use Rattle.live_incoming.specs.declared.incoming.IncomingFault.TheVariants as line_fault
 use Rattle.line_reading.specs.Readings.{Listed}
@@ -203,6 +203,12 @@ abbrev pub HaveCome : Option (List ℕ) → List (List ℕ) → Option (List ℕ
 HaveCome known past (Some line) = AreFirst known (past ++ line ∷ [])
 HaveCome known past None = IfSome known (λ text. lines_of text ≡ past)
 
+-- these lines came of an input, and this is left of it
+abbrev pub Come : Option (List ℕ) → Option (List ℕ) → List (List ℕ) → Type 0
+Come None after lines = Unit {0}
+Come (Some before) None lines = ⊥
+Come (Some before) (Some after) lines = lines_of before ≡ lines ++ lines_of after
+
 -- Each reading that is over by these lines is written, and nothing else: the front of the text of each capture that begins so.
 pub record IsUpToDate (form : LineForm) (signal : List ℕ) (windows : Windows) (past : List (List ℕ)) (old new : Option (List ℕ)) : Type 0 where
   pub follower : Follower
@@ -236,6 +242,10 @@ pub record StopsAtRead (form : LineForm) (signal : List ℕ) (windows : Windows)
 -- the line after these has more bytes than a line may have, or these are as many as are counted
 abbrev pub IsTooMuch : Option (List ℕ) → List (List ℕ) → Type 0
 IsTooMuch known past = ((line : List ℕ) × (longest_line < length line) × HaveCome known past (Some line)) ⊎ ((length past ≡ 18446744073709551615) × AreFirst known past)
+
+-- where more has come of a line than it may have, it is too long
+abbrev pub LongLinesAreTooMuch : Type 0
+LongLinesAreTooMuch = (known now next : Option (List ℕ)) (past : List (List ℕ)) (line : List ℕ) → Come known now past → IsNext now next line (Err line_fault.TooLong) → IsTooMuch known past
 
 pub record StopsAtLength (form : LineForm) (signal : List ℕ) (windows : Windows) (known old new : Option (List ℕ)) : Type 0 where
   pub past : List (List ℕ)

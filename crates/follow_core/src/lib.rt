@@ -5,9 +5,11 @@ mod edge_lines;
 mod error;
 mod follower;
 mod following;
+mod laws;
 mod lines;
 
 pub use error::FollowError;
 pub use follower::{EndedReadings, Follower};
 pub use following::follow;
+pub use laws::long_lines_are_too_much;
 pub use lines::{CaptureLines, Last, LineForm};

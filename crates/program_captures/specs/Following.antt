@@ -59,13 +59,23 @@ pub record StopsSo (form : FollowForm) (name : List ℕ) (margin : ℕ) (known o
   pub stops : Stops (form_followed form) name (wider (min margin most_margin)) known old new error
   pub handed : before ≡ [] → IsHandedOn error pending
 
--- why an audit ends before, or no memory is left
+-- no memory is left
+abbrev pub IsOfMemory : MonitorFault → Type 0
+IsOfMemory (faults.Memory error) = Unit {0}
+IsOfMemory faults.Read = ⊥
+IsOfMemory faults.TooLong = ⊥
+IsOfMemory (faults.Line fault) = ⊥
+IsOfMemory faults.Remarked = ⊥
+IsOfMemory (faults.Write fault) = ⊥
+
+-- why an audit ends before
 abbrev pub IsCauseOf : FollowAuditError → MonitorFault → Type 0
 IsCauseOf audit_error.Read fault = fault ≡ faults.Read
 IsCauseOf audit_error.TooLong fault = fault ≡ faults.TooLong
+IsCauseOf audit_error.Waiting fault = fault ≡ faults.TooLong
 IsCauseOf (audit_error.Capture slip) fault = fault ≡ faults.Line slip
 IsCauseOf (audit_error.Write count) fault = fault ≡ faults.Write (record { count = count })
-IsCauseOf audit_error.Memory fault = Unit {0}
+IsCauseOf audit_error.Memory fault = IsOfMemory fault
 
 -- a front of the audit of each capture that begins with the lines that came is written; where a line is at fault or a read failed, all of
 -- it that they say, and it is handed on

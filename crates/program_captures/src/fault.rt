@@ -10,7 +10,7 @@ pub enum MonitorFault {
     /// A capture that is reported as its lines come can't be read on.
     #[error("read fault")]
     Read,
-    /// One of its lines is too long, or there are too many.
+    /// One of its lines is too long, there are too many, or two readings of its audit wait.
     #[error("input too long")]
     TooLong,
     /// The first line at fault.

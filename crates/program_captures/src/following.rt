@@ -40,7 +40,7 @@ fn audit_fault_of(error: FollowAuditError) -> MonitorFault
 {
     match error {
         FollowAuditError::Read => MonitorFault::Read,
-        FollowAuditError::TooLong => MonitorFault::TooLong,
+        FollowAuditError::TooLong | FollowAuditError::Waiting => MonitorFault::TooLong,
         FollowAuditError::Capture(fault) => MonitorFault::Line(fault),
         FollowAuditError::Write(count) => MonitorFault::Write(WriteFault { count }),
         FollowAuditError::Memory => MonitorFault::Memory(AllocError),

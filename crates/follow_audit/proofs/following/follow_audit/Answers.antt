@@ -1,6 +1,6 @@
-use Rattle.std.proofs.Common.{◌+◌, ℕ, List, sym, subst}
+use Rattle.std.proofs.Common.{◌+◌, ℕ, List, arith, sym, subst}
 use Rattle.live_incoming.specs.Incoming.{IsWhole, Leads, bytes_left, to_come}
-use Rattle.follow_audit.proofs.Written.{end_stops, going_first, going_more, handed_after, held, length_stops, line_stops, next_end, next_line, reading_stops}
+use Rattle.follow_audit.proofs.Written.{end_stops, going_first, going_more, handed_after, held, length_stops, line_stops, lines_run_out, next_end, next_line, reading_stops}
 use Rattle.follow_audit.proofs.following.follow_audit.Goals as goal
 
 pub loop-read-init : goal.loop-read-init
@@ -19,8 +19,8 @@ returns-in-Err-Read-clause-follows g c =
 pub returns-in-Err-TooLong-clause-follows : goal.returns-in-Err-TooLong-clause-follows
 returns-in-Err-TooLong-clause-follows g c =
     let at = c.loop-read in
-    length_stops c.args.form c.args.signal.now c.args.windows c.args.timing (g.R.Read.remaining c.args.input.now) (to_come at.lines (g.R.Read.remaining at.input)) (held g.S.Sink.contents c.args.out.now) (held g.S.Sink.contents at.out)
-    at.follower (at.read + 1) at.invariant.going
+    length_stops c.long_lines_are_too_much.ensures c.args.form c.args.signal.now c.args.windows c.args.timing (g.R.Read.remaining c.args.input.now) (to_come at.lines (g.R.Read.remaining at.input)) (to_come c.next.new.self (g.R.Read.remaining c.next.new.input))
+    (held g.S.Sink.contents c.args.out.now) (held g.S.Sink.contents at.out) at.follower (at.read + 1) c.next.new.line.items at.invariant.going c.in-Err-TooLong.ensures.next
 
 pub finish-requires : goal.finish-requires
 finish-requires g c = record { ready = c.loop-read.invariant.going.ready }
@@ -61,14 +61,16 @@ loop-read-preserved g c =
 pub returns-clause-follows : goal.returns-clause-follows
 returns-clause-follows g c =
     let at = c.loop-read in
-    length_stops c.args.form c.args.signal.now c.args.windows c.args.timing (g.R.Read.remaining c.args.input.now) (to_come at.lines (g.R.Read.remaining at.input)) (held g.S.Sink.contents c.args.out.now) (held g.S.Sink.contents at.out)
-    at.follower (at.read + 1) at.invariant.going
+    let done = c.loop-read-test.false in
+    let least = c.loop-read.auto.read-end in
+    lines_run_out c.args.form c.args.signal.now c.args.windows c.args.timing (g.R.Read.remaining c.args.input.now) (to_come at.lines (g.R.Read.remaining at.input)) (held g.S.Sink.contents c.args.out.now) (held g.S.Sink.contents at.out)
+    at.follower (at.read + 1) at.invariant.going (omega arith)
 
 pub returns-in-Err-Read-clause-kept : goal.returns-in-Err-Read-clause-kept
 returns-in-Err-Read-clause-kept g c = λ none. c.loop-read.invariant.kept none
 
 pub returns-in-Err-TooLong-clause-kept : goal.returns-in-Err-TooLong-clause-kept
-returns-in-Err-TooLong-clause-kept g c = λ none. tt
+returns-in-Err-TooLong-clause-kept g c = λ none. c.loop-read.invariant.kept none
 
 pub returns-then-not-more-clause-kept : goal.returns-then-not-more-clause-kept
 returns-then-not-more-clause-kept g c = handed_after c.finish.result c.args.out.now.pending.items c.loop-read.out.pending.items c.finish.new.out.pending.items c.loop-read.invariant.kept c.finish.ensures.kept
@@ -77,4 +79,4 @@ pub returns-in-Err-clause-kept : goal.returns-in-Err-clause-kept
 returns-in-Err-clause-kept g c = λ none. c.in-Err.ensures.kept (c.loop-read.invariant.kept none)
 
 pub returns-clause-kept : goal.returns-clause-kept
-returns-clause-kept g c = λ none. tt
+returns-clause-kept g c = λ none. c.loop-read.invariant.kept none
