@@ -15,8 +15,9 @@ use Rattle.line_rounds.specs.declared.Seat.{Seat}
 use Rattle.line_rounds.specs.declared.Outcome.{Outcome}
 use Rattle.line_rounds.specs.Round.{acknowledges, all_known, is_acknowledged, is_held, out_of, sends_in}
 use Rattle.line_rounds.specs.Contend.{leaves}
+use Rattle.line_rounds.specs.Slots.{AreSpaced}
 use Rattle.line_rounds.proofs.Early.{destination_more, leaves_more, and_left, and_right}
-use Rattle.line_rounds.proofs.Spans.{AreSpaced, bits_more, reading_spans}
+use Rattle.line_rounds.proofs.Spans.{bits_more, reading_spans}
 use Rattle.room_drives.specs.Stretches.{ack_by, ack_in, ack_stretches, acknowledges_in, goes_to, slot_fall, stretch}
 use Rattle.drive_laws.proofs.Sent.{FrontReported, all_bits, bits_at, found_before, front_reported, known_after, one_known, spaced_get}
 use Rattle.drive_laws.proofs.Slots.{falls_at}

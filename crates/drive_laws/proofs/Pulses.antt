@@ -10,9 +10,10 @@ use Rattle.line_rounds.specs.declared.Seat.{Seat}
 use Rattle.line_rounds.specs.declared.Outcome.{Outcome}
 use Rattle.line_rounds.specs.Bounds.{begun_within}
 use Rattle.line_rounds.specs.Round.{is_within, pulse_pulls, frames_of, is_acknowledged, is_broken, IsRound}
+use Rattle.line_rounds.specs.Elements.{In}
 use Rattle.line_reading.specs.Sending.{sender_pulls}
 use Rattle.line_rounds.proofs.Bounds.{rounds_are_short}
-use Rattle.line_rounds.proofs.Differ.{In, any_agree_in, any_in}
+use Rattle.line_rounds.proofs.Differ.{any_agree_in, any_in}
 use Rattle.line_rounds.proofs.Early.{or_cases, and_left, and_right}
 use Rattle.line_rounds.proofs.Lasting.{rest_past, rest_rises}
 use Rattle.line_rounds.proofs.Law.{all_in}

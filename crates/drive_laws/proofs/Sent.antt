@@ -15,9 +15,10 @@ use Rattle.line_reading.specs.Sending.{bit_read, destination, known_bits, is_who
 use Rattle.line_reading.proofs.Ends.{until_by}
 use Rattle.line_rounds.specs.Round.{all_known, is_not_before}
 use Rattle.line_rounds.specs.Contend.{leaves}
+use Rattle.line_rounds.specs.Slots.{AreSpaced, IsReported, AreReported, MoreBits}
 use Rattle.line_rounds.proofs.Early.{leaves_more}
 use Rattle.line_rounds.proofs.Polled.{reported_bits}
-use Rattle.line_rounds.proofs.Spans.{AreSpaced, AreReported, IsReported, MoreBits, bits_more, reading_spans, reported_all}
+use Rattle.line_rounds.proofs.Spans.{bits_more, reading_spans, reported_all}
 use Rattle.line_rounds.proofs.Walk.{next_falls, quiet_sample}
 use Rattle.room_drives.specs.Stretches.{sample_by}
 

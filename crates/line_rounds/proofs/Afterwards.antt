@@ -15,6 +15,7 @@ use Rattle.line_rounds.specs.declared.Seat.{Seat}
 use Rattle.line_reading.specs.Sending.{known_bits, out_slot, goes_on, sender_pulls}
 use Rattle.line_rounds.specs.Round.{frames_of, is_within, pulse_pulls, is_acknowledged, is_broken, IsRoundLine}
 use Rattle.line_rounds.specs.Contend.{Stays}
+use Rattle.line_rounds.specs.Quiet.{NoFallAfter}
 use Rattle.line_rounds.proofs.Early.{and_right, stays_before}
 use Rattle.line_rounds.proofs.Inside.{not_whole, heard_start, stays_by}
 use Rattle.line_rounds.proofs.Law.{not_true, pulled_more, start_fails}
@@ -96,7 +97,7 @@ not_out low begin t u f l h g = out_none (known_at u (reading_of low begin)) (fr
 
 -- ---- no fall
 
-pub no_fall_after : (seats : List Seat) (begin : ℕ) (pulses : List Stretch) (low : Line) → IsRoundLine seats begin pulses low → (u : ℕ) → (reading_of low begin).until < u → is_fall low u ≡ false
+pub no_fall_after : NoFallAfter
 no_fall_after seats begin pulses low line u past = by_fall (is_fall low u) refl
   where
     begins : begin ≤ (reading_of low begin).until

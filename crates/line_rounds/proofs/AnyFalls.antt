@@ -14,7 +14,8 @@ use Rattle.line_reading.proofs.Search.{found_first, found_none}
 use Rattle.line_reading.proofs.Causes.{IsPlain, last_plain}
 use Rattle.line_reading.proofs.Stood.{was_now}
 use Rattle.line_rounds.specs.Falls.{AreRisingFrom, FallsAreRead}
-use Rattle.line_rounds.proofs.Walk.{NextFall, next_falls}
+use Rattle.line_rounds.specs.Slots.{NextFall}
+use Rattle.line_rounds.proofs.Walk.{next_falls}
 
 -- falls one after another, from `from` to `until`
 abbrev AreFallsTo : Line → ℕ → ℕ → List ℕ → Type 0

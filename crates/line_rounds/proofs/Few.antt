@@ -11,7 +11,8 @@ use Rattle.line_reading.proofs.Waves.{falls_of_wave}
 use Rattle.line_rounds.specs.declared.Seat.{Seat}
 use Rattle.line_rounds.specs.Round.{frames_of, IsRoundLine}
 use Rattle.line_rounds.specs.Falls.{EachFallBegins, AreRisingFrom, FewFalls, WaveFits, RoundFits}
-use Rattle.line_rounds.proofs.Differ.{In, any_in}
+use Rattle.line_rounds.specs.Elements.{In}
+use Rattle.line_rounds.proofs.Differ.{any_in}
 use Rattle.line_rounds.proofs.Early.{and_left}
 use Rattle.line_rounds.proofs.Lows.{all_head, all_tail, far_tail}
 use Rattle.line_rounds.proofs.Law.{all_in}

@@ -10,7 +10,8 @@ use Rattle.line_rounds.specs.declared.Seat.{Seat}
 use Rattle.line_reading.specs.Sending.{known_bits, is_whole}
 use Rattle.line_rounds.specs.Round.{acknowledges, is_acknowledged, is_broken, sends_in}
 use Rattle.line_rounds.specs.Machine.{acks_after, acks_until, breaks_after, is_short}
-use Rattle.line_rounds.proofs.Early.{AreDone, no_acks}
+use Rattle.line_rounds.specs.Follow.{BreaksNow, AreDone}
+use Rattle.line_rounds.proofs.Early.{no_acks}
 use Rattle.line_rounds.proofs.Walk.{Reached, AreOver}
 use Rattle.line_rounds.proofs.Hold.{acks_known, sends_known}
 
@@ -96,9 +97,7 @@ unbroken : (b any : Bool) (n held : ℕ) → held ≡ (if b && (false && any) th
 unbroken true any n held = refl
 unbroken false any n held = refl
 
-pub breaks_now : (seats : List Seat) (k : Known) (bits : List Bool) (u t at until held : ℕ) (ending : Ending) → k.ended ≡ Some (record { ending = ending; at = at; until = until }) → known_bits k ≡ bits
-    → (is_short ending ≡ true → at ≡ t) → held ≤ t + 3600
-    → (nat_lt u held || is_broken seats k u k.ended) ≡ nat_lt u (if (at == t) && (is_short ending && list_any (breaks_after bits) seats) then t + 3600 else held)
+pub breaks_now : BreaksNow
 breaks_now seats k bits u t at until held Short h b s l =
     ap (λ (e : Option End). nat_lt u held || is_broken seats k u e) h
     ∙ ap (λ n. nat_lt u held || (nat_lt u (n + 3600) && list_any (λ seat. seat.plugged && not (sends_in k seat.sends (length (known_bits k) + 1))) seats)) (s refl)

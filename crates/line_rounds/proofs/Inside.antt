@@ -20,6 +20,7 @@ use Rattle.line_reading.proofs.Causes.{known_front, known_then}
 use Rattle.line_rounds.specs.declared.Seat.{Seat}
 use Rattle.line_reading.specs.Sending.{bit_read, destination, known_bits, is_whole, is_out_by, out_slot, goes_on}
 use Rattle.line_rounds.specs.Contend.{leaves, Stays}
+use Rattle.line_rounds.specs.Known.{StaysBy}
 use Rattle.line_rounds.proofs.Differ.{Splits, or_right}
 use Rattle.line_rounds.proofs.Lows.{zero_low}
 use Rattle.line_rounds.proofs.Early.{OnTime, sender_low, none_found}
@@ -66,7 +67,7 @@ not_whole t r h g = step (nat_lt r.until t) refl g h
         absurd (omega arith)
 
 -- a sender that is not out stays, by all the bits that are known
-pub stays_by : (k : Known) (sent : List Bool) → is_whole k.ended ≡ false → out_slot k sent ≡ None → Stays (known_bits k) sent
+pub stays_by : StaysBy
 stays_by k sent w o n l m =
     step (n % 10 == 0) refl (none_found (is_out_by (known_bits k) (is_whole k.ended) sent) 1 (length (known_bits k)) o n l (omega arith))
   where

@@ -7,7 +7,9 @@ use Rattle.line_wave.specs.declared.Stretch.{Stretch}
 use Rattle.line_wave.specs.Line.{line_of, covers, IsWaveFrom}
 use Rattle.line_wave.specs.Pulses.{AreFarApart, IsNarrow}
 use Rattle.line_wave.specs.Sender.{slot_stretches}
-use Rattle.line_rounds.proofs.Differ.{In, or_right}
+use Rattle.line_rounds.specs.Rests.{WavesAreWide}
+use Rattle.line_rounds.specs.Elements.{In}
+use Rattle.line_rounds.proofs.Differ.{or_right}
 
 -- a slot's stretch, by its bounds
 in_slot : (n : ℕ) (b : Bool) (t : ℕ) → n ≤ t → t < n + 600 → covers (record { from = n; to = n + (if b then 600 else 1500) }) t ≡ true
@@ -70,7 +72,7 @@ holds_other (b ∷ front) more less n t l h =
 -- ---- pulses
 
 -- those in order: each is a microsecond wide at least, and begins after the end of those before
-pub wave_wide : (from : ℕ) (ps : List Stretch) (p : Stretch) → IsWaveFrom from ps → In p ps → (from ≤ p.from) × (p.from < p.to)
+pub wave_wide : WavesAreWide
 wave_wide from [] p w h = absurd h
 wave_wide from (r ∷ rs) p w (inl e) =
     let f : p.from ≡ r.from = ap (λ (y : Stretch). y.from) e in

@@ -19,19 +19,15 @@ use Rattle.line_reading.proofs.Causes.{with_slots, AreSampled, known_in_slot}
 use Rattle.line_rounds.specs.declared.Seat.{Seat}
 use Rattle.line_rounds.specs.Round.{frames_of}
 use Rattle.line_rounds.specs.Contend.{IsContended, Stays}
-use Rattle.line_rounds.proofs.Differ.{In}
-use Rattle.line_rounds.proofs.Early.{AreDone, Reports, OnTime, falls_so, next_on_time}
+use Rattle.line_rounds.specs.Slots.{NextFalls, NextFall}
+use Rattle.line_rounds.specs.Elements.{In}
+use Rattle.line_rounds.specs.Begins.{Reports}
+use Rattle.line_rounds.specs.Follow.{AreDone}
+use Rattle.line_rounds.proofs.Early.{OnTime, falls_so, next_on_time}
 
 -- ---- a slot and the next one
 
-pub record NextFall (low : Line) (e : ℕ) (bits : List Bool) (f : ℕ) : Type 0 where
-  pub last : last_ending bits ≡ None
-  pub fall : is_fall low f ≡ true
-  pub quiet : (u : ℕ) → e < u → u < f → is_fall low u ≡ false
-  pub near : f ≤ e + standard.bit_total.most
-  pub far : e + standard.bit_total.least ≤ f
-
-pub next_falls : (low : Line) (e : ℕ) (bits : List Bool) (f : ℕ) → after_slot low e (last_ending bits) ≡ Next f → NextFall low e bits f
+pub next_falls : NextFalls
 next_falls low e bits f h = by_last (last_ending bits) refl h
   where
     made : (g : ℕ) → last_ending bits ≡ None → next_fall low e standard.bit_total.most ≡ Some g → g ≡ f → nat_lt g (e + standard.bit_total.least) ≡ false → NextFall low e bits f

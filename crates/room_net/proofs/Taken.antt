@@ -8,8 +8,9 @@ use Rattle.line_wave.specs.Line.{line_of, covers, was_low, IsWave}
 use Rattle.line_reading.specs.Reading.{known_at, reading_of}
 use Rattle.line_rounds.specs.declared.Outcome.{Outcome}
 use Rattle.line_rounds.specs.Round.{is_within, pulse_pulls}
+use Rattle.line_rounds.specs.Elements.{In}
 use Rattle.line_rounds.proofs.Alone.{rounds_are_lone, in_all}
-use Rattle.line_rounds.proofs.Differ.{In, any_in}
+use Rattle.line_rounds.proofs.Differ.{any_in}
 use Rattle.line_rounds.proofs.OneOutcome.{covers_own}
 use Rattle.room_net.specs.State.{NetState}
 use Rattle.room_net.specs.Step.{seats_of}

@@ -22,15 +22,18 @@ use Rattle.line_rounds.specs.declared.Seat.{Seat}
 use Rattle.line_rounds.specs.Round.{IsRoundLine, frames_of, is_acknowledged, is_broken, winning_frames}
 use Rattle.line_rounds.specs.Contend.{AreFrames, pulled_through, Stays}
 use Rattle.line_rounds.specs.Machine.{acks_until}
-use Rattle.line_rounds.proofs.Differ.{In, in_any, or_right}
+use Rattle.line_rounds.specs.Elements.{In}
+use Rattle.line_rounds.specs.Begins.{Reports}
+use Rattle.line_rounds.specs.Made.{FallBy}
+use Rattle.line_rounds.proofs.Differ.{in_any, or_right}
 use Rattle.line_rounds.proofs.Lays.{slot_or_none, after_start}
-use Rattle.line_rounds.proofs.Early.{or_cases, and_left, and_right, leaves_more, no_acks, sender_low, Reports}
+use Rattle.line_rounds.proofs.Early.{or_cases, and_left, and_right, leaves_more, no_acks, sender_low}
 use Rattle.line_rounds.proofs.Walk.{over_sampled, quiet_sample, Reached, known_unsampled, reported_more}
 use Rattle.line_rounds.proofs.Inside.{stays_by, known_here}
 use Rattle.line_rounds.proofs.Law.{in_filter}
 use Rattle.line_rounds.proofs.Holding.{acks_now, done_by}
 use Rattle.line_rounds.proofs.Lasting.{contended}
-use Rattle.line_rounds.proofs.Falls.{round_fall_by, FallBy}
+use Rattle.line_rounds.proofs.Falls.{round_fall_by}
 use Rattle.line_rounds.proofs.SameLine.{same_line}
 
 -- ---- a line without falls
