@@ -3,7 +3,6 @@ use Rattle.std.proofs.Common.{◌≡◌, ℕ, zero, suc, ◌+◌, ◌-◌, ◌<�
 use Rattle.std.specs.List.{list_any}
 use Rattle.std.specs.Option.{option_to_list}
 use Rattle.std.proofs.lemmas.Bool.Decides.{nat_tests}
-use Rattle.line_wave.specs.declared.Stretch.{Stretch}
 use Rattle.line_wave.specs.Line.{Line, was_low, is_fall}
 use Rattle.line_frames.specs.Bits.{frame_bits}
 use Rattle.line_frames.specs.declared.Ending.{Ending}
@@ -11,9 +10,8 @@ use Rattle.line_frames.specs.declared.Ending.TheVariants.{Complete, Short, Silen
 use Rattle.line_reading.specs.Reading.After.{Next, Ends}
 use Rattle.line_reading.specs.Windows.{standard, sample_at}
 use Rattle.line_reading.specs.Reading.{next_fall, Read, Slot, known_at, reading_of, read_start, read_slots, read_on, read_then, after_slot, after_fall, after_last, last_ending, last_heard, bit_sampled_at, start_of, After}
-use Rattle.line_rounds.specs.declared.Seat.{Seat}
 use Rattle.line_reading.specs.Sending.{known_bits, out_slot, goes_on, sender_pulls}
-use Rattle.line_rounds.specs.Round.{frames_of, is_within, pulse_pulls, is_acknowledged, is_broken, IsRoundLine}
+use Rattle.line_rounds.specs.Round.{frames_of, is_within, pulse_pulls, is_acknowledged, is_broken}
 use Rattle.line_rounds.specs.Contend.{Stays}
 use Rattle.line_rounds.specs.Quiet.{NoFallAfter}
 use Rattle.line_rounds.proofs.Early.{and_right, stays_before}

@@ -1,7 +1,7 @@
 -- Where two frames first differ, and what that means for their stretches.
 use Rattle.std.proofs.Common.{◌≡◌, ℕ, ◌+◌, ◌*◌, ◌<◌, ◌≤◌, Bool, true, false, not, ◌||◌, if◌then◌else◌, List, [], ◌∷◌, ◌++◌, length, ◌⊎◌, inl, inr, refl, arith, ap, ◌∙◌, sym}
 use Rattle.std.specs.List.{list_any, filter}
-use Rattle.line_frames.specs.Bits.{frame_bits, byte_bits, comes_before, least_among}
+use Rattle.line_frames.specs.Bits.{frame_bits, byte_bits, comes_before}
 use Rattle.line_rounds.specs.Elements.{In}
 use Rattle.line_rounds.specs.Least.{IsLeast, Least}
 
@@ -15,10 +15,6 @@ pub any_in : {X : Type 0} (p : X → Bool) (xs : List X) (x : X) → In x xs →
 any_in p [] x h e = absurd h
 any_in p (y ∷ ys) x (inl s) e = let f : p y ≡ true = ap p (sym s) ∙ e in rw f refl
 any_in p (y ∷ ys) x (inr h) e = or_right (p y) (list_any p ys) (any_in p ys x h e)
-
-pub any_agree_in : {X : Type 0} (p q : X → Bool) (xs : List X) → ((x : X) → In x xs → p x ≡ q x) → list_any p xs ≡ list_any q xs
-any_agree_in p q [] h = refl
-any_agree_in p q (x ∷ xs) h = rw (h x (inl refl), any_agree_in p q xs (λ y i. h y (inr i))) refl
 
 pub in_any : {X : Type 0} (p : X → Bool) (xs : List X) → list_any p xs ≡ true → (x : X) × In x xs × (p x ≡ true)
 in_any p [] h = cc

@@ -1,6 +1,6 @@
 -- A slot's fall as it is read: at the sender's own fall, or at most 350 early and made by a pulse.
 use Rattle.std.proofs.Common.{◌≡◌, ℕ, zero, suc, ◌+◌, ◌-◌, ◌*◌, ◌%◌, ◌==◌, ◌<◌, ◌≤◌, Bool, true, false, not, ◌&&◌, ◌||◌, nat_lt, nat_le, if◌then◌else◌, List, [], ◌∷◌, ◌++◌, length, length-append, slice_index_or, ◌⊎◌, inl, inr, Some, None, refl, arith, ap, ◌∙◌, sym}
-use Rattle.std.specs.List.{list_any, filter_map, find, enumerate_from, range_with_len}
+use Rattle.std.specs.List.{list_any, filter_map, find, range_with_len}
 use Rattle.std.proofs.Math.ListN.{get_or-append}
 use mathlib.Core.Bool.{beq}
 use Rattle.std.proofs.lemmas.Bool.{cases_lt}
@@ -11,11 +11,11 @@ use Rattle.line_wave.specs.Pulses.{AreSparse}
 use Rattle.line_wave.specs.Sender.{sender_stretches, slot_stretches}
 use Rattle.line_frames.specs.Bits.{frame_bits, least_among}
 use Rattle.line_reading.specs.Windows.{standard}
-use Rattle.line_reading.specs.Reading.{Slot, Known, known_at, reading_of}
+use Rattle.line_reading.specs.Reading.{Slot}
 use Rattle.line_rounds.specs.declared.Seat.{Seat}
 use Rattle.line_reading.specs.Sending.{bit_read, destination, is_out_by, out_slot, sender_pulls}
 use Rattle.line_rounds.specs.Round.{frames_of, winning_frames, acknowledges, is_acknowledged, pulse_pulls, pulled_by}
-use Rattle.line_rounds.specs.Contend.{IsContended, leaves, pulled_through, Stays}
+use Rattle.line_rounds.specs.Contend.{IsContended, pulled_through, Stays}
 use Rattle.line_rounds.specs.Begins.{SenderLow, Reports}
 use Rattle.line_rounds.specs.Known.{DestinationMore, LeavesMore}
 use Rattle.line_rounds.specs.Follow.{NoAcks, AreDone}

@@ -15,14 +15,14 @@ use Rattle.line_reading.specs.Reading.{Read, Slot, End, Known, known_at, known_s
 use Rattle.line_reading.proofs.Ends.{at_by}
 use Rattle.line_rounds.specs.declared.Seat.{Seat}
 use Rattle.line_reading.specs.Sending.{bit_read, destination, known_bits, is_whole, is_out_by, out_slot, goes_on, sender_pulls}
-use Rattle.line_rounds.specs.Round.{frames_of, is_within, acknowledges, pulse_pulls, is_acknowledged, is_broken, pulled_by, IsRoundLine}
+use Rattle.line_rounds.specs.Round.{frames_of, is_within, acknowledges, pulse_pulls, is_acknowledged, is_broken, pulled_by}
 use Rattle.line_rounds.specs.Contend.{pulled_through, Stays}
 use Rattle.line_rounds.proofs.Differ.{any_in, in_any, or_right}
 use Rattle.line_rounds.proofs.Early.{no_fall, and_left, and_right, find_none, stays_before, or_cases}
 use Rattle.line_rounds.proofs.Inside.{not_whole, heard_start, stays_by}
 use Rattle.line_rounds.proofs.Law.{not_true, all_in, pulled_then}
 use Rattle.line_frames.proofs.Slots.{length-frame_bits}
-use Rattle.line_rounds.specs.Falls.{IsPulseBegin, IsPullBegin}
+use Rattle.line_rounds.specs.Falls.{IsPullBegin}
 use Rattle.line_rounds.specs.Made.{RoundFallBy, BeginsSlot, FallBy}
 use Rattle.line_rounds.specs.Elements.{In}
 use Rattle.line_rounds.specs.Slots.{AreSpaced, AreFalls, Spans}

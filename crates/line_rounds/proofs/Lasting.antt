@@ -1,20 +1,20 @@
 -- A round lasts: at its begin nothing is reported yet, so whoever begins it pulls then.
-use Rattle.std.proofs.Common.{◌≡◌, ℕ, ◌+◌, ◌==◌, ◌<◌, ◌≤◌, Bool, true, false, ◌||◌, nat_lt, nat_le, if◌then◌else◌, List, [], ◌∷◌, inl, inr, Option, Some, None, is_some, Result, Ok, Err, min, refl, arith, ap, ◌∙◌, sym, subst}
+use Rattle.std.proofs.Common.{◌≡◌, ℕ, ◌+◌, ◌==◌, ◌<◌, ◌≤◌, Bool, true, false, ◌||◌, nat_lt, nat_le, if◌then◌else◌, List, [], ◌∷◌, inl, inr, Option, Some, None, is_some, Ok, Err, min, refl, arith, ap, ◌∙◌, sym, subst}
 use Rattle.std.specs.List.{list_any, fold, cons_option}
 use Rattle.std.proofs.lemmas.Bool.Decides.{nat_tests}
 use Rattle.line_wave.specs.declared.Stretch.{Stretch}
-use Rattle.line_wave.specs.Line.{Line, line_of, covers, was_low, IsWave, IsWaveFrom}
+use Rattle.line_wave.specs.Line.{Line, line_of, covers, was_low}
 use Rattle.line_wave.specs.Sender.{sender_stretches}
 use Rattle.line_frames.specs.Bits.{frame_bits, least_among}
 use Rattle.line_reading.specs.Windows.{standard}
-use Rattle.line_reading.specs.Reading.{Read, known_at, reading_of, read_start, start_of}
+use Rattle.line_reading.specs.Reading.{known_at, reading_of, read_start, start_of}
 use Rattle.line_reading.proofs.Ends.{ends_after}
 use Rattle.line_rounds.specs.declared.Seat.{Seat}
 use Rattle.line_reading.specs.Sending.{sender_pulls}
-use Rattle.line_rounds.specs.Round.{frames_of, winning_frames, IsRoundLine}
+use Rattle.line_rounds.specs.Round.{frames_of, winning_frames}
 use Rattle.line_rounds.specs.Contend.{IsContended, IsWinnersLine}
-use Rattle.line_rounds.specs.Lasting.{is_begun, RoundsLast}
-use Rattle.line_rounds.specs.Begins.{BegunBy, RoundsAreContended, LowAtBegin, Begun, Reports}
+use Rattle.line_rounds.specs.Lasting.{RoundsLast}
+use Rattle.line_rounds.specs.Begins.{BegunBy, RoundsAreContended, LowAtBegin}
 use Rattle.line_rounds.specs.Rests.{RestRises, RestPast}
 use Rattle.line_rounds.specs.Elements.{In}
 use Rattle.line_rounds.specs.Least.{Least}

@@ -9,6 +9,7 @@ use Rattle.line_wave.specs.Pulses.{AreFarApart, IsNarrow}
 use Rattle.line_wave.specs.Sender.{slot_stretches}
 use Rattle.line_rounds.specs.Rests.{WavesAreWide}
 use Rattle.line_rounds.specs.Elements.{In}
+use Rattle.line_rounds.specs.Lays.{BeforeSlots}
 use Rattle.line_rounds.proofs.Differ.{or_right}
 
 -- a slot's stretch, by its bounds
@@ -23,7 +24,7 @@ out_slot_low n false t (inl h) = grind (arith, nat_tests)
 out_slot_low n false t (inr h) = grind (arith, nat_tests)
 
 -- before the first slot
-pub before_slots : (bits : List Bool) (n t : ℕ) → t < n → line_of (slot_stretches n bits) t ≡ false
+pub before_slots : BeforeSlots
 before_slots [] n t h = refl
 before_slots (b ∷ bits) n t h = rw (out_slot_low n b t (inl h)) (before_slots bits (n + 2400) t (omega arith))
 

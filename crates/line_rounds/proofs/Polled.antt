@@ -22,10 +22,11 @@ use Rattle.line_reading.specs.Sending.{bit_read, destination, known_bits, is_who
 use Rattle.line_rounds.specs.Round.{holds_address, is_held, acknowledges, all_known, is_taken_up, fate_at_end, fate_by, fate_of, IsRoundLine}
 use Rattle.line_rounds.specs.Machine as Machine
 use Rattle.line_rounds.specs.Polls.{FreeIsRead, HoldersAreHeard}
-use Rattle.line_rounds.specs.Slots.{ReportedBits, IsReported, AreReported, NextFall}
+use Rattle.line_rounds.specs.Slots.{ReportedBits, IsReported, NextFall}
+use Rattle.line_rounds.specs.Reached.{Reached}
 use Rattle.line_rounds.proofs.Differ.{or_right}
 use Rattle.line_rounds.proofs.Early.{none_found, destination_more}
-use Rattle.line_rounds.proofs.Walk.{next_falls, quiet_sample, Reached, reach_next}
+use Rattle.line_rounds.proofs.Walk.{next_falls, quiet_sample, reach_next}
 use Rattle.line_rounds.proofs.Law.{reached_start}
 use Rattle.line_rounds.proofs.Spans.{reading_spans}
 use Rattle.line_rounds.proofs.Whole.{complete_last}

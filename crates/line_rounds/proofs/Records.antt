@@ -1,12 +1,11 @@
 -- The wave of a line as it is recorded microsecond by microsecond.
-use Rattle.std.proofs.Common.{◌≡◌, ℕ, zero, suc, ◌+◌, ◌-◌, ◌<◌, ◌≤◌, Bool, true, false, not, ◌&&◌, ◌||◌, nat_lt, nat_le, List, [], ◌∷◌, ◌++◌, inl, inr, Option, Some, None, is_some, refl, arith, ap, ◌∙◌, sym}
+use Rattle.std.proofs.Common.{◌≡◌, ℕ, zero, suc, ◌+◌, ◌-◌, ◌<◌, ◌≤◌, Bool, true, false, not, ◌&&◌, ◌||◌, nat_lt, nat_le, List, [], ◌∷◌, ◌++◌, inl, inr, Some, None, refl, arith, ap, ◌∙◌, sym}
 use Rattle.std.proofs.lemmas.List.Folds.{list_any-append}
 use Rattle.std.proofs.lemmas.Bool.{cases_lt}
 use Rattle.std.proofs.lemmas.Bool.Decides.{nat_tests}
 use Rattle.line_wave.specs.declared.Stretch.{Stretch}
-use Rattle.line_wave.specs.Line.{Line, line_of, covers, was_low, is_fall, IsWave, IsWaveFrom}
-use Rattle.line_rounds.specs.Machine.{wave_after, low_since, IsReady}
-use Rattle.line_rounds.specs.Recorded.{NoLine, RecordIsReady, RecordStep, RecordFirst, EndBefore, AreFalls, lows, begun, IsBegun, Records}
+use Rattle.line_wave.specs.Line.{Line, line_of, covers, was_low, is_fall, IsWaveFrom}
+use Rattle.line_rounds.specs.Recorded.{NoLine, RecordIsReady, RecordStep, RecordFirst, EndBefore, AreFalls}
 
 pub no_line : NoLine
 no_line t u [] e l = refl

@@ -9,8 +9,8 @@ use Rattle.line_frames.specs.declared.Ending.{Ending}
 use Rattle.line_frames.specs.declared.Ending.TheVariants.{Complete, Short, Long}
 use Rattle.line_reading.specs.Reading.After.{Next, Ends}
 use Rattle.line_reading.specs.Windows.{standard, sample_at}
-use Rattle.line_reading.specs.Reading.{next_fall, Read, Slot, known_slot, known_slots, reading_of, read_start, read_slots, read_on, read_then, after_slot, after_fall, after_last, last_ending, last_heard, sample, bit_sampled_at, start_of, After}
-use Rattle.line_rounds.specs.Slots.{ReadingSpans, BitsMore, ReportedAll, AreSpaced, IsReported, AreReported, AreFalls, Spans, MoreBits}
+use Rattle.line_reading.specs.Reading.{next_fall, Slot, known_slot, known_slots, reading_of, read_start, read_slots, read_on, read_then, after_slot, after_fall, after_last, last_ending, last_heard, sample, bit_sampled_at, start_of, After}
+use Rattle.line_rounds.specs.Slots.{ReadingSpans, BitsMore, ReportedAll, AreSpaced, IsReported, Spans, MoreBits}
 use Rattle.line_reading.proofs.Search.{found_first, found_none}
 use Rattle.line_rounds.proofs.Walk.{next_falls}
 use Rattle.line_rounds.proofs.Law.{start_falls}

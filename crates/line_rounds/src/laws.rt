@@ -7,11 +7,13 @@ ghost use Rattle.line_rounds.specs.Falls.{EachFallBegins, FallsAreRead, FewFalls
 ghost use Rattle.line_rounds.specs.Follow.{BreaksNow, NoAcks};
 ghost use Rattle.line_rounds.specs.Known.{DestinationMore, LeavesMore, StaysBy};
 ghost use Rattle.line_rounds.specs.Lasting.{RoundsLast};
+ghost use Rattle.line_rounds.specs.Lays.{AfterStart, BeforeSlots, BeforeStart, SlotAt, SlotOrNone, StartAt};
 ghost use Rattle.line_rounds.specs.Least.{IsLeast, LeastOf};
 ghost use Rattle.line_rounds.specs.Made.{RoundFallBy};
 ghost use Rattle.line_rounds.specs.OneOutcome.{OneOutcome, RoundsHaveOutcomes};
 ghost use Rattle.line_rounds.specs.Polls.{FreeIsRead, HoldersAreHeard};
 ghost use Rattle.line_rounds.specs.Quiet.{HighBefore, HighSparse, NoFallAfter, PulseOnly};
+ghost use Rattle.line_rounds.specs.Reached.{AcksNow, DoneBy, KnownHere, KnownUnsampled, ReachNext, ReachedStart};
 ghost use Rattle.line_rounds.specs.Recorded.{NoLine, RecordFirst, RecordIsReady, RecordStep};
 ghost use Rattle.line_rounds.specs.Rests.{RestPast, RestRises, WavesAreWide};
 ghost use Rattle.line_rounds.specs.Round.{FatesReported, OneLine};
@@ -120,6 +122,17 @@ pub fn followers_let_go()
     ensures breaks { BreaksNow }
 {}
 
+/// A sender pulls for the first 3,700 of its start bit, then for the first 600 of each slot with a 1 and the first 1,500 of each
+/// with a 0 (CEC 5.2), and neither before its begin nor after its last slot.
+pub fn senders_pull_slot_by_slot()
+    ensures before { BeforeStart }
+    ensures start { StartAt }
+    ensures after { AfterStart }
+    ensures early { BeforeSlots }
+    ensures slot { SlotAt }
+    ensures any { SlotOrNone }
+{}
+
 // ---- falls, and how long it lasts
 
 /// A line that keeps the round's rule falls only where a sender's stretch or a pulse begins, where frames have at most 16
@@ -191,6 +204,18 @@ pub fn bits_come_in_order()
     ensures more { BitsMore }
     ensures slots { ReportedAll }
     ensures bits { ReportedBits }
+{}
+
+/// A reading comes from its start to the first slot and from each slot to the next. In a slot its bit is known once it is
+/// sampled, and who acknowledges there pulls from the fall on for the acknowledge bit (CEC 6.1); in the slots before it nobody
+/// acknowledges any more.
+pub fn readings_go_slot_by_slot()
+    ensures starts { ReachedStart }
+    ensures next { ReachNext }
+    ensures unsampled { KnownUnsampled }
+    ensures known { KnownHere }
+    ensures over { DoneBy }
+    ensures acknowledges { AcksNow }
 {}
 
 // ---- what the outcome says

@@ -100,8 +100,8 @@ pub use laws::{
     complete_is_survivors, complete_is_winners, falls_are_begins, falls_are_read, fates_reported,
     few_falls, followers_let_go, free_is_read, has_line, holders_are_heard, later_pulses,
     least_frames_are_there, losers_inside, more_bits_change_nothing, one_line, one_outcome,
-    rests_are_last, round_below, rounds_are_contended, rounds_are_lone, rounds_are_quiet,
-    rounds_are_short, rounds_have_outcomes, rounds_last, same_line, slots_are_apart,
-    waves_are_recorded, winners_last, winners_window,
+    readings_go_slot_by_slot, rests_are_last, round_below, rounds_are_contended, rounds_are_lone,
+    rounds_are_quiet, rounds_are_short, rounds_have_outcomes, rounds_last, same_line,
+    senders_pull_slot_by_slot, slots_are_apart, waves_are_recorded, winners_last, winners_window,
 };
 pub use recorder::Recorder;
