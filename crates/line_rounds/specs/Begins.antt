@@ -22,7 +22,7 @@ pub record Begun (low : Line) (begin : ℕ) (r : Read) : Type 0 where
   pub ends : begin < r.at
   pub reports : known_at begin r ≡ record { slots = []; ended = None }
 
--- so each reading goes on
+-- which holds of each reading
 abbrev pub BegunBy : Type 0
 BegunBy = (low : Line) (begin : ℕ) (s : Result ℕ ℕ) → start_of low begin ≡ s → Begun low begin (read_start low begin s)
 

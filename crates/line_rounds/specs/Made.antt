@@ -19,6 +19,6 @@ abbrev pub FallBy : List (List ℕ) → ℕ → List Stretch → Line → ℕ �
 FallBy fs begin pulses low t =
     (t ≡ begin) ⊎ (((f : List ℕ) × In f fs × (sender_pulls begin (known_at t (reading_of low begin)) t f ≡ true) × BeginsSlot begin t (length (frame_bits f))) ⊎ IsPulseBegin begin (reading_of low begin).until pulses t)
 
--- so is each fall of a round's line
+-- each fall of a round's line is made by one of them
 abbrev pub RoundFallBy : Type 0
 RoundFallBy = (seats : List Seat) (begin : ℕ) (pulses : List Stretch) (low : Line) (t : ℕ) → IsRoundLine seats begin pulses low → is_fall low t ≡ true → FallBy (frames_of seats) begin pulses low t

@@ -46,7 +46,7 @@ NoLine = (t u : ℕ) (ss : List Stretch) → EndBefore t ss → t ≤ u → line
 abbrev pub RecordIsReady : Type 0
 RecordIsReady = (low : Line) (t : ℕ) (wave : List Stretch) (since : Option ℕ) → Records low t wave since → IsReady wave since t
 
--- a record is one microsecond by microsecond
+-- what is recorded stays right from one microsecond to the next
 abbrev pub RecordStep : Type 0
 RecordStep = (low : Line) (t : ℕ) (wave : List Stretch) (since : Option ℕ) (b : Bool) → Records low t wave since → low t ≡ b → Records low (t + 1) (wave_after wave since t b) (low_since since t b)
 

@@ -35,7 +35,7 @@ pub record Spans (low : Line) (from : ℕ) (r : Read) : Type 0 where
   pub falls : AreFalls low r.slots
   pub short : r.ending ≡ Short → (is_fall low r.at ≡ true) × (r.until ≡ r.at)
 
--- so are the slots of each reading
+-- the slots of each reading are like that
 abbrev pub ReadingSpans : Type 0
 ReadingSpans = (low : Line) (begin : ℕ) → Spans low 0 (reading_of low begin)
 
@@ -47,7 +47,7 @@ pub record NextFall (low : Line) (e : ℕ) (bits : List Bool) (f : ℕ) : Type 0
   pub near : f ≤ e + standard.bit_total.most
   pub far : e + standard.bit_total.least ≤ f
 
--- so is each slot that follows another
+-- a slot that follows another falls so
 abbrev pub NextFalls : Type 0
 NextFalls = (low : Line) (e : ℕ) (bits : List Bool) (f : ℕ) → after_slot low e (last_ending bits) ≡ Next f → NextFall low e bits f
 
@@ -55,7 +55,7 @@ NextFalls = (low : Line) (e : ℕ) (bits : List Bool) (f : ℕ) → after_slot l
 abbrev pub MoreBits : ℕ → ℕ → List Slot → Type 0
 MoreBits u t ss = (ys : List Bool) × (filter_map (λ (s : Slot). s.bit) (known_slots t ss) ≡ filter_map (λ (s : Slot). s.bit) (known_slots u ss) ++ ys)
 
--- of slots that are so far apart it does
+-- which it does where slots are so far apart
 abbrev pub BitsMore : Type 0
 BitsMore = (u t : ℕ) (ss : List Slot) (from : ℕ) → AreSpaced from ss → u ≤ t → MoreBits u t ss
 
