@@ -3,7 +3,7 @@ use Rattle.std.proofs.Common.{◌≡◌, ℕ, zero, suc, ◌+◌, ◌-◌, ◌*�
 use Rattle.std.specs.List.{list_any, enumerate_from, flat_map, range_with_len}
 use Rattle.std.specs.Option.{option_to_list}
 use mathlib.Core.Bool.{beq}
-use Rattle.std.proofs.lemmas.Bool.{cases_lt}
+use Rattle.std.proofs.lemmas.Bool.{cases_lt, and_parts}
 use Rattle.std.proofs.lemmas.Bool.Decides.{nat_tests}
 use Rattle.line_wave.specs.Line.{Line, covers, line_of}
 use Rattle.line_frames.specs.Bits.{frame_bits}
@@ -15,8 +15,9 @@ use Rattle.line_rounds.specs.declared.Seat.{Seat}
 use Rattle.line_rounds.specs.declared.Outcome.{Outcome}
 use Rattle.line_rounds.specs.Round.{acknowledges, all_known, is_acknowledged, is_held, out_of, sends_in}
 use Rattle.line_rounds.specs.Contend.{leaves}
-use Rattle.line_rounds.proofs.Early.{destination_more, leaves_more, and_left, and_right}
-use Rattle.line_rounds.proofs.Spans.{AreSpaced, bits_more, reading_spans}
+use Rattle.line_rounds.specs.Slots.{AreSpaced}
+use Rattle.line_rounds.proofs.Early.{destination_more, leaves_more}
+use Rattle.line_rounds.proofs.Spans.{bits_more, reading_spans}
 use Rattle.room_drives.specs.Stretches.{ack_by, ack_in, ack_stretches, acknowledges_in, goes_to, slot_fall, stretch}
 use Rattle.drive_laws.proofs.Sent.{FrontReported, all_bits, bits_at, found_before, front_reported, known_after, one_known, spaced_get}
 use Rattle.drive_laws.proofs.Slots.{falls_at}
@@ -266,8 +267,8 @@ ack_line low begin t o reports seat = both_ways _ _ there back
         by_ack block some true a None f g = cc
         by_ack block some true a (Some fall) f g =
             let cover : covers (stretch (fall + 1) (fall + 1500)) t ≡ true = or_left (covers (stretch (fall + 1) (fall + 1500)) t) g in
-            let begun : nat_le (fall + 1) t ≡ true = and_left (nat_le (fall + 1) t) (nat_lt t (fall + 1500)) cover in
-            let within : nat_lt t (fall + 1500) ≡ true = and_right (nat_le (fall + 1) t) (nat_lt t (fall + 1500)) cover in
+            let begun : nat_le (fall + 1) t ≡ true = (and_parts (nat_le (fall + 1) t) (nat_lt t (fall + 1500)) cover).0 in
+            let within : nat_lt t (fall + 1500) ≡ true = (and_parts (nat_le (fall + 1) t) (nat_lt t (fall + 1500)) cover).1 in
             let k = 10 * block - 1 in
             let slot = slot_there k fall (sym (reports.slots (10 * block) (omega arith)) ∙ f) in
             let number : 10 * block ≡ k + 1 = omega arith in
@@ -287,10 +288,10 @@ ack_line low begin t o reports seat = both_ways _ _ there back
         let place = enumerated_get (known_slots t ss) 1 found.0 p found.2 in
         let slot = known_get t ss found.0 p.1 place.1 in
         let number : p.0 ≡ found.0 + 1 = omega (arith, place.0) in
-        let ten : ((found.0 + 1) % 10 == 0) ≡ true = ap (λ n. n % 10 == 0) (sym number) ∙ and_left (p.0 % 10 == 0) _ found.3 in
-        let rest = and_right (p.0 % 10 == 0) _ found.3 in
-        let soon : nat_lt t (p.1.fall + 1500) ≡ true = and_left (nat_lt t (p.1.fall + 1500)) _ rest in
-        let acks_now : acknowledges (known_at t (reading_of low begin)) p.0 seat ≡ true = or_left (acknowledges (known_at t (reading_of low begin)) p.0 seat) (and_right (nat_lt t (p.1.fall + 1500)) _ rest) in
+        let ten : ((found.0 + 1) % 10 == 0) ≡ true = ap (λ n. n % 10 == 0) (sym number) ∙ (and_parts (p.0 % 10 == 0) _ found.3).0 in
+        let rest = (and_parts (p.0 % 10 == 0) _ found.3).1 in
+        let soon : nat_lt t (p.1.fall + 1500) ≡ true = (and_parts (nat_lt t (p.1.fall + 1500)) _ rest).0 in
+        let acks_now : acknowledges (known_at t (reading_of low begin)) p.0 seat ≡ true = or_left (acknowledges (known_at t (reading_of low begin)) p.0 seat) (and_parts (nat_lt t (p.1.fall + 1500)) _ rest).1 in
         let few = few_start low begin (start_of low begin) in
         let within = get_within ss found.0 slot.0 slot.1 in
         let tenth : (found.0 + 1) % 10 ≡ 0 = grind (arith, nat_tests) in

@@ -1,7 +1,7 @@
 -- The pulses that begin in a round are what pulses pull by the rule of a round.
 use Rattle.std.proofs.Common.{◌≡◌, ℕ, zero, suc, ◌+◌, ◌-◌, ◌<◌, ◌≤◌, Bool, true, false, ◌&&◌, ◌||◌, nat_lt, nat_le, if◌then◌else◌, List, [], ◌∷◌, fold, filter, ◌⊎◌, inl, inr, Option, Some, None, refl, arith, ap, ◌∙◌, sym}
 use Rattle.std.specs.List.{list_any}
-use Rattle.std.proofs.lemmas.Bool.{cases_lt}
+use Rattle.std.proofs.lemmas.Bool.{cases_lt, or_cases, and_parts}
 use Rattle.std.proofs.lemmas.Bool.Decides.{nat_tests}
 use Rattle.line_wave.specs.declared.Stretch.{Stretch}
 use Rattle.line_wave.specs.Line.{Line, covers, line_of, was_low, IsWave, IsWaveFrom}
@@ -10,16 +10,23 @@ use Rattle.line_rounds.specs.declared.Seat.{Seat}
 use Rattle.line_rounds.specs.declared.Outcome.{Outcome}
 use Rattle.line_rounds.specs.Bounds.{begun_within}
 use Rattle.line_rounds.specs.Round.{is_within, pulse_pulls, frames_of, is_acknowledged, is_broken, IsRound}
+use Rattle.line_rounds.specs.Elements.{In}
 use Rattle.line_reading.specs.Sending.{sender_pulls}
 use Rattle.line_rounds.proofs.Bounds.{rounds_are_short}
-use Rattle.line_rounds.proofs.Differ.{In, any_agree_in, any_in}
-use Rattle.line_rounds.proofs.Early.{or_cases, and_left, and_right}
+use Rattle.line_rounds.proofs.Differ.{any_in}
 use Rattle.line_rounds.proofs.Lasting.{rest_past, rest_rises}
 use Rattle.line_rounds.proofs.Law.{all_in}
 use Rattle.line_rounds.proofs.Lows.{wave_wide}
-use Rattle.line_rounds.proofs.OneOutcome.{covers_own}
 use Rattle.room_drives.specs.Drives.{pulse_line}
 use Rattle.drive_laws.proofs.Acks.{both_ways}
+
+-- a stretch is low in itself
+pub covers_own : (s : Stretch) (t : ℕ) → s.from ≤ t → t < s.to → covers s t ≡ true
+covers_own s t h k = grind (arith, nat_tests)
+
+any_agree_in : {X : Type 0} (p q : X → Bool) (xs : List X) → ((x : X) → In x xs → p x ≡ q x) → list_any p xs ≡ list_any q xs
+any_agree_in p q [] h = refl
+any_agree_in p q (x ∷ xs) h = rw (h x (inl refl), any_agree_in p q xs (λ y i. h y (inr i))) refl
 
 any_filter : {X : Type 0} (p test : X → Bool) (xs : List X) → list_any p (filter test xs) ≡ list_any (λ x. test x && p x) xs
 any_filter p test [] = refl
@@ -39,7 +46,7 @@ low_before until u r from (s ∷ ss) w all l =
     let here = all s (inl refl) in
     let begun : nat_le s.from until ≡ true = grind (arith, nat_tests) in
     elim (or_cases (covers s u) (line_of ss u) l) [
-      | inl c ↦ (let past : nat_lt u s.to ≡ true = and_right (nat_le s.from u) (nat_lt u s.to) c in
+      | inl c ↦ (let past : nat_lt u s.to ≡ true = (and_parts (nat_le s.from u) (nat_lt u s.to) c).1 in
           let rises = rest_rises until s.to (s.to + 1) ss w.2 (omega arith) in
           let less : u < s.to = grind (arith, nat_tests) in
           rw begun (omega (arith, rises, less)))
@@ -154,17 +161,17 @@ pulses_line seats begin pulses o order wave round t =
       where
         there : pulse_pulls begin (known_at t (reading_of low begin)).ended (was_low low t) t p ≡ true → ((nat_le begin p.from && nat_le p.from o.rest) && covers p t) ≡ true
         there h =
-            let c : covers p t ≡ true = and_left (covers p t) _ h in
-            let more = and_right (covers p t) _ h in
-            let b : nat_le begin p.from ≡ true = and_left (nat_le begin p.from) _ more in
-            let begun : nat_le p.from t ≡ true = and_left (nat_le p.from t) (nat_lt t p.to) c in
+            let c : covers p t ≡ true = (and_parts (covers p t) _ h).0 in
+            let more = (and_parts (covers p t) _ h).1 in
+            let b : nat_le begin p.from ≡ true = (and_parts (nat_le begin p.from) _ more).0 in
+            let begun : nat_le p.from t ≡ true = (and_parts (nat_le p.from t) (nat_lt t p.to) c).0 in
             let later : begin ≤ p.from = grind (arith, nat_tests) in
             let past : p.from ≤ t = grind (arith, nat_tests) in
             let rest : p.from ≤ o.rest = elim (cases_lt until p.from) [
               | inr by_then ↦ early_rest p i later by_then
-              | inl after ↦ elim (or_cases (is_within (known_at t (reading_of low begin)).ended p.from) (was_low low t) (and_right (nat_le begin p.from) _ more)) [
+              | inl after ↦ elim (or_cases (is_within (known_at t (reading_of low begin)).ended p.from) (was_low low t) (and_parts (nat_le begin p.from) _ more).1) [
                 | inl w ↦ early_rest p i later (by_within p.from past w)
-                | inr was ↦ (let l : low (t - 1) ≡ true = and_right (nat_lt 0 t) (low (t - 1)) was in
+                | inr was ↦ (let l : low (t - 1) ≡ true = (and_parts (nat_lt 0 t) (low (t - 1)) was).1 in
                     let all = rounds_are_short.begins seats begin pulses o wave round in
                     let less = low_before until (t - 1) 0 0 o.wave wave (λ s j. all_in (λ (s : Stretch). s.from ≤ until) o.wave all s j) l in
                     omega (arith, less, round.rest, past))
@@ -174,12 +181,12 @@ pulses_line seats begin pulses o order wave round t =
 
         back : ((nat_le begin p.from && nat_le p.from o.rest) && covers p t) ≡ true → pulse_pulls begin (known_at t (reading_of low begin)).ended (was_low low t) t p ≡ true
         back h =
-            let first = and_left (nat_le begin p.from && nat_le p.from o.rest) (covers p t) h in
-            let c : covers p t ≡ true = and_right (nat_le begin p.from && nat_le p.from o.rest) (covers p t) h in
-            let b : nat_le begin p.from ≡ true = and_left (nat_le begin p.from) (nat_le p.from o.rest) first in
-            let r : nat_le p.from o.rest ≡ true = and_right (nat_le begin p.from) (nat_le p.from o.rest) first in
-            let begun : nat_le p.from t ≡ true = and_left (nat_le p.from t) (nat_lt t p.to) c in
-            let ends : nat_lt t p.to ≡ true = and_right (nat_le p.from t) (nat_lt t p.to) c in
+            let first = (and_parts (nat_le begin p.from && nat_le p.from o.rest) (covers p t) h).0 in
+            let c : covers p t ≡ true = (and_parts (nat_le begin p.from && nat_le p.from o.rest) (covers p t) h).1 in
+            let b : nat_le begin p.from ≡ true = (and_parts (nat_le begin p.from) (nat_le p.from o.rest) first).0 in
+            let r : nat_le p.from o.rest ≡ true = (and_parts (nat_le begin p.from) (nat_le p.from o.rest) first).1 in
+            let begun : nat_le p.from t ≡ true = (and_parts (nat_le p.from t) (nat_lt t p.to) c).0 in
+            let ends : nat_lt t p.to ≡ true = (and_parts (nat_le p.from t) (nat_lt t p.to) c).1 in
             let later : begin ≤ p.from = grind (arith, nat_tests) in
             let soon : p.from ≤ o.rest = grind (arith, nat_tests) in
             let past : p.from ≤ t = grind (arith, nat_tests) in

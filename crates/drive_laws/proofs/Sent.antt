@@ -13,12 +13,14 @@ use Rattle.line_frames.specs.declared.Ending.TheVariants.{Complete, Short, Silen
 use Rattle.line_reading.specs.Reading.{after_fall, after_last, last_heard, next_fall, sample, Read, Known, Slot, known_at, known_slots, reading_of, read_start, read_slots, read_on, after_slot, last_ending, bit_sampled_at, start_of, bits_of, After}
 use Rattle.line_reading.specs.Sending.{bit_read, destination, known_bits, is_whole, has_all, is_out_by, out_by, out_slot, goes_on}
 use Rattle.line_reading.proofs.Ends.{until_by}
+use Rattle.line_reading.proofs.AlongBy.{quiet_sample}
 use Rattle.line_rounds.specs.Round.{all_known, is_not_before}
 use Rattle.line_rounds.specs.Contend.{leaves}
+use Rattle.line_rounds.specs.Slots.{AreSpaced, IsReported, AreReported, MoreBits}
 use Rattle.line_rounds.proofs.Early.{leaves_more}
 use Rattle.line_rounds.proofs.Polled.{reported_bits}
-use Rattle.line_rounds.proofs.Spans.{AreSpaced, AreReported, IsReported, MoreBits, bits_more, reading_spans, reported_all}
-use Rattle.line_rounds.proofs.Walk.{next_falls, quiet_sample}
+use Rattle.line_rounds.proofs.Spans.{bits_more, reading_spans, reported_all}
+use Rattle.line_rounds.proofs.Walk.{next_falls}
 use Rattle.room_drives.specs.Stretches.{sample_by}
 
 -- ---- every slot but the last was sampled

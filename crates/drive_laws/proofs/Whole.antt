@@ -14,14 +14,13 @@ use Rattle.line_reading.specs.Sending.{sender_pulls}
 use Rattle.line_rounds.specs.Round.{frames_of, is_acknowledged, is_broken, is_within, lost_at, losers_from, out_in, out_of, pulse_pulls, IsRoundLine}
 use Rattle.line_rounds.proofs.Afterwards.{no_fall_after}
 use Rattle.line_rounds.proofs.Lasting.{begun_by, contended, low_at_begin}
-use Rattle.line_rounds.proofs.OneOutcome.{covers_own}
 use Rattle.line_rounds.proofs.Still.{high_before}
 use Rattle.room_drives.specs.Drives.{pulse_line, seat_line}
 use Rattle.room_drives.specs.Stretches.{ack_stretches, break_stretches, drives_from, drives_of, fall_by, seat_stretches_by, sent_stretches, slot_fall}
 use Rattle.room_drives.proofs.Driven.{lines_are_driven}
 use Rattle.drive_laws.specs.DriveLaws.{DrivesAreRuled, DrivesAreTheLine}
 use Rattle.drive_laws.proofs.Acks.{ack_line, any_append}
-use Rattle.drive_laws.proofs.Pulses.{pulses_line}
+use Rattle.drive_laws.proofs.Pulses.{covers_own, pulses_line}
 use Rattle.drive_laws.proofs.Seats.{IsTimely, Reports, break_line, may_fall, sent_line}
 use Rattle.drive_laws.proofs.Slots.{falls_at, slots_fall}
 use Rattle.line_wave.proofs.Waves.{quiet}

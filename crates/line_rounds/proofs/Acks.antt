@@ -13,9 +13,11 @@ use Rattle.line_rounds.specs.declared.Seat.{Seat}
 use Rattle.line_reading.specs.Sending.{sender_pulls}
 use Rattle.line_rounds.specs.Round.{acknowledges, frames_of, pulse_pulls, is_acknowledged, is_pulled, IsRoundLine}
 use Rattle.line_rounds.specs.Contend.{AcknowledgedIsZero}
+use Rattle.line_rounds.specs.Slots.{NextFall}
+use Rattle.line_rounds.specs.Begins.{Reports}
+use Rattle.line_rounds.specs.Reached.{Reached}
 use Rattle.line_rounds.proofs.Differ.{or_right}
-use Rattle.line_rounds.proofs.Early.{Reports}
-use Rattle.line_rounds.proofs.Walk.{NextFall, next_falls, Reached, reach_next, known_unsampled}
+use Rattle.line_rounds.proofs.Walk.{next_falls, reach_next, known_unsampled}
 use Rattle.line_rounds.proofs.Law.{reached_start}
 
 any_last : (test : ℕ × Slot → Bool) (xs : List Slot) (s : Slot) (n m : ℕ) → m ≡ n + length xs → test (m, s) ≡ true → list_any test (enumerate_from n (xs ++ s ∷ [])) ≡ true

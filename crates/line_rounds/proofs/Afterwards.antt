@@ -3,7 +3,6 @@ use Rattle.std.proofs.Common.{◌≡◌, ℕ, zero, suc, ◌+◌, ◌-◌, ◌<�
 use Rattle.std.specs.List.{list_any}
 use Rattle.std.specs.Option.{option_to_list}
 use Rattle.std.proofs.lemmas.Bool.Decides.{nat_tests}
-use Rattle.line_wave.specs.declared.Stretch.{Stretch}
 use Rattle.line_wave.specs.Line.{Line, was_low, is_fall}
 use Rattle.line_frames.specs.Bits.{frame_bits}
 use Rattle.line_frames.specs.declared.Ending.{Ending}
@@ -11,10 +10,10 @@ use Rattle.line_frames.specs.declared.Ending.TheVariants.{Complete, Short, Silen
 use Rattle.line_reading.specs.Reading.After.{Next, Ends}
 use Rattle.line_reading.specs.Windows.{standard, sample_at}
 use Rattle.line_reading.specs.Reading.{next_fall, Read, Slot, known_at, reading_of, read_start, read_slots, read_on, read_then, after_slot, after_fall, after_last, last_ending, last_heard, bit_sampled_at, start_of, After}
-use Rattle.line_rounds.specs.declared.Seat.{Seat}
 use Rattle.line_reading.specs.Sending.{known_bits, out_slot, goes_on, sender_pulls}
-use Rattle.line_rounds.specs.Round.{frames_of, is_within, pulse_pulls, is_acknowledged, is_broken, IsRoundLine}
+use Rattle.line_rounds.specs.Round.{frames_of, is_within, pulse_pulls, is_acknowledged, is_broken}
 use Rattle.line_rounds.specs.Contend.{Stays}
+use Rattle.line_rounds.specs.Quiet.{NoFallAfter}
 use Rattle.line_rounds.proofs.Early.{and_right, stays_before}
 use Rattle.line_rounds.proofs.Inside.{not_whole, heard_start, stays_by}
 use Rattle.line_rounds.proofs.Law.{not_true, pulled_more, start_fails}
@@ -96,7 +95,7 @@ not_out low begin t u f l h g = out_none (known_at u (reading_of low begin)) (fr
 
 -- ---- no fall
 
-pub no_fall_after : (seats : List Seat) (begin : ℕ) (pulses : List Stretch) (low : Line) → IsRoundLine seats begin pulses low → (u : ℕ) → (reading_of low begin).until < u → is_fall low u ≡ false
+pub no_fall_after : NoFallAfter
 no_fall_after seats begin pulses low line u past = by_fall (is_fall low u) refl
   where
     begins : begin ≤ (reading_of low begin).until

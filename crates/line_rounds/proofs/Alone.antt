@@ -15,7 +15,8 @@ use Rattle.line_rounds.specs.Round.{IsRound, rest_of, is_within, pulse_pulls}
 use Rattle.line_rounds.specs.Contend.{AreFrames}
 use Rattle.line_rounds.specs.Lasting.{is_begun}
 use Rattle.line_rounds.specs.Alone.{part_of, outcome_listed, RoundsAreLone}
-use Rattle.line_rounds.proofs.Differ.{In, in_any, any_in}
+use Rattle.line_rounds.specs.Elements.{In}
+use Rattle.line_rounds.proofs.Differ.{in_any, any_in}
 use Rattle.line_rounds.proofs.Early.{and_right}
 use Rattle.line_rounds.proofs.Lows.{wave_wide}
 use Rattle.line_rounds.proofs.Lasting.{rest_rises, rest_past, begun_by, contended, low_at_begin}

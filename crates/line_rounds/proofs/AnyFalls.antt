@@ -13,9 +13,10 @@ use Rattle.line_reading.specs.Reading.{next_fall, next_rise, Read, read_slots, r
 use Rattle.line_reading.proofs.Search.{found_first, found_none}
 use Rattle.line_reading.proofs.Causes.{last_plain}
 use Rattle.line_rounds.specs.Falls.{AreRisingFrom, FallsAreRead}
-use Rattle.line_rounds.proofs.Walk.{NextFall, next_falls}
+use Rattle.line_rounds.proofs.Walk.{next_falls}
 use Rattle.line_reading.specs.Known.{IsPlain}
 use Rattle.line_wave.proofs.Waves.{was_now}
+use Rattle.line_rounds.specs.Slots.{NextFall}
 
 -- falls one after another, from `from` to `until`
 abbrev AreFallsTo : Line → ℕ → ℕ → List ℕ → Type 0

@@ -12,7 +12,8 @@ use Rattle.line_rounds.specs.declared.Seat.{Seat}
 use Rattle.line_rounds.specs.declared.Outcome.{Outcome}
 use Rattle.line_rounds.specs.Round.{IsRound}
 use Rattle.line_rounds.specs.Bounds.{begun_within, RoundsAreShort}
-use Rattle.line_rounds.proofs.Differ.{In, any_in}
+use Rattle.line_rounds.specs.Elements.{In}
+use Rattle.line_rounds.proofs.Differ.{any_in}
 use Rattle.line_rounds.proofs.Law.{all_in}
 use Rattle.line_rounds.proofs.Lows.{wave_wide}
 use Rattle.line_rounds.proofs.OneOutcome.{covers_own}

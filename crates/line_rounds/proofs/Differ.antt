@@ -1,14 +1,11 @@
 -- Where two frames first differ, and what that means for their stretches.
 use Rattle.std.proofs.Common.{◌≡◌, ℕ, ◌+◌, ◌*◌, ◌<◌, ◌≤◌, Bool, true, false, not, ◌||◌, if◌then◌else◌, List, [], ◌∷◌, ◌++◌, length, ◌⊎◌, inl, inr, refl, arith, ap, ◌∙◌, sym}
 use Rattle.std.specs.List.{list_any, filter}
-use Rattle.line_frames.specs.Bits.{frame_bits, byte_bits, comes_before, least_among}
+use Rattle.line_frames.specs.Bits.{frame_bits, byte_bits, comes_before}
+use Rattle.line_rounds.specs.Elements.{In}
+use Rattle.line_rounds.specs.Least.{IsLeast, Least}
 
 -- ---- elements
-
--- x is one of the list
-abbrev pub In : {X : Type 0} → X → List X → Type 0
-In x [] = ⊥
-In x (y ∷ ys) = (x ≡ y) ⊎ In x ys
 
 pub or_right : (a b : Bool) → b ≡ true → (a || b) ≡ true
 or_right true b e = refl
@@ -18,10 +15,6 @@ pub any_in : {X : Type 0} (p : X → Bool) (xs : List X) (x : X) → In x xs →
 any_in p [] x h e = absurd h
 any_in p (y ∷ ys) x (inl s) e = let f : p y ≡ true = ap p (sym s) ∙ e in rw f refl
 any_in p (y ∷ ys) x (inr h) e = or_right (p y) (list_any p ys) (any_in p ys x h e)
-
-pub any_agree_in : {X : Type 0} (p q : X → Bool) (xs : List X) → ((x : X) → In x xs → p x ≡ q x) → list_any p xs ≡ list_any q xs
-any_agree_in p q [] h = refl
-any_agree_in p q (x ∷ xs) h = rw (h x (inl refl), any_agree_in p q xs (λ y i. h y (inr i))) refl
 
 pub in_any : {X : Type 0} (p : X → Bool) (xs : List X) → list_any p xs ≡ true → (x : X) × In x xs × (p x ≡ true)
 in_any p [] h = cc
@@ -154,12 +147,6 @@ before_self [] = refl
 before_self (true ∷ xs) = before_self xs
 before_self (false ∷ xs) = before_self xs
 
--- a frame that no other comes before
-pub record Least (frames : List (List ℕ)) : Type 0 where
-  pub frame : List ℕ
-  pub one : In frame frames
-  pub least : (g : List ℕ) → In g frames → comes_before (frame_bits g) (frame_bits frame) ≡ false
-
 not_both : (b : Bool) → b ≡ true → b ≡ false → ⊥
 not_both b h k = let e : true ≡ false = sym h ∙ k in cc
 
@@ -179,5 +166,5 @@ none_before : (frames gs : List (List ℕ)) (xs : List Bool) → ((g : List ℕ)
 none_before frames [] xs h = refl
 none_before frames (g ∷ gs) xs h = rw (h g (inl refl)) (none_before frames gs xs (λ x i. h x (inr i)))
 
-pub is_least : (frames : List (List ℕ)) (l : Least frames) → least_among frames l.frame ≡ true
+pub is_least : IsLeast
 is_least frames l = ap not (none_before frames frames (frame_bits l.frame) l.least)

@@ -1,6 +1,6 @@
 -- A slot's fall as it is read: at the sender's own fall, or at most 350 early and made by a pulse.
 use Rattle.std.proofs.Common.{◌≡◌, ℕ, zero, suc, ◌+◌, ◌-◌, ◌*◌, ◌%◌, ◌==◌, ◌<◌, ◌≤◌, Bool, true, false, not, ◌&&◌, ◌||◌, nat_lt, nat_le, if◌then◌else◌, List, [], ◌∷◌, ◌++◌, length, length-append, slice_index_or, ◌⊎◌, inl, inr, Some, None, refl, arith, ap, ◌∙◌, sym}
-use Rattle.std.specs.List.{list_any, filter_map, find, enumerate_from, range_with_len}
+use Rattle.std.specs.List.{list_any, filter_map, find, range_with_len}
 use Rattle.std.proofs.Math.ListN.{get_or-append}
 use mathlib.Core.Bool.{beq}
 use Rattle.std.proofs.lemmas.Bool.{cases_lt}
@@ -11,12 +11,16 @@ use Rattle.line_wave.specs.Pulses.{AreSparse}
 use Rattle.line_wave.specs.Sender.{sender_stretches, slot_stretches}
 use Rattle.line_frames.specs.Bits.{frame_bits, least_among}
 use Rattle.line_reading.specs.Windows.{standard}
-use Rattle.line_reading.specs.Reading.{Slot, Known, known_at, reading_of}
+use Rattle.line_reading.specs.Reading.{Slot}
 use Rattle.line_rounds.specs.declared.Seat.{Seat}
 use Rattle.line_reading.specs.Sending.{bit_read, destination, is_out_by, out_slot, sender_pulls}
 use Rattle.line_rounds.specs.Round.{frames_of, winning_frames, acknowledges, is_acknowledged, pulse_pulls, pulled_by}
-use Rattle.line_rounds.specs.Contend.{IsContended, leaves, pulled_through, Stays}
-use Rattle.line_rounds.proofs.Differ.{In, any_in, in_any, any_filter, or_right}
+use Rattle.line_rounds.specs.Contend.{IsContended, pulled_through, Stays}
+use Rattle.line_rounds.specs.Begins.{SenderLow, Reports}
+use Rattle.line_rounds.specs.Known.{DestinationMore, LeavesMore}
+use Rattle.line_rounds.specs.Follow.{NoAcks, AreDone}
+use Rattle.line_rounds.specs.Elements.{In}
+use Rattle.line_rounds.proofs.Differ.{any_in, in_any, any_filter, or_right}
 use Rattle.line_rounds.proofs.Lows.{between_slots, slot_begins, far_apart}
 
 -- ---- tests
@@ -55,7 +59,7 @@ none_found p a (suc m) h n l k = step (p a) refl h (λ g m2 l2 k2. none_found p 
 pub stays_in : (zs : List Slot) (sent : List Bool) → Stays (filter_map (λ s. s.bit) zs) sent → out_slot (record { slots = zs; ended = None }) sent ≡ None
 stays_in zs sent h = find_none (is_out_by (filter_map (λ (s : Slot). s.bit) zs) false sent) 1 (length (filter_map (λ s. s.bit) zs)) (λ n l k. h n l (omega arith))
 
-pub destination_more : (bits ys : List Bool) → 8 ≤ length bits → destination (bits ++ ys) ≡ destination bits
+pub destination_more : DestinationMore
 destination_more [] ys h = absurd (omega (arith, h))
 destination_more (a ∷ []) ys h = absurd (omega (arith, h))
 destination_more (a ∷ b ∷ []) ys h = absurd (omega (arith, h))
@@ -67,7 +71,7 @@ destination_more (a ∷ b ∷ c ∷ d ∷ e ∷ f ∷ g ∷ []) ys h = absurd (o
 destination_more (a ∷ b ∷ c ∷ d ∷ e ∷ f ∷ g ∷ k ∷ bits) ys h = refl
 
 -- more slots change nothing of the earlier ones
-pub leaves_more : (bits ys sent : List Bool) (n : ℕ) → 1 ≤ n → n ≤ length bits → leaves (bits ++ ys) sent n ≡ leaves bits sent n
+pub leaves_more : LeavesMore
 leaves_more bits ys sent n h k = step (n % 10 == 0) refl
   where
     same : bit_read (bits ++ ys) n ≡ bit_read bits n
@@ -86,20 +90,11 @@ stays_before bits ys sent h n l k = sym (leaves_more bits ys sent n l k) ∙ h n
 
 -- ---- who pulls
 
--- all of these slots fell 1,500 before t
-abbrev pub AreDone : ℕ → List Slot → Type 0
-AreDone t [] = Unit {0}
-AreDone t (s ∷ ss) = (s.fall + 1500 ≤ t) × AreDone t ss
-
-pub no_acks : (seats : List Seat) (k : Known) (t : ℕ) (zs : List Slot) (n : ℕ) → AreDone t zs
-    → list_any (λ (slot : ℕ × Slot). (slot.0 % 10 == 0) && (nat_lt t (slot.1.fall + 1500) && list_any (acknowledges k slot.0) seats)) (enumerate_from n zs) ≡ false
+pub no_acks : NoAcks
 no_acks seats k t [] n d = refl
 no_acks seats k t (z ∷ zs) n d =
     let e : nat_lt t (z.fall + 1500) ≡ false = grind (arith, nat_tests, d.0) in
     rw (and_mid (n % 10 == 0) (nat_lt t (z.fall + 1500)) (list_any (acknowledges k n) seats) e) (no_acks seats k t zs (n + 1) d.1)
-
-abbrev pub Reports : Line → ℕ → ℕ → List Slot → Type 0
-Reports low begin t zs = known_at t (reading_of low begin) ≡ record { slots = zs; ended = None }
 
 abbrev pub PulseAt : ℕ → List Stretch → ℕ → Type 0
 PulseAt begin pulses t = (p : Stretch) × In p pulses × (covers p t ≡ true) × (begin ≤ p.from)
@@ -141,9 +136,7 @@ pulse_low seats begin pulses low t zs c reports p i v b =
     pulls : list_any (pulse_pulls begin None (was_low low t) t) pulses ≡ true
     pulls = any_in (pulse_pulls begin None (was_low low t) t) pulses p i one
 
-pub sender_low : (seats : List Seat) (begin : ℕ) (pulses : List Stretch) (low : Line) (t : ℕ) (zs : List Slot) → IsContended seats begin pulses low
-    → Reports low begin t zs → (w : List ℕ) → In w (frames_of seats) → least_among (frames_of seats) w ≡ true → Stays (filter_map (λ s. s.bit) zs) (frame_bits w)
-    → line_of (sender_stretches begin (frame_bits w)) t ≡ true → low t ≡ true
+pub sender_low : SenderLow
 sender_low seats begin pulses low t zs c reports w i e s l =
     c.kept t (ap (λ k. pulled_by (winning_frames seats) seats begin pulses (was_low low t) k t) reports
     ∙ or_right (list_any (pulse_pulls begin None (was_low low t) t) pulses) _ (rw pulls refl))

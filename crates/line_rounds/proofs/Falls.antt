@@ -15,16 +15,19 @@ use Rattle.line_reading.specs.Reading.{Read, Slot, End, Known, known_at, known_s
 use Rattle.line_reading.proofs.Ends.{at_by}
 use Rattle.line_rounds.specs.declared.Seat.{Seat}
 use Rattle.line_reading.specs.Sending.{bit_read, destination, known_bits, is_whole, is_out_by, out_slot, goes_on, sender_pulls}
-use Rattle.line_rounds.specs.Round.{frames_of, is_within, acknowledges, pulse_pulls, is_acknowledged, is_broken, pulled_by, IsRoundLine}
+use Rattle.line_rounds.specs.Round.{frames_of, is_within, acknowledges, pulse_pulls, is_acknowledged, is_broken, pulled_by}
 use Rattle.line_rounds.specs.Contend.{pulled_through, Stays}
-use Rattle.line_rounds.proofs.Differ.{In, any_in, in_any, or_right}
+use Rattle.line_rounds.proofs.Differ.{any_in, in_any, or_right}
 use Rattle.line_rounds.proofs.Early.{no_fall, and_left, and_right, find_none, stays_before, or_cases}
 use Rattle.line_rounds.proofs.Inside.{not_whole, heard_start, stays_by}
 use Rattle.line_rounds.proofs.Law.{not_true, all_in, pulled_then}
 use Rattle.line_frames.proofs.Slots.{length-frame_bits}
-use Rattle.line_rounds.specs.Falls.{IsPulseBegin, IsPullBegin}
+use Rattle.line_rounds.specs.Falls.{IsPullBegin}
+use Rattle.line_rounds.specs.Made.{RoundFallBy, BeginsSlot, FallBy}
+use Rattle.line_rounds.specs.Elements.{In}
+use Rattle.line_rounds.specs.Slots.{AreSpaced, AreFalls, Spans}
 use Rattle.line_rounds.proofs.Hold.{acknowledgers_hold}
-use Rattle.line_rounds.proofs.Spans.{AreSpaced, AreFalls, Spans, reading_spans, bits_more, reported_all}
+use Rattle.line_rounds.proofs.Spans.{reading_spans, bits_more, reported_all}
 
 -- where these frames are sent, the line is low at t if somebody pulls
 abbrev pub Keeps : List (List ℕ) → List Seat → ℕ → List Stretch → Line → ℕ → Type 0
@@ -69,10 +72,6 @@ slot_begin (b ∷ bits) n t h =
           | inr ge ↦ (let l = low_end c in inl (0, omega arith, omega arith))
         ]
     by_first (inr g) ih = later (ih g)
-
--- one of a sender's slots begins here
-abbrev pub BeginsSlot : ℕ → ℕ → ℕ → Type 0
-BeginsSlot begin t count = (k : ℕ) × (k < count) × (t ≡ begin + 4500 + 2400 * k)
 
 pub sender_begin : (begin t : ℕ) (bits : List Bool) → line_of (sender_stretches begin bits) t ≡ true
     → ((t ≡ begin) ⊎ BeginsSlot begin t (length bits)) ⊎ ((0 < t) × (line_of (sender_stretches begin bits) (t - 1) ≡ true))
@@ -351,11 +350,6 @@ any_from P [] p i h = absurd i
 any_from P (q ∷ ps) p (inl e) h = (0, q, omega arith, refl, subst P e h)
 any_from P (q ∷ ps) p (inr i) h = let r = any_from P ps p i h in (suc r.0, r.1, omega (arith, r.2), r.3, r.4)
 
--- who makes a fall: the senders at the start, one of them at a slot, or a pulse
-abbrev pub FallBy : List (List ℕ) → ℕ → List Stretch → Line → ℕ → Type 0
-FallBy fs begin pulses low t =
-    (t ≡ begin) ⊎ (((f : List ℕ) × In f fs × (sender_pulls begin (known_at t (reading_of low begin)) t f ≡ true) × BeginsSlot begin t (length (frame_bits f))) ⊎ IsPulseBegin begin (reading_of low begin).until pulses t)
-
 -- A fall is where a sender's stretch or a pulse begins. Of the line it takes the rule at that instant and just before.
 pub fall_by : (fs : List (List ℕ)) (seats : List Seat) (begin : ℕ) (pulses : List Stretch) (low : Line) (t : ℕ)
     → Makes fs seats begin pulses low t → (0 < t → Keeps fs seats begin pulses low (t - 1)) → is_fall low t ≡ true → FallBy fs begin pulses low t
@@ -488,6 +482,6 @@ pub makes : (fs : List (List ℕ)) (seats : List Seat) (begin : ℕ) (pulses : L
     → low t ≡ pulled_by fs seats begin pulses (was_low low t) (known_at t (reading_of low begin)) t → Makes fs seats begin pulses low t
 makes fs seats begin pulses low t rule l = pulled_then fs seats begin pulses (was_low low t) (known_at t (reading_of low begin)) t (sym rule ∙ l)
 
-pub round_fall_by : (seats : List Seat) (begin : ℕ) (pulses : List Stretch) (low : Line) (t : ℕ) → IsRoundLine seats begin pulses low → is_fall low t ≡ true → FallBy (frames_of seats) begin pulses low t
+pub round_fall_by : RoundFallBy
 round_fall_by seats begin pulses low t line fall =
     fall_by (frames_of seats) seats begin pulses low t (makes (frames_of seats) seats begin pulses low t (line t)) (λ p h. line (t - 1) ∙ h) fall

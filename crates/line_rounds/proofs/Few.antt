@@ -10,7 +10,8 @@ use Rattle.line_reading.specs.Reading.{reading_of}
 use Rattle.line_rounds.specs.declared.Seat.{Seat}
 use Rattle.line_rounds.specs.Round.{frames_of, IsRoundLine}
 use Rattle.line_rounds.specs.Falls.{EachFallBegins, AreRisingFrom, FewFalls, WaveFits, RoundFits}
-use Rattle.line_rounds.proofs.Differ.{In, any_in}
+use Rattle.line_rounds.specs.Elements.{In}
+use Rattle.line_rounds.proofs.Differ.{any_in}
 use Rattle.line_rounds.proofs.Early.{and_left}
 use Rattle.line_rounds.proofs.Lows.{all_head, all_tail, far_tail}
 use Rattle.line_rounds.proofs.Law.{all_in}

@@ -10,10 +10,11 @@ use Rattle.line_rounds.specs.declared.Outcome.{Outcome}
 use Rattle.line_rounds.specs.Round.{IsRoundLine, rest_of, survivors_from, losers_from}
 use Rattle.line_rounds.specs.Machine.{wave_after, low_since}
 use Rattle.line_rounds.specs.OneOutcome.{RoundsHaveOutcomes}
-use Rattle.line_rounds.proofs.Differ.{In}
+use Rattle.line_rounds.specs.Elements.{In}
+use Rattle.line_rounds.specs.Recorded.{Records, EndBefore, begun, lows}
 use Rattle.line_rounds.proofs.Bounds.{rounds_are_short}
 use Rattle.line_rounds.proofs.Exists.{made_line, made_round}
-use Rattle.line_rounds.proofs.Records.{Records, EndBefore, begun, lows, no_line, record_first, record_step}
+use Rattle.line_rounds.proofs.Records.{no_line, record_first, record_step}
 use Rattle.line_rounds.proofs.Still.{high_after, high_before}
 
 -- pulls have ended by some instant

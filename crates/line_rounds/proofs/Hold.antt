@@ -17,11 +17,13 @@ use Rattle.line_reading.specs.Sending.{bit_read, destination, known_bits, is_who
 use Rattle.line_rounds.specs.Round.{is_held, sends_in, is_not_before, acknowledges}
 use Rattle.line_rounds.specs.Contend.{AcknowledgersHold, leaves}
 use Rattle.line_rounds.proofs.Early.{destination_more, leaves_more}
-use Rattle.line_rounds.proofs.Walk.{NextFall, next_falls, quiet_sample, Reached, reach_next, reported_more}
+use Rattle.line_rounds.proofs.Walk.{next_falls, quiet_sample, reach_next, reported_more}
 use Rattle.line_rounds.proofs.Inside.{known_here}
 use Rattle.line_rounds.proofs.Law.{reached_start}
 use Rattle.line_rounds.specs.Machine as Machine
 use Rattle.line_reading.specs.Known.{nothing}
+use Rattle.line_rounds.specs.Slots.{NextFall}
+use Rattle.line_rounds.specs.Reached.{Reached}
 
 -- who acknowledges after these bits
 sends_after : List Bool → Option (List ℕ) → Bool

@@ -1,17 +1,15 @@
 -- How long those who follow hold the line.
-use Rattle.std.proofs.Common.{◌≡◌, ℕ, suc, ◌+◌, ◌%◌, ◌==◌, ◌<◌, ◌≤◌, Bool, true, false, not, ◌&&◌, ◌||◌, nat_lt, if◌then◌else◌, List, [], ◌∷◌, ◌++◌, length, Option, Some, refl, arith, ap, ◌∙◌, sym}
+use Rattle.std.proofs.Common.{◌≡◌, ℕ, ◌+◌, ◌%◌, ◌==◌, ◌<◌, ◌≤◌, Bool, true, false, not, ◌&&◌, ◌||◌, nat_lt, if◌then◌else◌, List, [], ◌∷◌, ◌++◌, length, Option, refl, arith, ap, ◌∙◌, sym}
 use Rattle.std.specs.List.{list_any, enumerate_from}
 use Rattle.std.proofs.lemmas.Bool.Decides.{nat_tests}
-use Rattle.line_wave.specs.Line.{Line}
-use Rattle.line_frames.specs.declared.Ending.{Ending}
 use Rattle.line_frames.specs.declared.Ending.TheVariants.{Complete, Short, Silent, BadStart, Long, Open}
 use Rattle.line_reading.specs.Reading.{Slot, End, Known, known_at, reading_of}
-use Rattle.line_rounds.specs.declared.Seat.{Seat}
 use Rattle.line_reading.specs.Sending.{known_bits, is_whole}
-use Rattle.line_rounds.specs.Round.{acknowledges, is_acknowledged, is_broken, sends_in}
-use Rattle.line_rounds.specs.Machine.{acks_after, acks_until, breaks_after, is_short}
-use Rattle.line_rounds.proofs.Early.{AreDone, no_acks}
-use Rattle.line_rounds.proofs.Walk.{Reached, AreOver}
+use Rattle.line_rounds.specs.Round.{acknowledges, is_broken, sends_in}
+use Rattle.line_rounds.specs.Machine.{acks_after, breaks_after}
+use Rattle.line_rounds.specs.Follow.{BreaksNow}
+use Rattle.line_rounds.specs.Reached.{DoneBy, AcksNow}
+use Rattle.line_rounds.proofs.Early.{no_acks}
 use Rattle.line_rounds.proofs.Hold.{acks_known, sends_known}
 
 pub any_agree : {X : Type 0} (p q : X → Bool) (xs : List X) → ((x : X) → p x ≡ q x) → list_any p xs ≡ list_any q xs
@@ -37,7 +35,7 @@ any_end test (x ∷ xs) s n m e q =
     ap (λ b. b || list_any test (enumerate_from (n + 1) (xs ++ s ∷ []))) (none_left (test (n, x)) (list_any test (enumerate_from (n + 1) xs)) q)
     ∙ any_end test xs s (n + 1) m (omega arith) (none_right (test (n, x)) (list_any test (enumerate_from (n + 1) xs)) q)
 
-pub done_by : (e u : ℕ) (xs : List Slot) → e ≤ u → AreOver e xs → AreDone u xs
+pub done_by : DoneBy
 done_by e u [] h o = tt
 done_by e u (s ∷ ss) h o = (omega (arith, o.0), done_by e u ss h o.1)
 
@@ -47,9 +45,7 @@ by_test true false u end = elim (nat_lt u end) as (λ b. (b && false) ≡ nat_lt
 by_test false any u end = grind (arith, nat_tests)
 
 -- in a slot, and after it
-pub acks_now : (seats : List Seat) (low : Line) (begin left : ℕ) (xs : List Slot) (before : List Bool) (e u : ℕ) → Reached low begin (suc left) xs before e → length xs ≡ length before → e < u
-    → (s : Slot) (ended : Option End) → known_at u (reading_of low begin) ≡ record { slots = xs ++ s ∷ []; ended = ended } → s.fall ≡ e
-    → is_acknowledged seats (known_at u (reading_of low begin)) u ≡ nat_lt u (acks_until seats before e)
+pub acks_now : AcksNow
 acks_now seats low begin left xs before e u r c l s ended h f =
     ap (λ (k : Known). list_any test (enumerate_from 1 k.slots)) h
     ∙ any_end test xs s 1 (length before + 1) (omega (arith, c)) (no_acks seats (known_at u (reading_of low begin)) u xs 1 (done_by e u xs (omega arith) r.over))
@@ -96,9 +92,7 @@ unbroken : (b any : Bool) (n held : ℕ) → held ≡ (if b && (false && any) th
 unbroken true any n held = refl
 unbroken false any n held = refl
 
-pub breaks_now : (seats : List Seat) (k : Known) (bits : List Bool) (u t at until held : ℕ) (ending : Ending) → k.ended ≡ Some (record { ending = ending; at = at; until = until }) → known_bits k ≡ bits
-    → (is_short ending ≡ true → at ≡ t) → held ≤ t + 3600
-    → (nat_lt u held || is_broken seats k u k.ended) ≡ nat_lt u (if (at == t) && (is_short ending && list_any (breaks_after bits) seats) then t + 3600 else held)
+pub breaks_now : BreaksNow
 breaks_now seats k bits u t at until held Short h b s l =
     ap (λ (e : Option End). nat_lt u held || is_broken seats k u e) h
     ∙ ap (λ n. nat_lt u held || (nat_lt u (n + 3600) && list_any (λ seat. seat.plugged && not (sends_in k seat.sends (length (known_bits k) + 1))) seats)) (s refl)

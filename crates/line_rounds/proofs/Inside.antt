@@ -18,12 +18,14 @@ use Rattle.line_reading.specs.Windows.{sample_at}
 use Rattle.line_reading.specs.Reading.{Read, Slot, Known, known_at, known_slot, reading_of, read_start, read_slots, read_on, after_slot, last_ending, last_heard, bit_sampled_at, After}
 use Rattle.line_reading.proofs.Causes.{known_front, known_then}
 use Rattle.line_rounds.specs.declared.Seat.{Seat}
-use Rattle.line_reading.specs.Sending.{bit_read, destination, known_bits, is_whole, is_out_by, out_slot, goes_on}
+use Rattle.line_reading.specs.Sending.{bit_read, destination, known_bits, is_whole, is_out_by, goes_on}
 use Rattle.line_rounds.specs.Contend.{leaves, Stays}
+use Rattle.line_rounds.specs.Known.{StaysBy}
+use Rattle.line_rounds.specs.Reached.{KnownHere, Reached}
 use Rattle.line_rounds.proofs.Differ.{Splits, or_right}
 use Rattle.line_rounds.proofs.Lows.{zero_low}
 use Rattle.line_rounds.proofs.Early.{OnTime, sender_low, none_found}
-use Rattle.line_rounds.proofs.Walk.{over_sampled, Reached, known_unsampled, reported_more, Scene}
+use Rattle.line_rounds.proofs.Walk.{over_sampled, known_unsampled, reported_more, Scene}
 
 -- ---- an ending
 
@@ -66,7 +68,7 @@ not_whole t r h g = step (nat_lt r.until t) refl g h
         absurd (omega arith)
 
 -- a sender that is not out stays, by all the bits that are known
-pub stays_by : (k : Known) (sent : List Bool) → is_whole k.ended ≡ false → out_slot k sent ≡ None → Stays (known_bits k) sent
+pub stays_by : StaysBy
 stays_by k sent w o n l m =
     step (n % 10 == 0) refl (none_found (is_out_by (known_bits k) (is_whole k.ended) sent) 1 (length (known_bits k)) o n l (omega arith))
   where
@@ -79,12 +81,7 @@ stays_by k sent w o n l m =
 
 -- ---- what is known in a slot
 
-pub known_here : (low : Line) (begin left : ℕ) (xs : List Slot) (bits : List Bool) (e t : ℕ) → Reached low begin (suc left) xs bits e → e < t
-    → (a : After) → after_slot low e (last_ending bits) ≡ a
-    → known_at t (reading_of low begin) ≡ record {
-      slots = xs ++ known_slot t (record { fall = e; bit = bit_sampled_at low e }) ∷ (known_at t (read_on (read_slots low left (bits ++ option_to_list (bit_sampled_at low e))) a)).slots;
-      ended = (known_at t (read_on (read_slots low left (bits ++ option_to_list (bit_sampled_at low e))) a)).ended;
-    }
+pub known_here : KnownHere
 unfolding read_slots
 known_here low begin left xs bits e t r l a h =
     ap (known_at t) (sym r.goes)

@@ -1,21 +1,25 @@
 -- A round lasts: at its begin nothing is reported yet, so whoever begins it pulls then.
-use Rattle.std.proofs.Common.{◌≡◌, ℕ, ◌+◌, ◌==◌, ◌<◌, ◌≤◌, Bool, true, false, ◌||◌, nat_lt, nat_le, if◌then◌else◌, List, [], ◌∷◌, inl, inr, Option, Some, None, is_some, Result, Ok, Err, min, refl, arith, ap, ◌∙◌, sym, subst}
+use Rattle.std.proofs.Common.{◌≡◌, ℕ, ◌+◌, ◌==◌, ◌<◌, ◌≤◌, Bool, true, false, ◌||◌, nat_lt, nat_le, if◌then◌else◌, List, [], ◌∷◌, inl, inr, Option, Some, None, is_some, Ok, Err, min, refl, arith, ap, ◌∙◌, sym, subst}
 use Rattle.std.specs.List.{list_any, fold, cons_option}
 use Rattle.std.proofs.lemmas.Bool.Decides.{nat_tests}
 use Rattle.line_wave.specs.declared.Stretch.{Stretch}
-use Rattle.line_wave.specs.Line.{Line, line_of, covers, was_low, IsWave, IsWaveFrom}
+use Rattle.line_wave.specs.Line.{Line, line_of, covers, was_low}
 use Rattle.line_wave.specs.Sender.{sender_stretches}
 use Rattle.line_frames.specs.Bits.{frame_bits, least_among}
 use Rattle.line_reading.specs.Windows.{standard}
-use Rattle.line_reading.specs.Reading.{Read, known_at, reading_of, read_start, start_of}
+use Rattle.line_reading.specs.Reading.{known_at, reading_of, read_start, start_of}
 use Rattle.line_reading.proofs.Ends.{ends_after}
 use Rattle.line_rounds.specs.declared.Seat.{Seat}
 use Rattle.line_reading.specs.Sending.{sender_pulls}
-use Rattle.line_rounds.specs.Round.{frames_of, winning_frames, IsRoundLine}
+use Rattle.line_rounds.specs.Round.{frames_of, winning_frames}
 use Rattle.line_rounds.specs.Contend.{IsContended, IsWinnersLine}
-use Rattle.line_rounds.specs.Lasting.{is_begun, RoundsLast}
-use Rattle.line_rounds.proofs.Differ.{In, Least, is_least, in_any}
-use Rattle.line_rounds.proofs.Early.{Reports, and_left, and_right, or_cases, pulse_low, sender_low}
+use Rattle.line_rounds.specs.Lasting.{RoundsLast}
+use Rattle.line_rounds.specs.Begins.{BegunBy, RoundsAreContended, LowAtBegin}
+use Rattle.line_rounds.specs.Rests.{RestRises, RestPast}
+use Rattle.line_rounds.specs.Elements.{In}
+use Rattle.line_rounds.specs.Least.{Least}
+use Rattle.line_rounds.proofs.Differ.{is_least, in_any}
+use Rattle.line_rounds.proofs.Early.{and_left, and_right, or_cases, pulse_low, sender_low}
 use Rattle.line_rounds.proofs.OneOutcome.{covers_own}
 use Rattle.line_rounds.proofs.Lows.{wave_wide}
 use Rattle.line_rounds.proofs.Law.{least_of, filtered, known_start, pulled_more, pulled_then, through_more, start_falls}
@@ -24,7 +28,7 @@ use Rattle.line_rounds.proofs.Spans.{spans}
 -- ---- the last low stretch
 
 -- a later stretch ends later
-pub rest_rises : (until r from : ℕ) (ss : List Stretch) → IsWaveFrom from ss → r ≤ from → r ≤ fold (λ rest s. if nat_le s.from until then s.to else rest) r ss
+pub rest_rises : RestRises
 rest_rises until r from [] w h = omega arith
 rest_rises until r from (s ∷ ss) w h =
     by_begin (rest_rises until s.to (s.to + 1) ss w.2 (omega arith)) (rest_rises until r (s.to + 1) ss w.2 (omega (arith, w.0, w.1))) (nat_le s.from until)
@@ -35,8 +39,7 @@ rest_rises until r from (s ∷ ss) w h =
     by_begin k m false = m
 
 -- where the line is low by `until`, it rests after that
-pub rest_past : (until t r from : ℕ) (ss : List Stretch) → IsWaveFrom from ss → t ≤ until → line_of ss t ≡ true
-    → t < fold (λ rest s. if nat_le s.from until then s.to else rest) r ss
+pub rest_past : RestPast
 rest_past until t r from [] w h l = cc
 rest_past until t r from (s ∷ ss) w h l =
     by_cover (λ m. rest_past until t (if nat_le s.from until then s.to else r) (s.to + 1) ss w.2 h m) (covers s t) refl l
@@ -55,13 +58,7 @@ rest_past until t r from (s ∷ ss) w h l =
 
 -- ---- the ending is after the begin
 
--- the reading goes on past the begin, and nothing is reported there
-pub record Begun (low : Line) (begin : ℕ) (r : Read) : Type 0 where
-  pub goes : begin ≤ r.until
-  pub ends : begin < r.at
-  pub reports : known_at begin r ≡ record { slots = []; ended = None }
-
-pub begun_by : (low : Line) (begin : ℕ) (s : Result ℕ ℕ) → start_of low begin ≡ s → Begun low begin (read_start low begin s)
+pub begun_by : BegunBy
 begun_by low begin (Err at) h =
     let l : begin < at = subst (λ s. begin < (read_start low begin s).at) h (ends_after low begin) in
     let e : nat_lt (min at (begin + standard.start_total.most)) begin ≡ false = grind (arith, nat_tests) in
@@ -85,7 +82,7 @@ sends_frame (s ∷ seats) h = by_frame (λ k. sends_frame seats k) s.sends h
     by_frame k None g = k g
     by_frame k (Some f) g = (f, inl refl)
 
-pub contended : (seats : List Seat) (begin : ℕ) (pulses : List Stretch) (low : Line) → IsRoundLine seats begin pulses low → IsContended seats begin pulses low
+pub contended : RoundsAreContended
 contended seats begin pulses low r = record {
   kept = λ t h. r t ∙ pulled_more (winning_frames seats) (frames_of seats) seats begin pulses (was_low low t) (known_at t (reading_of low begin)) t
       (filtered (sender_pulls begin (known_at t (reading_of low begin)) t) (least_among (frames_of seats)) (frames_of seats)) h;
@@ -105,8 +102,7 @@ start_low begin bits =
     let c : covers (record { from = begin; to = begin + 3700 }) begin ≡ true = grind (arith, nat_tests) in
     rw c refl
 
-pub low_at_begin : (seats : List Seat) (begin : ℕ) (pulses : List Stretch) (low : Line) → IsWave pulses → IsContended seats begin pulses low
-    → Reports low begin begin [] → is_begun seats begin pulses ≡ true → low begin ≡ true
+pub low_at_begin : LowAtBegin
 low_at_begin seats begin pulses low order c reports h =
     elim (or_cases (list_any (λ s. is_some s.sends) seats) (list_any (λ p. p.from == begin) pulses) h) [
       | inl sends ↦ by_sender (sends_frame seats sends)

@@ -18,10 +18,14 @@ use Rattle.line_rounds.specs.declared.Seat.{Seat}
 use Rattle.line_reading.specs.Sending.{bit_read, destination, known_bits, is_whole, is_out_by, out_slot, goes_on, sender_pulls}
 use Rattle.line_rounds.specs.Round.{frames_of, winning_frames, is_within, pulse_pulls, is_acknowledged, is_broken, pulled_by}
 use Rattle.line_rounds.specs.Contend.{WinnersLast, LosersInside, Stays, pulled_through}
-use Rattle.line_rounds.proofs.Differ.{In, Least, some_least, is_least, Splits, compare_frames, split_before, any_in, in_any, any_filter}
+use Rattle.line_rounds.specs.Least.{LeastOf, Least}
+use Rattle.line_rounds.specs.Elements.{In}
+use Rattle.line_rounds.specs.Begins.{Reports}
+use Rattle.line_rounds.specs.Reached.{ReachedStart}
+use Rattle.line_rounds.proofs.Differ.{some_least, is_least, Splits, compare_frames, split_before, any_in, in_any, any_filter}
 use Rattle.line_rounds.proofs.Lows.{holds_other}
-use Rattle.line_rounds.proofs.Early.{Reports, OnTime, BeginsAt, falls_so, and_left, and_right, find_none, none_found}
-use Rattle.line_rounds.proofs.Walk.{Reached, Scene}
+use Rattle.line_rounds.proofs.Early.{OnTime, BeginsAt, falls_so, and_left, and_right, find_none, none_found}
+use Rattle.line_rounds.proofs.Walk.{Scene}
 use Rattle.line_rounds.proofs.Inside.{not_whole, heard_start, stays_by}
 use Rattle.line_rounds.proofs.Losers.{Before, few_by, goes_by, goes_to, inside_walk}
 use Rattle.line_reading.specs.Searches.{Found}
@@ -48,7 +52,7 @@ all_in P [] h x i = absurd i
 all_in P (y ∷ ys) h x (inl e) = subst P (sym e) (h 0 x (omega arith))
 all_in P (y ∷ ys) h x (inr i) = all_in P ys (λ k d l. h (suc k) d (omega arith)) x i
 
-pub least_of : (fs : List (List ℕ)) (c : List ℕ) → In c fs → Least fs
+pub least_of : LeastOf
 least_of [] c h = absurd h
 least_of (f ∷ fs) c h = some_least f fs
 
@@ -106,7 +110,7 @@ pub known_start : (low : Line) (begin f t : ℕ) → start_of low begin ≡ Ok f
 unfolding nothing
 known_start low begin f t h l = ap (λ s. known_at t (read_start low begin s)) h ∙ late_read t low 160 [] f l
 
-pub reached_start : (low : Line) (begin f : ℕ) → start_of low begin ≡ Ok f → Reached low begin 160 [] [] f
+pub reached_start : ReachedStart
 reached_start low begin f h = record { goes = ap (λ s. read_start low begin s) (sym h); reported = refl; over = tt }
 
 pub on_time_start : (seats : List Seat) (begin : ℕ) (pulses : List Stretch) (low : Line) (w : List ℕ) → Scene seats begin pulses low w

@@ -17,9 +17,11 @@ use Rattle.line_reading.proofs.Causes.{known_front}
 use Rattle.line_rounds.specs.declared.Seat.{Seat}
 use Rattle.line_reading.specs.Sending.{known_bits, goes_on}
 use Rattle.line_rounds.specs.Contend.{Stays}
+use Rattle.line_rounds.specs.Slots.{NextFall}
+use Rattle.line_rounds.specs.Reached.{Reached}
 use Rattle.line_rounds.proofs.Differ.{Splits}
 use Rattle.line_rounds.proofs.Early.{OnTime, stays_before}
-use Rattle.line_rounds.proofs.Walk.{NextFall, next_falls, quiet_sample, over_sampled, Reached, reach_next, known_next, known_unsampled, reported_more, Scene, step_on_time}
+use Rattle.line_rounds.proofs.Walk.{next_falls, quiet_sample, over_sampled, reach_next, known_next, known_unsampled, reported_more, Scene, step_on_time}
 use Rattle.line_rounds.proofs.Inside.{known_here, bits_here, bits_unsampled, stays_other, other_out, winner_low}
 
 -- ---- before a loser's stretch is over it is out

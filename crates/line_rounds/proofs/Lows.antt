@@ -7,7 +7,10 @@ use Rattle.line_wave.specs.declared.Stretch.{Stretch}
 use Rattle.line_wave.specs.Line.{line_of, covers, IsWaveFrom}
 use Rattle.line_wave.specs.Pulses.{AreFarApart, IsNarrow}
 use Rattle.line_wave.specs.Sender.{slot_stretches}
-use Rattle.line_rounds.proofs.Differ.{In, or_right}
+use Rattle.line_rounds.specs.Rests.{WavesAreWide}
+use Rattle.line_rounds.specs.Elements.{In}
+use Rattle.line_rounds.specs.Lays.{BeforeSlots}
+use Rattle.line_rounds.proofs.Differ.{or_right}
 
 -- a slot's stretch, by its bounds
 in_slot : (n : ℕ) (b : Bool) (t : ℕ) → n ≤ t → t < n + 600 → covers (record { from = n; to = n + (if b then 600 else 1500) }) t ≡ true
@@ -21,7 +24,7 @@ out_slot_low n false t (inl h) = grind (arith, nat_tests)
 out_slot_low n false t (inr h) = grind (arith, nat_tests)
 
 -- before the first slot
-pub before_slots : (bits : List Bool) (n t : ℕ) → t < n → line_of (slot_stretches n bits) t ≡ false
+pub before_slots : BeforeSlots
 before_slots [] n t h = refl
 before_slots (b ∷ bits) n t h = rw (out_slot_low n b t (inl h)) (before_slots bits (n + 2400) t (omega arith))
 
@@ -70,7 +73,7 @@ holds_other (b ∷ front) more less n t l h =
 -- ---- pulses
 
 -- those in order: each is a microsecond wide at least, and begins after the end of those before
-pub wave_wide : (from : ℕ) (ps : List Stretch) (p : Stretch) → IsWaveFrom from ps → In p ps → (from ≤ p.from) × (p.from < p.to)
+pub wave_wide : WavesAreWide
 wave_wide from [] p w h = absurd h
 wave_wide from (r ∷ rs) p w (inl e) =
     let f : p.from ≡ r.from = ap (λ (y : Stretch). y.from) e in

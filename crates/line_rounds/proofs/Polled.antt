@@ -22,11 +22,13 @@ use Rattle.line_reading.specs.Sending.{bit_read, destination, known_bits, is_who
 use Rattle.line_rounds.specs.Round.{holds_address, is_held, acknowledges, all_known, is_taken_up, fate_at_end, fate_by, fate_of, IsRoundLine}
 use Rattle.line_rounds.specs.Machine as Machine
 use Rattle.line_rounds.specs.Polls.{FreeIsRead, HoldersAreHeard}
+use Rattle.line_rounds.specs.Slots.{ReportedBits, IsReported, NextFall}
+use Rattle.line_rounds.specs.Reached.{Reached}
 use Rattle.line_rounds.proofs.Differ.{or_right}
 use Rattle.line_rounds.proofs.Early.{none_found, destination_more}
-use Rattle.line_rounds.proofs.Walk.{NextFall, next_falls, quiet_sample, Reached, reach_next}
+use Rattle.line_rounds.proofs.Walk.{next_falls, quiet_sample, reach_next}
 use Rattle.line_rounds.proofs.Law.{reached_start}
-use Rattle.line_rounds.proofs.Spans.{IsReported, AreReported, reading_spans}
+use Rattle.line_rounds.proofs.Spans.{reading_spans}
 use Rattle.line_rounds.proofs.Whole.{complete_last}
 use Rattle.line_rounds.proofs.Acks.{zero_here}
 use Rattle.line_rounds.proofs.Hold.{acks_known}
@@ -93,8 +95,7 @@ destination_frame b (c ∷ bs) = destination_byte b false (frame_bits (c ∷ bs)
 
 -- ---- all bits are reported in the end
 
-pub reported_bits : (t until : ℕ) (ss : List Slot) → AreReported until ss → until < t
-    → filter_map (λ (s : Slot). s.bit) (known_slots t ss) ≡ filter_map (λ (s : Slot). s.bit) ss
+pub reported_bits : ReportedBits
 reported_bits t until [] d l = refl
 reported_bits t until (x ∷ ss) d l =
     let f : nat_lt x.fall t ≡ true = grind (arith, nat_tests, d.0) in

@@ -1,44 +1,13 @@
 -- The wave of a line as it is recorded microsecond by microsecond.
-use Rattle.std.proofs.Common.{◌≡◌, ℕ, zero, suc, ◌+◌, ◌-◌, ◌<◌, ◌≤◌, Bool, true, false, not, ◌&&◌, ◌||◌, nat_lt, nat_le, List, [], ◌∷◌, ◌++◌, inl, inr, Option, Some, None, is_some, refl, arith, ap, ◌∙◌, sym}
+use Rattle.std.proofs.Common.{◌≡◌, ℕ, zero, suc, ◌+◌, ◌-◌, ◌<◌, ◌≤◌, Bool, true, false, not, ◌&&◌, ◌||◌, nat_lt, nat_le, List, [], ◌∷◌, ◌++◌, inl, inr, Some, None, refl, arith, ap, ◌∙◌, sym}
 use Rattle.std.proofs.lemmas.List.Folds.{list_any-append}
 use Rattle.std.proofs.lemmas.Bool.{cases_lt}
 use Rattle.std.proofs.lemmas.Bool.Decides.{nat_tests}
 use Rattle.line_wave.specs.declared.Stretch.{Stretch}
-use Rattle.line_wave.specs.Line.{Line, line_of, covers, was_low, is_fall, IsWave, IsWaveFrom}
-use Rattle.line_rounds.specs.Machine.{wave_after, low_since, IsReady}
+use Rattle.line_wave.specs.Line.{Line, line_of, covers, was_low, is_fall, IsWaveFrom}
+use Rattle.line_rounds.specs.Recorded.{NoLine, RecordIsReady, RecordStep, RecordFirst, EndBefore, AreFalls}
 
--- all of these end before an instant
-abbrev pub EndBefore : ℕ → List Stretch → Type 0
-EndBefore t [] = Unit {0}
-EndBefore t (s ∷ ss) = (s.to < t) × EndBefore t ss
-
--- the line falls where each of these begins
-abbrev pub AreFalls : Line → ℕ → List Stretch → Type 0
-AreFalls low t [] = Unit {0}
-AreFalls low t (s ∷ ss) = (s.from < t) × (is_fall low s.from ≡ true) × AreFalls low t ss
-
-abbrev pub lows : Option ℕ → ℕ → Bool
-lows None u = false
-lows (Some from) u = nat_le from u
-
-abbrev pub begun : Option ℕ → ℕ → ℕ
-begun None t = t
-begun (Some from) t = from
-
-abbrev pub IsBegun : Line → Option ℕ → ℕ → Type 0
-IsBegun low None t = Unit {0}
-IsBegun low (Some from) t = (from < t) × (is_fall low from ≡ true)
-
--- the line below t is this wave, and the stretch that is low still
-pub record Records (low : Line) (t : ℕ) (wave : List Stretch) (since : Option ℕ) : Type 0 where
-  pub same : (u : ℕ) → u < t → low u ≡ (line_of wave u || lows since u)
-  pub order : IsWave wave
-  pub ends : EndBefore (begun since t) wave
-  pub falls : AreFalls low t wave
-  pub begins : IsBegun low since t
-  pub was : was_low low t ≡ is_some since
-
-pub no_line : (t u : ℕ) (ss : List Stretch) → EndBefore t ss → t ≤ u → line_of ss u ≡ false
+pub no_line : NoLine
 no_line t u [] e l = refl
 no_line t u (s ∷ ss) e l = let x : covers s u ≡ false = (let h = e.0 in grind (arith, nat_tests)) in rw x (no_line t u ss e.1 l)
 
@@ -71,14 +40,14 @@ or_true true = refl
 or_true false = refl
 
 -- a stretch may be added where the line rises
-pub is_ready : (low : Line) (t : ℕ) (wave : List Stretch) (since : Option ℕ) → Records low t wave since → IsReady wave since t
+pub is_ready : RecordIsReady
 is_ready low t wave None r = tt
 is_ready low t wave (Some s) r = wave_push wave 0 s t r.order r.ends (omega arith) r.begins.0
 
 was_next : (low : Line) (t : ℕ) (b : Bool) → low t ≡ b → was_low low (t + 1) ≡ b
 was_next low t b h = ap (λ c. c && low (t + 1 - 1)) (let x : nat_lt 0 (t + 1) ≡ true = grind (arith, nat_tests) in x) ∙ ap low (let x : t + 1 - 1 ≡ t = omega arith in x) ∙ h
 
-pub record_step : (low : Line) (t : ℕ) (wave : List Stretch) (since : Option ℕ) (b : Bool) → Records low t wave since → low t ≡ b → Records low (t + 1) (wave_after wave since t b) (low_since since t b)
+pub record_step : RecordStep
 record_step low t wave None true r h = record {
   same = λ u l. elim (cases_lt u t) [
     | inl lt ↦ r.same u lt ∙ ap (λ c. line_of wave u || c) (let x : false ≡ nat_le t u = grind (arith, nat_tests) in x)
@@ -134,7 +103,7 @@ record_step low t wave (Some s) false r h = record {
     within u l false = refl
 
 -- nothing was low so far
-pub record_first : (low : Line) (t : ℕ) → ((u : ℕ) → u < t → low u ≡ false) → Records low t [] None
+pub record_first : RecordFirst
 record_first low t q = record { same = q; order = tt; ends = tt; falls = tt; begins = tt; was = by_time t q }
   where
     and_no : (b : Bool) → (b && false) ≡ false

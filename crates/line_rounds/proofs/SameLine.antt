@@ -15,10 +15,12 @@ use Rattle.line_rounds.specs.declared.Seat.{Seat}
 use Rattle.line_reading.specs.Sending.{out_slot, goes_on, sender_pulls}
 use Rattle.line_rounds.specs.Round.{frames_of, winning_frames, is_within, pulse_pulls, pulled_by, IsRoundLine}
 use Rattle.line_rounds.specs.Contend.{AreFrames, InWindow, IsContended, pulled_through, SameLine}
-use Rattle.line_rounds.proofs.Differ.{In, any_in, in_any, or_right}
+use Rattle.line_rounds.specs.Elements.{In}
+use Rattle.line_rounds.specs.Made.{BeginsSlot}
+use Rattle.line_rounds.proofs.Differ.{any_in, in_any, or_right}
 use Rattle.line_rounds.proofs.Early.{and_left, and_right}
 use Rattle.line_rounds.proofs.Law.{all_in, filtered, losers_inside, pulled_then, through_more, through_then}
-use Rattle.line_rounds.proofs.Falls.{BeginsSlot, is_no, sender_before, sender_begin, within_before}
+use Rattle.line_rounds.proofs.Falls.{is_no, sender_before, sender_begin, within_before}
 use Rattle.line_rounds.proofs.Lasting.{begun_by, contended, contended_by_winners}
 use Rattle.line_rounds.proofs.Window.{winners_window}
 use Rattle.line_rounds.proofs.Afterwards.{LateEnd, late_start, not_out}

@@ -9,41 +9,17 @@ use Rattle.line_frames.specs.declared.Ending.{Ending}
 use Rattle.line_frames.specs.declared.Ending.TheVariants.{Complete, Short, Long}
 use Rattle.line_reading.specs.Reading.After.{Next, Ends}
 use Rattle.line_reading.specs.Windows.{standard, sample_at}
-use Rattle.line_reading.specs.Reading.{next_fall, Read, Slot, known_slot, known_slots, reading_of, read_start, read_slots, read_on, read_then, after_slot, after_fall, after_last, last_ending, last_heard, sample, bit_sampled_at, start_of, After}
+use Rattle.line_reading.specs.Reading.{next_fall, Slot, known_slot, known_slots, reading_of, read_start, read_slots, read_on, read_then, after_slot, after_fall, after_last, last_ending, last_heard, sample, bit_sampled_at, start_of, After}
+use Rattle.line_rounds.specs.Slots.{ReadingSpans, BitsMore, ReportedAll, AreSpaced, IsReported, Spans, MoreBits}
 use Rattle.line_reading.proofs.Search.{found_first, found_none}
 use Rattle.line_rounds.proofs.Walk.{next_falls}
 use Rattle.line_rounds.proofs.Law.{start_falls}
 
 -- ---- how far a reading's slots are apart, and when they are told
 
--- each falls more than 1,050 after the one before, the first at `from` or later
-abbrev pub AreSpaced : ℕ → List Slot → Type 0
-AreSpaced from [] = Unit {0}
-AreSpaced from (s ∷ ss) = (from ≤ s.fall) × AreSpaced (s.fall + (sample_at + 1)) ss
-
 spaced_weaker : (ss : List Slot) (a b : ℕ) → b ≤ a → AreSpaced a ss → AreSpaced b ss
 spaced_weaker [] a b h s = tt
 spaced_weaker (x ∷ ss) a b h s = (omega (arith, s.0), s.1)
-
--- a bit that is sampled is sampled by `until`
-abbrev pub IsReported : ℕ → ℕ → Option Bool → Type 0
-IsReported until fall None = Unit {0}
-IsReported until fall (Some b) = fall + sample_at ≤ until
-
-abbrev pub AreReported : ℕ → List Slot → Type 0
-AreReported until [] = Unit {0}
-AreReported until (s ∷ ss) = (s.fall ≤ until) × IsReported until s.fall s.bit × AreReported until ss
-
-abbrev pub AreFalls : Line → List Slot → Type 0
-AreFalls low [] = Unit {0}
-AreFalls low (s ∷ ss) = (is_fall low s.fall ≡ true) × AreFalls low ss
-
-pub record Spans (low : Line) (from : ℕ) (r : Read) : Type 0 where
-  pub begun : from ≤ r.until
-  pub spaced : AreSpaced from r.slots
-  pub reported : AreReported r.until r.slots
-  pub falls : AreFalls low r.slots
-  pub short : r.ending ≡ Short → (is_fall low r.at ≡ true) × (r.until ≡ r.at)
 
 reported_by_time : (until e : ℕ) (o : Option Bool) → e + sample_at ≤ until → IsReported until e o
 reported_by_time until e None h = tt
@@ -134,7 +110,7 @@ spans_start low begin (Ok f) h =
     let r = spans low 160 [] f (start_falls low begin f h).fall in
     record { begun = omega arith; spaced = spaced_weaker (read_slots low 160 [] f).slots f 0 (omega arith) r.spaced; reported = r.reported; falls = r.falls; short = r.short }
 
-pub reading_spans : (low : Line) (begin : ℕ) → Spans low 0 (reading_of low begin)
+pub reading_spans : ReadingSpans
 reading_spans low begin = spans_start low begin (start_of low begin) refl
 
 -- ---- how long a reading is
@@ -166,11 +142,7 @@ bits_none : (u : ℕ) (ss : List Slot) (from : ℕ) → AreSpaced from ss → u 
 bits_none u [] from s h = refl
 bits_none u (x ∷ ss) from s h = let e : nat_lt x.fall u ≡ false = grind (arith, nat_tests, s.0) in rw e refl
 
--- what is known at t begins with what is known at u
-abbrev pub MoreBits : ℕ → ℕ → List Slot → Type 0
-MoreBits u t ss = (ys : List Bool) × (filter_map (λ (s : Slot). s.bit) (known_slots t ss) ≡ filter_map (λ (s : Slot). s.bit) (known_slots u ss) ++ ys)
-
-pub bits_more : (u t : ℕ) (ss : List Slot) (from : ℕ) → AreSpaced from ss → u ≤ t → MoreBits u t ss
+pub bits_more : BitsMore
 bits_more u t [] from s h = ([], refl)
 bits_more u t (x ∷ ss) from s h = by_fall (nat_lt x.fall u) refl (bits_more u t ss (x.fall + (sample_at + 1)) s.1 h)
   where
@@ -192,7 +164,7 @@ bits_more u t (x ∷ ss) from s h = by_fall (nat_lt x.fall u) refl (bits_more u 
     by_fall false f r = (filter_map (λ (y : Slot). y.bit) (known_slots t (x ∷ ss)), sym (rw f refl))
 
 -- after the ending nothing more is reported
-pub reported_all : (u t until : ℕ) (ss : List Slot) → AreReported until ss → until < u → u ≤ t → known_slots u ss ≡ known_slots t ss
+pub reported_all : ReportedAll
 reported_all u t until [] d l h = refl
 reported_all u t until (x ∷ ss) d l h =
     let f : nat_lt x.fall u ≡ true = grind (arith, nat_tests, d.0) in

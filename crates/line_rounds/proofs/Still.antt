@@ -15,17 +15,21 @@ use Rattle.line_reading.proofs.Ends.{until_by}
 use Rattle.line_rounds.specs.declared.Seat.{Seat}
 use Rattle.line_reading.specs.Sending.{goes_on, out_slot, sender_pulls}
 use Rattle.line_rounds.specs.Round.{frames_of, is_within, pulse_pulls, is_acknowledged, is_broken, is_pulled, IsRoundLine}
-use Rattle.line_rounds.proofs.Differ.{In, in_any}
+use Rattle.line_rounds.specs.Quiet.{HighBefore, PulseOnly, HighSparse, PulseOver}
+use Rattle.line_rounds.specs.Elements.{In}
+use Rattle.line_rounds.specs.Slots.{AreReported}
+use Rattle.line_rounds.specs.Follow.{AreDone}
+use Rattle.line_rounds.proofs.Differ.{in_any}
 use Rattle.line_rounds.proofs.Lows.{wave_apart}
 use Rattle.line_rounds.proofs.Lays.{before_start}
-use Rattle.line_rounds.proofs.Early.{AreDone, and_left, and_mid, and_right, no_acks, or_cases}
+use Rattle.line_rounds.proofs.Early.{and_left, and_mid, and_right, no_acks, or_cases}
 use Rattle.line_rounds.proofs.Law.{all_in}
-use Rattle.line_rounds.proofs.Spans.{AreReported, reading_spans}
+use Rattle.line_rounds.proofs.Spans.{reading_spans}
 use Rattle.line_reading.specs.Known.{nothing}
 
 -- ---- before the round
 
-pub high_before : (seats : List Seat) (begin : ℕ) (pulses : List Stretch) (low : Line) → IsRoundLine seats begin pulses low → (u : ℕ) → u < begin → low u ≡ false
+pub high_before : HighBefore
 unfolding nothing
 high_before seats begin pulses low line u l = by_low (low u) refl
   where
@@ -58,10 +62,6 @@ high_before seats begin pulses low line u l = by_low (low u) refl
 abbrev end_of : Read → End
 end_of r = record { ending = r.ending; at = r.at; until = r.until }
 
--- a pulse that lasts at u, of whose begin this is so
-abbrev pub PulseOver : List Stretch → ℕ → (ℕ → Type 0) → Type 0
-PulseOver pulses u P = (p : Stretch) × In p pulses × (covers p u ≡ true) × P p.from
-
 slots_done : (until u : ℕ) (ss : List Slot) → AreReported until ss → until + 1500 ≤ u → AreDone u (known_slots u ss)
 slots_done until u [] d l = tt
 slots_done until u (s ∷ ss) d l = rw (let f : nat_lt s.fall u ≡ true = grind (arith, nat_tests, d.0) in f) (omega (arith, d.0, l), slots_done until u ss d.2 l)
@@ -76,8 +76,7 @@ let_go seats low begin u l =
     rw acks (and_mid _ (nat_lt u ((reading_of low begin).at + 3600)) _ late)
 
 -- 3,600 after the ending only a pulse pulls: one that the round took, or one that touches a low line
-pub pulse_only : (seats : List Seat) (begin : ℕ) (pulses : List Stretch) (low : Line) → IsRoundLine seats begin pulses low
-    → (u : ℕ) → (reading_of low begin).at + 3600 ≤ u → low u ≡ true → PulseOver pulses u (λ from. (from ≤ (reading_of low begin).until) ⊎ (was_low low u ≡ true))
+pub pulse_only : PulseOnly
 pulse_only seats begin pulses low line u l h =
     elim (or_cases (list_any (pulse_pulls begin (Some e) (was_low low u) u) pulses) _ made) [
       | inl a ↦ (let r = in_any (pulse_pulls begin (Some e) (was_low low u) u) pulses a in
@@ -160,7 +159,6 @@ pub sparse_order : (pulses : List Stretch) → AreSparse pulses → IsWave pulse
 sparse_order pulses sparse = sparse_wave pulses sparse
 
 -- with sparse pulses 13,600 after the ending
-pub high_sparse : (seats : List Seat) (begin : ℕ) (pulses : List Stretch) (low : Line) → IsRoundLine seats begin pulses low → AreSparse pulses
-    → (u : ℕ) → (reading_of low begin).at + 13600 ≤ u → low u ≡ false
+pub high_sparse : HighSparse
 high_sparse seats begin pulses low line sparse u l =
     high_after seats begin pulses low line (sparse_order pulses sparse) u (omega (arith, l)) (λ p i e. let n : IsNarrow p = all_in IsNarrow pulses sparse.narrow p i in omega (arith, n.1, e, l))

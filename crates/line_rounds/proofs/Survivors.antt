@@ -14,8 +14,9 @@ use Rattle.line_reading.specs.Reading.{bits_of, next_fall, reading_of, read_star
 use Rattle.line_reading.specs.Sending.{bit_read, destination, is_whole, is_out_by, out_by}
 use Rattle.line_rounds.specs.Round.{all_known}
 use Rattle.line_rounds.specs.Contend.{CompleteIsSurvivors, HasBits, Stays, leaves}
+use Rattle.line_rounds.specs.Slots.{NextFall}
 use Rattle.line_rounds.proofs.Early.{leaves_more, none_found}
-use Rattle.line_rounds.proofs.Walk.{NextFall, next_falls, quiet_sample}
+use Rattle.line_rounds.proofs.Walk.{next_falls, quiet_sample}
 use Rattle.line_rounds.proofs.Window.{room_next}
 use Rattle.line_rounds.proofs.Whole.{complete_last, complete_quiet, has_whole}
 use Rattle.line_rounds.proofs.Polled.{all_bits}

@@ -11,15 +11,19 @@ use Rattle.line_frames.specs.declared.Ending.{Ending}
 use Rattle.line_frames.specs.declared.Ending.TheVariants.{Short}
 use Rattle.line_reading.specs.Reading.After.{Next, Ends}
 use Rattle.line_reading.specs.Windows.{standard, sample_at}
-use Rattle.line_reading.specs.Reading.{next_fall, Read, Slot, Known, reading_of, read_slots, read_on, read_then, after_slot, after_fall, after_last, last_ending, bit_sampled_at}
+use Rattle.line_reading.specs.Reading.{next_fall, Read, Slot, Known, read_slots, read_on, read_then, after_slot, after_fall, after_last, last_ending, bit_sampled_at}
 use Rattle.line_reading.proofs.Search.{found_first}
 pub use Rattle.line_reading.proofs.AlongBy.{quiet_sample, reported_more}
 use Rattle.line_reading.proofs.Causes.{known_in_slot}
 use Rattle.line_rounds.specs.declared.Seat.{Seat}
 use Rattle.line_rounds.specs.Round.{frames_of}
 use Rattle.line_rounds.specs.Contend.{IsContended, Stays}
-use Rattle.line_rounds.proofs.Differ.{In}
-use Rattle.line_rounds.proofs.Early.{AreDone, Reports, OnTime, falls_so, next_on_time}
+use Rattle.line_rounds.specs.Slots.{NextFalls, NextFall}
+use Rattle.line_rounds.specs.Elements.{In}
+use Rattle.line_rounds.specs.Begins.{Reports}
+use Rattle.line_rounds.specs.Follow.{AreDone}
+use Rattle.line_rounds.specs.Reached.{ReachNext, KnownUnsampled, AreOver, Reached}
+use Rattle.line_rounds.proofs.Early.{OnTime, falls_so, next_on_time}
 use Rattle.line_reading.specs.Known.{with_slots, AreSampled}
 
 slots_assoc : (xs : List Slot) (s : Slot) (r : Read) → with_slots (xs ++ s ∷ []) r ≡ with_slots xs (read_then s r)
@@ -27,14 +31,7 @@ slots_assoc xs s r = ap (λ (ys : List Slot). let q : Read = record { slots = ys
 
 -- ---- a slot and the next one
 
-pub record NextFall (low : Line) (e : ℕ) (bits : List Bool) (f : ℕ) : Type 0 where
-  pub last : last_ending bits ≡ None
-  pub fall : is_fall low f ≡ true
-  pub quiet : (u : ℕ) → e < u → u < f → is_fall low u ≡ false
-  pub near : f ≤ e + standard.bit_total.most
-  pub far : e + standard.bit_total.least ≤ f
-
-pub next_falls : (low : Line) (e : ℕ) (bits : List Bool) (f : ℕ) → after_slot low e (last_ending bits) ≡ Next f → NextFall low e bits f
+pub next_falls : NextFalls
 next_falls low e bits f h = by_last (last_ending bits) refl h
   where
     made : (g : ℕ) → last_ending bits ≡ None → next_fall low e standard.bit_total.most ≡ Some g → g ≡ f → nat_lt g (e + standard.bit_total.least) ≡ false → NextFall low e bits f
@@ -60,11 +57,6 @@ next_falls low e bits f h = by_last (last_ending bits) refl h
 
 -- ---- where the reading has come
 
--- these slots fell one after another before e
-abbrev pub AreOver : ℕ → List Slot → Type 0
-AreOver e [] = Unit {0}
-AreOver e (s ∷ ss) = (s.fall + standard.bit_total.least ≤ e) × AreOver e ss
-
 over_later : (e f : ℕ) (ss : List Slot) → e ≤ f → AreOver e ss → AreOver f ss
 over_later e f [] h o = tt
 over_later e f (s ∷ ss) h o = (omega (arith, o.0), over_later e f ss h o.1)
@@ -81,15 +73,7 @@ pub over_sampled : (e t : ℕ) (ss : List Slot) → e ≤ t → AreOver e ss →
 over_sampled e t [] h o = tt
 over_sampled e t (s ∷ ss) h o = (omega (arith, o.0), over_sampled e t ss h o.1)
 
--- the reading from `begin` has these slots, with these bits, and goes on with the slot that falls at e
-pub record Reached (low : Line) (begin left : ℕ) (xs : List Slot) (bits : List Bool) (e : ℕ) : Type 0 where
-  pub goes : with_slots xs (read_slots low left bits e) ≡ reading_of low begin
-  pub reported : filter_map (λ s. s.bit) xs ≡ bits
-  pub over : AreOver e xs
-
-pub reach_next : (low : Line) (begin left : ℕ) (xs : List Slot) (bits : List Bool) (e f : ℕ) → Reached low begin (suc left) xs bits e
-    → after_slot low e (last_ending bits) ≡ Next f → e + standard.bit_total.least ≤ f
-    → Reached low begin left (xs ++ record { fall = e; bit = bit_sampled_at low e } ∷ []) (bits ++ option_to_list (bit_sampled_at low e)) f
+pub reach_next : ReachNext
 unfolding read_slots
 reach_next low begin left xs bits e f r h far = record {
   goes = slots_assoc xs slot (read_slots low left (bits ++ option_to_list (bit_sampled_at low e)) f)
@@ -117,8 +101,7 @@ known_next low begin left xs bits e f t r n l m =
     no_some (Some x) h s = cc
 
 -- until the sample its bit is not
-pub known_unsampled : (low : Line) (begin left : ℕ) (xs : List Slot) (bits : List Bool) (e t : ℕ) → Reached low begin (suc left) xs bits e
-    → ((u : ℕ) → e < u → u < t → is_fall low u ≡ false) → e < t → t ≤ e + sample_at → Reports low begin t (xs ++ record { fall = e; bit = None } ∷ [])
+pub known_unsampled : KnownUnsampled
 known_unsampled low begin left xs bits e t r q l m =
     known_in_slot low begin t e left xs bits r.goes (over_sampled e t xs (omega arith) r.over) l q (omega arith) (λ s. m)
     ∙ ap (λ (c : Bool). let k : Known = record { slots = xs ++ record { fall = e; bit = if c then bit_sampled_at low e else None } ∷ []; ended = None } in k) no_

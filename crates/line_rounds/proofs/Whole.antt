@@ -21,10 +21,16 @@ use Rattle.line_rounds.specs.declared.Seat.{Seat}
 use Rattle.line_reading.specs.Sending.{bit_read, destination, is_out_by, out_slot, sender_pulls}
 use Rattle.line_rounds.specs.Round.{frames_of, winning_frames, pulse_pulls, is_acknowledged}
 use Rattle.line_rounds.specs.Contend.{CompleteIsWinners, HasBits, AreFrames, IsWinnersLine, leaves, pulled_through, Stays}
-use Rattle.line_rounds.proofs.Differ.{In, Least, is_least, compare_frames, split_before, in_any, or_right}
+use Rattle.line_rounds.specs.Elements.{In}
+use Rattle.line_rounds.specs.Least.{Least}
+use Rattle.line_rounds.specs.Slots.{NextFall}
+use Rattle.line_rounds.specs.Begins.{Reports}
+use Rattle.line_rounds.specs.Follow.{AreDone}
+use Rattle.line_rounds.specs.Reached.{Reached}
+use Rattle.line_rounds.proofs.Differ.{is_least, compare_frames, split_before, in_any, or_right}
 use Rattle.line_rounds.proofs.Lows.{far_apart}
-use Rattle.line_rounds.proofs.Early.{no_acks, AreDone, PulseAt, pulse_low, no_fall, leaves_more, Reports, OnTime, BeginsAt, sender_low, and_left, and_right, none_found, or_cases}
-use Rattle.line_rounds.proofs.Walk.{over_done, NextFall, next_falls, quiet_sample, Reached, reach_next, known_next, known_unsampled, reported_more, Scene, step_on_time}
+use Rattle.line_rounds.proofs.Early.{no_acks, PulseAt, pulse_low, no_fall, leaves_more, OnTime, BeginsAt, sender_low, and_left, and_right, none_found, or_cases}
+use Rattle.line_rounds.proofs.Walk.{over_done, next_falls, quiet_sample, reach_next, known_next, known_unsampled, reported_more, Scene, step_on_time}
 use Rattle.line_rounds.proofs.Law.{start_falls, not_before, not_true, least_of, in_filter, all_in, known_start, reached_start, on_time_start}
 use Rattle.line_rounds.proofs.Lasting.{contended_by_winners}
 use Rattle.line_rounds.proofs.SameLine.{same_line}

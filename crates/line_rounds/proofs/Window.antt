@@ -18,8 +18,10 @@ use Rattle.line_rounds.specs.declared.Seat.{Seat}
 use Rattle.line_reading.specs.Sending.{bit_read, destination, out_slot}
 use Rattle.line_rounds.specs.Round.{frames_of, winning_frames}
 use Rattle.line_rounds.specs.Contend.{WinnersWindow, InWindow, leaves, Stays}
+use Rattle.line_rounds.specs.Slots.{NextFall}
+use Rattle.line_rounds.specs.Reached.{Reached}
 use Rattle.line_rounds.proofs.Early.{OnTime, stays_before}
-use Rattle.line_rounds.proofs.Walk.{NextFall, next_falls, quiet_sample, over_sampled, Reached, reach_next, Scene, step_on_time}
+use Rattle.line_rounds.proofs.Walk.{next_falls, quiet_sample, over_sampled, reach_next, Scene, step_on_time}
 use Rattle.line_rounds.proofs.Inside.{stays_by}
 use Rattle.line_rounds.proofs.Law.{in_at, in_filter, all_in, reached_start, on_time_start}
 use Rattle.line_frames.proofs.Slots.{length-frame_bits, eom_slot}

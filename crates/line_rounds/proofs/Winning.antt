@@ -10,7 +10,7 @@ use Rattle.line_reading.specs.Reading.{bits_of, reading_of}
 use Rattle.line_rounds.specs.Round.{frames_of, winning_frames}
 use Rattle.line_rounds.specs.Contend.{HasBits}
 use Rattle.line_rounds.specs.Winning.{CompleteIsRead}
-use Rattle.line_rounds.proofs.Differ.{In}
+use Rattle.line_rounds.specs.Elements.{In}
 use Rattle.line_rounds.proofs.Law.{all_in, in_at, in_filter}
 use Rattle.line_rounds.proofs.Whole.{complete_is_winners}
 

@@ -96,10 +96,12 @@ mod laws;
 mod recorder;
 
 pub use laws::{
-    acknowledged_is_zero, acknowledgers_hold, alike_pulses, complete_is_read,
-    complete_is_survivors, complete_is_winners, falls_are_read, fates_reported, few_falls,
-    free_is_read, has_line, holders_are_heard, later_pulses, losers_inside, one_line, one_outcome,
-    round_below, rounds_are_lone, rounds_are_short, rounds_have_outcomes, rounds_last, same_line,
-    winners_last, winners_window,
+    acknowledged_is_zero, acknowledgers_hold, alike_pulses, bits_come_in_order, complete_is_read,
+    complete_is_survivors, complete_is_winners, falls_are_begins, falls_are_read, fates_reported,
+    few_falls, followers_let_go, free_is_read, has_line, holders_are_heard, later_pulses,
+    least_frames_are_there, losers_inside, more_bits_change_nothing, one_line, one_outcome,
+    readings_go_slot_by_slot, rests_are_last, round_below, rounds_are_contended, rounds_are_lone,
+    rounds_are_quiet, rounds_are_short, rounds_have_outcomes, rounds_last, same_line,
+    senders_pull_slot_by_slot, slots_are_apart, waves_are_recorded, winners_last, winners_window,
 };
 pub use recorder::Recorder;

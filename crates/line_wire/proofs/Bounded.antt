@@ -1,7 +1,7 @@
 -- How late a wire may still have something to hear.
 use Rattle.std.proofs.Common.{◌≡◌, ℕ, ◌+◌, ◌-◌, ◌<◌, ◌≤◌, Bool, true, false, not, ◌&&◌, nat_lt, nat_le, ◌⊎◌, inl, inr, List, [], ◌++◌, append-nil, Option, Some, None, is_some, refl, arith, ap, ◌∙◌, sym, subst}
 use Rattle.std.specs.List.{All}
-use Rattle.std.proofs.lemmas.Bool.{cases_lt}
+use Rattle.std.proofs.lemmas.Bool.{cases_lt, and_parts}
 use Rattle.std.proofs.lemmas.Bool.Decides.{nat_tests}
 use Rattle.line_wave.specs.declared.Stretch.{Stretch}
 use Rattle.line_wave.specs.Line.{Line, covers, IsWave}
@@ -13,7 +13,6 @@ use Rattle.line_rounds.specs.declared.Seat.{Seat}
 use Rattle.line_wire.specs.declared.reading.Ended.{Ended as Ending_kept}
 use Rattle.line_rounds.specs.Round.{IsRoundLine}
 use Rattle.line_rounds.proofs.Bounds.{rounds_are_short}
-use Rattle.line_rounds.proofs.Early.{and_right}
 use Rattle.line_rounds.proofs.Law.{all_in}
 use Rattle.line_rounds.proofs.Still.{high_sparse, pulse_only}
 use Rattle.line_wire.specs.declared.edge_wire.EdgeWire.{EdgeWire}
@@ -57,7 +56,7 @@ low_soon : (past : List Stretch) (w : EdgeWire) → IsBegunWith past w → (u : 
 low_soon past w b u l h =
     let p = low_by_pull w.seats.items w.begin (past ++ []) (line_of_past past w) (past_round past w) EndsInTime (subst (λ (ps : List Stretch). All EndsInTime ps) (sym (append-nil past)) b.ends) u l h in
     let e : p.0.to < latest_heard = p.1 in
-    let c : nat_lt u p.0.to ≡ true = and_right (nat_le p.0.from u) (nat_lt u p.0.to) p.2 in
+    let c : nat_lt u p.0.to ≡ true = (and_parts (nat_le p.0.from u) (nat_lt u p.0.to) p.2).1 in
     let d : u < p.0.to = grind (arith, nat_tests) in
     omega (arith, d, e)
 
@@ -85,7 +84,7 @@ still past w b goes late = by_kept (kept_end w.ended)
 
 -- the line was low, and where it is to be low it is
 was_then : (past : List Stretch) (w : EdgeWire) → IsBegunWith past w → w.begin < w.time → is_low_in w ≡ true → line_of_past past w (w.time - 1) ≡ true
-was_then past w b after h = and_right (nat_lt 0 w.time) (line_of_past past w (w.time - 1)) ((stands_past past w b after).records.was ∙ h)
+was_then past w b after h = (and_parts (nat_lt 0 w.time) (line_of_past past w (w.time - 1)) ((stands_past past w b after).records.was ∙ h)).1
 
 pub goes_near : (past : List Stretch) (w : EdgeWire) → IsBegunWith past w → is_silent_in w ≡ false → w.time < latest_heard
 goes_near past w b goes = elim (cases_lt (w.begin + 470000) w.time) [

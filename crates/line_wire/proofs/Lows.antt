@@ -27,8 +27,8 @@ use Rattle.line_reading.proofs.Sent.{pulls_so}
 use Rattle.line_rounds.specs.declared.Seat.{Seat}
 use Rattle.line_rounds.specs.Round.{frames_of, is_within, pulse_pulls, is_acknowledged, is_broken, pulled_by, IsRoundLine}
 use Rattle.line_rounds.specs.Machine.{acks_until, sends_after}
+use Rattle.line_rounds.specs.Reached as wire
 use Rattle.line_rounds.proofs.Holding.{acks_now}
-use Rattle.line_rounds.proofs.Walk as wire
 use Rattle.line_wire.specs.Listening.{IsReadOnce, AreSenders, AreSending, SendsFor, IsSending}
 use Rattle.line_wire.specs.Line.{last_of, HaveBegun}
 use Rattle.line_wire.specs.Pulls.{pull_in, until_of, takes_last, low_in, due_in, is_on, IsHeld, held_in, Stands}

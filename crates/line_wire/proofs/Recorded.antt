@@ -7,6 +7,7 @@ use Rattle.line_wave.specs.Bounds.{most_stretches}
 use Rattle.line_rounds.specs.declared.Seat.{Seat}
 use Rattle.line_rounds.specs.Machine.{wave_after, low_since, IsReady}
 use Rattle.line_rounds.specs.Round.{IsRoundLine}
+use Rattle.line_rounds.specs.Recorded as recorded
 use Rattle.line_rounds.proofs.Records as recorder
 use Rattle.line_wire.specs.Wired.{Records}
 use Rattle.line_wire.proofs.Room.{room_is_left}
@@ -14,31 +15,31 @@ use Rattle.line_wire.proofs.Told.{high_before}
 
 -- ---- the same record in two ways
 
-pub ends_to : (t : ℕ) (ss : List Stretch) → All (λ s. s.to < t) ss → recorder.EndBefore t ss
+pub ends_to : (t : ℕ) (ss : List Stretch) → All (λ s. s.to < t) ss → recorded.EndBefore t ss
 ends_to t [] h = tt
 ends_to t (s ∷ ss) h = (h 0 s (omega arith), ends_to t ss (λ k d l. h (suc k) d (omega (arith, l))))
 
-ends_of : (t : ℕ) (ss : List Stretch) → recorder.EndBefore t ss → All (λ s. s.to < t) ss
+ends_of : (t : ℕ) (ss : List Stretch) → recorded.EndBefore t ss → All (λ s. s.to < t) ss
 ends_of t [] h i d l = absurd (omega (arith, l))
 ends_of t (s ∷ ss) h zero d l = h.0
 ends_of t (s ∷ ss) h (suc i) d l = ends_of t ss h.1 i d (omega (arith, l))
 
-falls_to : (low : Line) (from end t : ℕ) (ss : List Stretch) → end ≤ t → IsWaveFrom from ss → All (λ s. s.to < end) ss → All (λ s. is_fall low s.from ≡ true) ss → recorder.AreFalls low t ss
+falls_to : (low : Line) (from end t : ℕ) (ss : List Stretch) → end ≤ t → IsWaveFrom from ss → All (λ s. s.to < end) ss → All (λ s. is_fall low s.from ≡ true) ss → recorded.AreFalls low t ss
 falls_to low from end t [] m w e f = tt
 falls_to low from end t (s ∷ ss) m w e f =
     ((let x = e 0 s (omega arith) in omega (arith, x, w.1, m)), f 0 s (omega arith), falls_to low (s.to + 1) end t ss m w.2 (λ k d l. e (suc k) d (omega (arith, l))) (λ k d l. f (suc k) d (omega (arith, l))))
 
-falls_of : (low : Line) (t : ℕ) (ss : List Stretch) → recorder.AreFalls low t ss → All (λ s. is_fall low s.from ≡ true) ss
+falls_of : (low : Line) (t : ℕ) (ss : List Stretch) → recorded.AreFalls low t ss → All (λ s. is_fall low s.from ≡ true) ss
 falls_of low t [] h i d l = absurd (omega (arith, l))
 falls_of low t (s ∷ ss) h zero d l = h.1
 falls_of low t (s ∷ ss) h (suc i) d l = falls_of low t ss h.2 i d (omega (arith, l))
 
-to_old : (low : Line) (t : ℕ) (wave : List Stretch) (since : Option ℕ) → Records low t wave since → recorder.Records low t wave since
+to_old : (low : Line) (t : ℕ) (wave : List Stretch) (since : Option ℕ) → Records low t wave since → recorded.Records low t wave since
 to_old low t wave None r = record { same = r.same; order = r.order; ends = ends_to t wave r.ends; falls = falls_to low 0 t t wave (omega arith) r.order r.ends r.falls; begins = tt; was = r.was }
 to_old low t wave (Some s) r =
     record { same = r.same; order = r.order; ends = ends_to s wave r.ends; falls = falls_to low 0 s t wave (omega (arith, r.begins.0)) r.order r.ends r.falls; begins = r.begins; was = r.was }
 
-of_old : (low : Line) (t : ℕ) (wave : List Stretch) (since : Option ℕ) → recorder.Records low t wave since → Records low t wave since
+of_old : (low : Line) (t : ℕ) (wave : List Stretch) (since : Option ℕ) → recorded.Records low t wave since → Records low t wave since
 of_old low t wave None r = record { same = r.same; order = r.order; ends = ends_of t wave r.ends; falls = falls_of low t wave r.falls; begins = tt; was = r.was }
 of_old low t wave (Some s) r = record { same = r.same; order = r.order; ends = ends_of s wave r.ends; falls = falls_of low t wave r.falls; begins = r.begins; was = r.was }
 

@@ -1,12 +1,11 @@
 -- How many stretches a line of one reading has.
 use Rattle.std.proofs.Common.{◌≡◌, ℕ, zero, suc, ◌+◌, ◌≤◌, true, false, not, List, [], ◌∷◌, length, map, inl, inr, refl, arith, ap, ◌∙◌, sym, Bool}
 use Rattle.std.specs.List.{All}
-use Rattle.std.proofs.lemmas.Bool.{cases_lt}
+use Rattle.std.proofs.lemmas.Bool.{cases_lt, and_parts}
 use Rattle.line_wave.specs.declared.Stretch.{Stretch}
 use Rattle.line_wave.specs.Line.{Line, is_fall, was_low, IsWave, IsWaveFrom}
 use Rattle.line_reading.specs.Reading.{reading_of}
 use Rattle.line_rounds.specs.Falls.{AreRisingFrom}
-use Rattle.line_rounds.proofs.Early.{and_left}
 use Rattle.line_rounds.proofs.AnyFalls.{falls_are_read}
 use Rattle.line_rounds.specs.Round.{IsRoundLine}
 use Rattle.line_rounds.specs.declared.Seat.{Seat}
@@ -15,7 +14,7 @@ use Rattle.line_wire.proofs.Told.{round_is_lone}
 
 after_begin : (low : Line) (begin u : ℕ) → IsLone low begin → is_fall low u ≡ true → begin ≤ u
 after_begin low begin u lone f = elim (cases_lt u begin) [
-  | inl lt ↦ (let x : true ≡ false = sym (and_left (low u) (not (was_low low u)) f) ∙ lone.before u lt in cc)
+  | inl lt ↦ (let x : true ≡ false = sym (and_parts (low u) (not (was_low low u)) f).0 ∙ lone.before u lt in cc)
   | inr ge ↦ ge
 ]
 

@@ -4,10 +4,12 @@ use Rattle.std.specs.List.{list_any, All}
 use mathlib.Core.Bool.{beq}
 use Rattle.std.proofs.lemmas.Bool.{cases_lt}
 use Rattle.line_wave.specs.declared.Stretch.{Stretch}
-use Rattle.line_wave.specs.Line.{was_low, IsWave}
+use Rattle.line_wave.specs.Line.{Line, was_low, IsWave}
 use Rattle.line_wave.specs.Bounds.{latest_heard}
 use Rattle.line_wave.specs.Sender.{first_slot}
-pub use Rattle.line_rounds.proofs.Exists.{made_line, made_round}
+use Rattle.line_rounds.proofs.Exists.{has_line}
+use Rattle.line_rounds.specs.declared.Seat.{Seat}
+use Rattle.line_rounds.specs.Round.{IsRoundLine}
 use Rattle.line_wire.specs.declared.edge_wire.EdgeWire.{EdgeWire}
 use Rattle.line_wire.specs.declared.senders.Pull.{Pull}
 use Rattle.line_wire.specs.Line.{HaveBegun}
@@ -22,6 +24,14 @@ use Rattle.line_wire.proofs.Recorded.{records_calm}
 use Rattle.line_wire.proofs.Told.{told_is_read}
 use Rattle.line_wire.proofs.UpTo.{between}
 use Rattle.line_wire.proofs.Lows.{wakes_ahead}
+
+-- the line of a round
+pub made_line : List Seat → ℕ → List Stretch → Line
+made_line seats begin pulses = (has_line seats begin pulses).0
+
+pub made_round : (seats : List Seat) (begin : ℕ) (pulses : List Stretch) → IsRoundLine seats begin pulses (made_line seats begin pulses)
+unfolding made_line
+made_round seats begin pulses = (has_line seats begin pulses).1
 
 pub later_sooner : (a b : ℕ) (ps : List Stretch) → a ≤ b → All (λ p. b ≤ p.from) ps → All (λ p. a ≤ p.from) ps
 later_sooner a b ps l h i d m = let x = h i d m in omega (arith, x)

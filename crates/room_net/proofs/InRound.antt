@@ -1,12 +1,12 @@
 -- A round that is taken edge by edge: the wire on which it goes, and the pulses that it is handed.
-use Rattle.std.proofs.Common.{◌≡◌, ℕ, zero, ◌-◌, ◌<◌, ◌≤◌, Bool, true, false, nat_lt, if◌then◌else◌, List, [], ◌++◌, take, drop, length, slice_get, Option, Some, None, MatchOption, is_some, refl, arith, ap, ◌∙◌, sym, subst}
+use Rattle.std.proofs.Common.{◌≡◌, ℕ, zero, suc, ◌+◌, ◌-◌, ◌<◌, ◌≤◌, Bool, true, false, nat_lt, if◌then◌else◌, List, [], ◌∷◌, ◌++◌, take, drop, length, slice_get, Option, Some, None, IfSome, MatchOption, is_some, refl, arith, ap, ◌∙◌, sym, subst}
 use Rattle.std.specs.List.{All}
 use Rattle.std.specs.Option.{option_map}
 use Rattle.std.proofs.lemmas.Bool.Decides.{nat_tests}
 use Rattle.std.proofs.lemmas.List.{length-map, take-append-drop}
 use Rattle.line_wave.specs.declared.Stretch.{Stretch}
 use Rattle.line_wave.specs.declared.Edge.{Edge}
-use Rattle.line_wave.specs.Line.{Line, IsWave}
+use Rattle.line_wave.specs.Line.{Line, IsWave, IsWaveFrom}
 use Rattle.line_wave.specs.Bounds.{latest_instant}
 use Rattle.line_reading.specs.Phase.{Standing, at_rest, standing_of}
 use Rattle.line_reading.specs.declared.receiver.Receiver.{Receiver}
@@ -24,7 +24,6 @@ use Rattle.line_rounds.proofs.Lasting.{begun_by, contended, low_at_begin}
 use Rattle.line_wire.specs.declared.edge_wire.EdgeWire.{EdgeWire}
 use Rattle.line_wave.specs.Pulls.{AreTimely}
 use Rattle.line_wire.specs.Wired.{ArePulls, EachOf, IsBegunWith, IsReceiverIn, IsRoundOf, SameRound, is_silent_in}
-use Rattle.line_wire.proofs.Rounding.{late_place}
 use Rattle.device_core.specs.State.{State}
 use Rattle.edid_tree.specs.Node.{Node}
 use Rattle.room_net.specs.State.{NetState, next_start}
@@ -61,6 +60,17 @@ pub round_on : (ps : List Stretch) (w : EdgeWire) (o : Outcome) → Takes ps w �
 round_on ps w o h r =
     subst (λ (qs : List Stretch). IsRound w.seats.items w.begin qs o) (sym (all_of ps w)) (r (drop w.begun ps) (subst (λ (qs : List Stretch). IsWave qs) (all_of ps w) h.pulls.wave) (left_late ps w h))
 
+later_all : (t n : ℕ) (ss : List Stretch) → t ≤ n → IsWaveFrom n ss → All (λ p. t ≤ p.from) ss
+later_all t n [] l w i d m = absurd (omega (arith, m))
+later_all t n (s ∷ ss) l w zero d m = omega (arith, l, w.0)
+later_all t n (s ∷ ss) l w (suc i) d m = later_all t (s.to + 1) ss (omega (arith, l, w.0, w.1)) w.2 i d (omega (arith, m))
+
+-- where the first of them begins at t or later, all of them do
+late_all : (t : ℕ) (ss : List Stretch) → IsWave ss → IfSome (slice_get ss 0) (λ p. t ≤ p.from) → All (λ p. t ≤ p.from) ss
+late_all t [] w l i d m = absurd (omega (arith, m))
+late_all t (s ∷ ss) w l zero d m = l
+late_all t (s ∷ ss) w l (suc i) d m = later_all t (s.to + 1) ss (omega (arith, l, w.1)) w.2 i d (omega (arith, m))
+
 -- as the round begins none has begun
 pub takes_first : (s : NetState) (begin : ℕ) (w : EdgeWire) → AreTimely s.pulses → next_start s ≡ Some begin → IsBegunWith [] w → w.begin ≡ begin → w.time ≡ begin → Takes s.pulses w
 takes_first s begin w timely next b begins time = record {
@@ -70,7 +80,7 @@ takes_first s begin w timely next b begins time = record {
     ends = timely.ends;
     begun = sym none ∙ ap (λ (k : ℕ). take k s.pulses) (ap (λ (ps : List Stretch). length ps) none);
     later = subst (λ (k : ℕ). All (λ (p : Stretch). w.time ≤ p.from) (drop k s.pulses)) (ap (λ (ps : List Stretch). length ps) none)
-        (subst (λ (u : ℕ). All (λ (p : Stretch). u ≤ p.from) s.pulses) (sym time) (late_place begin 0 s.pulses (slice_get s.pulses 0) refl timely.order (late_start s begin next)));
+        (subst (λ (u : ℕ). All (λ (p : Stretch). u ≤ p.from) s.pulses) (sym time) (late_all begin s.pulses timely.order (late_start s begin next)));
   };
 }
   where

@@ -17,8 +17,8 @@ use Rattle.line_rounds.specs.declared.Outcome.{Outcome}
 use Rattle.line_rounds.specs.Round.{frames_of, close_in}
 use Rattle.line_rounds.specs.Lasting.{is_begun}
 use Rattle.line_rounds.specs.Alone.{part_of, outcome_listed}
+use Rattle.line_rounds.specs.Elements.{In}
 use Rattle.line_rounds.proofs.Alone.{rounds_are_lone}
-use Rattle.line_rounds.proofs.Differ.{In}
 use Rattle.line_rounds.proofs.Law.{all_in, in_filter}
 use Rattle.room_event.specs.declared.event.Event.{Event}
 use Rattle.room_net.specs.Start.{sooner, least_start, first_onset}

@@ -1,6 +1,6 @@
 -- Why a round's pulses are those that it drops.
 use Rattle.std.proofs.Common.{◌≡◌, ℕ, zero, suc, ◌+◌, ◌-◌, ◌<◌, ◌≤◌, Bool, true, false, ◌||◌, nat_lt, nat_le, if◌then◌else◌, List, [], ◌∷◌, ◌⊎◌, inl, inr, Some, None, refl, sym, ap, ◌∙◌, subst, arith}
-use Rattle.std.specs.List.{fold}
+use Rattle.std.specs.List.{All, fold}
 use Rattle.std.proofs.lemmas.Bool.{cases_lt}
 use Rattle.std.proofs.lemmas.Bool.Decides.{nat_tests}
 use Rattle.line_wave.specs.declared.Stretch.{Stretch}
@@ -8,9 +8,9 @@ use Rattle.line_wave.specs.Line.{line_of, covers, was_low, IsWave}
 use Rattle.line_reading.specs.Reading.{known_at, reading_of}
 use Rattle.line_rounds.specs.declared.Outcome.{Outcome}
 use Rattle.line_rounds.specs.Round.{is_within, pulse_pulls}
-use Rattle.line_rounds.proofs.Alone.{rounds_are_lone, in_all}
-use Rattle.line_rounds.proofs.Differ.{In, any_in}
-use Rattle.line_rounds.proofs.OneOutcome.{covers_own}
+use Rattle.line_rounds.specs.Elements.{In}
+use Rattle.line_rounds.proofs.Alone.{rounds_are_lone}
+use Rattle.line_rounds.proofs.Differ.{any_in}
 use Rattle.room_net.specs.State.{NetState}
 use Rattle.room_net.specs.Step.{seats_of}
 use Rattle.room_net.specs.Framed.{AreFramed}
@@ -19,6 +19,15 @@ use Rattle.room_net.specs.Taken.{IsOn, IsAfter, RoundsTakePulses}
 use Rattle.room_net.proofs.Framed.{seats_fit}
 use Rattle.room_net.proofs.Lines.{begun, begins_by}
 use Rattle.room_net.proofs.Progress.{or_true, true_or}
+
+-- a stretch is low in itself
+covers_own : (s : Stretch) (t : ℕ) → s.from ≤ t → t < s.to → covers s t ≡ true
+covers_own s t h k = grind (arith, nat_tests)
+
+in_all : {X : Type 0} (P : X → Type 0) (xs : List X) → ((x : X) → In x xs → P x) → All P xs
+in_all P [] h i d l = absurd (omega (arith, l))
+in_all P (x ∷ xs) h zero d l = h x (inl refl)
+in_all P (x ∷ xs) h (suc k) d l = in_all P xs (λ y i. h y (inr i)) k d (omega (arith, l))
 
 -- ---- the rest is the end of a stretch that begins by then
 

@@ -22,11 +22,15 @@ use Rattle.line_rounds.specs.declared.Outcome.{Outcome}
 use Rattle.line_rounds.specs.Round.{IsRound, IsRoundLine, frames_of, is_acknowledged, is_broken, losers_from, rest_of, survivors_from}
 use Rattle.line_rounds.specs.Contend.{AreFrames}
 use Rattle.line_rounds.specs.Lasting.{is_begun}
-use Rattle.line_rounds.proofs.Differ.{In, Least, is_least}
+use Rattle.line_rounds.specs.Elements.{In}
+use Rattle.line_rounds.specs.Least.{Least}
+use Rattle.line_rounds.specs.Slots.{NextFall}
+use Rattle.line_rounds.specs.Reached.{Reached}
+use Rattle.line_rounds.proofs.Differ.{is_least}
 use Rattle.line_rounds.proofs.Lows.{before_slots}
 use Rattle.line_rounds.proofs.Lays.{start_at, before_start, after_start}
 use Rattle.line_rounds.proofs.Early.{sender_low}
-use Rattle.line_rounds.proofs.Walk.{NextFall, next_falls, Reached, reach_next}
+use Rattle.line_rounds.proofs.Walk.{next_falls, reach_next}
 use Rattle.line_rounds.proofs.Law.{all_in, least_of, reached_start}
 use Rattle.line_rounds.proofs.Lasting.{begun_by, contended, low_at_begin}
 use Rattle.line_rounds.proofs.Afterwards.{no_fall_after}

@@ -30,7 +30,7 @@ use Rattle.line_rounds.specs.Alone.{outcome_listed, part_of}
 use Rattle.line_rounds.specs.Lasting.{is_begun}
 use Rattle.line_rounds.proofs.Alone.{rounds_are_lone}
 use Rattle.line_rounds.proofs.Lays.{after_start, slot_at}
-pub use Rattle.line_rounds.proofs.Differ.{In}
+pub use Rattle.line_rounds.specs.Elements.{In}
 use Rattle.room_net.specs.State.{NetState, next_start}
 use Rattle.room_net.specs.Start.{first_onset, least_start, sooner}
 use Rattle.room_net.specs.Apply.{net_after}

@@ -2,7 +2,7 @@
 use Rattle.std.proofs.Common.{◌≡◌, ◌≢◌, ℕ, zero, suc, ◌+◌, ◌-◌, ◌*◌, ◌%◌, ◌==◌, ◌<◌, ◌≤◌, Bool, true, false, not, ◌&&◌, ◌||◌, nat_lt, if◌then◌else◌, List, [], ◌∷◌, ◌++◌, length, length-append, append-nil, slice_index_or, slice_get, ◌⊎◌, inl, inr, Option, Some, None, is_none, IsSome, refl, arith, ap, ◌∙◌, sym, subst}
 use Rattle.std.specs.List.{list_any, filter_map}
 use Rattle.std.proofs.Math.Seq.{get_or-append_seam}
-use Rattle.std.proofs.lemmas.Bool.{cases_lt, false≢true}
+use Rattle.std.proofs.lemmas.Bool.{cases_lt, false≢true, or_cases, or_right, and_parts}
 use Rattle.std.proofs.lemmas.Bool.Decides.{nat_tests}
 use Rattle.std.proofs.lemmas.Option.{get_or_from_slice_get}
 use Rattle.line_wave.specs.Line.{Line, line_of, was_low, is_fall}
@@ -18,19 +18,24 @@ use Rattle.line_reading.specs.Reading.{next_fall, Slot, End, Known, known_at, kn
 use Rattle.line_reading.specs.Sending.{bit_read, out_slot, sender_pulls, goes_on}
 use Rattle.line_reading.proofs.Search.{first_in_none}
 use Rattle.line_reading.proofs.Causes.{known_front, late_read, known_in_slot}
+use Rattle.line_reading.proofs.AlongBy.{quiet_sample, reported_more}
 use Rattle.line_rounds.specs.declared.Seat.{Seat}
 use Rattle.line_rounds.specs.Round.{IsRoundLine, frames_of, is_acknowledged, is_broken, winning_frames}
 use Rattle.line_rounds.specs.Contend.{AreFrames, pulled_through, Stays}
 use Rattle.line_rounds.specs.Machine.{acks_until}
-use Rattle.line_rounds.proofs.Differ.{In, in_any, or_right}
+use Rattle.line_rounds.specs.Elements.{In}
+use Rattle.line_rounds.specs.Begins.{Reports}
+use Rattle.line_rounds.specs.Made.{FallBy}
+use Rattle.line_rounds.specs.Reached.{Reached}
+use Rattle.line_rounds.proofs.Differ.{in_any}
 use Rattle.line_rounds.proofs.Lays.{slot_or_none, after_start}
-use Rattle.line_rounds.proofs.Early.{or_cases, and_left, and_right, leaves_more, no_acks, sender_low, Reports}
-use Rattle.line_rounds.proofs.Walk.{over_sampled, quiet_sample, Reached, known_unsampled, reported_more}
+use Rattle.line_rounds.proofs.Early.{leaves_more, no_acks, sender_low}
+use Rattle.line_rounds.proofs.Walk.{over_sampled, known_unsampled}
 use Rattle.line_rounds.proofs.Inside.{stays_by, known_here}
 use Rattle.line_rounds.proofs.Law.{in_filter}
 use Rattle.line_rounds.proofs.Holding.{acks_now, done_by}
 use Rattle.line_rounds.proofs.Lasting.{contended}
-use Rattle.line_rounds.proofs.Falls.{round_fall_by, FallBy}
+use Rattle.line_rounds.proofs.Falls.{round_fall_by}
 use Rattle.line_rounds.proofs.SameLine.{same_line}
 use Rattle.line_reading.specs.Known.{nothing}
 
@@ -121,13 +126,13 @@ pub puller : (seats : List Seat) (begin t : ℕ) (k : Known) → list_any (sende
 puller seats begin t k h =
     let w = in_any (sender_pulls begin k t) (winning_frames seats) h in
     let i = in_filter (least_among (frames_of seats)) (frames_of seats) w.0 w.1 in
-    let rest : (is_none (out_slot k (frame_bits w.0)) && goes_on k.ended t) ≡ true = and_right (line_of (sender_stretches begin (frame_bits w.0)) t) (is_none (out_slot k (frame_bits w.0)) && goes_on k.ended t) w.2 in
+    let rest : (is_none (out_slot k (frame_bits w.0)) && goes_on k.ended t) ≡ true = (and_parts (line_of (sender_stretches begin (frame_bits w.0)) t) (is_none (out_slot k (frame_bits w.0)) && goes_on k.ended t) w.2).1 in
     record {
       frame = w.0;
       among = i.0;
       least = i.1;
-      low = and_left (line_of (sender_stretches begin (frame_bits w.0)) t) (is_none (out_slot k (frame_bits w.0)) && goes_on k.ended t) w.2;
-      goes = no_option (out_slot k (frame_bits w.0)) (and_left (is_none (out_slot k (frame_bits w.0))) (goes_on k.ended t) rest);
+      low = (and_parts (line_of (sender_stretches begin (frame_bits w.0)) t) (is_none (out_slot k (frame_bits w.0)) && goes_on k.ended t) w.2).0;
+      goes = no_option (out_slot k (frame_bits w.0)) (and_parts (is_none (out_slot k (frame_bits w.0))) (goes_on k.ended t) rest).0;
     }
 
 -- who makes it low: a winner, an acknowledger, or one who breaks the message
@@ -182,7 +187,7 @@ pub record Starter (seats : List Seat) (bits : List Bool) : Type 0 where
   pub room : length bits < length (frame_bits frame)
 
 pub starter : (seats : List Seat) (begin : ℕ) (low : Line) → Calm seats begin low → (left : ℕ) (xs : List Slot) (bits : List Bool) (e : ℕ) → OnSlot low begin left xs bits e → Starter seats bits
-starter seats begin low c left xs bits e s = by (who_makes seats begin low c e k (known_fall low begin left xs bits e s.reached) (and_left (low e) (not (was_low low e)) s.fall))
+starter seats begin low c left xs bits e s = by (who_makes seats begin low c e k (known_fall low begin left xs bits e s.reached) (and_parts (low e) (not (was_low low e)) s.fall).0)
   where
     k : Known
     k = record { slots = xs; ended = None }
@@ -195,7 +200,7 @@ starter seats begin low c left xs bits e s = by (who_makes seats begin low c e k
           among = p.among;
           least = p.least;
           stays = subst (λ (ys : List Bool). Stays ys (frame_bits p.frame)) s.reached.reported (stays_by k (frame_bits p.frame) refl p.goes);
-          room = is_less (length bits) (length (frame_bits p.frame)) (and_left (nat_lt (length bits) (length (frame_bits p.frame))) _ test);
+          room = is_less (length bits) (length (frame_bits p.frame)) (and_parts (nat_lt (length bits) (length (frame_bits p.frame))) _ test).0;
         }
     by (inr (inl a)) = absurd (false≢true (sym (no_acks seats k e xs 1 (done_by e e xs (omega arith) s.reached.over)) ∙ a))
     by (inr (inr b)) = absurd (false≢true b)
@@ -363,7 +368,7 @@ soon_held seats begin low c left xs bits e s t l h = elim (cases_lt e t) [
       sender_in seats begin low c left xs bits e s w.frame w.among w.least w.stays t after (omega arith)
       (sym (in_slot begin e (t - e) t bits (frame_bits w.frame) s.time (omega arith) (omega arith))
       ∙ soon_low (nat_lt (length bits) (length (frame_bits w.frame))) (slice_index_or (frame_bits w.frame) (length bits) false) (t - e) room (omega arith))
-  | inr same ↦ (let x : t ≡ e = omega arith in ap low x ∙ and_left (low e) (not (was_low low e)) s.fall)
+  | inr same ↦ (let x : t ≡ e = omega arith in ap low x ∙ (and_parts (low e) (not (was_low low e)) s.fall).0)
 ]
 
 -- a slot that is held for 1,500
@@ -387,10 +392,10 @@ zero_held seats begin low c left xs bits e s p = held
     pulls_there = in_slot begin e 600 (e + 600) bits sent s.time refl (omega arith) ∙ p.low
 
     room : nat_lt (length bits) (length sent) ≡ true
-    room = and_left (nat_lt (length bits) (length sent)) (nat_lt 600 (low_for (slice_index_or sent (length bits) false))) pulls_there
+    room = (and_parts (nat_lt (length bits) (length sent)) (nat_lt 600 (low_for (slice_index_or sent (length bits) false))) pulls_there).0
 
     zero_sent : slice_index_or sent (length bits) false ≡ false
-    zero_sent = zero_bit (slice_index_or sent (length bits) false) (and_right (nat_lt (length bits) (length sent)) (nat_lt 600 (low_for (slice_index_or sent (length bits) false))) pulls_there)
+    zero_sent = zero_bit (slice_index_or sent (length bits) false) (and_parts (nat_lt (length bits) (length sent)) (nat_lt 600 (low_for (slice_index_or sent (length bits) false))) pulls_there).1
 
     -- acknowledge slots are sent as 1
     no_ack : length bits % 10 ≡ 9 → ⊥
