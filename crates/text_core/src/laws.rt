@@ -23,10 +23,8 @@ pub fn found_by_its_word<T>()
 /// are those of what stands after it.
 pub fn lists_are_parted()
     ensures none { (parts : ℕ → Bool) (xs : List ℕ) → position parts xs ≡ None → slice_split parts xs ≡ xs ∷ [] }
-    ensures some {
-        (parts : ℕ → Bool) (xs : List ℕ) (end : ℕ) → position parts xs ≡ Some end
-            → slice_split parts xs ≡ take end xs ∷ slice_split parts (take (length xs - (end + 1)) (drop (end + 1) xs))
-    }
+    ensures some { (parts : ℕ → Bool) (xs : List ℕ) (end : ℕ) → position parts xs ≡ Some end
+        → slice_split parts xs ≡ take end xs ∷ slice_split parts (take (length xs - (end + 1)) (drop (end + 1) xs)) }
 {}
 
 /// Each line has a word, which may be empty.
