@@ -1,5 +1,5 @@
 -- What a line of a form reports, part by part.
-use Rattle.std.proofs.Common.{◌≡◌, ℕ, Bool, true, if◌then◌else◌, List, ◌∷◌, ◌++◌, drop, codes, sym, ap, subst, ◌∙◌}
+use Rattle.std.proofs.Common.{◌≡◌, ℕ, Bool, true, false, if◌then◌else◌, List, ◌∷◌, ◌++◌, drop, codes, sym, ap, subst, ◌∙◌}
 use Rattle.text_core.specs.Adds.{Adds, Tally}
 use Rattle.text_core.specs.Words.{words_of}
 use Rattle.json_trace.specs.Columns.{field, field_lead}
@@ -19,6 +19,9 @@ reported_as a b form known line reported e is added = (reported, subst (λ (f : 
 -- the text of two that is chosen by a Bool
 pub then_is : (b : Bool) (x y : List ℕ) → b ≡ true → x ≡ (if b then x else y)
 then_is b x y e = ap (λ (v : Bool). if v then x else y) (sym e)
+
+pub else_is : (b : Bool) (x y : List ℕ) → b ≡ false → y ≡ (if b then x else y)
+else_is b x y e = ap (λ (v : Bool). if v then x else y) (sym e)
 
 abbrev place_by : (line holds text : List ℕ) → List ℕ
 place_by line holds text = field (codes "script_line") Number line ++ field_lead (codes "holds") ++ holds ++ text_fields text

@@ -11,7 +11,6 @@ use Rattle.expect_run.specs.Sieve.{IsClosed}
 use Rattle.text_core.specs.Held.{held_bytes, is_full}
 use Rattle.json_trace.specs.Object.{AreInOrder}
 use Rattle.text_core.specs.declared.held.Held.{Held}
-use Rattle.json_trace.proofs.Parted.{in_order_as, in_order_both}
 use Rattle.room_run.specs.Happening.{Happening, text_of}
 use Rattle.room_run.specs.Heard.{Hears}
 use Rattle.room_script.specs.declared.script.TimedEvent.{TimedEvent}
@@ -27,6 +26,18 @@ use Rattle.room_trace.specs.TraceText.{event_line}
 use Rattle.text_core.proofs.Adding.{after_failure}
 use Rattle.edid_tree.specs.Node.{Node}
 use Rattle.json_run.specs.Made.{AreMade, AreShown, AreWritten, IsCutOff, Turned}
+
+-- ---- objects in order
+
+-- what is the object of a line is another thing's object too
+in_order_as : (Is As : List ℕ → List ℕ → Type 0) → ((line text : List ℕ) → Is line text → As line text) → (lines : List (List ℕ)) (text : List ℕ) → AreInOrder Is lines text → AreInOrder As lines text
+in_order_as Is As same [] text none = none
+in_order_as Is As same (line ∷ lines) text are = (are.0, are.1, same line are.0 are.2, in_order_as Is As same lines are.1 are.3, are.4)
+
+in_order_both : (Is : List ℕ → List ℕ → Type 0) (lines others : List (List ℕ)) (text more : List ℕ) → AreInOrder Is lines text → AreInOrder Is others more → AreInOrder Is (lines ++ others) (text ++ more)
+in_order_both Is [] others text more none are = subst (λ (t : List ℕ). AreInOrder Is others (t ++ more)) (sym none) are
+in_order_both Is (line ∷ lines) others text more are also =
+    (are.0, are.1 ++ more, are.2, in_order_both Is lines others are.1 more are.3 also, rw are.4 (append_assoc are.0 are.1 more))
 
 -- ---- texts whose objects are made
 

@@ -6,7 +6,7 @@ use Rattle.text_core.specs.Adds.{Adds, Tally}
 use Rattle.text_core.proofs.Adding.{nothing, then}
 use Rattle.text_core.specs.Lines.{lines_of}
 use Rattle.json_trace.specs.Columns.{field, fields, field_lead, reading_fields, column_parts}
-use Rattle.json_trace.specs.Object.{AreBytesOf, AreInOrder, reading_start, broken_body, bytes_value, complete_body, complete_fields, frame_fields, frame_in, reading_type, seats, type_field}
+use Rattle.json_trace.specs.Object.{AreBytesOf, AreInOrder, Done, reading_start, broken_body, bytes_value, complete_body, complete_fields, frame_fields, frame_in, reading_type, seats, type_field}
 use Rattle.json_trace.specs.Parts.{after_byte, after_word, before_byte, before_last, after_ending, has_seats, reported_in, value_of, word}
 use Rattle.json_trace.specs.Values.{code_text, code_texts, report_value, some_report}
 use Rattle.json_trace.specs.declared.columns.JsonField.{JsonField}
@@ -86,24 +86,6 @@ pub in_order_more : (Is : List ℕ → List ℕ → Type 0) (lines : List (List 
 in_order_more Is [] line objects text none is = (text, [], is, refl, rw none (sym (append-nil text)))
 in_order_more Is (l ∷ lines) line objects text are is =
     (are.0, are.1 ++ text, are.2, in_order_more Is lines line are.1 text are.3 is, rw are.4 (append_assoc are.0 are.1 text))
-
--- what is the object of a line is another thing's object too
-pub in_order_as : (Is As : List ℕ → List ℕ → Type 0) → ((line text : List ℕ) → Is line text → As line text) → (lines : List (List ℕ)) (text : List ℕ) → AreInOrder Is lines text → AreInOrder As lines text
-in_order_as Is As same [] text none = none
-in_order_as Is As same (line ∷ lines) text are = (are.0, are.1, same line are.0 are.2, in_order_as Is As same lines are.1 are.3, are.4)
-
-pub in_order_both : (Is : List ℕ → List ℕ → Type 0) (lines others : List (List ℕ)) (text more : List ℕ) → AreInOrder Is lines text → AreInOrder Is others more → AreInOrder Is (lines ++ others) (text ++ more)
-in_order_both Is [] others text more none are = subst (λ (t : List ℕ). AreInOrder Is others (t ++ more)) (sym none) are
-in_order_both Is (line ∷ lines) others text more are also =
-    (are.0, are.1 ++ more, are.2, in_order_both Is lines others are.1 more are.3 also, rw are.4 (append_assoc are.0 are.1 more))
-
--- the texts of the lines before the rest are added
-pub record Done (Is : List ℕ → List ℕ → Type 0) (text rest : List ℕ) (old now : Tally) : Type 0 where
-  pub lines : List (List ℕ)
-  pub objects : List ℕ
-  pub parts : lines_of text ≡ lines ++ lines_of rest
-  pub are : AreInOrder Is lines objects
-  pub added : Adds old now objects
 
 pub done_first : (Is : List ℕ → List ℕ → Type 0) (text : List ℕ) (a : Tally) → Done Is text text a a
 done_first Is text a = record { lines = []; objects = []; parts = refl; are = refl; added = nothing a }

@@ -2,6 +2,8 @@
 use Rattle.std.specs.Prelude.{◌≡◌, ℕ, Bool, ◌||◌, if◌then◌else◌, List, [], ◌∷◌, ◌++◌, take, drop, Option, Some, None, codes}
 use Rattle.std.specs.List.{flat_map}
 use Rattle.std.specs.Str.{bytes_eq}
+use Rattle.text_core.specs.Adds.{Adds, Tally}
+use Rattle.text_core.specs.Lines.{lines_of}
 use Rattle.text_core.specs.Piece.{hex_text}
 use Rattle.message_text.specs.FrameLines.{IsTextOf}
 use Rattle.json_trace.specs.Columns.{event_fields, field, fields, instant, field_lead, port_fields, reading_fields, state_fields}
@@ -118,6 +120,14 @@ IsObject line text = (reported : List ℕ) × IsReported line reported × (text 
 abbrev pub AreInOrder : (List ℕ → List ℕ → Type 0) → List (List ℕ) → List ℕ → Type 0
 AreInOrder Is [] text = text ≡ []
 AreInOrder Is (line ∷ lines) text = (first : List ℕ) × (others : List ℕ) × Is line first × AreInOrder Is lines others × (text ≡ first ++ others)
+
+-- of a text the objects of the lines before the rest are added, in order
+pub record Done (Is : List ℕ → List ℕ → Type 0) (text rest : List ℕ) (old now : Tally) : Type 0 where
+  pub lines : List (List ℕ)
+  pub objects : List ℕ
+  pub parts : lines_of text ≡ lines ++ lines_of rest
+  pub are : AreInOrder Is lines objects
+  pub added : Adds old now objects
 
 -- a text is the objects of these lines, in order
 abbrev pub AreObjects : List (List ℕ) → List ℕ → Type 0

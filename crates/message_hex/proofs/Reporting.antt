@@ -4,7 +4,7 @@ use Rattle.std.specs.List.{flat_map}
 use Rattle.text_core.specs.Adds.{Adds, Tally}
 use Rattle.text_core.specs.Lines.{lines_of}
 use Rattle.text_core.proofs.Adding.{cut_short, nothing, then}
-use Rattle.message_hex.specs.Lines.{fault_of, first_fault, line_frame}
+use Rattle.message_hex.specs.Lines.{Put, fault_of, first_fault, line_frame}
 use Rattle.message_hex.specs.declared.bytes.DisCause.{DisCause}
 
 -- one more line without a fault
@@ -19,12 +19,6 @@ pub fault_at : (text rest after current : List ℕ) (number : ℕ) (cause : DisC
     → line_frame current ≡ Err cause → first_fault 1 (lines_of text) ≡ Some (record { line = number; cause = cause })
 fault_at text rest after current number cause same parts read =
     same ∙ ap (first_fault number) parts ∙ ap (λ r. fault_of number r (first_fault (number + 1) (lines_of after))) read
-
--- the lines added so far, and what is left
-pub record Put (f : List ℕ → List ℕ) (lines : List (List ℕ)) (rest : List ℕ) (old now : Tally) : Type 0 where
-  pub done : List ℕ
-  pub parts : flat_map f lines ≡ done ++ flat_map f (lines_of rest)
-  pub so_far : Adds old now done
 
 pub put_none : (f : List ℕ → List ℕ) (text : List ℕ) (a : Tally) → Put f (lines_of text) text a a
 put_none f text a = record { done = []; parts = refl; so_far = nothing a }

@@ -3,7 +3,8 @@
 use Rattle.std.specs.Prelude.{◌≡◌, ℕ, ◌+◌, Bool, true, if◌then◌else◌, List, [], ◌∷◌, ◌++◌, codes, Option, Some, None, Result, Ok, Err}
 use Rattle.std.specs.List.{flat_map}
 use Rattle.text_core.specs.At.{at_line, at_word}
-use Rattle.text_core.specs.Lines.{is_skipped}
+use Rattle.text_core.specs.Lines.{is_skipped, lines_of}
+use Rattle.text_core.specs.Adds.{Adds, Tally}
 use Rattle.text_core.specs.Cut.{CutOff}
 use Rattle.text_core.specs.declared.at.At.{At}
 use Rattle.text_core.specs.declared.sink.WriteFault.{WriteFault}
@@ -63,3 +64,14 @@ Answers text_of old new was is lines (Err (Line fault)) =
 abbrev pub WritesLines : (List ℕ → List ℕ) → Option (List ℕ) → Option (List ℕ) → Bool → Bool → List (List ℕ) → Result (Unit {0}) WriteFault → Type 0
 WritesLines text_of old new was is lines (Ok n) = Appends old new (flat_map text_of lines) × (is ≡ was)
 WritesLines text_of old new was is lines (Err fault) = CutOff old new (flat_map text_of lines) fault × (is ≡ true)
+
+-- of these lines what stands before the rest is added
+pub record Put (f : List ℕ → List ℕ) (lines : List (List ℕ)) (rest : List ℕ) (old now : Tally) : Type 0 where
+  pub done : List ℕ
+  pub parts : flat_map f lines ≡ done ++ flat_map f (lines_of rest)
+  pub so_far : Adds old now done
+
+-- and the line after it
+abbrev pub LinesGoOn : Type 0
+LinesGoOn = (f : List ℕ → List ℕ) (lines : List (List ℕ)) (rest after current : List ℕ) (a b c : Tally) → Put f lines rest a b → lines_of rest ≡ current ∷ lines_of after
+    → Adds b c (f current) → Put f lines after a c

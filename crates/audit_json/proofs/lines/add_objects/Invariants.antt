@@ -1,6 +1,6 @@
 use Rattle.std.proofs.Common.{length}
 use Rattle.audit_json.specs.Object.{IsAuditObject}
-use Rattle.json_trace.proofs.Parted.{Done}
+use Rattle.json_trace.specs.Object.{Done}
 use Rattle.audit_json.proofs.lines.add_objects.Given as goal
 
 abbrev pub invariant-loop-line : goal.invariant-loop-line

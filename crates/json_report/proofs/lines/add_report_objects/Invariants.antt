@@ -1,6 +1,6 @@
 use Rattle.std.proofs.Common.{length}
 use Rattle.json_report.specs.Object.{IsReportObject}
-use Rattle.json_trace.proofs.Parted.{Done}
+use Rattle.json_trace.specs.Object.{Done}
 use Rattle.json_report.proofs.lines.add_report_objects.Given as goal
 
 abbrev pub invariant-loop-line : goal.invariant-loop-line

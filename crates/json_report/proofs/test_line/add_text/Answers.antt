@@ -1,10 +1,9 @@
 use Rattle.std.proofs.Common.{◌≡◌, true, false, codes, rules}
 use Rattle.std.specs.Str.{bytes_eq}
 use Rattle.json_trace.specs.Parts.{word}
-use Rattle.json_trace.proofs.Parted.{else_is}
 use Rattle.json_trace.proofs.Writing.{adds_as}
 use Rattle.json_report.specs.TestLine.{expected_fields, refused_fields}
-use Rattle.json_report.proofs.Told.{then_is}
+use Rattle.json_report.proofs.Told.{else_is, then_is}
 use Rattle.json_report.proofs.test_line.add_text.Goals as goal
 
 pub returns-then-eq : goal.returns-then-eq

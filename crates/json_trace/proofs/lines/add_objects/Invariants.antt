@@ -1,6 +1,5 @@
 use Rattle.std.proofs.Common.{length}
-use Rattle.json_trace.specs.Object.{IsObject}
-use Rattle.json_trace.proofs.Parted.{Done}
+use Rattle.json_trace.specs.Object.{Done, IsObject}
 use Rattle.json_trace.proofs.lines.add_objects.Given as goal
 
 abbrev pub invariant-loop-line : goal.invariant-loop-line

@@ -1,7 +1,7 @@
 use Rattle.std.proofs.Common.{length}
 use Rattle.text_core.specs.Lines.{lines_of}
 use Rattle.message_meaning.specs.Lines.{meant_text}
-use Rattle.message_hex.proofs.Reporting.{Put}
+use Rattle.message_hex.specs.Lines.{Put}
 use Rattle.message_meaning.proofs.lines.add_lines.Given as goal
 
 abbrev pub invariant-lines : goal.invariant-lines

@@ -1,6 +1,6 @@
 use Rattle.std.proofs.Common.{◌≡◌, length}
 use Rattle.text_core.specs.Lines.{lines_of}
-use Rattle.json_trace.proofs.Parted.{Done}
+use Rattle.json_trace.specs.Object.{Done}
 use Rattle.json_room.specs.Event.{IsRoomObject}
 use Rattle.json_room.proofs.lines.RoomLinesLineObjects.add.Given as goal
 
