@@ -13,7 +13,6 @@ mod script;
 mod topology;
 
 pub use course::Script;
-pub use fault::ScriptLineFault;
 pub use laws::{keys_begin_with_their_words, one_script, scripts_are_sound};
 pub use message_table::WordSet;
 pub use message_text::{AssembleError, assemble, frame_text, write_frame};
