@@ -1,6 +1,6 @@
 //! Each call of hdminet_library once, with what it writes, and once with a refusal.
 use hdminet_library::{
-    AssembleError, EdidError, EdidToTextError, EmulateError, FrameLinesError, LineFault,
+    AssembleError, At, EdidError, EdidToTextError, EmulateError, FrameLinesError,
     StepRunError, TextToHexError, TopologyCause, WatchError, Writes, asm_lines, edid_to_text,
     emulate, emulate_edges, step_run, text_to_hex, watch,
 };
@@ -188,10 +188,11 @@ fn is_no_step(answer: Result<(), StepRunError>) -> bool {
 
 fn is_no_frame(answer: Result<(), FrameLinesError>) -> bool {
     match answer {
-        Err(FrameLinesError::Line(LineFault { line: 2, cause })) => matches!(
+        Err(FrameLinesError::Line(At {
+            line: 2,
+            word: 1,
             cause,
-            AssembleError::Name
-        ),
+        })) => matches!(cause, AssembleError::Name),
         _ => false,
     }
 }

@@ -2,14 +2,15 @@
 -- counted. A word of the standard that the text leaves as a byte stands after it as a remark.
 use Rattle.std.specs.Prelude.{◌≡◌, ℕ, ◌+◌, Bool, true, if◌then◌else◌, List, [], ◌∷◌, ◌++◌, codes, Option, Some, None, Result, Ok, Err}
 use Rattle.std.specs.List.{flat_map}
+use Rattle.text_core.specs.At.{at_line, at_word}
 use Rattle.text_core.specs.Lines.{is_skipped}
 use Rattle.text_core.specs.Cut.{CutOff}
+use Rattle.text_core.specs.declared.at.At.{At}
 use Rattle.text_core.specs.declared.sink.WriteFault.{WriteFault}
 use Rattle.message_text.specs.FrameText.{frame_text}
 use Rattle.message_hex.specs.Bytes.{frame_in}
 use Rattle.message_hex.specs.Remark.{remark}
 use Rattle.message_hex.specs.declared.bytes.DisCause.{DisCause}
-use Rattle.message_hex.specs.declared.lines.DisFault.{DisFault}
 use Rattle.message_hex.specs.declared.lines.DisError.{DisError}
 use Rattle.message_hex.specs.declared.lines.DisError.TheVariants.{Line, Write}
 use Rattle.std.specs.Io.KnownBytes.{Appends}
@@ -39,12 +40,12 @@ reported_line (Err cause) = []
 abbrev pub line_text : List ℕ → List ℕ
 line_text line = reported_line (line_frame line)
 
-abbrev pub fault_of : ℕ → Result (Option (List ℕ)) DisCause → Option DisFault → Option DisFault
+abbrev pub fault_of : ℕ → Result (Option (List ℕ)) DisCause → Option (At DisCause) → Option (At DisCause)
 fault_of number (Ok frame) next = next
-fault_of number (Err cause) next = Some (record { line = number; cause = cause })
+fault_of number (Err cause) next = Some (at_line number (at_word 0 cause))
 
--- the first line that has no frame, where the first of these has this number
-abbrev pub first_fault : ℕ → List (List ℕ) → Option DisFault
+-- the first line that has no frame, where the first of these has this number; its one word is at fault
+abbrev pub first_fault : ℕ → List (List ℕ) → Option (At DisCause)
 first_fault number [] = None
 first_fault number (line ∷ lines) = fault_of number (line_frame line) (first_fault (number + 1) lines)
 

@@ -8,5 +8,5 @@ mod remarks;
 
 pub use bytes::{DisCause, frame_in};
 pub use laws::{assembled_frames_are_read, spellings_are_read};
-pub use lines::{DisError, DisFault, add_frame, check_lines, dis_lines, line_frame};
+pub use lines::{DisError, add_frame, check_lines, dis_lines, line_frame};
 pub use remarks::remark;

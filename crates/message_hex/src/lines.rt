@@ -9,23 +9,15 @@ use crate::bytes::{DisCause, frame_in};
 use crate::remarks::remark;
 use line_frames::Frame;
 use message_text::frame_text;
-use text_core::{Counted, Piece, Sink, WriteFault, first_line, is_skipped};
+use text_core::{At, Counted, Piece, Sink, WriteFault, at_word, first_line, is_skipped};
 use thiserror::Error;
-
-/// The first line that has no frame, counted from 1, and why.
-#[derive(Clone, Copy, Debug, Drop, PartialEq, Eq, Error)]
-#[error("line {line}: {cause}")]
-pub struct DisFault {
-    pub line: u64,
-    pub cause: DisCause,
-}
 
 /// Why the texts of frames are not written.
 #[derive(Clone, Copy, Debug, Drop, PartialEq, Eq, Error)]
 pub enum DisError {
     /// A line has no frame. Nothing was written.
     #[error(transparent)]
-    Line(DisFault),
+    Line(At<DisCause>),
     /// The sink took no more than the first bytes.
     #[error(transparent)]
     Write(WriteFault),
@@ -53,7 +45,7 @@ pub fn line_frame(line: &[u8]) -> Result<Option<Frame>, DisCause>
 /// # Errors
 ///
 /// The first such line, and why.
-pub fn check_lines(text: &[u8]) -> Result<(), DisFault>
+pub fn check_lines(text: &[u8]) -> Result<(), At<DisCause>>
     ensures { MatchResult result
         (λ _. first_fault 1 (lines_of text.now) ≡ None)
         (λ fault. first_fault 1 (lines_of text.now) ≡ Some fault) }
@@ -62,7 +54,7 @@ pub fn check_lines(text: &[u8]) -> Result<(), DisFault>
     let mut line = 1u64;
     'lines: while let Some((current, after)) = first_line(rest) {
         if let Err(cause) = line_frame(current) {
-            return Err(DisFault { line, cause });
+            return Err(at_word(0, cause).on_line(line));
         }
         rest = after;
         line += 1;

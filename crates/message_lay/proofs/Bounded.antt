@@ -6,11 +6,12 @@ use Rattle.std.proofs.lemmas.List.Elements.{All-cons, All-nil}
 use Rattle.line_wave.specs.Bounds.{latest_event, widest_pull}
 use Rattle.line_wave.specs.Line.{IsWaveFrom}
 use Rattle.line_wave.specs.declared.Stretch.{Stretch}
-use Rattle.message_lay.specs.Causes.{at_word}
+use Rattle.text_core.specs.At.{at_word}
 use Rattle.message_lay.specs.Laws.{LaidArePulls}
 use Rattle.message_lay.specs.Text.{AreLinesRead, Notes, follow, no_notes, pull_fault, unless_fault}
 use Rattle.message_lay.specs.declared.fault.LayCause.TheVariants.{Width, Order, Late}
-use Rattle.message_lay.specs.declared.fault.WordFault.{WordFault}
+use Rattle.message_lay.specs.declared.fault.LayCause.{LayCause}
+use Rattle.text_core.specs.declared.at.AtWord.{AtWord}
 use Rattle.message_lay.proofs.Checking.{notes_so, onward_by}
 
 -- a pull that may begin from an instant on
@@ -45,7 +46,7 @@ followed : (ps : List Stretch) (free next : ℕ) → follow free ps ≡ Ok next 
 followed [] free next e = let same : free ≡ next = cc in omega arith
 followed (p ∷ ps) free next e = by (pull_fault free p) refl e (λ n h. followed ps n next h)
   where
-    by : (f : Option WordFault) → pull_fault free p ≡ f → unless_fault f (follow (min (p.to + 1) 18446744073709551615) ps) ≡ Ok next
+    by : (f : Option (AtWord LayCause)) → pull_fault free p ≡ f → unless_fault f (follow (min (p.to + 1) 18446744073709551615) ps) ≡ Ok next
         → ((n : ℕ) → follow n ps ≡ Ok next → Between n ps next) → Between free (p ∷ ps) next
     by (Some fault) q h later = cc
     by None q h later =

@@ -7,14 +7,16 @@ use Rattle.text_core.specs.Lines.{lines_of}
 pub use Rattle.text_core.proofs.Adding.{cut_short, more, nothing, then}
 use Rattle.line_wave.specs.declared.Stretch.{Stretch}
 use Rattle.message_lay.specs.Line.{IsLineRead}
-use Rattle.message_lay.specs.Text.{AreLinesRead, IsFollowed, Notes, Onward, fault_at, follow, follows, no_notes, pull_line, taken, taken_by}
-use Rattle.message_lay.specs.declared.fault.LayFault.{LayFault}
-use Rattle.message_lay.specs.declared.fault.WordFault.{WordFault}
+use Rattle.message_lay.specs.Text.{AreLinesRead, IsFollowed, Notes, Onward, follow, follows, no_notes, pull_line, taken, taken_by}
+use Rattle.text_core.specs.At.{at_line}
+use Rattle.message_lay.specs.declared.fault.LayCause.{LayCause}
+use Rattle.text_core.specs.declared.at.At.{At}
+use Rattle.text_core.specs.declared.at.AtWord.{AtWord}
 
 -- the lines so far are laid, and a pull may begin from `free` on: what the others give all lines give
 pub record Checked (text rest : List ℕ) (line free : ℕ) : Type 0 where
   pub done : List Stretch
-  pub reads : (read : Result (List Stretch) LayFault) → AreLinesRead (lines_of rest) line (record { free = free; pulls = done }) read
+  pub reads : (read : Result (List Stretch) (At LayCause)) → AreLinesRead (lines_of rest) line (record { free = free; pulls = done }) read
       → AreLinesRead (lines_of text) 1 no_notes read
 
 pub checked_none : (text : List ℕ) → Checked text text 1 0
@@ -24,7 +26,7 @@ abbrev pub notes_so : ℕ → List Stretch → Notes
 notes_so free done = record { free = free; pulls = done }
 
 -- the first of some lines, and those after it
-first_read : (rest current : List ℕ) (after : List (List ℕ)) (line : ℕ) (notes : Notes) (now : Result (List Stretch) WordFault) (read : Result (List Stretch) LayFault) → lines_of rest ≡ current ∷ after
+first_read : (rest current : List ℕ) (after : List (List ℕ)) (line : ℕ) (notes : Notes) (now : Result (List Stretch) (AtWord LayCause)) (read : Result (List Stretch) (At LayCause)) → lines_of rest ≡ current ∷ after
     → IsLineRead current now → Onward line (taken notes now) (λ next. AreLinesRead after (line + 1) next read) read → AreLinesRead (lines_of rest) line notes read
 first_read rest current after line notes now read e is onward =
     subst (λ (ls : List (List ℕ)). AreLinesRead ls line notes read) (sym e) (now, is, onward)
@@ -33,23 +35,23 @@ pub checked_more : (text rest after current : List ℕ) (line free next : ℕ) �
     → IsFollowed free current (Ok next) → Checked text after (line + 1) next
 checked_more text rest after current line free next k e h = by h.0 h.1 h.2
   where
-    by : (now : Result (List Stretch) WordFault) → IsLineRead current now → Ok next ≡ follows free now → Checked text after (line + 1) next
+    by : (now : Result (List Stretch) (AtWord LayCause)) → IsLineRead current now → Ok next ≡ follows free now → Checked text after (line + 1) next
     by (Err fault) is f = cc
     by (Ok pulls) is f = record {
       done = k.done ++ pulls;
       reads = λ read others. k.reads read (first_read rest current (lines_of after) line (notes_so free k.done) (Ok pulls) read e is
-          (subst (λ (r : Result ℕ WordFault). Onward line (taken_by k.done pulls r) (λ n. AreLinesRead (lines_of after) (line + 1) n read) read) f others));
+          (subst (λ (r : Result ℕ (AtWord LayCause)). Onward line (taken_by k.done pulls r) (λ n. AreLinesRead (lines_of after) (line + 1) n read) read) f others));
     }
 
-pub checked_fault : (text rest after current : List ℕ) (line free : ℕ) (fault : WordFault) → Checked text rest line free → lines_of rest ≡ current ∷ lines_of after
-    → IsFollowed free current (Err fault) → AreLinesRead (lines_of text) 1 no_notes (Err (fault_at line fault))
+pub checked_fault : (text rest after current : List ℕ) (line free : ℕ) (fault : (AtWord LayCause)) → Checked text rest line free → lines_of rest ≡ current ∷ lines_of after
+    → IsFollowed free current (Err fault) → AreLinesRead (lines_of text) 1 no_notes (Err (at_line line fault))
 checked_fault text rest after current line free fault k e h = by h.0 h.1 h.2
   where
-    by : (now : Result (List Stretch) WordFault) → IsLineRead current now → Err fault ≡ follows free now → AreLinesRead (lines_of text) 1 no_notes (Err (fault_at line fault))
-    by (Err other) is f = k.reads (Err (fault_at line fault)) (first_read rest current (lines_of after) line (notes_so free k.done) (Err other) (Err (fault_at line fault)) e is
-        (subst (λ (r : Result ℕ WordFault). Onward line (taken_by k.done [] r) (λ n. AreLinesRead (lines_of after) (line + 1) n (Err (fault_at line fault))) (Err (fault_at line fault))) f refl))
-    by (Ok pulls) is f = k.reads (Err (fault_at line fault)) (first_read rest current (lines_of after) line (notes_so free k.done) (Ok pulls) (Err (fault_at line fault)) e is
-        (subst (λ (r : Result ℕ WordFault). Onward line (taken_by k.done pulls r) (λ n. AreLinesRead (lines_of after) (line + 1) n (Err (fault_at line fault))) (Err (fault_at line fault))) f refl))
+    by : (now : Result (List Stretch) (AtWord LayCause)) → IsLineRead current now → Err fault ≡ follows free now → AreLinesRead (lines_of text) 1 no_notes (Err (at_line line fault))
+    by (Err other) is f = k.reads (Err (at_line line fault)) (first_read rest current (lines_of after) line (notes_so free k.done) (Err other) (Err (at_line line fault)) e is
+        (subst (λ (r : Result ℕ (AtWord LayCause)). Onward line (taken_by k.done [] r) (λ n. AreLinesRead (lines_of after) (line + 1) n (Err (at_line line fault))) (Err (at_line line fault))) f refl))
+    by (Ok pulls) is f = k.reads (Err (at_line line fault)) (first_read rest current (lines_of after) line (notes_so free k.done) (Ok pulls) (Err (at_line line fault)) e is
+        (subst (λ (r : Result ℕ (AtWord LayCause)). Onward line (taken_by k.done pulls r) (λ n. AreLinesRead (lines_of after) (line + 1) n (Err (at_line line fault))) (Err (at_line line fault))) f refl))
 
 pub checked_all : (text rest : List ℕ) (line free : ℕ) → Checked text rest line free → lines_of rest ≡ []
     → (pulls : List Stretch) × AreLinesRead (lines_of text) 1 no_notes (Ok pulls)
@@ -69,7 +71,7 @@ pub put_none : (pulls : List Stretch) (text : List ℕ) (a : Tally) → AreLines
 put_none pulls text a h = record { number = 1; notes = no_notes; left = h; so_far = nothing a }
 
 -- a line of which the pulls are read, and those after it
-pub onward_by : (lines : List (List ℕ)) (number : ℕ) (notes : Notes) (current : List ℕ) (now : Result (List Stretch) WordFault) (pulls : List Stretch) (R : Type 0) → IsLineRead current now
+pub onward_by : (lines : List (List ℕ)) (number : ℕ) (notes : Notes) (current : List ℕ) (now : Result (List Stretch) (AtWord LayCause)) (pulls : List Stretch) (R : Type 0) → IsLineRead current now
     → Onward number (taken notes now) (λ next. AreLinesRead lines (number + 1) next (Ok pulls)) (Ok pulls)
     → ((free : ℕ) (own : List Stretch) → follow notes.free own ≡ Ok free → IsLineRead current (Ok own)
     → AreLinesRead lines (number + 1) (notes_so free (notes.pulls ++ own)) (Ok pulls) → R)
@@ -77,7 +79,7 @@ pub onward_by : (lines : List (List ℕ)) (number : ℕ) (notes : Notes) (curren
 onward_by lines number notes current (Err fault) pulls R is h f = cc
 onward_by lines number notes current (Ok own) pulls R is h f = by (follow notes.free own) refl h
   where
-    by : (r : Result ℕ WordFault) → follow notes.free own ≡ r → Onward number (taken_by notes.pulls own r) (λ next. AreLinesRead lines (number + 1) next (Ok pulls)) (Ok pulls) → R
+    by : (r : Result ℕ (AtWord LayCause)) → follow notes.free own ≡ r → Onward number (taken_by notes.pulls own r) (λ next. AreLinesRead lines (number + 1) next (Ok pulls)) (Ok pulls) → R
     by (Err fault) e g = cc
     by (Ok free) e g = f free own e is g
 

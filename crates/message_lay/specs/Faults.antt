@@ -6,10 +6,11 @@ use Rattle.line_wave.specs.Sender.{first_slot, slot_width}
 use Rattle.line_rounds.specs.Round.{short_pull}
 use Rattle.line_frames.specs.Bits.{frame_bits}
 use Rattle.message_lay.specs.Bits.{nominal_bit, nominal_start, stretches_of}
-use Rattle.message_lay.specs.Causes.{at_word}
+use Rattle.text_core.specs.At.{at_word}
 use Rattle.message_lay.specs.declared.bits.BitTimes.{BitTimes}
 use Rattle.message_lay.specs.declared.fault.LayCause.TheVariants.{Slot}
-use Rattle.message_lay.specs.declared.fault.WordFault.{WordFault}
+use Rattle.message_lay.specs.declared.fault.LayCause.{LayCause}
+use Rattle.text_core.specs.declared.at.AtWord.{AtWord}
 use Rattle.message_lay.specs.declared.pulls.Fault.{Fault}
 use Rattle.message_lay.specs.declared.pulls.Fault.TheVariants.{Absent, Eom, Bit, Start, Last, Drive, Glitch}
 
@@ -70,11 +71,11 @@ pulls_of start fault bytes =
     with_glitch start fault (stretches_of start (start_times fault ∷ with_fault fault (map nominal_bit (frame_bits bytes))))
 
 -- the same, where they have the slot or the block of the fault
-abbrev pub pulls_read : ℕ → Fault → List ℕ → Result (List Stretch) WordFault
+abbrev pub pulls_read : ℕ → Fault → List ℕ → Result (List Stretch) (AtWord LayCause)
 pulls_read start fault bytes =
     if fits fault (length (map nominal_bit (frame_bits bytes))) then Ok (pulls_of start fault bytes) else Err (at_word 2 Slot)
 
 -- pulls without where they lie in memory
-abbrev pub pulls_in : Result (ArrayVec Stretch 642 (Unit {0})) WordFault → Result (List Stretch) WordFault
+abbrev pub pulls_in : Result (ArrayVec Stretch 642 (Unit {0})) (AtWord LayCause) → Result (List Stretch) (AtWord LayCause)
 pulls_in (Ok pulls) = Ok pulls.items
 pulls_in (Err fault) = Err fault

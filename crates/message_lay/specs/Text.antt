@@ -3,34 +3,35 @@ use Rattle.std.specs.Prelude.{◌≡◌, ℕ, ◌+◌, ◌-◌, ◌||◌, Bool, 
 use Rattle.std.specs.Fmt.{decimal}
 use Rattle.std.specs.Io.KnownBytes.{Appends}
 use Rattle.std.specs.List.{flat_map}
+use Rattle.text_core.specs.At.{at_line, at_word}
 use Rattle.text_core.specs.Cut.{CutOff}
 use Rattle.text_core.specs.declared.sink.WriteFault.{WriteFault}
 use Rattle.line_wave.specs.Bounds.{latest_event, widest_pull}
 use Rattle.line_wave.specs.declared.Stretch.{Stretch}
-use Rattle.message_lay.specs.Causes.{at_word}
 use Rattle.message_lay.specs.Line.{IsLineRead}
+use Rattle.message_lay.specs.declared.fault.LayCause.{LayCause}
 use Rattle.message_lay.specs.declared.fault.LayCause.TheVariants.{Width, Order, Late}
 use Rattle.message_lay.specs.declared.fault.LayError.{LayError}
 use Rattle.message_lay.specs.declared.fault.LayError.TheVariants.{Line, Write}
-use Rattle.message_lay.specs.declared.fault.LayFault.{LayFault}
-use Rattle.message_lay.specs.declared.fault.WordFault.{WordFault}
+use Rattle.text_core.specs.declared.at.At.{At}
+use Rattle.text_core.specs.declared.at.AtWord.{AtWord}
 
 -- ---- pulls one after another
 
 -- what is wrong with a pull that may begin at `free` or later: the line's instant is its word 0, the low of a glitch its word 4
-abbrev pub pull_fault : ℕ → Stretch → Option WordFault
+abbrev pub pull_fault : ℕ → Stretch → Option (AtWord LayCause)
 pull_fault free pull =
     if nat_lt pull.from free then Some (at_word 0 Order)
     else if nat_lt latest_event pull.from then Some (at_word 0 Late)
     else if nat_le pull.to pull.from || nat_lt widest_pull (pull.to - pull.from) then Some (at_word 4 Width)
     else None
 
-abbrev pub unless_fault : Option WordFault → Result ℕ WordFault → Result ℕ WordFault
+abbrev pub unless_fault : Option (AtWord LayCause) → Result ℕ (AtWord LayCause) → Result ℕ (AtWord LayCause)
 unless_fault (Some fault) next = Err fault
 unless_fault None next = next
 
 -- from when on a pull may begin after these, of which the first may begin at `free` or later; an instant stays at its greatest value
-abbrev pub follow : ℕ → List Stretch → Result ℕ WordFault
+abbrev pub follow : ℕ → List Stretch → Result ℕ (AtWord LayCause)
 follow free [] = Ok free
 follow free (p ∷ ps) = unless_fault (pull_fault free p) (follow (min (p.to + 1) 18446744073709551615) ps)
 
@@ -44,35 +45,32 @@ pub record Notes : Type 0 where
 abbrev pub no_notes : Notes
 no_notes = record { free = 0; pulls = [] }
 
-abbrev pub follows : ℕ → Result (List Stretch) WordFault → Result ℕ WordFault
+abbrev pub follows : ℕ → Result (List Stretch) (AtWord LayCause) → Result ℕ (AtWord LayCause)
 follows free (Err fault) = Err fault
 follows free (Ok pulls) = follow free pulls
 
 -- whether the pulls of a line follow, and from when on the next may begin
-abbrev pub IsFollowed : ℕ → List ℕ → Result ℕ WordFault → Type 0
-IsFollowed free line next = (read : Result (List Stretch) WordFault) × IsLineRead line read × (next ≡ follows free read)
+abbrev pub IsFollowed : ℕ → List ℕ → Result ℕ (AtWord LayCause) → Type 0
+IsFollowed free line next = (read : Result (List Stretch) (AtWord LayCause)) × IsLineRead line read × (next ≡ follows free read)
 
-abbrev pub taken_by : List Stretch → List Stretch → Result ℕ WordFault → Result Notes WordFault
+abbrev pub taken_by : List Stretch → List Stretch → Result ℕ (AtWord LayCause) → Result Notes (AtWord LayCause)
 taken_by done pulls (Err fault) = Err fault
 taken_by done pulls (Ok free) = Ok (record { free = free; pulls = done ++ pulls })
 
 -- what a line's pulls make of the notes
-abbrev pub taken : Notes → Result (List Stretch) WordFault → Result Notes WordFault
+abbrev pub taken : Notes → Result (List Stretch) (AtWord LayCause) → Result Notes (AtWord LayCause)
 taken notes (Err fault) = Err fault
 taken notes (Ok pulls) = taken_by notes.pulls pulls (follow notes.free pulls)
 
-abbrev pub fault_at : ℕ → WordFault → LayFault
-fault_at line fault = record { line = line; cause = fault.cause; word = fault.word }
-
-abbrev pub Onward : ℕ → Result Notes WordFault → (Notes → Type 0) → Result (List Stretch) LayFault → Type 0
+abbrev pub Onward : ℕ → Result Notes (AtWord LayCause) → (Notes → Type 0) → Result (List Stretch) (At LayCause) → Type 0
 Onward line (Ok notes) rest read = rest notes
-Onward line (Err fault) rest read = read ≡ Err (fault_at line fault)
+Onward line (Err fault) rest read = read ≡ Err (at_line line fault)
 
 -- what the lines from this number on make of the notes: the pulls of all, or the first fault
-abbrev pub AreLinesRead : List (List ℕ) → ℕ → Notes → Result (List Stretch) LayFault → Type 0
+abbrev pub AreLinesRead : List (List ℕ) → ℕ → Notes → Result (List Stretch) (At LayCause) → Type 0
 AreLinesRead [] number notes read = read ≡ Ok notes.pulls
 AreLinesRead (line ∷ lines) number notes read =
-    (now : Result (List Stretch) WordFault)
+    (now : Result (List Stretch) (AtWord LayCause))
     × IsLineRead line now
     × Onward number (taken notes now) (λ next. AreLinesRead lines (number + 1) next read) read
 

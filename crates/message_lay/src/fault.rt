@@ -1,10 +1,8 @@
-//! Why a text is not laid, and which word of its line is at fault.
-ghost use Rattle.std.specs.Prelude.{◌≡◌};
-ghost use Rattle.message_lay.specs.Causes.{at_word, frame_word};
+//! Why a text is not laid.
 
 use message_text::AssembleError;
 use std::fmt::{self, Write};
-use text_core::WriteFault;
+use text_core::{At, WriteFault};
 use thiserror::Error;
 
 /// Why a line is not laid.
@@ -49,48 +47,13 @@ impl fmt::Display for LayCause {
     }
 }
 
-/// Why a line is not laid, and the word at fault, counted from 0; where a word is missing, the number that it would have.
-#[derive(Clone, Copy, Debug, Drop, PartialEq, Eq)]
-pub struct WordFault {
-    pub cause: LayCause,
-    pub word: usize,
-}
-
-/// The first line that is not laid, counted from 1, why, and the word at fault, counted from 0; where a word is missing, the
-/// number that it would have.
-#[derive(Clone, Copy, Debug, Drop, PartialEq, Eq, Error)]
-#[error("line {line}: {cause}")]
-pub struct LayFault {
-    pub line: u64,
-    pub cause: LayCause,
-    pub word: usize,
-}
-
 /// Why pulls are not written.
 #[derive(Clone, Copy, Debug, Drop, PartialEq, Eq, Error)]
 pub enum LayError {
     /// A line is not laid. Nothing was written.
     #[error(transparent)]
-    Line(LayFault),
+    Line(At<LayCause>),
     /// The sink took no more than the first bytes.
     #[error(transparent)]
     Write(WriteFault),
-}
-
-/// A word at fault.
-pub fn at_word(word: usize, cause: LayCause) -> WordFault
-    ensures { result ≡ at_word word cause }
-{
-    WordFault { cause, word }
-}
-
-/// The word of a frame's text from which on it is at fault.
-pub fn frame_word(cause: AssembleError) -> usize
-    ensures { result ≡ frame_word cause }
-{
-    match cause {
-        AssembleError::Address => 0,
-        AssembleError::Name => 1,
-        AssembleError::Operand | AssembleError::Count | AssembleError::TooLong => 2,
-    }
 }

@@ -6,26 +6,16 @@ ghost use Rattle.text_core.specs.Adds.{Adds};
 ghost use Rattle.text_core.specs.Lines.{lines_of};
 ghost use Rattle.line_wave.specs.declared.Stretch.{Stretch as StretchValue};
 ghost use Rattle.message_lay.specs.Line.{IsLineRead};
-ghost use Rattle.message_lay.specs.Text.{Answers, AreLinesRead, IsFollowed, WritesPulls, fault_at, no_notes, pull_line};
+ghost use Rattle.message_lay.specs.Text.{Answers, AreLinesRead, IsFollowed, WritesPulls, no_notes, pull_line};
 
-use crate::fault::{LayError, LayFault, WordFault};
+use crate::fault::{LayCause, LayError};
 use crate::line::line_pulls;
 use crate::order::follow;
 use line_wave::Stretch;
-use text_core::{Counted, Piece, Sink, WriteFault, first_line};
-
-fn fault_at(line: u64, fault: WordFault) -> LayFault
-    ensures { result ≡ fault_at line fault }
-{
-    LayFault {
-        line,
-        cause: fault.cause,
-        word: fault.word,
-    }
-}
+use text_core::{At, AtWord, Counted, Piece, Sink, WriteFault, first_line};
 
 // From when on a pull may begin after those of a line.
-fn follow_line(free: u64, line: &[u8]) -> Result<u64, WordFault>
+fn follow_line(free: u64, line: &[u8]) -> Result<u64, AtWord<LayCause>>
     ensures { IsFollowed free line.now result }
 {
     match line_pulls(line) {
@@ -35,7 +25,7 @@ fn follow_line(free: u64, line: &[u8]) -> Result<u64, WordFault>
 }
 
 // Looks for a line that is not laid.
-fn check_lines(text: &[u8]) -> Result<(), LayFault>
+fn check_lines(text: &[u8]) -> Result<(), At<LayCause>>
     ensures { MatchResult result
         (λ _. (pulls : List StretchValue) × AreLinesRead (lines_of text.now) 1 no_notes (Ok pulls))
         (λ fault. AreLinesRead (lines_of text.now) 1 no_notes (Err fault)) }
@@ -45,7 +35,7 @@ fn check_lines(text: &[u8]) -> Result<(), LayFault>
     let mut free = 0;
     'lines: while let Some((current, after)) = first_line(rest) {
         match follow_line(free, current) {
-            Err(fault) => return Err(fault_at(line, fault)),
+            Err(fault) => return Err(fault.on_line(line)),
             Ok(next) => free = next,
         }
         rest = after;

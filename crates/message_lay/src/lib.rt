@@ -12,6 +12,6 @@ mod pulls;
 mod words;
 
 pub use bits::{BitTimes, MOST_BLOCKS};
-pub use fault::{LayCause, LayError, LayFault};
+pub use fault::{LayCause, LayError};
 pub use laws::{faultless_are_sent, frames_are_sent, laid_are_pulls};
 pub use lay::lay_lines;

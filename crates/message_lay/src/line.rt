@@ -11,12 +11,12 @@ ghost use Rattle.message_lay.specs.Faults.{pulls_in};
 ghost use Rattle.message_lay.specs.Line.{IsContent, IsFrameRead, IsLineRead, are_blocks, blocks_in, blocks_read};
 
 use crate::bits::MOST_BLOCKS;
-use crate::fault::{LayCause, WordFault, at_word, frame_word};
+use crate::fault::LayCause;
 use crate::pulls::{LinePulls, pulls_read};
 use crate::words::{fault_in, time_in};
 use arrayvec::ArrayVec;
-use message_text::{assemble, frames_are_whole};
-use text_core::{digit_value, first_word, is_hex_digit, is_skipped};
+use message_text::{assemble, frame_word, frames_are_whole};
+use text_core::{AtWord, at_word, digit_value, first_word, is_hex_digit, is_skipped};
 
 type Blocks = ArrayVec<u8, MOST_BLOCKS>;
 
@@ -50,7 +50,7 @@ fn hex_bytes(digits: &[u8]) -> Blocks
 }
 
 // The bytes of hex digits, the word of this number.
-fn blocks_of(digits: &[u8], at: usize) -> Result<Blocks, WordFault>
+fn blocks_of(digits: &[u8], at: usize) -> Result<Blocks, AtWord<LayCause>>
     ensures { blocks_in result ≡ blocks_read at digits.now }
 {
     if !are_blocks(digits) {
@@ -60,7 +60,7 @@ fn blocks_of(digits: &[u8], at: usize) -> Result<Blocks, WordFault>
 }
 
 // The bytes of a frame's text, whose first word has this number.
-fn frame_of(text: &[u8], at: usize) -> Result<Blocks, WordFault>
+fn frame_of(text: &[u8], at: usize) -> Result<Blocks, AtWord<LayCause>>
     requires { at < 8 }
     ensures { IsFrameRead at text.now (blocks_in result) }
 {
@@ -82,7 +82,7 @@ fn is_blocks_word(word: &[u8]) -> bool
 }
 
 /// The bytes of what stands after the fault, whose first word has this number: of `blocks HEX`, or of a frame's text.
-fn content_of(rest: Option<&[u8]>, at: usize) -> Result<Blocks, WordFault>
+fn content_of(rest: Option<&[u8]>, at: usize) -> Result<Blocks, AtWord<LayCause>>
     requires { at < 8 }
     ensures { IsContent at (words_after (option_copied rest.entry)) (blocks_in result) }
 {
@@ -104,7 +104,7 @@ fn content_of(rest: Option<&[u8]>, at: usize) -> Result<Blocks, WordFault>
 /// # Errors
 ///
 /// The first cause from the left, and last `Slot`, with the word at fault.
-pub fn line_pulls(line: &[u8]) -> Result<LinePulls, WordFault>
+pub fn line_pulls(line: &[u8]) -> Result<LinePulls, AtWord<LayCause>>
     ensures { IsLineRead line.now (pulls_in result) }
 {
     if is_skipped(line) {

@@ -2,11 +2,12 @@
 ghost use Rattle.std.specs.Prelude.{◌≡◌};
 ghost use Rattle.message_lay.specs.Text.{follow, pull_fault};
 
-use crate::fault::{LayCause, WordFault, at_word};
+use crate::fault::LayCause;
 use line_wave::{LATEST_EVENT, Stretch, WIDEST_PULL};
+use text_core::{AtWord, at_word};
 
 /// What is wrong with a pull that may begin at an instant or later, if anything is.
-fn pull_fault(free: u64, pull: Stretch) -> Option<WordFault>
+fn pull_fault(free: u64, pull: Stretch) -> Option<AtWord<LayCause>>
     ensures { result ≡ pull_fault free pull }
 {
     if pull.from < free {
@@ -25,7 +26,7 @@ fn pull_fault(free: u64, pull: Stretch) -> Option<WordFault>
 /// # Errors
 ///
 /// The first pull at fault: `Order` and `Late` at the line's instant, `Width` at the low of its glitch.
-pub fn follow(free: u64, pulls: &[Stretch]) -> Result<u64, WordFault>
+pub fn follow(free: u64, pulls: &[Stretch]) -> Result<u64, AtWord<LayCause>>
     ensures { result ≡ follow free pulls.now }
 {
     let mut next = free;

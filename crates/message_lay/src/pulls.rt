@@ -5,11 +5,12 @@ ghost use Rattle.message_lay.specs.Bits.{most_blocks, most_slots, stretches_of};
 ghost use Rattle.message_lay.specs.Faults.{fits, glitch_at, is_among, pulls_in, pulls_read, start_times, with_fault};
 
 use crate::bits::{BitTimes, MOST_SLOTS, Slots, nominal_bit, nominal_start, push_blocks};
-use crate::fault::{LayCause, WordFault, at_word};
+use crate::fault::LayCause;
 use crate::glitch::with_pull;
 use arrayvec::ArrayVec;
 use line_rounds::SHORT_PULL;
 use line_wave::{FIRST_SLOT, SLOT, Stretch};
+use text_core::{AtWord, at_word};
 
 /// The most pulls of a line: those of the start bit and of the slots, and a glitch.
 pub const MOST_LAID: usize = 642;
@@ -148,7 +149,7 @@ fn glitch_at(start: u64, slot: u64, after: u32, low: u32) -> Stretch
 /// # Errors
 ///
 /// `Slot` where they have not the slot or the block of the fault.
-pub fn pulls_read(start: u64, fault: Fault, bytes: &[u8]) -> Result<LinePulls, WordFault>
+pub fn pulls_read(start: u64, fault: Fault, bytes: &[u8]) -> Result<LinePulls, AtWord<LayCause>>
     requires early { start ≤ latest_event }
     requires few { length bytes.now ≤ most_blocks }
     ensures { pulls_in result ≡ pulls_read start fault bytes.now }

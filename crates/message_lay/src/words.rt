@@ -6,10 +6,10 @@ ghost use Rattle.text_core.specs.Words.{words_after};
 ghost use Rattle.message_lay.specs.Words.{bit_in, eom_of, fault_after, fault_in, fault_of, glitch_of, is_too_wide, number_in, numbers_in, second_in, third_in, time_in, times_in, verb_of, verb_words};
 
 use crate::bits::BitTimes;
-use crate::fault::{LayCause, WordFault, at_word};
+use crate::fault::LayCause;
 use crate::pulls::Fault;
 use line_wave::{LATEST_EVENT, WIDEST_PULL};
-use text_core::first_word;
+use text_core::{AtWord, at_word, first_word};
 
 /// The verb of a fault.
 #[derive(Clone, Copy, Debug, PartialEq, Eq)]
@@ -76,7 +76,7 @@ fn verb_words(verb: Verb) -> usize
 }
 
 /// The number of the next word, which has this number, and what stands after it.
-fn number_in<'a>(rest: Option<&'a [u8]>, at: usize) -> Result<(u64, Option<&'a [u8]>), WordFault>
+fn number_in<'a>(rest: Option<&'a [u8]>, at: usize) -> Result<(u64, Option<&'a [u8]>), AtWord<LayCause>>
     ensures { MatchResult result
         (λ p. number_in at (words_after (option_copied rest.entry)) ≡ Ok (p.0, words_after (option_copied p.1)))
         (λ fault. number_in at (words_after (option_copied rest.entry)) ≡ Err fault) }
@@ -96,7 +96,7 @@ fn third_in<'a>(
     first: u64,
     second: u64,
     rest: Option<&'a [u8]>,
-) -> Result<(Numbers, Option<&'a [u8]>), WordFault>
+) -> Result<(Numbers, Option<&'a [u8]>), AtWord<LayCause>>
     ensures { MatchResult result
         (λ p. third_in first second (number_in 4 (words_after (option_copied rest.entry))) ≡ Ok (p.0, words_after (option_copied p.1)))
         (λ fault. third_in first second (number_in 4 (words_after (option_copied rest.entry))) ≡ Err fault) }
@@ -119,7 +119,7 @@ fn second_in<'a>(
     count: usize,
     first: u64,
     rest: Option<&'a [u8]>,
-) -> Result<(Numbers, Option<&'a [u8]>), WordFault>
+) -> Result<(Numbers, Option<&'a [u8]>), AtWord<LayCause>>
     ensures { MatchResult result
         (λ p. second_in count first (number_in 3 (words_after (option_copied rest.entry))) ≡ Ok (p.0, words_after (option_copied p.1)))
         (λ fault. second_in count first (number_in 3 (words_after (option_copied rest.entry))) ≡ Err fault) }
@@ -146,7 +146,7 @@ fn second_in<'a>(
 fn numbers_in<'a>(
     count: usize,
     rest: Option<&'a [u8]>,
-) -> Result<(Numbers, Option<&'a [u8]>), WordFault>
+) -> Result<(Numbers, Option<&'a [u8]>), AtWord<LayCause>>
     ensures { MatchResult result
         (λ p. numbers_in count (words_after (option_copied rest.entry)) ≡ Ok (p.0, words_after (option_copied p.1)))
         (λ fault. numbers_in count (words_after (option_copied rest.entry)) ≡ Err fault) }
@@ -176,7 +176,7 @@ fn is_too_wide(width: u64) -> bool
 }
 
 /// The times of a bit, whose low is the word of this number.
-fn times_in(at: usize, low: u64, total: u64) -> Result<BitTimes, WordFault>
+fn times_in(at: usize, low: u64, total: u64) -> Result<BitTimes, AtWord<LayCause>>
     requires { at < 8 }
     ensures { result ≡ times_in at low total }
 {
@@ -202,7 +202,7 @@ fn bit_in(number: u64) -> Option<bool>
     }
 }
 
-fn eom_of(block: u64, bit: Option<bool>) -> Result<Fault, WordFault>
+fn eom_of(block: u64, bit: Option<bool>) -> Result<Fault, AtWord<LayCause>>
     ensures { result ≡ eom_of block bit }
 {
     match bit {
@@ -211,7 +211,7 @@ fn eom_of(block: u64, bit: Option<bool>) -> Result<Fault, WordFault>
     }
 }
 
-fn glitch_of(slot: u64, after: u64, low: u64) -> Result<Fault, WordFault>
+fn glitch_of(slot: u64, after: u64, low: u64) -> Result<Fault, AtWord<LayCause>>
     ensures { result ≡ glitch_of slot after low }
 {
     if is_too_wide(after) {
@@ -228,7 +228,7 @@ fn glitch_of(slot: u64, after: u64, low: u64) -> Result<Fault, WordFault>
 }
 
 /// The fault of a verb and its numbers.
-fn fault_of(verb: Verb, numbers: Numbers) -> Result<Fault, WordFault>
+fn fault_of(verb: Verb, numbers: Numbers) -> Result<Fault, AtWord<LayCause>>
     ensures { result ≡ fault_of verb numbers }
 {
     match verb {
@@ -258,7 +258,7 @@ fn fault_of(verb: Verb, numbers: Numbers) -> Result<Fault, WordFault>
 fn fault_after<'a>(
     verb: Verb,
     rest: Option<&'a [u8]>,
-) -> Result<(Fault, usize, Option<&'a [u8]>), WordFault>
+) -> Result<(Fault, usize, Option<&'a [u8]>), AtWord<LayCause>>
     ensures near { IfOk result (λ p. p.1 < 8) }
     ensures read { MatchResult result
         (λ p. fault_after verb (numbers_in (verb_words verb) (words_after (option_copied rest.entry))) ≡ Ok (record { fault = p.0; at = p.1; words = words_after (option_copied p.2) }))
@@ -276,7 +276,7 @@ fn fault_after<'a>(
 
 /// The fault of the words after the instant, the number of the word after it, and what stands from that word on. A line has no
 /// fault where the word after its instant is no verb of one.
-pub fn fault_in<'a>(rest: Option<&'a [u8]>) -> Result<(Fault, usize, Option<&'a [u8]>), WordFault>
+pub fn fault_in<'a>(rest: Option<&'a [u8]>) -> Result<(Fault, usize, Option<&'a [u8]>), AtWord<LayCause>>
     ensures near { IfOk result (λ p. p.1 < 8) }
     ensures read { MatchResult result
         (λ p. fault_in (words_after (option_copied rest.entry)) ≡ Ok (record { fault = p.0; at = p.1; words = words_after (option_copied p.2) }))

@@ -11,6 +11,7 @@ use Rattle.text_core.specs.Written.{Written, WrittenFront}
 use Rattle.text_core.specs.declared.sink.WriteFault.{WriteFault}
 use Rattle.message_text.specs.declared.assembler.AssembleError.{AssembleError}
 use Rattle.text_core.specs.Lines.{is_skipped, lines_of}
+use Rattle.message_text.specs.Causes.{frame_word}
 use Rattle.message_text.specs.FrameLines.{AreTextsOf, IsFirstFault, IsRead, IsTextOf, hex_line, lines_of_frames}
 
 texts_joined : (xs ys : List (List ℕ)) (fs gs : List (List ℕ)) → AreTextsOf xs fs → AreTextsOf ys gs → AreTextsOf (xs ++ ys) (fs ++ gs)
@@ -109,7 +110,8 @@ checked_more text rest after current number o k e h =
     }
 
 pub fault_at : (text rest after current : List ℕ) (number : ℕ) (cause : AssembleError) → Checked text rest number
-    → lines_of rest ≡ current ∷ lines_of after → IsRead current (Err cause) → IsFirstFault (lines_of text) number cause
+    → lines_of rest ≡ current ∷ lines_of after → IsRead current (Err cause)
+    → IsFirstFault (lines_of text) (record { line = number; cause = cause; word = frame_word cause })
 fault_at text rest after current number cause k e h = record {
   before = k.before;
   line = current;
@@ -120,6 +122,7 @@ fault_at text rest after current number cause k e h = record {
   texts = k.texts;
   is_reported = h.0;
   refused = h.1;
+  word = refl;
   no_text = h.2;
 }
 

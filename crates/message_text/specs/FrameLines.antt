@@ -4,6 +4,8 @@ use Rattle.std.specs.Prelude.{◌≡◌, ℕ, ◌+◌, Bool, true, false, not, L
 use Rattle.std.specs.List.{flat_map}
 use Rattle.text_core.specs.Piece.{hex_text}
 use Rattle.text_core.specs.Lines.{is_skipped}
+use Rattle.text_core.specs.declared.at.At.{At}
+use Rattle.message_text.specs.Causes.{frame_word}
 use Rattle.message_text.specs.FrameReading.{is_frame}
 use Rattle.message_text.specs.FrameText.{frame_text}
 use Rattle.message_text.specs.Refusals.{IsRefused}
@@ -32,17 +34,18 @@ AreTextsOf (line ∷ lines) (frame ∷ frames) = IsTextOf line frame × AreTexts
 abbrev pub hex_line : List ℕ → List ℕ
 hex_line frame = flat_map hex_text frame ++ 10 ∷ []
 
--- The line of this number, counted from 1, is the first that reports no frame, and why.
-pub record IsFirstFault (lines : List (List ℕ)) (number : ℕ) (cause : AssembleError) : Type 0 where
+-- The line at fault is the first that reports no frame, and this is why.
+pub record IsFirstFault (lines : List (List ℕ)) (fault : At AssembleError) : Type 0 where
   pub before : List (List ℕ)
   pub line : List ℕ
   pub after : List (List ℕ)
   pub all : lines ≡ before ++ line ∷ after
-  pub count : number ≡ length before + 1
+  pub count : fault.line ≡ length before + 1
   pub frames : List (List ℕ)
   pub texts : AreTextsOf (lines_of_frames before) frames
   pub is_reported : is_skipped line ≡ false
-  pub refused : IsRefused line cause
+  pub refused : IsRefused line fault.cause
+  pub word : fault.word ≡ frame_word fault.cause
   pub no_text : (frame : List ℕ) → IsTextOf line frame → ⊥
 
 -- what is read of a line
@@ -60,4 +63,4 @@ Answers old new was is lines (Ok n) =
 Answers old new was is lines (Err (Write fault)) =
     (frames : List (List ℕ)) × (AreTextsOf (lines_of_frames lines) frames × WrittenAll old new was is (flat_map hex_line frames) (Err fault))
 Answers old new was is lines (Err (Line fault)) =
-    IsFirstFault lines fault.line fault.cause × (new ≡ old) × (is ≡ was)
+    IsFirstFault lines fault × (new ≡ old) × (is ≡ was)

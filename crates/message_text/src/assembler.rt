@@ -1,5 +1,6 @@
 //! From frame texts to frames.
 ghost use Rattle.std.specs.Prelude.{◌≡◌, ℕ, List, IfOk, IfErr, IsTrue};
+ghost use Rattle.message_text.specs.Causes.{frame_word};
 ghost use Rattle.message_text.specs.FrameReading.{is_frame};
 ghost use Rattle.message_text.specs.FrameText.{frame_text};
 ghost use Rattle.message_text.specs.Refusals.{IsRefused};
@@ -43,6 +44,17 @@ impl fmt::Display for AssembleError {
 }
 
 impl std::error::Error for AssembleError {}
+
+/// The word of a text from which on it is no frame's, counted from 0: its addresses, its name, or what stands after.
+pub fn frame_word(cause: AssembleError) -> usize
+    ensures { result ≡ frame_word cause }
+{
+    match cause {
+        AssembleError::Address => 0,
+        AssembleError::Name => 1,
+        AssembleError::Operand | AssembleError::Count | AssembleError::TooLong => 2,
+    }
+}
 
 /// The frame of a text: the one whose text it is.
 ///

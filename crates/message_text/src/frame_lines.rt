@@ -5,28 +5,20 @@ ghost use Rattle.message_text.specs.FrameLines.{AreTextsOf, Answers, IsFirstFaul
 ghost use Rattle.text_core.specs.Lines.{is_skipped, lines_of};
 ghost use Rattle.text_core.specs.Written.{Written, WrittenAll};
 
-use crate::assembler::{AssembleError, assemble};
+use crate::assembler::{AssembleError, assemble, frame_word};
 use crate::laws::frames_are_whole;
 use crate::reading::candidate;
 use arrayvec::ArrayVec;
 use line_frames::Frame;
-use text_core::{Sink, WriteFault, first_line, hex_digit, is_skipped, put_all};
+use text_core::{At, Sink, WriteFault, at_word, first_line, hex_digit, is_skipped, put_all};
 use thiserror::Error;
-
-/// The first line that reports no frame, counted from 1, and why.
-#[derive(Clone, Copy, Debug, Drop, PartialEq, Eq, Error)]
-#[error("line {line}: {cause}")]
-pub struct LineFault {
-    pub line: u64,
-    pub cause: AssembleError,
-}
 
 /// Why frames are not written in hex.
 #[derive(Clone, Copy, Debug, Drop, PartialEq, Eq, Error)]
 pub enum FrameLinesError {
     /// A line reports no frame. Nothing was written.
     #[error(transparent)]
-    Line(LineFault),
+    Line(At<AssembleError>),
     /// The sink took no more than the first bytes.
     #[error(transparent)]
     Write(WriteFault),
@@ -49,16 +41,16 @@ fn frame_of(line: &[u8]) -> Result<Option<Frame>, AssembleError>
 }
 
 // Looks for a line that reports no frame.
-fn check_lines(text: &[u8]) -> Result<(), LineFault>
+fn check_lines(text: &[u8]) -> Result<(), At<AssembleError>>
     ensures { MatchResult result
         (λ _. (frames : List (List ℕ)) × AreTextsOf (lines_of_frames (lines_of text.now)) frames)
-        (λ fault. IsFirstFault (lines_of text.now) fault.line fault.cause) }
+        (λ fault. IsFirstFault (lines_of text.now) fault) }
 {
     let mut rest = text;
     let mut line = 1u64;
     while let Some((current, after)) = first_line(rest) {
         if let Err(cause) = frame_of(current) {
-            return Err(LineFault { line, cause });
+            return Err(at_word(frame_word(cause), cause).on_line(line));
         }
         rest = after;
         line += 1;

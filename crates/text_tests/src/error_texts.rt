@@ -7,12 +7,12 @@ use edid_tree::{AddError, PlugError, PortEdidError, UnplugError};
 use line_frames::FrameError;
 use line_wave::PulsesError;
 use message_table::EncodeError;
-use message_text::{AssembleError, FrameLinesError, LineFault};
+use message_text::{AssembleError, FrameLinesError};
 use std::alloc::Global;
 use std::fmt::Display;
 use std::process::Abort;
 use std::test::Fail;
-use text_core::WriteFault;
+use text_core::{At, WriteFault};
 
 const FRAMES: &[(FrameError, &str)] = &[
     (FrameError::Empty, "a frame has at least one block"),
@@ -115,9 +115,10 @@ const WRITES: &[(WriteFault, &str)] = &[(WriteFault { count: 12 }, "write fault 
 
 const FRAME_LINES: &[(FrameLinesError, &str)] = &[
     (
-        FrameLinesError::Line(LineFault {
+        FrameLinesError::Line(At {
             line: 7,
             cause: AssembleError::TooLong,
+            word: 2,
         }),
         "line 7: too-long",
     ),
