@@ -12,14 +12,14 @@ use Rattle.line_wave.specs.Bounds.{latest_event, most_pulses, most_pulls, widest
 use Rattle.device_features.specs.declared.keys.Key.{Key as KeyValue}
 use Rattle.edid_tree.specs.Node.{Node}
 use Rattle.edid_tree.specs.Tree.{device_named}
-use Rattle.message_text.specs.Causes.{assemble_cause}
+use Rattle.message_text.specs.Causes.{assemble_cause, frame_word}
 use Rattle.message_text.specs.FrameLines.{IsTextOf}
 use Rattle.text_core.specs.Lines.{lines_of, is_skipped}
 use Rattle.message_text.specs.Refusals.{IsRefused}
 use Rattle.message_text.specs.declared.assembler.AssembleError.{AssembleError}
 use Rattle.text_core.specs.Words.{words_of, one_of, two_of, three_of}
 use Rattle.text_core.specs.Number.{number_of}
-use Rattle.room_script.specs.Fault.{misfit, frame_word}
+use Rattle.room_script.specs.Fault.{misfit}
 use Rattle.text_core.specs.At.{at_line, at_word}
 use Rattle.text_core.specs.declared.at.At.{At}
 use Rattle.room_script.specs.Keys.{key_of}

@@ -2,11 +2,10 @@
 ghost use Rattle.std.specs.Prelude.{◌≡◌, ◌+◌, ◌≤◌, length};
 ghost use Rattle.std.specs.Option.{option_copied};
 ghost use Rattle.text_core.specs.Words.{words_after};
-ghost use Rattle.room_script.specs.Fault.{frame_word, misfit};
+ghost use Rattle.room_script.specs.Fault.{misfit};
 
 use crate::counting::word_count;
 use crate::script::ScriptCause;
-use message_text::AssembleError;
 use text_core::{AtWord, at_word};
 
 /// Of words after so many, of which others than so many are left.
@@ -15,15 +14,4 @@ pub fn misfit(before: usize, rest: Option<&[u8]>, wanted: usize) -> AtWord<Scrip
     ensures { result ≡ misfit before (length (words_after (option_copied rest.entry))) wanted }
 {
     at_word(before + word_count(rest, wanted), ScriptCause::Word)
-}
-
-/// The word of a frame's text from which on it is at fault.
-pub fn frame_word(cause: AssembleError) -> usize
-    ensures { result ≡ frame_word cause }
-{
-    match cause {
-        AssembleError::Address => 0,
-        AssembleError::Name => 1,
-        AssembleError::Operand | AssembleError::Count | AssembleError::TooLong => 2,
-    }
 }

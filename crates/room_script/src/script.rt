@@ -7,7 +7,7 @@ ghost use Rattle.room_script.specs.Header.{digits_text, header_names};
 ghost use Rattle.room_script.specs.Script.{no_notes, notes_of, course_of, time_of, last_time, last_end, notes_with_event, plug_words, unplug_words, key_words, act_read, hold_words, drop_words, event_words, send_read, frame_event, pulse_fault, pulse_refusal, notes_with_pulse, pulse_words, touches, notes_with_pull, pull_words, end_words, other_words, error_at, IsFrameOf, IsSendRead, IsEventRead, IsLineRead, GivesNotes, Gives, GivesScript, IsScript};
 
 use crate::course::Script;
-use crate::fault::{frame_word, misfit};
+use crate::fault::misfit;
 use crate::header::{has_names, header_names, text_with_digits};
 use crate::holding::hold_in;
 use crate::keys::key_in;
@@ -19,7 +19,7 @@ use line_frames::Frame;
 use line_wave::{
     LATEST_EVENT, MOST_PULLS, MOST_PULSES, PulsesError, Stretch, WIDEST_PULL, stretch_fault,
 };
-use message_text::{AssembleError, assemble, frames_are_whole};
+use message_text::{AssembleError, assemble, frame_word, frames_are_whole};
 use room_event::{Event, HeaderNames};
 use std::alloc::{AllocError, AllocFailed, Global};
 use std::fmt::{self, Write};
