@@ -733,7 +733,11 @@ pub fn parse_script(alloc: Global, topology: &Topology, text: &[u8]) -> Result<S
         number += 1;
     }
     let Some(end) = draft.end else {
-        return Err(ScriptError::At(at_word(0, ScriptCause::End).on_line(number)));
+        return Err(ScriptError::At(At {
+            line: number,
+            cause: ScriptCause::End,
+            word: 0,
+        }));
     };
     Ok(Script {
         events: draft.events,
