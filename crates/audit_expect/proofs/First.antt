@@ -1,17 +1,18 @@
 -- The first line at fault, where faults are of two kinds.
 use Rattle.std.proofs.Common.{◌≡◌, ℕ, ◌+◌, ◌≤◌, Bool, true, false, nat_lt, List, [], ◌∷◌, Option, Some, None, ap, refl, cond, arith, lt-ltb, le-ltb}
 use Rattle.expect_text.specs.Faults.{fault_or, line_fault as expectation_fault, faults_from as expectations_from}
-use Rattle.expect_text.specs.declared.fault.ExpectLineFault.{ExpectLineFault}
-use Rattle.expect_text.specs.declared.faults.ExpectFault.{ExpectFault}
+use Rattle.text_core.specs.declared.at.AtWord.{AtWord}
+use Rattle.expect_text.specs.declared.form.ExpectCause.{ExpectCause}
+use Rattle.text_core.specs.declared.at.At.{At}
 use Rattle.audit_expect.specs.Lines.{line_fault}
 use Rattle.audit_expect.specs.Faults.{earlier, faults_from, kinds_from, or_else}
 
 -- a fault stands on this line or after it
-abbrev NotBefore : ℕ → Option ExpectFault → Type 0
+abbrev NotBefore : ℕ → Option (At ExpectCause) → Type 0
 NotBefore number None = Unit {0}
 NotBefore number (Some fault) = number ≤ fault.line
 
-not_before : (number : ℕ) (fault : Option ExpectLineFault) (next : Option ExpectFault) → NotBefore (number + 1) next → NotBefore number (fault_or number fault next)
+not_before : (number : ℕ) (fault : Option (AtWord ExpectCause)) (next : Option (At ExpectCause)) → NotBefore (number + 1) next → NotBefore number (fault_or number fault next)
 not_before number None None h = tt
 not_before number None (Some later) h = omega (arith, h)
 not_before number (Some fault) next h = omega arith
@@ -25,10 +26,10 @@ expectations_not_before text number [] = tt
 expectations_not_before text number (line ∷ lines) =
     not_before number (expectation_fault [] text number line) (expectations_from [] text (number + 1) lines) (expectations_not_before text (number + 1) lines)
 
-choose : (b c : Bool) (x y : ExpectFault) → b ≡ c → (cond b (Some x) (Some y)) ≡ cond c (Some x) (Some y)
+choose : (b c : Bool) (x y : At ExpectCause) → b ≡ c → (cond b (Some x) (Some y)) ≡ cond c (Some x) (Some y)
 choose b c x y e = ap (λ v. cond v (Some x) (Some y)) e
 
-joined : (number : ℕ) (own other : Option ExpectLineFault) (kinds expectations all : Option ExpectFault) → NotBefore (number + 1) kinds → NotBefore (number + 1) expectations
+joined : (number : ℕ) (own other : Option (AtWord ExpectCause)) (kinds expectations all : Option (At ExpectCause)) → NotBefore (number + 1) kinds → NotBefore (number + 1) expectations
     → earlier kinds expectations ≡ all → earlier (fault_or number own kinds) (fault_or number other expectations) ≡ fault_or number (or_else own other) all
 joined number None None kinds expectations all k e is = is
 joined number None (Some other) None expectations all k e is = refl

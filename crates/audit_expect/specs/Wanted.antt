@@ -8,12 +8,13 @@ use Rattle.json_trace.specs.Parts.{after_word, word}
 use Rattle.audit_lines.specs.Kinds.{has_remark, is_remark, kind_of, name_of}
 use Rattle.audit_lines.specs.declared.kind.AuditLine.{AuditLine}
 use Rattle.audit_lines.specs.declared.kind.AuditLine.TheVariants.{NoAnswer, LateAnswer, Free, StartLow, StartTotal, BitLow, BitTotal, LowDrive, DriveWithin, Unfinished, LastAttempt, Receivers, Operands}
-use Rattle.expect_text.specs.Fault.{at_word}
+use Rattle.text_core.specs.At.{at_word}
 use Rattle.expect_text.specs.Faults.{fault_or}
 use Rattle.expect_text.specs.Fits.{fits}
 use Rattle.expect_text.specs.Form.{is_pattern}
-use Rattle.expect_text.specs.declared.fault.ExpectLineFault.{ExpectLineFault}
-use Rattle.expect_text.specs.declared.faults.ExpectFault.{ExpectFault}
+use Rattle.text_core.specs.declared.at.AtWord.{AtWord}
+use Rattle.expect_text.specs.declared.form.ExpectCause.{ExpectCause}
+use Rattle.text_core.specs.declared.at.At.{At}
 use Rattle.expect_text.specs.declared.form.ExpectCause.TheVariants.{Word, Pattern, Unmet}
 use Rattle.expect_run.specs.Report.{Report, shown_line, with_remarks, with_test}
 use Rattle.audit_expect.specs.declared.wanted.WantedRemarks.{WantedRemarks as WantedRead}
@@ -63,23 +64,23 @@ abbrev pub is_called : List ℕ → List AuditLine → Bool
 is_called pattern kinds = list_any (λ kind. fits pattern (name_of kind)) kinds
 
 -- a pattern is one as of readings, whose first word the name of some kind of remarks meets
-abbrev pub pattern_fault : List ℕ → Option ExpectLineFault
+abbrev pub pattern_fault : List ℕ → Option (AtWord ExpectCause)
 pattern_fault pattern =
     if length pattern == 0 then Some (at_word 2 Word)
     else if is_pattern pattern then (if is_called (word pattern) remark_kinds then None else Some (at_word 2 Unmet))
     else Some (at_word 2 Pattern)
 
 -- no word stands after `no-remark`
-abbrev pub lone_fault : List ℕ → Option ExpectLineFault
+abbrev pub lone_fault : List ℕ → Option (AtWord ExpectCause)
 lone_fault line = if bytes_eq line (codes "expect no-remark") then None else Some (at_word 2 Word)
 
-abbrev pub wanted_fault : List ℕ → Option WantedRemarks → Option ExpectLineFault
+abbrev pub wanted_fault : List ℕ → Option WantedRemarks → Option (AtWord ExpectCause)
 wanted_fault line None = None
 wanted_fault line (Some NoRemark) = lone_fault line
 wanted_fault line (Some (Remark pattern)) = pattern_fault pattern
 
 -- the first of these lines, of which the first has this number, that expects something of remarks and is at fault
-abbrev pub wanted_faults : ℕ → List (List ℕ) → Option ExpectFault
+abbrev pub wanted_faults : ℕ → List (List ℕ) → Option (At ExpectCause)
 wanted_faults number [] = None
 wanted_faults number (line ∷ lines) = fault_or number (wanted_fault line (wanted_of line)) (wanted_faults (number + 1) lines)
 

@@ -12,9 +12,9 @@ use crate::wanted::plain_text;
 use capture_core::Capture;
 use capture_monitor::watch_capture;
 use expect_run::{Held, ReportDraft, Tally, add_plan, open_report, tally_of};
-use expect_text::ExpectFault;
+use expect_text::ExpectCause;
 use std::alloc::{AllocError, Global};
-use text_core::{Sink, put_all};
+use text_core::{At, Sink, put_all};
 use thiserror::Error;
 
 /// Why there is no report of a capture, or not all of it.
@@ -22,7 +22,7 @@ use thiserror::Error;
 pub enum CaptureCheckError {
     /// The first line of the expectations at fault.
     #[error("expectations {0}")]
-    Expect(ExpectFault),
+    Expect(At<ExpectCause>),
     /// A `put` took none. So many bytes of the report were written.
     #[error("write fault after {0} bytes")]
     Write(u128),

@@ -10,11 +10,9 @@ ghost use Rattle.audit_expect.specs.Wanted.{plain_text};
 ghost use Rattle.audit_expect.specs.Faults.{earlier, first_fault, kinds_from, readings_fault};
 
 use crate::wanted::wanted_fault_in;
-use expect_text::{
-    ExpectCause, ExpectFault, ExpectLineFault, after_label, at_word, exact_number, unlabelled,
-};
+use expect_text::{ExpectCause, after_label, exact_number, unlabelled};
 use std::alloc::{AllocError, Global};
-use text_core::{first_line, first_word, is_skipped};
+use text_core::{At, AtWord, at_word, first_line, first_word, is_skipped};
 
 // Whether this is the first word.
 fn has_verb(verb: &[u8], rest: Option<&[u8]>) -> bool
@@ -76,7 +74,7 @@ pub(crate) fn instant_of(line: &[u8]) -> Option<u64>
     }
 }
 
-fn time_fault(word: usize, time: Option<u64>) -> Option<ExpectLineFault>
+fn time_fault(word: usize, time: Option<u64>) -> Option<AtWord<ExpectCause>>
     ensures { result ≡ time_fault word time }
 {
     match time {
@@ -85,7 +83,7 @@ fn time_fault(word: usize, time: Option<u64>) -> Option<ExpectLineFault>
     }
 }
 
-fn named_fault(rest: Option<&[u8]>) -> Option<ExpectLineFault>
+fn named_fault(rest: Option<&[u8]>) -> Option<AtWord<ExpectCause>>
     ensures { result ≡ named_fault (words_after (option_copied rest.entry)) }
 {
     let Some(text) = rest else {
@@ -105,7 +103,7 @@ fn named_fault(rest: Option<&[u8]>) -> Option<ExpectLineFault>
     }
 }
 
-fn event_fault(rest: Option<&[u8]>) -> Option<ExpectLineFault>
+fn event_fault(rest: Option<&[u8]>) -> Option<AtWord<ExpectCause>>
     ensures { result ≡ event_fault (words_after (option_copied rest.entry)) }
 {
     let Some(text) = rest else {
@@ -123,7 +121,7 @@ fn event_fault(rest: Option<&[u8]>) -> Option<ExpectLineFault>
     }
 }
 
-fn instant_fault(label: Option<&[u8]>, rest: Option<&[u8]>) -> Option<ExpectLineFault>
+fn instant_fault(label: Option<&[u8]>, rest: Option<&[u8]>) -> Option<AtWord<ExpectCause>>
     ensures { result ≡ instant_fault (option_copied label.entry) (words_after (option_copied rest.entry)) }
 {
     match label {
@@ -139,7 +137,7 @@ fn is_of_run(rest: Option<&[u8]>) -> bool
     has_verb(b"refused", rest) || has_verb(b"state", rest)
 }
 
-fn expectation_fault(label: Option<&[u8]>, rest: Option<&[u8]>) -> Option<ExpectLineFault>
+fn expectation_fault(label: Option<&[u8]>, rest: Option<&[u8]>) -> Option<AtWord<ExpectCause>>
     ensures { result ≡ option_map (after_label (option_copied label.entry)) (expectation_fault (words_after (option_copied rest.entry))) }
 {
     if is_of_run(rest) {
@@ -149,7 +147,7 @@ fn expectation_fault(label: Option<&[u8]>, rest: Option<&[u8]>) -> Option<Expect
     }
 }
 
-fn verb_fault(label: Option<&[u8]>, verb: &[u8]) -> ExpectLineFault
+fn verb_fault(label: Option<&[u8]>, verb: &[u8]) -> AtWord<ExpectCause>
     ensures { result ≡ verb_fault (option_copied label.entry) verb.now }
 {
     match label {
@@ -179,7 +177,7 @@ fn is_passed(label: Option<&[u8]>, verb: &[u8]) -> bool
     }
 }
 
-fn kind_fault(label: Option<&[u8]>, rest: Option<&[u8]>) -> Option<ExpectLineFault>
+fn kind_fault(label: Option<&[u8]>, rest: Option<&[u8]>) -> Option<AtWord<ExpectCause>>
     ensures { result ≡ kind_fault (option_copied label.entry) (words_after (option_copied rest.entry)) }
 {
     let Some(text) = rest else {
@@ -197,7 +195,7 @@ fn kind_fault(label: Option<&[u8]>, rest: Option<&[u8]>) -> Option<ExpectLineFau
     }
 }
 
-fn line_fault(line: &[u8]) -> Option<ExpectLineFault>
+fn line_fault(line: &[u8]) -> Option<AtWord<ExpectCause>>
     ensures { result ≡ line_fault line.now }
 {
     if is_skipped(line) {
@@ -208,18 +206,14 @@ fn line_fault(line: &[u8]) -> Option<ExpectLineFault>
 }
 
 // The first line that is none of a capture's.
-fn kind_fault_in(text: &[u8]) -> Option<ExpectFault>
+fn kind_fault_in(text: &[u8]) -> Option<At<ExpectCause>>
     ensures { result ≡ kinds_from 1 (lines_of text.now) }
 {
     let mut rest = text;
     let mut number = 1u64;
     'lines: while let Some((line, after)) = first_line(rest) {
         if let Some(fault) = line_fault(line) {
-            return Some(ExpectFault {
-                line: number,
-                cause: fault.cause,
-                word: fault.word,
-            });
+            return Some(fault.on_line(number));
         }
         rest = after;
         number += 1;
@@ -227,7 +221,10 @@ fn kind_fault_in(text: &[u8]) -> Option<ExpectFault>
     None
 }
 
-fn earlier(fault: Option<ExpectFault>, other: Option<ExpectFault>) -> Option<ExpectFault>
+fn earlier(
+    fault: Option<At<ExpectCause>>,
+    other: Option<At<ExpectCause>>,
+) -> Option<At<ExpectCause>>
     ensures { result ≡ earlier fault other }
 {
     match fault {
@@ -246,7 +243,7 @@ fn earlier(fault: Option<ExpectFault>, other: Option<ExpectFault>) -> Option<Exp
 }
 
 // The first line of expectations of readings that is at fault.
-fn readings_fault(alloc: Global, text: &[u8]) -> Result<Option<ExpectFault>, AllocError>
+fn readings_fault(alloc: Global, text: &[u8]) -> Result<Option<At<ExpectCause>>, AllocError>
     ensures { IfOk result (λ fault. fault ≡ readings_fault text.now) }
 {
     let fault = expect_text::first_fault(alloc, &[], text)?;
@@ -262,7 +259,7 @@ pub(crate) fn first_fault(
     alloc: Global,
     text: &[u8],
     plain: &[u8],
-) -> Result<Option<ExpectFault>, AllocError>
+) -> Result<Option<At<ExpectCause>>, AllocError>
     requires { plain.now ≡ plain_text text.now }
     ensures { IfOk result (λ fault. fault ≡ first_fault text.now) }
 {

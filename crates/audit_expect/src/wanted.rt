@@ -6,10 +6,10 @@ ghost use Rattle.expect_text.specs.Form.{is_open_ended, is_pattern, stars};
 ghost use Rattle.audit_expect.specs.Wanted.{is_any_wanted, is_called, lone_fault, pattern_fault, plain_line, plain_text, remark_kinds, wanted_as, wanted_by, wanted_fault, wanted_faults, wanted_of};
 
 use audit_lines::AuditLine;
-use expect_text::{ExpectCause, ExpectFault, ExpectLineFault, at_word, fits};
+use expect_text::{ExpectCause, fits};
 use json_trace::{after_word, word};
 use std::alloc::{AllocError, Global};
-use text_core::{byte_at, first_line};
+use text_core::{At, AtWord, at_word, byte_at, first_line};
 
 /// What a line expects of the remarks of an audit.
 #[derive(Clone, Copy, Debug)]
@@ -175,7 +175,7 @@ fn is_remark_called(pattern: &[u8]) -> bool
     is_called(pattern, REMARKS)
 }
 
-fn pattern_fault(pattern: &[u8]) -> Option<ExpectLineFault>
+fn pattern_fault(pattern: &[u8]) -> Option<AtWord<ExpectCause>>
     ensures { result ≡ pattern_fault pattern.now }
 {
     if pattern.is_empty() {
@@ -190,7 +190,7 @@ fn pattern_fault(pattern: &[u8]) -> Option<ExpectLineFault>
 }
 
 // Whether nothing stands after `no-remark`.
-fn lone_fault(line: &[u8]) -> Option<ExpectLineFault>
+fn lone_fault(line: &[u8]) -> Option<AtWord<ExpectCause>>
     ensures { result ≡ lone_fault line.now }
 {
     if line == b"expect no-remark".as_slice() {
@@ -200,7 +200,7 @@ fn lone_fault(line: &[u8]) -> Option<ExpectLineFault>
     }
 }
 
-fn wanted_fault(line: &[u8]) -> Option<ExpectLineFault>
+fn wanted_fault(line: &[u8]) -> Option<AtWord<ExpectCause>>
     ensures { result ≡ wanted_fault line.now (wanted_of line.now) }
 {
     match wanted_of(line) {
@@ -213,18 +213,14 @@ fn wanted_fault(line: &[u8]) -> Option<ExpectLineFault>
 }
 
 /// The first line that expects something of remarks and is at fault.
-pub(crate) fn wanted_fault_in(text: &[u8]) -> Option<ExpectFault>
+pub(crate) fn wanted_fault_in(text: &[u8]) -> Option<At<ExpectCause>>
     ensures { result ≡ wanted_faults 1 (lines_of text.now) }
 {
     let mut rest = text;
     let mut number = 1u64;
     'lines: while let Some((line, after)) = first_line(rest) {
         if let Some(fault) = wanted_fault(line) {
-            return Some(ExpectFault {
-                line: number,
-                cause: fault.cause,
-                word: fault.word,
-            });
+            return Some(fault.on_line(number));
         }
         rest = after;
         number += 1;

@@ -21,7 +21,10 @@ use Rattle.text_core.specs.Number.{number_of}
 use Rattle.text_core.specs.Words.{one_of, three_of, words_of}
 use Rattle.capture_vcd.specs.Dump.{is_end, is_space}
 use Rattle.text_core.specs.Kind.{kind_named}
-use Rattle.room_script.specs.Topology.{Plan, TopologyFault, at_line, at_word, fault_at, bytes_of, device_line, device_read, edid_line, edid_read, line_read, lines_read, plug_line, plug_read, topology_of, unless_add, unless_plug, plan_with_words}
+use Rattle.room_script.specs.Topology.{Plan, after_line, bytes_of, device_line, device_read, edid_line, edid_read, line_read, lines_read, plug_line, plug_read, topology_of, unless_add, unless_plug, plan_with_words}
+use Rattle.text_core.specs.declared.at.At.{At}
+use Rattle.room_script.specs.declared.topology.TopologyCause.{TopologyCause}
+use Rattle.text_core.specs.At.{at_line, at_word}
 use Rattle.room_script.specs.declared.topology.TopologyCause.TheVariants as causes
 use Rattle.device_core.specs.State.{State, frame_of, addresses_held, holds, one_more, with_queued, speaks}
 use Rattle.device_core.specs.Place.{fresh, is_on_wire, after_joining, reported_by, reported_from, start_place}
@@ -217,15 +220,15 @@ named_lines : (lines : List (List ℕ)) (number : ℕ) (plan end : Plan) → Are
 unfolding Keeps
 named_lines [] number plan end h e = step (has_root plan.tree) e
   where
-    none : Result Plan TopologyFault
-    none = Err (fault_at number (at_word 0 causes.NoRoot))
+    none : Result Plan (At TopologyCause)
+    none = Err (at_line number (at_word 0 causes.NoRoot))
 
     step : (b : Bool) → (if b then Ok plan else none) ≡ Ok end → AreNamed end.tree
     step true k = let same : plan ≡ end = cc in subst (λ (p : Plan). AreNamed p.tree) same h
     step false k = cc
 named_lines (line ∷ lines) number plan end h e =
     let on : (next : Plan) → AreNamed next.tree → lines_read lines (number + 1) next ≡ Ok end → AreNamed end.tree = λ next k. named_lines lines (number + 1) next end k in
-    elim (line_read plan line) as (λ r. Keeps r → at_line number r (λ next. lines_read lines (number + 1) next) ≡ Ok end → AreNamed end.tree) [
+    elim (line_read plan line) as (λ r. Keeps r → after_line number r (λ next. lines_read lines (number + 1) next) ≡ Ok end → AreNamed end.tree) [
       | Ok next ↦ λ k e. on next k e
       | Err fault ↦ λ k e. (cc)
     ] (keeps_line plan line h) e

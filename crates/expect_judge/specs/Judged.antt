@@ -10,7 +10,8 @@ use Rattle.expect_text.specs.Form.{ExpectLine, ExpectWindow, form_in}
 use Rattle.expect_text.specs.Form.ExpectLine.{Other, Rounds, State, Refused}
 use Rattle.expect_text.specs.Form.ExpectWindow.{Within, From}
 use Rattle.expect_text.specs.Faults.{line_of_label, event_meant}
-use Rattle.expect_text.specs.declared.fault.ExpectLineFault.{ExpectLineFault}
+use Rattle.text_core.specs.declared.at.AtWord.{AtWord}
+use Rattle.expect_text.specs.declared.form.ExpectCause.{ExpectCause}
 use Rattle.expect_text.specs.declared.form.Quantity.{Quantity}
 use Rattle.expect_text.specs.declared.form.Quantity.TheVariants.{AtLeastOnce, Never, Once}
 use Rattle.expect_judge.specs.Told.{EventLine, event_at, refusal_in, state_words}
@@ -122,7 +123,7 @@ abbrev pub nothing : Judged
 nothing = record { holds = None; at = None; span = None; count = 0 }
 
 -- of a line that may have a label and be a pulse
-abbrev pub form_judged : List ℕ → List ℕ → List ℕ → (ℕ → Option ℕ) → ℕ → Bool → Option ℕ → Result ExpectLine ExpectLineFault → Judged
+abbrev pub form_judged : List ℕ → List ℕ → List ℕ → (ℕ → Option ℕ) → ℕ → Bool → Option ℕ → Result ExpectLine (AtWord ExpectCause) → Judged
 form_judged script trace state at number named onset (Err cause) = failure
 form_judged script trace state at number named onset (Ok Other) = if named then other_judged trace number onset else nothing
 form_judged script trace state at number named onset (Ok (Rounds quantity window pattern)) = rounds_judged trace quantity pattern (span_of script at window)
@@ -176,7 +177,7 @@ findings_of script trace states = findings_from 1 states (verdicts_of script tra
 
 -- ---- state lines
 
-abbrev pub is_state_form : Result ExpectLine ExpectLineFault → Bool
+abbrev pub is_state_form : Result ExpectLine (AtWord ExpectCause) → Bool
 is_state_form (Err cause) = false
 is_state_form (Ok Other) = false
 is_state_form (Ok (Rounds quantity window pattern)) = false
@@ -208,7 +209,7 @@ abbrev pub is_number : ℕ → Option ℕ → Bool
 is_number number None = false
 is_number number (Some line) = line == number
 
-abbrev pub form_expects : List ℕ → ℕ → ℕ → Result ExpectLine ExpectLineFault → Bool
+abbrev pub form_expects : List ℕ → ℕ → ℕ → Result ExpectLine (AtWord ExpectCause) → Bool
 form_expects script own number (Err cause) = false
 form_expects script own number (Ok Other) = false
 form_expects script own number (Ok (Rounds quantity window pattern)) = false

@@ -6,12 +6,13 @@ use Rattle.text_core.specs.Words.{words_of}
 use Rattle.expect_text.specs.Line.{label_in, unlabelled_words}
 use Rattle.expect_text.specs.Form.{ExpectLine, form_in}
 use Rattle.expect_text.specs.Form.ExpectLine.{Other, Rounds, State, Refused}
-use Rattle.expect_text.specs.declared.fault.ExpectLineFault.{ExpectLineFault}
+use Rattle.text_core.specs.declared.at.AtWord.{AtWord}
+use Rattle.expect_text.specs.declared.form.ExpectCause.{ExpectCause}
 
 abbrev pub is_labelled : List ℕ → Bool
 is_labelled line = is_some (label_in (words_of line))
 
-abbrev pub form_is_of_above : Result ExpectLine ExpectLineFault → Bool
+abbrev pub form_is_of_above : Result ExpectLine (AtWord ExpectCause) → Bool
 form_is_of_above (Err cause) = false
 form_is_of_above (Ok Other) = false
 form_is_of_above (Ok (Rounds quantity window pattern)) = false

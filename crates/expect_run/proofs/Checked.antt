@@ -6,7 +6,8 @@ use Rattle.text_core.specs.Words.{words_of}
 use Rattle.expect_text.specs.Line.{unlabelled_words, cut_script, plain_script}
 use Rattle.expect_text.specs.Form.{ExpectLine, form_in}
 use Rattle.expect_text.specs.Form.ExpectLine.{Other, Rounds, State, Refused}
-use Rattle.expect_text.specs.declared.fault.ExpectLineFault.{ExpectLineFault}
+use Rattle.text_core.specs.declared.at.AtWord.{AtWord}
+use Rattle.expect_text.specs.declared.form.ExpectCause.{ExpectCause}
 use Rattle.expect_text.specs.Faults.{first_fault}
 use Rattle.expect_text.specs.Names.{has_names}
 use Rattle.room_run.specs.HeldTrace.{TextsHaveOneHeldTrace}
@@ -17,7 +18,7 @@ use Rattle.expect_run.specs.States.{AreStates, IsStateOf, IsTraced}
 use Rattle.expect_run.specs.Report.{Report, report}
 use Rattle.expect_run.specs.Kept.{are_timed, kept}
 use Rattle.expect_run.specs.declared.checking.CheckError.TheVariants.{Expect}
-use Rattle.expect_text.specs.declared.faults.ExpectFault.{ExpectFault}
+use Rattle.text_core.specs.declared.at.At.{At}
 use Rattle.expect_run.specs.Check.{AreKept, IsReportOf, IsTraceBy, IsTraceFor, IsVerdictReported, TalliesCountVerdicts, tally_of}
 
 pub reported : (topology script held bytes text : List ℕ) (totals : Totals) (states : List (List ℕ)) (r : Report) → held ≡ []
@@ -39,7 +40,7 @@ reports script t u xs ys e f = ap (λ b. report script b xs) e ∙ ap (report sc
 
 -- ---- states
 
-one_state : TextsHaveOneTrace → (topology plain : List ℕ) (form : Result ExpectLine ExpectLineFault) (x y : List ℕ) → IsStateOf topology plain form x → IsStateOf topology plain form y → x ≡ y
+one_state : TextsHaveOneTrace → (topology plain : List ℕ) (form : Result ExpectLine (AtWord ExpectCause)) (x y : List ℕ) → IsStateOf topology plain form x → IsStateOf topology plain form y → x ≡ y
 one_state law topology plain (Ok (State time device words)) x y h k =
     let same = law topology (cut_script time plain) h.trace k.trace h.totals k.totals h.run k.run in
     h.state_is ∙ ap (λ t. state_line t device) same.0 ∙ sym k.state_is
@@ -96,7 +97,7 @@ reported_few topology script few states r run accepted are made = record {
   report_is = made run.trace run.lines_are run.timed;
 }
 
-pub faulty : (topology script named : List ℕ) (fault : ExpectFault) → IsTraced topology (plain_script script) → named ≡ script → first_fault topology named ≡ Some fault
+pub faulty : (topology script named : List ℕ) (fault : At ExpectCause) → IsTraced topology (plain_script script) → named ≡ script → first_fault topology named ≡ Some fault
     → IsVerdictReported topology script (Expect fault)
 faulty topology script named fault run same is = record {
   reported = (run.0, run.1, run.2, ap (first_fault topology) (sym same) ∙ is);

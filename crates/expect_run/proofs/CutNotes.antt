@@ -22,8 +22,9 @@ use Rattle.room_script.specs.Holding.{hold_of}
 use Rattle.device_core.specs.declared.outside.Act.{Act}
 use Rattle.device_core.specs.declared.outside.Act.TheVariants.{Empty}
 use Rattle.room_script.specs.declared.script.TimedEvent.{TimedEvent}
-use Rattle.room_script.specs.Fault.{at_word}
-use Rattle.room_script.specs.declared.fault.ScriptLineFault.{ScriptLineFault}
+use Rattle.text_core.specs.At.{at_word}
+use Rattle.text_core.specs.declared.at.AtWord.{AtWord}
+use Rattle.room_script.specs.declared.script.ScriptCause.{ScriptCause}
 use Rattle.room_script.specs.declared.script.ScriptCause.TheVariants.{Word, Width, Order, TooMany, End}
 use Rattle.room_script.specs.Script.{is_before as is_over, Notes, within_limit, time_of, last_time, last_end, notes_with_event, plug_read, plug_words, unplug_read, unplug_words, key_read, key_words, act_read, hold_words, drop_words, send_read, frame_event, event_words, unless_fault, pulse_refusal, pulse_read, pulse_words, touches, pull_read, pull_words, level_of, pin_falls, pin_stays_high, notes_with_level, pin_read, pin_words, pulses_ended, end_read, end_words, IsSendRead, IsEventRead, IsLineRead}
 use Rattle.expect_text.specs.Line.{is_before, is_sooner}
@@ -94,7 +95,7 @@ early_end time (event ∷ events) h =
 -- ---- one event's line
 
 -- a line that is read as an event at a time
-pub record Takes (time : Option ℕ) (line : ℕ) (R : Notes → Result Notes ScriptLineFault → Type 0) (notes next : Notes) : Type 0 where
+pub record Takes (time : Option ℕ) (line : ℕ) (R : Notes → Result Notes (AtWord ScriptCause) → Type 0) (notes next : Notes) : Type 0 where
   pub at : ℕ
   pub event : Event
   pub time_is : time ≡ Some at
@@ -102,7 +103,7 @@ pub record Takes (time : Option ℕ) (line : ℕ) (R : Notes → Result Notes Sc
   pub now : Ok next ≡ notes_with_event notes line at event
 
 -- what a function of the notes gives
-abbrev By : (Notes → Result Notes ScriptLineFault) → Notes → Result Notes ScriptLineFault → Type 0
+abbrev By : (Notes → Result Notes (AtWord ScriptCause)) → Notes → Result Notes (AtWord ScriptCause) → Type 0
 By f n read = read ≡ f n
 
 plug_takes : (line : ℕ) (time port child parent : Option ℕ) (notes next : Notes) → Ok next ≡ plug_read notes line time port child parent → Takes time line (By (λ n. plug_read n line time port child parent)) notes next
@@ -127,7 +128,7 @@ unplug_words_take : (tree : List Node) (line : ℕ) (time : List ℕ) (many : �
 unplug_words_take tree line time many None notes next e = cc
 unplug_words_take tree line time many (Some w) notes next e = unplug_takes line (time_of time) (device_named tree w) notes next e
 
-key_takes : (line : ℕ) (press : Bool) (key : Result KeyValue ScriptLineFault) (time device : Option ℕ) (notes next : Notes) → Ok next ≡ key_read notes line press key time device
+key_takes : (line : ℕ) (press : Bool) (key : Result KeyValue (AtWord ScriptCause)) (time device : Option ℕ) (notes next : Notes) → Ok next ≡ key_read notes line press key time device
     → Takes time line (By (λ n. key_read n line press key time device)) notes next
 key_takes line press (Err fault) time device notes next e = cc
 key_takes line press (Ok key) None device notes next e = cc
@@ -157,24 +158,24 @@ drop_words_take tree line time many None notes next e = cc
 drop_words_take tree line time many (Some w) notes next e = act_takes line (Some Empty) (time_of time) (device_named tree w) notes next e
 
 -- one of two
-by_either : (b : Bool) (time : Option ℕ) (line : ℕ) (f g : Notes → Result Notes ScriptLineFault) (notes next : Notes) → (Ok next ≡ f notes → Takes time line (By f) notes next)
+by_either : (b : Bool) (time : Option ℕ) (line : ℕ) (f g : Notes → Result Notes (AtWord ScriptCause)) (notes next : Notes) → (Ok next ≡ f notes → Takes time line (By f) notes next)
     → (Ok next ≡ g notes → Takes time line (By g) notes next) → Ok next ≡ (if b then f notes else g notes) → Takes time line (By (λ n. if b then f n else g n)) notes next
 by_either true time line f g notes next h k e = h e
 by_either false time line f g notes next h k e = k e
 
-no_event : (time : Option ℕ) (line : ℕ) (fault : ScriptLineFault) (notes next : Notes) → Ok next ≡ Err fault → Takes time line (By (λ n. Err fault)) notes next
+no_event : (time : Option ℕ) (line : ℕ) (fault : AtWord ScriptCause) (notes next : Notes) → Ok next ≡ Err fault → Takes time line (By (λ n. Err fault)) notes next
 no_event time line fault notes next e = cc
 
 event_words_take : (tree : List Node) (line : ℕ) (time verb : List ℕ) (words : List (List ℕ)) (notes next : Notes) → Ok next ≡ event_words tree notes line time verb words
     → Takes (time_of time) line (By (λ n. event_words tree n line time verb words)) notes next
 event_words_take tree line time verb words notes next e =
     let t = time_of time in
-    let fail : Notes → Result Notes ScriptLineFault = λ n. Err (at_word 2 Word) in
-    let dropped : Notes → Result Notes ScriptLineFault = λ n. if bytes_eq verb (codes "drop") then drop_words tree n line time (length words) (one_of words) else fail n in
-    let held : Notes → Result Notes ScriptLineFault = λ n. if bytes_eq verb (codes "hold") then hold_words tree n line time (length words) (two_of words) else dropped n in
-    let released : Notes → Result Notes ScriptLineFault = λ n. if bytes_eq verb (codes "release") then key_words tree n line false time words else held n in
-    let pressed : Notes → Result Notes ScriptLineFault = λ n. if bytes_eq verb (codes "press") then key_words tree n line true time words else released n in
-    let unplugged : Notes → Result Notes ScriptLineFault = λ n. if bytes_eq verb (codes "unplug") then unplug_words tree n line time (length words) (one_of words) else pressed n in
+    let fail : Notes → Result Notes (AtWord ScriptCause) = λ n. Err (at_word 2 Word) in
+    let dropped : Notes → Result Notes (AtWord ScriptCause) = λ n. if bytes_eq verb (codes "drop") then drop_words tree n line time (length words) (one_of words) else fail n in
+    let held : Notes → Result Notes (AtWord ScriptCause) = λ n. if bytes_eq verb (codes "hold") then hold_words tree n line time (length words) (two_of words) else dropped n in
+    let released : Notes → Result Notes (AtWord ScriptCause) = λ n. if bytes_eq verb (codes "release") then key_words tree n line false time words else held n in
+    let pressed : Notes → Result Notes (AtWord ScriptCause) = λ n. if bytes_eq verb (codes "press") then key_words tree n line true time words else released n in
+    let unplugged : Notes → Result Notes (AtWord ScriptCause) = λ n. if bytes_eq verb (codes "unplug") then unplug_words tree n line time (length words) (one_of words) else pressed n in
     by_either (bytes_eq verb (codes "plug")) t line (λ n. plug_words tree n line time (length words) (three_of words)) unplugged notes next
     (plug_words_take tree line time (length words) (three_of words) notes next)
     (by_either (bytes_eq verb (codes "unplug")) t line (λ n. unplug_words tree n line time (length words) (one_of words)) pressed notes next
@@ -205,7 +206,7 @@ send_words_take tree line time (name ∷ word ∷ words) notes next h =
     let s = send_takes line (time_of time) (device_named tree name) (header_names tree word) h.0 notes next h.2 in
     record { at = s.at; event = s.event; time_is = s.time_is; reads = λ n. (h.0, h.1, s.reads n); now = s.now }
 
-by_cond : (b : Bool) (time : Option ℕ) (line : ℕ) (P Q : Notes → Result Notes ScriptLineFault → Type 0) (notes next : Notes) → (P notes (Ok next) → Takes time line P notes next)
+by_cond : (b : Bool) (time : Option ℕ) (line : ℕ) (P Q : Notes → Result Notes (AtWord ScriptCause) → Type 0) (notes next : Notes) → (P notes (Ok next) → Takes time line P notes next)
     → (Q notes (Ok next) → Takes time line Q notes next) → cond {A = Type 0} b (P notes (Ok next)) (Q notes (Ok next)) → Takes time line (λ n read. cond {A = Type 0} b (P n read) (Q n read)) notes next
 by_cond true time line P Q notes next h k e = h e
 by_cond false time line P Q notes next h k e = k e
@@ -245,7 +246,7 @@ pub record Taken (notes : Notes) (line at : ℕ) (event : Event) (next : Notes) 
 
 -- two readings that give the same
 abbrev pub AreSame : Notes → Notes → Type 0
-AreSame a b = ◌≡◌ {A = Result Notes ScriptLineFault} (Ok a) (Ok b)
+AreSame a b = ◌≡◌ {A = Result Notes (AtWord ScriptCause)} (Ok a) (Ok b)
 
 pub ok_same : (a b : Notes) → AreSame a b → a ≡ b
 ok_same a b e = cc
@@ -323,7 +324,7 @@ event_goes tree time line at text event notes next order t reads = record {
 
 -- the words of a line that an event's verb begins
 pub at_goes : (tree : List Node) (time line : ℕ) (text : List ℕ) (words : List (List ℕ)) (notes next : Notes) → AreInOrder notes.events → IsEventRead tree notes line words (Ok next)
-    → ((n : Notes) (read : Result Notes ScriptLineFault) → IsEventRead tree n line words read → IsLineRead tree n (length n.pulses) line text read) → (verb : List ℕ)
+    → ((n : Notes) (read : Result Notes (AtWord ScriptCause)) → IsEventRead tree n line words read → IsLineRead tree n (length n.pulses) line text read) → (verb : List ℕ)
     → Goes tree time line text (if is_before time (verb ∷ words) then text else []) notes next
 at_goes tree time line text [] notes next order h up verb = cc
 at_goes tree time line text (at ∷ []) notes next order h up verb = cc
@@ -336,13 +337,13 @@ at_goes tree time line text (word ∷ kind ∷ words) notes next order h up verb
 -- ---- pulses
 
 -- a line that is no event and not the end, and what it gives in the script that ends earlier
-pub record Stays (time : ℕ) (notes next : Notes) (cut : Result Notes ScriptLineFault) : Type 0 where
+pub record Stays (time : ℕ) (notes next : Notes) (cut : Result Notes (AtWord ScriptCause)) : Type 0 where
   pub events : next.events ≡ notes.events
   pub same_end : next.end ≡ notes.end
   pub cut_is : cut ≡ Ok (cut_notes time next)
 
 -- one that stands above the end
-pub record Opens (time : ℕ) (notes next : Notes) (cut : Result Notes ScriptLineFault) : Type 0 where
+pub record Opens (time : ℕ) (notes next : Notes) (cut : Result Notes (AtWord ScriptCause)) : Type 0 where
   pub stays : Stays time notes next cut
   pub open_end : is_some notes.end ≡ false
 

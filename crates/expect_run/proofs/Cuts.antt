@@ -14,10 +14,12 @@ use Rattle.text_core.specs.Words.{words_of, one_of, two_of}
 use Rattle.capture_core.proofs.Numbers.{number_again, some_length}
 use Rattle.capture_core.proofs.Texts.{Lacks, more_lack, none_lack, number_lacks, number_plain}
 use Rattle.room_script.specs.declared.script.TimedEvent.{TimedEvent}
-use Rattle.room_script.specs.Fault.{at_word}
-use Rattle.room_script.specs.declared.fault.ScriptLineFault.{ScriptLineFault}
+use Rattle.text_core.specs.At.{at_word}
+use Rattle.text_core.specs.declared.at.AtWord.{AtWord}
+use Rattle.room_script.specs.declared.script.ScriptCause.{ScriptCause}
 use Rattle.room_script.specs.declared.script.ScriptCause.TheVariants.{Word, End}
-use Rattle.room_script.specs.Script.{Course, Notes, ScriptFault, time_of, last_time, pulse_words, pull_words, pin_words, pulses_ended, end_read, end_words, other_words, course_at_end, no_notes, IsEventRead, IsWordsRead, IsLineRead, Onward, AreLinesRead}
+use Rattle.room_script.specs.Script.{Course, Notes, time_of, last_time, pulse_words, pull_words, pin_words, pulses_ended, end_read, end_words, other_words, course_at_end, no_notes, IsEventRead, IsWordsRead, IsLineRead, Onward, AreLinesRead}
+use Rattle.text_core.specs.declared.at.At.{At}
 use Rattle.expect_text.specs.Line.{cut_line, cut_script, has_verb, is_before, is_event}
 use Rattle.expect_run.specs.Cuts.{CutsAreRead, IsCut, is_early}
 use Rattle.expect_run.proofs.EachLine.{lines_each}
@@ -76,7 +78,7 @@ end_goes tree time line notes next many word low e =
 -- ---- a line
 
 -- what a line that is not skipped gives by its words
-reported_line : (tree : List Node) (n : Notes) (line : ℕ) (text : List ℕ) (read : Result Notes ScriptLineFault) → is_skipped text ≡ false → IsWordsRead tree n (length n.pulses) line (words_of text) read → IsLineRead tree n (length n.pulses) line text read
+reported_line : (tree : List Node) (n : Notes) (line : ℕ) (text : List ℕ) (read : Result Notes (AtWord ScriptCause)) → is_skipped text ≡ false → IsWordsRead tree n (length n.pulses) line (words_of text) read → IsLineRead tree n (length n.pulses) line text read
 reported_line tree n line text read e h = subst (λ b. cond {A = Type 0} b (read ≡ Ok n) (IsWordsRead tree n (length n.pulses) line (words_of text) read)) (sym e) h
 
 in_order : (notes next : Notes) → next.events ≡ notes.events → AreInOrder notes.events → AreInOrder next.events
@@ -99,7 +101,7 @@ other_goes tree time line text verb words notes next low order reported split no
     no_end : (word : List ℕ) → bytes_eq word (codes "end") ≡ false → bytes_eq verb word ≡ true → bytes_eq verb (codes "end") ≡ false
     no_end word differs p = ap (λ v. bytes_eq v (codes "end")) ((bytes_eq-Decides verb word).0 p) ∙ differs
 
-    more : Bool → Bool → Bool → Notes → Result Notes ScriptLineFault
+    more : Bool → Bool → Bool → Notes → Result Notes (AtWord ScriptCause)
     more is_pulse is_pull is_pin n =
         if is_pulse then pulse_words n (length notes.pulses) (length words) (two_of words)
         else if is_pull then pull_words n (length notes.pulses) (length words) (two_of words)
@@ -115,7 +117,7 @@ other_goes tree time line text verb words notes next low order reported split no
         (inl (record { order = in_order notes next g.events order; same_end = g.same_end; cut_is = kept (sym g.cut_is) }))
 
     -- of what it gives in the script that ends earlier
-    read_as : (read : Result Notes ScriptLineFault) → other_words (cut_notes time notes) (length notes.pulses) verb words ≡ read → Stays time notes next read
+    read_as : (read : Result Notes (AtWord ScriptCause)) → other_words (cut_notes time notes) (length notes.pulses) verb words ≡ read → Stays time notes next read
         → Stays time notes next (other_words (cut_notes time notes) (length notes.pulses) verb words)
     read_as read same g = subst (Stays time notes next) (sym same) g
 
@@ -156,7 +158,7 @@ words_go : (tree : List Node) (time line : ℕ) (text : List ℕ) (words : List 
 words_go tree time line text [] notes next low order reported split h = cc
 words_go tree time line text (verb ∷ words) notes next low order reported split h = by (bytes_eq verb (codes "at")) refl h
   where
-    up : bytes_eq verb (codes "at") ≡ true → (n : Notes) (read : Result Notes ScriptLineFault) → IsEventRead tree n line words read → IsLineRead tree n (length n.pulses) line text read
+    up : bytes_eq verb (codes "at") ≡ true → (n : Notes) (read : Result Notes (AtWord ScriptCause)) → IsEventRead tree n line words read → IsLineRead tree n (length n.pulses) line text read
     up e n read r =
         let worded : IsWordsRead tree n (length n.pulses) line (verb ∷ words) read = subst (λ b. cond {A = Type 0} b (IsEventRead tree n line words read) (read ≡ other_words n (length n.pulses) verb words)) (sym e) r in
         reported_line tree n line text read reported (subst (λ ws. IsWordsRead tree n (length n.pulses) line ws read) (sym split) worded)
@@ -236,7 +238,7 @@ lines_over tree time [] line notes cut course t end high cut_end h =
       cut_is = sym (ap (course_at_end cut line) cut_end);
     }
   where
-    same_course : (a b : Course) → ◌≡◌ {A = Result Course ScriptFault} (Ok a) (Ok b) → a ≡ b
+    same_course : (a b : Course) → ◌≡◌ {A = Result Course (At ScriptCause)} (Ok a) (Ok b) → a ≡ b
     same_course a b e = cc
 lines_over tree time (text ∷ texts) line notes cut course t end high cut_end h = step h.0 h.1 h.2 (λ next e p k. lines_over tree time texts (line + 1) next cut course t e p cut_end k)
   where
@@ -244,7 +246,7 @@ lines_over tree time (text ∷ texts) line notes cut course t end high cut_end h
     skipped next true e k = (refl, ok_same next notes k)
     skipped next false e k = absurd (words_over tree line (words_of text) notes next (ap is_some end) high k)
 
-    step : (now : Result Notes ScriptLineFault) → IsLineRead tree notes (length notes.pulses) line text now → Onward line now (λ next. AreLinesRead tree texts (line + 1) next (Ok course)) (Ok course)
+    step : (now : Result Notes (AtWord ScriptCause)) → IsLineRead tree notes (length notes.pulses) line text now → Onward line now (λ next. AreLinesRead tree texts (line + 1) next (Ok course)) (Ok course)
         → ((next : Notes) → next.end ≡ Some t → next.pin ≡ None → AreLinesRead tree texts (line + 1) next (Ok course) → Over tree time (line + 1) texts next cut course t)
         → Over tree time line (text ∷ texts) notes cut course t
     step (Err cause) l o later = cc
@@ -280,7 +282,7 @@ lines_go : (tree : List Node) (time : ℕ) (texts : List (List ℕ)) (line : ℕ
 lines_go tree time [] line notes course low order above h = (let none = h ∙ ap (course_at_end notes line) above in cc)
 lines_go tree time (text ∷ texts) line notes course low order above h = step h.0 h.1 h.2 (λ next o e k. lines_go tree time texts (line + 1) next course low o e k)
   where
-    step : (now : Result Notes ScriptLineFault) → IsLineRead tree notes (length notes.pulses) line text now → Onward line now (λ next. AreLinesRead tree texts (line + 1) next (Ok course)) (Ok course)
+    step : (now : Result Notes (AtWord ScriptCause)) → IsLineRead tree notes (length notes.pulses) line text now → Onward line now (λ next. AreLinesRead tree texts (line + 1) next (Ok course)) (Ok course)
         → ((next : Notes) → AreInOrder next.events → next.end ≡ None → AreLinesRead tree texts (line + 1) next (Ok course) → IsCutRead tree time (line + 1) texts next course)
         → IsCutRead tree time line (text ∷ texts) notes course
     step (Err cause) l o later = cc

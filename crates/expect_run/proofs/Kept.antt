@@ -15,7 +15,8 @@ use Rattle.expect_text.specs.Form.{ExpectLine, ExpectWindow, expectation_in, for
 use Rattle.expect_text.specs.Form.ExpectLine.{Other, Rounds, State, Refused}
 use Rattle.expect_text.specs.Form.ExpectWindow.{Within, From}
 use Rattle.expect_text.specs.Faults.{event_above, event_labelled, is_event_at, line_of_label}
-use Rattle.expect_text.specs.declared.fault.ExpectLineFault.{ExpectLineFault}
+use Rattle.text_core.specs.declared.at.AtWord.{AtWord}
+use Rattle.expect_text.specs.declared.form.ExpectCause.{ExpectCause}
 use Rattle.expect_text.specs.declared.form.Quantity.{Quantity}
 use Rattle.expect_judge.specs.Told.{EventLine, RoundLine, event_at, event_in, refusal_in, round_in}
 use Rattle.expect_judge.specs.Named.{form_is_of_above, is_labelled, is_named, is_of_above, name_lines, names_line}
@@ -148,7 +149,7 @@ not_seen script span pattern covers line h =
 -- ---- lines of a script
 
 -- what an expectation looks for is looked for, and its line has no time; the event of the line above that it speaks of is kept
-abbrev FormCovered : List ℕ → ℕ → Result ExpectLine ExpectLineFault → Type 0
+abbrev FormCovered : List ℕ → ℕ → Result ExpectLine (AtWord ExpectCause) → Type 0
 FormCovered script number (Err cause) = Unit {0}
 FormCovered script number (Ok Other) = Unit {0}
 FormCovered script number (Ok (Rounds quantity window pattern)) =
@@ -244,18 +245,18 @@ covered script number (line ∷ lines) h names times = (
     more r None k = k
     more r (Some w) k = ap (λ b. is_met r w || b) k ∙ or_so (is_met r w)
 
-    first : (f : Result ExpectLine ExpectLineFault) → form_in (unlabelled_words (words_of line)) ≡ f → FormCovered script number f
+    first : (f : Result ExpectLine (AtWord ExpectCause)) → form_in (unlabelled_words (words_of line)) ≡ f → FormCovered script number f
     first (Err cause) e = tt
     first (Ok Other) e = tt
     first (Ok (Rounds quantity window pattern)) e = (
-      λ r k. h r (ap (λ (g : Result ExpectLine ExpectLineFault). list_any (is_met r) (cons_option (watch_by script (time_at script) g) watched)) e ∙ ap (λ b. b || list_any (is_met r) watched) k),
+      λ r k. h r (ap (λ (g : Result ExpectLine (AtWord ExpectCause)). list_any (is_met r) (cons_option (watch_by script (time_at script) g) watched)) e ∙ ap (λ b. b || list_any (is_met r) watched) k),
       times number (omega arith) ∙ ap (λ (b : Bool). if b then labelled_time line else times_from (number + 1) lines number) (itself number)
           ∙ no_labelled_time line quantity window pattern e,
     )
     first (Ok (State time device words)) e = tt
     first (Ok (Refused None word)) e =
         names (number - 1) (or_first (names_line number line (number - 1)) (name_lines (number + 1) lines (number - 1))
-        (ap (λ b. (is_labelled line && (number == number - 1)) || b) (ap (λ (g : Result ExpectLine ExpectLineFault). form_is_of_above g && (number - 1 == number - 1)) e ∙ itself (number - 1))
+        (ap (λ b. (is_labelled line && (number == number - 1)) || b) (ap (λ (g : Result ExpectLine (AtWord ExpectCause)). form_is_of_above g && (number - 1 == number - 1)) e ∙ itself (number - 1))
         ∙ or_so (is_labelled line && (number == number - 1))))
     first (Ok (Refused (Some name) word)) e = tt
 
@@ -400,7 +401,7 @@ module _ (script few trace : List ℕ) (are : lines_of few ≡ filter (is_kept s
       by true = ap refusal_by (same_event (number - 1) named)
       by false = refl
 
-  form_same : (state : List ℕ) (at : ℕ → Option ℕ) → AreNear script at → (number : ℕ) (named : Bool) (onset : Option ℕ) (f : Result ExpectLine ExpectLineFault) → FormCovered script number f
+  form_same : (state : List ℕ) (at : ℕ → Option ℕ) → AreNear script at → (number : ℕ) (named : Bool) (onset : Option ℕ) (f : Result ExpectLine (AtWord ExpectCause)) → FormCovered script number f
       → (named ≡ true → is_named script number ≡ true) → form_judged script few state at number named onset f ≡ form_judged script trace state at number named onset f
   form_same state at near number named onset (Err cause) c names = refl
   form_same state at near number true None (Ok Other) c names = ap (λ (o : Option EventLine). of_instant (event_instant o)) (same_event number (names refl))
@@ -413,7 +414,7 @@ module _ (script few trace : List ℕ) (are : lines_of few ≡ filter (is_kept s
   form_same state at near number named onset (Ok (Refused (Some name) word)) c names = ap (of_refusal word) (refusals_same name)
 
   -- the instant of a line is near its time
-  form_near : (state : List ℕ) (at : ℕ → Option ℕ) (number : ℕ) (named : Bool) (onset : Option ℕ) (f : Result ExpectLine ExpectLineFault) → FormCovered script number f → OnsetCovered script number onset
+  form_near : (state : List ℕ) (at : ℕ → Option ℕ) (number : ℕ) (named : Bool) (onset : Option ℕ) (f : Result ExpectLine (AtWord ExpectCause)) → FormCovered script number f → OnsetCovered script number onset
       → (instant time : ℕ) → (form_judged script trace state at number named onset f).at ≡ Some instant → time_at script number ≡ Some time → IsNear time instant
   form_near state at number named onset (Err cause) c o instant time h k = cc
   form_near state at number true None (Ok Other) c o instant time h k = found_near script number instant time k (lines_of trace) timed h
@@ -459,7 +460,7 @@ module _ (script few trace : List ℕ) (are : lines_of few ≡ filter (is_kept s
   span_same quantity pattern None covers h = refl
   span_same quantity pattern (Some span) covers h = seen_same pattern (length (ends_seen trace span pattern)) span covers h
 
-  remarks_same : (state : List ℕ) (at : ℕ → Option ℕ) → AreNear script at → (number : ℕ) (named : Bool) (onset : Option ℕ) (f : Result ExpectLine ExpectLineFault) → FormCovered script number f
+  remarks_same : (state : List ℕ) (at : ℕ → Option ℕ) → AreNear script at → (number : ℕ) (named : Bool) (onset : Option ℕ) (f : Result ExpectLine (AtWord ExpectCause)) → FormCovered script number f
       → (is_some (form_judged script trace state at number named onset f).span && ((form_judged script trace state at number named onset f).count == 0)) ≡ false
       → form_remarks few state (form_judged script trace state at number named onset f) f ≡ form_remarks trace state (form_judged script trace state at number named onset f) f
   remarks_same state at near number named onset (Err cause) c h = refl

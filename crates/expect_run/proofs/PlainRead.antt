@@ -7,9 +7,11 @@ use Rattle.edid_tree.specs.Node.{Node}
 use Rattle.text_core.specs.Lines.{lines_of}
 use Rattle.text_core.specs.Words.{words_of, text_of}
 use Rattle.capture_core.proofs.Texts.{Lacks, more_lack, none_lack}
-use Rattle.room_script.specs.Fault.{at_word}
-use Rattle.room_script.specs.Script.{Course, Notes, ScriptFault, AreLinesRead, Gives, GivesScript, IsLineRead, IsScriptRead, course_at_end, error_at, fault_at, no_notes}
-use Rattle.room_script.specs.declared.fault.ScriptLineFault.{ScriptLineFault}
+use Rattle.text_core.specs.At.{at_line, at_word}
+use Rattle.room_script.specs.Script.{Course, Notes, AreLinesRead, Gives, GivesScript, IsLineRead, IsScriptRead, course_at_end, error_at, no_notes}
+use Rattle.text_core.specs.declared.at.At.{At}
+use Rattle.room_script.specs.declared.script.ScriptCause.{ScriptCause}
+use Rattle.text_core.specs.declared.at.AtWord.{AtWord}
 use Rattle.room_script.specs.declared.script.ScriptCause.TheVariants.{End}
 use Rattle.room_script.specs.declared.script.ScriptError.TheVariants as errors
 use Rattle.room_script.specs.declared.script.ScriptLineError.{ScriptLineError}
@@ -64,7 +66,7 @@ plain_lines script = lines_each plain_part script part_lacks
 -- what these lines give after those so far, the plain script gives
 abbrev pub Leads : List Node → List ℕ → List (List ℕ) → ℕ → Notes → Type 0
 Leads tree script lines number notes =
-    (read : Result Course ScriptFault) → AreLinesRead tree (map plain_part lines) number notes read → IsScriptRead tree (plain_script script) read
+    (read : Result Course (At ScriptCause)) → AreLinesRead tree (map plain_part lines) number notes read → IsScriptRead tree (plain_script script) read
 
 first_lead : (tree : List Node) (script : List ℕ) → Leads tree script (lines_of script) 1 no_notes
 first_lead tree script read h = subst (λ ls. AreLinesRead tree ls 1 no_notes read) (sym (plain_lines script)) h
@@ -82,7 +84,7 @@ begun tree script notes is =
     subst (λ (n : Notes). Leads tree script (lines_of script) 1 n × AreSound (length tree) n × HoldsFew n) (sym is)
     (first_lead tree script, sound_start (length tree), omega arith)
 
-read_again : (tree : List Node) (line text : List ℕ) (number waiting : ℕ) (notes : Notes) (read : Result Notes ScriptLineFault) → text ≡ plain_part line → waiting ≡ length notes.pulses
+read_again : (tree : List Node) (line text : List ℕ) (number waiting : ℕ) (notes : Notes) (read : Result Notes (AtWord ScriptCause)) → text ≡ plain_part line → waiting ≡ length notes.pulses
     → IsLineRead tree notes waiting number text read → IsLineRead tree notes (length notes.pulses) number (plain_part line) read
 read_again tree line text number waiting notes read part wait h =
     subst (λ (w : ℕ). IsLineRead tree notes w number (plain_part line) read) wait (subst (λ (t : List ℕ). IsLineRead tree notes waiting number t read) part h)
@@ -93,14 +95,14 @@ pub line_refused : (tree : List Node) (script : List ℕ) (lines after : List (L
     → Gives now (Err error) (IsLineRead tree notes waiting number text) → GivesScript tree (plain_script script) (Err (error_at number error))
 line_refused tree script lines after line text number waiting notes now Memory leads split part wait gives = tt
 line_refused tree script lines after line text number waiting notes now (Fault fault) leads split part wait gives =
-    leads (Err (fault_at number fault)) (subst (λ ls. AreLinesRead tree (map plain_part ls) number notes (Err (fault_at number fault))) (sym split)
+    leads (Err (at_line number fault)) (subst (λ ls. AreLinesRead tree (map plain_part ls) number notes (Err (at_line number fault))) (sym split)
     (Err fault, read_again tree line text number waiting notes (Err fault) part wait gives, refl))
 
 -- after the last line, where no end stands above
 pub end_lacks : (tree : List Node) (script : List ℕ) (lines : List (List ℕ)) (number : ℕ) (notes : Notes) → Leads tree script lines number notes → lines ≡ [] → notes.end ≡ None
-    → GivesScript tree (plain_script script) (Err (errors.At number End 0))
+    → GivesScript tree (plain_script script) (Err (errors.At (at_line number (at_word 0 End))))
 end_lacks tree script lines number notes leads none end =
-    leads (Err (fault_at number (at_word 0 End))) (subst (λ ls. AreLinesRead tree (map plain_part ls) number notes (Err (fault_at number (at_word 0 End)))) (sym none)
+    leads (Err (at_line number (at_word 0 End))) (subst (λ ls. AreLinesRead tree (map plain_part ls) number notes (Err (at_line number (at_word 0 End)))) (sym none)
     (sym (ap (course_at_end notes number) end)))
 
 -- and where one does

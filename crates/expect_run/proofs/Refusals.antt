@@ -9,7 +9,9 @@ use Rattle.edid_core.proofs.OneEdid.{not_refused, one_edid}
 use Rattle.edid_core.specs.Root.{IsNoRoot, IsRoot}
 use Rattle.edid_core.specs.declared.root.EdidCause.{EdidCause}
 use Rattle.edid_core.specs.declared.root.EdidCause.TheVariants.{Edid as OfEdid, NoHdmiBlock}
-use Rattle.room_script.specs.Topology.{Plan, TopologyFault, topology_of}
+use Rattle.room_script.specs.Topology.{Plan, topology_of}
+use Rattle.text_core.specs.declared.at.At.{At}
+use Rattle.room_script.specs.declared.topology.TopologyCause.{TopologyCause}
 use Rattle.room_script.specs.Script.{IsScriptRead, OneScript}
 use Rattle.expect_text.specs.Line.{cut_script}
 use Rattle.room_run.specs.Emulate.{IsTraceOf, IsReported}
@@ -47,7 +49,7 @@ IsWant (Edid cause) = ⊥
 IsWant (Write count) = Unit {0}
 IsWant Memory = Unit {0}
 
-one_plan : (p q : Plan) (r : Result Plan TopologyFault) → r ≡ Ok p → r ≡ Ok q → q ≡ p
+one_plan : (p q : Plan) (r : Result Plan (At TopologyCause)) → r ≡ Ok p → r ≡ Ok q → q ≡ p
 one_plan p q r a b = cc
 
 pub not_refused_earlier : OneScript → (topology plain text : List ℕ) (time : ℕ) (totals : Totals) (error : EmulateError) → time ≤ latest_event → IsTraceOf topology plain text totals

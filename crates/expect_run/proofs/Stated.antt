@@ -5,7 +5,8 @@ use Rattle.text_core.specs.Words.{words_of}
 use Rattle.expect_text.specs.Line.{unlabelled_words}
 use Rattle.expect_text.specs.Form.{ExpectLine, form_in}
 use Rattle.expect_text.specs.Form.ExpectLine.{Other, Rounds, State, Refused}
-use Rattle.expect_text.specs.declared.fault.ExpectLineFault.{ExpectLineFault}
+use Rattle.text_core.specs.declared.at.AtWord.{AtWord}
+use Rattle.expect_text.specs.declared.form.ExpectCause.{ExpectCause}
 use Rattle.std.proofs.lemmas.Bool.{false≢true}
 use Rattle.expect_judge.specs.Judged.{first_state, is_of_state, is_state_form, later_states, states_for}
 use Rattle.expect_run.specs.States.{AreStates, IsStateFor, IsStateOf}
@@ -15,7 +16,7 @@ abbrev pub Lead : List ℕ → List ℕ → List (List ℕ) → List (List ℕ) 
 Lead topology plain all lines found =
     (more : List (List ℕ)) → AreStates topology plain lines (states_for lines more) → AreStates topology plain all (states_for all (found ++ more))
 
-no_state : (topology plain : List ℕ) (form : Result ExpectLine ExpectLineFault) → is_state_form form ≡ false → IsStateOf topology plain form []
+no_state : (topology plain : List ℕ) (form : Result ExpectLine (AtWord ExpectCause)) → is_state_form form ≡ false → IsStateOf topology plain form []
 no_state topology plain (Err cause) h = refl
 no_state topology plain (Ok Other) h = refl
 no_state topology plain (Ok (Rounds quantity window pattern)) h = refl

@@ -13,7 +13,8 @@ use Rattle.expect_text.specs.Faults.{line_of_label}
 use Rattle.expect_text.specs.Form.{ExpectLine, ExpectWindow, form_in}
 use Rattle.expect_text.specs.Form.ExpectLine.{Other, Rounds, State, Refused}
 use Rattle.expect_text.specs.Form.ExpectWindow.{Within, From}
-use Rattle.expect_text.specs.declared.fault.ExpectLineFault.{ExpectLineFault}
+use Rattle.text_core.specs.declared.at.AtWord.{AtWord}
+use Rattle.expect_text.specs.declared.form.ExpectCause.{ExpectCause}
 use Rattle.expect_judge.specs.Told.{EventLine, RoundLine, event_in, refusal_in, round_in}
 use Rattle.expect_judge.specs.Named.{is_labelled, is_named}
 use Rattle.expect_judge.specs.Judged.{instant_at}
@@ -81,7 +82,7 @@ pub record Watch : Type 0 where
 abbrev pub watch_as : WatchRead → Watch
 watch_as w = record { span = w.span; pattern = w.pattern.now }
 
-abbrev pub watch_by : List ℕ → (ℕ → Option ℕ) → Result ExpectLine ExpectLineFault → Option Watch
+abbrev pub watch_by : List ℕ → (ℕ → Option ℕ) → Result ExpectLine (AtWord ExpectCause) → Option Watch
 watch_by script times (Err cause) = None
 watch_by script times (Ok Other) = None
 watch_by script times (Ok (Rounds quantity window pattern)) = Some (record { span = known_span script times window; pattern = pattern })

@@ -9,7 +9,8 @@ use Rattle.text_core.specs.Words.{words_of}
 use Rattle.expect_text.specs.Line.{unlabelled_words}
 use Rattle.expect_text.specs.Form.{ExpectLine, form_in}
 use Rattle.expect_text.specs.Form.ExpectLine.{Other, Rounds, State, Refused}
-use Rattle.expect_text.specs.declared.fault.ExpectLineFault.{ExpectLineFault}
+use Rattle.text_core.specs.declared.at.AtWord.{AtWord}
+use Rattle.expect_text.specs.declared.form.ExpectCause.{ExpectCause}
 use Rattle.expect_judge.specs.Told.{EventLine, event_in, refusal_in}
 use Rattle.expect_judge.specs.Seen.{end_seen}
 use Rattle.expect_judge.specs.Judged.{JudgedLine, verdicts_of, is_refusal_expected}
@@ -85,7 +86,7 @@ span_remarks trace pattern count None = codes "# no instant\n"
 span_remarks trace pattern count (Some span) = seen_line count span ++ shown_text trace span (if count == 0 then codes "*" else pattern)
 
 -- the state line, where a state was expected
-abbrev pub form_remarks : List ℕ → List ℕ → Judged → Result ExpectLine ExpectLineFault → List ℕ
+abbrev pub form_remarks : List ℕ → List ℕ → Judged → Result ExpectLine (AtWord ExpectCause) → List ℕ
 form_remarks trace state j (Err cause) = []
 form_remarks trace state j (Ok Other) = []
 form_remarks trace state j (Ok (Rounds quantity window pattern)) = span_remarks trace pattern j.count j.span

@@ -4,7 +4,8 @@ use Rattle.text_core.specs.Words.{words_of}
 use Rattle.expect_text.specs.Line.{unlabelled_words, cut_script}
 use Rattle.expect_text.specs.Form.{ExpectLine, form_in}
 use Rattle.expect_text.specs.Form.ExpectLine.{Other, Rounds, State, Refused}
-use Rattle.expect_text.specs.declared.fault.ExpectLineFault.{ExpectLineFault}
+use Rattle.text_core.specs.declared.at.AtWord.{AtWord}
+use Rattle.expect_text.specs.declared.form.ExpectCause.{ExpectCause}
 use Rattle.room_run.specs.Emulate.{IsTraceOf}
 use Rattle.room_run.specs.declared.run.Totals.{Totals}
 use Rattle.expect_judge.specs.Told.{state_line}
@@ -18,7 +19,7 @@ pub record IsStateAt (topology plain : List ℕ) (time : ℕ) (device state : Li
   pub state_is : state ≡ state_line trace device
 
 -- the state line that a form speaks of; of another form none
-abbrev pub IsStateOf : List ℕ → List ℕ → Result ExpectLine ExpectLineFault → List ℕ → Type 0
+abbrev pub IsStateOf : List ℕ → List ℕ → Result ExpectLine (AtWord ExpectCause) → List ℕ → Type 0
 IsStateOf topology plain (Ok (State time device words)) state = IsStateAt topology plain time device state
 IsStateOf topology plain (Ok Other) state = state ≡ []
 IsStateOf topology plain (Ok (Rounds quantity window pattern)) state = state ≡ []

@@ -12,10 +12,10 @@ use crate::report::{ReportDraft, report_of_few, whole_report};
 use crate::run::emulate_for;
 use crate::sieve::{Patterns, Sieve};
 use crate::states::all_states;
-use expect_text::{ExpectFault, Labels, fault_among};
+use expect_text::{ExpectCause, Labels, fault_among};
 use room_run::emulate::EmulateError;
 use std::alloc::Global;
-use text_core::{Held, Sink, put_all};
+use text_core::{Held, Sink, put_all, At};
 use thiserror::Error;
 
 /// How many tests a report has.
@@ -35,7 +35,7 @@ pub enum CheckError {
     Emulate(EmulateError),
     /// The first line of the script whose label or expectation is at fault.
     #[error("script {0}")]
-    Expect(ExpectFault),
+    Expect(At<ExpectCause>),
     /// A `put` took none. So many bytes of the report were written.
     #[error("write fault after {0} bytes")]
     Write(u128),

@@ -7,7 +7,7 @@ use expect_text::plain_part;
 use room_run::ScriptSource;
 use room_script::{Script, ScriptCause, ScriptDraft, ScriptError, Topology, error_at, take_line};
 use std::alloc::Global;
-use text_core::first_line;
+use text_core::{At, first_line};
 
 /// The plain script of a script, read line by line.
 #[derive(Clone, Copy)]
@@ -42,11 +42,11 @@ fn parse_plain(alloc: Global, topology: &Topology, script: &[u8]) -> Result<Scri
         number += 1;
     }
     let Some(end) = draft.end else {
-        return Err(ScriptError::At {
+        return Err(ScriptError::At(At {
             line: number,
             cause: ScriptCause::End,
             word: 0,
-        });
+        }));
     };
     Ok(Script {
         events: draft.events,

@@ -22,8 +22,9 @@ use Rattle.expect_sweep.specs.declared.order.Apart.{Apart}
 use Rattle.expect_sweep.specs.declared.order.Apart.TheVariants.{AnyOrder, After, Before}
 use Rattle.expect_sweep.specs.declared.places.WordRole.{WordRole}
 use Rattle.expect_sweep.specs.declared.places.WordRole.TheVariants.{Begin}
-use Rattle.expect_sweep.specs.declared.script.RangeFault.{RangeFault}
-use Rattle.expect_sweep.specs.declared.series.RangeCause.TheVariants.{Crosses}
+use Rattle.text_core.specs.declared.at.At.{At}
+use Rattle.expect_text.specs.declared.range.RangeCause.{RangeCause}
+use Rattle.expect_text.specs.declared.range.RangeCause.TheVariants.{Crosses}
 
 -- ---- what a line says of time
 
@@ -167,31 +168,31 @@ crossed_from s ranged number (line ∷ lines) =
     if is_crossed_by s (nat_lt number ranged.line) (clock_of line) ranged.clock && not (number == ranged.line) then Some number
     else crossed_from s ranged (number + 1) lines
 
-abbrev pub crossing_at : RangeLine → Option ℕ → Option RangeFault
+abbrev pub crossing_at : RangeLine → Option ℕ → Option (At RangeCause)
 crossing_at ranged None = None
 crossing_at ranged (Some other) = Some (record { line = ranged.line; cause = Crosses other; word = ranged.word })
 
-abbrev pub crossing_by : List ℕ → InstantSeries → Option RangeLine → Option RangeFault
+abbrev pub crossing_by : List ℕ → InstantSeries → Option RangeLine → Option (At RangeCause)
 crossing_by script s None = None
 crossing_by script s (Some ranged) = crossing_at ranged (crossed_from s ranged 1 (lines_of script))
 
 -- an instant of the range breaks the order of the script
-abbrev pub crossing : List ℕ → InstantSeries → Option RangeFault
+abbrev pub crossing : List ℕ → InstantSeries → Option (At RangeCause)
 crossing script s = crossing_by script s (range_line script)
 
 -- ---- ranges that keep the order
 
-abbrev pub unless_crossing : InstantSeries → Option RangeFault → Result (Option InstantSeries) RangeFault
+abbrev pub unless_crossing : InstantSeries → Option (At RangeCause) → Result (Option InstantSeries) (At RangeCause)
 unless_crossing s None = Ok (Some s)
 unless_crossing s (Some fault) = Err fault
 
-abbrev pub ordered : List ℕ → Result (Option InstantSeries) RangeFault → Result (Option InstantSeries) RangeFault
+abbrev pub ordered : List ℕ → Result (Option InstantSeries) (At RangeCause) → Result (Option InstantSeries) (At RangeCause)
 ordered script (Err fault) = Err fault
 ordered script (Ok None) = Ok None
 ordered script (Ok (Some s)) = unless_crossing s (crossing script s)
 
 -- the range of a script, each instant of which keeps its order; else why not
-abbrev pub ordered_range : List ℕ → Result (Option InstantSeries) RangeFault
+abbrev pub ordered_range : List ℕ → Result (Option InstantSeries) (At RangeCause)
 ordered_range script = ordered script (range_of script)
 
 -- ---- parts

@@ -4,8 +4,8 @@ use Rattle.std.specs.Prelude.{ℕ, zero, suc, ◌+◌, ◌-◌, ◌/◌, ◌<◌
 use Rattle.std.specs.List.{position_or_len}
 use Rattle.line_wave.specs.Bounds.{latest_event}
 use Rattle.text_core.specs.Number.{number_of}
-use Rattle.expect_sweep.specs.declared.series.RangeCause.{RangeCause}
-use Rattle.expect_sweep.specs.declared.series.RangeCause.TheVariants.{Number, Order, Range}
+use Rattle.expect_text.specs.declared.range.RangeCause.{RangeCause}
+use Rattle.expect_text.specs.declared.range.RangeCause.TheVariants.{Number, Order, Range}
 
 pub record InstantSeries : Type 0 where
   pub from : ℕ

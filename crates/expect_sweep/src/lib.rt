@@ -10,6 +10,4 @@ mod stretches;
 mod sweeping;
 
 pub use progress::{ProgressHearer, SilentProgress, SweepProgress};
-pub use script::RangeFault;
-pub use series::RangeCause;
 pub use sweeping::{SweepError, sweep};

@@ -6,11 +6,11 @@ ghost use Rattle.text_core.specs.Words.{words_after, words_of};
 ghost use Rattle.expect_sweep.specs.Order.{between, are_apart, are_times_apart, clock_as, clock_in, clock_of, crossed_from, crossing, is_crossed, is_crossed_by, keeps_order, level_in, line_of, ordered_range, range_in, range_line, range_line_as, state_clock, time_at, unless_crossing, width_in};
 
 use crate::places::WordRole;
-use crate::script::{RangeFault, is_range_at, range_of};
-use crate::series::{InstantSeries, RangeCause, is_range};
-use expect_text::unlabelled;
+use crate::script::{is_range_at, range_of};
+use crate::series::{InstantSeries, is_range};
+use expect_text::{RangeCause, unlabelled};
 use line_wave::WIDEST_PULL;
-use text_core::{first_line, first_word, number_in};
+use text_core::{At, first_line, first_word, number_in};
 
 /// What a line of a script says that has a place in time.
 #[derive(Clone, Copy)]
@@ -334,7 +334,7 @@ fn crossed(script: &[u8], series: &InstantSeries, ranged: RangeLine<'_>) -> Opti
 }
 
 // Why a range breaks the order of a script.
-fn crossing(script: &[u8], series: &InstantSeries) -> Option<RangeFault>
+fn crossing(script: &[u8], series: &InstantSeries) -> Option<At<RangeCause>>
     ensures { result ≡ crossing script.now series.now }
 {
     let Some(ranged) = range_line(script) else {
@@ -342,7 +342,7 @@ fn crossing(script: &[u8], series: &InstantSeries) -> Option<RangeFault>
     };
     match crossed(script, series, ranged) {
         None => None,
-        Some(other) => Some(RangeFault {
+        Some(other) => Some(At {
             line: ranged.line,
             cause: RangeCause::Crosses(other),
             word: ranged.word,
@@ -353,7 +353,7 @@ fn crossing(script: &[u8], series: &InstantSeries) -> Option<RangeFault>
 fn unless_crossing(
     script: &[u8],
     series: InstantSeries,
-) -> Result<Option<InstantSeries>, RangeFault>
+) -> Result<Option<InstantSeries>, At<RangeCause>>
     ensures { result ≡ unless_crossing series (crossing script.now series) }
 {
     match crossing(script, &series) {
@@ -368,7 +368,7 @@ fn unless_crossing(
 ///
 /// The first line whose range is none, or is the second one; then that of a range with an instant at which its line is out of order
 /// with another one: its number, and that of the first such line.
-pub(crate) fn ordered_range(script: &[u8]) -> Result<Option<InstantSeries>, RangeFault>
+pub(crate) fn ordered_range(script: &[u8]) -> Result<Option<InstantSeries>, At<RangeCause>>
     ensures { result ≡ ordered_range script.now }
 {
     match range_of(script) {

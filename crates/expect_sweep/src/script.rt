@@ -5,20 +5,10 @@ ghost use Rattle.text_core.specs.Words.{words_after, words_of};
 ghost use Rattle.expect_sweep.specs.Script.{is_range_at, line_at, mark_before, range_of, script_at, with_range, with_word, word_at, words_ranged};
 
 use crate::places::WordRole;
-use crate::series::{InstantSeries, RangeCause, is_range, series_in};
+use crate::series::{InstantSeries, is_range, series_in};
+use expect_text::RangeCause;
 use std::alloc::{AllocError, Global};
-use text_core::{first_line, first_word};
-use thiserror::Error;
-
-/// The first line of a script, counted from 1, whose range is refused, and why; and the range's number among the line's words,
-/// counted from 0.
-#[derive(Clone, Copy, Debug, Drop, PartialEq, Eq, Error)]
-#[error("line {line}: {cause}")]
-pub struct RangeFault {
-    pub line: u64,
-    pub cause: RangeCause,
-    pub word: usize,
-}
+use text_core::{At, first_line, first_word};
 
 pub(crate) fn is_range_at(place: WordRole, word: &[u8]) -> bool
     ensures { result ≡ is_range_at place word.now }
@@ -32,18 +22,18 @@ fn with_range(
     index: usize,
     seen: Option<InstantSeries>,
     found: Result<InstantSeries, RangeCause>,
-) -> Result<Option<InstantSeries>, RangeFault>
+) -> Result<Option<InstantSeries>, At<RangeCause>>
     ensures { result ≡ with_range number index seen found }
 {
     match found {
-        Err(cause) => Err(RangeFault {
+        Err(cause) => Err(At {
             line: number,
             cause,
             word: index,
         }),
         Ok(series) => match seen {
             None => Ok(Some(series)),
-            Some(_) => Err(RangeFault {
+            Some(_) => Err(At {
                 line: number,
                 cause: RangeCause::Range,
                 word: index,
@@ -58,7 +48,7 @@ fn with_word(
     place: WordRole,
     seen: Option<InstantSeries>,
     word: &[u8],
-) -> Result<Option<InstantSeries>, RangeFault>
+) -> Result<Option<InstantSeries>, At<RangeCause>>
     ensures { result ≡ with_word number index place seen word.now }
 {
     if is_range_at(place, word) {
@@ -73,7 +63,7 @@ fn words_ranged(
     number: u64,
     seen: Option<InstantSeries>,
     line: &[u8],
-) -> Result<Option<InstantSeries>, RangeFault>
+) -> Result<Option<InstantSeries>, At<RangeCause>>
     ensures { result ≡ words_ranged number 0 WordRole.Begin seen (words_of line.now) }
 {
     let mut rest = Some(line);
@@ -98,7 +88,7 @@ fn words_ranged(
 /// # Errors
 ///
 /// The first line whose range is none, or is the second one.
-pub(crate) fn range_of(script: &[u8]) -> Result<Option<InstantSeries>, RangeFault>
+pub(crate) fn range_of(script: &[u8]) -> Result<Option<InstantSeries>, At<RangeCause>>
     ensures { result ≡ range_of script.now }
 {
     let mut rest = script;

@@ -3,27 +3,10 @@ ghost use Rattle.std.specs.Prelude.{◌≡◌, ◌≤◌, ◌<◌, IfSome, lengt
 ghost use Rattle.line_wave.specs.Bounds.{latest_event};
 ghost use Rattle.expect_sweep.specs.Series.{is_range, positive, series_in, series_to, series_until, step_at, steps_between, time_in_range};
 
+use expect_text::RangeCause;
 use line_wave::LATEST_EVENT;
 use std::marker::Model;
 use text_core::{after, before, byte_at, len_before, number_in};
-use thiserror::Error;
-
-/// Why a range of instants is refused: the first of these that applies.
-#[derive(Clone, Copy, Debug, Drop, PartialEq, Eq, Error)]
-pub enum RangeCause {
-    /// A time or a step that is no number, or above 1,000,000,000,000; a step of 0.
-    #[error("number")]
-    Number,
-    /// It ends before it begins.
-    #[error("order")]
-    Order,
-    /// It is the second one, or has more than 1,000,000 instants.
-    #[error("range")]
-    Range,
-    /// At one of its instants its line is out of order with the line of this number.
-    #[error("order with line {0}")]
-    Crosses(u64),
-}
 
 /// The most instants of a range: each costs a run.
 const MOST_INSTANTS: u64 = 1_000_000;

@@ -8,12 +8,13 @@ ghost use Rattle.expect_sweep.specs.Sweep.{AreVerdictsAt, IsRefusalAt, IsSweepCu
 
 use crate::order::ordered_range;
 use crate::progress::{ProgressHearer, tell};
-use crate::script::{RangeFault, script_at};
+use crate::script::script_at;
 use crate::series::InstantSeries;
 use crate::stretches::StretchesDraft;
 use expect_run::{CheckError, verdicts};
+use expect_text::RangeCause;
 use std::alloc::Global;
-use text_core::{Sink, put_all};
+use text_core::{At, Sink, put_all};
 use thiserror::Error;
 
 /// Why there is no sweep of a script, or not all of it.
@@ -25,7 +26,7 @@ pub enum SweepError {
     /// The first line of the script whose range is none, or is the second one; the line of the range, where an instant of it breaks
     /// the order of the script.
     #[error("script {0}")]
-    Range(RangeFault),
+    Range(At<RangeCause>),
     /// The first instant of the range with which the script is refused.
     #[error("{error} at {instant}")]
     At { instant: u64, error: CheckError },

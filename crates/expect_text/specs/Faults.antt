@@ -9,16 +9,18 @@ use Rattle.text_core.specs.Lines.{lines_of}
 use Rattle.text_core.specs.Words.{words_of}
 use Rattle.text_core.specs.Number.{number_of}
 use Rattle.expect_text.specs.Line.{label_in, unlabelled_words, is_event, is_labelable}
-use Rattle.expect_text.specs.Fault.{after_label, at_word}
+use Rattle.expect_text.specs.Fault.{after_label}
+use Rattle.text_core.specs.At.{at_line, at_word}
 use Rattle.expect_text.specs.Form.{ExpectLine, ExpectWindow, form_in, in_window}
 use Rattle.expect_text.specs.Names.{NamedPattern, is_meetable, named_in, unmet_word}
 use Rattle.expect_text.specs.StateTest.{strange_word}
 use Rattle.expect_text.specs.Form.ExpectLine.{Other, Rounds, State, Refused}
 use Rattle.expect_text.specs.Form.ExpectWindow.{Within, From}
-use Rattle.expect_text.specs.declared.fault.ExpectLineFault.{ExpectLineFault}
+use Rattle.text_core.specs.declared.at.AtWord.{AtWord}
+use Rattle.expect_text.specs.declared.form.ExpectCause.{ExpectCause}
 use Rattle.expect_text.specs.declared.form.ExpectCause.TheVariants.{Word, Name, Label, Order, Unmet}
 use Rattle.expect_text.specs.declared.form.Quantity.{Quantity}
-use Rattle.expect_text.specs.declared.faults.ExpectFault.{ExpectFault}
+use Rattle.text_core.specs.declared.at.At.{At}
 
 abbrev pub is_named : List ℕ → Option (List ℕ) → Bool
 is_named name None = false
@@ -109,15 +111,15 @@ ends_before script time = list_any (λ line. is_past time (end_in (unlabelled_wo
 
 -- ---- lines at fault
 
-abbrev pub window_fault : List ℕ → ℕ → Quantity → ExpectWindow → Option ExpectLineFault
+abbrev pub window_fault : List ℕ → ℕ → Quantity → ExpectWindow → Option (AtWord ExpectCause)
 window_fault script number quantity (Within duration name) = if is_above number (line_of_label script name) then None else Some (in_window quantity 3 Label)
 window_fault script number quantity (From from to) = if nat_lt to from then Some (in_window quantity 3 Order) else None
 
 -- no line of a round meets the pattern
-abbrev pub pattern_fault : Quantity → List ℕ → Option ExpectLineFault
+abbrev pub pattern_fault : Quantity → List ℕ → Option (AtWord ExpectCause)
 pattern_fault quantity pattern = if is_meetable pattern then None else Some (in_window quantity (4 + unmet_word pattern) Unmet)
 
-abbrev pub or_fault : Option ExpectLineFault → Option ExpectLineFault → Option ExpectLineFault
+abbrev pub or_fault : Option (AtWord ExpectCause) → Option (AtWord ExpectCause) → Option (AtWord ExpectCause)
 or_fault None other = other
 or_fault (Some fault) other = Some fault
 
@@ -132,20 +134,20 @@ refusal_word None = 2
 refusal_word (Some name) = 3
 
 -- there is no such event above, or no event is refused with this word
-abbrev pub refusal_fault : List ℕ → ℕ → Option (List ℕ) → List ℕ → Option ExpectLineFault
+abbrev pub refusal_fault : List ℕ → ℕ → Option (List ℕ) → List ℕ → Option (AtWord ExpectCause)
 refusal_fault script number name word =
     if is_above number (event_meant script number name) then (if is_refusal word then None else Some (at_word (refusal_word name) Unmet)) else Some (at_word 2 Label)
 
 -- no state line has one of the words
-abbrev pub strange_fault : Option ℕ → Option ExpectLineFault
+abbrev pub strange_fault : Option ℕ → Option (AtWord ExpectCause)
 strange_fault None = None
 strange_fault (Some word) = Some (at_word word Unmet)
 
 -- the script ends before the time, or a word is in no state line
-abbrev pub state_fault : List ℕ → ℕ → List (List ℕ) → Option ExpectLineFault
+abbrev pub state_fault : List ℕ → ℕ → List (List ℕ) → Option (AtWord ExpectCause)
 state_fault script time words = if ends_before script time then Some (at_word 2 Order) else strange_fault (strange_word words)
 
-abbrev pub form_fault : List ℕ → ℕ → ExpectLine → Option ExpectLineFault
+abbrev pub form_fault : List ℕ → ℕ → ExpectLine → Option (AtWord ExpectCause)
 form_fault script number Other = None
 form_fault script number (Rounds quantity window pattern) = or_fault (window_fault script number quantity window) (pattern_fault quantity pattern)
 form_fault script number (State time device words) = state_fault script time words
@@ -168,13 +170,13 @@ is_strange topology (State time device words) = not (is_declared topology device
 is_strange topology (Refused name word) = false
 
 -- the word that names it
-abbrev pub strange_at : ExpectLine → ExpectLineFault
+abbrev pub strange_at : ExpectLine → AtWord ExpectCause
 strange_at Other = at_word 3 Name
 strange_at (Rounds quantity window pattern) = in_window quantity 4 Name
 strange_at (State time device words) = at_word 3 Name
 strange_at (Refused name word) = at_word 3 Name
 
-abbrev pub fault_by : List ℕ → List ℕ → ℕ → Option (List ℕ) → Result ExpectLine ExpectLineFault → Option ExpectLineFault
+abbrev pub fault_by : List ℕ → List ℕ → ℕ → Option (List ℕ) → Result ExpectLine (AtWord ExpectCause) → Option (AtWord ExpectCause)
 fault_by topology script number label (Err fault) = Some (after_label label fault)
 fault_by topology script number label (Ok form) =
     if is_strange topology form then Some (after_label label (strange_at form))
@@ -182,22 +184,22 @@ fault_by topology script number label (Ok form) =
     else Some (at_word 1 Label)
 
 -- what a line says without its label, which stands before no other line
-abbrev pub labelled_form : Option (List ℕ) → List (List ℕ) → Result ExpectLine ExpectLineFault
+abbrev pub labelled_form : Option (List ℕ) → List (List ℕ) → Result ExpectLine (AtWord ExpectCause)
 labelled_form None words = form_in words
 labelled_form (Some name) words = if is_labelable words then form_in words else Err (at_word 0 Word)
 
 -- why a line is refused, and its word at fault
-abbrev pub line_fault : List ℕ → List ℕ → ℕ → List ℕ → Option ExpectLineFault
+abbrev pub line_fault : List ℕ → List ℕ → ℕ → List ℕ → Option (AtWord ExpectCause)
 line_fault topology script number line = fault_by topology script number (label_in (words_of line)) (labelled_form (label_in (words_of line)) (unlabelled_words (words_of line)))
 
-abbrev pub fault_or : ℕ → Option ExpectLineFault → Option ExpectFault → Option ExpectFault
+abbrev pub fault_or : ℕ → Option (AtWord ExpectCause) → Option (At ExpectCause) → Option (At ExpectCause)
 fault_or number None next = next
-fault_or number (Some fault) next = Some (record { line = number; cause = fault.cause; word = fault.word })
+fault_or number (Some fault) next = Some (at_line number fault)
 
 -- the first line at fault of these, of which the first has this number
-abbrev pub faults_from : List ℕ → List ℕ → ℕ → List (List ℕ) → Option ExpectFault
+abbrev pub faults_from : List ℕ → List ℕ → ℕ → List (List ℕ) → Option (At ExpectCause)
 faults_from topology script number [] = None
 faults_from topology script number (line ∷ lines) = fault_or number (line_fault topology script number line) (faults_from topology script (number + 1) lines)
 
-abbrev pub first_fault : List ℕ → List ℕ → Option ExpectFault
+abbrev pub first_fault : List ℕ → List ℕ → Option (At ExpectCause)
 first_fault topology script = faults_from topology script 1 (lines_of script)

@@ -6,8 +6,8 @@ use Rattle.std.specs.Str.{bytes_eq}
 use Rattle.line_wave.specs.Bounds.{latest_event}
 use Rattle.text_core.specs.Number.{number_of}
 use Rattle.text_core.specs.Words.{words_of, text_of}
-use Rattle.expect_text.specs.Fault.{at_word}
-use Rattle.expect_text.specs.declared.fault.ExpectLineFault.{ExpectLineFault}
+use Rattle.text_core.specs.At.{at_word}
+use Rattle.text_core.specs.declared.at.AtWord.{AtWord}
 use Rattle.expect_text.specs.declared.form.ExpectCause.{ExpectCause}
 use Rattle.expect_text.specs.declared.form.ExpectCause.TheVariants.{Word, Pattern, Number}
 use Rattle.expect_text.specs.declared.form.Quantity.{Quantity}
@@ -75,7 +75,7 @@ window_word AtLeastOnce = 1
 window_word Never = 2
 window_word Once = 2
 
-abbrev pub in_window : Quantity → ℕ → ExpectCause → ExpectLineFault
+abbrev pub in_window : Quantity → ℕ → ExpectCause → AtWord ExpectCause
 in_window quantity after cause = at_word (window_word quantity + after) cause
 
 -- a window's two values, and the pattern
@@ -87,43 +87,43 @@ pub record Parts : Type 0 where
 abbrev pub parts_as : PartsRead → Parts
 parts_as parts = record { first = parts.first.now; second = parts.second.now; pattern = parts.pattern.now }
 
-abbrev pub pattern_by : Quantity → List ℕ → List ℕ → List ℕ → Result Parts ExpectLineFault
+abbrev pub pattern_by : Quantity → List ℕ → List ℕ → List ℕ → Result Parts (AtWord ExpectCause)
 pattern_by quantity first second pattern =
     if is_pattern pattern then Ok (record { first = first; second = second; pattern = pattern }) else Err (in_window quantity 4 Pattern)
 
-abbrev pub pattern_in : Quantity → List ℕ → List ℕ → List (List ℕ) → Result Parts ExpectLineFault
+abbrev pub pattern_in : Quantity → List ℕ → List ℕ → List (List ℕ) → Result Parts (AtWord ExpectCause)
 pattern_in quantity first second [] = Err (in_window quantity 4 Word)
 pattern_in quantity first second (word ∷ words) = pattern_by quantity first second (text_of (word ∷ words))
 
-abbrev pub second_in : Quantity → List ℕ → List (List ℕ) → Result Parts ExpectLineFault
+abbrev pub second_in : Quantity → List ℕ → List (List ℕ) → Result Parts (AtWord ExpectCause)
 second_in quantity first [] = Err (in_window quantity 3 Word)
 second_in quantity first (second ∷ words) = pattern_in quantity first second words
 
 -- the words after a window's first one, with this one between its values
-abbrev pub parts_in : Quantity → List ℕ → List (List ℕ) → Result Parts ExpectLineFault
+abbrev pub parts_in : Quantity → List ℕ → List (List ℕ) → Result Parts (AtWord ExpectCause)
 parts_in quantity joint [] = Err (in_window quantity 1 Word)
 parts_in quantity joint (first ∷ []) = Err (in_window quantity 2 Word)
 parts_in quantity joint (first ∷ word ∷ words) = if bytes_eq word joint then second_in quantity first words else Err (in_window quantity 2 Word)
 
-abbrev pub within : Quantity → Option ℕ → Parts → Result ExpectLine ExpectLineFault
+abbrev pub within : Quantity → Option ℕ → Parts → Result ExpectLine (AtWord ExpectCause)
 within quantity None parts = Err (in_window quantity 1 Number)
 within quantity (Some duration) parts = Ok (Rounds quantity (Within duration parts.second) parts.pattern)
 
-abbrev pub within_by : Quantity → Result Parts ExpectLineFault → Result ExpectLine ExpectLineFault
+abbrev pub within_by : Quantity → Result Parts (AtWord ExpectCause) → Result ExpectLine (AtWord ExpectCause)
 within_by quantity (Err fault) = Err fault
 within_by quantity (Ok parts) = within quantity (exact_number parts.first) parts
 
-abbrev pub rounds_between : Quantity → Option ℕ → Option ℕ → Parts → Result ExpectLine ExpectLineFault
+abbrev pub rounds_between : Quantity → Option ℕ → Option ℕ → Parts → Result ExpectLine (AtWord ExpectCause)
 rounds_between quantity None to parts = Err (in_window quantity 1 Number)
 rounds_between quantity (Some from) None parts = Err (in_window quantity 3 Number)
 rounds_between quantity (Some from) (Some to) parts = Ok (Rounds quantity (From from to) parts.pattern)
 
-abbrev pub between_by : Quantity → Result Parts ExpectLineFault → Result ExpectLine ExpectLineFault
+abbrev pub between_by : Quantity → Result Parts (AtWord ExpectCause) → Result ExpectLine (AtWord ExpectCause)
 between_by quantity (Err fault) = Err fault
 between_by quantity (Ok parts) = rounds_between quantity (exact_number parts.first) (exact_number parts.second) parts
 
 -- `within D of NAME PATTERN` or `from T to U PATTERN`
-abbrev pub rounds_in : Quantity → List (List ℕ) → Result ExpectLine ExpectLineFault
+abbrev pub rounds_in : Quantity → List (List ℕ) → Result ExpectLine (AtWord ExpectCause)
 rounds_in quantity [] = Err (in_window quantity 0 Word)
 rounds_in quantity (kind ∷ words) =
     if bytes_eq kind (codes "within") then within_by quantity (parts_in quantity (codes "of") words)
@@ -137,11 +137,11 @@ abbrev pub empty_from : ℕ → List (List ℕ) → Option ℕ
 empty_from number [] = None
 empty_from number (word ∷ words) = if nat_lt 0 (length word) then empty_from (number + 1) words else Some number
 
-abbrev pub state_at_time : Option ℕ → List ℕ → List (List ℕ) → Result ExpectLine ExpectLineFault
+abbrev pub state_at_time : Option ℕ → List ℕ → List (List ℕ) → Result ExpectLine (AtWord ExpectCause)
 state_at_time None device words = Err (at_word 2 Number)
 state_at_time (Some time) device words = if nat_lt latest_event time then Err (at_word 2 Number) else Ok (State time device words)
 
-abbrev pub state_by : Option ℕ → Option ℕ → List ℕ → List (List ℕ) → Result ExpectLine ExpectLineFault
+abbrev pub state_by : Option ℕ → Option ℕ → List ℕ → List (List ℕ) → Result ExpectLine (AtWord ExpectCause)
 state_by (Some empty) time device words = Err (at_word empty Word)
 state_by None time device words = state_at_time time device words
 
@@ -157,7 +157,7 @@ or_lacking None lacked = lacked
 or_lacking (Some empty) lacked = Some empty
 
 -- a time, a device, perhaps `not`, and at least one word; no word is empty
-abbrev pub state_in : List (List ℕ) → Result ExpectLine ExpectLineFault
+abbrev pub state_in : List (List ℕ) → Result ExpectLine (AtWord ExpectCause)
 state_in [] = Err (at_word 2 Word)
 state_in (time ∷ []) = Err (at_word 3 Word)
 state_in (time ∷ device ∷ []) = Err (at_word 4 Word)
@@ -166,14 +166,14 @@ state_in (time ∷ device ∷ word ∷ words) = state_by (or_lacking (empty_from
 -- ---- all
 
 -- a label and a word, or a word alone
-abbrev pub refused_in : List (List ℕ) → Result ExpectLine ExpectLineFault
+abbrev pub refused_in : List (List ℕ) → Result ExpectLine (AtWord ExpectCause)
 refused_in [] = Err (at_word 2 Word)
 refused_in (word ∷ []) = Ok (Refused None word)
 refused_in (name ∷ word ∷ []) = Ok (Refused (Some name) word)
 refused_in (name ∷ word ∷ more ∷ words) = Err (at_word 4 Word)
 
 -- the words after `expect`
-abbrev pub expectation_in : List (List ℕ) → Result ExpectLine ExpectLineFault
+abbrev pub expectation_in : List (List ℕ) → Result ExpectLine (AtWord ExpectCause)
 expectation_in [] = Err (at_word 1 Word)
 expectation_in (how ∷ words) =
     if bytes_eq how (codes "refused") then refused_in words
@@ -183,7 +183,7 @@ expectation_in (how ∷ words) =
     else rounds_in AtLeastOnce (how ∷ words)
 
 -- what a line says, by its words without the label; a label alone says nothing
-abbrev pub form_in : List (List ℕ) → Result ExpectLine ExpectLineFault
+abbrev pub form_in : List (List ℕ) → Result ExpectLine (AtWord ExpectCause)
 form_in [] = Err (at_word 0 Word)
 form_in (verb ∷ words) = if bytes_eq verb (codes "expect") then expectation_in words else Ok Other
 
@@ -195,10 +195,10 @@ IsEarly (forms.State time device words) = time ≤ latest_event
 IsEarly (forms.Refused label word) = Unit {0}
 
 -- what is read is what the words say
-abbrev pub IsForm : Result ExpectLine ExpectLineFault → Result FormRead ExpectLineFault → Type 0
+abbrev pub IsForm : Result ExpectLine (AtWord ExpectCause) → Result FormRead (AtWord ExpectCause) → Type 0
 IsForm said (Ok form) = said ≡ Ok (form_as form)
 IsForm said (Err fault) = said ≡ Err fault
 
-abbrev pub AreParts : Result Parts ExpectLineFault → Result PartsRead ExpectLineFault → Type 0
+abbrev pub AreParts : Result Parts (AtWord ExpectCause) → Result PartsRead (AtWord ExpectCause) → Type 0
 AreParts said (Ok parts) = said ≡ Ok (parts_as parts)
 AreParts said (Err fault) = said ≡ Err fault

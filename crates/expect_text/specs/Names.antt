@@ -9,7 +9,8 @@ use Rattle.expect_text.specs.Form.{ExpectLine, form_in}
 use Rattle.expect_text.specs.Form.ExpectLine.{Other, Rounds, State, Refused}
 use Rattle.expect_text.specs.Line.{unlabelled_words}
 use Rattle.expect_text.specs.Said.{is_said}
-use Rattle.expect_text.specs.declared.fault.ExpectLineFault.{ExpectLineFault}
+use Rattle.text_core.specs.declared.at.AtWord.{AtWord}
+use Rattle.expect_text.specs.declared.form.ExpectCause.{ExpectCause}
 use Rattle.expect_text.specs.declared.named.NamedPattern.{NamedPattern as NamedRead}
 
 -- ---- the first name of a pattern
@@ -118,7 +119,7 @@ unmet_word pattern = unmet_from pattern 0 0 pattern
 
 -- ---- scripts with names
 
-abbrev pub form_has_name : Result ExpectLine ExpectLineFault → Bool
+abbrev pub form_has_name : Result ExpectLine (AtWord ExpectCause) → Bool
 form_has_name (Err cause) = false
 form_has_name (Ok Other) = false
 form_has_name (Ok (Rounds quantity window pattern)) = is_some (named_in pattern)

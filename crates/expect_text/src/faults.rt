@@ -9,7 +9,7 @@ ghost use Rattle.expect_text.specs.Names.{named_as};
 ghost use Rattle.expect_text.specs.StateTest.{strange_word};
 ghost use Rattle.expect_text.specs.Faults.{declared_in, end_in, ends_before, first_fault, form_fault, has_strange_name, is_above, is_declared, is_line, is_named, is_own_label, is_past, is_refusal, is_strange, is_strange_name, labelled_form, line_fault, or_fault, pattern_fault, refusal_fault, refusal_word, state_fault, strange_at, strange_fault, window_fault};
 
-use crate::fault::{ExpectLineFault, after_label, at_word};
+use crate::fault::after_label;
 use crate::form::{ExpectCause, ExpectLine, ExpectWindow, Quantity, form_in, in_window};
 use crate::labels::Labels;
 use crate::line::{is_labelable, unlabelled};
@@ -17,18 +17,7 @@ use crate::named::NamedPattern;
 use crate::names::{is_meetable, named_in, unmet_word};
 use crate::state_words::strange_word;
 use std::alloc::{AllocError, Global};
-use text_core::{first_line, first_word, number_in};
-use thiserror::Error;
-
-/// The first line of a script at fault, counted from 1, and why; the word at fault, counted from 0 in the line as it is written.
-/// Where a word is missing, it is the number that it would have.
-#[derive(Clone, Copy, Debug, Drop, PartialEq, Eq, Error)]
-#[error("line {line}: {cause}")]
-pub struct ExpectFault {
-    pub line: u64,
-    pub cause: ExpectCause,
-    pub word: usize,
-}
+use text_core::{At, AtWord, at_word, first_line, first_word, number_in};
 
 fn is_above(number: u64, line: Option<u64>) -> bool
     ensures { result ≡ is_above number line }
@@ -131,7 +120,7 @@ fn window_fault(
     number: u64,
     quantity: Quantity,
     window: ExpectWindow,
-) -> Option<ExpectLineFault>
+) -> Option<AtWord<ExpectCause>>
     ensures value { result ≡ window_fault labels.now.script.now number quantity (window_of window.entry) }
     ensures near { IfSome result IsNear }
 {
@@ -153,7 +142,7 @@ fn window_fault(
     }
 }
 
-fn pattern_fault(quantity: Quantity, pattern: &[u8]) -> Option<ExpectLineFault>
+fn pattern_fault(quantity: Quantity, pattern: &[u8]) -> Option<AtWord<ExpectCause>>
     ensures value { result ≡ pattern_fault quantity pattern.now }
     ensures near { IfSome result IsNear }
 {
@@ -170,7 +159,7 @@ fn rounds_fault(
     quantity: Quantity,
     window: ExpectWindow,
     pattern: &[u8],
-) -> Option<ExpectLineFault>
+) -> Option<AtWord<ExpectCause>>
     ensures value { result ≡ or_fault (window_fault labels.now.script.now number quantity (window_of window.entry)) (pattern_fault quantity pattern.now) }
     ensures near { IfSome result IsNear }
 {
@@ -212,7 +201,7 @@ fn refusal_fault(
     number: u64,
     label: Option<&[u8]>,
     word: &[u8],
-) -> Option<ExpectLineFault>
+) -> Option<AtWord<ExpectCause>>
     ensures value { result ≡ refusal_fault labels.now.script.now number (option_copied label.entry) word.now }
     ensures near { IfSome result IsNear }
 {
@@ -225,7 +214,7 @@ fn refusal_fault(
     }
 }
 
-fn strange_fault(words: &[u8]) -> Option<ExpectLineFault>
+fn strange_fault(words: &[u8]) -> Option<AtWord<ExpectCause>>
     ensures value { result ≡ strange_fault (strange_word (words_of words.now)) }
     ensures near { IfSome result IsNear }
 {
@@ -235,7 +224,7 @@ fn strange_fault(words: &[u8]) -> Option<ExpectLineFault>
     }
 }
 
-fn state_fault(script: &[u8], time: u64, words: &[u8]) -> Option<ExpectLineFault>
+fn state_fault(script: &[u8], time: u64, words: &[u8]) -> Option<AtWord<ExpectCause>>
     ensures value { result ≡ state_fault script.now time (words_of words.now) }
     ensures near { IfSome result IsNear }
 {
@@ -246,7 +235,7 @@ fn state_fault(script: &[u8], time: u64, words: &[u8]) -> Option<ExpectLineFault
     }
 }
 
-fn form_fault(labels: &Labels<'_>, number: u64, form: ExpectLine) -> Option<ExpectLineFault>
+fn form_fault(labels: &Labels<'_>, number: u64, form: ExpectLine) -> Option<AtWord<ExpectCause>>
     ensures value { result ≡ form_fault labels.now.script.now number (form_as form.entry) }
     ensures near { IfSome result IsNear }
 {
@@ -295,7 +284,7 @@ fn is_strange(topology: &[u8], form: ExpectLine) -> bool
 }
 
 // The word that names it.
-fn strange_at(form: ExpectLine) -> ExpectLineFault
+fn strange_at(form: ExpectLine) -> AtWord<ExpectCause>
     ensures value { result ≡ strange_at (form_as form.entry) }
     ensures near { IsNear result }
 {
@@ -308,7 +297,10 @@ fn strange_at(form: ExpectLine) -> ExpectLineFault
 }
 
 // The same word of a line with its label before it, where one is at fault.
-fn any_after_label(label: Option<&[u8]>, fault: Option<ExpectLineFault>) -> Option<ExpectLineFault>
+fn any_after_label(
+    label: Option<&[u8]>,
+    fault: Option<AtWord<ExpectCause>>,
+) -> Option<AtWord<ExpectCause>>
     requires near { IfSome fault IsNear }
     ensures { result ≡ option_map (after_label (option_copied label.entry)) fault }
 {
@@ -322,7 +314,7 @@ fn any_after_label(label: Option<&[u8]>, fault: Option<ExpectLineFault>) -> Opti
 fn labelled_form<'a>(
     label: Option<&[u8]>,
     rest: Option<&'a [u8]>,
-) -> Result<ExpectLine<'a>, ExpectLineFault>
+) -> Result<ExpectLine<'a>, AtWord<ExpectCause>>
     ensures is { IsForm (labelled_form (option_copied label.entry) (words_after (option_copied rest.entry))) result }
     ensures near { IfErr result IsNear }
 {
@@ -337,7 +329,7 @@ fn line_fault(
     labels: &Labels<'_>,
     number: u64,
     line: &[u8],
-) -> Option<ExpectLineFault>
+) -> Option<AtWord<ExpectCause>>
     ensures { result ≡ line_fault topology.now labels.now.script.now number line.now }
 {
     let line = unlabelled(line);
@@ -356,18 +348,14 @@ fn line_fault(
 }
 
 /// The first line at fault of a script whose labels are read, for a topology.
-pub fn fault_among(topology: &[u8], labels: &Labels<'_>) -> Option<ExpectFault>
+pub fn fault_among(topology: &[u8], labels: &Labels<'_>) -> Option<At<ExpectCause>>
     ensures { result ≡ first_fault topology.now labels.now.script.now }
 {
     let mut rest = labels.script;
     let mut number = 1u64;
     'lines: while let Some((line, after)) = first_line(rest) {
         if let Some(fault) = line_fault(topology, labels, number, line) {
-            return Some(ExpectFault {
-                line: number,
-                cause: fault.cause,
-                word: fault.word,
-            });
+            return Some(fault.on_line(number));
         }
         rest = after;
         number += 1;
@@ -375,7 +363,7 @@ pub fn fault_among(topology: &[u8], labels: &Labels<'_>) -> Option<ExpectFault>
     None
 }
 
-/// The first line of a script for a topology whose label or expectation is at fault.
+/// The first line of a script for a topology whose label or expectation is at fault, and the word of the line as it is written.
 ///
 /// # Errors
 ///
@@ -384,7 +372,7 @@ pub fn first_fault(
     alloc: Global,
     topology: &[u8],
     script: &[u8],
-) -> Result<Option<ExpectFault>, AllocError>
+) -> Result<Option<At<ExpectCause>>, AllocError>
     ensures { IfOk result (λ fault. fault ≡ first_fault topology.now script.now) }
 {
     let labels = Labels::new(alloc, script)?;

@@ -6,9 +6,8 @@ ghost use Rattle.text_core.specs.Number.{number_of};
 ghost use Rattle.expect_text.specs.Fault.{IsNear};
 ghost use Rattle.expect_text.specs.Form.{AreParts, IsEarly, IsForm, between_by, empty_from, exact_number, expectation_in, form_in, in_window, is_open_ended, lacking, or_lacking, is_pattern, parts_as, parts_in, pattern_by, pattern_in, refused_in, rounds_between, rounds_in, second_in, stars, state_at_time, state_in, window_word, within, within_by};
 
-use crate::fault::{ExpectLineFault, at_word};
 use line_wave::LATEST_EVENT;
-use text_core::{byte_at, first_word, number_in};
+use text_core::{AtWord, at_word, byte_at, first_word, number_in};
 use thiserror::Error;
 
 /// Why the line of a label or an expectation is refused: the first of these that applies.
@@ -107,7 +106,7 @@ fn window_word(quantity: Quantity) -> usize
 }
 
 /// The word at fault that stands so many after the first one of a window.
-pub(crate) fn in_window(quantity: Quantity, after: usize, cause: ExpectCause) -> ExpectLineFault
+pub(crate) fn in_window(quantity: Quantity, after: usize, cause: ExpectCause) -> AtWord<ExpectCause>
     requires few { after < 2 ^ 63 + 8 }
     ensures value { result ≡ in_window quantity after cause }
     ensures near { IsNear result }
@@ -159,7 +158,7 @@ fn pattern_by<'a>(
     first: &'a [u8],
     second: &'a [u8],
     pattern: &'a [u8],
-) -> Result<Parts<'a>, ExpectLineFault>
+) -> Result<Parts<'a>, AtWord<ExpectCause>>
     ensures is { AreParts (pattern_by quantity first.now second.now pattern.now) result }
     ensures near { IfErr result IsNear }
 {
@@ -179,7 +178,7 @@ fn pattern_in<'a>(
     first: &'a [u8],
     second: &'a [u8],
     rest: Option<&'a [u8]>,
-) -> Result<Parts<'a>, ExpectLineFault>
+) -> Result<Parts<'a>, AtWord<ExpectCause>>
     ensures is { AreParts (pattern_in quantity first.now second.now (words_after (option_copied rest.entry))) result }
     ensures near { IfErr result IsNear }
 {
@@ -193,7 +192,7 @@ fn second_in<'a>(
     quantity: Quantity,
     first: &'a [u8],
     rest: Option<&'a [u8]>,
-) -> Result<Parts<'a>, ExpectLineFault>
+) -> Result<Parts<'a>, AtWord<ExpectCause>>
     ensures is { AreParts (second_in quantity first.now (words_after (option_copied rest.entry))) result }
     ensures near { IfErr result IsNear }
 {
@@ -209,7 +208,7 @@ fn parts_in<'a>(
     quantity: Quantity,
     joint: &[u8],
     rest: Option<&'a [u8]>,
-) -> Result<Parts<'a>, ExpectLineFault>
+) -> Result<Parts<'a>, AtWord<ExpectCause>>
     ensures is { AreParts (parts_in quantity joint.now (words_after (option_copied rest.entry))) result }
     ensures near { IfErr result IsNear }
 {
@@ -228,7 +227,7 @@ fn parts_in<'a>(
     }
 }
 
-fn within<'a>(quantity: Quantity, parts: &Parts<'a>) -> Result<ExpectLine<'a>, ExpectLineFault>
+fn within<'a>(quantity: Quantity, parts: &Parts<'a>) -> Result<ExpectLine<'a>, AtWord<ExpectCause>>
     ensures is { IsForm (within quantity (exact_number parts.now.first.now) (parts_as parts.now)) result }
     ensures early { IfOk result IsEarly }
     ensures near { IfErr result IsNear }
@@ -249,7 +248,7 @@ fn within<'a>(quantity: Quantity, parts: &Parts<'a>) -> Result<ExpectLine<'a>, E
 fn rounds_between<'a>(
     quantity: Quantity,
     parts: &Parts<'a>,
-) -> Result<ExpectLine<'a>, ExpectLineFault>
+) -> Result<ExpectLine<'a>, AtWord<ExpectCause>>
     ensures is { IsForm (rounds_between quantity (exact_number parts.now.first.now) (exact_number parts.now.second.now) (parts_as parts.now)) result }
     ensures early { IfOk result IsEarly }
     ensures near { IfErr result IsNear }
@@ -270,7 +269,7 @@ fn rounds_between<'a>(
 fn within_in<'a>(
     quantity: Quantity,
     rest: Option<&'a [u8]>,
-) -> Result<ExpectLine<'a>, ExpectLineFault>
+) -> Result<ExpectLine<'a>, AtWord<ExpectCause>>
     ensures is { IsForm (within_by quantity (parts_in quantity (codes "of") (words_after (option_copied rest.entry)))) result }
     ensures early { IfOk result IsEarly }
     ensures near { IfErr result IsNear }
@@ -284,7 +283,7 @@ fn within_in<'a>(
 fn between_in<'a>(
     quantity: Quantity,
     rest: Option<&'a [u8]>,
-) -> Result<ExpectLine<'a>, ExpectLineFault>
+) -> Result<ExpectLine<'a>, AtWord<ExpectCause>>
     ensures is { IsForm (between_by quantity (parts_in quantity (codes "to") (words_after (option_copied rest.entry)))) result }
     ensures early { IfOk result IsEarly }
     ensures near { IfErr result IsNear }
@@ -298,7 +297,7 @@ fn between_in<'a>(
 fn rounds_in<'a>(
     quantity: Quantity,
     rest: Option<&'a [u8]>,
-) -> Result<ExpectLine<'a>, ExpectLineFault>
+) -> Result<ExpectLine<'a>, AtWord<ExpectCause>>
     ensures is { IsForm (rounds_in quantity (words_after (option_copied rest.entry))) result }
     ensures early { IfOk result IsEarly }
     ensures near { IfErr result IsNear }
@@ -370,7 +369,7 @@ fn state_at_time<'a>(
     time: &[u8],
     device: &'a [u8],
     words: &'a [u8],
-) -> Result<ExpectLine<'a>, ExpectLineFault>
+) -> Result<ExpectLine<'a>, AtWord<ExpectCause>>
     ensures is { IsForm (state_at_time (number_of time.now) device.now (words_of words.now)) result }
     ensures early { IfOk result IsEarly }
     ensures near { IfErr result IsNear }
@@ -391,7 +390,7 @@ fn state_at_time<'a>(
     }
 }
 
-fn state_in<'a>(rest: Option<&'a [u8]>) -> Result<ExpectLine<'a>, ExpectLineFault>
+fn state_in<'a>(rest: Option<&'a [u8]>) -> Result<ExpectLine<'a>, AtWord<ExpectCause>>
     ensures is { IsForm (state_in (words_after (option_copied rest.entry))) result }
     ensures early { IfOk result IsEarly }
     ensures near { IfErr result IsNear }
@@ -414,7 +413,7 @@ fn state_in<'a>(rest: Option<&'a [u8]>) -> Result<ExpectLine<'a>, ExpectLineFaul
     }
 }
 
-fn refused_in<'a>(rest: Option<&'a [u8]>) -> Result<ExpectLine<'a>, ExpectLineFault>
+fn refused_in<'a>(rest: Option<&'a [u8]>) -> Result<ExpectLine<'a>, AtWord<ExpectCause>>
     ensures is { IsForm (refused_in (words_after (option_copied rest.entry))) result }
     ensures early { IfOk result IsEarly }
     ensures near { IfErr result IsNear }
@@ -442,7 +441,7 @@ fn refused_in<'a>(rest: Option<&'a [u8]>) -> Result<ExpectLine<'a>, ExpectLineFa
     }
 }
 
-fn expectation_in<'a>(rest: Option<&'a [u8]>) -> Result<ExpectLine<'a>, ExpectLineFault>
+fn expectation_in<'a>(rest: Option<&'a [u8]>) -> Result<ExpectLine<'a>, AtWord<ExpectCause>>
     ensures is { IsForm (expectation_in (words_after (option_copied rest.entry))) result }
     ensures early { IfOk result IsEarly }
     ensures near { IfErr result IsNear }
@@ -469,7 +468,7 @@ fn expectation_in<'a>(rest: Option<&'a [u8]>) -> Result<ExpectLine<'a>, ExpectLi
 /// # Errors
 ///
 /// The first cause, and the word at fault in the line without its label.
-pub fn form_in<'a>(rest: Option<&'a [u8]>) -> Result<ExpectLine<'a>, ExpectLineFault>
+pub fn form_in<'a>(rest: Option<&'a [u8]>) -> Result<ExpectLine<'a>, AtWord<ExpectCause>>
     ensures is { IsForm (form_in (words_after (option_copied rest.entry))) result }
     ensures early { IfOk result IsEarly }
     ensures near { IfErr result IsNear }

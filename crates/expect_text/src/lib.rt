@@ -11,11 +11,12 @@ mod named;
 mod names;
 mod part;
 mod pattern;
+mod range;
 mod said;
 mod state_words;
 
-pub use fault::{ExpectLineFault, after_label, at_word};
-pub use faults::{ExpectFault, fault_among, first_fault};
+pub use fault::after_label;
+pub use faults::{fault_among, first_fault};
 pub use form::{ExpectCause, ExpectLine, ExpectWindow, Quantity, exact_number, form_in};
 pub use labels::Labels;
 pub use laws::{names_are_met, patterns_are_met, readings_are_said, state_words_are_met};
@@ -23,5 +24,6 @@ pub use line::{Labelled, cut_script, onset_in, plain_part, plain_script, unlabel
 pub use named::NamedPattern;
 pub use names::{has_names, is_meetable, meets, named_in};
 pub use pattern::fits;
+pub use range::RangeCause;
 pub use said::is_said;
 pub use state_words::is_state_word;

@@ -88,7 +88,7 @@ fn add_word(
     mark: Mark,
 ) {
     let labels = match fault {
-        InputFault::Script { .. } => label_words(what, line),
+        InputFault::Script(_) => label_words(what, line),
         _ => 0,
     };
     let own = if labels > 0 { plain(what, line) } else { line };

@@ -3,8 +3,8 @@ use capture_forms::Cause;
 use edid_base::BaseError;
 use edid_core::EdidError;
 use edid_dump::DumpError;
-use expect_text::ExpectCause;
-use explain_marks::{InputFault, RangeSlip};
+use expect_text::{ExpectCause, RangeCause};
+use explain_marks::InputFault;
 use message_hex::DisCause;
 use message_lay::LayCause;
 use message_text::AssembleError;
@@ -85,16 +85,16 @@ fn of_expectation(cause: ExpectCause) -> &'static str {
     }
 }
 
-fn of_range(cause: RangeSlip) -> &'static str {
+fn of_range(cause: RangeCause) -> &'static str {
     match cause {
-        RangeSlip::Number => {
+        RangeCause::Number => {
             "T, U and S of a range `T..U/S` are decimal numbers, T and U of at most 1000000000000 microseconds, S at least 1; none has a zero before it"
         }
-        RangeSlip::Order => "a range `T..U` does not end before it begins: U is T or later",
-        RangeSlip::Crosses => {
+        RangeCause::Order => "a range `T..U` does not end before it begins: U is T or later",
+        RangeCause::Crosses(_) => {
             "each instant of a range keeps the order of the script: events in order of time, pulses, pulls and the pin too, `end` after each event, no state after `end`"
         }
-        RangeSlip::Second => {
+        RangeCause::Range => {
             "one time of a script may be a range, `T..U` or `T..U/S`, of at most 1000000 instants; another line may have one already"
         }
     }
@@ -226,13 +226,13 @@ fn of_dump(error: DumpError) -> &'static str {
 /// What would be right in place of a fault.
 pub fn right(fault: InputFault) -> &'static str {
     match fault {
-        InputFault::Topology { cause, .. } => of_topology(cause),
-        InputFault::Script { cause, .. } => of_script(cause),
+        InputFault::Topology(at) => of_topology(at.cause),
+        InputFault::Script(at) => of_script(at.cause),
         InputFault::Past { .. } => {
             "T is the horizon or later: the number after `=` in the last answer"
         }
-        InputFault::Expectation { cause, .. } => of_expectation(cause),
-        InputFault::Range { cause, .. } => of_range(cause),
+        InputFault::Expectation(at) => of_expectation(at.cause),
+        InputFault::Range(at) => of_range(at.cause),
         InputFault::Steps { .. } => {
             "XX is an opcode, two hex digits in lower case; NAME has a `device` line in the topology; words stand one space apart"
         }

@@ -260,13 +260,13 @@ pub fn add_right_forms(
     line: &str,
 ) -> bool {
     match fault {
-        InputFault::Topology { cause, .. } => add_topology(draft, cause, line),
-        InputFault::Script { cause, word, .. } => {
+        InputFault::Topology(at) => add_topology(draft, at.cause, line),
+        InputFault::Script(at) => {
             let line = plain(what, line);
-            return add_script(draft, what, place, cause, line, word);
+            return add_script(draft, what, place, at.cause, line, at.word);
         }
-        InputFault::Expectation { cause, .. } => {
-            return add_expectation(draft, what, fault, cause, line);
+        InputFault::Expectation(at) => {
+            return add_expectation(draft, what, fault, at.cause, line);
         }
         InputFault::Steps { .. } => add_forms(draft, STEPS, line),
         InputFault::Frame { cause, .. } => add_frame(draft, cause, line, 0),
@@ -282,7 +282,7 @@ pub fn add_right_forms(
         InputFault::TextField { .. } => return add_fields(draft, what, place, line),
         InputFault::TextSyntax { .. } => return add_field_count(draft, line),
         InputFault::Past { .. }
-        | InputFault::Range { .. }
+        | InputFault::Range(_)
         | InputFault::Hex { .. }
         | InputFault::Lay { .. }
         | InputFault::Capture { .. }

@@ -281,10 +281,10 @@ pub fn add_meant(
         return;
     };
     match fault {
-        InputFault::Topology { cause, .. } => add_topology_meant(draft, place, cause, line, number),
-        InputFault::Script { cause, .. } => of_script(draft, what, place, cause, line, number),
-        InputFault::Expectation { cause, .. } => {
-            add_expected_meant(draft, place, cause, line, number);
+        InputFault::Topology(at) => add_topology_meant(draft, place, at.cause, line, number),
+        InputFault::Script(at) => of_script(draft, what, place, at.cause, line, number),
+        InputFault::Expectation(at) => {
+            add_expected_meant(draft, place, at.cause, line, number);
         }
         InputFault::Steps { .. } => of_step(draft, place, line, word, number),
         InputFault::Frame { cause, .. } => add_frame_meant(draft, cause, line, number),
@@ -309,7 +309,7 @@ pub fn add_meant(
             ..
         } => of_edge(draft, word, number),
         InputFault::Past { .. }
-        | InputFault::Range { .. }
+        | InputFault::Range(_)
         | InputFault::Hex { .. }
         | InputFault::Lay { .. }
         | InputFault::Capture { .. }

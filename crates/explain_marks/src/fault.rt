@@ -2,11 +2,12 @@
 use capture_forms::{CaptureForm, Cause};
 use edid_core::EdidError;
 use edid_dump::DumpError;
-use expect_text::ExpectCause;
+use expect_text::{ExpectCause, RangeCause};
 use message_hex::DisCause;
 use message_lay::LayCause;
 use message_text::AssembleError;
 use room_script::{ScriptCause, TopologyCause};
+use text_core::At;
 
 /// What an input is to be.
 #[derive(Clone, Copy, Debug, PartialEq, Eq)]
@@ -29,52 +30,23 @@ pub enum Input {
     EdidWords,
 }
 
-/// What is wrong with a range of instants.
-#[derive(Clone, Copy, Debug, PartialEq, Eq)]
-pub enum RangeSlip {
-    /// A time or a step is no number.
-    Number,
-    /// It ends before it begins.
-    Order,
-    /// It is the second one.
-    Second,
-    /// An instant of it breaks the order of the script.
-    Crosses,
-}
-
 /// Why the program did not do what it was asked. Lines count from 1 in their part of the input, words from 0 in their line;
 /// where a word is missing, its number is the one that it would have.
 #[derive(Clone, Copy, Debug)]
 pub enum InputFault {
     /// A line of a topology.
-    Topology {
-        line: u64,
-        cause: TopologyCause,
-        word: usize,
-    },
+    Topology(At<TopologyCause>),
     /// A line of a script. Words are those of the line without its label.
-    Script {
-        line: u64,
-        cause: ScriptCause,
-        word: usize,
-    },
+    Script(At<ScriptCause>),
     /// A line of a session that is for an instant before its horizon.
     Past {
         line: u64,
         word: usize,
     },
     /// A line with a label or an expectation, of a script or of a capture. Words are those of the line with its label.
-    Expectation {
-        line: u64,
-        cause: ExpectCause,
-        word: usize,
-    },
+    Expectation(At<ExpectCause>),
     /// A line of a script with a range of instants. Words are those of the line with its label.
-    Range {
-        line: u64,
-        cause: RangeSlip,
-        word: usize,
-    },
+    Range(At<RangeCause>),
     /// A line that is no step.
     Steps {
         line: u64,

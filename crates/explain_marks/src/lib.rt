@@ -12,7 +12,7 @@ mod place;
 mod slips;
 
 pub use expectations::{as_form, forms_of, label_words, labelled_by, plain, without_label};
-pub use fault::{Input, InputFault, RangeSlip};
+pub use fault::{Input, InputFault};
 pub use grammar::{
     EXPECTATIONS, LAID, NETWORK, REFUSALS, REMARKS, SCRIPT, SESSION, SESSION_ALONE, STEPS, TEST,
     TOPOLOGY, fitting, is_value, missing, most_fitting, wanted_at,

@@ -172,11 +172,11 @@ fn in_line_of_script(what: Input, cause: ScriptCause, word: usize, line: &str) -
 // The words at fault where nothing else slipped.
 fn told(what: Input, fault: InputFault, line: &str) -> Option<Mark> {
     match fault {
-        InputFault::Topology { word, .. } => one(word),
-        InputFault::Script { cause, word, .. } => in_line_of_script(what, cause, word, line),
+        InputFault::Topology(at) => one(at.word),
+        InputFault::Script(at) => in_line_of_script(what, at.cause, at.word, line),
         InputFault::Past { word, .. } => one(word),
-        InputFault::Expectation { cause, word, .. } => in_expectation(cause, word),
-        InputFault::Range { word, .. } => one(word),
+        InputFault::Expectation(at) => in_expectation(at.cause, at.word),
+        InputFault::Range(at) => one(at.word),
         InputFault::Steps { word, .. } => one(word),
         InputFault::Frame { cause, .. } => in_frame(cause),
         InputFault::Lay { cause, word, .. } => in_laid(cause, word),

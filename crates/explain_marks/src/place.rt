@@ -1,5 +1,6 @@
 //! Where in an input a fault stands.
 use crate::fault::{Input, InputFault};
+use text_core::At;
 
 /// A line of an input, with its number from 1.
 #[derive(Clone, Copy)]
@@ -137,19 +138,17 @@ pub fn place_of(input: &[u8], what: Input, fault: InputFault) -> Option<InputLin
         return None;
     }
     match fault {
-        InputFault::Topology {
-            cause: room_script::TopologyCause::NoRoot,
-            ..
-        } => None,
-        InputFault::Topology { line, .. } => line_of(input, 0, line),
-        InputFault::Script { line, .. }
-        | InputFault::Range { line, .. }
+        InputFault::Topology(
+            At {
+                cause: room_script::TopologyCause::NoRoot,
+                ..
+            },
+        ) => None,
+        InputFault::Topology(at) => line_of(input, 0, at.line),
+        InputFault::Script(At { line, .. })
+        | InputFault::Range(At { line, .. })
         | InputFault::Past { line, .. } => { line_of(input, before_script(input), line) }
-        InputFault::Expectation { line, .. } => line_of(
-            input,
-            before_expectations(what, input),
-            line,
-        ),
+        InputFault::Expectation(at) => line_of(input, before_expectations(what, input), at.line),
         InputFault::Steps { line, .. } => line_of(input, before_steps(input), line),
         InputFault::Capture { line, .. } => line_of(input, before_capture(what, input), line),
         InputFault::Frame { line, .. }

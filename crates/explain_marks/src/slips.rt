@@ -253,9 +253,9 @@ fn of_expectation(line: &str, cause: ExpectCause, word: usize) -> Option<Slipped
 /// The slip of a fault's line, as it is shown.
 pub fn slip_of(fault: InputFault, line: &str) -> Option<Slipped> {
     match fault {
-        InputFault::Topology { cause, word, .. } => of_topology(line, cause, word),
-        InputFault::Script { cause, word, .. } => of_script(line, cause, word),
-        InputFault::Expectation { cause, word, .. } => of_expectation(line, cause, word),
+        InputFault::Topology(at) => of_topology(line, at.cause, at.word),
+        InputFault::Script(at) => of_script(line, at.cause, at.word),
+        InputFault::Expectation(at) => of_expectation(line, at.cause, at.word),
         InputFault::Steps { word, .. } | InputFault::Lay { word, .. } => before(line, word),
         _ => None,
     }

@@ -6,7 +6,9 @@ use Rattle.std.specs.List.{All}
 use Rattle.line_wave.specs.declared.Stretch.{Stretch}
 use Rattle.line_wave.specs.Bounds.{latest_event}
 use Rattle.room_script.specs.Topology.{Plan, topology_of}
-use Rattle.room_script.specs.Script.{Course, IsSchedule, IsScriptRead, ScriptFault, pulses_ended}
+use Rattle.room_script.specs.Script.{Course, IsSchedule, IsScriptRead, pulses_ended}
+use Rattle.text_core.specs.declared.at.At.{At}
+use Rattle.room_script.specs.declared.script.ScriptCause.{ScriptCause}
 use Rattle.room_script.specs.declared.script.TimedEvent.{TimedEvent}
 use Rattle.room_script.proofs.OneReading.{one_script}
 use Rattle.room_script.proofs.Sound.{scripts_are_sound}
@@ -106,7 +108,7 @@ until_low : (time : ℕ) (pin : Option ℕ) → agree_until time pin ≤ time
 until_low time None = omega arith
 until_low time (Some from) = omega arith
 
-same_course : (a b : Course) → ◌≡◌ {A = Result Course ScriptFault} (Ok a) (Ok b) → a ≡ b
+same_course : (a b : Course) → ◌≡◌ {A = Result Course (At ScriptCause)} (Ok a) (Ok b) → a ≡ b
 same_course a b e = cc
 
 same_ok : {F : Type 0} (p q : Plan) (r : Result Plan F) → r ≡ Ok p → r ≡ Ok q → q ≡ p

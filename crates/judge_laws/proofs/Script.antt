@@ -22,8 +22,9 @@ use Rattle.room_script.specs.Header.{header_names}
 use Rattle.room_script.specs.Holding.{hold_of}
 use Rattle.device_core.specs.declared.outside.Act.{Act}
 use Rattle.device_core.specs.declared.outside.Act.TheVariants.{Empty}
-use Rattle.room_script.specs.Fault.{at_word}
-use Rattle.room_script.specs.declared.fault.ScriptLineFault.{ScriptLineFault}
+use Rattle.text_core.specs.At.{at_word}
+use Rattle.text_core.specs.declared.at.AtWord.{AtWord}
+use Rattle.room_script.specs.declared.script.ScriptCause.{ScriptCause}
 use Rattle.room_script.specs.declared.script.ScriptCause.TheVariants as causes
 use Rattle.room_script.specs.declared.script.TimedEvent.{TimedEvent}
 use Rattle.room_script.specs.Script.{AreLinesRead, Course, IsEventRead, IsLineRead, IsScriptRead, IsSendRead, IsWordsRead, Notes, Onward, end_read, end_words, course_at_end, event_words, key_read, key_words, act_read, hold_words, drop_words, last_end, last_time, no_notes, other_words, plug_read, plug_words, pulse_read, pulse_words, pull_read, pull_words, pulse_refusal, touches, is_before, level_of, notes_with_level, pin_read, pin_words, pulses_ended, notes_with_event, frame_event, send_read, time_of, unless_fault, unplug_read, unplug_words}
@@ -33,11 +34,11 @@ use Rattle.line_wave.specs.Bounds.{most_pulses, most_pulls, widest_pull}
 abbrev pub AreBy : ℕ → List TimedEvent → Type 0
 AreBy line events = All (λ e. e.line ≤ line) events
 
-Fits : ℕ → Result Notes ScriptLineFault → Type 0
+Fits : ℕ → Result Notes (AtWord ScriptCause) → Type 0
 Fits line (Ok notes) = AreBy line notes.events
 Fits line (Err cause) = Unit {0}
 
-fits_if : (line : ℕ) (b : Bool) (r s : Result Notes ScriptLineFault) → Fits line r → Fits line s → Fits line (if b then r else s)
+fits_if : (line : ℕ) (b : Bool) (r s : Result Notes (AtWord ScriptCause)) → Fits line r → Fits line s → Fits line (if b then r else s)
 fits_if line true r s h k = h
 fits_if line false r s h k = k
 
@@ -73,7 +74,7 @@ unfolding Fits
 fits_unplug_words tree notes line time many None h = tt
 fits_unplug_words tree notes line time many (Some word) h = fits_unplug notes line (time_of time) (device_named tree word) h
 
-fits_key : (notes : Notes) (line : ℕ) (press : Bool) (key : Result KeyValue ScriptLineFault) (time device : Option ℕ) → AreBy line notes.events → Fits line (key_read notes line press key time device)
+fits_key : (notes : Notes) (line : ℕ) (press : Bool) (key : Result KeyValue (AtWord ScriptCause)) (time device : Option ℕ) → AreBy line notes.events → Fits line (key_read notes line press key time device)
 unfolding Fits
 fits_key notes line press (Err cause) time device h = tt
 fits_key notes line press (Ok key) None device h = tt
@@ -120,17 +121,17 @@ fits_send notes line (Some time) (Some device) None frame h = tt
 fits_send notes line (Some time) (Some device) (Some names) (Err cause) h = tt
 fits_send notes line (Some time) (Some device) (Some names) (Ok frame) h = fits_scheduled notes line time (frame_event device names frame) h
 
-fits_as : (line : ℕ) (r s : Result Notes ScriptLineFault) → r ≡ s → Fits line s → Fits line r
+fits_as : (line : ℕ) (r s : Result Notes (AtWord ScriptCause)) → r ≡ s → Fits line s → Fits line r
 fits_as line r s e h = subst (Fits line) (sym e) h
 
-fits_send_words : (tree : List Node) (notes : Notes) (line : ℕ) (time : List ℕ) (words : List (List ℕ)) (read : Result Notes ScriptLineFault) → AreBy line notes.events → IsSendRead tree notes line time words read → Fits line read
+fits_send_words : (tree : List Node) (notes : Notes) (line : ℕ) (time : List ℕ) (words : List (List ℕ)) (read : Result Notes (AtWord ScriptCause)) → AreBy line notes.events → IsSendRead tree notes line time words read → Fits line read
 unfolding Fits
 fits_send_words tree notes line time [] read h r = fits_as line read (Err (at_word 3 causes.Word)) r tt
 fits_send_words tree notes line time (name ∷ []) read h r = fits_as line read (Err (at_word 4 causes.Word)) r tt
 fits_send_words tree notes line time (name ∷ word ∷ words) read h r =
     fits_as line read (send_read notes line (time_of time) (device_named tree name) (header_names tree word) r.0) r.2 (fits_send notes line (time_of time) (device_named tree name) (header_names tree word) r.0 h)
 
-fits_event : (tree : List Node) (notes : Notes) (line : ℕ) (words : List (List ℕ)) (read : Result Notes ScriptLineFault) → AreBy line notes.events → IsEventRead tree notes line words read → Fits line read
+fits_event : (tree : List Node) (notes : Notes) (line : ℕ) (words : List (List ℕ)) (read : Result Notes (AtWord ScriptCause)) → AreBy line notes.events → IsEventRead tree notes line words read → Fits line read
 unfolding Fits
 fits_event tree notes line [] read h r = fits_as line read (Err (at_word 1 causes.Word)) r tt
 fits_event tree notes line (time ∷ []) read h r = fits_as line read (Err (at_word 2 causes.Word)) r tt
@@ -222,7 +223,7 @@ fits_other notes line verb words h =
 
 -- ---- a line, and all lines
 
-fits_words : (tree : List Node) (notes : Notes) (line : ℕ) (words : List (List ℕ)) (read : Result Notes ScriptLineFault) → AreBy line notes.events → IsWordsRead tree notes (length notes.pulses) line words read → Fits line read
+fits_words : (tree : List Node) (notes : Notes) (line : ℕ) (words : List (List ℕ)) (read : Result Notes (AtWord ScriptCause)) → AreBy line notes.events → IsWordsRead tree notes (length notes.pulses) line words read → Fits line read
 unfolding Fits
 fits_words tree notes line [] read h r = fits_as line read (Err (at_word 0 causes.Word)) r tt
 fits_words tree notes line (verb ∷ words) read h r = by (bytes_eq verb (codes "at")) r
@@ -231,7 +232,7 @@ fits_words tree notes line (verb ∷ words) read h r = by (bytes_eq verb (codes 
     by true k = fits_event tree notes line words read h k
     by false k = fits_as line read (other_words notes (length notes.pulses) verb words) k (fits_other notes line verb words h)
 
-fits_line : (tree : List Node) (notes : Notes) (line : ℕ) (text : List ℕ) (read : Result Notes ScriptLineFault) → AreBy line notes.events → IsLineRead tree notes (length notes.pulses) line text read → Fits line read
+fits_line : (tree : List Node) (notes : Notes) (line : ℕ) (text : List ℕ) (read : Result Notes (AtWord ScriptCause)) → AreBy line notes.events → IsLineRead tree notes (length notes.pulses) line text read → Fits line read
 unfolding Fits
 fits_line tree notes line text read h r = by (is_skipped text) r
   where
@@ -251,7 +252,7 @@ unfolding Fits
 lines_by tree [] line notes course h r = subst (AreBy (line + 0)) (sym (ends notes line course notes.end r)) (later_by line (line + 0) notes.events (omega arith) h)
 lines_by tree (text ∷ texts) line notes course h r = by r.0 (fits_line tree notes line text r.0 h r.1) r.2 (λ next k l. lines_by tree texts (line + 1) next course k l)
   where
-    by : (now : Result Notes ScriptLineFault) → Fits line now → Onward line now (λ next. AreLinesRead tree texts (line + 1) next (Ok course)) (Ok course)
+    by : (now : Result Notes (AtWord ScriptCause)) → Fits line now → Onward line now (λ next. AreLinesRead tree texts (line + 1) next (Ok course)) (Ok course)
         → ((next : Notes) → AreBy (line + 1) next.events → AreLinesRead tree texts (line + 1) next (Ok course) → AreBy (line + 1 + length texts) course.events)
         → AreBy (line + suc (length texts)) course.events
     by (Ok next) k on more = later_by (line + 1 + length texts) (line + suc (length texts)) course.events (omega arith) (more next (later_by line (line + 1) next.events (omega arith) k) on)

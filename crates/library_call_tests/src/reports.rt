@@ -4,7 +4,7 @@ use crate::runs::{EDGES, TOPOLOGY, lines_of, wanted};
 use capture_monitor::WatchError;
 use edid_core::{EdidCause, EdidError};
 use expect_run::CheckError;
-use expect_text::{ExpectCause, ExpectFault};
+use expect_text::ExpectCause;
 use library_answers::Answer;
 use library_run::{
     TestCounts, check_refused, put_readings, put_report, run_refused, watch_refused,
@@ -12,6 +12,7 @@ use library_run::{
 use room_run::emulate::EmulateError;
 use room_script::{AssembleError, ScriptCause, TopologyCause};
 use std::process::Abort;
+use text_core::At;
 
 /// Scripts for the television with a player, and the number and line with which their first expectation is refused. A name
 /// has the number of a script's.
@@ -233,7 +234,7 @@ fn causes_of_scripts_have_numbers(rt: HostRuntime) {
 }
 
 fn expectation(rt: &impl Abort, cause: ExpectCause, code: u32) {
-    let error = CheckError::Expect(ExpectFault {
+    let error = CheckError::Expect(At {
         line: 3,
         cause,
         word: 1,

@@ -85,8 +85,12 @@ pub(crate) fn begin(alloc: Global, text: &[u8]) -> Result<Live, SessionError>
 {
     let topology = match parse_topology(alloc, text) {
         Ok(topology) => topology,
-        Err(TopologyError::At { line, cause, word }) => {
-            return Err(SessionError::Topology { line, cause, word });
+        Err(TopologyError::At(fault)) => {
+            return Err(SessionError::Topology {
+                line: fault.line,
+                cause: fault.cause,
+                word: fault.word,
+            });
         }
         Err(TopologyError::Memory) => return Err(SessionError::Memory),
     };

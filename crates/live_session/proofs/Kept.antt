@@ -5,8 +5,10 @@ use Rattle.edid_tree.specs.Node.{Node}
 use Rattle.live_incoming.specs.Incoming.{IsWhole}
 use Rattle.live_incoming.proofs.Coming.{lines_again}
 use Rattle.room_script.proofs.Adding.{read_again}
-use Rattle.room_script.specs.Script.{Course, Notes, ScriptFault, IsLineRead, AreLinesRead, course_at_end, no_notes}
-use Rattle.room_script.specs.declared.fault.ScriptLineFault.{ScriptLineFault}
+use Rattle.room_script.specs.Script.{Course, Notes, IsLineRead, AreLinesRead, course_at_end, no_notes}
+use Rattle.text_core.specs.declared.at.At.{At}
+use Rattle.room_script.specs.declared.script.ScriptCause.{ScriptCause}
+use Rattle.text_core.specs.declared.at.AtWord.{AtWord}
 use Rattle.room_run.specs.Run.{Config}
 use Rattle.live_session.specs.declared.answer.RefusalCause.TheVariants.{Past}
 use Rattle.live_session.specs.declared.command.SessionCommand.{SessionCommand}
@@ -96,7 +98,7 @@ taken_reads s line new false t read e stands =
     keeps None = refl
     keeps (Some end) = refl
 
-noted_reads : (s : Session) (line : List ℕ) (read : Result Notes ScriptLineFault) (t : Session) → IsLineRead s.tree s.notes (length s.place.net.pulses) s.lines line read → t ≡ with_standing s (standing_with (standing s) read)
+noted_reads : (s : Session) (line : List ℕ) (read : Result Notes (AtWord ScriptCause)) (t : Session) → IsLineRead s.tree s.notes (length s.place.net.pulses) s.lines line read → t ≡ with_standing s (standing_with (standing s) read)
     → Reads s (kept_line commands.Script (step_noted (standing s) read) line) t
 noted_reads s line (Err fault) t is stands = refused_reads s t stands
 noted_reads s line (Ok new) t is stands = taken_reads s line new (is_late (standing s) new) t is refl stands
@@ -147,7 +149,7 @@ lines_add (line ∷ lines) kept n s t reported text (mid, own, others, first, se
     let there = lines_add lines others (n + 1) mid t more rest after (r.lines ∙ ap (λ k. k + 1) number) (omega (arith, few)) in
     omega (arith, here, there)
 
-lines_read : (tree : List Node) (lines kept : List (List ℕ)) (n : ℕ) (s t : Session) (reported text : List ℕ) (read : Result Course ScriptFault) → AreLines lines s kept reported text t → s.tree ≡ tree → s.lines ≡ n
+lines_read : (tree : List Node) (lines kept : List (List ℕ)) (n : ℕ) (s t : Session) (reported text : List ℕ) (read : Result Course (At ScriptCause)) → AreLines lines s kept reported text t → s.tree ≡ tree → s.lines ≡ n
     → n + length lines ≤ 18446744073709551615 → length t.notes.pulses ≤ most_pulses → ((m : ℕ) → AreLinesRead tree [] m t.notes read) → AreLinesRead tree kept (n + 1) s.notes read
 lines_read tree [] kept n s t reported text read (nothing, none, empty, same) at number few sparse last =
     subst (λ (kept : List (List ℕ)). AreLinesRead tree kept (n + 1) s.notes read) (sym nothing)

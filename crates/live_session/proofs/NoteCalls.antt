@@ -4,7 +4,8 @@ use Rattle.edid_tree.specs.Node.{Node}
 use Rattle.room_net.specs.State.{NetState}
 use Rattle.room_script.specs.Script.{Notes, Gives, IsLineRead}
 use Rattle.room_script.specs.declared.script.TimedEvent.{TimedEvent}
-use Rattle.room_script.specs.declared.fault.ScriptLineFault.{ScriptLineFault}
+use Rattle.text_core.specs.declared.at.AtWord.{AtWord}
+use Rattle.room_script.specs.declared.script.ScriptCause.{ScriptCause}
 use Rattle.room_script.specs.declared.script.ScriptLineError.{ScriptLineError}
 use Rattle.room_script.specs.declared.script.ScriptLineError.TheVariants.{Fault, Memory}
 use Rattle.live_session.specs.declared.answer.RefusalCause.TheVariants.{Past}
@@ -16,7 +17,7 @@ use Rattle.live_session.proofs.Noting.{IsKept, kept, kept_same, drop_all}
 -- a line that the draft has not taken
 pub refused_note : (tree : List Node) (waiting number : ℕ) (line : List ℕ) (old new : Notes) (horizon : ℕ) (net : NetState) (error : ScriptLineError) → Gives new (Err error) (IsLineRead tree old waiting number line) → new ≡ old
     → MatchOption (refused_by error) ((new ≡ old) × (horizon ≡ horizon) × (net ≡ net))
-    (λ step. (read : Result Notes ScriptLineFault) × IsLineRead tree old waiting number line read
+    (λ step. (read : Result Notes (AtWord ScriptCause)) × IsLineRead tree old waiting number line read
     × IsSettled (record { notes = old; horizon = horizon; net = net }) read step (record { notes = new; horizon = horizon; net = net }))
 refused_note tree waiting number line old new horizon net Memory gives same = (same, refl, refl)
 refused_note tree waiting number line old new horizon net (Fault fault) gives same =
@@ -26,7 +27,7 @@ refused_note tree waiting number line old new horizon net (Fault fault) gives sa
 abbrev pub NotedBy : Session → Standing → List ℕ → Option Step → Type 0
 NotedBy s t line result =
     MatchOption result ((t.notes ≡ s.notes) × (t.horizon ≡ s.horizon) × (t.net ≡ s.place.net))
-    (λ step. (read : Result Notes ScriptLineFault) × IsLineRead s.tree s.notes (length s.place.net.pulses) s.lines line read × IsSettled (standing s) read step t)
+    (λ step. (read : Result Notes (AtWord ScriptCause)) × IsLineRead s.tree s.notes (length s.place.net.pulses) s.lines line read × IsSettled (standing s) read step t)
 
 same_standing : (s : Session) (t : Standing) → (t.notes ≡ s.notes) × (t.horizon ≡ s.horizon) × (t.net ≡ s.place.net) → t ≡ standing s
 same_standing s t e = λ i. record { notes = e.0 i; horizon = e.1 i; net = e.2 i }
@@ -44,7 +45,7 @@ stays s =
 abbrev pub Noted : Session → Session → List ℕ → Option Step → Type 0
 Noted s v line result =
     MatchOption result (v ≡ s)
-    (λ step. (read : Result Notes ScriptLineFault) × IsLineRead s.tree s.notes (length s.place.net.pulses) s.lines line read × IsSettled (standing s) read step (standing v) × (v ≡ with_standing s (standing v)))
+    (λ step. (read : Result Notes (AtWord ScriptCause)) × IsLineRead s.tree s.notes (length s.place.net.pulses) s.lines line read × IsSettled (standing s) read step (standing v) × (v ≡ with_standing s (standing v)))
 
 noted_with : (s : Session) (t : Standing) (line : List ℕ) (result : Option Step) → NotedBy s t line result → Noted s (with_standing s t) line result
 noted_with s t line None e = ap (with_standing s) (same_standing s t e) ∙ stays s
@@ -55,7 +56,7 @@ noted_is s now v t line result same is e =
     subst (λ (s : Session). Noted s v line result) same (subst (λ (v : Session). Noted s v line result) (sym is) (noted_with s t line result e))
 
 -- none of its steps shows a device
-shows_none : (count : ℕ) (s : Standing) (read : Result Notes ScriptLineFault) → NamesShown count (step_noted s read)
+shows_none : (count : ℕ) (s : Standing) (read : Result Notes (AtWord ScriptCause)) → NamesShown count (step_noted s read)
 shows_none count s (Err fault) = tt
 shows_none count s (Ok new) = by_late (is_late s new)
   where

@@ -6,9 +6,10 @@ use Rattle.line_wave.specs.Bounds.{latest_event}
 use Rattle.room_net.specs.State.{NetState}
 use Rattle.room_script.specs.Script.{Notes, IsLineRead}
 use Rattle.room_script.specs.declared.script.TimedEvent.{TimedEvent}
-use Rattle.room_script.specs.declared.fault.ScriptLineFault.{ScriptLineFault}
 use Rattle.room_script.specs.Lines.{AreSound}
 use Rattle.room_script.proofs.Sound.{line-keeps}
+use Rattle.text_core.specs.declared.at.AtWord.{AtWord}
+use Rattle.room_script.specs.declared.script.ScriptCause.{ScriptCause}
 use Rattle.room_run.specs.Certain.{with_pulses}
 use Rattle.live_session.specs.declared.answer.RefusalCause.TheVariants.{Past}
 use Rattle.live_session.specs.declared.live.Step.TheVariants.{Go, Finish}
@@ -155,7 +156,7 @@ kept_taken s new line applied left few r read =
           ∙ ap (λ (es : List TimedEvent). s.place.events ++ es) (sym added);
     }
 
-pub kept : (s : Session) (t : Standing) (line : List ℕ) (applied : ℕ) (read : Result Notes ScriptLineFault) → s.place.events ≡ drop applied s.notes.events → applied ≤ length s.notes.events → IsReady s
+pub kept : (s : Session) (t : Standing) (line : List ℕ) (applied : ℕ) (read : Result Notes (AtWord ScriptCause)) → s.place.events ≡ drop applied s.notes.events → applied ≤ length s.notes.events → IsReady s
     → IsLineRead s.tree s.notes (length s.place.net.pulses) s.lines line read → t ≡ standing_with (standing s) read → IsKept s t applied
 kept s t line applied (Err fault) left few r read e = subst (λ (t : Standing). IsKept s t applied) (sym e) (kept_same s applied left few r)
 kept s t line applied (Ok new) left few r read e =

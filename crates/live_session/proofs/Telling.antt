@@ -16,7 +16,8 @@ use Rattle.room_net.specs.Line.{run_wave}
 use Rattle.room_script.specs.Script.{Notes, AreFramedEvents, IsLineRead, last_time}
 use Rattle.room_script.specs.declared.script.ScriptCause.TheVariants.{Name, Number}
 use Rattle.room_script.specs.declared.script.TimedEvent.{TimedEvent}
-use Rattle.room_script.specs.declared.fault.ScriptLineFault.{ScriptLineFault}
+use Rattle.text_core.specs.declared.at.AtWord.{AtWord}
+use Rattle.room_script.specs.declared.script.ScriptCause.{ScriptCause}
 use Rattle.room_run.specs.declared.run.Reporting.TheVariants.{Trace, Line}
 use Rattle.capture_forms.specs.declared.form.CaptureForm.TheVariants.{Edges}
 use Rattle.room_run.specs.declared.run.Totals.{Totals}
@@ -137,7 +138,7 @@ still_by (Some end) s t = tt
 come_same : (s t : Session) (word : ℕ) (cause : RefusalCause) → t ≡ s → HasCome (refuse word cause) s t
 come_same s t word cause e = record { came = came_same s t e; still = stays s t e }
 
-come_read : (s : Session) (line : List ℕ) (read : Result Notes ScriptLineFault) → IsLineRead s.tree s.notes (length s.place.net.pulses) s.lines line read
+come_read : (s : Session) (line : List ℕ) (read : Result Notes (AtWord ScriptCause)) → IsLineRead s.tree s.notes (length s.place.net.pulses) s.lines line read
     → HasCome (step_noted (standing s) read) s (with_standing s (standing_with (standing s) read))
 come_read s line (Err fault) is = come_same s (with_standing s (standing s)) fault.word (Script fault.cause) (same_standing s)
 come_read s line (Ok new) is = by (is_late (standing s) new) refl

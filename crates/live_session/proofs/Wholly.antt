@@ -10,9 +10,10 @@ use Rattle.edid_core.specs.declared.edid.Edid.{Edid}
 use Rattle.room_net.specs.State.{first_net}
 use Rattle.room_script.specs.Script.{Notes, IsLineRead}
 use Rattle.room_script.specs.declared.script.TimedEvent.{TimedEvent}
-use Rattle.room_script.specs.declared.fault.ScriptLineFault.{ScriptLineFault}
 pub use Rattle.room_script.specs.Lines.{AreSound}
 use Rattle.room_script.proofs.Sound.{line-keeps, sound_start}
+use Rattle.text_core.specs.declared.at.AtWord.{AtWord}
+use Rattle.room_script.specs.declared.script.ScriptCause.{ScriptCause}
 use Rattle.room_run.specs.declared.run.Reporting.TheVariants.{Trace}
 use Rattle.room_run.specs.declared.run.Reporting.{Reporting}
 use Rattle.room_run.specs.declared.run.Turn.{Turn}
@@ -190,7 +191,7 @@ asked_late edid tree s reported line new false e r going read =
     ended None h = subst (λ (end : Option ℕ). EndBy (step_by end) (with_standing s (record { notes = new; horizon = horizon_by s.horizon end; net = record s.place.net { pulses = s.place.net.pulses ++ new_pulses s.notes new } }))) (sym h) h
     ended (Some end) h = subst (λ (end : Option ℕ). EndBy (step_by end) (with_standing s (record { notes = new; horizon = horizon_by s.horizon end; net = record s.place.net { pulses = s.place.net.pulses ++ new_pulses s.notes new } }))) (sym h) h
 
-asked_read : (edid : Option Edid) (tree : List Node) (s : Session) (reported line : List ℕ) (read : Result Notes ScriptLineFault) → SoFar edid tree s reported → s.notes.end ≡ None
+asked_read : (edid : Option Edid) (tree : List Node) (s : Session) (reported line : List ℕ) (read : Result Notes (AtWord ScriptCause)) → SoFar edid tree s reported → s.notes.end ≡ None
     → IsLineRead s.tree s.notes (length s.place.net.pulses) s.lines line read → Asked edid tree (step_noted (standing s) read) (with_standing s (standing_with (standing s) read)) reported
 asked_read edid tree s reported line (Err fault) r going read =
     subst (λ (t : Session). Asked edid tree (refuse fault.word (Script fault.cause)) t reported) (sym (same_standing s)) (record { so_far = r; ended = going })

@@ -3,7 +3,8 @@ use Rattle.std.specs.Prelude.{◌≡◌, ◌≤◌, List, ◌++◌, length, Opti
 use Rattle.line_wave.specs.declared.Stretch.{Stretch}
 use Rattle.room_script.specs.Script.{Notes}
 use Rattle.room_script.specs.declared.script.TimedEvent.{TimedEvent}
-use Rattle.room_script.specs.declared.fault.ScriptLineFault.{ScriptLineFault}
+use Rattle.text_core.specs.declared.at.AtWord.{AtWord}
+use Rattle.room_script.specs.declared.script.ScriptCause.{ScriptCause}
 use Rattle.room_script.specs.declared.script.ScriptLineError.{ScriptLineError}
 use Rattle.room_script.specs.declared.script.ScriptLineError.TheVariants.{Fault, Memory}
 use Rattle.live_session.specs.declared.answer.RefusalCause.TheVariants.{Script}
@@ -20,7 +21,7 @@ pub record Extends (old new : Notes) : Type 0 where
   pub few_pulses : length pulses ≤ 1
 
 -- the step that it asks for, and what it changes
-pub record IsSettled (s : Standing) (read : Result Notes ScriptLineFault) (step : Step) (t : Standing) : Type 0 where
+pub record IsSettled (s : Standing) (read : Result Notes (AtWord ScriptCause)) (step : Step) (t : Standing) : Type 0 where
   pub asks : step ≡ step_noted s read
   pub stands : t ≡ standing_with s read
 

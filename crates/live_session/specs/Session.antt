@@ -14,7 +14,8 @@ use Rattle.room_net.specs.Step.{IsNextRound}
 use Rattle.room_net.specs.Added.{pulse_fault}
 use Rattle.room_script.specs.Script.{IsNoWider, Notes, no_notes, last_time, script_cause, IsLineRead, IsSchedule, AreFramedEvents, MayFall}
 use Rattle.room_script.specs.declared.script.TimedEvent.{TimedEvent}
-use Rattle.room_script.specs.declared.fault.ScriptLineFault.{ScriptLineFault}
+use Rattle.text_core.specs.declared.at.AtWord.{AtWord}
+use Rattle.room_script.specs.declared.script.ScriptCause.{ScriptCause}
 use Rattle.room_script.specs.declared.script.ScriptCause.TheVariants.{Number, Name}
 use Rattle.edid_core.specs.Root.{HasAddress}
 use Rattle.room_trace.specs.StateText.{state_line}
@@ -112,12 +113,12 @@ abbrev pub refuse : ℕ → RefusalCause → Step
 refuse word cause = Refuse (record { cause = cause; word = word })
 
 -- what the line asks for: it is refused for its own cause, or else because it is too late, with its time at fault, or else taken
-abbrev pub step_noted : Standing → Result Notes ScriptLineFault → Step
+abbrev pub step_noted : Standing → Result Notes (AtWord ScriptCause) → Step
 step_noted s (Err fault) = refuse fault.word (Script fault.cause)
 step_noted s (Ok new) = if is_late s new then refuse 1 Past else step_by new.end
 
 -- and what it changes; a refusal changes nothing
-abbrev pub standing_with : Standing → Result Notes ScriptLineFault → Standing
+abbrev pub standing_with : Standing → Result Notes (AtWord ScriptCause) → Standing
 standing_with s (Err fault) = s
 standing_with s (Ok new) =
     if is_late s new then s else record { notes = new; horizon = horizon_by s.horizon new.end; net = with_pulses (new_pulses s.notes new) s.net }
@@ -214,7 +215,7 @@ step_show (Some device) = Show device
 
 abbrev pub IsStepBy : Session → SessionCommand → List ℕ → Step → Session → Type 0
 IsStepBy s commands.Script line step t =
-    (read : Result Notes ScriptLineFault) × IsLineRead s.tree s.notes (length s.place.net.pulses) s.lines line read × (step ≡ step_noted (standing s) read) × (t ≡ with_standing s (standing_with (standing s) read))
+    (read : Result Notes (AtWord ScriptCause)) × IsLineRead s.tree s.notes (length s.place.net.pulses) s.lines line read × (step ≡ step_noted (standing s) read) × (t ≡ with_standing s (standing_with (standing s) read))
 IsStepBy s commands.Wait line step t = (soon : Option ℕ) × IsSoonest (certain_until s.notes.pin latest_event) s.place soon × (step ≡ step_wait soon) × (t ≡ after_wait s soon)
 IsStepBy s (commands.RunTo time) line step t = (step ≡ step_to s time) × (t ≡ after_to s time)
 IsStepBy s (commands.Show device) line step t = (step ≡ step_show device) × (t ≡ s)

@@ -142,7 +142,8 @@ fn edid_on_heap(alloc: Global, edid: Option<Box<Edid>>) -> Result<Box<Option<Edi
 impl Live {
     ghost use Rattle.std.specs.Prelude.{ℕ, ◌<◌, ◌≤◌, ◌++◌, true, IfSome, MatchOption, Result, is_some, length, None};
     ghost use Rattle.room_script.specs.Script.{IsLineRead, Notes};
-    ghost use Rattle.room_script.specs.declared.fault.ScriptLineFault.{ScriptLineFault as LineFaultValue};
+    ghost use Rattle.room_script.specs.declared.script.ScriptCause.{ScriptCause as CauseValue};
+    ghost use Rattle.text_core.specs.declared.at.AtWord.{AtWord as AtWordValue};
     ghost use Rattle.edid_core.specs.Root.{HasAddress};
     ghost use Rattle.text_core.specs.Adds.{Adds};
     ghost use Rattle.text_core.specs.Cut.{WrittenText};
@@ -198,7 +199,7 @@ impl Live {
     fn note(&mut self, line: &[u8]) -> Option<Step>
         requires going { self.old.notes.end ≡ None }
         ensures { MatchOption result (self.new ≡ self.old)
-            (λ step. (read : Result Notes LineFaultValue) × IsLineRead self.old.tree self.old.notes (length self.old.place.net.pulses) self.old.lines line.now read
+            (λ step. (read : Result Notes (AtWordValue CauseValue)) × IsLineRead self.old.tree self.old.notes (length self.old.place.net.pulses) self.old.lines line.now read
             × IsSettled (standing self.old) read step (standing self.new) × (self.new ≡ with_standing self.old (standing self.new))) }
     {
         note_line(

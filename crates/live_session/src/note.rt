@@ -2,7 +2,8 @@
 ghost use Rattle.std.specs.Prelude.{◌≡◌, ◌||◌, ◌≤◌, [], drop, take, length, nat_lt, if◌then◌else◌, None, Result, Ok, MatchOption};
 ghost use Rattle.std.specs.List.{list_any};
 ghost use Rattle.room_script.specs.Script.{IsLineRead, Notes, notes_of};
-ghost use Rattle.room_script.specs.declared.fault.ScriptLineFault.{ScriptLineFault as LineFaultValue};
+ghost use Rattle.room_script.specs.declared.script.ScriptCause.{ScriptCause as CauseValue};
+ghost use Rattle.text_core.specs.declared.at.AtWord.{AtWord as AtWordValue};
 ghost use Rattle.room_run.specs.Certain.{with_pulses};
 ghost use Rattle.live_session.specs.Note.{Extends, IsSettled, refused_by};
 ghost use Rattle.live_session.specs.Session.{is_given_before, refuse, refuses_pulse, rises_before};
@@ -173,7 +174,7 @@ pub(crate) fn note_line(
     requires going { draft.old.end ≡ None }
     ensures { MatchOption result
         ((notes_of draft.new ≡ notes_of draft.old) × (horizon.new ≡ horizon.old) × (net.new ≡ net.old))
-        (λ step. (read : Result Notes LineFaultValue) × IsLineRead tree.now (notes_of draft.old) (length net.old.pulses) number line.now read
+        (λ step. (read : Result Notes (AtWordValue CauseValue)) × IsLineRead tree.now (notes_of draft.old) (length net.old.pulses) number line.now read
         × IsSettled (record { notes = notes_of draft.old; horizon = horizon.old; net = net.old }) read step
         (record { notes = notes_of draft.new; horizon = horizon.new; net = net.new })) }
 {

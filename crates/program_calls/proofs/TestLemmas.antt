@@ -6,7 +6,8 @@ use Rattle.expect_run.specs.declared.checking.Tally.{Tally}
 use Rattle.expect_sweep.specs.Order.{crossing, ordered, ordered_range, unless_crossing}
 use Rattle.expect_sweep.specs.Script.{range_of}
 use Rattle.expect_sweep.specs.Series.{InstantSeries}
-use Rattle.expect_sweep.specs.declared.script.RangeFault.{RangeFault}
+use Rattle.text_core.specs.declared.at.At.{At}
+use Rattle.expect_text.specs.declared.range.RangeCause.{RangeCause}
 use Rattle.expect_sweep.specs.Stretches.{stretches_text}
 use Rattle.expect_sweep.specs.Sweep.{IsSwept}
 use Rattle.program_calls.proofs.LiveLemmas.{Appends-trans}
@@ -22,12 +23,12 @@ traced topology script remarks put old middle new tally checked are same written
     (r.text ++ remarks, (r.text, remarks, (r, checked.1, holds, refl), are, refl), Appends-trans old middle new r.text remarks checked.3 more)
 
 -- a range that breaks the order of its script, or keeps it, is one
-is_range : (s : InstantSeries) (crossed : Option RangeFault) → unless_crossing s crossed ≡ Ok None → ⊥
+is_range : (s : InstantSeries) (crossed : Option (At RangeCause)) → unless_crossing s crossed ≡ Ok None → ⊥
 is_range s None e = cc
 is_range s (Some fault) e = cc
 
 -- where no range is one to sweep, the script has none
-no_range : (script : List ℕ) (read : Result (Option InstantSeries) RangeFault) → ordered script read ≡ Ok None → read ≡ Ok None
+no_range : (script : List ℕ) (read : Result (Option InstantSeries) (At RangeCause)) → ordered script read ≡ Ok None → read ≡ Ok None
 no_range script (Ok None) e = refl
 no_range script (Ok (Some s)) e = absurd (is_range s (crossing script s) e)
 no_range script (Err fault) e = cc

@@ -4,9 +4,7 @@ use capture_forms::CaptureForm;
 use cli_words::{CommandChoice, FollowForm, Objects, Source};
 use edid_core::EdidCause;
 use expect_run::CheckError;
-use expect_sweep::{RangeCause, RangeFault};
-use expect_text::ExpectFault;
-use explain_marks::{Input, InputFault as Explained, RangeSlip};
+use explain_marks::{Input, InputFault as Explained};
 use live_dialogue::{ScriptEnd, SessionError};
 use message_hex::DisError;
 use message_lay::LayError;
@@ -16,6 +14,7 @@ use program_edids::EdidFault;
 use program_input::{InputError, capture_parts};
 use room_run::emulate::EmulateError;
 use room_script::ScriptCause;
+use text_core::{At, at_word};
 
 /// What the input of a choice is to be.
 pub fn input_of(choice: CommandChoice) -> Input {
@@ -76,60 +75,35 @@ fn of_root(cause: &EdidCause) -> Explained {
 
 fn of_run(error: &EmulateError) -> Explained {
     match error {
-        EmulateError::Topology { line, cause, word } => Explained::Topology {
+        EmulateError::Topology { line, cause, word } => Explained::Topology(At {
             line: *line,
             cause: *cause,
             word: *word,
-        },
-        EmulateError::Script { line, cause, word } => Explained::Script {
+        }),
+        EmulateError::Script { line, cause, word } => Explained::Script(At {
             line: *line,
             cause: *cause,
             word: *word,
-        },
+        }),
         EmulateError::Edid(cause) => of_root(cause),
         EmulateError::Write(_) => Explained::Write,
         EmulateError::Memory => Explained::Memory,
     }
 }
 
-fn of_expectation(fault: ExpectFault) -> Explained {
-    Explained::Expectation {
-        line: fault.line,
-        cause: fault.cause,
-        word: fault.word,
-    }
-}
-
 fn of_test(error: &CheckError) -> Explained {
     match error {
         CheckError::Emulate(error) => of_run(error),
-        CheckError::Expect(fault) => of_expectation(*fault),
+        CheckError::Expect(fault) => Explained::Expectation(*fault),
         CheckError::Write(_) => Explained::Write,
         CheckError::Memory => Explained::Memory,
-    }
-}
-
-fn of_range(fault: RangeFault) -> Explained {
-    Explained::Range {
-        line: fault.line,
-        cause: match fault.cause {
-            RangeCause::Number => RangeSlip::Number,
-            RangeCause::Order => RangeSlip::Order,
-            RangeCause::Range => RangeSlip::Second,
-            RangeCause::Crosses(_) => RangeSlip::Crosses,
-        },
-        word: fault.word,
     }
 }
 
 // No further line was read where the script is at this line.
 fn of_end(line: u64, cause: ScriptEnd) -> Explained {
     match cause {
-        ScriptEnd::End => Explained::Script {
-            line,
-            cause: ScriptCause::End,
-            word: 0,
-        },
+        ScriptEnd::End => Explained::Script(at_word(0, ScriptCause::End).on_line(line)),
         ScriptEnd::TooLong => Explained::LineTooLong,
     }
 }
@@ -139,11 +113,11 @@ fn of_session(error: &SessionError) -> Explained {
         SessionError::Read => Explained::Read,
         SessionError::TooLong => Explained::InputTooLong,
         SessionError::NoScriptLine => Explained::NoScriptLine,
-        SessionError::Topology { line, cause, word } => Explained::Topology {
+        SessionError::Topology { line, cause, word } => Explained::Topology(At {
             line: *line,
             cause: *cause,
             word: *word,
-        },
+        }),
         SessionError::Edid(cause) => of_root(cause),
         SessionError::Script { line, cause } => of_end(*line, *cause),
         SessionError::Write(_) => Explained::Write,
@@ -234,9 +208,11 @@ pub fn explained(form: CaptureForm, fault: &ProgramFault) -> Option<Explained> {
         ProgramFault::NotUtf8 => Explained::NotUtf8,
         ProgramFault::Input(error) => of_input(error),
         ProgramFault::Emulate(error) => of_run(error),
-        ProgramFault::Expect(fault) | ProgramFault::CaptureExpect(fault) => of_expectation(*fault),
+        ProgramFault::Expect(fault) | ProgramFault::CaptureExpect(fault) => Explained::Expectation(
+            *fault,
+        ),
         ProgramFault::NoRange => Explained::NoRange,
-        ProgramFault::Range(fault) => of_range(*fault),
+        ProgramFault::Range(fault) => Explained::Range(*fault),
         ProgramFault::AtInstant { error, .. } => of_test(error),
         ProgramFault::Session(error) => of_session(error),
         ProgramFault::Steps { line, word } => Explained::Steps {

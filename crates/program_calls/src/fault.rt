@@ -2,8 +2,8 @@
 use audit_expect::CaptureCheckError;
 use capture_core::CaptureError;
 use expect_run::{CheckError, Tally};
-use expect_sweep::{RangeFault, SweepError};
-use expect_text::ExpectFault;
+use expect_sweep::SweepError;
+use expect_text::{ExpectCause, RangeCause};
 use live_dialogue::SessionError;
 use message_hex::DisError;
 use message_lay::LayError;
@@ -16,7 +16,7 @@ use room_run::emulate::EmulateError;
 use room_steps::step_run::StepRunError;
 use std::alloc::AllocError;
 use std::io::{self, ErrorKind};
-use text_core::WriteFault;
+use text_core::{At, WriteFault};
 use thiserror::Error;
 
 /// Why the program did not do what it was asked.
@@ -32,14 +32,14 @@ pub enum ProgramFault {
     #[error(transparent)]
     Emulate(#[from] EmulateError),
     #[error("script {0}")]
-    Expect(ExpectFault),
+    Expect(At<ExpectCause>),
     #[error("expectations {0}")]
-    CaptureExpect(ExpectFault),
+    CaptureExpect(At<ExpectCause>),
     /// A script was to be swept, and no time of it is a range.
     #[error("no range")]
     NoRange,
     #[error("script {0}")]
-    Range(RangeFault),
+    Range(At<RangeCause>),
     /// The first instant of a range with which the script is refused, and why.
     #[error("{error} at {instant}")]
     AtInstant { instant: u64, error: CheckError },

@@ -11,7 +11,7 @@ use live_dialogue::{RefusalHearer, SessionError, session_heard};
 use live_session::{Refusal, RefusalCause};
 use std::alloc::{AllocError, Global};
 use std::io::Read;
-use text_core::{Buffered, Sink, put_all};
+use text_core::{At, Buffered, Sink, put_all};
 
 /// Explains refused lines, where that is asked for.
 #[derive(Drop)]
@@ -24,7 +24,7 @@ struct Explainer<'e, E: Sink> {
 fn fault_of(line: u64, refusal: Refusal) -> InputFault {
     let word = refusal.word;
     match refusal.cause {
-        RefusalCause::Script(cause) => InputFault::Script { line, cause, word },
+        RefusalCause::Script(cause) => InputFault::Script(At { line, cause, word }),
         RefusalCause::Past => InputFault::Past { line, word },
     }
 }

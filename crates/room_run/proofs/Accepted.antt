@@ -6,9 +6,13 @@ use Rattle.line_wave.specs.declared.Stretch.{Stretch}
 use Rattle.edid_tree.specs.Node.{Node}
 use Rattle.edid_tree.specs.Tree.{has_root}
 use Rattle.text_core.specs.Lines.{lines_of}
-use Rattle.room_script.specs.Topology.{Plan, TopologyFault, at_word, fault_at, topology_of, lines_read, at_line, line_read}
+use Rattle.room_script.specs.Topology.{Plan, topology_of, lines_read, after_line, line_read}
+use Rattle.text_core.specs.declared.at.At.{At}
+use Rattle.room_script.specs.declared.topology.TopologyCause.{TopologyCause}
+use Rattle.text_core.specs.At.{at_line, at_word}
 use Rattle.room_script.specs.declared.topology.TopologyCause.TheVariants.{NoRoot}
-use Rattle.room_script.specs.Script.{Course, IsNoWider, ScriptFault, IsScriptRead}
+use Rattle.room_script.specs.Script.{Course, IsNoWider, IsScriptRead}
+use Rattle.room_script.specs.declared.script.ScriptCause.{ScriptCause}
 use Rattle.room_script.proofs.OneReading.{one_script}
 use Rattle.room_net.specs.Sound.{EndsEarly}
 use Rattle.room_net.specs.State.{first_net}
@@ -32,15 +36,15 @@ some_device (node ∷ tree) h = omega arith
 rooted : (lines : List (List ℕ)) (number : ℕ) (plan end : Plan) → lines_read lines number plan ≡ Ok end → has_root end.tree ≡ true
 rooted [] number plan end h = step (has_root plan.tree) refl h
   where
-    none : Result Plan TopologyFault
-    none = Err (fault_at number (at_word 0 NoRoot))
+    none : Result Plan (At TopologyCause)
+    none = Err (at_line number (at_word 0 NoRoot))
 
     step : (b : Bool) → has_root plan.tree ≡ b → (if b then Ok plan else none) ≡ Ok end → has_root end.tree ≡ true
     step true g k = let same : plan ≡ end = cc in ap (λ p. has_root p.tree) (sym same) ∙ g
     step false g k = cc
 rooted (line ∷ lines) number plan end h =
     let on : (next : Plan) → lines_read lines (number + 1) next ≡ Ok end → has_root end.tree ≡ true = λ next. rooted lines (number + 1) next end in
-    elim (line_read plan line) as (λ r. at_line number r (λ next. lines_read lines (number + 1) next) ≡ Ok end → has_root end.tree ≡ true) [
+    elim (line_read plan line) as (λ r. after_line number r (λ next. lines_read lines (number + 1) next) ≡ Ok end → has_root end.tree ≡ true) [
       | Ok next ↦ λ k. on next k
       | Err fault ↦ λ k. (cc)
     ] h
@@ -56,10 +60,10 @@ ends_early pulses all wide = λ i d l. (let h : (get_or pulses i d).from ≤ lat
 pub early : ScriptsBeginEarly
 early pulses all = λ i d l. (let h : (get_or pulses i d).from ≤ latest_event = all i d l in omega arith)
 
-same_plan : (p q : Plan) (r : Result Plan TopologyFault) → r ≡ Ok p → r ≡ Ok q → p ≡ q
+same_plan : (p q : Plan) (r : Result Plan (At TopologyCause)) → r ≡ Ok p → r ≡ Ok q → p ≡ q
 same_plan p q r a b = cc
 
-same_ok : (c d : Course) (r : Result Course ScriptFault) → r ≡ Ok d → r ≡ Ok c → c ≡ d
+same_ok : (c d : Course) (r : Result Course (At ScriptCause)) → r ≡ Ok d → r ≡ Ok c → c ≡ d
 same_ok c d r a b = cc
 
 -- bytes spell one EDID

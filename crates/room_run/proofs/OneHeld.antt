@@ -1,8 +1,11 @@
 -- A run has one trace with who holds what: each turn is one, and leads to one place.
 use Rattle.std.proofs.Common.{◌≡◌, ◌∙◌, ◌++◌, List, [], ◌∷◌, ℕ, Option, Some, None, ap, ap₂, refl, subst, sym, Result, Ok}
 use Rattle.std.specs.List.{flat_map}
-use Rattle.room_script.specs.Script.{Course, IsScriptRead, OneScript, ScriptFault}
-use Rattle.room_script.specs.Topology.{Plan, TopologyFault, topology_of}
+use Rattle.room_script.specs.Script.{Course, IsScriptRead, OneScript}
+use Rattle.text_core.specs.declared.at.At.{At}
+use Rattle.room_script.specs.declared.script.ScriptCause.{ScriptCause}
+use Rattle.room_script.specs.Topology.{Plan, topology_of}
+use Rattle.room_script.specs.declared.topology.TopologyCause.{TopologyCause}
 use Rattle.room_script.specs.declared.script.TimedEvent.{TimedEvent}
 use Rattle.room_net.specs.State.{first_net}
 use Rattle.room_net.specs.Step.{after_round, seats_of}
@@ -101,10 +104,10 @@ one_root (Some bytes) None b r s = absurd r
 one_root (Some bytes) (Some a) None r s = absurd s
 one_root (Some bytes) (Some a) (Some b) r s = ap Some (one_edid a b (r.0 ∙ sym s.0))
 
-same_plan : (p q : Plan) (r : Result Plan TopologyFault) → r ≡ Ok p → r ≡ Ok q → q ≡ p
+same_plan : (p q : Plan) (r : Result Plan (At TopologyCause)) → r ≡ Ok p → r ≡ Ok q → q ≡ p
 same_plan p q r a b = cc
 
-same_course : (p q : Course) (r : Result Course ScriptFault) → r ≡ Ok p → r ≡ Ok q → p ≡ q
+same_course : (p q : Course) (r : Result Course (At ScriptCause)) → r ≡ Ok p → r ≡ Ok q → p ≡ q
 same_course p q r a b = cc
 
 one_course : OneScript → (topology script : List ℕ) (plan other : Plan) (course otherwise : Course) → other ≡ plan → IsAccepted topology script plan course → IsAccepted topology script other otherwise → course ≡ otherwise

@@ -53,11 +53,11 @@ abbrev pub TextsHaveOneTrace : Type 0
 TextsHaveOneTrace = (topology script x y : List ℕ) (s t : Totals) → IsTraceOf topology script x s → IsTraceOf topology script y t → (x ≡ y) × (s ≡ t)
 
 abbrev pub topology_reported : TopologyError → EmulateError
-topology_reported (topologies.At line cause word) = Topology line cause word
+topology_reported (topologies.At fault) = Topology fault.line fault.cause fault.word
 topology_reported topologies.Memory = Memory
 
 abbrev pub script_reported : ScriptError → EmulateError
-script_reported (scripts.At line cause word) = Script line cause word
+script_reported (scripts.At fault) = Script fault.line fault.cause fault.word
 script_reported scripts.Memory = Memory
 
 abbrev pub root_reported : RootError → EmulateError

@@ -48,7 +48,11 @@ impl From<TopologyError> for EmulateError {
 
     fn from(error: TopologyError) -> EmulateError {
         match error {
-            TopologyError::At { line, cause, word } => EmulateError::Topology { line, cause, word },
+            TopologyError::At(fault) => EmulateError::Topology {
+                line: fault.line,
+                cause: fault.cause,
+                word: fault.word,
+            },
             TopologyError::Memory => EmulateError::Memory,
         }
     }
@@ -62,7 +66,11 @@ impl From<ScriptError> for EmulateError {
 
     fn from(error: ScriptError) -> EmulateError {
         match error {
-            ScriptError::At { line, cause, word } => EmulateError::Script { line, cause, word },
+            ScriptError::At(fault) => EmulateError::Script {
+                line: fault.line,
+                cause: fault.cause,
+                word: fault.word,
+            },
             ScriptError::Memory => EmulateError::Memory,
         }
     }

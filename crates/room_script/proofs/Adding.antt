@@ -23,8 +23,9 @@ use Rattle.room_event.specs.declared.event.Event.{Event}
 use Rattle.room_event.specs.declared.event.Event.TheVariants.{Plug, Unplug, Key, Outside}
 use Rattle.room_event.specs.declared.event.HeaderNames.{HeaderNames}
 use Rattle.room_script.specs.declared.script.TimedEvent.{TimedEvent}
-use Rattle.room_script.specs.Fault.{at_word}
-use Rattle.room_script.specs.declared.fault.ScriptLineFault.{ScriptLineFault}
+use Rattle.text_core.specs.At.{at_word}
+use Rattle.text_core.specs.declared.at.AtWord.{AtWord}
+use Rattle.room_script.specs.declared.script.ScriptCause.{ScriptCause}
 use Rattle.room_script.specs.declared.script.ScriptCause.TheVariants.{Word, Width, Order, TooMany, End}
 use Rattle.room_script.specs.Script.{Notes, time_of, last_time, last_end, notes_with_event, plug_read, plug_words, unplug_read, unplug_words, key_read, key_words, act_read, hold_words, drop_words, send_read, frame_event, event_words, unless_fault, pulse_refusal, pulse_read, pulse_words, touches, notes_with_pull, pull_read, pull_words, is_before, level_of, pin_falls, pin_rises, pin_stays_high, pin_stays_low, notes_with_level, pin_read, pin_words, pulses_ended, end_read, end_words, other_words, IsSendRead, IsEventRead, IsWordsRead, IsLineRead}
 use Rattle.room_script.specs.Lines.{AreFew, IsMore, LinesAdd, LinesAreOfScripts, LinesKeepFew, pulls_held}
@@ -106,28 +107,28 @@ with_end waiting notes time = record {
 
 -- ---- whichever line it is
 
-Adds : ℕ → Notes → Result Notes ScriptLineFault → Type 0
+Adds : ℕ → Notes → Result Notes (AtWord ScriptCause) → Type 0
 Adds waiting old read = (next : Notes) → read ≡ Ok next → IsMore waiting old next
 
-adds_next : (waiting : ℕ) (old : Notes) (read : Result Notes ScriptLineFault) (next : Notes) → Adds waiting old read → read ≡ Ok next → IsMore waiting old next
+adds_next : (waiting : ℕ) (old : Notes) (read : Result Notes (AtWord ScriptCause)) (next : Notes) → Adds waiting old read → read ≡ Ok next → IsMore waiting old next
 unfolding Adds
 adds_next waiting old read next k e = k next e
 
-abbrev is_refused : Result Notes ScriptLineFault → Bool
+abbrev is_refused : Result Notes (AtWord ScriptCause) → Bool
 is_refused (Ok notes) = false
 is_refused (Err fault) = true
 
 -- whatever the fault
-adds_err : (waiting : ℕ) (old : Notes) (read : Result Notes ScriptLineFault) → is_refused read ≡ true → Adds waiting old read
+adds_err : (waiting : ℕ) (old : Notes) (read : Result Notes (AtWord ScriptCause)) → is_refused read ≡ true → Adds waiting old read
 unfolding Adds
 adds_err waiting old (Ok notes) refused next h = cc
 adds_err waiting old (Err fault) refused next h = cc
 
-adds_if : (waiting : ℕ) (old : Notes) (b : Bool) (x y : Result Notes ScriptLineFault) → Adds waiting old x → Adds waiting old y → Adds waiting old (cond b x y)
+adds_if : (waiting : ℕ) (old : Notes) (b : Bool) (x y : Result Notes (AtWord ScriptCause)) → Adds waiting old x → Adds waiting old y → Adds waiting old (cond b x y)
 adds_if waiting old true x y f g = f
 adds_if waiting old false x y f g = g
 
-adds_unless : (waiting : ℕ) (old : Notes) (b : Bool) (x y : Result Notes ScriptLineFault) → Adds waiting old x → (b ≡ false → Adds waiting old y) → Adds waiting old (cond b x y)
+adds_unless : (waiting : ℕ) (old : Notes) (b : Bool) (x y : Result Notes (AtWord ScriptCause)) → Adds waiting old x → (b ≡ false → Adds waiting old y) → Adds waiting old (cond b x y)
 adds_unless waiting old true x y f g = f
 adds_unless waiting old false x y f g = g refl
 
@@ -160,7 +161,7 @@ unplug_words-adds : (waiting : ℕ) (tree : List Node) (notes : Notes) (line : �
 unplug_words-adds waiting tree notes line time many None = adds_err waiting notes _ refl
 unplug_words-adds waiting tree notes line time many (Some word) = unplug_read-adds waiting notes line (time_of time) (device_named tree word)
 
-key_read-adds : (waiting : ℕ) (notes : Notes) (line : ℕ) (press : Bool) (key : Result KeyValue ScriptLineFault) (time device : Option ℕ) → Adds waiting notes (key_read notes line press key time device)
+key_read-adds : (waiting : ℕ) (notes : Notes) (line : ℕ) (press : Bool) (key : Result KeyValue (AtWord ScriptCause)) (time device : Option ℕ) → Adds waiting notes (key_read notes line press key time device)
 key_read-adds waiting notes line press (Err cause) time device = adds_err waiting notes _ refl
 key_read-adds waiting notes line press (Ok key) None device = adds_err waiting notes _ refl
 key_read-adds waiting notes line press (Ok key) (Some time) None = adds_err waiting notes _ refl
@@ -385,10 +386,10 @@ pull_again notes next waiting time width few h = by_width (width == 0 || nat_lt 
     added : Notes
     added = record notes { pulses = notes.pulses ++ record { from = time; to = time + width } ∷ [] }
 
-    at_end : Bool → Result Notes ScriptLineFault
+    at_end : Bool → Result Notes (AtWord ScriptCause)
     at_end b = if b then Err (at_word 0 End) else Ok added
 
-    with_room : ℕ → Result Notes ScriptLineFault
+    with_room : ℕ → Result Notes (AtWord ScriptCause)
     with_room many = if nat_le most_pulls many then Err (at_word 0 TooMany) else at_end (is_some notes.end)
 
     by_end : (b : Bool) → Ok next ≡ at_end b → Ok next ≡ (if nat_le most_pulls (length notes.pulses) then Err (at_word 0 TooMany) else at_end b)
@@ -429,10 +430,10 @@ fall_again notes next waiting time few h = by_time (touches (last_end notes.puls
     fallen : Notes
     fallen = record notes { pin = Some time }
 
-    at_end : Bool → Result Notes ScriptLineFault
+    at_end : Bool → Result Notes (AtWord ScriptCause)
     at_end b = if b then Err (at_word 0 End) else Ok fallen
 
-    with_room : ℕ → Result Notes ScriptLineFault
+    with_room : ℕ → Result Notes (AtWord ScriptCause)
     with_room many = if nat_le most_pulls many then Err (at_word 0 TooMany) else at_end (is_some notes.end)
 
     by_end : (b : Bool) → Ok next ≡ at_end b → Ok next ≡ (if nat_le most_pulls (length notes.pulses) then Err (at_word 0 TooMany) else at_end b)
@@ -471,13 +472,13 @@ pin_words_again notes next waiting many (Some words) few h = pin_again notes nex
 other_again : (notes next : Notes) (waiting : ℕ) (verb : List ℕ) (words : List (List ℕ)) → length next.pulses ≤ most_pulses → Ok next ≡ other_words notes waiting verb words → Ok next ≡ other_words notes (length notes.pulses) verb words
 other_again notes next waiting verb words few h = by_pulse (bytes_eq verb (codes "pulse")) h
   where
-    rest : Result Notes ScriptLineFault
+    rest : Result Notes (AtWord ScriptCause)
     rest = if bytes_eq verb (codes "end") then end_words notes (length words) (one_of words) else Err (at_word 0 Word)
 
-    pinned : ℕ → Bool → Result Notes ScriptLineFault
+    pinned : ℕ → Bool → Result Notes (AtWord ScriptCause)
     pinned many b = if b then pin_words notes many (length words) (two_of words) else rest
 
-    pulled : ℕ → Bool → Result Notes ScriptLineFault
+    pulled : ℕ → Bool → Result Notes (AtWord ScriptCause)
     pulled many b = if b then pull_words notes many (length words) (two_of words) else pinned many (bytes_eq verb (codes "pin"))
 
     by_pin : (b : Bool) → Ok next ≡ pinned waiting b → Ok next ≡ pinned (length notes.pulses) b
@@ -507,7 +508,7 @@ words_again tree notes next waiting line (verb ∷ words) few h = by_verb (bytes
 pub read_again : LinesAreOfScripts
 read_again tree notes next waiting line text few h = by_text (is_skipped text) h
   where
-    by_text : (b : Bool) → cond {A = Type 0} b (◌≡◌ {A = Result Notes ScriptLineFault} (Ok next) (Ok notes)) (IsWordsRead tree notes waiting line (words_of text) (Ok next))
-        → cond {A = Type 0} b (◌≡◌ {A = Result Notes ScriptLineFault} (Ok next) (Ok notes)) (IsWordsRead tree notes (length notes.pulses) line (words_of text) (Ok next))
+    by_text : (b : Bool) → cond {A = Type 0} b (◌≡◌ {A = Result Notes (AtWord ScriptCause)} (Ok next) (Ok notes)) (IsWordsRead tree notes waiting line (words_of text) (Ok next))
+        → cond {A = Type 0} b (◌≡◌ {A = Result Notes (AtWord ScriptCause)} (Ok next) (Ok notes)) (IsWordsRead tree notes (length notes.pulses) line (words_of text) (Ok next))
     by_text true k = k
     by_text false k = words_again tree notes next waiting line (words_of text) few k

@@ -10,16 +10,17 @@ use Rattle.device_features.specs.KeyWords.{key_named, key_text, key_words, word_
 use Rattle.device_features.specs.declared.key_word.KeyWord.{KeyWord}
 use Rattle.device_features.specs.declared.key_word.KeyWord.TheVariants as the
 use Rattle.room_script.specs.Keys.{control_of, destination_of, key_alone, key_of, key_with, key_or_cause, language_of, port_key, remote_by, remote_key, switch_of, unfit, of_one, of_two, of_three}
-use Rattle.room_script.specs.declared.fault.ScriptLineFault.{ScriptLineFault}
+use Rattle.text_core.specs.declared.at.AtWord.{AtWord}
+use Rattle.room_script.specs.declared.script.ScriptCause.{ScriptCause}
 
 -- the word of a key that these words spell is this one
-abbrev HasWord : KeyWord → Result Key ScriptLineFault → Type 0
+abbrev HasWord : KeyWord → Result Key (AtWord ScriptCause) → Type 0
 HasWord word read = (key : Key) → read ≡ Ok key → word_of_key key ≡ word
 
 same : (word : KeyWord) (mine : Key) → word_of_key mine ≡ word → HasWord word (Ok mine)
 same word mine h key e = let is : mine ≡ key = cc in ap word_of_key (sym is) ∙ h
 
-alone_has : (fault : ScriptLineFault) (word : KeyWord) → HasWord word (key_alone fault word)
+alone_has : (fault : AtWord ScriptCause) (word : KeyWord) → HasWord word (key_alone fault word)
 alone_has fault the.Play key e = same the.Play Play refl key e
 alone_has fault the.Stop key e = same the.Stop Stop refl key e
 alone_has fault the.Eject key e = same the.Eject Eject refl key e
@@ -44,7 +45,7 @@ port_has : (o : Option ℕ) → HasWord the.Port (port_key o)
 port_has None key e = cc
 port_has (Some port) key e = same the.Port (Port (min port 255)) refl key e
 
-with_has : (fault : ScriptLineFault) (word : KeyWord) (value : List ℕ) → HasWord word (key_with fault word value)
+with_has : (fault : AtWord ScriptCause) (word : KeyWord) (value : List ℕ) → HasWord word (key_with fault word value)
 with_has fault the.Watch value key e = known_has the.Watch Watch (λ x. refl) (phys_of value) key e
 with_has fault the.Port value key e = port_has (number_of value) key e
 with_has fault the.Audio value key e = known_has the.Audio Audio (λ x. refl) (switch_of value) key e
@@ -66,7 +67,7 @@ remote_has None code key e = cc
 remote_has (Some to) None key e = cc
 remote_has (Some to) (Some code) key e = same the.Remote (Remote to code) refl key e
 
-to_has : (fault : ScriptLineFault) (word : KeyWord) (to code : List ℕ) → HasWord word (remote_key fault word to code)
+to_has : (fault : AtWord ScriptCause) (word : KeyWord) (to code : List ℕ) → HasWord word (remote_key fault word to code)
 to_has fault the.Remote to code key e = remote_has (destination_of to) (control_of code) key e
 to_has fault the.Watch to code key e = cc
 to_has fault the.Port to code key e = cc
@@ -83,15 +84,15 @@ to_has fault the.VolumeUp to code key e = cc
 to_has fault the.VolumeDown to code key e = cc
 to_has fault the.Mute to code key e = cc
 
-one_has : (fault : ScriptLineFault) (text : List ℕ) (o : Option KeyWord) → key_named text ≡ o → (key : Key) → of_one fault o ≡ Ok key → text ≡ key_text (word_of_key key)
+one_has : (fault : AtWord ScriptCause) (text : List ℕ) (o : Option KeyWord) → key_named text ≡ o → (key : Key) → of_one fault o ≡ Ok key → text ≡ key_text (word_of_key key)
 one_has fault text None n key e = cc
 one_has fault text (Some word) n key e = word_of_found key_text key_words text word n ∙ ap key_text (sym (alone_has fault word key e))
 
-two_has : (fault : ScriptLineFault) (text value : List ℕ) (o : Option KeyWord) → key_named text ≡ o → (key : Key) → of_two fault o value ≡ Ok key → text ≡ key_text (word_of_key key)
+two_has : (fault : AtWord ScriptCause) (text value : List ℕ) (o : Option KeyWord) → key_named text ≡ o → (key : Key) → of_two fault o value ≡ Ok key → text ≡ key_text (word_of_key key)
 two_has fault text value None n key e = cc
 two_has fault text value (Some word) n key e = word_of_found key_text key_words text word n ∙ ap key_text (sym (with_has fault word value key e))
 
-three_has : (fault : ScriptLineFault) (text to code : List ℕ) (o : Option KeyWord) → key_named text ≡ o → (key : Key) → of_three fault o to code ≡ Ok key → text ≡ key_text (word_of_key key)
+three_has : (fault : AtWord ScriptCause) (text to code : List ℕ) (o : Option KeyWord) → key_named text ≡ o → (key : Key) → of_three fault o to code ≡ Ok key → text ≡ key_text (word_of_key key)
 three_has fault text to code None n key e = cc
 three_has fault text to code (Some word) n key e = word_of_found key_text key_words text word n ∙ ap key_text (sym (to_has fault word to code key e))
 

@@ -8,8 +8,10 @@ use Rattle.message_text.specs.declared.assembler.AssembleError.{AssembleError}
 use Rattle.text_core.specs.Words.{words_of}
 use Rattle.room_event.specs.declared.event.HeaderNames.{HeaderNames}
 use Rattle.room_script.specs.Header.{header_names, digits_text}
-use Rattle.room_script.specs.declared.fault.ScriptLineFault.{ScriptLineFault}
-use Rattle.room_script.specs.Script.{Course, Notes, ScriptFault, time_of, send_read, event_words, other_words, no_notes, IsFrameOf, IsSendRead, IsEventRead, IsWordsRead, IsLineRead, Onward, AreLinesRead, OneScript}
+use Rattle.text_core.specs.declared.at.AtWord.{AtWord}
+use Rattle.room_script.specs.declared.script.ScriptCause.{ScriptCause}
+use Rattle.room_script.specs.Script.{Course, Notes, time_of, send_read, event_words, other_words, no_notes, IsFrameOf, IsSendRead, IsEventRead, IsWordsRead, IsLineRead, Onward, AreLinesRead, OneScript}
+use Rattle.text_core.specs.declared.at.At.{At}
 
 -- a frame's text is no other's
 one_frame : (text frame : List ℕ) (r : Result (List ℕ) AssembleError) → IsFrameOf text (Ok frame) → IsFrameOf text r → r ≡ Ok frame
@@ -26,7 +28,7 @@ one_send_read notes next line (Some time) (Some device) (Some names) text (Err c
 one_send_read notes next line (Some time) (Some device) (Some names) text (Ok frame) q h g e =
     ap (send_read notes line (Some time) (Some device) (Some names)) (one_frame text frame q h g) ∙ sym e
 
-one_send : (tree : List Node) (notes next : Notes) (line : ℕ) (time : List ℕ) (words : List (List ℕ)) (read : Result Notes ScriptLineFault) → IsSendRead tree notes line time words (Ok next) → IsSendRead tree notes line time words read
+one_send : (tree : List Node) (notes next : Notes) (line : ℕ) (time : List ℕ) (words : List (List ℕ)) (read : Result Notes (AtWord ScriptCause)) → IsSendRead tree notes line time words (Ok next) → IsSendRead tree notes line time words read
     → read ≡ Ok next
 one_send tree notes next line time [] read h g = cc
 one_send tree notes next line time (name ∷ []) read h g = cc
@@ -37,7 +39,7 @@ same_way : (b : Bool) (P Q P2 Q2 R : Type 0) → (P → P2 → R) → (Q → Q2 
 same_way true P Q P2 Q2 R f g h k = f h k
 same_way false P Q P2 Q2 R f g h k = g h k
 
-one_event : (tree : List Node) (notes next : Notes) (line : ℕ) (words : List (List ℕ)) (read : Result Notes ScriptLineFault) → IsEventRead tree notes line words (Ok next) → IsEventRead tree notes line words read → read ≡ Ok next
+one_event : (tree : List Node) (notes next : Notes) (line : ℕ) (words : List (List ℕ)) (read : Result Notes (AtWord ScriptCause)) → IsEventRead tree notes line words (Ok next) → IsEventRead tree notes line words read → read ≡ Ok next
 one_event tree notes next line [] read h g = cc
 one_event tree notes next line (time ∷ []) read h g = cc
 one_event tree notes next line (time ∷ verb ∷ words) read h g =
@@ -45,25 +47,25 @@ one_event tree notes next line (time ∷ verb ∷ words) read h g =
     (IsSendRead tree notes line time words read) (read ≡ event_words tree notes line time verb words) (read ≡ Ok next)
     (λ p q. one_send tree notes next line time words read p q) (λ p q. q ∙ sym p) h g
 
-one_words : (tree : List Node) (notes next : Notes) (waiting line : ℕ) (words : List (List ℕ)) (read : Result Notes ScriptLineFault) → IsWordsRead tree notes waiting line words (Ok next) → IsWordsRead tree notes waiting line words read → read ≡ Ok next
+one_words : (tree : List Node) (notes next : Notes) (waiting line : ℕ) (words : List (List ℕ)) (read : Result Notes (AtWord ScriptCause)) → IsWordsRead tree notes waiting line words (Ok next) → IsWordsRead tree notes waiting line words read → read ≡ Ok next
 one_words tree notes next waiting line [] read h g = cc
 one_words tree notes next waiting line (verb ∷ words) read h g =
     same_way (bytes_eq verb (codes "at")) (IsEventRead tree notes line words (Ok next)) (Ok next ≡ other_words notes waiting verb words)
     (IsEventRead tree notes line words read) (read ≡ other_words notes waiting verb words) (read ≡ Ok next)
     (λ p q. one_event tree notes next line words read p q) (λ p q. q ∙ sym p) h g
 
-one_line : (tree : List Node) (notes next : Notes) (waiting line : ℕ) (text : List ℕ) (read : Result Notes ScriptLineFault) → IsLineRead tree notes waiting line text (Ok next) → IsLineRead tree notes waiting line text read → read ≡ Ok next
+one_line : (tree : List Node) (notes next : Notes) (waiting line : ℕ) (text : List ℕ) (read : Result Notes (AtWord ScriptCause)) → IsLineRead tree notes waiting line text (Ok next) → IsLineRead tree notes waiting line text read → read ≡ Ok next
 one_line tree notes next waiting line text read h g =
     same_way (is_skipped text) (Ok next ≡ Ok notes) (IsWordsRead tree notes waiting line (words_of text) (Ok next)) (read ≡ Ok notes) (IsWordsRead tree notes waiting line (words_of text) read) (read ≡ Ok next)
     (λ p q. q ∙ sym p) (λ p q. one_words tree notes next waiting line (words_of text) read p q) h g
 
-lines_one : (tree : List Node) (texts : List (List ℕ)) (line : ℕ) (notes : Notes) (course : Course) (read : Result Course ScriptFault) → AreLinesRead tree texts line notes (Ok course) → AreLinesRead tree texts line notes read
+lines_one : (tree : List Node) (texts : List (List ℕ)) (line : ℕ) (notes : Notes) (course : Course) (read : Result Course (At ScriptCause)) → AreLinesRead tree texts line notes (Ok course) → AreLinesRead tree texts line notes read
     → read ≡ Ok course
 lines_one tree [] line notes course read h g = g ∙ sym h
 lines_one tree (text ∷ texts) line notes course read h g =
     step h.0 g.0 h.1 g.1 h.2 g.2 (λ next p q. lines_one tree texts (line + 1) next course read p q)
   where
-    step : (r q : Result Notes ScriptLineFault) → IsLineRead tree notes (length notes.pulses) line text r → IsLineRead tree notes (length notes.pulses) line text q
+    step : (r q : Result Notes (AtWord ScriptCause)) → IsLineRead tree notes (length notes.pulses) line text r → IsLineRead tree notes (length notes.pulses) line text q
         → Onward line r (λ next. AreLinesRead tree texts (line + 1) next (Ok course)) (Ok course) → Onward line q (λ next. AreLinesRead tree texts (line + 1) next read) read
         → ((next : Notes) → AreLinesRead tree texts (line + 1) next (Ok course) → AreLinesRead tree texts (line + 1) next read → read ≡ Ok course) → read ≡ Ok course
     step (Err cause) q l m a b later = cc

@@ -5,14 +5,16 @@ use Rattle.edid_tree.specs.Node.{Node}
 use Rattle.edid_tree.specs.Tree.{device_named}
 use Rattle.message_text.specs.declared.assembler.AssembleError.{AssembleError}
 use Rattle.text_core.specs.Words.{words_of, text_of}
-use Rattle.room_script.specs.declared.fault.ScriptLineFault.{ScriptLineFault}
+use Rattle.text_core.specs.declared.at.AtWord.{AtWord}
+use Rattle.room_script.specs.declared.script.ScriptCause.{ScriptCause}
 use Rattle.room_script.specs.declared.script.ScriptLineError.{ScriptLineError}
 use Rattle.room_script.specs.declared.script.ScriptLineError.TheVariants.{Fault, Memory}
 use Rattle.room_event.specs.declared.event.HeaderNames.{HeaderNames}
 use Rattle.text_core.proofs.PartedLemmas.{words_of-some}
 use Rattle.room_script.specs.Header.{has_names, digits_of, with_digits, digits_text, header_names}
 use Rattle.room_script.specs.Lines.{LinesEnd, LinesFollow}
-use Rattle.room_script.specs.Script.{Course, Notes, ScriptFault, time_of, send_read, course_at_end, IsFrameOf, IsSendRead, IsLineRead, AreLinesRead, GivesNotes, Gives}
+use Rattle.room_script.specs.Script.{Course, Notes, time_of, send_read, course_at_end, IsFrameOf, IsSendRead, IsLineRead, AreLinesRead, GivesNotes, Gives}
+use Rattle.text_core.specs.declared.at.At.{At}
 
 pub text_of-words_of : (text : List ℕ) → text_of (words_of text) ≡ text
 text_of-words_of text = join_with_byte-slice_split 32 text
@@ -29,7 +31,7 @@ pub text_added : (word pushed text rest : List ℕ) → pushed ≡ word ++ 32 �
 text_added word pushed text rest space added = added ∙ ap (λ (t : List ℕ). t ++ rest) space ∙ append_assoc word (32 ∷ []) rest ∙ sym (text_spaced word rest)
 
 -- from a value that is read to a relation
-pub gives : (P : Result Notes ScriptLineFault → Type 0) (now : Notes) (result : Result Unit ScriptLineError) (read : Result Notes ScriptLineFault) → GivesNotes now result read → P read → Gives now result P
+pub gives : (P : Result Notes (AtWord ScriptCause) → Type 0) (now : Notes) (result : Result Unit ScriptLineError) (read : Result Notes (AtWord ScriptCause)) → GivesNotes now result read → P read → Gives now result P
 gives P now (Ok done) read g p = subst P g p
 gives P now (Err Memory) read g p = tt
 gives P now (Err (Fault fault)) read g p = subst P g p

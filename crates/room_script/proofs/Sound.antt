@@ -31,9 +31,10 @@ use Rattle.room_event.specs.declared.event.Event.{Event}
 use Rattle.room_event.specs.declared.event.Event.TheVariants.{Plug, Unplug, Key, Send, SendNamed, Outside}
 use Rattle.room_event.specs.declared.event.HeaderNames.{HeaderNames}
 use Rattle.room_script.specs.declared.script.TimedEvent.{TimedEvent}
-use Rattle.room_script.specs.declared.fault.ScriptLineFault.{ScriptLineFault}
 use Rattle.room_script.specs.Lines.{AreFew, AreSound, IsEarly, LinesKeepSound, NoneAreSound, SoundAreTimely}
 use Rattle.room_script.proofs.Adding.{few_pulses, none_while_low}
+use Rattle.text_core.specs.declared.at.AtWord.{AtWord}
+use Rattle.room_script.specs.declared.script.ScriptCause.{ScriptCause}
 use Rattle.room_script.specs.Script.{Course, Notes, within_limit, time_of, last_time, last_end, notes_with_event, plug_read, plug_words, unplug_read, unplug_words, key_read, key_words, act_read, hold_words, drop_words, send_read, frame_event, event_words, unless_fault, pulse_refusal, notes_with_pulse, pulse_read, pulse_words, touches, notes_with_pull, pull_read, pull_words, is_before, level_of, pin_falls, pin_rises, pin_stays_high, pin_stays_low, notes_with_level, pin_read, pin_words, pulses_ended, end_read, end_words, other_words, course_at_end, no_notes, IsFrameOf, IsSendRead, IsEventRead, IsWordsRead, IsLineRead, IsSchedule, AreFramedEvents, IsNoWider, MayFall, IsScript, Onward, AreLinesRead, ScriptsAreSound}
 
 -- ---- times
@@ -168,24 +169,24 @@ touches-apart (Some end) time h = grind (arith, nat_tests, h)
 pub sound_start : NoneAreSound
 sound_start count = record { schedule = tt; framed = tt; order = tt; wide = All-nil IsNoWider; early = All-nil IsEarly; ended = λ t e. (cc); held = λ t e. (cc); let_go = λ t e. refl }
 
-Keeps : ℕ → Result Notes ScriptLineFault → Type 0
+Keeps : ℕ → Result Notes (AtWord ScriptCause) → Type 0
 Keeps count read = (next : Notes) → read ≡ Ok next → AreSound count next
 
-keeps_next : (count : ℕ) (read : Result Notes ScriptLineFault) (next : Notes) → Keeps count read → read ≡ Ok next → AreSound count next
+keeps_next : (count : ℕ) (read : Result Notes (AtWord ScriptCause)) (next : Notes) → Keeps count read → read ≡ Ok next → AreSound count next
 unfolding Keeps
 keeps_next count read next k e = k next e
 
-abbrev is_refused : Result Notes ScriptLineFault → Bool
+abbrev is_refused : Result Notes (AtWord ScriptCause) → Bool
 is_refused (Ok notes) = false
 is_refused (Err fault) = true
 
 -- whatever the fault
-keeps_err : (count : ℕ) (read : Result Notes ScriptLineFault) → is_refused read ≡ true → Keeps count read
+keeps_err : (count : ℕ) (read : Result Notes (AtWord ScriptCause)) → is_refused read ≡ true → Keeps count read
 unfolding Keeps
 keeps_err count (Ok notes) refused next h = cc
 keeps_err count (Err fault) refused next h = cc
 
-keeps_if : (count : ℕ) (b : Bool) (x y : Result Notes ScriptLineFault) → (b ≡ true → Keeps count x) → (b ≡ false → Keeps count y) → Keeps count (cond b x y)
+keeps_if : (count : ℕ) (b : Bool) (x y : Result Notes (AtWord ScriptCause)) → (b ≡ true → Keeps count x) → (b ≡ false → Keeps count y) → Keeps count (cond b x y)
 keeps_if count true x y f g = f refl
 keeps_if count false x y f g = g refl
 
@@ -244,7 +245,7 @@ unplug_words-keeps : (tree : List Node) (notes : Notes) (line : ℕ) (time : Lis
 unplug_words-keeps tree notes line time many None s = keeps_err (length tree) _ refl
 unplug_words-keeps tree notes line time many (Some word) s = unplug_read-keeps (length tree) notes line (time_of time) (device_named tree word) s (named-below tree word)
 
-key_read-keeps : (count : ℕ) (notes : Notes) (line : ℕ) (press : Bool) (key : Result KeyValue ScriptLineFault) (time device : Option ℕ) → AreSound count notes → ((i : ℕ) → device ≡ Some i → i < count) →
+key_read-keeps : (count : ℕ) (notes : Notes) (line : ℕ) (press : Bool) (key : Result KeyValue (AtWord ScriptCause)) (time device : Option ℕ) → AreSound count notes → ((i : ℕ) → device ≡ Some i → i < count) →
     Keeps count (key_read notes line press key time device)
 key_read-keeps count notes line press (Err cause) time device s hd = keeps_err count _ refl
 key_read-keeps count notes line press (Ok key) None device s hd = keeps_err count _ refl
@@ -586,7 +587,7 @@ lines-sound : (tree : List Node) (texts : List (List ℕ)) (line : ℕ) (notes :
 lines-sound tree [] line notes course s few h = sound_script (length tree) notes line course s (omega (arith, few)) h
 lines-sound tree (text ∷ texts) line notes course s few h = step h.0 h.1 h.2 (λ next n room. lines-sound tree texts (line + 1) next course n room)
   where
-    step : (r : Result Notes ScriptLineFault) → IsLineRead tree notes (length notes.pulses) line text r → Onward line r (λ next. AreLinesRead tree texts (line + 1) next (Ok course)) (Ok course)
+    step : (r : Result Notes (AtWord ScriptCause)) → IsLineRead tree notes (length notes.pulses) line text r → Onward line r (λ next. AreLinesRead tree texts (line + 1) next (Ok course)) (Ok course)
         → ((next : Notes) → AreSound (length tree) next → AreFew next → AreLinesRead tree texts (line + 1) next (Ok course) → IsScript (length tree) course) → IsScript (length tree) course
     step (Ok next) l k on = on next (line-keeps tree notes (length notes.pulses) line text next s l) (few_pulses tree notes line text next l few) k
     step (Err fault) l k on = cc

@@ -1,20 +1,10 @@
 -- Which word of a script's line is at fault (own): its number from 0; where one is missing, the number that it would have.
 use Rattle.std.specs.Prelude.{ℕ, ◌+◌, min}
-use Rattle.message_text.specs.declared.assembler.AssembleError.{AssembleError}
-use Rattle.message_text.specs.declared.assembler.AssembleError.TheVariants.{Address, Name as NoName}
-use Rattle.room_script.specs.declared.fault.ScriptLineFault.{ScriptLineFault}
+use Rattle.text_core.specs.At.{at_word}
+use Rattle.text_core.specs.declared.at.AtWord.{AtWord}
 use Rattle.room_script.specs.declared.script.ScriptCause.{ScriptCause}
 use Rattle.room_script.specs.declared.script.ScriptCause.TheVariants.{Word}
 
-abbrev pub at_word : ℕ → ScriptCause → ScriptLineFault
-at_word word cause = record { cause = cause; word = word }
-
 -- after so many words stand so many, and others are wanted: the first that is missing or too many
-abbrev pub misfit : ℕ → ℕ → ℕ → ScriptLineFault
+abbrev pub misfit : ℕ → ℕ → ℕ → AtWord ScriptCause
 misfit before count wanted = at_word (before + min count wanted) Word
-
--- the word of a frame's text from which on it is at fault: its addresses, its name, or what stands after
-abbrev pub frame_word : AssembleError → ℕ
-frame_word Address = 0
-frame_word NoName = 1
-frame_word _ = 2

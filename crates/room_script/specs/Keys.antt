@@ -17,8 +17,10 @@ use Rattle.device_features.specs.declared.key_word.KeyWord.TheVariants as key_wo
 use Rattle.text_core.specs.Words.{one_of, two_of, three_of}
 use Rattle.text_core.specs.Phys.{digit_value, is_hex_digit, phys_of}
 use Rattle.text_core.specs.Number.{number_of}
-use Rattle.room_script.specs.Fault.{at_word, misfit}
-use Rattle.room_script.specs.declared.fault.ScriptLineFault.{ScriptLineFault}
+use Rattle.room_script.specs.Fault.{misfit}
+use Rattle.text_core.specs.At.{at_word}
+use Rattle.text_core.specs.declared.at.AtWord.{AtWord}
+use Rattle.room_script.specs.declared.script.ScriptCause.{ScriptCause}
 use Rattle.room_script.specs.declared.script.ScriptCause.TheVariants.{Word, Number}
 
 abbrev pub switch_of : List ℕ → Option Bool
@@ -60,17 +62,17 @@ values_of key_words.Remote = 2
 values_of _ = 0
 
 -- a key's first word is the line's fifth, after `at T press NAME`
-abbrev pub unfit_by : Option KeyWord → ℕ → ScriptLineFault
+abbrev pub unfit_by : Option KeyWord → ℕ → AtWord ScriptCause
 unfit_by None count = at_word 4 Word
 unfit_by (Some word) count = misfit 5 count (values_of word)
 
 -- words that are no key: the first one, where no key has it, and else the first value that is missing or too many
-abbrev pub unfit : List (List ℕ) → ScriptLineFault
+abbrev pub unfit : List (List ℕ) → AtWord ScriptCause
 unfit [] = at_word 4 Word
 unfit (word ∷ values) = unfit_by (key_named word) (length values)
 
 -- the keys of one word
-abbrev pub key_alone : ScriptLineFault → KeyWord → Result Key ScriptLineFault
+abbrev pub key_alone : AtWord ScriptCause → KeyWord → Result Key (AtWord ScriptCause)
 key_alone fault key_words.Play = Ok Play
 key_alone fault key_words.Stop = Ok Stop
 key_alone fault key_words.Eject = Ok Eject
@@ -83,17 +85,17 @@ key_alone fault key_words.Mute = Ok (Volume Mute)
 key_alone fault _ = Err fault
 
 -- a value is a key's, or none's
-abbrev pub key_or_cause : Option Key → Result Key ScriptLineFault
+abbrev pub key_or_cause : Option Key → Result Key (AtWord ScriptCause)
 key_or_cause None = Err (at_word 5 Word)
 key_or_cause (Some key) = Ok key
 
 -- a port above 255 counts as 255
-abbrev pub port_key : Option ℕ → Result Key ScriptLineFault
+abbrev pub port_key : Option ℕ → Result Key (AtWord ScriptCause)
 port_key None = Err (at_word 5 Number)
 port_key (Some port) = Ok (Port (min port 255))
 
 -- `watch PA`, `port N`, `audio on`, `audio off`, `arc on`, `arc off`, `language LLL`
-abbrev pub key_with : ScriptLineFault → KeyWord → List ℕ → Result Key ScriptLineFault
+abbrev pub key_with : AtWord ScriptCause → KeyWord → List ℕ → Result Key (AtWord ScriptCause)
 key_with fault key_words.Watch value = key_or_cause (option_map Watch (phys_of value))
 key_with fault key_words.Port value = port_key (number_of value)
 key_with fault key_words.Audio value = key_or_cause (option_map Audio (switch_of value))
@@ -102,33 +104,33 @@ key_with fault key_words.Language value = key_or_cause (option_map Language (lan
 key_with fault _ value = Err fault
 
 -- `remote D CODE`
-abbrev pub remote_by : Option ℕ → Option UserControl → Result Key ScriptLineFault
+abbrev pub remote_by : Option ℕ → Option UserControl → Result Key (AtWord ScriptCause)
 remote_by None code = Err (at_word 5 Word)
 remote_by (Some to) None = Err (at_word 6 Word)
 remote_by (Some to) (Some code) = Ok (Remote to code)
 
-abbrev pub remote_key : ScriptLineFault → KeyWord → List ℕ → List ℕ → Result Key ScriptLineFault
+abbrev pub remote_key : AtWord ScriptCause → KeyWord → List ℕ → List ℕ → Result Key (AtWord ScriptCause)
 remote_key fault key_words.Remote to code = remote_by (destination_of to) (control_of code)
 remote_key fault _ to code = Err fault
 
-abbrev pub of_one : ScriptLineFault → Option KeyWord → Result Key ScriptLineFault
+abbrev pub of_one : AtWord ScriptCause → Option KeyWord → Result Key (AtWord ScriptCause)
 of_one fault None = Err fault
 of_one fault (Some word) = key_alone fault word
 
-abbrev pub of_two : ScriptLineFault → Option KeyWord → List ℕ → Result Key ScriptLineFault
+abbrev pub of_two : AtWord ScriptCause → Option KeyWord → List ℕ → Result Key (AtWord ScriptCause)
 of_two fault None value = Err fault
 of_two fault (Some word) value = key_with fault word value
 
-abbrev pub of_three : ScriptLineFault → Option KeyWord → List ℕ → List ℕ → Result Key ScriptLineFault
+abbrev pub of_three : AtWord ScriptCause → Option KeyWord → List ℕ → List ℕ → Result Key (AtWord ScriptCause)
 of_three fault None to code = Err fault
 of_three fault (Some word) to code = remote_key fault word to code
 
-abbrev pub key_by : ScriptLineFault → Option (List ℕ) → Option (List ℕ × List ℕ) → Option (List ℕ × List ℕ × List ℕ) → Result Key ScriptLineFault
+abbrev pub key_by : AtWord ScriptCause → Option (List ℕ) → Option (List ℕ × List ℕ) → Option (List ℕ × List ℕ × List ℕ) → Result Key (AtWord ScriptCause)
 key_by fault (Some word) two three = of_one fault (key_named word)
 key_by fault None (Some words) three = of_two fault (key_named words.0) words.1
 key_by fault None None (Some words) = of_three fault (key_named words.0) words.1 words.2
 key_by fault None None None = Err fault
 
 -- the key of some words, or the first cause for which they are none
-abbrev pub key_of : List (List ℕ) → Result Key ScriptLineFault
+abbrev pub key_of : List (List ℕ) → Result Key (AtWord ScriptCause)
 key_of words = key_by (unfit words) (one_of words) (two_of words) (three_of words)

@@ -2,42 +2,16 @@
 ghost use Rattle.std.specs.Prelude.{◌≡◌, ◌+◌, ◌≤◌, length};
 ghost use Rattle.std.specs.Option.{option_copied};
 ghost use Rattle.text_core.specs.Words.{words_after};
-ghost use Rattle.room_script.specs.Fault.{at_word, frame_word, misfit};
+ghost use Rattle.room_script.specs.Fault.{misfit};
 
 use crate::counting::word_count;
 use crate::script::ScriptCause;
-use message_text::AssembleError;
-
-/// Why a line of a script is refused, and the word at fault, counted from 0; where a word is missing, the number that it
-/// would have.
-#[derive(Clone, Copy, Debug, Drop, PartialEq, Eq)]
-pub struct ScriptLineFault {
-    pub cause: ScriptCause,
-    pub word: usize,
-}
-
-/// A word at fault.
-pub fn at_word(word: usize, cause: ScriptCause) -> ScriptLineFault
-    ensures { result ≡ at_word word cause }
-{
-    ScriptLineFault { cause, word }
-}
+use text_core::{AtWord, at_word};
 
 /// Of words after so many, of which others than so many are left.
-pub fn misfit(before: usize, rest: Option<&[u8]>, wanted: usize) -> ScriptLineFault
+pub fn misfit(before: usize, rest: Option<&[u8]>, wanted: usize) -> AtWord<ScriptCause>
     requires few { before + wanted ≤ 18446744073709551615 }
     ensures { result ≡ misfit before (length (words_after (option_copied rest.entry))) wanted }
 {
     at_word(before + word_count(rest, wanted), ScriptCause::Word)
-}
-
-/// The word of a frame's text from which on it is at fault.
-pub fn frame_word(cause: AssembleError) -> usize
-    ensures { result ≡ frame_word cause }
-{
-    match cause {
-        AssembleError::Address => 0,
-        AssembleError::Name => 1,
-        AssembleError::Operand | AssembleError::Count | AssembleError::TooLong => 2,
-    }
 }

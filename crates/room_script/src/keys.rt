@@ -8,16 +8,17 @@ ghost use Rattle.text_core.specs.Number.{number_of};
 ghost use Rattle.text_core.specs.Words.{words_after};
 ghost use Rattle.room_script.specs.Keys.{key_alone, switch_of, language_of, destination_of, code_of, control_of, key_or_cause, port_key, values_of, unfit, key_with, remote_by, remote_key, of_one, of_two, of_three, key_of};
 
-use crate::fault::{ScriptLineFault, at_word, misfit};
+use crate::fault::misfit;
 use crate::script::ScriptCause;
 use device_features::{Key, KeyWord, VolumeKey};
 use line_frames::Addr;
 use message_table::{Triple, UserControl, WordSet};
 use text_core::{
-    Phys, digit_value, first_word, is_hex_digit, number_in, one_word, three_words, two_words,
+    AtWord, Phys, at_word, digit_value, first_word, is_hex_digit, number_in, one_word, three_words,
+    two_words,
 };
 
-fn key_alone(fault: ScriptLineFault, word: KeyWord) -> Result<Key, ScriptLineFault>
+fn key_alone(fault: AtWord<ScriptCause>, word: KeyWord) -> Result<Key, AtWord<ScriptCause>>
     ensures { result ≡ key_alone fault word }
 {
     match word {
@@ -113,7 +114,7 @@ fn values_of(word: KeyWord) -> usize
 }
 
 // Why words are no key, of which others than a key has are left.
-fn unfit(rest: Option<&[u8]>) -> ScriptLineFault
+fn unfit(rest: Option<&[u8]>) -> AtWord<ScriptCause>
     ensures { result ≡ unfit (words_after (option_copied rest.entry)) }
 {
     let Some(rest) = rest else {
@@ -126,13 +127,13 @@ fn unfit(rest: Option<&[u8]>) -> ScriptLineFault
     }
 }
 
-fn key_or_cause(key: Option<Key>) -> Result<Key, ScriptLineFault>
+fn key_or_cause(key: Option<Key>) -> Result<Key, AtWord<ScriptCause>>
     ensures { result ≡ key_or_cause key }
 {
     key.ok_or(at_word(5, ScriptCause::Word))
 }
 
-fn port_key(word: &[u8]) -> Result<Key, ScriptLineFault>
+fn port_key(word: &[u8]) -> Result<Key, AtWord<ScriptCause>>
     ensures { result ≡ port_key (number_of word.now) }
 {
     match number_in(word) {
@@ -141,7 +142,11 @@ fn port_key(word: &[u8]) -> Result<Key, ScriptLineFault>
     }
 }
 
-fn key_with(fault: ScriptLineFault, word: KeyWord, value: &[u8]) -> Result<Key, ScriptLineFault>
+fn key_with(
+    fault: AtWord<ScriptCause>,
+    word: KeyWord,
+    value: &[u8],
+) -> Result<Key, AtWord<ScriptCause>>
     ensures { result ≡ key_with fault word value.now }
 {
     match word {
@@ -163,7 +168,7 @@ fn key_with(fault: ScriptLineFault, word: KeyWord, value: &[u8]) -> Result<Key, 
     }
 }
 
-fn remote_by(to: Option<Addr>, code: Option<UserControl>) -> Result<Key, ScriptLineFault>
+fn remote_by(to: Option<Addr>, code: Option<UserControl>) -> Result<Key, AtWord<ScriptCause>>
     ensures { result ≡ remote_by to code }
 {
     let Some(to) = to else {
@@ -176,11 +181,11 @@ fn remote_by(to: Option<Addr>, code: Option<UserControl>) -> Result<Key, ScriptL
 }
 
 fn remote_key(
-    fault: ScriptLineFault,
+    fault: AtWord<ScriptCause>,
     word: KeyWord,
     to: &[u8],
     code: &[u8],
-) -> Result<Key, ScriptLineFault>
+) -> Result<Key, AtWord<ScriptCause>>
     ensures { result ≡ remote_key fault word to.now code.now }
 {
     if word == KeyWord::Remote {
@@ -191,7 +196,7 @@ fn remote_key(
 }
 
 // A key of one word, of a word and what it takes, and of a word and two that it takes.
-fn key_of_one(fault: ScriptLineFault, word: &[u8]) -> Result<Key, ScriptLineFault>
+fn key_of_one(fault: AtWord<ScriptCause>, word: &[u8]) -> Result<Key, AtWord<ScriptCause>>
     ensures { result ≡ of_one fault (key_named word.now) }
 {
     match KeyWord::named(word) {
@@ -200,7 +205,11 @@ fn key_of_one(fault: ScriptLineFault, word: &[u8]) -> Result<Key, ScriptLineFaul
     }
 }
 
-fn key_of_two(fault: ScriptLineFault, word: &[u8], value: &[u8]) -> Result<Key, ScriptLineFault>
+fn key_of_two(
+    fault: AtWord<ScriptCause>,
+    word: &[u8],
+    value: &[u8],
+) -> Result<Key, AtWord<ScriptCause>>
     ensures { result ≡ of_two fault (key_named word.now) value.now }
 {
     match KeyWord::named(word) {
@@ -210,11 +219,11 @@ fn key_of_two(fault: ScriptLineFault, word: &[u8], value: &[u8]) -> Result<Key, 
 }
 
 fn key_of_three(
-    fault: ScriptLineFault,
+    fault: AtWord<ScriptCause>,
     word: &[u8],
     to: &[u8],
     code: &[u8],
-) -> Result<Key, ScriptLineFault>
+) -> Result<Key, AtWord<ScriptCause>>
     ensures { result ≡ of_three fault (key_named word.now) to.now code.now }
 {
     match KeyWord::named(word) {
@@ -224,7 +233,7 @@ fn key_of_three(
 }
 
 /// The key that the words left say: one word, or a word and what it takes. They stand after four others.
-pub fn key_in(rest: Option<&[u8]>) -> Result<Key, ScriptLineFault>
+pub fn key_in(rest: Option<&[u8]>) -> Result<Key, AtWord<ScriptCause>>
     ensures { result ≡ key_of (words_after (option_copied rest.entry)) }
 {
     let fault = unfit(rest);

@@ -13,7 +13,6 @@ mod script;
 mod topology;
 
 pub use course::Script;
-pub use fault::ScriptLineFault;
 pub use laws::{
     keys_begin_with_their_words, lines_add_little, lines_are_read_in_order,
     lines_keep_scripts_sound, one_script, scripts_are_sound,

@@ -5,10 +5,10 @@ ghost use Rattle.line_wave.specs.Bounds.{latest_event};
 ghost use Rattle.text_core.specs.Words.{words_after, two_of};
 ghost use Rattle.room_script.specs.Script.{is_before, level_of, notes_of, notes_with_level, pin_falls, pin_rises, pin_stays_high, pin_stays_low, pin_words, GivesNotes};
 
-use crate::fault::{at_word, misfit};
+use crate::fault::misfit;
 use crate::script::{ScriptCause, ScriptDraft, ScriptLineError, last_end, time_in, touches};
 use line_wave::{LATEST_EVENT, MOST_PULLS, Stretch};
-use text_core::two_words;
+use text_core::{at_word, two_words};
 
 /// A level of the line: false is low.
 fn level_in(word: &[u8]) -> Option<bool>

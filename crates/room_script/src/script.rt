@@ -7,7 +7,7 @@ ghost use Rattle.room_script.specs.Header.{digits_text, header_names};
 ghost use Rattle.room_script.specs.Script.{no_notes, notes_of, course_of, time_of, last_time, last_end, notes_with_event, plug_words, unplug_words, key_words, act_read, hold_words, drop_words, event_words, send_read, frame_event, pulse_fault, pulse_refusal, notes_with_pulse, pulse_words, touches, notes_with_pull, pull_words, end_words, other_words, error_at, IsFrameOf, IsSendRead, IsEventRead, IsLineRead, GivesNotes, Gives, GivesScript, IsScript};
 
 use crate::course::Script;
-use crate::fault::{ScriptLineFault, at_word, frame_word, misfit};
+use crate::fault::misfit;
 use crate::header::{has_names, header_names, text_with_digits};
 use crate::holding::hold_in;
 use crate::keys::key_in;
@@ -19,11 +19,14 @@ use line_frames::Frame;
 use line_wave::{
     LATEST_EVENT, MOST_PULLS, MOST_PULSES, PulsesError, Stretch, WIDEST_PULL, stretch_fault,
 };
-use message_text::{AssembleError, assemble, frames_are_whole};
+use message_text::{AssembleError, assemble, frame_word, frames_are_whole};
 use room_event::{Event, HeaderNames};
 use std::alloc::{AllocError, AllocFailed, Global};
 use std::fmt::{self, Write};
-use text_core::{first_line, first_word, is_skipped, number_in, one_word, three_words, two_words};
+use text_core::{
+    At, AtWord, at_word, first_line, first_word, is_skipped, number_in, one_word, three_words,
+    two_words,
+};
 use thiserror::Error;
 
 /// Widths of pulses above this many microseconds count as this many.
@@ -77,14 +80,9 @@ impl fmt::Display for ScriptCause {
 /// Why a script's text is refused.
 #[derive(Debug, Drop, Error)]
 pub enum ScriptError {
-    /// The first line at fault, counted from 1, its cause, and the word at fault, counted from 0; where a word is missing,
-    /// the number that it would have.
-    #[error("line {line}: {cause}")]
-    At {
-        line: u64,
-        cause: ScriptCause,
-        word: usize,
-    },
+    /// The first line at fault.
+    #[error(transparent)]
+    At(At<ScriptCause>),
     #[error("no memory")]
     Memory,
 }
@@ -92,7 +90,7 @@ pub enum ScriptError {
 /// Why a line is not taken.
 #[derive(Debug, Drop)]
 pub enum ScriptLineError {
-    Fault(ScriptLineFault),
+    Fault(AtWord<ScriptCause>),
     Memory,
 }
 
@@ -452,7 +450,7 @@ fn take_send(
     )
 }
 
-fn pulse_fault(fault: PulsesError) -> ScriptLineFault
+fn pulse_fault(fault: PulsesError) -> AtWord<ScriptCause>
     ensures { result ≡ pulse_fault fault }
 {
     match fault {
@@ -703,11 +701,7 @@ pub fn error_at(line: u64, error: ScriptLineError) -> ScriptError
     ensures { result ≡ error_at line error }
 {
     match error {
-        ScriptLineError::Fault(fault) => ScriptError::At {
-            line,
-            cause: fault.cause,
-            word: fault.word,
-        },
+        ScriptLineError::Fault(fault) => ScriptError::At(fault.on_line(line)),
         ScriptLineError::Memory => ScriptError::Memory,
     }
 }
@@ -739,11 +733,11 @@ pub fn parse_script(alloc: Global, topology: &Topology, text: &[u8]) -> Result<S
         number += 1;
     }
     let Some(end) = draft.end else {
-        return Err(ScriptError::At {
+        return Err(ScriptError::At(At {
             line: number,
             cause: ScriptCause::End,
             word: 0,
-        });
+        }));
     };
     Ok(Script {
         events: draft.events,

@@ -3,14 +3,17 @@ ghost use Rattle.std.specs.Prelude.{◌≡◌, ◌+◌, ◌<◌, ◌≤◌, leng
 ghost use Rattle.std.specs.Option.{option_copied};
 ghost use Rattle.text_core.specs.Words.{words_after, one_of, three_of};
 ghost use Rattle.room_script.specs.declared.topology.TopologyLineError.TheVariants.{Fault};
-ghost use Rattle.room_script.specs.Topology.{plan_of, at_word, misfit, device_line, plug_line, edid_line, line_read, topology_of, error_at, GivesLine, GivesTopology};
+ghost use Rattle.room_script.specs.Topology.{plan_of, misfit, device_line, plug_line, edid_line, line_read, topology_of, error_at, GivesLine, GivesTopology};
+ghost use Rattle.text_core.specs.At.{at_word};
 
 use crate::counting::word_count;
 use edid_tree::{AddError, PlugError, Tree, is_name};
 use hex::FromHexError;
 use std::alloc::Global;
 use std::fmt::{self, Write};
-use text_core::{Kind, first_line, first_word, is_skipped, number_in, one_word, three_words};
+use text_core::{
+    At, AtWord, Kind, at_word, first_line, first_word, is_skipped, number_in, one_word, three_words,
+};
 use thiserror::Error;
 
 /// Why a line of a topology is refused: the first of these that applies.
@@ -66,36 +69,24 @@ impl fmt::Display for TopologyCause {
 /// Why a topology's text is refused.
 #[derive(Debug, Drop, Error)]
 pub enum TopologyError {
-    /// The first line at fault, counted from 1, its cause, and the word at fault, counted from 0; where a word is missing,
-    /// the number that it would have.
-    #[error("line {line}: {cause}")]
-    At {
-        line: u64,
-        cause: TopologyCause,
-        word: usize,
-    },
+    /// The first line at fault.
+    #[error(transparent)]
+    At(At<TopologyCause>),
     #[error("no memory")]
     Memory,
-}
-
-/// Why a line is refused, and the word at fault, counted from 0; where a word is missing, the number that it would have.
-#[derive(Clone, Copy, Debug, Drop)]
-struct TopologyLineFault {
-    cause: TopologyCause,
-    word: usize,
 }
 
 /// Why a line is not taken.
 #[derive(Debug, Drop)]
 enum TopologyLineError {
-    Fault(TopologyLineFault),
+    Fault(AtWord<TopologyCause>),
     Memory,
 }
 
-fn at_word(word: usize, cause: TopologyCause) -> TopologyLineError
+fn fault(word: usize, cause: TopologyCause) -> TopologyLineError
     ensures { result ≡ Fault (at_word word cause) }
 {
-    TopologyLineError::Fault(TopologyLineFault { cause, word })
+    TopologyLineError::Fault(at_word(word, cause))
 }
 
 // Of words after the first one, of which others than so many are left.
@@ -103,7 +94,7 @@ fn misfit(rest: Option<&[u8]>, wanted: usize) -> TopologyLineError
     requires few { wanted ≤ 3 }
     ensures { result ≡ Fault (misfit (length (words_after (option_copied rest.entry))) wanted) }
 {
-    at_word(1 + word_count(rest, wanted), TopologyCause::Word)
+    fault(1 + word_count(rest, wanted), TopologyCause::Word)
 }
 
 impl From<AddError> for TopologyLineError {
@@ -115,9 +106,9 @@ impl From<AddError> for TopologyLineError {
 
     fn from(error: AddError) -> TopologyLineError {
         match error {
-            AddError::Full => at_word(0, TopologyCause::Full),
-            AddError::Name => at_word(1, TopologyCause::Name),
-            AddError::SecondRoot => at_word(2, TopologyCause::SecondRoot),
+            AddError::Full => fault(0, TopologyCause::Full),
+            AddError::Name => fault(1, TopologyCause::Name),
+            AddError::SecondRoot => fault(2, TopologyCause::SecondRoot),
         }
     }
 }
@@ -131,10 +122,10 @@ impl From<PlugError> for TopologyLineError {
 
     fn from(error: PlugError) -> TopologyLineError {
         match error {
-            PlugError::PortRange => at_word(3, TopologyCause::PortRange),
-            PlugError::PortTaken => at_word(3, TopologyCause::PortTaken),
-            PlugError::NotLoose => at_word(1, TopologyCause::NotLoose),
-            PlugError::Loop => at_word(2, TopologyCause::Loop),
+            PlugError::PortRange => fault(3, TopologyCause::PortRange),
+            PlugError::PortTaken => fault(3, TopologyCause::PortTaken),
+            PlugError::NotLoose => fault(1, TopologyCause::NotLoose),
+            PlugError::Loop => fault(2, TopologyCause::Loop),
         }
     }
 }
@@ -154,16 +145,16 @@ fn add_device(topology: &mut Topology, rest: Option<&[u8]>) -> Result<(), Topolo
         return Err(misfit(rest, 3));
     };
     let Some(kind) = Kind::named(kind) else {
-        return Err(at_word(2, TopologyCause::Word));
+        return Err(fault(2, TopologyCause::Word));
     };
     let Some(ports) = number_in(ports) else {
-        return Err(at_word(3, TopologyCause::Number));
+        return Err(fault(3, TopologyCause::Number));
     };
     if ports > 15 {
-        return Err(at_word(3, TopologyCause::Number));
+        return Err(fault(3, TopologyCause::Number));
     }
     if !is_name(name) || topology.tree.device_named(name).is_some() {
-        return Err(at_word(1, TopologyCause::Name));
+        return Err(fault(1, TopologyCause::Name));
     }
     topology.tree.add(name, kind, ports as u8)?;
     Ok(())
@@ -177,13 +168,13 @@ fn add_plug(topology: &mut Topology, rest: Option<&[u8]>) -> Result<(), Topology
         return Err(misfit(rest, 3));
     };
     let Some(port) = number_in(port) else {
-        return Err(at_word(3, TopologyCause::Number));
+        return Err(fault(3, TopologyCause::Number));
     };
     let Some(child) = topology.tree.device_named(child) else {
-        return Err(at_word(1, TopologyCause::Name));
+        return Err(fault(1, TopologyCause::Name));
     };
     let Some(parent) = topology.tree.device_named(parent) else {
-        return Err(at_word(2, TopologyCause::Name));
+        return Err(fault(2, TopologyCause::Name));
     };
     topology.tree.plug(child, parent, port.min(255) as u8)?;
     Ok(())
@@ -201,10 +192,10 @@ fn add_edid(
         return Err(misfit(rest, 1));
     };
     if topology.edid.is_some() {
-        return Err(at_word(0, TopologyCause::Word));
+        return Err(fault(0, TopologyCause::Word));
     }
     if word.is_empty() {
-        return Err(at_word(1, TopologyCause::Hex));
+        return Err(fault(1, TopologyCause::Hex));
     }
     match hex::decode(alloc, word) {
         Ok(bytes) => {
@@ -212,7 +203,7 @@ fn add_edid(
             Ok(())
         }
         Err(FromHexError::OutOfMemory) => Err(TopologyLineError::Memory),
-        Err(_) => Err(at_word(1, TopologyCause::Hex)),
+        Err(_) => Err(fault(1, TopologyCause::Hex)),
     }
 }
 
@@ -231,7 +222,7 @@ fn take_line(alloc: Global, topology: &mut Topology, line: &[u8]) -> Result<(), 
     } else if verb == b"edid".as_slice() {
         add_edid(alloc, topology, rest)
     } else {
-        Err(at_word(0, TopologyCause::Word))
+        Err(fault(0, TopologyCause::Word))
     }
 }
 
@@ -239,11 +230,7 @@ fn error_at(line: u64, error: TopologyLineError) -> TopologyError
     ensures { result ≡ error_at line error }
 {
     match error {
-        TopologyLineError::Fault(fault) => TopologyError::At {
-            line,
-            cause: fault.cause,
-            word: fault.word,
-        },
+        TopologyLineError::Fault(fault) => TopologyError::At(fault.on_line(line)),
         TopologyLineError::Memory => TopologyError::Memory,
     }
 }
@@ -272,11 +259,7 @@ pub fn parse_topology(alloc: Global, text: &[u8]) -> Result<Topology, TopologyEr
         number += 1;
     }
     if !topology.tree.has_root() {
-        return Err(TopologyError::At {
-            line: number,
-            cause: TopologyCause::NoRoot,
-            word: 0,
-        });
+        return Err(TopologyError::At(at_word(0, TopologyCause::NoRoot).on_line(number)));
     }
     Ok(topology)
 }

@@ -1,6 +1,7 @@
 use Rattle.std.proofs.Common.{rules, ◌≡◌, ◌≤◌, ℕ, length, drop, Option, MatchOption, Result, Ok, Err, refl, sym, subst}
 use Rattle.room_script.specs.Script.{Gives, Notes, IsLineRead, notes_of}
-use Rattle.room_script.specs.declared.fault.ScriptLineFault.{ScriptLineFault}
+use Rattle.text_core.specs.declared.at.AtWord.{AtWord}
+use Rattle.room_script.specs.declared.script.ScriptCause.{ScriptCause}
 use Rattle.live_session.specs.declared.live.Step.{Step}
 use Rattle.live_session.specs.Note.{IsSettled}
 use Rattle.live_session.proofs.Extends.{few_new, line_extends}
@@ -29,7 +30,7 @@ returns-in-Err c =
     let old = notes_of c.args.draft.now in
     let new = notes_of c.take_line.new.draft in
     subst (λ (r : Option Step). MatchOption r ((new ≡ old) × (c.args.horizon.now ≡ c.args.horizon.now) × (c.args.net.now ≡ c.args.net.now))
-    (λ step. (read : Result Notes ScriptLineFault) × IsLineRead c.args.tree.now old (length c.args.net.now.pulses) c.args.number c.args.line.now read
+    (λ step. (read : Result Notes (AtWord ScriptCause)) × IsLineRead c.args.tree.now old (length c.args.net.now.pulses) c.args.number c.args.line.now read
     × IsSettled (record { notes = old; horizon = c.args.horizon.now; net = c.args.net.now }) read step (record { notes = new; horizon = c.args.horizon.now; net = c.args.net.now })))
     (sym c.refused_by.ensures)
     (refused_note c.args.tree.now (length c.args.net.now.pulses) c.args.number c.args.line.now old new c.args.horizon.now c.args.net.now c.in-Err.error
