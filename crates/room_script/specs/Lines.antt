@@ -6,7 +6,9 @@ use Rattle.line_wave.specs.Pulls.{are_timely}
 use Rattle.line_wave.specs.Bounds.{latest_event, most_pulls, most_pulses}
 use Rattle.edid_tree.specs.Node.{Node}
 use Rattle.room_script.specs.declared.script.TimedEvent.{TimedEvent}
-use Rattle.room_script.specs.Script.{Course, Notes, ScriptFault, last_time, no_notes, AreFramedEvents, AreLinesRead, IsLineRead, IsNoWider, IsSchedule, MayFall}
+use Rattle.text_core.specs.declared.at.At.{At}
+use Rattle.room_script.specs.declared.script.ScriptCause.{ScriptCause}
+use Rattle.room_script.specs.Script.{Course, Notes, last_time, no_notes, AreFramedEvents, AreLinesRead, IsLineRead, IsNoWider, IsSchedule, MayFall}
 
 -- ---- what the lines so far keep
 
@@ -75,7 +77,7 @@ LinesAreOfScripts = (tree : List Node) (notes next : Notes) (waiting line : ℕ)
 
 -- the first of some lines, and those after it
 abbrev pub LinesFollow : Type 0
-LinesFollow = (tree : List Node) (texts after : List (List ℕ)) (text : List ℕ) (line : ℕ) (notes next : Notes) (read : Result Course ScriptFault) → texts ≡ text ∷ after
+LinesFollow = (tree : List Node) (texts after : List (List ℕ)) (text : List ℕ) (line : ℕ) (notes next : Notes) (read : Result Course (At ScriptCause)) → texts ≡ text ∷ after
     → IsLineRead tree notes (length notes.pulses) line text (Ok next) → AreLinesRead tree after (line + 1) next read → AreLinesRead tree texts line notes read
 
 -- after the last line
