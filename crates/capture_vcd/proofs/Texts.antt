@@ -4,7 +4,8 @@ use Rattle.std.specs.Fmt.{decimal}
 use Rattle.std.specs.Char.{digit_value}
 use Rattle.std.proofs.lemmas.Bool.Decides.{nat_tests}
 use Rattle.std.proofs.lemmas.List.Splits.{slice_split_none}
-use Rattle.capture_core.proofs.Texts.{Lacks, none_lack, more_lack, number_lacks, number_plain}
+use Rattle.capture_core.specs.Texts.{Lacks}
+use Rattle.capture_core.proofs.Texts.{none_lack, more_lack, number_lacks, number_plain}
 use Rattle.capture_vcd.specs.Dump.{is_space, parts_of}
 
 digit_space : (c : ℕ) → digit_value c < 10 → is_space c ≡ false

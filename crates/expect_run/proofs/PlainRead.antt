@@ -6,7 +6,8 @@ use Rattle.std.proofs.lemmas.List.Elements.{All-append, All-head, All-tail}
 use Rattle.edid_tree.specs.Node.{Node}
 use Rattle.text_core.specs.Lines.{lines_of}
 use Rattle.text_core.specs.Words.{words_of, text_of}
-use Rattle.capture_core.proofs.Texts.{Lacks, more_lack, none_lack}
+use Rattle.capture_core.specs.Texts.{Lacks}
+use Rattle.capture_core.proofs.Texts.{more_lack, none_lack}
 use Rattle.room_script.specs.Fault.{at_word}
 use Rattle.room_script.specs.Script.{Course, Notes, ScriptFault, AreLinesRead, Gives, GivesScript, IsLineRead, IsScriptRead, course_at_end, error_at, fault_at, no_notes}
 use Rattle.room_script.specs.declared.fault.ScriptLineFault.{ScriptLineFault}

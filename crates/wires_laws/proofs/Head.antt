@@ -4,7 +4,8 @@ use Rattle.std.specs.List.{flat_map, list_all, range_with_len}
 use Rattle.std.specs.Str.{bytes_eq}
 use Rattle.std.proofs.lemmas.List.Elements.{All-append}
 use Rattle.std.proofs.lemmas.List.Splits.{slice_split_at}
-use Rattle.capture_core.proofs.Texts.{Lacks, more_lack, none_lack, shown}
+use Rattle.capture_core.specs.Texts.{Lacks}
+use Rattle.capture_core.proofs.Texts.{more_lack, none_lack, shown}
 use Rattle.capture_vcd.specs.Dump.{is_end, is_space, parts_of}
 use Rattle.capture_vcd.specs.Wire.{is_some_word, wire_from, wire_in, words_in}
 use Rattle.capture_wires.specs.Wires.{closing, head, high_at_first, id_of, opening, variable, variables}
