@@ -46,7 +46,7 @@ abbrev pub edges_of : List Stretch → List Edge
 edges_of [] = []
 edges_of (s ∷ ss) = record { at = s.from; low = true } ∷ record { at = s.to; low = false } ∷ edges_of ss
 
--- edges in turn leave the level before the first one
+-- edges in turn keep the level before the first one
 abbrev pub LevelsStayBefore : Type 0
 LevelsStayBefore = (b : Bool) (from : ℕ) (es : List Edge) → AreInTurn b from es → (u : ℕ) → u < from → level_at b es u ≡ b
 
@@ -56,8 +56,10 @@ EdgesAreInTurnSooner = (b : Bool) (from before : ℕ) (es : List Edge) → befor
 
 -- an edge that is known before others comes no later than their end
 abbrev pub KnownEdgesAreEarly : Type 0
-KnownEdgesAreEarly = (edge : Option Edge) (edges : List Edge) (end limit : ℕ) → EndBy end (option_to_list edge ++ edges) → end ≤ limit → IfSome edge (λ e. e.at ≤ limit)
+KnownEdgesAreEarly = (edge : Option Edge) (edges : List Edge) (end limit : ℕ) → EndBy end (option_to_list edge ++ edges) → end ≤ limit
+    → IfSome edge (λ e. e.at ≤ limit)
 
--- a line that is high from an end on has no stretch past it
+-- a wave that is high from an end on has no stretch past it
 abbrev pub HighLinesHaveEnded : Type 0
-HighLinesHaveEnded = (ss : List Stretch) (from end : ℕ) → IsWaveFrom from ss → ((u : ℕ) → end ≤ u → line_of ss u ≡ false) → EndsBy end ss
+HighLinesHaveEnded = (ss : List Stretch) (from end : ℕ) → IsWaveFrom from ss → ((u : ℕ) → end ≤ u → line_of ss u ≡ false)
+    → EndsBy end ss

@@ -25,28 +25,33 @@ pub record Onward (S : Type 0) (form : Form S) (number : ℕ) (line : List ℕ) 
 
 -- the edges of a word that is taken come before those of the words after it
 abbrev pub WordsAreTaken : Type 0 → Type 0
-WordsAreTaken S = (form : Form S) (line number : ℕ) (word : List ℕ) (words : List (List ℕ)) (s : S) (step : Step S) → form.took number word s ≡ Ok step
+WordsAreTaken S = (form : Form S) (line number : ℕ) (word : List ℕ) (words : List (List ℕ)) (s : S) (step : Step S)
+    → form.took number word s ≡ Ok step
     → words_read form line number (word ∷ words) s ≡ onto (option_to_list step.edge) (words_read form line (number + 1) words step.state)
 
 -- those of a line that is passed before those of the lines after it
 abbrev pub LinesArePassed : Type 0 → Type 0
-LinesArePassed S = (form : Form S) (number : ℕ) (line : List ℕ) (lines : List (List ℕ)) (s t : S) (edges : List Edge) → line_read form number line s ≡ Ok (record { edges = edges; state = t })
+LinesArePassed S = (form : Form S) (number : ℕ) (line : List ℕ) (lines : List (List ℕ)) (s t : S) (edges : List Edge)
+    → line_read form number line s ≡ Ok (record { edges = edges; state = t })
     → lines_read form number (line ∷ lines) s ≡ with_edges edges (lines_read form (number + 1) lines t)
 
 -- a line of one word is passed where its word is taken
 abbrev pub WordsAloneArePassed : Type 0 → Type 0
-WordsAloneArePassed S = (form : Form S) (number : ℕ) (line : List ℕ) (lines : List (List ℕ)) (s : S) (step : Step S) → slice_split form.is_gap line ≡ line ∷ [] → form.took 0 line s ≡ Ok step
+WordsAloneArePassed S = (form : Form S) (number : ℕ) (line : List ℕ) (lines : List (List ℕ)) (s : S) (step : Step S)
+    → slice_split form.is_gap line ≡ line ∷ [] → form.took 0 line s ≡ Ok step
     → lines_read form number (line ∷ lines) s ≡ with_edges (option_to_list step.edge) (lines_read form (number + 1) lines step.state)
 
 -- the first line of a text that is read is passed
 abbrev pub ReadTextsPassLines : Type 0 → Type 0
-ReadTextsPassLines S = (form : Form S) (number : ℕ) (line : List ℕ) (lines : List (List ℕ)) (s : S) (e : Captured) → lines_read form number (line ∷ lines) s ≡ Ok e → LineOnward S form number line lines s e
+ReadTextsPassLines S = (form : Form S) (number : ℕ) (line : List ℕ) (lines : List (List ℕ)) (s : S) (e : Captured)
+    → lines_read form number (line ∷ lines) s ≡ Ok e → LineOnward S form number line lines s e
 
 -- where it is one word, that is taken
 abbrev pub ReadTextsTakeWords : Type 0 → Type 0
-ReadTextsTakeWords S = (form : Form S) (number : ℕ) (line : List ℕ) (lines : List (List ℕ)) (s : S) (e : Captured) → slice_split form.is_gap line ≡ line ∷ [] → lines_read form number (line ∷ lines) s ≡ Ok e
+ReadTextsTakeWords S = (form : Form S) (number : ℕ) (line : List ℕ) (lines : List (List ℕ)) (s : S) (e : Captured)
+    → slice_split form.is_gap line ≡ line ∷ [] → lines_read form number (line ∷ lines) s ≡ Ok e
     → Onward S form number line lines s e
 
--- where the cause of a refusal is told with its word, what is taken stays
+-- what a word leads to is the same where a refusal has the number of its word
 abbrev pub StepsStay : Type 0 → Type 0
 StepsStay S = (word : ℕ) (stepped : Result (Step S) Cause) (step : Step S) → at_word word stepped ≡ Ok step → stepped ≡ Ok step

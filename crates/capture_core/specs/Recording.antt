@@ -22,18 +22,22 @@ EndsAreRecorded = (t : Track) → Records t (option_to_list (last_edge t)) [] t.
 
 -- a level is a sample at the track's instant
 abbrev pub LevelsAreRecorded : Type 0
-LevelsAreRecorded = (t : Track) (low : Bool) (edges : List Edge) (samples : List Sample) (end : ℕ) → Records (with_level low t) edges samples end
+LevelsAreRecorded = (t : Track) (low : Bool) (edges : List Edge) (samples : List Sample) (end : ℕ)
+    → Records (with_level low t) edges samples end
     → Records t edges (record { at = t.at; low = low } ∷ samples) end
 
 -- an instant that is come to adds the edge that is known by it
 abbrev pub MovesAreRecorded : Type 0
-MovesAreRecorded = (u : ℕ) (t : Track) (m : Moved) (edges : List Edge) (samples : List Sample) (end : ℕ) → track_move u t ≡ Some m → Records m.track edges samples end
+MovesAreRecorded = (u : ℕ) (t : Track) (m : Moved) (edges : List Edge) (samples : List Sample) (end : ℕ) → track_move u t ≡ Some m
+    → Records m.track edges samples end
     → Records t (option_to_list m.edge ++ edges) samples end
 
 -- from the begin on the edges are those of a capture
 abbrev pub RecordsAreCaptures : Type 0
-RecordsAreCaptures = (edges : List Edge) (samples : List Sample) (end : ℕ) → end ≤ latest_instant → Records first_track edges samples end → IsCapture edges end
+RecordsAreCaptures = (edges : List Edge) (samples : List Sample) (end : ℕ) → end ≤ latest_instant
+    → Records first_track edges samples end → IsCapture edges end
 
 -- and their line has the levels of the samples
 abbrev pub RecordsAreTheLine : Type 0
-RecordsAreTheLine = (edges : List Edge) (samples : List Sample) (end : ℕ) → Records first_track edges samples end → (u : ℕ) → line_of_edges edges u ≡ level_in false samples u
+RecordsAreTheLine = (edges : List Edge) (samples : List Sample) (end : ℕ) → Records first_track edges samples end → (u : ℕ)
+    → line_of_edges edges u ≡ level_in false samples u

@@ -52,12 +52,15 @@ MovesComeThere = (u : ℕ) (t : Track) (m : Moved) → track_move u t ≡ Some m
 
 -- the line turned at the instant before
 abbrev pub TurnsAreReported : Type 0
-TurnsAreReported = (t at : ℕ) (b : Bool) → at < t → track_move t (track_at at (not b) b) ≡ Some (record { track = track_at t b b; edge = Some (record { at = at; low = b }) })
+TurnsAreReported = (t at : ℕ) (b : Bool) → at < t
+    → track_move t (track_at at (not b) b) ≡ Some (record { track = track_at t b b; edge = Some (record { at = at; low = b }) })
 
 -- it did not turn
 abbrev pub QuietMoves : Type 0
-QuietMoves = (t at : ℕ) (b : Bool) → at ≤ t → track_move t (track_at at b b) ≡ Some (record { track = track_at t b b; edge = None })
+QuietMoves = (t at : ℕ) (b : Bool) → at ≤ t
+    → track_move t (track_at at b b) ≡ Some (record { track = track_at t b b; edge = None })
 
 -- the same instant
 abbrev pub MovesInPlace : Type 0
-MovesInPlace = (t : ℕ) (was is : Bool) → track_move t (track_at t was is) ≡ Some (record { track = track_at t was is; edge = None })
+MovesInPlace = (t : ℕ) (was is : Bool)
+    → track_move t (track_at t was is) ≡ Some (record { track = track_at t was is; edge = None })

@@ -21,15 +21,15 @@ pub fn numbers_are_read_again()
     ensures value { (n : ℕ) → n < 2 ^ 64 → value_of (decimal n) ≡ n }
 {}
 
-/// The empty text lacks all bytes, and a text those that its first byte is not and the others lack. A text that a test finds
-/// none of them in lacks them.
+/// The empty text lacks all bytes. A text lacks some bytes where its first byte is none of them and the others lack them, and
+/// where a test finds none of them.
 pub fn texts_lack_bytes()
     ensures none { (p : ℕ → Bool) → Lacks p [] }
     ensures more { (p : ℕ → Bool) (c : ℕ) (bytes : List ℕ) → p c ≡ false → Lacks p bytes → Lacks p (c ∷ bytes) }
     ensures shown { (p : ℕ → Bool) (text : List ℕ) → list_all (λ c. not (p c)) text ≡ true → Lacks p text }
 {}
 
-/// Digits, and so the decimal text of a number, lack the bytes that are no digits, as each byte below the digits and the line
+/// Digits, and so the decimal text of a number, lack every byte that is no digit: each byte below the digits, and so the line
 /// feed.
 pub fn digits_lack_other_bytes()
     ensures digits { (p : ℕ → Bool) (ds : List ℕ) → ((c : ℕ) → digit_value c < 10 → p c ≡ false) → AllDigits 10 ds → Lacks p ds }
@@ -38,34 +38,34 @@ pub fn digits_lack_other_bytes()
     ensures line_feed { (n : ℕ) → n < 2 ^ 64 → Lacks (λ c. c == 10) (decimal n) }
 {}
 
-/// Bytes that lack a line feed are a line where one comes after them, and the lines of what comes after it follow.
+/// Bytes without a line feed, before one, are the first line of a text, and the lines after that line feed are the others.
 pub fn lines_end_at_line_feeds()
     ensures { (line rest : List ℕ) → Lacks (λ c. c == 10) line → lines_of (line ++ 10 ∷ rest) ≡ line ∷ lines_of rest }
 {}
 
-/// The nine decimals of microseconds are read as they were. They begin after the first dot.
+/// The nine decimals of microseconds are read as they were, and the dot before decimals is the first one.
 pub fn decimals_are_read_again()
     ensures decimals { (n : ℕ) → n < 1000000 → decimals_of (nine_digits n) ≡ Some (n * 1000) }
     ensures dot { (xs r : List ℕ) → Lacks (λ c. c == 46) xs → dot_in (xs ++ 46 ∷ r) ≡ length xs }
 {}
 
-/// Levels in nanoseconds and their samples in microseconds tell one line. The samples of some levels and of further ones come
-/// in that order, and whole microseconds are not rounded.
+/// Levels in nanoseconds and their samples in microseconds tell one line. The samples of further levels come after those of
+/// the levels before them, and whole microseconds stay as they are.
 pub fn levels_are_sampled()
     ensures line { (b : Bool) (ls : List Level) (u : ℕ) → level_in b (samples_of ls) u ≡ level_of b ls u }
     ensures both { (a b : List Level) → samples_of (a ++ b) ≡ samples_of a ++ samples_of b }
     ensures whole { (at : ℕ) → at ≡ rounded (at * 1000) }
 {}
 
-/// Edges in turn leave the level before the first of them, are in turn from each earlier instant on too, and the first of them
-/// is not after their end.
+/// Edges in turn keep the level before the first of them, and are in turn from each earlier instant on. An edge that is known
+/// before others is not after their end.
 pub fn edges_are_in_turn()
     ensures before { LevelsStayBefore }
     ensures sooner { EdgesAreInTurnSooner }
     ensures early { KnownEdgesAreEarly }
 {}
 
-/// A line that is high from an end on has no stretch past it.
+/// A wave that is high from an end on has no stretch past it.
 pub fn high_lines_have_ended()
     ensures { HighLinesHaveEnded }
 {}
@@ -97,7 +97,8 @@ pub fn texts_are_read_in_order<S>()
     ensures alone { WordsAloneArePassed S }
 {}
 
-/// Of a text that is read the first line is passed, where it is one word that word is taken, and the rest is read.
+/// Of a text that is read the first line is passed, or the one word of that line is taken, and the rest is read. What a word
+/// leads to is the same where a refusal has the number of its word.
 pub fn read_texts_go_on<S>()
     ensures lines { ReadTextsPassLines S }
     ensures words { ReadTextsTakeWords S }

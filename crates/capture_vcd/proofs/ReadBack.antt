@@ -20,12 +20,12 @@ use Rattle.capture_core.specs.declared.fault.CaptureFault.{CaptureFault}
 use Rattle.capture_core.proofs.Passing.{alone, line_passed}
 use Rattle.capture_vcd.specs.Scale.{instant_of}
 use Rattle.capture_vcd.specs.Dump.{State, after_time, dump_form, first_state, no_edge, parts_of, timed_by, took}
-use Rattle.capture_vcd.specs.Text.{head, changes, last, DumpsAreReadBack}
+use Rattle.capture_vcd.specs.Text.{head, changes, last, time_line, DumpsAreReadBack}
 use Rattle.capture_vcd.specs.declared.scale.Scale.{Scale as ScaleOf}
 use Rattle.capture_vcd.specs.declared.scale.Unit.TheVariants.{Microsecond}
 use Rattle.capture_vcd.specs.declared.scale.Count.TheVariants.{One}
 use Rattle.capture_vcd.specs.declared.reader.Section.TheVariants as section
-use Rattle.capture_vcd.proofs.Texts.{time_line, value_line, time_plain, value_plain, time_parts, value_parts}
+use Rattle.capture_vcd.proofs.Texts.{value_line, time_plain, value_plain, time_parts, value_parts}
 
 abbrev scale : ScaleOf
 scale = record { count = One; unit = Microsecond }
