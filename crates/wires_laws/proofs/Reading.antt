@@ -19,14 +19,14 @@ use Rattle.capture_core.specs.Reading.{at_word, lines_read, with_edges, words_re
 use Rattle.capture_core.proofs.Passing.{line_passed, word_taken}
 use Rattle.capture_vcd.specs.Scale.{instant_of}
 use Rattle.capture_vcd.specs.Dump.{State, after_time, dump_form, no_edge, parts_of, timed_by, took}
-use Rattle.capture_vcd.specs.Text.{last}
+use Rattle.capture_vcd.specs.Text.{last, time_line}
 use Rattle.capture_vcd.specs.declared.reader.Section.TheVariants as section
-use Rattle.capture_vcd.proofs.Texts.{time_line, time_parts, time_plain}
+use Rattle.capture_vcd.proofs.Texts.{time_parts, time_plain}
 use Rattle.capture_wires.specs.Wires.{change_text, changes_from, high_at_first, id_of, instant_text, turns, wires_text}
-use Rattle.wires_laws.specs.Dumps.{AreSpans, Span}
+use Rattle.wires_laws.specs.Dumps.{AreSpans, Span, spans_text}
 use Rattle.wires_laws.proofs.Levels.{micro}
 use Rattle.wires_laws.proofs.Words.{line_parted, value_parts, value_plain, value_word}
-use Rattle.wires_laws.proofs.Changes.{ends_span, spans_text}
+use Rattle.wires_laws.proofs.Changes.{ends_span}
 
 -- what is left is read up to an end
 pub record Ends (end : ℕ) (text : List ℕ) (s : State) (number : ℕ) : Type 0 where

@@ -14,7 +14,8 @@ use Rattle.capture_core.specs.Texts.{Lacks}
 use Rattle.capture_core.proofs.Texts.{line_before, more_lack, none_lack, shown}
 use Rattle.capture_vcd.specs.Dump.{is_end, is_space, parts_of}
 use Rattle.capture_vcd.specs.Wire.{is_some_word, words_in}
-use Rattle.capture_vcd.proofs.Texts.{time_line, time_parts, time_plain}
+use Rattle.capture_vcd.specs.Text.{time_line}
+use Rattle.capture_vcd.proofs.Texts.{time_parts, time_plain}
 use Rattle.capture_wires.specs.Wires.{change_text, changes_from, id_of, instant_text, turns}
 
 -- ---- one line
