@@ -6,7 +6,8 @@ use Rattle.std.proofs.lemmas.Bool.Decides.{nat_tests}
 use Rattle.line_reading.specs.Readings.{Listed, readings_of}
 use Rattle.text_core.specs.Lines.{lines_of}
 use Rattle.capture_core.specs.Edges.{line_of_edges}
-use Rattle.capture_core.proofs.Texts.{Lacks, line_before, more_lack, none_lack}
+use Rattle.capture_core.specs.Texts.{Lacks}
+use Rattle.capture_core.proofs.Texts.{line_before, more_lack, none_lack}
 use Rattle.message_text.specs.ReadingText.{reading_text}
 use Rattle.capture_monitor.specs.Watch.{listed_line, reading_as, readings_text}
 use Rattle.audit_core.specs.Audit.{audit_text}

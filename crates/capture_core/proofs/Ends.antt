@@ -1,17 +1,10 @@
 -- A line that is high from an end on has no stretch past it.
-use Rattle.std.proofs.Common.{◌≡◌, ℕ, ◌+◌, ◌-◌, ◌<◌, ◌≤◌, ◌||◌, Bool, true, false, nat_le, List, [], ◌∷◌, ◌++◌, Option, Some, None, IfSome, refl, sym, ◌∙◌, arith}
-use Rattle.std.specs.Option.{option_to_list}
+use Rattle.std.proofs.Common.{◌≡◌, ℕ, ◌+◌, ◌-◌, ◌<◌, ◌≤◌, ◌||◌, Bool, true, false, nat_le, [], ◌∷◌, Some, None, refl, sym, ◌∙◌, arith}
 use Rattle.std.proofs.lemmas.Bool.{false≢true}
 use Rattle.std.proofs.lemmas.Bool.Decides.{nat_tests}
-use Rattle.line_wave.specs.declared.Edge.{Edge}
 use Rattle.line_wave.specs.declared.Stretch.{Stretch}
-use Rattle.line_wave.specs.Line.{covers, line_of, IsWaveFrom}
-use Rattle.capture_core.specs.Edges.{EndBy}
-
--- no stretch goes past the end
-abbrev pub EndsBy : ℕ → List Stretch → Type 0
-EndsBy end [] = Unit {0}
-EndsBy end (s ∷ ss) = (s.to ≤ end) × EndsBy end ss
+use Rattle.line_wave.specs.Line.{covers, line_of}
+use Rattle.capture_core.specs.Edges.{HighLinesHaveEnded, KnownEdgesAreEarly}
 
 or_left : (a b : Bool) → (a || b) ≡ false → a ≡ false
 or_left true b h = h
@@ -28,7 +21,7 @@ by_end : (b : Bool) (to end : ℕ) → nat_le to end ≡ b → (end < to → ⊥
 by_end true to end e h = grind (arith, nat_tests)
 by_end false to end e h = absurd (h (grind (arith, nat_tests)))
 
-pub ends_by : (ss : List Stretch) (from end : ℕ) → IsWaveFrom from ss → ((u : ℕ) → end ≤ u → line_of ss u ≡ false) → EndsBy end ss
+pub ends_by : HighLinesHaveEnded
 ends_by [] from end wave high = tt
 ends_by (s ∷ ss) from end wave high = (
   by_end (nat_le s.to end) s.to end refl
@@ -37,6 +30,6 @@ ends_by (s ∷ ss) from end wave high = (
 )
 
 -- an edge that is known before others comes no later than their end
-pub edge_by : (edge : Option Edge) (edges : List Edge) (end limit : ℕ) → EndBy end (option_to_list edge ++ edges) → end ≤ limit → IfSome edge (λ e. e.at ≤ limit)
+pub edge_by : KnownEdgesAreEarly
 edge_by None edges end limit ends l = tt
 edge_by (Some e) edges end limit ends l = let at = ends.0 in omega arith

@@ -1,10 +1,7 @@
 -- Levels in nanoseconds as samples in microseconds.
-use Rattle.std.proofs.Common.{◌≡◌, ℕ, ◌+◌, ◌*◌, ◌/◌, Bool, nat_le, if◌then◌else◌, List, [], ◌∷◌, ◌++◌, refl, ap, ◌∙◌, arith}
+use Rattle.std.proofs.Common.{◌≡◌, ℕ, ◌*◌, Bool, nat_le, if◌then◌else◌, List, [], ◌∷◌, ◌++◌, refl, ap, ◌∙◌, arith}
 use Rattle.std.proofs.lemmas.Bool.Decides.{nat_tests}
-use Rattle.capture_core.specs.Samples.{Level, Sample, level_in, level_of}
-
-abbrev pub rounded : ℕ → ℕ
-rounded since = (since + 999) / 1000
+use Rattle.capture_core.specs.Samples.{Level, level_in, level_of, rounded, samples_of}
 
 rounded_by : (since u : ℕ) → nat_le (rounded since) u ≡ nat_le since (u * 1000)
 rounded_by since u = grind (arith, nat_tests)
@@ -12,10 +9,6 @@ rounded_by since u = grind (arith, nat_tests)
 -- whole microseconds are themselves
 pub rounded_whole : (at : ℕ) → at ≡ rounded (at * 1000)
 rounded_whole at = omega arith
-
-abbrev pub samples_of : List Level → List Sample
-samples_of [] = []
-samples_of (l ∷ ls) = record { at = rounded l.since; low = l.low } ∷ samples_of ls
 
 pub samples_both : (a b : List Level) → samples_of (a ++ b) ≡ samples_of a ++ samples_of b
 samples_both [] b = refl

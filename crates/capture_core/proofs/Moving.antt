@@ -1,15 +1,10 @@
 -- A track that comes to an instant.
-use Rattle.std.proofs.Common.{◌≡◌, ℕ, ◌<◌, ◌≤◌, ◌&&◌, not, Bool, true, false, nat_lt, Option, Some, None, refl, arith}
+use Rattle.std.proofs.Common.{◌≡◌, ◌&&◌, not, Bool, true, false, nat_lt, Some, None, refl, arith}
 use Rattle.std.proofs.lemmas.Bool.Decides.{nat_tests}
-use Rattle.line_wave.specs.declared.Edge.{Edge}
-use Rattle.capture_core.specs.declared.track.Track.{Track}
-use Rattle.capture_core.specs.Track.{differ, track_move}
-
-abbrev pub track_at : ℕ → Bool → Bool → Track
-track_at at was_low is_low = record { at = at; was_low = was_low; is_low = is_low }
+use Rattle.capture_core.specs.Track.{MovesInPlace, QuietMoves, TurnsAreReported, differ, track_at, track_move}
 
 -- the line did not turn
-pub move_kept : (t at : ℕ) (b : Bool) → at ≤ t → track_move t (track_at at b b) ≡ Some (record { track = track_at t b b; edge = None })
+pub move_kept : QuietMoves
 move_kept t at b after = same b
   where
     late : nat_lt t at ≡ false
@@ -23,7 +18,7 @@ move_kept t at b after = same b
     same b = rw (late, quiet b) refl
 
 -- it turned at the instant before
-pub move_reported : (t at : ℕ) (b : Bool) → at < t → track_move t (track_at at (not b) b) ≡ Some (record { track = track_at t b b; edge = Some (record { at = at; low = b }) })
+pub move_reported : TurnsAreReported
 move_reported t at b after = reported b
   where
     late : nat_lt t at ≡ false
@@ -37,13 +32,8 @@ move_reported t at b after = reported b
     reported false = rw (late, later) refl
 
 -- the same instant
-pub move_same : (t : ℕ) (was is : Bool) → track_move t (track_at t was is) ≡ Some (record { track = track_at t was is; edge = None })
+pub move_same : MovesInPlace
 move_same t was is = rw same refl
   where
     same : nat_lt t t ≡ false
     same = grind (arith, nat_tests)
-
--- the edge that is due where the line rises
-abbrev pub due : ℕ → Bool → Option Edge
-due at true = Some (record { at = at; low = false })
-due at false = None

@@ -8,10 +8,10 @@ use Rattle.text_core.specs.At.{at_line}
 use Rattle.text_core.specs.Lines.{lines_of}
 use Rattle.text_core.specs.declared.at.At.{At}
 use Rattle.text_core.specs.declared.at.AtWord.{AtWord}
-use Rattle.text_core.proofs.LineLemmas.{split_none}
 use Rattle.capture_core.specs.Edges.{Captured}
 use Rattle.capture_core.specs.Track.{last_edge}
-use Rattle.capture_core.specs.Reading.{Form, Passed, Step, at_word, end_read, line_read, lines_read, onto, read_on, with_edges, word_read, words_read}
+use Rattle.capture_core.specs.Reading.{Form, Passed, Step, end_read, line_read, lines_read, onto, read_on, with_edges, word_read, words_read}
+use Rattle.capture_core.specs.Onward.{LineOnward, LinesArePassed, Onward, ReadTextsPassLines, ReadTextsTakeWords, StepsStay, WordsAloneArePassed, WordsAreTaken}
 use Rattle.capture_core.specs.declared.fault.Cause.{Cause}
 
 onto_more : {S : Type 0} (a b : List Edge) (r : Result (Passed S) (At Cause)) → onto a (onto b r) ≡ onto (a ++ b) r
@@ -33,8 +33,7 @@ with_none (Err f) = refl
 -- ---- words
 
 -- a word that is taken
-pub word_taken : {S : Type 0} (form : Form S) (line number : ℕ) (word : List ℕ) (words : List (List ℕ)) (s : S) (step : Step S) → form.took number word s ≡ Ok step
-    → words_read form line number (word ∷ words) s ≡ onto (option_to_list step.edge) (words_read form line (number + 1) words step.state)
+pub word_taken : {S : Type 0} → WordsAreTaken S
 word_taken form line number word words s step h = ap (λ stepped. word_read line stepped (words_read form line (number + 1) words)) h
 
 -- one more word, after those before it
@@ -53,8 +52,7 @@ pub words_over : {S : Type 0} (form : Form S) (line number : ℕ) (s : S) (so_fa
 words_over form line number s so_far all is = is ∙ ap (λ es. Ok (record { edges = es; state = s })) (append-nil so_far)
 
 -- a line that is passed
-pub line_passed : {S : Type 0} (form : Form S) (number : ℕ) (line : List ℕ) (lines : List (List ℕ)) (s t : S) (edges : List Edge) → line_read form number line s ≡ Ok (record { edges = edges; state = t })
-    → lines_read form number (line ∷ lines) s ≡ with_edges edges (lines_read form (number + 1) lines t)
+pub line_passed : {S : Type 0} → LinesArePassed S
 line_passed form number line lines s t edges h = ap (λ p. read_on p (lines_read form (number + 1) lines)) h
 
 -- one more line, after those before it
@@ -80,14 +78,7 @@ text_open form number text s old cause all is none over =
     is ∙ ap (λ lines. with_edges old (lines_read form number lines s)) none ∙ ap (λ o. with_edges old (end_read number (form.track s) o)) over
 
 -- of a text that is read: its first line is passed, and the rest is read
-pub record LineOnward (S : Type 0) (form : Form S) (number : ℕ) (line : List ℕ) (lines : List (List ℕ)) (s : S) (e : Captured) : Type 0 where
-  pub passed : Passed S
-  pub is_passed : line_read form number line s ≡ Ok passed
-  pub rest : Captured
-  pub read : lines_read form (number + 1) lines passed.state ≡ Ok rest
-  pub is : e ≡ record { edges = passed.edges ++ rest.edges; end = rest.end }
-
-pub line_onward : {S : Type 0} (form : Form S) (number : ℕ) (line : List ℕ) (lines : List (List ℕ)) (s : S) (e : Captured) → lines_read form number (line ∷ lines) s ≡ Ok e → LineOnward S form number line lines s e
+pub line_onward : {S : Type 0} → ReadTextsPassLines S
 line_onward {S} form number line lines s e h = by (line_read form number line s) refl h
   where
     more : (p : Passed S) (o : Result Captured (At Cause)) → line_read form number line s ≡ Ok p → lines_read form (number + 1) lines p.state ≡ o → with_edges p.edges o ≡ Ok e
@@ -114,9 +105,6 @@ not_below a b h = grind (arith, nat_tests)
 pub gaps_none : (xs : List ℕ) → None ≡ position (λ b. false) xs
 gaps_none xs = ap (λ c. cond c (Some (position_or_len (λ b. false) xs)) None) (sym (not_below (position_or_len (λ b. false) xs) (length xs) (all_of xs)))
 
-pub whole : (xs : List ℕ) → slice_split (λ b. false) xs ≡ xs ∷ []
-whole xs = split_none (λ b. false) xs (sym (gaps_none xs))
-
 only : {S : Type 0} (edge : Option Edge) (s : S) → onto (option_to_list edge) (Ok (record { edges = []; state = s })) ≡ Ok (record { edges = option_to_list edge; state = s })
 only None s = refl
 only (Some e) s = refl
@@ -126,20 +114,11 @@ pub alone_passed : {S : Type 0} (form : Form S) (number : ℕ) (line : List ℕ)
 alone_passed form number line s step one h =
     ap (λ ws. words_read form number 0 ws s) one ∙ word_taken form number 0 line [] s step h ∙ only step.edge step.state
 
-pub alone : {S : Type 0} (form : Form S) (number : ℕ) (line : List ℕ) (lines : List (List ℕ)) (s : S) (step : Step S) → slice_split form.is_gap line ≡ line ∷ [] → form.took 0 line s ≡ Ok step
-    → lines_read form number (line ∷ lines) s ≡ with_edges (option_to_list step.edge) (lines_read form (number + 1) lines step.state)
+pub alone : {S : Type 0} → WordsAloneArePassed S
 alone form number line lines s step one h = line_passed form number line lines s step.state (option_to_list step.edge) (alone_passed form number line s step one h)
 
 -- of a text that is read: its first line is taken, and the rest is read
-pub record Onward (S : Type 0) (form : Form S) (number : ℕ) (line : List ℕ) (lines : List (List ℕ)) (s : S) (e : Captured) : Type 0 where
-  pub step : Step S
-  pub took : form.took 0 line s ≡ Ok step
-  pub rest : Captured
-  pub read : lines_read form (number + 1) lines step.state ≡ Ok rest
-  pub is : e ≡ record { edges = option_to_list step.edge ++ rest.edges; end = rest.end }
-
-pub onward : {S : Type 0} (form : Form S) (number : ℕ) (line : List ℕ) (lines : List (List ℕ)) (s : S) (e : Captured) → slice_split form.is_gap line ≡ line ∷ [] → lines_read form number (line ∷ lines) s ≡ Ok e
-    → Onward S form number line lines s e
+pub onward : {S : Type 0} → ReadTextsTakeWords S
 onward {S} form number line lines s e one h = by (form.took 0 line s) refl
   where
     l : LineOnward S form number line lines s e
@@ -165,6 +144,6 @@ onward {S} form number line lines s e one h = by (form.took 0 line s) refl
         }
 
 -- a word that is given is that of a cause alone
-pub without_word : {S : Type 0} (word : ℕ) (stepped : Result (Step S) Cause) (step : Step S) → at_word word stepped ≡ Ok step → stepped ≡ Ok step
+pub without_word : {S : Type 0} → StepsStay S
 without_word word (Ok step) other h = let same : step ≡ other = cc in ap Ok same
 without_word word (Err cause) other h = cc

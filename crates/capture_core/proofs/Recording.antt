@@ -3,29 +3,21 @@ use Rattle.std.proofs.Common.{◌≡◌, ℕ, ◌+◌, ◌<◌, ◌≤◌, ◌&&
 use Rattle.std.specs.Option.{option_to_list}
 use Rattle.std.proofs.lemmas.Bool.Decides.{nat_tests}
 use Rattle.line_wave.specs.declared.Edge.{Edge}
-use Rattle.line_wave.specs.Bounds.{latest_instant}
 use Rattle.capture_core.specs.declared.track.Track.{Track}
-use Rattle.capture_core.specs.Edges.{AreInTurn, EndBy, IsCapture, level_at, line_of_edges}
+use Rattle.capture_core.specs.Edges.{AreInTurn, EdgesAreInTurnSooner, EndBy, LevelsStayBefore, level_at}
 use Rattle.capture_core.specs.Samples.{Sample, level_in}
-use Rattle.capture_core.specs.Track.{Moved, first_track, differ, last_edge, track_move, with_level}
-
--- what is reported from a track on, and the edges that are made of it, up to the last instant
-pub record Records (t : Track) (edges : List Edge) (samples : List Sample) (end : ℕ) : Type 0 where
-  pub level : (u : ℕ) → t.at ≤ u → level_at t.was_low edges u ≡ level_in t.is_low samples u
-  pub quiet : (b : Bool) (u : ℕ) → u < t.at → level_in b samples u ≡ b
-  pub turn : AreInTurn t.was_low t.at edges
-  pub ends : EndBy end edges
-  pub late : t.at ≤ end
+use Rattle.capture_core.specs.Track.{Moved, MovesComeThere, differ, last_edge}
+use Rattle.capture_core.specs.Recording.{EndsAreRecorded, LevelsAreRecorded, MovesAreRecorded, Records, RecordsAreCaptures, RecordsAreTheLine}
 
 -- edges in turn leave the level before the first one
-pub before_turn : (b : Bool) (from : ℕ) (es : List Edge) → AreInTurn b from es → (u : ℕ) → u < from → level_at b es u ≡ b
+pub before_turn : LevelsStayBefore
 before_turn b from [] h u l = refl
 before_turn b from (e ∷ es) h u l = ap (λ c. if c then b else level_at e.low es u) (sooner h.1)
   where
     sooner : from ≤ e.at → nat_lt u e.at ≡ true
     sooner k = grind (arith, nat_tests)
 
-pub sooner_turn : (b : Bool) (from before : ℕ) (es : List Edge) → before ≤ from → AreInTurn b from es → AreInTurn b before es
+pub sooner_turn : EdgesAreInTurnSooner
 sooner_turn b from before [] l h = tt
 sooner_turn b from before (e ∷ es) l h = let k = h.1 in (h.0, omega arith, h.2)
 
@@ -55,7 +47,7 @@ end_ends at false false = tt
 end_ends at true false = (omega arith, tt)
 end_ends at false true = (omega arith, tt)
 
-pub records_end : (t : Track) → Records t (option_to_list (last_edge t)) [] t.at
+pub records_end : EndsAreRecorded
 records_end t = record {
   level = λ u l. end_level t.at u t.was_low t.is_low l;
   quiet = λ b u l. refl;
@@ -66,7 +58,7 @@ records_end t = record {
 
 -- ---- a level
 
-pub records_level : (t : Track) (low : Bool) (edges : List Edge) (samples : List Sample) (end : ℕ) → Records (with_level low t) edges samples end → Records t edges (record { at = t.at; low = low } ∷ samples) end
+pub records_level : LevelsAreRecorded
 records_level t low edges samples end r = record {
   level = λ u l. r.level u l ∙ ap (λ b. level_in (if b then low else t.is_low) samples u) (sym (here u l));
   quiet = λ b u l. ap (λ c. level_in (if c then low else b) samples u) (later u l) ∙ r.quiet b u l;
@@ -128,7 +120,7 @@ moved_still t u edges samples end l d r = record {
         before_turn t.was_low u edges r.turn v k ∙ same_level t.was_low t.is_low (d (omega arith)) ∙ sym (r.quiet t.is_low v k)
     by v h false e = r.level v (grind (arith, nat_tests))
 
-pub moved_at : (u : ℕ) (t : Track) (m : Moved) → track_move u t ≡ Some m → m.track.at ≡ u
+pub moved_at : MovesComeThere
 moved_at u t m h = by (nat_lt u t.at) (nat_lt t.at u && differ t.was_low t.is_low) h
   where
     by : (c d : Bool)
@@ -142,7 +134,7 @@ moved_at u t m h = by (nat_lt u t.at) (nat_lt t.at u && differ t.was_low t.is_lo
         let is : record { track = record t { at = u }; edge = None } ≡ m = cc in
         sym (ap (λ (x : Moved). x.track.at) is)
 
-pub records_moved : (u : ℕ) (t : Track) (m : Moved) (edges : List Edge) (samples : List Sample) (end : ℕ) → track_move u t ≡ Some m → Records m.track edges samples end → Records t (option_to_list m.edge ++ edges) samples end
+pub records_moved : MovesAreRecorded
 records_moved u t m edges samples end h r = by (nat_lt u t.at) refl h
   where
     -- it turned at the instant before, or not
@@ -178,8 +170,8 @@ records_moved u t m edges samples end h r = by (nat_lt u t.at) refl h
 
 -- ---- from the begin on
 
-pub records_capture : (edges : List Edge) (samples : List Sample) (end : ℕ) → end ≤ latest_instant → Records first_track edges samples end → IsCapture edges end
+pub records_capture : RecordsAreCaptures
 records_capture edges samples end low r = record { turn = r.turn; ends = r.ends; early = low }
 
-pub records_line : (edges : List Edge) (samples : List Sample) (end : ℕ) → Records first_track edges samples end → (u : ℕ) → line_of_edges edges u ≡ level_in false samples u
+pub records_line : RecordsAreTheLine
 records_line edges samples end r u = r.level u (omega arith)

@@ -1,5 +1,5 @@
 -- Lines of a text, and bytes that they lack.
-use Rattle.std.proofs.Common.{◌≡◌, ℕ, ◌^◌, ◌<◌, ◌==◌, ◌&&◌, not, Bool, true, false, List, [], ◌∷◌, ◌++◌, length, All, refl, ap, ◌∙◌, arith}
+use Rattle.std.proofs.Common.{◌≡◌, ℕ, ◌^◌, ◌<◌, ◌==◌, ◌&&◌, not, Bool, true, false, List, [], ◌∷◌, ◌++◌, length, refl, ap, ◌∙◌, arith}
 use Rattle.std.specs.Fmt.{decimal}
 use Rattle.std.specs.List.{slice_split, list_all}
 use Rattle.std.specs.Char.{digit_value}
@@ -10,10 +10,7 @@ use Rattle.std.proofs.lemmas.Bool.{false≢true}
 use Rattle.std.proofs.lemmas.List.Splits.{slice_split_at, length-slice_split}
 use Rattle.std.proofs.lemmas.List.Elements.{All-cons}
 use Rattle.text_core.specs.Lines.{lines_of, without_empty_end}
-
--- no byte of a text is one of these
-abbrev pub Lacks : (ℕ → Bool) → List ℕ → Type 0
-Lacks p bytes = All (λ c. p c ≡ false) bytes
+use Rattle.capture_core.specs.Texts.{Lacks}
 
 pub none_lack : (p : ℕ → Bool) → Lacks p []
 none_lack p = λ k d h. absurd (omega arith)

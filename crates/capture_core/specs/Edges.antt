@@ -1,8 +1,9 @@
 -- The edges of a captured line, and the line that they report (own).
-use Rattle.std.specs.Prelude.{◌≡◌, ℕ, ◌+◌, ◌≤◌, Bool, true, false, not, nat_lt, if◌then◌else◌, List, [], ◌∷◌}
+use Rattle.std.specs.Prelude.{◌≡◌, ℕ, ◌+◌, ◌<◌, ◌≤◌, Bool, true, false, not, nat_lt, if◌then◌else◌, List, [], ◌∷◌, ◌++◌, Option, IfSome}
+use Rattle.std.specs.Option.{option_to_list}
 use Rattle.line_wave.specs.declared.Edge.{Edge}
 use Rattle.line_wave.specs.declared.Stretch.{Stretch}
-use Rattle.line_wave.specs.Line.{Line}
+use Rattle.line_wave.specs.Line.{Line, IsWaveFrom, line_of}
 use Rattle.line_wave.specs.Bounds.{latest_instant}
 
 -- the line is low from each fall to the next rise
@@ -35,7 +36,30 @@ pub record IsCapture (edges : List Edge) (end : ℕ) : Type 0 where
   pub ends : EndBy end edges
   pub early : end ≤ latest_instant
 
+-- no stretch goes past the end
+abbrev pub EndsBy : ℕ → List Stretch → Type 0
+EndsBy end [] = Unit {0}
+EndsBy end (s ∷ ss) = (s.to ≤ end) × EndsBy end ss
+
 -- the fall and the rise of each stretch
 abbrev pub edges_of : List Stretch → List Edge
 edges_of [] = []
 edges_of (s ∷ ss) = record { at = s.from; low = true } ∷ record { at = s.to; low = false } ∷ edges_of ss
+
+-- edges in turn keep the level before the first one
+abbrev pub LevelsStayBefore : Type 0
+LevelsStayBefore = (b : Bool) (from : ℕ) (es : List Edge) → AreInTurn b from es → (u : ℕ) → u < from → level_at b es u ≡ b
+
+-- they are in turn from an earlier instant on
+abbrev pub EdgesAreInTurnSooner : Type 0
+EdgesAreInTurnSooner = (b : Bool) (from before : ℕ) (es : List Edge) → before ≤ from → AreInTurn b from es → AreInTurn b before es
+
+-- an edge that is known before others comes no later than their end
+abbrev pub KnownEdgesAreEarly : Type 0
+KnownEdgesAreEarly = (edge : Option Edge) (edges : List Edge) (end limit : ℕ) → EndBy end (option_to_list edge ++ edges) → end ≤ limit
+    → IfSome edge (λ e. e.at ≤ limit)
+
+-- a wave that is high from an end on has no stretch past it
+abbrev pub HighLinesHaveEnded : Type 0
+HighLinesHaveEnded = (ss : List Stretch) (from end : ℕ) → IsWaveFrom from ss → ((u : ℕ) → end ≤ u → line_of ss u ≡ false)
+    → EndsBy end ss

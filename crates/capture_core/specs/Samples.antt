@@ -1,5 +1,5 @@
 -- What is reported of a line, instant by instant (own).
-use Rattle.std.specs.Prelude.{ℕ, ◌*◌, Bool, nat_le, if◌then◌else◌, List, [], ◌∷◌}
+use Rattle.std.specs.Prelude.{ℕ, ◌+◌, ◌*◌, ◌/◌, Bool, nat_le, if◌then◌else◌, List, [], ◌∷◌}
 
 -- from an instant on the line has a level
 pub record Sample : Type 0 where
@@ -20,3 +20,12 @@ pub record Level : Type 0 where
 abbrev pub level_of : Bool → List Level → ℕ → Bool
 level_of is_low [] u = is_low
 level_of is_low (l ∷ ls) u = level_of (if nat_le l.since (u * 1000) then l.low else is_low) ls u
+
+-- nanoseconds in microseconds, rounded up
+abbrev pub rounded : ℕ → ℕ
+rounded since = (since + 999) / 1000
+
+-- levels in nanoseconds as samples in microseconds
+abbrev pub samples_of : List Level → List Sample
+samples_of [] = []
+samples_of (l ∷ ls) = record { at = rounded l.since; low = l.low } ∷ samples_of ls

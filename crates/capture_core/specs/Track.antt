@@ -1,6 +1,6 @@
 -- Where a reader of a capture stands on the line: the instant that it has come to, the level before that instant and the
 -- level at it, as it is told so far (own).
-use Rattle.std.specs.Prelude.{◌≡◌, ℕ, ◌&&◌, not, Bool, true, false, nat_lt, if◌then◌else◌, Option, Some, None, Result, Ok, Err}
+use Rattle.std.specs.Prelude.{◌≡◌, ℕ, ◌<◌, ◌≤◌, ◌&&◌, not, Bool, true, false, nat_lt, if◌then◌else◌, Option, Some, None, Result, Ok, Err}
 use Rattle.line_wave.specs.declared.Edge.{Edge}
 use Rattle.capture_core.specs.declared.track.Track.{Track}
 use Rattle.capture_core.specs.declared.track.GoesBack.{GoesBack}
@@ -36,3 +36,31 @@ last_edge t = if differ t.was_low t.is_low then Some (record { at = t.at; low = 
 abbrev pub Moves : ℕ → Track → Result (Option Edge) GoesBack → Track → Type 0
 Moves u old (Ok edge) new = track_move u old ≡ Some (record { track = new; edge = edge })
 Moves u old (Err back) new = (track_move u old ≡ None) × (new ≡ old)
+
+-- the track with these parts
+abbrev pub track_at : ℕ → Bool → Bool → Track
+track_at at was_low is_low = record { at = at; was_low = was_low; is_low = is_low }
+
+-- the edge that is due where the line rises
+abbrev pub due : ℕ → Bool → Option Edge
+due at true = Some (record { at = at; low = false })
+due at false = None
+
+-- a track that comes to an instant stands there
+abbrev pub MovesComeThere : Type 0
+MovesComeThere = (u : ℕ) (t : Track) (m : Moved) → track_move u t ≡ Some m → m.track.at ≡ u
+
+-- the line turned at the instant before
+abbrev pub TurnsAreReported : Type 0
+TurnsAreReported = (t at : ℕ) (b : Bool) → at < t
+    → track_move t (track_at at (not b) b) ≡ Some (record { track = track_at t b b; edge = Some (record { at = at; low = b }) })
+
+-- it did not turn
+abbrev pub QuietMoves : Type 0
+QuietMoves = (t at : ℕ) (b : Bool) → at ≤ t
+    → track_move t (track_at at b b) ≡ Some (record { track = track_at t b b; edge = None })
+
+-- the same instant
+abbrev pub MovesInPlace : Type 0
+MovesInPlace = (t : ℕ) (was is : Bool)
+    → track_move t (track_at t was is) ≡ Some (record { track = track_at t was is; edge = None })

@@ -9,27 +9,26 @@ use Rattle.std.specs.Str.Parse.{AllDigits}
 use Rattle.std.proofs.lemmas.Fmt.{decimal_is_IsNumeral, decimal_nonempty}
 use Rattle.std.proofs.lemmas.Bool.Decides.{nat_tests}
 use Rattle.std.proofs.lemmas.List.Elements.{All-append}
-use Rattle.std.proofs.lemmas.List.Splits.{slice_split_at}
+use Rattle.std.proofs.lemmas.List.Splits.{slice_split_at, slice_split_none}
 use Rattle.line_wave.specs.declared.Edge.{Edge}
 use Rattle.line_wave.specs.declared.Stretch.{Stretch}
 use Rattle.line_wave.specs.Line.{IsWaveFrom}
 use Rattle.text_core.specs.Lines.{lines_of}
 use Rattle.text_core.specs.Number.{number_of}
 use Rattle.text_core.specs.declared.at.At.{At}
-use Rattle.capture_core.specs.Edges.{Captured, edges_of}
+use Rattle.capture_core.specs.Edges.{Captured, edges_of, EndsBy}
 use Rattle.capture_core.specs.Seconds.{decimals_of, dot_in, instant_of, nine, nine_digits}
-use Rattle.capture_core.specs.Track.{differ}
+use Rattle.capture_core.specs.Track.{differ, due, track_at}
+use Rattle.capture_core.specs.Texts.{Lacks}
 use Rattle.capture_core.proofs.Decimals.{decimals_again}
 use Rattle.capture_core.proofs.Moving as moving
-use Rattle.capture_core.proofs.Moving.{due, track_at}
 use Rattle.capture_core.proofs.Numbers.{number_again}
-use Rattle.capture_core.proofs.Bytes.{Lacks, digits_lack, dot_at, no_byte, shown}
-use Rattle.capture_core.proofs.Ends.{EndsBy, ends_by}
-use Rattle.capture_core.proofs.Texts as texts
-use Rattle.capture_core.proofs.Texts.{line_before}
+use Rattle.capture_core.proofs.Bytes.{dot_at, no_byte}
+use Rattle.capture_core.proofs.Ends.{ends_by}
+use Rattle.capture_core.proofs.Texts.{digits_lack, line_before, shown}
 use Rattle.capture_core.specs.Reading.{at_word, lines_read, with_edges}
 use Rattle.capture_core.specs.declared.fault.Cause.{Cause}
-use Rattle.capture_core.proofs.Passing.{alone, whole}
+use Rattle.capture_core.proofs.Passing.{alone}
 use Rattle.capture_csv.specs.Clock.{cut_decimals}
 use Rattle.capture_csv.specs.Csv.{csv_form, edges_in, fields_of, level_by, moved_by, moved_to, nanos_by, nanos_of, named_read, row_by, row_in, row_of, signed_by, since, since_by, time_of, took, took_by, with_row, without_return, word_at_fault}
 use Rattle.capture_csv.specs.Text.{changes, head, row_line, row_text, stretch_text, CsvFilesAreReadBack}
@@ -71,13 +70,13 @@ digits_of t low = (decimal_is_IsNumeral (t / 1000000) (omega arith)).0.1
 high : (b d : ℕ) → b < 48 → (48 + d == b) ≡ false
 high b d h = grind (arith, nat_tests)
 
-seconds_lack : (b t : ℕ) → b < 46 → t ≤ 2000000000000 → Lacks b (seconds t)
+seconds_lack : (b t : ℕ) → b < 46 → t ≤ 2000000000000 → Lacks (λ c. c == b) (seconds t)
 seconds_lack b t small low =
     let n = t % 1000000 in
     let dot : (46 == b) ≡ false = grind (arith, nat_tests) in
     let zero : (48 == b) ≡ false = grind (arith, nat_tests) in
-    All-append (λ c. (c == b) ≡ false) (decimal (t / 1000000)) (46 ∷ nine_digits n) (digits_lack b (decimal (t / 1000000)) (omega arith) (digits_of t low))
-    (shown b (46 ∷ nine_digits n)
+    All-append (λ c. (c == b) ≡ false) (decimal (t / 1000000)) (46 ∷ nine_digits n) (digits_lack (λ c. c == b) (decimal (t / 1000000)) (λ c d. no_byte b c d (omega arith)) (digits_of t low))
+    (shown (λ c. c == b) (46 ∷ nine_digits n)
     (rw (dot, zero, high b (n / 100000 % 10) (omega arith), high b (n / 10000 % 10) (omega arith), high b (n / 1000 % 10) (omega arith), high b (n / 100 % 10) (omega arith), high b (n / 10 % 10) (omega arith), high b (n % 10) (omega arith)) refl))
 
 no_minus : (ds more : List ℕ) → 0 < length ds → AllDigits 10 ds → (slice_index (ds ++ more) 0 == 45) ≡ false
@@ -101,7 +100,7 @@ nanos_ok : (t : ℕ) → t ≤ 2000000000000 → nanos_of (seconds t) ≡ Some (
 nanos_ok t low =
     let s = t / 1000000 in
     let n = t % 1000000 in
-    let dot : dot_in (seconds t) ≡ length (decimal s) = dot_at (decimal s) (nine_digits n) (digits_lack 46 (decimal s) (omega arith) (digits_of t low)) in
+    let dot : dot_in (seconds t) ≡ length (decimal s) = dot_at (decimal s) (nine_digits n) (digits_lack (λ c. c == 46) (decimal s) (λ c d. no_byte 46 c d (omega arith)) (digits_of t low)) in
     let front : take (length (decimal s)) (seconds t) ≡ decimal s = take-append_seam (decimal s) (46 ∷ nine_digits n) in
     let back : drop (length (decimal s) + 1) (seconds t) ≡ nine_digits n = drop-append-add (decimal s) (46 ∷ nine_digits n) 1 in
     let few : (nat_lt 9999999999 s || nat_lt 999999999 (n * 1000)) ≡ false = small_by s (n * 1000) (omega arith) (omega arith) in
@@ -119,14 +118,14 @@ no_letter c h = grind (arith, nat_tests)
 no_digit : (d : ℕ) → d < 10 → (48 + d == 84) ≡ false
 no_digit d h = grind (arith, nat_tests)
 
-letters_lack : (t : ℕ) → t ≤ 2000000000000 → Lacks 84 (seconds t)
+letters_lack : (t : ℕ) → t ≤ 2000000000000 → Lacks (λ c. c == 84) (seconds t)
 letters_lack t low =
     let n = t % 1000000 in
-    All-append (λ c. (c == 84) ≡ false) (decimal (t / 1000000)) (46 ∷ nine_digits n) (texts.digits_lack (λ c. c == 84) (decimal (t / 1000000)) no_letter (digits_of t low))
-    (shown 84 (46 ∷ nine_digits n)
+    All-append (λ c. (c == 84) ≡ false) (decimal (t / 1000000)) (46 ∷ nine_digits n) (digits_lack (λ c. c == 84) (decimal (t / 1000000)) no_letter (digits_of t low))
+    (shown (λ c. c == 84) (46 ∷ nine_digits n)
     (rw (no_digit (n / 100000 % 10) (omega arith), no_digit (n / 10000 % 10) (omega arith), no_digit (n / 1000 % 10) (omega arith), no_digit (n / 100 % 10) (omega arith), no_digit (n / 10 % 10) (omega arith), no_digit (n % 10) (omega arith)) refl))
 
-none_at : (xs : List ℕ) (k : ℕ) → Lacks 84 xs → (slice_index xs k == 84) ≡ false
+none_at : (xs : List ℕ) (k : ℕ) → Lacks (λ c. c == 84) xs → (slice_index xs k == 84) ≡ false
 none_at [] k h = refl
 none_at (x ∷ xs) zero h = h 0 x (omega arith)
 none_at (x ∷ xs) (suc k) h = none_at xs k (λ j d low. h (suc j) d (omega (arith, low)))
@@ -157,10 +156,10 @@ row_ok t level low early is =
     slice_split_at (λ b. b == 44) (seconds t) 44 (level ∷ []) (seconds_lack 44 t (omega arith) early) refl ∙ ap (λ fs. seconds t ∷ fs) is.alone in
     ap (λ l. row_in 1 (fields_of l)) whole ∙ ap (row_in 1) cut ∙ ap (λ o. row_by o (level_by (Some (level ∷ [])))) (time_ok t early) ∙ ap (row_by (Some (time_at t))) is.reported
 
-row_plain : (t level : ℕ) (low : Bool) → t ≤ 2000000000000 → IsLevel level low → Lacks 10 (row_line t level)
+row_plain : (t level : ℕ) (low : Bool) → t ≤ 2000000000000 → IsLevel level low → Lacks (λ c. c == 10) (row_line t level)
 row_plain t level low early is =
-    let comma : Lacks 10 (44 ∷ level ∷ []) = shown 10 (44 ∷ level ∷ []) (rw is.plain refl) in
-    subst (Lacks 10) (sym (row_parts t level)) (All-append (λ c. (c == 10) ≡ false) (seconds t) (44 ∷ level ∷ []) (seconds_lack 10 t (omega arith) early) comma)
+    let comma : Lacks (λ c. c == 10) (44 ∷ level ∷ []) = shown (λ c. c == 10) (44 ∷ level ∷ []) (rw is.plain refl) in
+    subst (Lacks (λ c. c == 10)) (sym (row_parts t level)) (All-append (λ c. (c == 10) ≡ false) (seconds t) (44 ∷ level ∷ []) (seconds_lack 10 t (omega arith) early) comma)
 
 -- ---- a reader of rows from 0 on
 
@@ -193,7 +192,7 @@ reported_line : (number t level : ℕ) (low : Bool) (more : List ℕ) (again : B
     → lines_read csv_form number (lines_of (row_line t level ++ 10 ∷ more)) (stood again at was is) ≡ with_edges (option_to_list edge) (lines_read csv_form (number + 1) (lines_of more) u)
 reported_line number t level low more again at was is u edge early l move =
     ap (λ lines. lines_read csv_form number lines (stood again at was is)) (line_before (row_line t level) more (row_plain t level low early l))
-    ∙ alone csv_form number (row_line t level) (lines_of more) (stood again at was is) (record { state = u; edge = edge }) (whole (row_line t level))
+    ∙ alone csv_form number (row_line t level) (lines_of more) (stood again at was is) (record { state = u; edge = edge }) (slice_split_none (λ b. false) (row_line t level) (λ k d h. refl))
     (ap (at_word (word_at_fault 1 (row_line t level))) (row_taken t level low again at was is early l ∙ move))
 
 -- ---- changes
@@ -280,9 +279,9 @@ changes_read (s ∷ ss) at b end wave by after low = λ number again.
 head_read : (more : List ℕ) → edges_in [] (head ++ more) ≡ lines_read csv_form 3 (lines_of more) (stood true 0 false false)
 head_read more =
     let rest = codes "0.000000000,1" ++ 10 ∷ more in
-    ap (named_read []) (line_before (codes "Time [s],CEC") rest (shown 10 (codes "Time [s],CEC") refl))
+    ap (named_read []) (line_before (codes "Time [s],CEC") rest (shown (λ c. c == 10) (codes "Time [s],CEC") refl))
     ∙ ap (λ lines. lines_read csv_form 2 lines (record { column = 1; first = None; is_again = true; is_low = false; track = track_at 0 false false }))
-    (line_before (codes "0.000000000,1") more (shown 10 (codes "0.000000000,1") refl))
+    (line_before (codes "0.000000000,1") more (shown (λ c. c == 10) (codes "0.000000000,1") refl))
     ∙ same (lines_read csv_form 3 (lines_of more) (stood true 0 false false))
   where
     same : (r : Result Captured (At Cause)) → with_edges [] r ≡ r

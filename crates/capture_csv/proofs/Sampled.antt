@@ -2,17 +2,20 @@
 use Rattle.std.proofs.Common.{◌≡◌, ℕ, ◌+◌, ◌*◌, ◌≤◌, not, Bool, true, false, nat_lt, if◌then◌else◌, List, [], ◌∷◌, ◌++◌, Option, Some, None, IfSome, Ok, Err, refl, sym, ap, subst, ◌∙◌, arith}
 use Rattle.std.specs.Option.{option_to_list}
 use Rattle.std.proofs.lemmas.Bool.Decides.{nat_tests}
+use Rattle.std.proofs.lemmas.List.Splits.{slice_split_none}
 use Rattle.line_wave.specs.declared.Edge.{Edge}
 use Rattle.text_core.specs.Lines.{lines_of}
 use Rattle.capture_core.specs.Edges.{Captured, EndBy, IsCapture}
-use Rattle.capture_core.specs.Samples.{Level, Sample}
+use Rattle.capture_core.specs.Samples.{Level, Sample, rounded, samples_of}
 use Rattle.capture_core.specs.Track.{Moved, differ, last_edge, track_move}
 use Rattle.capture_core.specs.declared.track.Track.{Track}
+use Rattle.capture_core.specs.Recording.{Records}
+use Rattle.capture_core.specs.Onward.{Onward}
 use Rattle.capture_core.proofs.Ends.{edge_by}
-use Rattle.capture_core.proofs.Levels.{rounded, rounded_whole, samples_of, sampled_so}
-use Rattle.capture_core.proofs.Recording.{Records, moved_at, records_capture, records_end, records_level, records_line, records_moved}
+use Rattle.capture_core.proofs.Levels.{rounded_whole, sampled_so}
+use Rattle.capture_core.proofs.Recording.{moved_at, records_capture, records_end, records_level, records_line, records_moved}
 use Rattle.capture_core.specs.Reading.{Step, lines_read}
-use Rattle.capture_core.proofs.Passing.{Onward, onward, whole, without_word}
+use Rattle.capture_core.proofs.Passing.{onward, without_word}
 use Rattle.capture_csv.specs.Csv.{Stepped, csv_form, first_reader, column_of, column_read, edges_in, end_of, ends_after, with_row, moved_by, moved_to, named_read, or_first, row_of, since, since_by, took, took_by, word_at_fault}
 use Rattle.capture_csv.specs.Sampling.{CsvFilesAreSampled, CsvLinesAreEarly, CsvLinesGoOn, end_by, level_reported, levels_of, rows_by, rows_in, rows_of}
 use Rattle.capture_csv.specs.declared.row.Row.{Row}
@@ -134,7 +137,7 @@ lines_ran number [] r e time at early h =
       early = in_limit r.is_again r.track.at early;
     })
 lines_ran number (line ∷ lines) r e time at early h =
-    let o = onward csv_form number line lines r e (whole line) h in
+    let o = onward csv_form number line lines r e (slice_split_none (λ b. false) line (λ k d h. refl)) h in
     by (row_of r.column line) o (without_word (word_at_fault r.column line) (took line r) o.step o.took)
     (λ s f t a l k. lines_ran (number + 1) lines s f t a l k)
   where

@@ -11,7 +11,7 @@ use Rattle.line_rounds.specs.declared.Outcome.{Outcome}
 use Rattle.room_net.specs.Line.{run_wave}
 use Rattle.room_net.specs.State.{first_net}
 use Rattle.room_script.proofs.Sound.{scripts_are_sound}
-use Rattle.capture_core.specs.Edges.{AreInTurn, EndBy, IsCapture, edges_of}
+use Rattle.capture_core.specs.Edges.{AreInTurn, EndBy, IsCapture, edges_of, EndsBy}
 use Rattle.capture_vcd.specs.Dump as vcd_in
 use Rattle.capture_vcd.specs.Text as vcd
 use Rattle.capture_vcd.proofs.ReadBack.{dumps_are_read_back}
@@ -31,7 +31,7 @@ use Rattle.room_run.specs.OneRun.{rounds_of_line, rounds_reported}
 use Rattle.room_run.proofs.WholeLine as runs
 use Rattle.room_run.proofs.OneRun.{runs_close_soon, texts_have_one_run, traces_have_parts}
 use Rattle.capture_laws.specs.Formats.{IsReadAs, LinesAreReadBack, LinesOfRunsHaveTheirReadings, MonitorsReportTracesInAll}
-use Rattle.capture_core.proofs.Ends.{EndsBy, ends_by}
+use Rattle.capture_core.proofs.Ends.{ends_by}
 use Rattle.capture_laws.proofs.ReadBack.{edge_files_are_read_back, lines_of_parts, lines_of_rounds, over_by_script, same_line}
 
 -- ---- a line that rounds make

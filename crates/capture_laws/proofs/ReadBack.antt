@@ -16,7 +16,7 @@ use Rattle.room_run.specs.OneRun.{AreOverBy, rounds_of_line, Part, OfEvent, OfRo
 use Rattle.room_run.specs.Run.{start}
 use Rattle.room_net.specs.State.{first_net}
 use Rattle.std.specs.List.{flat_map}
-use Rattle.capture_core.specs.Edges.{edges_of}
+use Rattle.capture_core.specs.Edges.{edges_of, EndsBy}
 use Rattle.capture_forms.specs.declared.form.CaptureForm.TheVariants.{Edges}
 use Rattle.room_run.specs.declared.run.Reporting.TheVariants.{Line}
 use Rattle.room_script.specs.Script.{Course, IsScript}
@@ -30,7 +30,7 @@ use Rattle.capture_core.specs.Edges.{level_at}
 use Rattle.capture_monitor.specs.declared.edge_file.EdgeLine.{EdgeLine}
 use Rattle.capture_monitor.specs.declared.edge_file.EdgeLine.TheVariants.{Edge as EdgeLineOf, End}
 use Rattle.capture_laws.specs.Capture.{part_monitored, EdgeFilesAreReadBack, FilesOfRunsHaveTheirReadings, MonitorsReportTraces}
-use Rattle.capture_core.proofs.Ends.{EndsBy, ends_by}
+use Rattle.capture_core.proofs.Ends.{ends_by}
 use Rattle.capture_core.proofs.Texts.{line_before}
 use Rattle.capture_laws.proofs.Texts.{IsWithout, more_without, one_without, timed, timed_line, timed_plain, timed_reported}
 

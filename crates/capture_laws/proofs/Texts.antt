@@ -1,7 +1,6 @@
 -- The lines of an edge file, and their words.
-use Rattle.std.proofs.Common.{◌≡◌, ℕ, ◌^◌, ◌<◌, ◌≤◌, ◌==◌, true, false, nat_le, List, [], ◌∷◌, ◌++◌, length, refl, ap, ◌∙◌, arith}
+use Rattle.std.proofs.Common.{◌≡◌, ℕ, suc, ◌^◌, ◌<◌, ◌≤◌, ◌==◌, true, false, nat_le, List, [], ◌∷◌, ◌++◌, length, refl, ap, ◌∙◌, arith, ne_eqb}
 use Rattle.std.specs.Fmt.{decimal}
-use Rattle.std.specs.Char.{digit_value}
 use Rattle.std.specs.Str.Parse.{AllDigits}
 use Rattle.std.proofs.lemmas.Fmt.{decimal_is_IsNumeral, decimal_nonempty}
 use Rattle.std.proofs.lemmas.Bool.Decides.{nat_tests}
@@ -10,12 +9,11 @@ use Rattle.std.proofs.lemmas.List.Elements.{All-append}
 use Rattle.line_wave.specs.Bounds.{latest_instant}
 use Rattle.text_core.specs.Lines.{is_skipped}
 use Rattle.text_core.specs.Words.{words_of}
-use Rattle.capture_core.proofs.Numbers.{number_again, some_length}
-use Rattle.capture_core.proofs.Texts.{Lacks, more_lack, none_lack, number_lacks}
+use Rattle.capture_core.specs.Texts.{Lacks}
+use Rattle.capture_core.proofs.Bytes.{no_byte}
+use Rattle.capture_core.proofs.Numbers.{number_again}
+use Rattle.capture_core.proofs.Texts.{more_lack, none_lack, number_lacks}
 use Rattle.capture_monitor.specs.EdgeFile.{edge_line_of, edge_line_at, line_alone}
-
-no_byte : (b c : ℕ) → digit_value c < 10 → b < 48 → (c == b) ≡ false
-no_byte b c h low = grind (arith, nat_tests)
 
 -- no byte of a text is this one
 abbrev pub IsWithout : ℕ → List ℕ → Type 0
@@ -50,7 +48,7 @@ timed_plain t mark small plain = All-append (λ c. (c == 10) ≡ false) (decimal
 
 skipped_by : (ds more : List ℕ) → 0 < length ds → AllDigits 10 ds → is_skipped (ds ++ more) ≡ false
 skipped_by [] more some h = absurd (omega arith)
-skipped_by (c ∷ cs) more some h = rw (some_length (length (cs ++ more)), no_byte 35 c h.0 (omega arith)) refl
+skipped_by (c ∷ cs) more some h = rw (ne_eqb (suc (length (cs ++ more))) 0 (omega arith), no_byte 35 c h.0 (omega arith)) refl
 
 -- it is not skipped
 pub timed_reported : (t : ℕ) (mark : List ℕ) → t < 2 ^ 64 → is_skipped (timed t mark) ≡ false

@@ -1,5 +1,5 @@
 -- The pin file of a line is read back.
-use Rattle.std.proofs.Common.{◌≡◌, ℕ, ◌+◌, ◌-◌, ◌*◌, ◌/◌, ◌%◌, ◌<◌, ◌≤◌, ◌==◌, not, Bool, true, false, cond, nat_lt, List, [], ◌∷◌, ◌++◌, length, take, drop, Option, Some, None, Result, Ok, Err, codes, refl, sym, ap, subst, ◌∙◌, arith, append-nil, append_assoc}
+use Rattle.std.proofs.Common.{◌≡◌, ℕ, suc, ◌+◌, ◌-◌, ◌*◌, ◌/◌, ◌%◌, ◌<◌, ◌≤◌, ◌==◌, not, Bool, true, false, cond, nat_lt, List, [], ◌∷◌, ◌++◌, length, take, drop, Option, Some, None, Result, Ok, Err, codes, refl, sym, ap, subst, ◌∙◌, arith, append-nil, append_assoc, ne_eqb}
 use Rattle.std.proofs.Math.Seq.{take-append_seam, drop-append-add}
 use Rattle.std.specs.Fmt.{decimal}
 use Rattle.std.specs.List.{flat_map, list_all}
@@ -9,33 +9,36 @@ use Rattle.std.proofs.lemmas.Fmt.{decimal_is_IsNumeral, decimal_nonempty}
 use Rattle.std.proofs.lemmas.Bool.{false≢true}
 use Rattle.std.proofs.lemmas.Bool.Decides.{nat_tests}
 use Rattle.std.proofs.lemmas.List.Elements.{All-append}
+use Rattle.std.proofs.lemmas.List.Splits.{slice_split_none}
 use Rattle.line_wave.specs.declared.Edge.{Edge}
 use Rattle.line_wave.specs.declared.Stretch.{Stretch}
 use Rattle.line_wave.specs.Line.{IsWaveFrom}
 use Rattle.text_core.specs.Lines.{is_skipped, lines_of}
 use Rattle.text_core.specs.declared.at.At.{At}
-use Rattle.capture_core.specs.Edges.{Captured, edges_of}
+use Rattle.capture_core.specs.Edges.{Captured, edges_of, EndsBy}
 use Rattle.capture_core.specs.Seconds.{dot_in, instant_of, nine_digits}
+use Rattle.capture_core.specs.Track.{due, track_at}
+use Rattle.capture_core.specs.Texts.{Lacks}
 use Rattle.capture_core.proofs.Decimals.{decimals_again}
-use Rattle.capture_core.proofs.Moving.{due, move_kept as moving_kept, move_reported as moving_reported, move_same as moving_same, track_at}
-use Rattle.capture_core.proofs.Numbers.{number_again, some_length}
-use Rattle.capture_core.proofs.Bytes.{Lacks, digits_lack, dot_at, no_byte, shown}
-use Rattle.capture_core.proofs.Ends.{EndsBy, ends_by}
-use Rattle.capture_core.proofs.Texts.{line_before}
+use Rattle.capture_core.proofs.Moving.{move_kept as moving_kept, move_reported as moving_reported, move_same as moving_same}
+use Rattle.capture_core.proofs.Numbers.{number_again}
+use Rattle.capture_core.proofs.Passing.{alone}
+use Rattle.capture_core.proofs.Bytes.{dot_at, no_byte}
+use Rattle.capture_core.proofs.Ends.{ends_by}
+use Rattle.capture_core.proofs.Texts.{digits_lack, line_before, shown}
 use Rattle.capture_core.specs.Reading.{at_word, lines_read, with_edges}
 use Rattle.capture_core.specs.declared.fault.Cause.{Cause}
-use Rattle.capture_pin.proofs.Sampled.{alone, whole}
 use Rattle.capture_pin.specs.Pin.{first_reader, code_of, event_by, event_by_start, event_cut, event_of, fraction_of, after_event, moved_by, moved_to, nanos_by, pin_form, took, word_at_fault}
 use Rattle.capture_pin.specs.Text.{event_line, event_text, head, round_text, stretch_text, PinFilesAreReadBack}
 use Rattle.capture_pin.specs.declared.reader.PinReader.{PinReader}
 
 -- ---- lines
 
-line_in : (number : ℕ) (line rest : List ℕ) (t u : PinReader) (edge : Option Edge) → Lacks 10 line → took line t ≡ Ok (record { state = u; edge = edge })
+line_in : (number : ℕ) (line rest : List ℕ) (t u : PinReader) (edge : Option Edge) → Lacks (λ c. c == 10) line → took line t ≡ Ok (record { state = u; edge = edge })
     → lines_read pin_form number (lines_of (line ++ 10 ∷ rest)) t ≡ with_edges (option_to_list edge) (lines_read pin_form (number + 1) (lines_of rest) u)
 line_in number line rest t u edge plain h =
     ap (λ lines. lines_read pin_form number lines t) (line_before line rest plain)
-    ∙ alone pin_form number line (lines_of rest) t (record { state = u; edge = edge }) (whole line) (ap (at_word (word_at_fault line)) h)
+    ∙ alone pin_form number line (lines_of rest) t (record { state = u; edge = edge }) (slice_split_none (λ b. false) line (λ k d h. refl)) (ap (at_word (word_at_fault line)) h)
 
 -- ---- times
 
@@ -54,7 +57,7 @@ stood at was_low is_low = record { start = 0; track = track_at at was_low is_low
 
 skipped_by : (ds more : List ℕ) → 0 < length ds → AllDigits 10 ds → is_skipped (ds ++ more) ≡ false
 skipped_by [] more some h = absurd (omega arith)
-skipped_by (c ∷ cs) more some h = rw (some_length (length (cs ++ more)), no_byte 35 c h.0 (omega arith)) refl
+skipped_by (c ∷ cs) more some h = rw (ne_eqb (suc (length (cs ++ more))) 0 (omega arith), no_byte 35 c h.0 (omega arith)) refl
 
 -- a line of an event
 event_ok : (t level : ℕ) (low : Option Bool) → t ≤ 2000000000000 → ((nanos : ℕ) → event_by (Some nanos) (code_of (level ∷ [])) ≡ Some (record { nanos = nanos; low = low }))
@@ -63,7 +66,7 @@ event_ok t level low early code =
     let s = t / 1000000 in
     let rest = nine_digits (t % 1000000) ++ 32 ∷ level ∷ [] in
     let digits = (decimal_is_IsNumeral s (omega arith)).0.1 in
-    let dot : dot_in (event_line t level) ≡ length (decimal s) = dot_at (decimal s) rest (digits_lack 46 (decimal s) (omega arith) digits) in
+    let dot : dot_in (event_line t level) ≡ length (decimal s) = dot_at (decimal s) rest (digits_lack (λ c. c == 46) (decimal s) (λ c d. no_byte 46 c d (omega arith)) digits) in
     let front : take (length (decimal s)) (event_line t level) ≡ decimal s = take-append_seam (decimal s) (46 ∷ rest) in
     let back : drop (length (decimal s) + 1) (event_line t level) ≡ rest = drop-append-add (decimal s) (46 ∷ rest) 1 in
     ap (λ n. event_cut (take n (event_line t level)) (drop (n + 1) (event_line t level))) dot
@@ -72,12 +75,12 @@ event_ok t level low early code =
     ∙ ap (λ n. event_by (nanos_by (Some s) n) (code_of (level ∷ []))) (fraction_ok (t % 1000000) (omega arith))
     ∙ code (s * 1000000000 + t % 1000000 * 1000)
 
-line_plain : (t level : ℕ) → t ≤ 2000000000000 → (level == 10) ≡ false → Lacks 10 (event_line t level)
+line_plain : (t level : ℕ) → t ≤ 2000000000000 → (level == 10) ≡ false → Lacks (λ c. c == 10) (event_line t level)
 line_plain t level low other =
     let digits = (decimal_is_IsNumeral (t / 1000000) (omega arith)).0.1 in
     let n = t % 1000000 in
-    All-append (λ c. (c == 10) ≡ false) (decimal (t / 1000000)) (46 ∷ (nine_digits n ++ 32 ∷ level ∷ [])) (digits_lack 10 (decimal (t / 1000000)) (omega arith) digits)
-    (shown 10 (46 ∷ (nine_digits n ++ 32 ∷ level ∷ []))
+    All-append (λ c. (c == 10) ≡ false) (decimal (t / 1000000)) (46 ∷ (nine_digits n ++ 32 ∷ level ∷ [])) (digits_lack (λ c. c == 10) (decimal (t / 1000000)) (λ c d. no_byte 10 c d (omega arith)) digits)
+    (shown (λ c. c == 10) (46 ∷ (nine_digits n ++ 32 ∷ level ∷ []))
     (rw (high (n / 100000 % 10), high (n / 10000 % 10), high (n / 1000 % 10), high (n / 100 % 10), high (n / 10 % 10), high (n % 10), other) refl))
   where
     high : (d : ℕ) → (48 + d == 10) ≡ false
@@ -237,7 +240,7 @@ rounds_read ((s ∷ ss) ∷ rs) at b end wave by after low zero = λ number.
 
 head_line : (number : ℕ) (line rest : List ℕ) (t u : PinReader) → list_all (λ c. not (c == 10)) line ≡ true → took line t ≡ Ok (record { state = u; edge = None })
     → lines_read pin_form number (lines_of (line ++ 10 ∷ rest)) t ≡ lines_read pin_form (number + 1) (lines_of rest) u
-head_line number line rest t u all h = line_in number line rest t u None (shown 10 line all) h ∙ same (lines_read pin_form (number + 1) (lines_of rest) u)
+head_line number line rest t u all h = line_in number line rest t u None (shown (λ c. c == 10) line all) h ∙ same (lines_read pin_form (number + 1) (lines_of rest) u)
   where
     same : (r : Result Captured (At Cause)) → with_edges [] r ≡ r
     same (Ok e) = refl

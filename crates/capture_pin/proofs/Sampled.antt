@@ -2,17 +2,19 @@
 use Rattle.std.proofs.Common.{◌≡◌, ℕ, ◌+◌, ◌-◌, ◌*◌, ◌≤◌, Bool, true, false, nat_lt, if◌then◌else◌, List, [], ◌∷◌, ◌++◌, Option, Some, None, Ok, Err, refl, sym, ap, subst, ◌∙◌, arith}
 use Rattle.std.specs.Option.{option_to_list}
 use Rattle.std.proofs.lemmas.Bool.Decides.{nat_tests}
+use Rattle.std.proofs.lemmas.List.Splits.{slice_split_none}
 use Rattle.line_wave.specs.declared.Edge.{Edge}
 use Rattle.text_core.specs.Lines.{lines_of, is_skipped}
 use Rattle.capture_core.specs.Edges.{Captured, IsCapture}
-use Rattle.capture_core.specs.Samples.{Level, Sample}
+use Rattle.capture_core.specs.Samples.{Level, Sample, rounded, samples_of}
 use Rattle.capture_core.specs.Track.{Moved, last_edge, track_move}
 use Rattle.capture_core.specs.declared.track.Track.{Track}
+use Rattle.capture_core.specs.Recording.{Records}
 use Rattle.capture_core.proofs.Ends.{edge_by}
-use Rattle.capture_core.proofs.Levels.{rounded, rounded_whole, samples_both, samples_of, sampled_so}
-use Rattle.capture_core.proofs.Recording.{Records, moved_at, records_capture, records_end, records_level, records_line, records_moved}
+use Rattle.capture_core.proofs.Levels.{rounded_whole, samples_both, sampled_so}
+use Rattle.capture_core.proofs.Recording.{moved_at, records_capture, records_end, records_level, records_line, records_moved}
 use Rattle.capture_core.specs.Reading.{Step, lines_read}
-pub use Rattle.capture_core.proofs.Passing.{alone, onward, whole, without_word}
+use Rattle.capture_core.proofs.Passing.{onward, without_word}
 use Rattle.capture_pin.specs.Pin.{Stepped, first_reader, edges_in, event_by_start, event_of, after_event, track_with_level, moved_by, moved_to, pin_form, reader_with_start, start_in_comment, took, word_at_fault}
 use Rattle.capture_pin.specs.Sampling.{PinFilesAreSampled, PinLinesAreEarly, PinLinesGoOn, event_in, last_time, level_by, level_reported, levels_in, or_start, start_after, time_by}
 use Rattle.capture_pin.specs.declared.line.PinEvent.{PinEvent}
@@ -112,7 +114,7 @@ lines_ran number [] r e time at early h =
     let is : record { edges = option_to_list (last_edge r.track); end = r.track.at } ≡ e = cc in
     subst (λ (e : Captured). Ran r e time []) is (record { records = records_end r.track; end = at; early = early })
 lines_ran number (line ∷ lines) r e time at early h =
-    let o = onward pin_form number line lines r e (whole line) h in
+    let o = onward pin_form number line lines r e (slice_split_none (λ b. false) line (λ k d h. refl)) h in
     let stepped : took line r ≡ Ok o.step = without_word (word_at_fault line) (took line r) o.step o.took in
     let g : Goes r.track o.step (start_after line r.start) (time_by r.start (event_in line) time) (level_by r.start (event_in line)) =
     subst (λ (st : Stepped). GoesBy r.track st (start_after line r.start) (time_by r.start (event_in line) time) (level_by r.start (event_in line))) stepped (line_goes r line time at early) in

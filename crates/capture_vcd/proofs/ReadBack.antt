@@ -1,5 +1,5 @@
 -- The dump of a line is read back.
-use Rattle.std.proofs.Common.{◌≡◌, ℕ, ◌+◌, ◌-◌, ◌<◌, ◌≤◌, ◌==◌, not, Bool, true, false, cond, nat_lt, nat_le, List, [], ◌∷◌, ◌++◌, length, Option, Some, None, Result, Ok, Err, codes, refl, sym, ap, ◌∙◌, arith, append-nil}
+use Rattle.std.proofs.Common.{◌≡◌, ℕ, suc, ◌+◌, ◌-◌, ◌<◌, ◌≤◌, ◌==◌, not, Bool, true, false, cond, nat_lt, nat_le, List, [], ◌∷◌, ◌++◌, length, Option, Some, None, Result, Ok, Err, codes, refl, sym, ap, ◌∙◌, arith, append-nil, ne_eqb}
 use Rattle.std.specs.Fmt.{decimal}
 use Rattle.std.specs.List.{list_all}
 use Rattle.std.specs.Option.{option_to_list}
@@ -9,23 +9,24 @@ use Rattle.line_wave.specs.declared.Stretch.{Stretch}
 use Rattle.line_wave.specs.Line.{IsWaveFrom}
 use Rattle.text_core.specs.Lines.{lines_of}
 use Rattle.text_core.specs.declared.at.At.{At}
-use Rattle.capture_core.specs.Edges.{Captured, edges_of}
-use Rattle.capture_core.specs.Track.{first_track as line_begun}
-use Rattle.capture_core.proofs.Ends.{EndsBy, ends_by}
-use Rattle.capture_core.proofs.Moving.{due, move_kept, move_reported, move_same, track_at}
-use Rattle.capture_core.proofs.Numbers.{number_again, some_length}
-use Rattle.capture_core.proofs.Texts.{Lacks, line_before, shown}
+use Rattle.capture_core.specs.Edges.{Captured, edges_of, EndsBy}
+use Rattle.capture_core.specs.Track.{first_track as line_begun, due, track_at}
+use Rattle.capture_core.proofs.Ends.{ends_by}
+use Rattle.capture_core.proofs.Moving.{move_kept, move_reported, move_same}
+use Rattle.capture_core.proofs.Numbers.{number_again}
+use Rattle.capture_core.proofs.Texts.{line_before, shown}
+use Rattle.capture_core.specs.Texts.{Lacks}
 use Rattle.capture_core.specs.Reading.{at_word, lines_read, with_edges, words_read}
 use Rattle.capture_core.specs.declared.fault.Cause.{Cause}
 use Rattle.capture_core.proofs.Passing.{alone, line_passed}
 use Rattle.capture_vcd.specs.Scale.{instant_of}
 use Rattle.capture_vcd.specs.Dump.{State, after_time, dump_form, first_state, no_edge, parts_of, timed_by, took}
-use Rattle.capture_vcd.specs.Text.{head, changes, last, DumpsAreReadBack}
+use Rattle.capture_vcd.specs.Text.{head, changes, last, time_line, DumpsAreReadBack}
 use Rattle.capture_vcd.specs.declared.scale.Scale.{Scale as ScaleOf}
 use Rattle.capture_vcd.specs.declared.scale.Unit.TheVariants.{Microsecond}
 use Rattle.capture_vcd.specs.declared.scale.Count.TheVariants.{One}
 use Rattle.capture_vcd.specs.declared.reader.Section.TheVariants as section
-use Rattle.capture_vcd.proofs.Texts.{time_line, value_line, time_plain, value_plain, time_parts, value_parts}
+use Rattle.capture_vcd.proofs.Texts.{value_line, time_plain, value_plain, time_parts, value_parts}
 
 abbrev scale : ScaleOf
 scale = record { count = One; unit = Microsecond }
@@ -52,7 +53,7 @@ instant_again t low =
 
 time_taken : (t at : ℕ) (was is : Bool) → t ≤ 2000000000000 → took (time_line t) (stood at was is) ≡ after_time (Some t) (stood at was is)
 time_taken t at was is low =
-    rw (some_length (length (decimal t))) (ap (λ i. after_time i (stood at was is)) (instant_again t low))
+    rw (ne_eqb (suc (length (decimal t))) 0 (omega arith)) (ap (λ i. after_time i (stood at was is)) (instant_again t low))
 
 -- no edge is told
 time_kept : (t at : ℕ) (b : Bool) → t ≤ 2000000000000 → at ≤ t → took (time_line t) (stood at b b) ≡ no_edge (stood t b b)

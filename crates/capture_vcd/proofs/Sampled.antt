@@ -14,7 +14,8 @@ use Rattle.capture_core.specs.Edges.{Captured, IsCapture}
 use Rattle.capture_core.specs.Samples.{Sample, level_in}
 use Rattle.capture_core.specs.Track.{Moved, first_track as line_begun, last_edge, track_move, with_level}
 use Rattle.capture_core.specs.declared.track.Track.{Track}
-use Rattle.capture_core.proofs.Recording.{Records, moved_at, records_capture, records_end, records_level, records_line, records_moved}
+use Rattle.capture_core.specs.Recording.{Records}
+use Rattle.capture_core.proofs.Recording.{moved_at, records_capture, records_end, records_level, records_line, records_moved}
 use Rattle.capture_core.specs.Reading.{Passed as PassedOf, Step as StepOf, at_word, end_read, lines_read, onto, word_read, words_read}
 use Rattle.capture_core.specs.declared.fault.Cause.TheVariants as cause
 use Rattle.capture_core.specs.declared.fault.Cause.{Cause}

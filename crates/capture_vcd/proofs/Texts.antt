@@ -4,16 +4,15 @@ use Rattle.std.specs.Fmt.{decimal}
 use Rattle.std.specs.Char.{digit_value}
 use Rattle.std.proofs.lemmas.Bool.Decides.{nat_tests}
 use Rattle.std.proofs.lemmas.List.Splits.{slice_split_none}
-use Rattle.capture_core.proofs.Texts.{Lacks, none_lack, more_lack, number_lacks, number_plain}
+use Rattle.capture_core.specs.Texts.{Lacks}
+use Rattle.capture_core.proofs.Texts.{none_lack, more_lack, number_lacks, number_plain}
 use Rattle.capture_vcd.specs.Dump.{is_space, parts_of}
+use Rattle.capture_vcd.specs.Text.{time_line}
 
 digit_space : (c : ℕ) → digit_value c < 10 → is_space c ≡ false
 digit_space c h = grind (arith, nat_tests)
 
--- a line with a time, and one with a value
-abbrev pub time_line : ℕ → List ℕ
-time_line t = 35 ∷ decimal t
-
+-- a line with a value
 abbrev pub value_line : ℕ → List ℕ
 value_line v = v ∷ 33 ∷ []
 

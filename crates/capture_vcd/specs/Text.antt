@@ -12,6 +12,10 @@ use Rattle.capture_vcd.specs.Dump.{edges_in}
 abbrev pub head : List ℕ
 head = codes "$version hdminet $end\n$timescale 1 us $end\n$scope module hdmi $end\n$var wire 1 ! CEC $end\n$upscope $end\n$enddefinitions $end\n#0\n$dumpvars\n1!\n$end\n"
 
+-- a line with a time
+abbrev pub time_line : ℕ → List ℕ
+time_line t = 35 ∷ decimal t
+
 -- the fall and the rise of a stretch, each in two lines: readers that go by lines want the time alone (vcd2fst)
 abbrev pub change_lines : Stretch → List ℕ
 change_lines s = concat (codes "#" ∷ decimal s.from ∷ codes "\n0!\n#" ∷ decimal s.to ∷ codes "\n1!\n" ∷ [])

@@ -9,6 +9,6 @@ mod scale;
 mod words;
 mod writing;
 
-pub use laws::{dumps_are_read_back, dumps_are_sampled};
+pub use laws::{dumps_are_read_back, dumps_are_sampled, times_are_lines};
 pub use reading::read_vcd;
 pub use writing::{add_changes, add_head, add_last};

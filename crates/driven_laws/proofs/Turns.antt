@@ -13,8 +13,7 @@ use Rattle.line_rounds.specs.Round.{close_in}
 use Rattle.line_rounds.proofs.Alone.{rounds_are_lone}
 use Rattle.line_rounds.proofs.Lasting.{rounds_last}
 use Rattle.drive_laws.proofs.Whole.{drives_are_ruled, drives_are_the_line}
-use Rattle.wires_laws.specs.Dumps.{AreSpans, IsWithin, Span, wire_at}
-use Rattle.wires_laws.proofs.Changes.{spans_text}
+use Rattle.wires_laws.specs.Dumps.{AreSpans, IsWithin, Span, spans_text, wire_at}
 use Rattle.room_net.specs.Start.{first_onset, least_start, sooner}
 use Rattle.room_net.specs.State.{NetState, next_start}
 use Rattle.room_net.specs.Apply.{net_after}

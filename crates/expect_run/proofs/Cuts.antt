@@ -1,5 +1,5 @@
 -- A plain script that ends earlier says the same events before then, the same pulses and pulls, and that end, which lets the pin go.
-use Rattle.std.proofs.Common.{◌≡◌, ℕ, ◌+◌, ◌^◌, ◌<◌, ◌≤◌, ◌==◌, ◌&&◌, Bool, true, false, cond, codes, if◌then◌else◌, List, [], ◌∷◌, ◌++◌, length, map, filter, nat_lt, nat_le, Option, Some, None, is_some, option_map, inl, inr, Result, Ok, Err, refl, sym, ap, subst, ◌∙◌, arith}
+use Rattle.std.proofs.Common.{◌≡◌, ℕ, suc, ◌+◌, ◌^◌, ◌<◌, ◌≤◌, ◌==◌, ◌&&◌, Bool, true, false, cond, codes, if◌then◌else◌, List, [], ◌∷◌, ◌++◌, length, map, filter, nat_lt, nat_le, Option, Some, None, is_some, option_map, inl, inr, Result, Ok, Err, refl, sym, ap, subst, ◌∙◌, arith, ne_eqb}
 use Rattle.std.specs.Str.{bytes_eq}
 use Rattle.std.specs.Fmt.{decimal}
 use Rattle.std.proofs.lemmas.Bool.Decides.{nat_tests}
@@ -11,8 +11,9 @@ use Rattle.edid_tree.specs.Node.{Node}
 use Rattle.line_wave.specs.Bounds.{latest_event}
 use Rattle.text_core.specs.Lines.{lines_of, is_skipped}
 use Rattle.text_core.specs.Words.{words_of, one_of, two_of}
-use Rattle.capture_core.proofs.Numbers.{number_again, some_length}
-use Rattle.capture_core.proofs.Texts.{Lacks, more_lack, none_lack, number_lacks, number_plain}
+use Rattle.capture_core.specs.Texts.{Lacks}
+use Rattle.capture_core.proofs.Numbers.{number_again}
+use Rattle.capture_core.proofs.Texts.{more_lack, none_lack, number_lacks, number_plain}
 use Rattle.room_script.specs.declared.script.TimedEvent.{TimedEvent}
 use Rattle.text_core.specs.At.{at_word}
 use Rattle.text_core.specs.declared.at.AtWord.{AtWord}
@@ -42,7 +43,7 @@ end_line_reported : (time : ℕ) → is_skipped (end_line time) ≡ false
 end_line_reported time = reported (110 ∷ 100 ∷ 32 ∷ decimal time)
   where
     reported : (cs : List ℕ) → is_skipped (101 ∷ cs) ≡ false
-    reported cs = rw (some_length (length cs)) refl
+    reported cs = rw (ne_eqb (suc (length cs)) 0 (omega arith)) refl
 
 time_again : (time : ℕ) → time ≤ latest_event → time_of (decimal time) ≡ Some time
 time_again time low =

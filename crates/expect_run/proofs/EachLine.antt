@@ -2,7 +2,8 @@
 use Rattle.std.proofs.Common.{◌≡◌, ℕ, ◌==◌, Bool, true, false, cond, if◌then◌else◌, List, [], ◌∷◌, ◌++◌, length, map, refl, ap, ◌∙◌, append_assoc}
 use Rattle.std.specs.List.{flat_map, slice_split, onto_first}
 use Rattle.text_core.specs.Lines.{lines_of, without_empty_end}
-use Rattle.capture_core.proofs.Texts.{Lacks, line_before, more_lack, none_lack}
+use Rattle.capture_core.specs.Texts.{Lacks}
+use Rattle.capture_core.proofs.Texts.{line_before, more_lack, none_lack}
 
 -- no line feed in any of these
 abbrev pub Lacking : List (List ℕ) → Type 0

@@ -6,12 +6,13 @@ use Rattle.std.proofs.lemmas.List.Elements.{All-append, All-head, All-tail}
 use Rattle.edid_tree.specs.Node.{Node}
 use Rattle.text_core.specs.Lines.{lines_of}
 use Rattle.text_core.specs.Words.{words_of, text_of}
-use Rattle.capture_core.proofs.Texts.{Lacks, more_lack, none_lack}
+use Rattle.capture_core.proofs.Texts.{more_lack, none_lack}
 use Rattle.text_core.specs.At.{at_line, at_word}
 use Rattle.room_script.specs.Script.{Course, Notes, AreLinesRead, Gives, GivesScript, IsLineRead, IsScriptRead, course_at_end, error_at, no_notes}
 use Rattle.text_core.specs.declared.at.At.{At}
 use Rattle.room_script.specs.declared.script.ScriptCause.{ScriptCause}
 use Rattle.text_core.specs.declared.at.AtWord.{AtWord}
+use Rattle.capture_core.specs.Texts.{Lacks}
 use Rattle.room_script.specs.declared.script.ScriptCause.TheVariants.{End}
 use Rattle.room_script.specs.declared.script.ScriptError.TheVariants as errors
 use Rattle.room_script.specs.declared.script.ScriptLineError.{ScriptLineError}

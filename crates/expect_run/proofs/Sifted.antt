@@ -3,7 +3,8 @@ use Rattle.std.proofs.Common.{◌≡◌, ℕ, ◌<◌, ◌==◌, Bool, true, fal
 use Rattle.std.specs.List.{onto_first, slice_split}
 use Rattle.std.proofs.lemmas.List.Splits.{length-slice_split}
 use Rattle.text_core.specs.Lines.{lines_of, without_empty_end}
-use Rattle.capture_core.proofs.Texts.{Lacks, line_before, more_lack, none_lack}
+use Rattle.capture_core.specs.Texts.{Lacks}
+use Rattle.capture_core.proofs.Texts.{line_before, more_lack, none_lack}
 use Rattle.expect_run.specs.Sieve.{IsClosed, IsLine}
 
 -- ---- a text after the end of a line

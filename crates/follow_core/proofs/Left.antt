@@ -1,6 +1,8 @@
 -- A line that is taken, before those that are left.
 use Rattle.std.proofs.Common.{◌≡◌, ℕ, ◌+◌, ◌≤◌, Bool, true, false, nat_le, if◌then◌else◌, List, [], ◌∷◌, ◌++◌, Option, Some, None, IfSome, Result, Ok, Err, refl, sym, ap, subst, ◌∙◌, append_assoc, arith}
 use Rattle.std.specs.Option.{option_to_list}
+use Rattle.std.specs.List.{slice_split}
+use Rattle.std.proofs.lemmas.List.Splits.{slice_split_none}
 use Rattle.line_wave.specs.declared.Edge.{Edge as EdgeOf}
 use Rattle.line_wave.specs.Bounds.{latest_instant}
 use Rattle.text_core.specs.Lines.{is_skipped}
@@ -12,7 +14,7 @@ use Rattle.capture_core.specs.Track.{last_edge}
 use Rattle.capture_core.specs.Reading.{end_read as end_of_lines}
 use Rattle.capture_core.specs.declared.fault.Cause.{Cause}
 use Rattle.capture_core.specs.Reading.{Step, Takes, lines_read, read_on, with_edges, word_read, words_read}
-use Rattle.capture_core.proofs.Passing.{alone, whole, without_word}
+use Rattle.capture_core.proofs.Passing.{alone, without_word}
 use Rattle.capture_pin.specs.Pin.{pin_form, took, word_at_fault}
 use Rattle.capture_pin.specs.Sampling.{PinLinesAreEarly, PinLinesGoOn}
 use Rattle.capture_pin.specs.declared.reader.PinReader.{PinReader}
@@ -44,6 +46,10 @@ both a b (Err f) = refl
 one_more : (x : EdgeOf) (r : Result EdgeFile EdgeFault) → of_edges (with_edge x r) ≡ with_edges (x ∷ []) (of_edges r)
 one_more x (Ok f) = refl
 one_more x (Err f) = refl
+
+-- a line without a gap is one word
+whole : (line : List ℕ) → slice_split (λ b. false) line ≡ line ∷ []
+whole line = slice_split_none (λ b. false) line (λ k d h. refl)
 
 -- ---- an edge file
 

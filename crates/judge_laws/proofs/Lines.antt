@@ -8,7 +8,8 @@ use Rattle.std.proofs.lemmas.Bool.Decides.{nat_tests}
 use Rattle.std.proofs.lemmas.List.Splits.{slice_split_at}
 use Rattle.text_core.specs.Lines.{lines_of}
 use Rattle.text_core.specs.Words.{words_of}
-use Rattle.capture_core.proofs.Texts.{Lacks, line_before, more_lack, none_lack, number_lacks}
+use Rattle.capture_core.specs.Texts.{Lacks}
+use Rattle.capture_core.proofs.Texts.{line_before, more_lack, none_lack, number_lacks}
 use Rattle.audit_core.specs.Kept.{IsPlain}
 use Rattle.audit_core.proofs.Plain.{plain_more}
 use Rattle.expect_judge.specs.Told.{EventLine, RoundLine, event_in, events_of, round_in, rounds_of}

@@ -14,7 +14,7 @@ use Rattle.edid_tree.specs.Node.{Node}
 use Rattle.edid_tree.specs.Path.{is_on_wire}
 use Rattle.text_core.specs.Lines.{lines_of}
 use Rattle.text_core.specs.Words.{words_of}
-use Rattle.capture_core.proofs.Texts.{Lacks}
+use Rattle.capture_core.specs.Texts.{Lacks}
 use Rattle.device_core.specs.State.{State}
 use Rattle.room_net.specs.State.{NetState, next_start, first_net}
 use Rattle.room_net.specs.Apply.{net_after, event_fault}

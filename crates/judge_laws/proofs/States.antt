@@ -15,8 +15,9 @@ use Rattle.edid_tree.specs.Tree.{ports_of}
 use Rattle.text_core.specs.Lines.{lines_of}
 use Rattle.text_core.specs.Number.{number_of}
 use Rattle.text_core.specs.Words.{words_of}
+use Rattle.capture_core.specs.Texts.{Lacks}
 use Rattle.capture_core.proofs.Numbers.{number_again}
-use Rattle.capture_core.proofs.Texts.{Lacks, line_before, shown}
+use Rattle.capture_core.proofs.Texts.{line_before, shown}
 use Rattle.device_core.specs.State.{State}
 use Rattle.room_event.specs.declared.event.EventError.{EventError}
 use Rattle.room_net.specs.State.{NetState, first_net}

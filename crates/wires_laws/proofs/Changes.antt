@@ -6,12 +6,11 @@ use Rattle.line_wave.specs.declared.Stretch.{Stretch}
 use Rattle.line_wave.specs.Line.{line_of}
 use Rattle.line_wave.specs.Bounds.{latest_instant}
 use Rattle.capture_core.proofs.Numbers.{decimal_value}
-use Rattle.capture_vcd.specs.Text.{last}
+use Rattle.capture_vcd.specs.Text.{last, time_line}
 use Rattle.capture_vcd.specs.Wire.{Change, changes_in, is_by, level_of, words_in}
 use Rattle.capture_vcd.specs.declared.reader.Section.TheVariants as section
-use Rattle.capture_vcd.proofs.Texts.{time_line}
 use Rattle.capture_wires.specs.Wires.{high_at_first, id_of, instant_text, turns, wires_text}
-use Rattle.wires_laws.specs.Dumps.{AreSpans, Span, wire_at}
+use Rattle.wires_laws.specs.Dumps.{AreSpans, Span, spans_text, wire_at}
 use Rattle.wires_laws.proofs.Levels.{change_by, micro, own_change, own_changes, span_changes}
 use Rattle.wires_laws.proofs.Words.{change_word, change_words, instant_words, instant_words_by, other_id, own_id, time_words, value_word, value_words, words_instant}
 
@@ -113,9 +112,6 @@ wires_reported k wires from (suc count) text cs small rest tick =
     ∙ instant_reported k from wires (words_in (wires_text wires (from + 1) count ++ text)) (own_changes (line_of (wire_at k wires)) (from + 1) count ++ cs) (omega (arith, small))
     (wires_reported k wires (from + 1) count text cs (omega (arith, small)) rest) tick
     ∙ sym (append_assoc (own_change (line_of (wire_at k wires)) from) (own_changes (line_of (wire_at k wires)) (from + 1) count) cs)
-
-abbrev pub spans_text : List Span → List ℕ
-spans_text spans = flat_map (λ s. wires_text s.wires s.from s.count) spans
 
 -- spans end by an end
 pub ends_span : (from end : ℕ) (ss : List Span) → AreSpans from end ss → from ≤ end + 1

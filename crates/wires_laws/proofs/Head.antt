@@ -4,21 +4,16 @@ use Rattle.std.specs.List.{flat_map, list_all, range_with_len}
 use Rattle.std.specs.Str.{bytes_eq}
 use Rattle.std.proofs.lemmas.List.Elements.{All-append}
 use Rattle.std.proofs.lemmas.List.Splits.{slice_split_at}
-use Rattle.capture_core.proofs.Texts.{Lacks, more_lack, none_lack, shown}
+use Rattle.capture_core.specs.Texts.{Lacks}
+use Rattle.capture_core.proofs.Texts.{more_lack, none_lack, shown}
 use Rattle.capture_vcd.specs.Dump.{is_end, is_space, parts_of}
 use Rattle.capture_vcd.specs.Wire.{is_some_word, wire_from, wire_in, words_in}
 use Rattle.capture_wires.specs.Wires.{closing, head, high_at_first, id_of, opening, variable, variables}
-use Rattle.wires_laws.specs.Dumps.{declared_from, declared_in, is_word, numbered_names}
+use Rattle.wires_laws.specs.Dumps.{IsName, WordsAreNames, declared_from, declared_in, is_word, numbered_names}
 use Rattle.wires_laws.proofs.Levels.{micro}
 use Rattle.wires_laws.proofs.Words.{id_end, id_plain, id_space, line_words, shown_words, words_before}
 
 -- ---- a name
-
-pub record IsName (name : List ℕ) : Type 0 where
-  pub some : (length name == 0) ≡ false
-  pub other : is_end name ≡ false
-  pub solid : Lacks is_space name
-  pub plain : Lacks (λ c. c == 10) name
 
 word_parts : (a b c : Bool) → (not a && (not b && c)) ≡ true → (a ≡ false) × (b ≡ false) × (c ≡ true)
 word_parts true b c h = cc
@@ -33,7 +28,7 @@ or_right : (a b : Bool) → (a || b) ≡ false → b ≡ false
 or_right true b h = cc
 or_right false b h = h
 
-pub name_of : (name : List ℕ) → is_word name ≡ true → IsName name
+pub name_of : WordsAreNames
 name_of name h =
     let parts = word_parts (length name == 0) (is_end name) (list_all (λ b. not (is_space b || (b == 10))) name) h in
     let lacks = shown (λ b. is_space b || (b == 10)) name parts.2 in

@@ -14,10 +14,9 @@ use Rattle.capture_vcd.specs.declared.scale.Scale.{Scale as ScaleOf}
 use Rattle.capture_vcd.specs.declared.reader.Section.TheVariants as section
 use Rattle.capture_vcd.proofs.Sampled.{dumps_are_sampled}
 use Rattle.capture_wires.specs.Wires.{closing, head, high_at_first, id_of, opening, variable, variables}
-use Rattle.wires_laws.specs.Dumps.{AreSpans, DumpsAreReadAsTheLine, Span, ReportsLine, dump_of, is_word}
+use Rattle.wires_laws.specs.Dumps.{AreSpans, DumpsAreReadAsTheLine, IsName, Span, ReportsLine, dump_of, is_word, spans_text}
 use Rattle.wires_laws.proofs.Levels.{micro}
-use Rattle.wires_laws.proofs.Changes.{spans_text}
-use Rattle.wires_laws.proofs.Head.{IsName, closing_parted, head_wire, high_text, line_parts, line_plain, name_of, variable_line, variable_text, variable_words}
+use Rattle.wires_laws.proofs.Head.{closing_parted, head_wire, high_text, line_parts, line_plain, name_of, variable_line, variable_text, variable_words}
 use Rattle.wires_laws.proofs.Whole.{dumps_report_their_wires}
 use Rattle.wires_laws.proofs.Words.{id_end}
 use Rattle.wires_laws.proofs.Reading.{AllEnd, Reads, highs_read, line_ends, spans_read, stood}

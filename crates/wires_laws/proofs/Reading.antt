@@ -1,5 +1,5 @@
 -- A reader takes each line of the changes of several wires.
-use Rattle.std.proofs.Common.{◌≡◌, ℕ, zero, suc, ◌+◌, ◌≤◌, ◌==◌, ◌&&◌, Bool, true, false, nat_lt, nat_le, if◌then◌else◌, List, [], ◌∷◌, ◌++◌, length, Option, Some, None, Ok, refl, sym, ap, ◌∙◌, subst, arith, append_assoc}
+use Rattle.std.proofs.Common.{◌≡◌, ℕ, zero, suc, ◌+◌, ◌≤◌, ◌==◌, ◌&&◌, Bool, true, false, nat_lt, nat_le, if◌then◌else◌, List, [], ◌∷◌, ◌++◌, length, Option, Some, None, Ok, refl, sym, ap, ◌∙◌, subst, arith, append_assoc, ne_eqb}
 use Rattle.std.specs.Fmt.{decimal}
 use Rattle.std.specs.List.{flat_map, list_any, range_with_len}
 use Rattle.std.specs.Option.{option_to_list}
@@ -12,20 +12,21 @@ use Rattle.line_wave.specs.Bounds.{latest_instant}
 use Rattle.text_core.specs.Lines.{lines_of}
 use Rattle.capture_core.specs.Track.{Moved, differ, last_edge, track_move, with_level}
 use Rattle.capture_core.specs.declared.track.Track.{Track}
-use Rattle.capture_core.proofs.Numbers.{number_again, some_length}
-use Rattle.capture_core.proofs.Texts.{Lacks, line_before}
+use Rattle.capture_core.specs.Texts.{Lacks}
+use Rattle.capture_core.proofs.Numbers.{number_again}
+use Rattle.capture_core.proofs.Texts.{line_before}
 use Rattle.capture_core.specs.Reading.{at_word, lines_read, with_edges, words_read}
 use Rattle.capture_core.proofs.Passing.{line_passed, word_taken}
 use Rattle.capture_vcd.specs.Scale.{instant_of}
 use Rattle.capture_vcd.specs.Dump.{State, after_time, dump_form, no_edge, parts_of, timed_by, took}
-use Rattle.capture_vcd.specs.Text.{last}
+use Rattle.capture_vcd.specs.Text.{last, time_line}
 use Rattle.capture_vcd.specs.declared.reader.Section.TheVariants as section
-use Rattle.capture_vcd.proofs.Texts.{time_line, time_parts, time_plain}
+use Rattle.capture_vcd.proofs.Texts.{time_parts, time_plain}
 use Rattle.capture_wires.specs.Wires.{change_text, changes_from, high_at_first, id_of, instant_text, turns, wires_text}
-use Rattle.wires_laws.specs.Dumps.{AreSpans, Span}
+use Rattle.wires_laws.specs.Dumps.{AreSpans, Span, spans_text}
 use Rattle.wires_laws.proofs.Levels.{micro}
 use Rattle.wires_laws.proofs.Words.{line_parted, value_parts, value_plain, value_word}
-use Rattle.wires_laws.proofs.Changes.{ends_span, spans_text}
+use Rattle.wires_laws.proofs.Changes.{ends_span}
 
 -- what is left is read up to an end
 pub record Ends (end : ℕ) (text : List ℕ) (s : State) (number : ℕ) : Type 0 where
@@ -109,7 +110,7 @@ instant_again t low =
 
 time_taken : (asked candidate : List ℕ) (track : Track) (t : ℕ) → t ≤ latest_instant → took (time_line t) (stood asked candidate track) ≡ after_time (Some t) (stood asked candidate track)
 time_taken asked candidate track t low =
-    rw (some_length (length (decimal t))) (ap (λ i. after_time i (stood asked candidate track)) (instant_again t low))
+    rw (ne_eqb (suc (length (decimal t))) 0 (omega arith)) (ap (λ i. after_time i (stood asked candidate track)) (instant_again t low))
 
 time_reads : (asked candidate : List ℕ) (end t : ℕ) (rest : List ℕ) (track : Track) → track.at ≤ t → t ≤ end → end ≤ latest_instant
     → ((next : Track) → next.at ≡ t → AllEnd end rest (stood asked candidate next)) → AllEnd end (time_line t ++ 10 ∷ rest) (stood asked candidate track)

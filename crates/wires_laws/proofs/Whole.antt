@@ -5,10 +5,10 @@ use Rattle.line_wave.specs.Bounds.{latest_instant}
 use Rattle.capture_vcd.specs.Text.{last}
 use Rattle.capture_vcd.specs.Wire.{level_of, words_in}
 use Rattle.capture_wires.specs.Wires.{high_at_first}
-use Rattle.wires_laws.specs.Dumps.{AreSpans, DumpsReportTheirWires, Span, level_at}
+use Rattle.wires_laws.specs.Dumps.{AreSpans, DumpsReportTheirWires, Span, level_at, spans_text}
 use Rattle.wires_laws.proofs.Levels.{micro, spans_level}
 use Rattle.wires_laws.proofs.Words.{shown_words}
-use Rattle.wires_laws.proofs.Changes.{body_reported, highs_reported, spans_text, reported}
+use Rattle.wires_laws.proofs.Changes.{body_reported, highs_reported, reported}
 use Rattle.wires_laws.proofs.Head.{head_declared, head_wire, high_text}
 
 -- ---- after the definitions

@@ -1,5 +1,5 @@
 -- The words of a dump's lines.
-use Rattle.std.proofs.Common.{◌≡◌, ℕ, zero, suc, ◌+◌, ◌^◌, ◌<◌, ◌≤◌, ◌==◌, ◌||◌, not, Bool, true, false, if◌then◌else◌, List, [], ◌∷◌, ◌++◌, length, codes, filter, refl, sym, ap, ◌∙◌, arith, append_assoc}
+use Rattle.std.proofs.Common.{◌≡◌, ℕ, zero, suc, ◌+◌, ◌^◌, ◌<◌, ◌≤◌, ◌==◌, ◌||◌, not, Bool, true, false, if◌then◌else◌, List, [], ◌∷◌, ◌++◌, length, codes, filter, refl, sym, ap, ◌∙◌, arith, append_assoc, ne_eqb}
 use Rattle.std.specs.Fmt.{decimal}
 use Rattle.std.specs.List.{flat_map, list_all, list_any}
 use Rattle.std.specs.Str.{bytes_eq}
@@ -10,11 +10,12 @@ use Rattle.std.proofs.lemmas.Slice.Eq.{bytes_eq-Decides}
 use Rattle.line_wave.specs.declared.Stretch.{Stretch}
 use Rattle.line_wave.specs.Line.{line_of}
 use Rattle.text_core.specs.Lines.{lines_of}
-use Rattle.capture_core.proofs.Numbers.{some_length}
-use Rattle.capture_core.proofs.Texts.{Lacks, line_before, more_lack, none_lack, shown}
+use Rattle.capture_core.specs.Texts.{Lacks}
+use Rattle.capture_core.proofs.Texts.{line_before, more_lack, none_lack, shown}
 use Rattle.capture_vcd.specs.Dump.{is_end, is_space, parts_of}
 use Rattle.capture_vcd.specs.Wire.{is_some_word, words_in}
-use Rattle.capture_vcd.proofs.Texts.{time_line, time_parts, time_plain}
+use Rattle.capture_vcd.specs.Text.{time_line}
+use Rattle.capture_vcd.proofs.Texts.{time_parts, time_plain}
 use Rattle.capture_wires.specs.Wires.{change_text, changes_from, id_of, instant_text, turns}
 
 -- ---- one line
@@ -42,13 +43,13 @@ shown_words line rest all = words_before line rest (shown (λ c. c == 10) line a
 pub time_words : (t : ℕ) (rest : List ℕ) → t < 2 ^ 64 → words_in (time_line t ++ 10 ∷ rest) ≡ time_line t ∷ words_in rest
 time_words t rest small =
     words_before (time_line t) rest (time_plain t small)
-    ∙ ap (λ ws. ws ++ words_in rest) (one_word (time_line t) (time_parts t small) (some_length (length (decimal t))))
+    ∙ ap (λ ws. ws ++ words_in rest) (one_word (time_line t) (time_parts t small) (ne_eqb (suc (length (decimal t))) 0 (omega arith)))
 
 -- ---- an identifier
 
 id_least : (number : ℕ) → 33 ≤ id_of number
 id_least zero = omega arith
-id_least (suc number) = rw (some_length number) (omega arith)
+id_least (suc number) = rw (ne_eqb (suc number) 0 (omega arith)) (omega arith)
 
 other_byte : (x c : ℕ) → 33 ≤ x → c < 33 → (x == c) ≡ false
 other_byte x c h l = grind (arith, nat_tests)
@@ -78,7 +79,7 @@ id_end number = none (is_end (id_of number ∷ [])) (λ h. short ((bytes_eq-Deci
     short e = let n : 1 ≡ 4 = ap length e in absurd (omega (arith, n))
 
 id_some : (a : ℕ) → id_of (suc a) ≡ suc a + 96
-id_some a = rw (some_length a) refl
+id_some a = rw (ne_eqb (suc a) 0 (omega arith)) refl
 
 id_one : (a b : ℕ) → id_of a ≡ id_of b → a ≡ b
 id_one zero zero e = refl

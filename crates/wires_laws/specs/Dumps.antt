@@ -7,6 +7,7 @@ use Rattle.line_wave.specs.declared.Stretch.{Stretch}
 use Rattle.line_wave.specs.Line.{line_of}
 use Rattle.line_wave.specs.Bounds.{latest_instant}
 use Rattle.capture_core.specs.Edges.{Captured, IsCapture, line_of_edges}
+use Rattle.capture_core.specs.Texts.{Lacks}
 use Rattle.capture_vcd.specs.Dump.{edges_in, is_end, is_space}
 use Rattle.capture_vcd.specs.Text.{last}
 use Rattle.capture_vcd.specs.Wire.{Part, Wire, wire_in, wire_line, words_in}
@@ -69,14 +70,28 @@ abbrev pub AreSpans : ℕ → ℕ → List Span → Type 0
 AreSpans from end [] = from ≤ end + 1
 AreSpans from end (s ∷ ss) = (from ≤ s.from) × IsWithin s × AreSpans (s.from + s.count) end ss
 
+-- what is written of their changes
+abbrev pub spans_text : List Span → List ℕ
+spans_text spans = flat_map (λ s. wires_text s.wires s.from s.count) spans
+
 abbrev pub dump_of : List (List ℕ) → List Span → ℕ → List ℕ
-dump_of names spans end = head names ++ (flat_map (λ s. wires_text s.wires s.from s.count) spans ++ last end)
+dump_of names spans end = head names ++ (spans_text spans ++ last end)
 
 -- ---- what is read of it
 
 -- a name is one word, and none that ends a section
 abbrev pub is_word : List ℕ → Bool
 is_word name = not (length name == 0) && (not (is_end name) && list_all (λ b. not (is_space b || (b == 10))) name)
+
+-- such a name, as words of a dump's line
+pub record IsName (name : List ℕ) : Type 0 where
+  pub some : (length name == 0) ≡ false
+  pub other : is_end name ≡ false
+  pub solid : Lacks is_space name
+  pub plain : Lacks (λ c. c == 10) name
+
+abbrev pub WordsAreNames : Type 0
+WordsAreNames = (name : List ℕ) → is_word name ≡ true → IsName name
 
 -- the names by their numbers
 abbrev pub numbered_names : ℕ → List (List ℕ) → List Declared

@@ -3,4 +3,4 @@
 
 mod laws;
 
-pub use laws::{dumps_are_read_as_the_line, dumps_report_their_wires};
+pub use laws::{dumps_are_read_as_the_line, dumps_report_their_wires, words_are_names};
