@@ -7,10 +7,9 @@ use Rattle.edid_text_lines.specs.declared.line.Line.{Line}
 use Rattle.edid_text_lines.specs.declared.line.Keyword.{Keyword}
 use Rattle.edid_text_lines.specs.declared.line.Keyword.TheVariants.{Edid, Maker, Product, Serial, Made, Input, Size, Gamma, Features, Chroma, Established, Standard, Timing, Name, Text, SerialText, Range, Dummy, Raw, Cta, CtaNone, Tag0, Audio, Video, Vendor, Speakers, Tag5, Tag6, Extended, Hdmi, Tail, Ext}
 use Rattle.edid_core.specs.declared.edid.Edid.{Edid as WholeEdid}
-use Rattle.edid_texts.specs.Cut.{lines_with_feeds}
+use Rattle.edid_texts.specs.Cut.{lines_with_feeds, has_no_feed, AreLines}
 use Rattle.edid_texts.specs.Lines.{edid_lines, edid_text}
-use Rattle.edid_texts.proofs.CutTexts.{line_split, one_line_of}
-use Rattle.edid_texts.proofs.Good.{has_no_feed, Good, EachGood, edid_good}
+use Rattle.edid_texts.proofs.CutTexts.{line_split, edid_are_lines}
 use Rattle.meaning_words.specs.Notes.{printable, own_line}
 use Rattle.conversion_notes.specs.Meanings.{is_plain, plain_text, meanings}
 use Rattle.rules_values.specs.VideoCodes.{video_codes}
@@ -93,19 +92,19 @@ kept x xs h = at (is_plain x) h
     at true h = refl
     at false h = cc
 
-line_kept : (l : Line) (rest : List ℕ) → Good l → plain_text (line_text l ++ rest) ≡ line_text l ++ plain_text rest
-line_kept l rest good =
-    ap (λ ls. flat_map (λ line. line) (filter is_plain ls)) (one_line_of l rest good)
+line_kept : (l : Line) (rest : List ℕ) → lines_with_feeds (line_text l ++ rest) ≡ line_text l ∷ lines_with_feeds rest → plain_text (line_text l ++ rest) ≡ line_text l ++ plain_text rest
+line_kept l rest one =
+    ap (λ ls. flat_map (λ line. line) (filter is_plain ls)) one
     ∙ kept (line_text l) (lines_with_feeds rest) (word_plain l.word (fields_text l.fields ++ (10 ∷ [])))
 
 -- a text of lines, whatever stands below them
-pub lines_kept : (below : Line → List (List ℕ)) (ls : List Line) → EachGood ls → plain_text (flat_map (λ l. line_text l ++ flat_map own_line (below l)) ls) ≡ flat_map line_text ls
-lines_kept below [] good = refl
-lines_kept below (l ∷ ls) good =
+pub lines_kept : (below : Line → List (List ℕ)) (ls : List Line) → AreLines ls → plain_text (flat_map (λ l. line_text l ++ flat_map own_line (below l)) ls) ≡ flat_map line_text ls
+lines_kept below [] are = refl
+lines_kept below (l ∷ ls) are =
     let more = flat_map (λ l. line_text l ++ flat_map own_line (below l)) ls in
     ap plain_text (append_assoc (line_text l) (flat_map own_line (below l)) more)
-    ∙ line_kept l (flat_map own_line (below l) ++ more) good.0
-    ∙ ap (λ x. line_text l ++ x) (all_below (below l) more ∙ lines_kept below ls good.1)
+    ∙ line_kept l (flat_map own_line (below l) ++ more) (are.0 (flat_map own_line (below l) ++ more))
+    ∙ ap (λ x. line_text l ++ x) (all_below (below l) more ∙ lines_kept below ls are.1)
 
 pub keeps : (e : WholeEdid) → plain_text (meaning_of e) ≡ edid_text e
-keeps e = lines_kept (meanings e.base (video_codes e.extensions.items)) (edid_lines e) (edid_good e)
+keeps e = lines_kept (meanings e.base (video_codes e.extensions.items)) (edid_lines e) (edid_are_lines e)

@@ -1,8 +1,9 @@
 -- What is put into a room, and EDIDs of their parts.
-use Rattle.std.proofs.Common.{drop-drop, refl, zero, suc, [], ◌∷◌, slice_get, append_assoc, length-append, take-append-drop, ◌≡◌, ◌≢◌, ℕ, ◌+◌, ◌<◌, ◌≤◌, ◌++◌, List, length, take, drop, flat_map, inl, inr, Some, None, Option, Result, Ok, arith, ap, sym, ◌∙◌, subst}
+use Rattle.std.proofs.Common.{drop-drop, refl, zero, suc, [], ◌∷◌, slice_get, get_or, append-nil, append_assoc, length-append, take-append-drop, ◌≡◌, ◌≢◌, ℕ, ◌+◌, ◌<◌, ◌≤◌, ◌++◌, List, length, take, drop, flat_map, inl, inr, Some, None, Option, Result, Ok, arith, ap, sym, ◌∙◌, subst}
 use Rattle.std.proofs.lemmas.Bool.{cases_lt}
 use Rattle.std.proofs.lemmas.Grind.{flat_map-append}
-use Rattle.std.proofs.lemmas.List.{length-drop, take_all}
+use Rattle.std.proofs.lemmas.List.{length-drop, take_all, take_more}
+use Rattle.std.proofs.lemmas.Option.{slice_get_within, get_or_from_slice_get}
 use Rattle.std.proofs.Math.Seq.{take-append_seam, drop-append-add}
 use Rattle.arrayvec.specs.ArrayVec.{ArrayVec}
 use Rattle.edid_base.specs.Base.{base_bytes}
@@ -15,7 +16,6 @@ use Rattle.edid_core.specs.Bytes.{edid_bytes}
 use Rattle.edid_core.specs.Passing.{passed_extensions, passed_on_bytes}
 use Rattle.edid_core.specs.declared.bytes.EdidError.{EdidError}
 use Rattle.edid_core.specs.declared.edid.Edid.{Edid}
-use Rattle.edid_texts.proofs.Writes.{text_more}
 use Rattle.edid_texts.specs.Lines.{edid_text, part_text}
 use Rattle.edid_text_lines.specs.Text.{line_text}
 use Rattle.edid_text_lines.specs.declared.line.Line.{Line}
@@ -80,6 +80,12 @@ past : (ls : List Line) (n : ℕ) → slice_get ls n ≡ None → length ls ≤ 
 past [] n h = omega arith
 past (l ∷ ls) zero h = cc
 past (l ∷ ls) (suc n) h = let rest = past ls n h in omega (arith, rest)
+
+text_more : (ls : List Line) (n : ℕ) (l : Line) → slice_get ls n ≡ Some l → texts (take (n + 1) ls) ≡ texts (take n ls) ++ line_text l
+text_more ls n l h =
+    let more = take_more ls n l (slice_get_within ls n l h) in
+    let same = get_or_from_slice_get ls n l l h in
+    ap texts more ∙ flat_map-append line_text (take n ls) (get_or ls n l ∷ []) ∙ ap (λ x. texts (take n ls) ++ x) (append-nil (line_text (get_or ls n l)) ∙ ap line_text same)
 
 front_le : (ls : List Line) (i : ℕ) → length (texts (take i ls)) ≤ length (texts ls)
 front_le ls i =
