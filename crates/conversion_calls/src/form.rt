@@ -82,7 +82,11 @@ pub(crate) fn write_in<S: Sink>(
 }
 
 /// Writes an EDID in a form.
-pub(crate) fn write_edid<S: Sink>(edid: &Edid, form: EdidForm, out: &mut S) -> Result<(), WriteFault>
+pub(crate) fn write_edid<S: Sink>(
+    edid: &Edid,
+    form: EdidForm,
+    out: &mut S,
+) -> Result<(), WriteFault>
     ensures { WrittenAll (S.contents out.old) (S.contents out.new) (S.is_stuck out.old) (S.is_stuck out.new) (form_text form edid.now) result }
 {
     write_in(&edid.base, &edid.extensions, form, out)

@@ -11,7 +11,7 @@ mod place;
 mod state;
 
 pub use device::{Device, Queued, SubmitError};
-pub use device_features::{Key, HeardReport, Port, Record, Volume, VolumeKey};
+pub use device_features::{HeardReport, Key, Port, Record, Volume, VolumeKey};
 pub use free_time::FreeTime;
 pub use keys::KeyError;
 pub use laws::{

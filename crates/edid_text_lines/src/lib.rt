@@ -7,5 +7,5 @@ mod line_to_text;
 mod text_to_line;
 
 pub use laws::{one_text_of_words, words_end_at_the_first_space};
-pub use line::{Fields, LineContent, Keyword, Line, WORD_TEXTS};
+pub use line::{Fields, Keyword, Line, LineContent, WORD_TEXTS};
 pub use text_to_line::{read_line, read_number, space_in, word_of};

@@ -12,7 +12,7 @@ ghost use Rattle.edid_text_lines.specs.declared.line.Fields.{Fields as FieldsVal
 ghost use Rattle.edid_text_lines.specs.declared.line.Line.{Line as LineValue};
 ghost use Rattle.edid_text_lines.specs.declared.line.Keyword.{Keyword as WordValue};
 
-use crate::line::{Fields, LineContent, Keyword, Line, WORDS};
+use crate::line::{Fields, Keyword, Line, LineContent, WORDS};
 use arrayvec::ArrayVec;
 use text_core::Phys;
 

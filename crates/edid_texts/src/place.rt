@@ -2,7 +2,7 @@
 ghost use Rattle.std.specs.Prelude.{◌≡◌};
 ghost use Rattle.edid_texts.specs.Words.{in_base, at_ext, is_tail_word, in_timings, in_blocks, may_begin, has_words};
 
-use edid_text_lines::{LineContent, Keyword};
+use edid_text_lines::{Keyword, LineContent};
 
 /// What may stand next.
 #[derive(Clone, Copy, Debug, PartialEq, Eq)]

@@ -15,7 +15,7 @@ use crate::states::all_states;
 use expect_text::{ExpectCause, Labels, fault_among};
 use room_run::emulate::EmulateError;
 use std::alloc::Global;
-use text_core::{Held, Sink, put_all, At};
+use text_core::{At, Held, Sink, put_all};
 use thiserror::Error;
 
 /// How many tests a report has.

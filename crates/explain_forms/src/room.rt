@@ -95,7 +95,10 @@ pub fn add_lack_of_room(draft: &mut Draft, place: InputLine<'_>) -> bool {
 fn count_of(form: LineContent) -> (usize, &'static str) {
     match form {
         LineContent::Empty => (0, "no field"),
-        LineContent::Three | LineContent::One | LineContent::Hex | LineContent::Quoted => (1, "one field"),
+        LineContent::Three | LineContent::One | LineContent::Hex | LineContent::Quoted => (
+            1,
+            "one field",
+        ),
         LineContent::Two | LineContent::Address => (2, "two fields"),
         LineContent::Eight => (8, "eight fields"),
         LineContent::Unused => (3, "three fields, or `unused`"),

@@ -9,7 +9,7 @@ mod parts;
 mod values;
 
 pub use columns::{JsonField, add_field, add_fields, add_lead};
-pub use laws::{lines_are_read_back, one_line_an_object, equal_texts_are_added, lines_stand_first};
+pub use laws::{equal_texts_are_added, lines_are_read_back, lines_stand_first, one_line_an_object};
 pub use lines::{LineObjects, PlainLines, write_objects};
 pub use object::{add_reported, add_type};
 pub use parts::{after_byte, after_word, before_byte, word};

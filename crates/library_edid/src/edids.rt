@@ -2,7 +2,7 @@
 ghost use Rattle.std.specs.Prelude.{◌≡◌, ◌≤◌, ◌<◌};
 ghost use Rattle.library_edid.specs.Edids.{AreFindingsPut, AreFindingsRefused, IsEdidPut, IsMeaningPut, IsMeaningRefused, IsTextRefused, edid_answer, text_answer};
 
-use conversion_calls::{EdidToTextError, EdidForm, TextToHexError, edid_to_findings, text_to_edid};
+use conversion_calls::{EdidForm, EdidToTextError, TextToHexError, edid_to_findings, text_to_edid};
 use conversion_notes::edid_to_meaning;
 use json_trace::Held;
 use library_answers::{Answer, Code, edid_code, put, refused};

@@ -1,8 +1,8 @@
 //! Each call of hdminet_library once, with what it writes, and once with a refusal.
 use hdminet_library::{
-    AssembleError, At, EdidError, EdidToTextError, EmulateError, FrameLinesError,
-    StepRunError, TextToHexError, TopologyCause, WatchError, Writes, asm_lines, edid_to_text,
-    emulate, emulate_edges, step_run, text_to_hex, watch,
+    AssembleError, At, EdidError, EdidToTextError, EmulateError, FrameLinesError, StepRunError,
+    TextToHexError, TopologyCause, WatchError, Writes, asm_lines, edid_to_text, emulate,
+    emulate_edges, step_run, text_to_hex, watch,
 };
 use std::alloc::Global;
 use std::process::Abort;
@@ -188,11 +188,15 @@ fn is_no_step(answer: Result<(), StepRunError>) -> bool {
 
 fn is_no_frame(answer: Result<(), FrameLinesError>) -> bool {
     match answer {
-        Err(FrameLinesError::Line(At {
-            line: 2,
-            word: 1,
-            cause,
-        })) => matches!(cause, AssembleError::Name),
+        Err(
+            FrameLinesError::Line(
+                At {
+                    line: 2,
+                    word: 1,
+                    cause,
+                },
+            ),
+        ) => matches!(cause, AssembleError::Name),
         _ => false,
     }
 }

@@ -14,7 +14,9 @@ ghost use Rattle.line_wire.specs.Steps.{EdgeBy, StandsAfter};
 
 use crate::followers::{is_acknowledged, is_broken};
 use crate::reading::Ended;
-use crate::senders::{SenderPlaces, Pull, copied_senders, hear_all, places_of, pull_at, senders_of};
+use crate::senders::{
+    Pull, SenderPlaces, copied_senders, hear_all, places_of, pull_at, senders_of,
+};
 use crate::wakes::{steady_until, until_begin, until_due, until_end, until_held, wakes_in};
 use arrayvec::ArrayVec;
 use line_frames::{Ending, Reading};

@@ -155,7 +155,12 @@ fn hear_one(sender: &mut Option<Sender>, reported: Told, t: u64) -> bool
 }
 
 /// Each sender hears what the receiver reports at microsecond `t`; they stand at these places. Returns whether one stopped.
-pub fn hear_all(senders: &mut [Option<Sender>], places: SenderPlaces, reported: Told, t: u64) -> bool
+pub fn hear_all(
+    senders: &mut [Option<Sender>],
+    places: SenderPlaces,
+    reported: Told,
+    t: u64,
+) -> bool
     requires early { t ≤ latest_heard }
     requires places { StandIn places senders.old }
     ensures heard { AllHeard reported t senders.old senders.new }

@@ -6,7 +6,9 @@ ghost use Rattle.meaning_fields.specs.Fields.{are_fields, block_meanings, row_in
 ghost use Rattle.meaning_vendor.specs.Dolby.{dolby_meanings, long_rows, nought_rows, one_meanings, one_more, one_rows, point_rows, red_bits, short_meanings, short_rows, two_meanings, two_rows, vision};
 
 use arrayvec::ArrayVec;
-use meaning_fields::{Field, FieldSays, append_block, append_fields, append_share, choices, field_rows};
+use meaning_fields::{
+    Field, FieldSays, append_block, append_fields, append_share, choices, field_rows,
+};
 use meaning_words::{Note, PAGE, Page, after, append_rest, append_words, byte_at};
 
 /// The name of the block.

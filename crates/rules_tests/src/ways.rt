@@ -112,7 +112,13 @@ fn is_text_of(rt: &(impl Abort + AllocGlobal), text: &[u8], bytes: &[u8], digits
     let mut read = Vec::new(rt.alloc());
     let mut hex = Vec::new(rt.alloc());
     let mut again = Vec::new(rt.alloc());
-    text_to_edid(rt.alloc(), text, EdidForm::Bytes, &mut Writes::new(&mut read)).expect(rt, "an EDID");
+    text_to_edid(
+        rt.alloc(),
+        text,
+        EdidForm::Bytes,
+        &mut Writes::new(&mut read),
+    )
+    .expect(rt, "an EDID");
     text_to_edid(rt.alloc(), text, EdidForm::Hex, &mut Writes::new(&mut hex)).expect(rt, "an EDID");
     edid_to_text(bytes, &mut Writes::new(&mut again)).expect(rt, "an EDID");
     read.as_slice() == bytes && hex.as_slice() == digits && again.as_slice() == text
