@@ -2,9 +2,12 @@
 use Rattle.std.proofs.Common.{◌≡◌, ℕ, true, false, List, ◌∷◌, ap, sym, ◌∙◌}
 use Rattle.std.specs.Prelude.{if◌then◌else◌, codes}
 use Rattle.std.specs.Str.{bytes_eq}
-use Rattle.expect_text.proofs.Parted.{text_again}
+use Rattle.std.proofs.lemmas.List.Splits.{join_with_byte-slice_split}
 use Rattle.text_core.specs.Words.{words_of, text_of}
 use Rattle.expect_judge.specs.Told.{after_complete, reported_in}
+
+text_again : (text : List ℕ) → text_of (words_of text) ≡ text
+text_again text = join_with_byte-slice_split 32 text
 
 pub reported_complete : (line : List (List ℕ)) (ending reported word : List ℕ) (words : List (List ℕ)) → line ≡ ending ∷ words_of reported → words_of reported ≡ word ∷ words
     → bytes_eq ending (codes "complete") ≡ true → reported ≡ reported_in line

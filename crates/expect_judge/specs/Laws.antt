@@ -1,7 +1,9 @@
 -- Laws of expectations of rounds (own).
-use Rattle.std.specs.Prelude.{◌≡◌, ℕ, ◌≤◌, true, false, List, Some}
+use Rattle.std.specs.Prelude.{◌≡◌, ℕ, ◌≤◌, Bool, true, false, List, Some}
 use Rattle.expect_text.specs.declared.form.Quantity.TheVariants.{AtLeastOnce, Never, Once}
+use Rattle.expect_text.specs.Faults.{labelled_from}
 use Rattle.expect_judge.specs.Judged.{rounds_judged}
+use Rattle.expect_judge.specs.Named.{name_lines}
 use Rattle.expect_judge.specs.declared.seen.TimeSpan.{TimeSpan}
 
 -- `none` fails where the plain form holds, in the same span, and holds where that fails
@@ -17,3 +19,8 @@ OnceIsSome = (trace pattern : List ℕ) (span : TimeSpan) → (rounds_judged tra
 abbrev pub LargerSpansHold : Type 0
 LargerSpansHold = (trace pattern : List ℕ) (small large : TimeSpan) → large.from ≤ small.from → small.to ≤ large.to
     → (rounds_judged trace AtLeastOnce pattern (Some small)).holds ≡ Some true → (rounds_judged trace AtLeastOnce pattern (Some large)).holds ≡ Some true
+
+-- the line that a label stands for is one that others speak of
+abbrev pub LabelledLinesAreNamed : Type 0
+LabelledLinesAreNamed = (of_events : Bool) (number : ℕ) (lines : List (List ℕ)) (name : List ℕ) (found : ℕ) → labelled_from of_events number lines name ≡ Some found
+    → name_lines number lines found ≡ true

@@ -1,5 +1,5 @@
 //! Laws of expectations of rounds.
-ghost use Rattle.expect_judge.specs.Laws.{LargerSpansHold, NeverIsTheContrary, OnceIsSome};
+ghost use Rattle.expect_judge.specs.Laws.{LabelledLinesAreNamed, LargerSpansHold, NeverIsTheContrary, OnceIsSome};
 
 /// `none` is the contrary of the plain form, in the same span.
 pub fn never_is_the_contrary()
@@ -14,4 +14,9 @@ pub fn once_is_some()
 /// An expectation of the plain form that holds goes on to hold in a larger span.
 pub fn larger_spans_hold()
     ensures { LargerSpansHold }
+{}
+
+/// The line that a label stands for is one that others speak of.
+pub fn labelled_lines_are_named()
+    ensures { LabelledLinesAreNamed }
 {}

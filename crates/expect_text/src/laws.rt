@@ -1,4 +1,10 @@
 //! Laws of patterns and of words of states.
+ghost use Rattle.std.specs.Prelude.{◌≡◌, ◌+◌, ◌<◌, ℕ, List, if◌then◌else◌, nat_lt, true};
+ghost use Rattle.std.specs.List.{flat_map, list_all};
+ghost use Rattle.text_core.specs.Bytes.{are_bytes};
+ghost use Rattle.text_core.specs.Piece.{hex_text};
+ghost use Rattle.expect_text.specs.Parts.{has};
+ghost use Rattle.expect_text.specs.declared.part.Class.TheVariants.{Hex};
 ghost use Rattle.expect_text.specs.Laws.{NamesAreMet, PatternsAreMet, ReadingsAreSaid, StateWordsAreMet};
 
 /// A pattern is refused exactly where no text that the line of a round can have meets it.
@@ -19,4 +25,10 @@ pub fn readings_are_said()
 /// A word of a state is refused exactly where no state line can have it.
 pub fn state_words_are_met()
     ensures { StateWordsAreMet }
+{}
+
+/// The digit that is written of a number below 16 is one of the class of hex digits, and so are those that are written of bytes.
+pub fn hex_is_written_in_its_class()
+    ensures digit { (n : ℕ) → n < 16 → has Hex (if nat_lt n 10 then 48 + n else 87 + n) ≡ true }
+    ensures bytes { (xs : List ℕ) → are_bytes xs ≡ true → list_all (has Hex) (flat_map hex_text xs) ≡ true }
 {}

@@ -19,7 +19,10 @@ pub use fault::after_label;
 pub use faults::{fault_among, first_fault};
 pub use form::{ExpectCause, ExpectLine, ExpectWindow, Quantity, exact_number, form_in};
 pub use labels::Labels;
-pub use laws::{names_are_met, patterns_are_met, readings_are_said, state_words_are_met};
+pub use laws::{
+    hex_is_written_in_its_class, names_are_met, patterns_are_met, readings_are_said,
+    state_words_are_met,
+};
 pub use line::{Labelled, cut_script, onset_in, plain_part, plain_script, unlabelled};
 pub use named::NamedPattern;
 pub use names::{has_names, is_meetable, meets, named_in};

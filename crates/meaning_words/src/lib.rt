@@ -27,7 +27,7 @@ mod videos;
 
 pub use bits::{Bit, append_bit_lines, append_bits, append_spaced, is_set};
 pub use formats::{Aspect, VideoFormat, format_of};
-pub use laws::nearest_is_one;
+pub use laws::{lines_join, nearest_is_one};
 pub use notes::{
     NOTE, Note, PAGE, Page, append_between, append_counted, append_decimal, append_digit,
     append_hex, append_hundredths, append_line, append_named_hex, append_rest, append_thousandths,

@@ -26,14 +26,36 @@ use Rattle.expect_text.specs.StateWords.{IsDash, IsStateWord, IsUnit, note_parts
 use Rattle.expect_text.specs.declared.part.Class.TheVariants.{Digit, Hex}
 use Rattle.expect_text.specs.declared.part.PatternPart.{PatternPart}
 use Rattle.expect_text.specs.declared.part.PatternPart.TheVariants.{Byte, One, Many}
-use Rattle.expect_text.proofs.Meeting.{and_both, first_of, second_of}
-use Rattle.expect_text.proofs.Readings.{all_hex, hex_digit, high, low, two_digits}
+use Rattle.expect_text.proofs.Readings.{all_hex, hex_digit}
 use Rattle.state_laws.specs.Lines.{IsSaid, IsSized, IsSmall, StateLinesAreSaid, bytes_of, note_bytes, phys_bytes, spaced}
+
+-- ---- both of two
+
+and_both : (a b : Bool) → a ≡ true → b ≡ true → (a && b) ≡ true
+and_both true b h k = k
+and_both false b h k = absurd (true≢false (sym h))
+
+first_of : (a b : Bool) → (a && b) ≡ true → a ≡ true
+first_of true b h = refl
+first_of false b h = h
+
+second_of : (a b : Bool) → (a && b) ≡ true → b ≡ true
+second_of true b h = h
+second_of false b h = absurd (true≢false (sym h))
 
 -- ---- texts
 
+high : (b : ℕ) → nat_lt b 256 ≡ true → b / 16 < 16
+high b h = grind (arith, common_steps)
+
+low : (b : ℕ) → b % 16 < 16
+low b = grind (arith, common_steps)
+
 nibble_before : (parts : List PatternPart) (n : ℕ) (more : List ℕ) → n < 16 → IsTextOf parts more → IsTextOf (One Hex ∷ parts) (nibble_text n ++ more)
 nibble_before parts n more l t = ((if nat_lt n 10 then 48 + n else 87 + n), more, hex_digit n l, refl, t)
+
+two_digits : (parts : List PatternPart) (b : ℕ) (more : List ℕ) → nat_lt b 256 ≡ true → IsTextOf parts more → IsTextOf (One Hex ∷ One Hex ∷ parts) (hex_text b ++ more)
+two_digits parts b more h t = nibble_before (One Hex ∷ parts) (b / 16) (nibble_text (b % 16) ++ more) (high b h) (nibble_before parts (b % 16) more (low b) t)
 
 nibble_is : (n : ℕ) → n < 16 → IsTextOf (One Hex ∷ []) (nibble_text n)
 nibble_is n l = nibble_before [] n [] l refl
