@@ -15,7 +15,7 @@ use Rattle.line_reading.proofs.KeepingBy.{before_heard, kept_heard, reported_hea
 use Rattle.line_reading.proofs.Reported.{endings_are_reported, running_is_kept}
 use Rattle.line_reading.proofs.Standard.{standard_are}
 use Rattle.line_reading.proofs.StoodBy.{was_now}
-use Rattle.capture_monitor.specs.ReadBy.{ended_at, ended_before_by, readings_by}
+use Rattle.capture_monitor.specs.ReadBy.{EndedComeFirst, ended_at, ended_before_by, readings_by}
 
 -- ---- what has ended stays
 
@@ -31,7 +31,7 @@ ended_on win low n (suc m) =
     )
 
 -- the readings that have ended before an instant are the first of those of the line
-pub ended_first : (win : Windows) (low : Line) (n u : ℕ) → n ≤ u + 1 → (zs : List Listed) × (readings_by win low u ≡ ended_before_by win low n ++ zs)
+pub ended_first : EndedComeFirst
 ended_first win low n u l =
     let on = ended_on win low n (u + 1 - n) in
     let last : List Listed = option_to_list (running_by (kept_with_before win low (suc u)) u) in (
