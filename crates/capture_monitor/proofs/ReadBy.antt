@@ -14,8 +14,16 @@ use Rattle.line_reading.proofs.Keeping as usual
 use Rattle.line_reading.proofs.KeepingBy.{before_heard, kept_heard, reported_heard}
 use Rattle.line_reading.proofs.Reported.{endings_are_reported, running_is_kept}
 use Rattle.line_reading.proofs.Standard.{standard_are}
+<<<<<<< HEAD
 use Rattle.capture_monitor.specs.ReadBy.{ended_at, ended_before_by, readings_by}
 use Rattle.line_wave.proofs.Waves.{was_now}
+||||||| 2d2e635b
+use Rattle.line_reading.proofs.StoodBy.{was_now}
+use Rattle.capture_monitor.specs.ReadBy.{ended_at, ended_before_by, readings_by}
+=======
+use Rattle.line_reading.proofs.StoodBy.{was_now}
+use Rattle.capture_monitor.specs.ReadBy.{EndedComeFirst, ended_at, ended_before_by, readings_by}
+>>>>>>> 79b977d74ddf0b4a626e05dae5144a4fa2d7ccd2
 
 -- ---- what has ended stays
 
@@ -31,7 +39,7 @@ ended_on win low n (suc m) =
     )
 
 -- the readings that have ended before an instant are the first of those of the line
-pub ended_first : (win : Windows) (low : Line) (n u : ℕ) → n ≤ u + 1 → (zs : List Listed) × (readings_by win low u ≡ ended_before_by win low n ++ zs)
+pub ended_first : EndedComeFirst
 ended_first win low n u l =
     let on = ended_on win low n (u + 1 - n) in
     let last : List Listed = option_to_list (running_by (kept_with_before win low (suc u)) u) in (

@@ -1,5 +1,5 @@
 -- The readings of a line by windows of a monitor's own: what each instant ends, and what has ended before one (own).
-use Rattle.std.specs.Prelude.{◌≡◌, ℕ, zero, suc, Bool, List, [], ◌++◌, Option}
+use Rattle.std.specs.Prelude.{◌≡◌, ℕ, zero, suc, ◌+◌, ◌≤◌, Bool, List, [], ◌++◌, Option}
 use Rattle.std.specs.Option.{option_to_list}
 use Rattle.line_wave.specs.Line.{Line}
 use Rattle.line_reading.specs.declared.times.Windows.{Windows}
@@ -24,3 +24,8 @@ readings_by windows low t = ended_before_by windows low (suc t) ++ option_to_lis
 -- By the standard's windows these are the readings of the line.
 abbrev pub StandardReadsLines : Type 0
 StandardReadsLines = (low : ℕ → Bool) (t : ℕ) → readings_by standard low t ≡ readings_of low t
+
+-- The readings that have ended before an instant are the first of those of the line.
+abbrev pub EndedComeFirst : Type 0
+EndedComeFirst = (win : Windows) (low : Line) (n u : ℕ) → n ≤ u + 1
+    → (zs : List Listed) × (readings_by win low u ≡ ended_before_by win low n ++ zs)

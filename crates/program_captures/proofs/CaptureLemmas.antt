@@ -2,7 +2,7 @@
 use Rattle.std.proofs.Common.{◌≡◌, ℕ, zero, suc, Bool, List, [], Option, Some, None, Err, min, refl, ap, subst, append-nil, ◌∙◌}
 use Rattle.line_reading.specs.Windows.{most_margin, standard, wider}
 use Rattle.line_reading.specs.declared.times.Windows.{Windows}
-use Rattle.capture_monitor.proofs.FollowedEdges.{captured_standard}
+use Rattle.capture_monitor.proofs.ReadBy.{standard_readings}
 use Rattle.capture_monitor.specs.Joined.{captured_by}
 use Rattle.capture_monitor.specs.Watch.{readings_text}
 use Rattle.follow_core.specs.Follow.{HasFollowed, IsHandedOn, Stops, text_of}
@@ -21,7 +21,7 @@ use Rattle.program_captures.specs.declared.fault.MonitorFault.{MonitorFault}
 use Rattle.cli_words.specs.declared.choice.FollowForm.{FollowForm}
 use Rattle.std.specs.Io.KnownBytes.{Appends, append_known}
 use Rattle.program_captures.specs.Captures.{readings_at}
-use Rattle.capture_core.specs.Edges.{Captured}
+use Rattle.capture_core.specs.Edges.{Captured, line_of_edges}
 use Rattle.line_wave.specs.declared.Edge.{Edge}
 
 pub same_capture : (c : Captured) (edges : List Edge) (end : ℕ) → c.edges ≡ edges → c.end ≡ end → c ≡ record { edges = edges; end = end }
@@ -34,7 +34,7 @@ same_capture c edges end es e =
 
 -- without a margin the windows are the standard's
 pub readings_are : (margin : ℕ) (windows : Windows) (c : Captured) → windows ≡ wider (min margin most_margin) → captured_by windows c ≡ readings_at margin c
-readings_are zero windows c e = let same : windows ≡ standard = e in ap (λ w. captured_by w c) same ∙ captured_standard c
+readings_are zero windows c e = let same : windows ≡ standard = e in ap (λ w. captured_by w c) same ∙ standard_readings (line_of_edges c.edges) c.end
 readings_are (suc n) windows c e = ap (λ w. captured_by w c) e
 
 -- ---- as its lines come
