@@ -14,16 +14,8 @@ use Rattle.line_reading.proofs.Keeping as usual
 use Rattle.line_reading.proofs.KeepingBy.{before_heard, kept_heard, reported_heard}
 use Rattle.line_reading.proofs.Reported.{endings_are_reported, running_is_kept}
 use Rattle.line_reading.proofs.Standard.{standard_are}
-<<<<<<< HEAD
-use Rattle.capture_monitor.specs.ReadBy.{ended_at, ended_before_by, readings_by}
-use Rattle.line_wave.proofs.Waves.{was_now}
-||||||| 2d2e635b
-use Rattle.line_reading.proofs.StoodBy.{was_now}
-use Rattle.capture_monitor.specs.ReadBy.{ended_at, ended_before_by, readings_by}
-=======
-use Rattle.line_reading.proofs.StoodBy.{was_now}
 use Rattle.capture_monitor.specs.ReadBy.{EndedComeFirst, ended_at, ended_before_by, readings_by}
->>>>>>> 79b977d74ddf0b4a626e05dae5144a4fa2d7ccd2
+use Rattle.line_wave.proofs.Waves.{was_now}
 
 -- ---- what has ended stays
 
