@@ -76,7 +76,7 @@ impl Monitor {
             ≡ heard_at self.old.receiver.windows t self.old.receiver.receiver.was_low self.old.receiver.receiver.is_low (heard_by self.old.receiver.receiver) }
         ensures windows { self.new.receiver.windows ≡ self.old.receiver.windows }
         ensures was { self.new.receiver.receiver.was_low ≡ self.old.receiver.receiver.is_low }
-        ensures is { self.new.receiver.receiver.is_low ≡ self.old.receiver.receiver.is_low }
+        ensures level { self.new.receiver.receiver.is_low ≡ self.old.receiver.receiver.is_low }
     {
         let running = self.receiver.running(t);
         let reported = self.receiver.tick(t);
@@ -90,7 +90,7 @@ impl Monitor {
             ≡ after_wake self.old.receiver.windows until self.old.receiver.receiver.is_low (heard_by self.old.receiver.receiver) }
         ensures windows { self.new.receiver.windows ≡ self.old.receiver.windows }
         ensures still { IsStill self.old → IsStill self.new }
-        ensures is { self.new.receiver.receiver.is_low ≡ self.old.receiver.receiver.is_low }
+        ensures level { self.new.receiver.receiver.is_low ≡ self.old.receiver.receiver.is_low }
     {
         match self.receiver.wakes_at() {
             Some(wake) if wake < until => self.tick(wake),
@@ -106,7 +106,7 @@ impl Monitor {
             ≡ after_wakes self.old.receiver.windows until self.old.receiver.receiver.is_low (heard_by self.old.receiver.receiver) }
         ensures windows { self.new.receiver.windows ≡ self.old.receiver.windows }
         ensures still { IsStill self.old → IsStill self.new }
-        ensures is { self.new.receiver.receiver.is_low ≡ self.old.receiver.receiver.is_low }
+        ensures level { self.new.receiver.receiver.is_low ≡ self.old.receiver.receiver.is_low }
     {
         match self.wake(until) {
             Some(reading) => Some(reading),
@@ -119,7 +119,7 @@ impl Monitor {
         ensures keeps { heard_by self.new.receiver.receiver ≡ heard_by self.old.receiver.receiver }
         ensures windows { self.new.receiver.windows ≡ self.old.receiver.windows }
         ensures was { self.new.receiver.receiver.was_low ≡ self.old.receiver.receiver.was_low }
-        ensures is { self.new.receiver.receiver.is_low ≡ edge.low }
+        ensures level { self.new.receiver.receiver.is_low ≡ edge.low }
     {
         if edge.low {
             self.receiver.fall(edge.at);

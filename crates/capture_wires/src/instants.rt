@@ -40,7 +40,7 @@ pub(crate) fn turns(wire: &[Stretch], t: u64) -> bool
 fn sooner(stretch: Stretch, t: u64, next: u64) -> u64
     requires { t < next }
     ensures later { t < result }
-    ensures near { result ≤ next }
+    ensures bounded { result ≤ next }
     ensures quiet { (u : ℕ) → t < u → u < result → ((stretch.from == u) || (stretch.to == u)) ≡ false }
 {
     let begin = if t < stretch.from {
@@ -59,7 +59,7 @@ fn sooner(stretch: Stretch, t: u64, next: u64) -> u64
 pub(crate) fn next_end(wire: &[Stretch], t: u64, next: u64) -> u64
     requires { t < next }
     ensures later { t < result }
-    ensures near { result ≤ next }
+    ensures bounded { result ≤ next }
     ensures quiet { (u : ℕ) → t < u → u < result → list_any (λ s. (s.from == u) || (s.to == u)) wire.now ≡ false }
 {
     match wire {
@@ -72,7 +72,7 @@ pub(crate) fn next_end(wire: &[Stretch], t: u64, next: u64) -> u64
 pub(crate) fn next_end_of(drives: &[Drive], t: u64, next: u64) -> u64
     requires { t < next }
     ensures later { t < result }
-    ensures near { result ≤ next }
+    ensures bounded { result ≤ next }
     ensures quiet { (u : ℕ) → t < u → u < result → list_any (λ wire. list_any (λ s. (s.from == u) || (s.to == u)) wire) drives.now ≡ false }
 {
     match drives {

@@ -109,7 +109,7 @@ fn is_noted(t: u64, notes: &[WireText<'_>]) -> bool
 fn next_note(notes: &[WireText<'_>], t: u64, next: u64) -> u64
     requires { t < next }
     ensures later { t < result }
-    ensures near { result ≤ next }
+    ensures bounded { result ≤ next }
     ensures quiet { (u : ℕ) → t < u → u < result → is_noted u (map noted notes.now) ≡ false }
 {
     match notes {

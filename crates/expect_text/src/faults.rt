@@ -122,7 +122,7 @@ fn window_fault(
     window: ExpectWindow,
 ) -> Option<AtWord<ExpectCause>>
     ensures value { result ≡ window_fault labels.now.script.now number quantity (window_of window.entry) }
-    ensures near { IfSome result IsNear }
+    ensures bounded { IfSome result IsNear }
 {
     match window {
         ExpectWindow::Within { label, .. } => {
@@ -144,7 +144,7 @@ fn window_fault(
 
 fn pattern_fault(quantity: Quantity, pattern: &[u8]) -> Option<AtWord<ExpectCause>>
     ensures value { result ≡ pattern_fault quantity pattern.now }
-    ensures near { IfSome result IsNear }
+    ensures bounded { IfSome result IsNear }
 {
     if is_meetable(pattern) {
         None
@@ -161,7 +161,7 @@ fn rounds_fault(
     pattern: &[u8],
 ) -> Option<AtWord<ExpectCause>>
     ensures value { result ≡ or_fault (window_fault labels.now.script.now number quantity (window_of window.entry)) (pattern_fault quantity pattern.now) }
-    ensures near { IfSome result IsNear }
+    ensures bounded { IfSome result IsNear }
 {
     match window_fault(labels, number, quantity, window) {
         Some(fault) => Some(fault),
@@ -203,7 +203,7 @@ fn refusal_fault(
     word: &[u8],
 ) -> Option<AtWord<ExpectCause>>
     ensures value { result ≡ refusal_fault labels.now.script.now number (option_copied label.entry) word.now }
-    ensures near { IfSome result IsNear }
+    ensures bounded { IfSome result IsNear }
 {
     if !is_above(number, labels.event_meant(number, label)) {
         Some(at_word(2, ExpectCause::Label))
@@ -216,7 +216,7 @@ fn refusal_fault(
 
 fn strange_fault(words: &[u8]) -> Option<AtWord<ExpectCause>>
     ensures value { result ≡ strange_fault (strange_word (words_of words.now)) }
-    ensures near { IfSome result IsNear }
+    ensures bounded { IfSome result IsNear }
 {
     match strange_word(words) {
         None => None,
@@ -226,7 +226,7 @@ fn strange_fault(words: &[u8]) -> Option<AtWord<ExpectCause>>
 
 fn state_fault(script: &[u8], time: u64, words: &[u8]) -> Option<AtWord<ExpectCause>>
     ensures value { result ≡ state_fault script.now time (words_of words.now) }
-    ensures near { IfSome result IsNear }
+    ensures bounded { IfSome result IsNear }
 {
     if ends_before(script, time) {
         Some(at_word(2, ExpectCause::Order))
@@ -237,7 +237,7 @@ fn state_fault(script: &[u8], time: u64, words: &[u8]) -> Option<AtWord<ExpectCa
 
 fn form_fault(labels: &Labels<'_>, number: u64, form: ExpectLine) -> Option<AtWord<ExpectCause>>
     ensures value { result ≡ form_fault labels.now.script.now number (form_as form.entry) }
-    ensures near { IfSome result IsNear }
+    ensures bounded { IfSome result IsNear }
 {
     match form {
         ExpectLine::Other => None,
@@ -286,7 +286,7 @@ fn is_strange(topology: &[u8], form: ExpectLine) -> bool
 // The word that names it.
 fn strange_at(form: ExpectLine) -> AtWord<ExpectCause>
     ensures value { result ≡ strange_at (form_as form.entry) }
-    ensures near { IsNear result }
+    ensures bounded { IsNear result }
 {
     match form {
         ExpectLine::Other => at_word(3, ExpectCause::Name),
@@ -315,8 +315,8 @@ fn labelled_form<'a>(
     label: Option<&[u8]>,
     rest: Option<&'a [u8]>,
 ) -> Result<ExpectLine<'a>, AtWord<ExpectCause>>
-    ensures is { IsForm (labelled_form (option_copied label.entry) (words_after (option_copied rest.entry))) result }
-    ensures near { IfErr result IsNear }
+    ensures form { IsForm (labelled_form (option_copied label.entry) (words_after (option_copied rest.entry))) result }
+    ensures bounded { IfErr result IsNear }
 {
     if label.is_some() && !is_labelable(rest) {
         return Err(at_word(0, ExpectCause::Word));

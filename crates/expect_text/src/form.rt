@@ -109,7 +109,7 @@ fn window_word(quantity: Quantity) -> usize
 pub(crate) fn in_window(quantity: Quantity, after: usize, cause: ExpectCause) -> AtWord<ExpectCause>
     requires few { after < 2 ^ 63 + 8 }
     ensures value { result ≡ in_window quantity after cause }
-    ensures near { IsNear result }
+    ensures bounded { IsNear result }
 {
     at_word(window_word(quantity) + after, cause)
 }
@@ -159,8 +159,8 @@ fn pattern_by<'a>(
     second: &'a [u8],
     pattern: &'a [u8],
 ) -> Result<Parts<'a>, AtWord<ExpectCause>>
-    ensures is { AreParts (pattern_by quantity first.now second.now pattern.now) result }
-    ensures near { IfErr result IsNear }
+    ensures form { AreParts (pattern_by quantity first.now second.now pattern.now) result }
+    ensures bounded { IfErr result IsNear }
 {
     if is_pattern(pattern) {
         Ok(Parts {
@@ -179,8 +179,8 @@ fn pattern_in<'a>(
     second: &'a [u8],
     rest: Option<&'a [u8]>,
 ) -> Result<Parts<'a>, AtWord<ExpectCause>>
-    ensures is { AreParts (pattern_in quantity first.now second.now (words_after (option_copied rest.entry))) result }
-    ensures near { IfErr result IsNear }
+    ensures form { AreParts (pattern_in quantity first.now second.now (words_after (option_copied rest.entry))) result }
+    ensures bounded { IfErr result IsNear }
 {
     match rest {
         None => Err(in_window(quantity, 4, ExpectCause::Word)),
@@ -193,8 +193,8 @@ fn second_in<'a>(
     first: &'a [u8],
     rest: Option<&'a [u8]>,
 ) -> Result<Parts<'a>, AtWord<ExpectCause>>
-    ensures is { AreParts (second_in quantity first.now (words_after (option_copied rest.entry))) result }
-    ensures near { IfErr result IsNear }
+    ensures form { AreParts (second_in quantity first.now (words_after (option_copied rest.entry))) result }
+    ensures bounded { IfErr result IsNear }
 {
     let Some(text) = rest else {
         return Err(in_window(quantity, 3, ExpectCause::Word));
@@ -209,8 +209,8 @@ fn parts_in<'a>(
     joint: &[u8],
     rest: Option<&'a [u8]>,
 ) -> Result<Parts<'a>, AtWord<ExpectCause>>
-    ensures is { AreParts (parts_in quantity joint.now (words_after (option_copied rest.entry))) result }
-    ensures near { IfErr result IsNear }
+    ensures form { AreParts (parts_in quantity joint.now (words_after (option_copied rest.entry))) result }
+    ensures bounded { IfErr result IsNear }
 {
     let Some(text) = rest else {
         return Err(in_window(quantity, 1, ExpectCause::Word));
@@ -228,9 +228,9 @@ fn parts_in<'a>(
 }
 
 fn within<'a>(quantity: Quantity, parts: &Parts<'a>) -> Result<ExpectLine<'a>, AtWord<ExpectCause>>
-    ensures is { IsForm (within quantity (exact_number parts.now.first.now) (parts_as parts.now)) result }
+    ensures form { IsForm (within quantity (exact_number parts.now.first.now) (parts_as parts.now)) result }
     ensures early { IfOk result IsEarly }
-    ensures near { IfErr result IsNear }
+    ensures bounded { IfErr result IsNear }
 {
     let Some(duration) = exact_number(parts.first) else {
         return Err(in_window(quantity, 1, ExpectCause::Number));
@@ -249,9 +249,9 @@ fn rounds_between<'a>(
     quantity: Quantity,
     parts: &Parts<'a>,
 ) -> Result<ExpectLine<'a>, AtWord<ExpectCause>>
-    ensures is { IsForm (rounds_between quantity (exact_number parts.now.first.now) (exact_number parts.now.second.now) (parts_as parts.now)) result }
+    ensures form { IsForm (rounds_between quantity (exact_number parts.now.first.now) (exact_number parts.now.second.now) (parts_as parts.now)) result }
     ensures early { IfOk result IsEarly }
-    ensures near { IfErr result IsNear }
+    ensures bounded { IfErr result IsNear }
 {
     let Some(from) = exact_number(parts.first) else {
         return Err(in_window(quantity, 1, ExpectCause::Number));
@@ -270,9 +270,9 @@ fn within_in<'a>(
     quantity: Quantity,
     rest: Option<&'a [u8]>,
 ) -> Result<ExpectLine<'a>, AtWord<ExpectCause>>
-    ensures is { IsForm (within_by quantity (parts_in quantity (codes "of") (words_after (option_copied rest.entry)))) result }
+    ensures form { IsForm (within_by quantity (parts_in quantity (codes "of") (words_after (option_copied rest.entry)))) result }
     ensures early { IfOk result IsEarly }
-    ensures near { IfErr result IsNear }
+    ensures bounded { IfErr result IsNear }
 {
     match parts_in(quantity, b"of", rest) {
         Err(fault) => Err(fault),
@@ -284,9 +284,9 @@ fn between_in<'a>(
     quantity: Quantity,
     rest: Option<&'a [u8]>,
 ) -> Result<ExpectLine<'a>, AtWord<ExpectCause>>
-    ensures is { IsForm (between_by quantity (parts_in quantity (codes "to") (words_after (option_copied rest.entry)))) result }
+    ensures form { IsForm (between_by quantity (parts_in quantity (codes "to") (words_after (option_copied rest.entry)))) result }
     ensures early { IfOk result IsEarly }
-    ensures near { IfErr result IsNear }
+    ensures bounded { IfErr result IsNear }
 {
     match parts_in(quantity, b"to", rest) {
         Err(fault) => Err(fault),
@@ -298,9 +298,9 @@ fn rounds_in<'a>(
     quantity: Quantity,
     rest: Option<&'a [u8]>,
 ) -> Result<ExpectLine<'a>, AtWord<ExpectCause>>
-    ensures is { IsForm (rounds_in quantity (words_after (option_copied rest.entry))) result }
+    ensures form { IsForm (rounds_in quantity (words_after (option_copied rest.entry))) result }
     ensures early { IfOk result IsEarly }
-    ensures near { IfErr result IsNear }
+    ensures bounded { IfErr result IsNear }
 {
     let Some(text) = rest else {
         return Err(in_window(quantity, 0, ExpectCause::Word));
@@ -319,7 +319,7 @@ fn rounds_in<'a>(
 #[tactic(auto, using(crate::proofs::Parted::few_words))]
 fn first_empty(text: &[u8]) -> Option<usize>
     ensures value { result ≡ empty_from 4 (words_of text.now) }
-    ensures near { IfSome result (λ number. number + 2 < 2 ^ 64) }
+    ensures bounded { IfSome result (λ number. number + 2 < 2 ^ 64) }
 {
     let mut rest = Some(text);
     let mut number = 4usize;
@@ -336,7 +336,7 @@ fn first_empty(text: &[u8]) -> Option<usize>
 
 fn lacking(text: &[u8]) -> Option<usize>
     ensures value { result ≡ lacking (words_of text.now) }
-    ensures near { IfSome result (λ number. number + 2 < 2 ^ 64) }
+    ensures bounded { IfSome result (λ number. number + 2 < 2 ^ 64) }
 {
     let (word, others) = first_word(text);
     match others {
@@ -357,7 +357,7 @@ fn lacking(text: &[u8]) -> Option<usize>
 // The number of a word of a state that is empty, or missing.
 fn bad_word(text: &[u8]) -> Option<usize>
     ensures value { result ≡ or_lacking (empty_from 4 (words_of text.now)) (lacking (words_of text.now)) }
-    ensures near { IfSome result (λ number. number + 2 < 2 ^ 64) }
+    ensures bounded { IfSome result (λ number. number + 2 < 2 ^ 64) }
 {
     match first_empty(text) {
         None => lacking(text),
@@ -370,9 +370,9 @@ fn state_at_time<'a>(
     device: &'a [u8],
     words: &'a [u8],
 ) -> Result<ExpectLine<'a>, AtWord<ExpectCause>>
-    ensures is { IsForm (state_at_time (number_of time.now) device.now (words_of words.now)) result }
+    ensures form { IsForm (state_at_time (number_of time.now) device.now (words_of words.now)) result }
     ensures early { IfOk result IsEarly }
-    ensures near { IfErr result IsNear }
+    ensures bounded { IfErr result IsNear }
 {
     match number_in(time) {
         None => Err(at_word(2, ExpectCause::Number)),
@@ -391,9 +391,9 @@ fn state_at_time<'a>(
 }
 
 fn state_in<'a>(rest: Option<&'a [u8]>) -> Result<ExpectLine<'a>, AtWord<ExpectCause>>
-    ensures is { IsForm (state_in (words_after (option_copied rest.entry))) result }
+    ensures form { IsForm (state_in (words_after (option_copied rest.entry))) result }
     ensures early { IfOk result IsEarly }
-    ensures near { IfErr result IsNear }
+    ensures bounded { IfErr result IsNear }
 {
     let Some(text) = rest else {
         return Err(at_word(2, ExpectCause::Word));
@@ -414,9 +414,9 @@ fn state_in<'a>(rest: Option<&'a [u8]>) -> Result<ExpectLine<'a>, AtWord<ExpectC
 }
 
 fn refused_in<'a>(rest: Option<&'a [u8]>) -> Result<ExpectLine<'a>, AtWord<ExpectCause>>
-    ensures is { IsForm (refused_in (words_after (option_copied rest.entry))) result }
+    ensures form { IsForm (refused_in (words_after (option_copied rest.entry))) result }
     ensures early { IfOk result IsEarly }
-    ensures near { IfErr result IsNear }
+    ensures bounded { IfErr result IsNear }
 {
     let Some(text) = rest else {
         return Err(at_word(2, ExpectCause::Word));
@@ -442,9 +442,9 @@ fn refused_in<'a>(rest: Option<&'a [u8]>) -> Result<ExpectLine<'a>, AtWord<Expec
 }
 
 fn expectation_in<'a>(rest: Option<&'a [u8]>) -> Result<ExpectLine<'a>, AtWord<ExpectCause>>
-    ensures is { IsForm (expectation_in (words_after (option_copied rest.entry))) result }
+    ensures form { IsForm (expectation_in (words_after (option_copied rest.entry))) result }
     ensures early { IfOk result IsEarly }
-    ensures near { IfErr result IsNear }
+    ensures bounded { IfErr result IsNear }
 {
     let Some(text) = rest else {
         return Err(at_word(1, ExpectCause::Word));
@@ -469,9 +469,9 @@ fn expectation_in<'a>(rest: Option<&'a [u8]>) -> Result<ExpectLine<'a>, AtWord<E
 ///
 /// The first cause, and the word at fault in the line without its label.
 pub fn form_in<'a>(rest: Option<&'a [u8]>) -> Result<ExpectLine<'a>, AtWord<ExpectCause>>
-    ensures is { IsForm (form_in (words_after (option_copied rest.entry))) result }
+    ensures form { IsForm (form_in (words_after (option_copied rest.entry))) result }
     ensures early { IfOk result IsEarly }
-    ensures near { IfErr result IsNear }
+    ensures bounded { IfErr result IsNear }
 {
     let Some(text) = rest else {
         return Err(at_word(0, ExpectCause::Word));

@@ -232,7 +232,7 @@ pub fn is_meetable(pattern: &[u8]) -> bool
 /// The word at fault of a pattern that no line meets, counted from 0: the first with which its front is met by none.
 pub(crate) fn unmet_word(pattern: &[u8]) -> usize
     ensures value { result ≡ unmet_word pattern.now }
-    ensures near { result < 2 ^ 63 }
+    ensures bounded { result < 2 ^ 63 }
 {
     let mut rest = pattern;
     let mut place = 0usize;

@@ -275,7 +275,7 @@ pub fn is_state_word(word: &[u8]) -> bool
 fn strange_from(first: usize, text: &[u8]) -> Option<usize>
     requires few { first ≤ 5 }
     ensures value { result ≡ strange_from first (words_of text.now) }
-    ensures near { IfSome result (λ number. number + 2 < 2 ^ 64) }
+    ensures bounded { IfSome result (λ number. number + 2 < 2 ^ 64) }
 {
     let mut rest = Some(text);
     let mut number = first;
@@ -293,7 +293,7 @@ fn strange_from(first: usize, text: &[u8]) -> Option<usize>
 /// The first of the words that an expectation of a state has, of which the first has the number 4, that no state line has.
 pub(crate) fn strange_word(words: &[u8]) -> Option<usize>
     ensures value { result ≡ strange_word (words_of words.now) }
-    ensures near { IfSome result (λ number. number + 2 < 2 ^ 64) }
+    ensures bounded { IfSome result (λ number. number + 2 < 2 ^ 64) }
 {
     let (word, others) = first_word(words);
     if word != b"not".as_slice() {

@@ -53,7 +53,7 @@ impl AuditFollower {
     ) -> Result<(), FollowAuditError>
         requires ready { IsReady self.old }
         requires early { IfSome edge (λ e. e.at ≤ latest_instant) }
-        ensures goes { Goes self.old edge self.new (S.contents out.old) (S.contents out.new) result }
+        ensures onward { Goes self.old edge self.new (S.contents out.old) (S.contents out.new) result }
         ensures prompt { OnOk result (IsPrompt self.new) }
         ensures ready { OnOk result (IsReady self.new) }
     {

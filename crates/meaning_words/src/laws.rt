@@ -5,7 +5,7 @@ ghost use Rattle.meaning_words.specs.Rates.{IsNearest, nearest};
 
 /// The number that is nearest to a quotient is one number, and `nearest` is it.
 pub fn nearest_is_one()
-    ensures is { (number by : ℕ) → 0 < by → IsNearest number by (nearest number by) }
+    ensures nearest { (number by : ℕ) → 0 < by → IsNearest number by (nearest number by) }
     ensures one { (number by r s : ℕ) → IsNearest number by r → IsNearest number by s → r ≡ s }
 {}
 

@@ -13,7 +13,7 @@ pub fn nearest(number: u64, by: u64) -> u64
     requires small { number < 2 ^ 60 }
     requires small_by { by < 2 ^ 60 }
     ensures value { result ≡ nearest number by }
-    ensures near { IsNearest number by result }
+    ensures nearest { IsNearest number by result }
 {
     (2 * number + by) / (2 * by)
 }

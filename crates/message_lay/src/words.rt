@@ -262,7 +262,7 @@ fn fault_after<'a>(
     verb: Verb,
     rest: Option<&'a [u8]>,
 ) -> Result<(Fault, usize, Option<&'a [u8]>), AtWord<LayCause>>
-    ensures near { IfOk result (λ p. p.1 < 8) }
+    ensures bounded { IfOk result (λ p. p.1 < 8) }
     ensures read { MatchResult result
         (λ p. fault_after verb (numbers_in (verb_words verb) (words_after (option_copied rest.entry))) ≡ Ok (record { fault = p.0; at = p.1; words = words_after (option_copied p.2) }))
         (λ fault. fault_after verb (numbers_in (verb_words verb) (words_after (option_copied rest.entry))) ≡ Err fault) }
@@ -282,7 +282,7 @@ fn fault_after<'a>(
 pub fn fault_in<'a>(
     rest: Option<&'a [u8]>,
 ) -> Result<(Fault, usize, Option<&'a [u8]>), AtWord<LayCause>>
-    ensures near { IfOk result (λ p. p.1 < 8) }
+    ensures bounded { IfOk result (λ p. p.1 < 8) }
     ensures read { MatchResult result
         (λ p. fault_in (words_after (option_copied rest.entry)) ≡ Ok (record { fault = p.0; at = p.1; words = words_after (option_copied p.2) }))
         (λ fault. fault_in (words_after (option_copied rest.entry)) ≡ Err fault) }

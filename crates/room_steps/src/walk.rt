@@ -212,7 +212,7 @@ impl Walk {
         requires { IsReady self.now.run.end (point_of self.now.run.events here.old) }
         ensures skips { (rounds : ℕ) × Skips self.now.run.end at rounds (point_of self.now.run.events here.old) (point_of self.now.run.events here.new) }
         ensures ready { IsReady self.now.run.end (point_of self.now.run.events here.new) }
-        ensures goes { IsTrue result → Brings self.now.run.end (point_of self.now.run.events here.old) (point_of self.now.run.events here.new) }
+        ensures onward { IsTrue result → Brings self.now.run.end (point_of self.now.run.events here.old) (point_of self.now.run.events here.new) }
     {
         ahead.copy_from(here);
         'rounds: for _ in 0..LEAP {

@@ -18,13 +18,13 @@ instants-preserved g c =
     let added = subst (λ (ss : List Stretch). Adds c.instants.out c.add_instant.new.out (noted_instant (c.args.line.now ∷ (c.args.drives.now ++ ss ∷ [])) notes c.instants.t)) c.next_two-next.ensures c.add_instant.ensures in
     let same : (u : ℕ) → c.instants.t ≤ u + 1 → line_of c.not_over-left.result.now u ≡ line_of c.args.pulses.now u = λ u l. c.not_over-left.ensures.same u l ∙ c.instants.invariant.same u l in
     let whole = more_instants c.args.line.now c.args.drives.now c.args.pulses.now c.not_over-left.result.now notes c.args.from c.instants.t c.next_note-t.result c.next_end-change.result c.next_end_of.result c.next_end.result
-    c.instants.invariant.after c.next_note-t.ensures.later c.next_note-t.ensures.near c.next_end-change.ensures.near c.next_end_of.ensures.near
+    c.instants.invariant.after c.next_note-t.ensures.later c.next_note-t.ensures.bounded c.next_end-change.ensures.bounded c.next_end_of.ensures.bounded
     c.not_over-left.ensures.order c.not_over-left.ensures.first same c.next_note-t.ensures.quiet c.next_end-change.ensures.quiet c.next_end_of.ensures.quiet quiet in
     record {
       so_far = subst (Adds c.args.out.now c.add_instant.new.out) (sym whole)
           (then _ _ _ (noted_text wires notes c.args.from (c.instants.t - c.args.from)) (noted_instant two notes c.instants.t) c.instants.invariant.so_far added);
       after = omega (arith, c.instants.invariant.after, c.next_note-t.ensures.later);
-      before = omega (arith, c.next_note-t.ensures.near, c.next_end-change.ensures.near, c.next_end_of.ensures.near, c.next_end.ensures.near);
+      before = omega (arith, c.next_note-t.ensures.bounded, c.next_end-change.ensures.bounded, c.next_end_of.ensures.bounded, c.next_end.ensures.bounded);
       order = c.not_over-left.ensures.order;
       same = λ u l. same u (omega (arith, l, c.next_note-t.ensures.later));
     }

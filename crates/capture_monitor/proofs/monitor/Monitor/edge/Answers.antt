@@ -10,9 +10,9 @@ pub returns : goal.returns
 returns c =
     let by : (win : Windows) → FollowsEdgeBy win c.args.self.now c.args.edge (option_map listed_as c.or.result) c.tick-ended.new.self = λ win low n h l calm now.
     edge_reported win h.are low n c.args.edge.at c.args.edge.low c.args.self.now c.wait-waited.new.self c.note.new.self c.tick-ended.new.self c.wait-waited.result c.tick-ended.result c.or.result h l calm now
-    (c.wait-waited.ensures.heard h.still) c.wait-waited.ensures.windows (c.wait-waited.ensures.still h.still) c.wait-waited.ensures.is
-    c.note.ensures.windows c.note.ensures.keeps c.note.ensures.was c.note.ensures.is
-    c.tick-ended.ensures.heard c.tick-ended.ensures.windows c.tick-ended.ensures.was c.tick-ended.ensures.is c.or.ensures in
+    (c.wait-waited.ensures.heard h.still) c.wait-waited.ensures.windows (c.wait-waited.ensures.still h.still) c.wait-waited.ensures.level
+    c.note.ensures.windows c.note.ensures.keeps c.note.ensures.was c.note.ensures.level
+    c.tick-ended.ensures.heard c.tick-ended.ensures.windows c.tick-ended.ensures.was c.tick-ended.ensures.level c.or.ensures in
     record {
       follows = edge_standard c.args.self.now c.tick-ended.new.self c.args.edge (option_map listed_as c.or.result) (by standard);
       by = by;

@@ -4,11 +4,11 @@ use Rattle.follow_audit.specs.Teller.{TellsCalm}
 use Rattle.follow_audit.proofs.Followed.{goes, goes_not, told_prompt}
 use Rattle.follow_audit.proofs.follower.AuditFollower.go_on.Goals as goal
 
-pub returns-in-Err-clause-goes : goal.returns-in-Err-clause-goes
-returns-in-Err-clause-goes g c = (goes_not c.args.self.now c.args.edge _, tt)
+pub returns-in-Err-clause-onward : goal.returns-in-Err-clause-onward
+returns-in-Err-clause-onward g c = (goes_not c.args.self.now c.args.edge _, tt)
 
-pub returns-in-Ok-clause-goes : goal.returns-in-Ok-clause-goes
-returns-in-Ok-clause-goes g c =
+pub returns-in-Ok-clause-onward : goal.returns-in-Ok-clause-onward
+returns-in-Ok-clause-onward g c =
     goes c.args.self.now (record { lines = c.args.self.now.lines; teller = c.calm-second.new.self; listener = c.tell.new.self }) c.take.new.self c.edge-first.new.self c.args.edge (option_map listed_as c.edge-first.result)
     (option_map listed_as c.calm-second.result) (g.S.Sink.contents c.args.out.now) (g.S.Sink.contents c.tell.new.out) c.tell.result c.in-Ok.ensures c.edge-first.ensures
     (subst (λ (n : ℕ). TellsCalm c.edge-first.new.self n (option_map listed_as c.calm-second.result) c.calm-second.new.self) c.from.ensures.from c.calm-second.ensures) refl c.tell.ensures.puts
