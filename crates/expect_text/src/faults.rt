@@ -301,7 +301,7 @@ fn any_after_label(
     label: Option<&[u8]>,
     fault: Option<AtWord<ExpectCause>>,
 ) -> Option<AtWord<ExpectCause>>
-    requires near { IfSome fault IsNear }
+    requires bounded { IfSome fault IsNear }
     ensures { result ≡ option_map (after_label (option_copied label.entry)) fault }
 {
     match fault {
