@@ -5,9 +5,11 @@ mod edge_lines;
 mod error;
 mod follower;
 mod following;
+mod laws;
 mod lines;
 
 pub use error::FollowError;
 pub use follower::{EndedReadings, Follower};
 pub use following::follow;
+pub use laws::{edges_come_before_what_is_left, lines_leave_a_capture_in_turn};
 pub use lines::{CaptureLines, Last, LineForm};
