@@ -20,17 +20,10 @@ use Rattle.message_table.specs.declared.word_set.WordSet.{WordSet}
 use Rattle.message_table.specs.declared.word_set.WordSet.TheVariants.{Reason, Power, OnOff, DeviceType, StatusRequest, DeckInfo, PlayMode, DeckControl, Display, MenuRequest, MenuState, Version, UserControl}
 use Rattle.message_text.specs.FrameText.{frame_text, header_text, is_letter, is_text_byte, opcode_text, operand_word, operand_words, operands_text, quoted_text, raw_text, spaced_word, with_both}
 use Rattle.message_text.specs.ReadingText.{bit_digit, bits_text, ending_text, is_broadcast, is_complete, last_bit, reading_text, reported_by, reported_frame, reported_text, verdict_by, verdict_in, verdict_text}
-use Rattle.audit_core.specs.Kept.{IsPlain}
+use Rattle.audit_core.specs.Kept.{IsPlain, PlainIf, shown}
 use Rattle.audit_core.proofs.Plain.{plain_codes, plain_decimal, plain_hex, plain_more, plain_nibble, plain_phys}
 
 -- ---- parts that may be missing
-
-abbrev pub PlainIf : Option (List ℕ) → Type 0
-PlainIf None = Unit {0}
-PlainIf (Some text) = IsPlain text
-
-abbrev pub shown : List ℕ → Bool
-shown text = list_all (λ c. not (c == 10)) text
 
 pub or_else : (o : Option (List ℕ)) (other : List ℕ) → PlainIf o → IsPlain other → IsPlain (unwrap_or o other)
 or_else None other h k = k

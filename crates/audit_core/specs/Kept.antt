@@ -1,7 +1,7 @@
 -- An audit keeps the readings: the line of each stands in it as a monitor writes it, in order, and all else are lines that
 -- begin with two spaces (own).
-use Rattle.std.specs.Prelude.{◌≡◌, ◌≢◌, ℕ, ◌==◌, Bool, not, List, [], ◌∷◌, ◌++◌, slice_index, filter}
-use Rattle.std.specs.List.{flat_map}
+use Rattle.std.specs.Prelude.{◌≡◌, ◌≢◌, ℕ, ◌==◌, Bool, not, List, [], ◌∷◌, ◌++◌, slice_index, filter, Option, None, Some}
+use Rattle.std.specs.List.{flat_map, list_all}
 use Rattle.line_reading.specs.Readings.{Listed, readings_of}
 use Rattle.capture_core.specs.Edges.{Captured, line_of_edges}
 use Rattle.text_core.specs.Lines.{lines_of}
@@ -12,6 +12,15 @@ use Rattle.audit_core.specs.Audit.{audit_text}
 abbrev pub IsPlain : List ℕ → Type 0
 IsPlain [] = Unit {0}
 IsPlain (c ∷ cs) = (c ≢ 10) × IsPlain cs
+
+-- a text that is absent, or without a line feed
+abbrev pub PlainIf : Option (List ℕ) → Type 0
+PlainIf None = Unit {0}
+PlainIf (Some text) = IsPlain text
+
+-- a text without a line feed, as a test
+abbrev pub shown : List ℕ → Bool
+shown text = list_all (λ c. not (c == 10)) text
 
 -- a line feed ends it, and there is no other one
 pub record IsClosed (text : List ℕ) : Type 0 where

@@ -10,5 +10,8 @@ mod whole;
 
 pub use audit::{AuditOptions, audit_capture, audit_capture_by};
 pub use auditor::Auditor;
-pub use laws::audits_keep_readings;
+pub use laws::{
+    audits_keep_readings, frames_and_readings_are_one_line, remarks_are_left_out,
+    texts_without_a_line_feed, words_without_a_line_feed,
+};
 pub use progress::TextProgress;

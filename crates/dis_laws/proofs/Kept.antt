@@ -3,9 +3,9 @@ use Rattle.std.proofs.Common.{◌≡◌, ℕ, ◌+◌, ◌/◌, ◌%◌, ◌==�
 use Rattle.std.specs.List.{flat_map}
 use Rattle.std.proofs.lemmas.Bool.Decides.{nat_tests}
 use Rattle.message_text.specs.FrameText.{frame_text, header_text}
-use Rattle.audit_core.specs.Kept.{IsPlain, is_remark, without_remarks}
+use Rattle.audit_core.specs.Kept.{IsPlain, PlainIf, is_remark, without_remarks}
 use Rattle.audit_core.proofs.KeptLines.{by_line, remark_gone}
-use Rattle.audit_core.proofs.OneLine.{PlainIf, plain_frame}
+use Rattle.audit_core.proofs.OneLine.{plain_frame}
 use Rattle.audit_core.proofs.Plain.{plain_codes, plain_more}
 use Rattle.message_hex.specs.Lines.{frame_line, line_frame, line_text, remark_text, reported_line}
 use Rattle.message_hex.specs.Remark.{remark}

@@ -3,8 +3,8 @@ use Rattle.std.proofs.Common.{◌≡◌, ℕ, zero, suc, ◌==◌, Bool, true, f
 use Rattle.std.specs.List.{position_or_len}
 use Rattle.message_table.specs.Table.{name_of, rows}
 use Rattle.message_text.specs.FrameText.{frame_text}
-use Rattle.audit_core.specs.Kept.{IsClosed, IsPlain, IsRemark}
-use Rattle.audit_core.proofs.OneLine.{PlainIf, named, or_else, plain_frame}
+use Rattle.audit_core.specs.Kept.{IsClosed, IsPlain, IsRemark, PlainIf}
+use Rattle.audit_core.proofs.OneLine.{named, or_else, plain_frame}
 use Rattle.audit_core.proofs.Plain.{plain_codes, plain_more}
 use Rattle.message_hex.specs.Remark.{remark}
 use Rattle.message_meaning.specs.Addresses.{receiver, sender}

@@ -3,8 +3,8 @@ use Rattle.std.proofs.Common.{◌≡◌, ℕ, zero, suc, ◌/◌, ◌%◌, ◌==
 use Rattle.std.specs.List.{list_all}
 use Rattle.std.proofs.lemmas.Bool.{false≢true}
 use Rattle.message_table.specs.WordSets.{NamedByte, word_of}
-use Rattle.audit_core.specs.Kept.{IsPlain}
-use Rattle.audit_core.proofs.OneLine.{PlainIf, shown, worded}
+use Rattle.audit_core.specs.Kept.{IsPlain, PlainIf, shown}
+use Rattle.audit_core.proofs.OneLine.{worded}
 use Rattle.audit_core.proofs.Plain.{plain_codes}
 use Rattle.message_hex.specs.Remark.{abort_reasons, audio_rates, deck_states, device_types, first_of, more_names, more_words, operand_remark, place_of, play_modes, powers, record_sources, record_states, remark, timer_cleared, tuner_requests, user_controls, versions}
 use Rattle.message_meaning.specs.Addresses.{address_name, receiver, sender}

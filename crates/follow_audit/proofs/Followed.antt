@@ -20,7 +20,8 @@ use Rattle.follow_core.specs.Follow.{NoneBefore}
 use Rattle.follow_core.specs.Lines.{EndsLines, IsEarly, TakesLine, from_of, lines_captured, lines_left}
 use Rattle.follow_core.specs.declared.lines.Last.{Last}
 use Rattle.follow_core.specs.declared.lines.LineForm.{LineForm}
-pub use Rattle.follow_core.proofs.Telling.{both, captured_turn, end_same, goes_on as none_before, lines_again, split_read, with_none}
+pub use Rattle.live_incoming.proofs.Coming.{lines_again}
+pub use Rattle.follow_core.proofs.Telling.{both, captured_turn, end_same, goes_on as none_before, split_read, with_none}
 use Rattle.follow_audit.specs.Follow.{Ends, Goes, GoesCut, GoesEnd, GoesLast, GoesOn, GoesTo, HasCut, HasHeard, HasStopped, HasWritten, Hears, IsAt, IsFollowed, IsFront, IsFrontOfAll, IsOfGoing, IsPrompt, LeavesAlone, text_of}
 use Rattle.follow_audit.specs.Listener.{Finishes, IsAudited, IsOfListening, Puts, PutsAll, PutsFront, SaysAllKnown, TakesEdge}
 use Rattle.follow_audit.specs.Teller.{IsTold, TellsCalm, TellsEdge, TellsEnd}

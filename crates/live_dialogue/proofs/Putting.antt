@@ -1,6 +1,6 @@
 -- What is put, and how it is handed on.
 use Rattle.std.proofs.Common.{◌≡◌, ◌↔◌, ℕ, Bool, true, false, List, [], length, take, Option, Some, None, Result, Ok, Err, IsErr, IsTrue, IfErr, OnOk, refl, sym, subst, ◌∙◌, arith}
-use Rattle.std.specs.Io.KnownBytes.{Appends, Keeps, append_known}
+use Rattle.std.specs.Io.KnownBytes.{Appends, Keeps}
 use Rattle.std.proofs.Math.Seq.{take_all}
 use Rattle.std.proofs.lemmas.Bool.{false≢true}
 use Rattle.text_core.specs.declared.buffered.Buffered.{Buffered}
@@ -10,10 +10,6 @@ use Rattle.text_core.specs.Cut.{CutOff}
 use Rattle.live_dialogue.specs.declared.error.SessionError.{SessionError}
 use Rattle.live_dialogue.specs.declared.error.SessionError.TheVariants.{Read, TooLong, NoScriptLine, Topology, Edid, Script, Write, Memory}
 use Rattle.live_dialogue.specs.Dialogue.{AreHanded, IsCutShort, is_write}
-
--- what was put to a sink in all
-abbrev pub held : {S : Type 0} → (S → Option (List ℕ)) → Buffered S → Option (List ℕ)
-held contents b = append_known (contents b.sink) b.pending.items
 
 abbrev pub is_stuck : {S : Type 0} → Buffered S → Bool
 is_stuck b = b.stuck

@@ -1,8 +1,8 @@
 -- A session over an input and a sink: what it reads, and what it writes of that (this profile's own).
 use Rattle.std.specs.Prelude.{◌≡◌, ◌≢◌, ℕ, ◌+◌, ◌<◌, ◌≤◌, ◌⊎◌, Bool, true, false, List, [], ◌∷◌, ◌++◌, length, take, codes, Option, Some, None, IfSome, Result, Ok, Err, All}
-use Rattle.std.specs.Io.KnownBytes.{Appends, Consumes, IsAtEnd}
+use Rattle.std.specs.Io.KnownBytes.{Appends, Consumes, IsAtEnd, append_known}
 use Rattle.text_core.specs.declared.buffered.Buffered.{Buffered}
-use Rattle.text_core.specs.Buffered.{handed_count, pending}
+use Rattle.text_core.specs.Buffered.{below, handed_count, pending}
 use Rattle.edid_core.specs.declared.edid.Edid.{Edid as EdidValue}
 use Rattle.text_core.specs.Lines.{lines_of}
 use Rattle.live_incoming.specs.Incoming.{IsWhole, Leads, text_of_lines, longest_line}
@@ -347,6 +347,10 @@ IsInLimits before (Err Read) = Unit {0}
 IsInLimits before (Err Memory) = Unit {0}
 
 -- ---- the sink
+
+-- what was put to a sink in all: what it has taken, and then what is pending
+abbrev pub held : {S : Type 0} → (S → Option (List ℕ)) → Buffered S → Option (List ℕ)
+held contents b = append_known (contents (below b)) (pending b)
 
 -- all that was put is handed on; after a failed write so many bytes were
 abbrev pub IsHandedOn : {S : Type 0} → Buffered S → Result Unit SessionError → Type 0

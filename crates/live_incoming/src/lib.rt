@@ -2,5 +2,7 @@
 #![tactic(auto)]
 
 mod incoming;
+mod laws;
 
 pub use incoming::{IncomingFault, LONGEST_LINE, Lines};
+pub use laws::texts_of_lines_have_those_lines;

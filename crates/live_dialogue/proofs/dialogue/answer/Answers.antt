@@ -1,8 +1,9 @@
 use Rattle.std.proofs.Common.{◌+◌, ℕ, List, Ok, Err, refl, sym, subst, arith}
 use Rattle.live_incoming.specs.Incoming.{IsWhole, Leads, to_come}
 use Rattle.live_dialogue.specs.declared.error.SessionError.TheVariants.{TooLong}
+use Rattle.live_dialogue.specs.Dialogue.{held}
 use Rattle.live_dialogue.proofs.Answered.{answer_stops, filled, line_quiet, line_stops, no_end, over, so_far_more, so_far_start}
-use Rattle.live_dialogue.proofs.Putting.{handed_on, handed_same, held, is_stuck}
+use Rattle.live_dialogue.proofs.Putting.{handed_on, handed_same, is_stuck}
 use Rattle.live_dialogue.proofs.dialogue.answer.Goals as goal
 
 pub loop-answered-init : goal.loop-answered-init

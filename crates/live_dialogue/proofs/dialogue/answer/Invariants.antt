@@ -1,8 +1,8 @@
 use Rattle.std.proofs.Common.{◌≡◌, None, Ok}
 use Rattle.live_incoming.specs.Incoming.{to_come}
-use Rattle.live_dialogue.specs.Dialogue.{AreHanded}
+use Rattle.live_dialogue.specs.Dialogue.{AreHanded, held}
 use Rattle.live_dialogue.proofs.Answered.{SoFar}
-use Rattle.live_dialogue.proofs.Putting.{held, is_stuck}
+use Rattle.live_dialogue.proofs.Putting.{is_stuck}
 use Rattle.live_dialogue.proofs.dialogue.answer.Given as goal
 
 -- the lines so far were answered, and the script has not ended

@@ -1,9 +1,9 @@
 use Rattle.std.proofs.Common.{Err, refl, sym, subst}
 use Rattle.text_core.specs.Buffered.{handed_count}
 use Rattle.live_dialogue.specs.declared.error.SessionError.TheVariants.{Memory}
-use Rattle.live_dialogue.specs.Dialogue.{AreHanded}
+use Rattle.live_dialogue.specs.Dialogue.{AreHanded, held}
 use Rattle.live_dialogue.proofs.Answered.{cut_from, memory_from, of_memory, whole_from}
-use Rattle.live_dialogue.proofs.Putting.{fails, flushed, handed_same, held, is_stuck}
+use Rattle.live_dialogue.proofs.Putting.{fails, flushed, handed_same, is_stuck}
 use Rattle.live_dialogue.proofs.dialogue.answer_line.Goals as goal
 
 pub line-requires : goal.line-requires

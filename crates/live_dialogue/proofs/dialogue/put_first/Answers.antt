@@ -1,6 +1,7 @@
 use Rattle.text_core.specs.Buffered.{handed_count}
+use Rattle.live_dialogue.specs.Dialogue.{held}
 use Rattle.live_dialogue.proofs.Answered.{first_is}
-use Rattle.live_dialogue.proofs.Putting.{fails, flushed, held, is_stuck}
+use Rattle.live_dialogue.proofs.Putting.{fails, flushed, is_stuck}
 use Rattle.live_dialogue.proofs.dialogue.put_first.Goals as goal
 
 pub returns-clause-first : goal.returns-clause-first

@@ -1,16 +1,19 @@
-use Rattle.std.proofs.Common.{◌≡◌, ℕ, List, [], Option, Err, sym, arith, ap, subst, ◌∙◌}
+use Rattle.std.proofs.Common.{◌≡◌, ℕ, List, [], Option, Some, None, Err, refl, sym, ap, subst, ◌∙◌}
 use Rattle.std.specs.Io.KnownBytes.{prepend_known}
 use Rattle.live_incoming.specs.Incoming.{bytes_left, to_come}
-use Rattle.live_incoming.proofs.Coming.{none_left}
 use Rattle.live_session.specs.Session.{Session}
-use Rattle.live_dialogue.specs.Dialogue.{HasRoom, IsOpened, IsOpening}
-use Rattle.live_dialogue.proofs.Putting.{handed_same, held, is_stuck}
+use Rattle.live_dialogue.specs.Dialogue.{HasRoom, IsOpened, IsOpening, held}
+use Rattle.live_dialogue.proofs.Putting.{handed_same, is_stuck}
 use Rattle.live_dialogue.proofs.Whole.{in_limits, refused_is, refused_quiet, session_is, unopened_is, unopened_limits, unopened_quiet}
 use Rattle.live_dialogue.proofs.dialogue.session_heard.Goals as goal
 
 -- at first all is to come that the reader has
 start_is : (pending : List ℕ) (rest : Option (List ℕ)) → pending ≡ [] → prepend_known pending rest ≡ rest
-start_is pending rest e = ap (λ (xs : List ℕ). prepend_known xs rest) e ∙ none_left 0 [] rest (omega arith)
+start_is pending rest e = ap (λ (xs : List ℕ). prepend_known xs rest) e ∙ none_before rest
+  where
+    none_before : (rest : Option (List ℕ)) → prepend_known [] rest ≡ rest
+    none_before None = refl
+    none_before (Some xs) = refl
 
 pub returns-in-Err-clause-session : goal.returns-in-Err-clause-session
 returns-in-Err-clause-session g c =

@@ -1,5 +1,6 @@
 use Rattle.live_incoming.specs.Incoming.{to_come}
-use Rattle.live_dialogue.proofs.Putting.{handed_on, held, is_stuck}
+use Rattle.live_dialogue.specs.Dialogue.{held}
+use Rattle.live_dialogue.proofs.Putting.{handed_on, is_stuck}
 use Rattle.live_dialogue.proofs.Whole.{talked_cut, talked_on}
 use Rattle.live_dialogue.proofs.dialogue.talk.Goals as goal
 

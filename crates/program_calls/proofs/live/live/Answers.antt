@@ -1,4 +1,4 @@
-use Rattle.live_dialogue.proofs.Putting.{held}
+use Rattle.live_dialogue.specs.Dialogue.{held}
 use Rattle.program_calls.proofs.LiveLemmas.{lives}
 use Rattle.program_calls.proofs.live.live.Goals as goal
 
