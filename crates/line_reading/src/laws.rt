@@ -108,9 +108,9 @@ pub fn slots_are_known_one_by_one()
     ensures bits { SlotsAddTheirBits }
 {}
 
-/// A reading is not over before its fall, soon after the line was low, and by its ending, which comes after its fall and at
-/// most a microsecond after it is over. What is left of it from a slot on is not over before that slot's fall, and by its
-/// ending. The ending of a last slot is reported at its own instant.
+/// A reading is over at its fall or later, soon after the line was low, and at its ending or a microsecond before it; it ends
+/// after its fall. What is left of it from a slot on is over at that slot's fall or later, and by its ending. The ending of a
+/// last slot is reported at its own instant.
 pub fn readings_are_over_in_time()
     ensures after_fall { OverAfterFall }
     ensures lately { OverLately }
