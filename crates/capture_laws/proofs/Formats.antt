@@ -11,7 +11,7 @@ use Rattle.line_rounds.specs.declared.Outcome.{Outcome}
 use Rattle.room_net.specs.Line.{run_wave}
 use Rattle.room_net.specs.State.{first_net}
 use Rattle.room_script.proofs.Sound.{scripts_are_sound}
-use Rattle.capture_core.specs.Edges.{AreInTurn, EndBy, IsCapture, edges_of, EndsBy}
+use Rattle.capture_core.specs.Edges.{AreInTurn, EndBy, edges_of, EndsBy}
 use Rattle.capture_vcd.specs.Dump as vcd_in
 use Rattle.capture_vcd.specs.Text as vcd
 use Rattle.capture_vcd.proofs.ReadBack.{dumps_are_read_back}
@@ -30,6 +30,7 @@ use Rattle.room_run.specs.Run.{start}
 use Rattle.room_run.specs.OneRun.{rounds_of_line, rounds_reported}
 use Rattle.room_run.proofs.WholeLine as runs
 use Rattle.room_run.proofs.OneRun.{runs_close_soon, texts_have_one_run, traces_have_parts}
+use Rattle.capture_laws.specs.Waves.{WavesAreCaptures}
 use Rattle.capture_laws.specs.Formats.{IsReadAs, LinesAreReadBack, LinesOfRunsHaveTheirReadings, MonitorsReportTracesInAll}
 use Rattle.capture_core.proofs.Ends.{ends_by}
 use Rattle.capture_laws.proofs.ReadBack.{edge_files_are_read_back, lines_of_parts, lines_of_rounds, over_by_script, same_line}
@@ -63,7 +64,7 @@ end_of : (ss : List Stretch) (from end : ℕ) → IsWaveFrom from ss → EndsBy 
 end_of [] from end wave by = tt
 end_of (s ∷ ss) from end wave by = ((let w = wave.1 in let b = by.0 in omega arith), (by.0, end_of ss (s.to + 1) end wave.2 by.1))
 
-pub is_capture : (ss : List Stretch) (end : ℕ) → IsWave ss → ((u : ℕ) → end ≤ u → line_of ss u ≡ false) → end ≤ latest_instant → IsCapture (edges_of ss) end
+pub is_capture : WavesAreCaptures
 is_capture ss end wave over low = record { turn = turns_of ss 0 wave; ends = end_of ss 0 end wave (ends_by ss 0 end wave over); early = low }
 
 -- ---- of runs

@@ -12,14 +12,13 @@ use Rattle.capture_monitor.specs.EdgeText.{edge_lines}
 use Rattle.room_trace.specs.TraceText.{end_line}
 use Rattle.room_run.proofs.WholeLine as runs
 use Rattle.room_run.proofs.OneRun.{runs_close_soon, texts_have_one_run, traces_have_parts}
-use Rattle.room_run.specs.OneRun.{AreOverBy, rounds_of_line, Part, OfEvent, OfRound, part_rounds}
+use Rattle.room_run.specs.OneRun.{rounds_of_line, Part, OfEvent, OfRound, part_rounds}
 use Rattle.room_run.specs.Run.{start}
 use Rattle.room_net.specs.State.{first_net}
 use Rattle.std.specs.List.{flat_map}
 use Rattle.capture_core.specs.Edges.{edges_of, EndsBy}
 use Rattle.capture_forms.specs.declared.form.CaptureForm.TheVariants.{Edges}
 use Rattle.room_run.specs.declared.run.Reporting.TheVariants.{Line}
-use Rattle.room_script.specs.Script.{Course, IsScript}
 use Rattle.room_script.proofs.Sound.{scripts_are_sound}
 use Rattle.line_rounds.specs.declared.Outcome.{Outcome}
 use Rattle.line_rounds.specs.Alone.{outcome_listed}
@@ -29,6 +28,7 @@ use Rattle.capture_monitor.specs.EdgeFile.{edge_line_of, edges_read, end_read, f
 use Rattle.capture_core.specs.Edges.{level_at}
 use Rattle.capture_monitor.specs.declared.edge_file.EdgeLine.{EdgeLine}
 use Rattle.capture_monitor.specs.declared.edge_file.EdgeLine.TheVariants.{Edge as EdgeLineOf, End}
+use Rattle.capture_laws.specs.Waves.{EdgesTellWaves, ScriptsAreOver}
 use Rattle.capture_laws.specs.Capture.{part_monitored, EdgeFilesAreReadBack, FilesOfRunsHaveTheirReadings, MonitorsReportTraces}
 use Rattle.capture_core.proofs.Ends.{ends_by}
 use Rattle.capture_core.proofs.Texts.{line_before}
@@ -120,7 +120,7 @@ pick false false l r e early = e
 less : (u from : ℕ) → nat_lt u from ≡ true → u < from
 less u from h = grind (arith, nat_tests)
 
-pub same_line : (ss : List Stretch) (from u : ℕ) → IsWaveFrom from ss → level_at false (edges_of ss) u ≡ line_of ss u
+pub same_line : EdgesTellWaves
 same_line [] from u wave = refl
 same_line (s ∷ ss) from u wave =
     let again = same_line ss (s.to + 1) u wave.2 in
@@ -135,7 +135,7 @@ edge_files_are_read_back ss end wave over low = record {
 }
 
 -- the pulses and pulls of a script are over by the latest instant
-pub over_by_script : (count : ℕ) (course : Course) → IsScript count course → AreOverBy latest_instant course.end course.pulses
+pub over_by_script : ScriptsAreOver
 over_by_script count course script = record {
   order = script.timely.order;
   ends = λ k p l early. (let from = script.early k p l in let width = script.wide k p l in omega (arith, from, width));

@@ -1,2 +1,3 @@
 pub mod Capture
 pub mod Formats
+pub mod Waves

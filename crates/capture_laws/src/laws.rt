@@ -1,6 +1,7 @@
 //! Laws of the files of a run's line.
 ghost use Rattle.capture_laws.specs.Capture.{EdgeFilesAreReadBack, FilesOfRunsHaveTheirReadings, MonitorsReportTraces};
 ghost use Rattle.capture_laws.specs.Formats.{LinesAreReadBack, LinesOfRunsHaveTheirReadings, MonitorsReportTracesInAll};
+ghost use Rattle.capture_laws.specs.Waves.{EdgesTellWaves, ScriptsAreOver, WavesAreCaptures};
 
 /// The edges of a line that is high from the end on, written as a run writes them, are read as they were, and say that
 /// line.
@@ -34,4 +35,15 @@ pub fn lines_of_runs_have_their_readings()
 /// their trace reports, in order, each once.
 pub fn monitors_report_traces_in_all()
     ensures { MonitorsReportTracesInAll }
+{}
+
+/// The edges of a wave tell its line, and are a capture where it is high from the end on.
+pub fn waves_are_captures()
+    ensures line { EdgesTellWaves }
+    ensures capture { WavesAreCaptures }
+{}
+
+/// The pulses and pulls of a script are over by the latest instant.
+pub fn scripts_are_over()
+    ensures { ScriptsAreOver }
 {}
