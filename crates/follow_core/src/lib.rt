@@ -11,6 +11,7 @@ mod lines;
 pub use error::FollowError;
 pub use follower::{EndedReadings, Follower};
 pub use following::follow;
-pub use laws::long_lines_are_too_much;
-pub use laws::{edges_come_before_what_is_left, lines_leave_a_capture_in_turn};
+pub use laws::{
+    edges_come_before_what_is_left, lines_leave_a_capture_in_turn, long_lines_are_too_much,
+};
 pub use lines::{CaptureLines, Last, LineForm};
