@@ -25,7 +25,7 @@ use Rattle.line_frames.specs.Blocks.{frame_in}
 use Rattle.capture_monitor.specs.Watch.{reading_as}
 use Rattle.audit_remarks.specs.declared.header.FrameHead.{FrameHead}
 use Rattle.audit_remarks.specs.Header.{head_read}
-use Rattle.audit_core.proofs.OneLine.{PlainIf, plain_opcode, shown, worded}
+use Rattle.audit_core.proofs.OneLine.{plain_opcode, worded}
 use Rattle.audit_remarks.specs.declared.messages.Missing.{Missing}
 use Rattle.audit_remarks.specs.declared.messages.Receivers.{Receivers}
 use Rattle.audit_remarks.specs.declared.messages.Receivers.TheVariants.{OneDevice, AllDevices}
@@ -44,7 +44,7 @@ use Rattle.audit_remarks.specs.Sources.{is_unreported}
 use Rattle.audit_widths.specs.Spreads.{no_widths, with_slots}
 use Rattle.audit_core.specs.Audit.{Tape, after, after_all, audit_text, come_to, drive_of, first_tape, is_folded, lows_of, reading_misfits, remarks_text, summary_text, times_text, line_and_remarks, named_in, named_of, notes_text, reported_all, unfinished_of}
 use Rattle.audit_core.proofs.Plain.{plain_codes, plain_decimal, plain_hex, plain_more, plain_nibble, plain_phys}
-use Rattle.audit_core.specs.Kept.{AllRemarks, AreKept, AreRemarks, IsClosed, IsPlain, IsRemark}
+use Rattle.audit_core.specs.Kept.{AllRemarks, AreKept, AreRemarks, IsClosed, IsPlain, IsRemark, PlainIf, shown}
 
 -- ---- closed by a line feed
 

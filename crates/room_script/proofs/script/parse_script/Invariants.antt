@@ -3,8 +3,7 @@ use Rattle.text_core.specs.Lines.{lines_of}
 use Rattle.room_script.specs.Script.{Course, AreLinesRead, IsScriptRead, notes_of}
 use Rattle.text_core.specs.declared.at.At.{At}
 use Rattle.room_script.specs.declared.script.ScriptCause.{ScriptCause}
-use Rattle.room_script.proofs.Adding.{AreFew}
-use Rattle.room_script.proofs.Sound.{AreSound}
+use Rattle.room_script.specs.Lines.{AreFew, AreSound}
 use Rattle.room_script.proofs.script.parse_script.Given as goal
 
 -- what the lines that are left give after those so far, all lines give
