@@ -1,20 +1,21 @@
 //! From expectations and a capture to their report.
 ghost use Rattle.std.specs.Prelude.{◌≡◌, ◌↔◌, false, IfOk, IfErr, IsTrue};
+ghost use Rattle.text_core.specs.Held.{held_bytes};
 ghost use Rattle.audit_expect.specs.Check.{IsCaptureChecked, IsCaptureCut, IsCaptureReported, capture_report, is_write, reading_tests};
 ghost use Rattle.audit_expect.specs.Marks.{capture_trace};
 ghost use Rattle.audit_expect.specs.Wanted.{plain_text};
 ghost use Rattle.expect_run.specs.Report.{report_as};
 
 use crate::faults::first_fault;
-use crate::marks::push_marks;
+use crate::marks::append_marks;
 use crate::remarks::add_wanted;
 use crate::wanted::plain_text;
 use capture_core::Capture;
 use capture_monitor::watch_capture;
-use expect_run::{Held, ReportDraft, Tally, add_plan, open_report, tally_of};
+use expect_run::{ReportDraft, Tally, add_plan, open_report, tally_of};
 use expect_text::ExpectCause;
 use std::alloc::{AllocError, Global};
-use text_core::{At, Sink, put_all};
+use text_core::{At, Held, Sink, put_all};
 use thiserror::Error;
 
 /// Why there is no report of a capture, or not all of it.
@@ -32,10 +33,10 @@ pub enum CaptureCheckError {
 
 // What is judged of a capture.
 fn capture_trace(alloc: Global, expectations: &[u8], capture: &Capture) -> Result<Held, AllocError>
-    ensures { IfOk result (λ held. held.bytes.items ≡ capture_trace expectations.now capture.now) }
+    ensures { IfOk result (λ held. held_bytes held ≡ capture_trace expectations.now capture.now) }
 {
     let mut held = Held::new(alloc);
-    push_marks(&mut held.bytes, expectations)?;
+    append_marks(&mut held, expectations)?;
     match watch_capture(capture, &mut held) {
         Ok(()) => Ok(held),
         Err(_) => Err(AllocError),
@@ -52,7 +53,7 @@ fn reading_tests(
     ensures { IfOk result (λ draft. report_as draft ≡ reading_tests expectations.now capture.now) }
 {
     let held = capture_trace(alloc, expectations, capture)?;
-    open_report(alloc, expectations, &held.bytes, &[])
+    open_report(alloc, expectations, held.bytes(), &[])
 }
 
 // The report; `plain` are the expectations of readings.
@@ -104,7 +105,7 @@ pub fn check_capture<S: Sink>(
     let Ok(report) = report_of(alloc, expectations, &plain, capture) else {
         return Err(CaptureCheckError::Memory);
     };
-    match put_all(out, &report.text.bytes) {
+    match put_all(out, report.text.bytes()) {
         Ok(()) => Ok(tally_of(&report.verdicts)),
         Err(fault) => Err(CaptureCheckError::Write(fault.count)),
     }

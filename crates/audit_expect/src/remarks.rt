@@ -1,6 +1,7 @@
 //! What is found of expectations of remarks.
 ghost use Rattle.std.specs.Prelude.{◌≡◌, ◌++◌, OnOk, IfOk, false};
 ghost use Rattle.std.specs.List.{list_any};
+ghost use Rattle.text_core.specs.Held.{held_bytes};
 ghost use Rattle.text_core.specs.Lines.{lines_of};
 ghost use Rattle.audit_core.specs.Audit.{audit_text};
 ghost use Rattle.expect_run.specs.Report.{report_as, shown_line};
@@ -10,11 +11,11 @@ use crate::wanted::{WantedRemarks, is_any_wanted, wanted_of};
 use audit_core::{AuditOptions, audit_capture};
 use audit_lines::{has_remark, kind_of};
 use capture_core::Capture;
-use expect_run::{Held, ReportDraft, add_test};
+use expect_run::{ReportDraft, add_test};
 use expect_text::fits;
 use json_trace::{after_word, word};
 use std::alloc::{AllocError, Global};
-use text_core::{Piece, after, first_line, write_pieces};
+use text_core::{Held, Piece, after, first_line, write_pieces};
 
 /// How many remarks stand below a test that failed, at most.
 const SHOWN_MOST: usize = 8;
@@ -58,7 +59,7 @@ fn holds_of(audit: &[u8], wanted: WantedRemarks) -> bool
 
 // Appends a line of an audit.
 fn append_line(out: &mut Held, line: &[u8]) -> Result<(), AllocError>
-    ensures { OnOk result (out.new.bytes.items ≡ out.old.bytes.items ++ shown_line line.now) }
+    ensures { OnOk result (held_bytes out.new ≡ held_bytes out.old ++ shown_line line.now) }
 {
     match write_pieces(
         out,
@@ -71,7 +72,7 @@ fn append_line(out: &mut Held, line: &[u8]) -> Result<(), AllocError>
 
 // Appends the first eight remarks.
 fn append_remarks(out: &mut Held, audit: &[u8]) -> Result<(), AllocError>
-    ensures { OnOk result (out.new.bytes.items ≡ out.old.bytes.items ++ shown_remarks (lines_of audit.now)) }
+    ensures { OnOk result (held_bytes out.new ≡ held_bytes out.old ++ shown_remarks (lines_of audit.now)) }
 {
     let mut rest = audit;
     let mut left = SHOWN_MOST;
@@ -124,7 +125,7 @@ fn add_lines(draft: &mut ReportDraft, audit: &[u8], text: &[u8]) -> Result<(), A
 
 // The audit of a capture.
 fn audit_of(alloc: Global, capture: &Capture) -> Result<Held, AllocError>
-    ensures { IfOk result (λ held. held.bytes.items ≡ audit_text false capture.now) }
+    ensures { IfOk result (λ held. held_bytes held ≡ audit_text false capture.now) }
 {
     let mut held = Held::new(alloc);
     match audit_capture(capture, AuditOptions { timing: false }, &mut held) {
@@ -150,5 +151,5 @@ pub(crate) fn add_wanted(
         return Ok(());
     }
     let audit = audit_of(alloc, capture)?;
-    add_lines(draft, &audit.bytes, text)
+    add_lines(draft, audit.bytes(), text)
 }

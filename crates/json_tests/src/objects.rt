@@ -1,9 +1,9 @@
 //! Each row through the call that the program makes.
 use crate::rows::{OTHERS, READINGS, SPELLED, STATES};
-use json_trace::{Held, write_objects};
+use json_trace::write_objects;
 use std::io::{self, ErrorKind, Write};
 use std::process::Abort;
-use text_core::{Writes, put_all};
+use text_core::{Held, Writes, put_all};
 
 /// The objects of a text.
 fn objects(rt: &(impl Abort + AllocGlobal), text: &[u8]) -> String {

@@ -1,9 +1,8 @@
 //! Lines of sessions, and their objects. Each is written by hand, from docs/live.md, docs/formats.md and RFC 8259.
 use crate::objects::{Narrow, holds};
 use json_live::{Finished, Halt, LiveObjects};
-use json_trace::Held;
 use std::process::Abort;
-use text_core::{Writes, put_all};
+use text_core::{Held, Writes, put_all};
 
 /// A line of a session, and after an arrow what its object has after the line.
 const LINES: &str = "\

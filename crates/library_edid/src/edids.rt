@@ -4,9 +4,9 @@ ghost use Rattle.library_edid.specs.Edids.{AreFindingsPut, AreFindingsRefused, I
 
 use conversion_calls::{EdidForm, EdidToTextError, TextToHexError, edid_to_findings, text_to_edid};
 use conversion_notes::edid_to_meaning;
-use json_trace::Held;
 use library_answers::{Answer, Code, edid_code, put, refused};
 use std::alloc::Global;
+use text_core::Held;
 
 /// The answer where a text is no EDID's, for this cause. What is written stands in memory, so that only want of it ends a write.
 pub fn text_refused(error: &TextToHexError) -> Answer

@@ -243,7 +243,7 @@ impl EdgeWire {
         requires time { self.now.time ≤ latest_heard }
         requires kept { IsKept self.now }
         ensures later { self.now.time < result.until }
-        ensures bounded { result.until ≤ self.now.time + first_slot }
+        ensures near { result.until ≤ self.now.time + first_slot }
         ensures low { (t : ℕ) → self.now.time ≤ t → t < result.until → list_any (pull_in t) self.now.senders.items ≡ nat_lt t result.rise }
     {
         if self.is_pull_kept() {
@@ -331,11 +331,11 @@ impl EdgeWire {
     // Goes to the next instant at which the line or the reading may change.
     fn wait(&mut self, next: Option<Stretch>)
         requires begun { IsBegun self.old }
-        requires onward { is_silent_in self.old ≡ false }
+        requires goes { is_silent_in self.old ≡ false }
         requires next { IfSome next (λ p. self.old.time ≤ p.from) }
         ensures same { self.new ≡ record self.old { time = self.new.time } }
         ensures later { self.old.time ≤ self.new.time }
-        ensures bounded { self.new.time ≤ self.old.time + first_slot }
+        ensures near { self.new.time ≤ self.old.time + first_slot }
         ensures time { self.new.time < latest_heard }
         ensures next { IfSome next (λ p. self.new.time ≤ p.from) }
         ensures stands { (past : List StretchValue) → IsBegunWith past self.old → IsBegunWith past self.new × EachOf past self.new (IsCalm self.old self.new.time) }
@@ -546,10 +546,10 @@ impl EdgeWire {
     fn search(&mut self, coming: &[Stretch]) -> Option<Edge>
         requires begun { (past : List StretchValue) × IsBegunWith past self.old × Follow past coming.now self.old.time }
         ensures round { SameRound self.old self.new }
-        ensures onward { MatchOption result (is_silent_in self.new ≡ true) (λ edge. self.old.time < self.new.time) }
-        ensures instant { IfSome result (λ edge. edge.at + 1 ≡ self.new.time) }
+        ensures goes { MatchOption result (is_silent_in self.new ≡ true) (λ edge. self.old.time < self.new.time) }
+        ensures at { IfSome result (λ edge. edge.at + 1 ≡ self.new.time) }
         ensures found { (past : List StretchValue) → IsBegunWith past self.old → Follow past coming.now self.old.time → Found past coming.now self.old self.new result }
-        ensures bounded { (past : List StretchValue) → IsBegunWith past self.old → Follow past coming.now self.old.time → AreSparse (past ++ coming.now) → self.old.time ≤ self.old.begin + 470000 → self.new.time ≤ self.new.begin + 470000 }
+        ensures near { (past : List StretchValue) → IsBegunWith past self.old → Follow past coming.now self.old.time → AreSparse (past ++ coming.now) → self.old.time ≤ self.old.begin + 470000 → self.new.time ≤ self.new.begin + 470000 }
     {
         let begun = self.begun;
         'wakes: while !self.is_silent() {
@@ -571,10 +571,10 @@ impl EdgeWire {
         ensures begun { IsBegunWith (take self.new.begun pulls.now) self.new }
         ensures pulls { ArePulls (take self.new.begun pulls.now) pulls.now self.new }
         ensures round { SameRound self.old self.new }
-        ensures onward { MatchOption result (is_silent_in self.new ≡ true) (λ edge. self.old.time < self.new.time) }
-        ensures instant { IfSome result (λ edge. edge.at + 1 ≡ self.new.time) }
+        ensures goes { MatchOption result (is_silent_in self.new ≡ true) (λ edge. self.old.time < self.new.time) }
+        ensures at { IfSome result (λ edge. edge.at + 1 ≡ self.new.time) }
         ensures edge { NextEdges pulls.now self.old result }
-        ensures bounded { AreSparse pulls.now → self.old.time ≤ self.old.begin + 470000 → self.new.time ≤ self.new.begin + 470000 }
+        ensures near { AreSparse pulls.now → self.old.time ≤ self.old.begin + 470000 → self.new.time ≤ self.new.begin + 470000 }
     {
         let (_begun, coming) = pulls.split_at(self.begun);
         self.search(coming)
@@ -584,10 +584,10 @@ impl EdgeWire {
     pub fn next_edge(&mut self, next: Option<Stretch>) -> Option<Edge>
         requires begun { (past : List StretchValue) × IsBegunWith past self.old × IsNext past self.old.time next }
         ensures round { SameRound self.old self.new }
-        ensures onward { MatchOption result (is_silent_in self.new ≡ true) (λ edge. self.old.time < self.new.time) }
-        ensures instant { IfSome result (λ edge. edge.at + 1 ≡ self.new.time) }
+        ensures goes { MatchOption result (is_silent_in self.new ≡ true) (λ edge. self.old.time < self.new.time) }
+        ensures at { IfSome result (λ edge. edge.at + 1 ≡ self.new.time) }
         ensures found { (past : List StretchValue) → IsBegunWith past self.old → IsNext past self.old.time next → Found past (option_to_list next) self.old self.new result }
-        ensures bounded { (past : List StretchValue) → IsBegunWith past self.old → IsNext past self.old.time next → AreSparse (past ++ option_to_list next) → self.old.time ≤ self.old.begin + 470000 → self.new.time ≤ self.new.begin + 470000 }
+        ensures near { (past : List StretchValue) → IsBegunWith past self.old → IsNext past self.old.time next → AreSparse (past ++ option_to_list next) → self.old.time ≤ self.old.begin + 470000 → self.new.time ≤ self.new.begin + 470000 }
     {
         match next {
             None => self.search(&[]),

@@ -111,7 +111,7 @@ fn pull_with(sender: &Option<Sender>, pull: Pull, t: u64) -> Pull
 pub fn pull_at(senders: &[Option<Sender>], places: SenderPlaces, t: u64) -> Pull
     requires early { t ≤ latest_heard }
     requires places { StandIn places senders.now }
-    ensures bounded { result.until ≤ t + first_slot }
+    ensures near { result.until ≤ t + first_slot }
     ensures later { t < result.until }
     ensures low { (u : ℕ) → t ≤ u → u < result.until → list_any (pull_in u) senders.now ≡ nat_lt u result.rise }
 {

@@ -4,7 +4,7 @@ use Rattle.program_captures.specs.Following.{FollowsTo}
 use Rattle.program_calls.specs.Done.{AreServedAs, IsHelp, IsServed}
 use Rattle.cli_words.specs.declared.choice.Asked.{Asked}
 use Rattle.cli_words.specs.declared.choice.CommandChoice.TheVariants.{Follow}
-use Rattle.cli_words.specs.declared.choice.FollowForm.{FollowForm}
+use Rattle.follow_core.specs.declared.lines.LineForm.{LineForm}
 use Rattle.cli_words.specs.declared.choice.FollowReport.{FollowReport}
 
 -- where a choice was made
@@ -17,7 +17,7 @@ pub helped : (o : Option Asked) (name : List ℕ) (known old new : Option (List 
 helped o name known old new is help = subst (λ x. AreServedAs x name known old new) (sym is) help
 
 -- a capture that is reported as its lines come
-pub followed : (form : FollowForm) (margin : ℕ) (report : FollowReport) (known old new : Option (List ℕ)) (name : List ℕ) → FollowsTo form name margin report known old new
+pub followed : (form : LineForm) (margin : ℕ) (report : FollowReport) (known old new : Option (List ℕ)) (name : List ℕ) → FollowsTo form name margin report known old new
     → IsServed known old new (Follow form margin report) name
 followed form margin report known old new name f = record {
   input = f.input;

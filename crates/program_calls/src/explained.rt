@@ -1,10 +1,11 @@
 //! The faults of the program as they are explained.
 use crate::fault::ProgramFault;
 use capture_forms::CaptureForm;
-use cli_words::{CommandChoice, FollowForm, Objects, Source};
+use cli_words::{CommandChoice, Objects, Source};
 use edid_core::EdidCause;
 use expect_run::CheckError;
 use explain_marks::{Input, InputFault as Explained};
+use follow_core::LineForm;
 use live_dialogue::{ScriptEnd, SessionError};
 use message_hex::DisError;
 use message_lay::LayError;
@@ -48,11 +49,11 @@ pub fn form_in(choice: CommandChoice, input: &[u8]) -> CaptureForm {
             form_of(form, input)
         }
         CommandChoice::Follow {
-            form: FollowForm::Pin,
+            form: LineForm::Pin,
             ..
         } => CaptureForm::Pin,
         CommandChoice::Follow {
-            form: FollowForm::Csv,
+            form: LineForm::Csv,
             ..
         } => CaptureForm::Csv,
         CommandChoice::CheckCapture { form, .. }

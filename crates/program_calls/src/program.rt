@@ -16,7 +16,8 @@ use crate::said::{remark, report};
 use crate::status::{USAGE, write_fault};
 use crate::told::Recap;
 use cli_command::{Refused, choose};
-use cli_words::{Asked, CommandChoice, FollowForm, FollowReport, signal_in};
+use cli_words::{Asked, CommandChoice, FollowReport, signal_in};
+use follow_core::LineForm;
 use json_live::Halt;
 use live_dialogue::SessionError;
 use program_captures::follow_capture;
@@ -197,7 +198,7 @@ fn serve_session<R: Read, W: Sink, E: Sink>(
 fn follow_lines<R: Read, W: Sink, E: Sink>(
     alloc: Global,
     asked: Asked,
-    form: FollowForm,
+    form: LineForm,
     signal: &[u8],
     margin: u64,
     kind: FollowReport,
@@ -219,7 +220,7 @@ fn follow_lines<R: Read, W: Sink, E: Sink>(
 fn serve_capture<R: Read, W: Sink, E: Sink>(
     alloc: Global,
     asked: Asked,
-    form: FollowForm,
+    form: LineForm,
     signal: &[u8],
     margin: u64,
     kind: FollowReport,

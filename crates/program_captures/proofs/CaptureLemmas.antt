@@ -14,11 +14,10 @@ use Rattle.follow_audit.specs.Follow.{text_of as audit_of}
 use Rattle.follow_audit.specs.declared.error.FollowAuditError.{FollowAuditError}
 use Rattle.cli_words.specs.declared.choice.FollowReport.TheVariants as reports
 use Rattle.program_captures.proofs.AuditLemmas.{never}
-use Rattle.program_captures.specs.Following.{FollowsTo, IsCauseOf, StopsAudit, StopsSo, fault_of, form_followed}
+use Rattle.program_captures.specs.Following.{FollowsTo, IsCauseOf, StopsAudit, StopsSo, fault_of}
 use Rattle.follow_core.specs.declared.error.FollowError.{FollowError}
-use Rattle.follow_core.specs.declared.lines.LineForm.{LineForm as FollowedForm}
+use Rattle.follow_core.specs.declared.lines.LineForm.{LineForm}
 use Rattle.program_captures.specs.declared.fault.MonitorFault.{MonitorFault}
-use Rattle.cli_words.specs.declared.choice.FollowForm.{FollowForm}
 use Rattle.std.specs.Io.KnownBytes.{Appends, append_known}
 use Rattle.program_captures.specs.Captures.{readings_at}
 use Rattle.capture_core.specs.Edges.{Captured, line_of_edges}
@@ -44,8 +43,8 @@ nothing_more None = refl
 nothing_more (Some xs) = ap Some (append-nil xs)
 
 -- all that was put is handed on
-pub follows_to : (form : FollowForm) (name : List ℕ) (margin : ℕ) (windows : Windows) (known old below : Option (List ℕ)) (pending : List ℕ) → windows ≡ wider (min margin most_margin) → pending ≡ []
-    → HasFollowed (form_followed form) name windows known old (append_known below pending) → FollowsTo form name margin reports.Readings known old below
+pub follows_to : (form : LineForm) (name : List ℕ) (margin : ℕ) (windows : Windows) (known old below : Option (List ℕ)) (pending : List ℕ) → windows ≡ wider (min margin most_margin) → pending ≡ []
+    → HasFollowed form name windows known old (append_known below pending) → FollowsTo form name margin reports.Readings known old below
 follows_to form name margin windows known old below pending e none f = record {
   input = f.input;
   all = f.all;
@@ -55,19 +54,19 @@ follows_to form name margin windows known old below pending e none f = record {
 }
 
 -- or why it ends before
-pub stops_so : (form : FollowForm) (name : List ℕ) (margin : ℕ) (followed : FollowedForm) (windows : Windows) (known old new : Option (List ℕ)) (before pending : List ℕ) (error : FollowError) (fault : MonitorFault) → windows ≡ wider (min margin most_margin)
-    → followed ≡ form_followed form → fault ≡ fault_of error → Stops followed name windows known old new error → (before ≡ [] → IsHandedOn error pending)
+pub stops_so : (form : LineForm) (name : List ℕ) (margin : ℕ) (windows : Windows) (known old new : Option (List ℕ)) (before pending : List ℕ) (error : FollowError) (fault : MonitorFault) → windows ≡ wider (min margin most_margin)
+    → fault ≡ fault_of error → Stops form name windows known old new error → (before ≡ [] → IsHandedOn error pending)
     → StopsSo form name margin known old new before pending fault
-stops_so form name margin followed windows known old new before pending error fault e is cause stops handed = record {
+stops_so form name margin windows known old new before pending error fault e cause stops handed = record {
   error = error;
   cause = cause;
-  stops = subst (λ (f : FollowedForm). Stops f name (wider (min margin most_margin)) known old new error) is (subst (λ (w : Windows). Stops followed name w known old new error) e stops);
+  stops = subst (λ (w : Windows). Stops form name w known old new error) e stops;
   handed = handed;
 }
 
 -- the same of an audit
-pub audits_to : (form : FollowForm) (name : List ℕ) (margin : ℕ) (timing : Bool) (windows : Windows) (known old below : Option (List ℕ)) (pending : List ℕ) → windows ≡ wider (min margin most_margin) → pending ≡ []
-    → HasAudited (form_followed form) name windows timing known old (append_known below pending) → FollowsTo form name margin (reports.Audit timing) known old below
+pub audits_to : (form : LineForm) (name : List ℕ) (margin : ℕ) (timing : Bool) (windows : Windows) (known old below : Option (List ℕ)) (pending : List ℕ) → windows ≡ wider (min margin most_margin) → pending ≡ []
+    → HasAudited form name windows timing known old (append_known below pending) → FollowsTo form name margin (reports.Audit timing) known old below
 audits_to form name margin timing windows known old below pending e none f = record {
   input = f.input;
   all = f.all;
@@ -76,11 +75,11 @@ audits_to form name margin timing windows known old below pending e none f = rec
   put = subst (λ (new : Option (List ℕ)). Appends old new (audit_of timing windows f.capture)) (ap (append_known below) none ∙ nothing_more below) f.put;
 }
 
-pub stops_audit : (form : FollowForm) (name : List ℕ) (margin : ℕ) (timing : Bool) (followed : FollowedForm) (windows : Windows) (known old new : Option (List ℕ)) (before pending : List ℕ) (error : FollowAuditError) (fault : MonitorFault) → windows ≡ wider (min margin most_margin)
-    → followed ≡ form_followed form → IsCauseOf error fault → FollowsAudit followed name windows timing known old new (Err error) → (before ≡ [] → IsAuditHandedOn error pending) → StopsAudit form name margin timing known old new before pending fault
-stops_audit form name margin timing followed windows known old new before pending error fault e is cause stops handed = record {
+pub stops_audit : (form : LineForm) (name : List ℕ) (margin : ℕ) (timing : Bool) (windows : Windows) (known old new : Option (List ℕ)) (before pending : List ℕ) (error : FollowAuditError) (fault : MonitorFault) → windows ≡ wider (min margin most_margin)
+    → IsCauseOf error fault → FollowsAudit form name windows timing known old new (Err error) → (before ≡ [] → IsAuditHandedOn error pending) → StopsAudit form name margin timing known old new before pending fault
+stops_audit form name margin timing windows known old new before pending error fault e cause stops handed = record {
   error = error;
   cause = cause;
-  stops = subst (λ (f : FollowedForm). FollowsAudit f name (wider (min margin most_margin)) timing known old new (Err error)) is (subst (λ (w : Windows). FollowsAudit followed name w timing known old new (Err error)) e stops);
+  stops = subst (λ (w : Windows). FollowsAudit form name w timing known old new (Err error)) e stops;
   handed = handed;
 }

@@ -12,20 +12,12 @@ use Rattle.follow_audit.specs.declared.error.FollowAuditError.{FollowAuditError}
 use Rattle.follow_audit.specs.declared.error.FollowAuditError.TheVariants as audit_error
 use Rattle.program_captures.specs.declared.fault.MonitorFault.{MonitorFault}
 use Rattle.program_captures.specs.declared.fault.MonitorFault.TheVariants as faults
-use Rattle.follow_core.specs.declared.lines.LineForm.{LineForm as FollowedForm}
-use Rattle.follow_core.specs.declared.lines.LineForm.TheVariants as forms
+use Rattle.follow_core.specs.declared.lines.LineForm.{LineForm}
 use Rattle.program_captures.specs.Captures.{IsHeard}
-use Rattle.cli_words.specs.declared.choice.FollowForm.{FollowForm}
-use Rattle.cli_words.specs.declared.choice.FollowForm.TheVariants.{Edges, Pin, Csv}
 use Rattle.cli_words.specs.declared.choice.FollowReport.{FollowReport}
 use Rattle.cli_words.specs.declared.choice.FollowReport.TheVariants as line_reports
 use Rattle.cli_words.specs.declared.choice.CaptureReport.{CaptureReport}
 use Rattle.cli_words.specs.declared.choice.CaptureReport.TheVariants.{Audit, Readings}
-
-abbrev pub form_followed : FollowForm → FollowedForm
-form_followed Edges = forms.Edges
-form_followed Pin = forms.Pin
-form_followed Csv = forms.Csv
 
 -- all readings, or an audit that no remark makes a fault
 abbrev pub report_as : FollowReport → CaptureReport
@@ -33,11 +25,11 @@ report_as line_reports.Readings = Readings
 report_as (line_reports.Audit timing) = Audit timing false
 
 -- this text is what is reported of the capture that an input gives, as of the whole
-abbrev pub IsReported : FollowForm → ℕ → FollowReport → List ℕ → List ℕ → List ℕ → Type 0
-IsReported form margin report name input text = IsHeard (form_as (form_followed form)) name false 0 margin (report_as report) input text
+abbrev pub IsReported : LineForm → ℕ → FollowReport → List ℕ → List ℕ → List ℕ → Type 0
+IsReported form margin report name input text = IsHeard (form_as form) name false 0 margin (report_as report) input text
 
 -- that of all that there was to read is written, and nothing else
-pub record FollowsTo (form : FollowForm) (name : List ℕ) (margin : ℕ) (report : FollowReport) (known old new : Option (List ℕ)) : Type 0 where
+pub record FollowsTo (form : LineForm) (name : List ℕ) (margin : ℕ) (report : FollowReport) (known old new : Option (List ℕ)) : Type 0 where
   pub input : List ℕ
   pub all : IfSome known (λ text. input ≡ text)
   pub text : List ℕ
@@ -53,10 +45,10 @@ fault_of (error.Write count) = faults.Write (record { count = count })
 
 -- What is over by the lines that came is written and handed on, and nothing else; where a write failed, a front of what the last of
 -- them ends is written.
-pub record StopsSo (form : FollowForm) (name : List ℕ) (margin : ℕ) (known old new : Option (List ℕ)) (before pending : List ℕ) (fault : MonitorFault) : Type 0 where
+pub record StopsSo (form : LineForm) (name : List ℕ) (margin : ℕ) (known old new : Option (List ℕ)) (before pending : List ℕ) (fault : MonitorFault) : Type 0 where
   pub error : FollowError
   pub cause : fault ≡ fault_of error
-  pub stops : Stops (form_followed form) name (wider (min margin most_margin)) known old new error
+  pub stops : Stops form name (wider (min margin most_margin)) known old new error
   pub handed : before ≡ [] → IsHandedOn error pending
 
 -- no memory is left
@@ -79,12 +71,12 @@ IsCauseOf audit_error.Memory fault = IsOfMemory fault
 
 -- a front of the audit of each capture that begins with the lines that came is written; where a line is at fault or a read failed, all of
 -- it that they say, and it is handed on
-pub record StopsAudit (form : FollowForm) (name : List ℕ) (margin : ℕ) (timing : Bool) (known old new : Option (List ℕ)) (before pending : List ℕ) (fault : MonitorFault) : Type 0 where
+pub record StopsAudit (form : LineForm) (name : List ℕ) (margin : ℕ) (timing : Bool) (known old new : Option (List ℕ)) (before pending : List ℕ) (fault : MonitorFault) : Type 0 where
   pub error : FollowAuditError
   pub cause : IsCauseOf error fault
-  pub stops : FollowsAudit (form_followed form) name (wider (min margin most_margin)) timing known old new (Err error)
+  pub stops : FollowsAudit form name (wider (min margin most_margin)) timing known old new (Err error)
   pub handed : before ≡ [] → IsAuditHandedOn error pending
 
-abbrev pub StopsAs : FollowReport → FollowForm → List ℕ → ℕ → Option (List ℕ) → Option (List ℕ) → Option (List ℕ) → List ℕ → List ℕ → MonitorFault → Type 0
+abbrev pub StopsAs : FollowReport → LineForm → List ℕ → ℕ → Option (List ℕ) → Option (List ℕ) → Option (List ℕ) → List ℕ → List ℕ → MonitorFault → Type 0
 StopsAs line_reports.Readings form name margin known old new before pending fault = StopsSo form name margin known old new before pending fault
 StopsAs (line_reports.Audit timing) form name margin known old new before pending fault = StopsAudit form name margin timing known old new before pending fault

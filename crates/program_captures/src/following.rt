@@ -2,27 +2,17 @@
 ghost use Rattle.std.specs.Prelude.{◌≡◌, IfErr, OnOk};
 ghost use Rattle.cli_words.specs.declared.choice.FollowReport.TheVariants as reports;
 ghost use Rattle.text_core.specs.Buffered.{below, pending};
-ghost use Rattle.program_captures.specs.Following.{FollowsTo, IsCauseOf, StopsAs, StopsAudit, StopsSo, form_followed, fault_of};
+ghost use Rattle.program_captures.specs.Following.{FollowsTo, IsCauseOf, StopsAs, StopsAudit, StopsSo, fault_of};
 
 use crate::capture::within_most;
 use crate::fault::MonitorFault;
-use cli_words::{FollowForm, FollowReport};
+use cli_words::FollowReport;
 use follow_audit::{FollowAuditError, follow_audit};
-use follow_core::{FollowError, LineForm as FollowedForm, follow};
+use follow_core::{FollowError, LineForm, follow};
 use line_reading::Windows;
 use std::alloc::{AllocError, Global};
 use std::io::Read;
 use text_core::{Buffered, Sink, WriteFault};
-
-fn form_followed(form: FollowForm) -> FollowedForm
-    ensures { result ≡ form_followed form }
-{
-    match form {
-        FollowForm::Edges => FollowedForm::Edges,
-        FollowForm::Pin => FollowedForm::Pin,
-        FollowForm::Csv => FollowedForm::Csv,
-    }
-}
 
 fn fault_of(error: FollowError) -> MonitorFault
     ensures { result ≡ fault_of error }
@@ -49,7 +39,7 @@ fn audit_fault_of(error: FollowAuditError) -> MonitorFault
 
 // Writes the readings. Where a line is at fault, what is over by the lines before it is written and handed on.
 fn follow_readings<R: Read, W: Sink>(
-    form: FollowForm,
+    form: LineForm,
     signal: &[u8],
     margin: u64,
     input: &mut R,
@@ -59,7 +49,7 @@ fn follow_readings<R: Read, W: Sink>(
     ensures stops { IfErr result (StopsSo form signal.now margin (R.remaining input.old) (⟦<Buffered<W> as Sink>⟧.contents out.old) (⟦<Buffered<W> as Sink>⟧.contents out.new) (pending out.old) (pending out.new)) }
 {
     let windows = Windows::wider(within_most(margin));
-    match follow(form_followed(form), signal, windows, input, out) {
+    match follow(form, signal, windows, input, out) {
         Ok(()) => Ok(()),
         Err(error) => Err(fault_of(error)),
     }
@@ -68,7 +58,7 @@ fn follow_readings<R: Read, W: Sink>(
 // Writes the audit.
 fn follow_remarks<R: Read, W: Sink>(
     alloc: Global,
-    form: FollowForm,
+    form: LineForm,
     signal: &[u8],
     margin: u64,
     timing: bool,
@@ -79,15 +69,7 @@ fn follow_remarks<R: Read, W: Sink>(
     ensures stops { IfErr result (StopsAudit form signal.now margin timing (R.remaining input.old) (⟦<Buffered<W> as Sink>⟧.contents out.old) (⟦<Buffered<W> as Sink>⟧.contents out.new) (pending out.old) (pending out.new)) }
 {
     let windows = Windows::wider(within_most(margin));
-    match follow_audit(
-        alloc,
-        form_followed(form),
-        signal,
-        windows,
-        timing,
-        input,
-        out,
-    ) {
+    match follow_audit(alloc, form, signal, windows, timing, input, out) {
         Ok(()) => Ok(()),
         Err(error) => Err(audit_fault_of(error)),
     }
@@ -99,7 +81,7 @@ fn follow_remarks<R: Read, W: Sink>(
 /// Where a line is at fault, what was written by the lines before it stays.
 pub fn follow_capture<R: Read, W: Sink>(
     alloc: Global,
-    form: FollowForm,
+    form: LineForm,
     signal: &[u8],
     margin: u64,
     report: FollowReport,

@@ -23,10 +23,9 @@ use edid_as_source::{as_source, counted, with_count};
 use edid_core::{AudioFrom, EdidError, read_parts};
 use edid_ddc::{Ddc, DdcError, write_readout};
 use edid_merge::with_speakers;
-use json_trace::Held;
 use rules_check::Origin;
 use std::alloc::{AllocError, Global};
-use text_core::{Phys, Piece, Sink, WriteFault, put_all, write_line};
+use text_core::{Held, Phys, Piece, Sink, WriteFault, put_all, write_line};
 
 /// The fewest and the most bytes of an EDID.
 const LEAST: usize = 128;

@@ -21,8 +21,8 @@ fn next_edge_of(wire: &mut EdgeWire, pulses: &[Stretch]) -> Option<Edge>
     requires takes { Takes pulses.now wire.old }
     ensures takes { Takes pulses.now wire.new }
     ensures round { SameRound wire.old wire.new }
-    ensures onward { MatchOption result (is_silent_in wire.new ≡ true) (λ edge. wire.old.time < wire.new.time) }
-    ensures instant { IfSome result (λ edge. edge.at + 1 ≡ wire.new.time) }
+    ensures goes { MatchOption result (is_silent_in wire.new ≡ true) (λ edge. wire.old.time < wire.new.time) }
+    ensures at { IfSome result (λ edge. edge.at + 1 ≡ wire.new.time) }
     ensures edge { (low : ℕ → Bool) → IsRoundLine wire.old.seats.items wire.old.begin pulses.now low → IsNextEdge low wire.old.time result }
 {
     wire.next_edge_among(pulses)

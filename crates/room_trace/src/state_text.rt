@@ -7,7 +7,7 @@ ghost use Rattle.text_core.specs.Piece.{dash_or, piece_text};
 ghost use Rattle.room_trace.specs.StateText.{address_text, held_text, note_text, outside_line_of, phys_on, power_text, state_line, state_line_of, unit_text};
 
 use arrayvec::ArrayVec;
-use device_core::{Device, Note, Port};
+use device_core::{Device, HeardReport, Port};
 use line_frames::Addr;
 use text_core::{Counted, Kind, Phys, Piece, Sink, WriteFault, hex_digit};
 
@@ -86,7 +86,7 @@ fn port_number(port: Option<Port>) -> Option<u64>
 }
 
 // The last report that was heard: initiator, opcode and first operand in hex.
-fn note_bytes(note: Option<Note>) -> ArrayVec<u8, 7>
+fn note_bytes(note: Option<HeardReport>) -> ArrayVec<u8, 7>
     ensures { result.items ≡ dash_or note_text note }
 {
     let mut bytes = ArrayVec::new();

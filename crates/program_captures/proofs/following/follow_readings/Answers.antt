@@ -1,7 +1,5 @@
-use Rattle.std.proofs.Common.{◌≡◌, ap, subst, sym, ◌∙◌}
+use Rattle.std.proofs.Common.{ap, ◌∙◌}
 use Rattle.line_reading.specs.Windows.{wider}
-use Rattle.follow_core.specs.Follow.{HasFollowed}
-use Rattle.follow_core.specs.declared.lines.LineForm.{LineForm as FollowedForm}
 use Rattle.std.specs.Io.KnownBytes.{append_known}
 use Rattle.program_captures.proofs.CaptureLemmas.{follows_to, stops_so}
 use Rattle.program_captures.proofs.following.follow_readings.Goals as goal
@@ -12,12 +10,12 @@ returns-in-Ok-clause-done g c =
     let old = append_known (g.W.Sink.contents c.args.out.now.sink) c.args.out.now.pending.items in
     let new = c.follow.new.out in
     follows_to c.args.form c.args.signal.now c.args.margin c.wider-windows.result known old (g.W.Sink.contents new.sink) new.pending.items (c.wider-windows.ensures.wider ∙ ap wider c.within_most.ensures.same) c.in-Ok.ensures.handed
-    (subst (λ (f : FollowedForm). HasFollowed f c.args.signal.now c.wider-windows.result known old (append_known (g.W.Sink.contents new.sink) new.pending.items)) c.form_followed.ensures c.in-Ok.ensures.follows)
+    c.in-Ok.ensures.follows
 
 pub returns-in-Err-clause-stops : goal.returns-in-Err-clause-stops
 returns-in-Err-clause-stops g c =
     let known = g.R.Read.remaining c.args.input.now in
     let old = append_known (g.W.Sink.contents c.args.out.now.sink) c.args.out.now.pending.items in
     let new = append_known (g.W.Sink.contents c.follow.new.out.sink) c.follow.new.out.pending.items in
-    stops_so c.args.form c.args.signal.now c.args.margin c.form_followed.result c.wider-windows.result known old new c.args.out.now.pending.items c.follow.new.out.pending.items c.in-Err.error c.fault_of.result (c.wider-windows.ensures.wider ∙ ap wider c.within_most.ensures.same)
-    c.form_followed.ensures c.fault_of.ensures c.in-Err.ensures.follows c.in-Err.ensures.kept
+    stops_so c.args.form c.args.signal.now c.args.margin c.wider-windows.result known old new c.args.out.now.pending.items c.follow.new.out.pending.items c.in-Err.error c.fault_of.result (c.wider-windows.ensures.wider ∙ ap wider c.within_most.ensures.same)
+    c.fault_of.ensures c.in-Err.ensures.follows c.in-Err.ensures.kept

@@ -25,8 +25,8 @@ returns-clause-edge c =
     among_edges c.args.pulls.now c.split_at.result.1.now w c.search.new.self c.search.result c.requires.pulls.wave c.split_at.ensures.back
     (c.search.ensures.found (take w.begun c.args.pulls.now) c.requires.begun (pulls_follow c.args.pulls.now c.split_at.result.1.now w c.requires.begun c.requires.pulls c.split_at.ensures.back))
 
-pub returns-clause-bounded : goal.returns-clause-bounded
-returns-clause-bounded c = λ sparse l.
+pub returns-clause-near : goal.returns-clause-near
+returns-clause-near c = λ sparse l.
     let w = c.args.self.now in
-    c.search.ensures.bounded (take w.begun c.args.pulls.now) c.requires.begun (pulls_follow c.args.pulls.now c.split_at.result.1.now w c.requires.begun c.requires.pulls c.split_at.ensures.back)
+    c.search.ensures.near (take w.begun c.args.pulls.now) c.requires.begun (pulls_follow c.args.pulls.now c.split_at.result.1.now w c.requires.begun c.requires.pulls c.split_at.ensures.back)
     (among_sparse c.args.pulls.now c.split_at.result.1.now w.begun c.split_at.ensures.back sparse) l

@@ -16,8 +16,8 @@ next_of-next-requires c = (c.wakes.invariant c.requires.begun.0 c.requires.begun
 pub wait-requires-clause-begun : goal.wait-requires-clause-begun
 wait-requires-clause-begun c = (c.requires.begun.0 ++ take (c.wakes.self.begun - c.args.self.now.begun) c.args.coming.now, (c.wakes.invariant c.requires.begun.0 c.requires.begun.1 c.requires.begun.2).begun)
 
-pub wait-requires-clause-onward : goal.wait-requires-clause-onward
-wait-requires-clause-onward c = sym c.is_silent.ensures ∙ c.wakes-test.true
+pub wait-requires-clause-goes : goal.wait-requires-clause-goes
+wait-requires-clause-goes c = sym c.is_silent.ensures ∙ c.wakes-test.true
 
 pub wait-requires-clause-next : goal.wait-requires-clause-next
 wait-requires-clause-next c = next_late c.requires.begun.0 c.args.coming.now c.args.self.now c.wakes.self c.next_of-next.result c.next_of-next.ensures (c.wakes.invariant c.requires.begun.0 c.requires.begun.1 c.requires.begun.2)
@@ -43,7 +43,7 @@ returns-in-Some-clause-round c =
       waits = c.wait.ensures.same;
       goes = sym c.is_silent.ensures ∙ c.wakes-test.true;
       waits_later = c.wait.ensures.later;
-      waits_near = c.wait.ensures.bounded;
+      waits_near = c.wait.ensures.near;
       waits_next = c.wait.ensures.next;
       waits_stands = c.wait.ensures.stands;
       takes = c.take.ensures;
@@ -55,15 +55,15 @@ returns-in-Some-clause-round c =
       hears_stands = h.stands;
     })).round
 
-pub returns-in-Some-clause-onward : goal.returns-in-Some-clause-onward
-returns-in-Some-clause-onward c =
+pub returns-in-Some-clause-goes : goal.returns-in-Some-clause-goes
+returns-in-Some-clause-goes c =
     let h = c.in-Some.ensures in
     (turns_time c.requires.begun.0 c.args.coming.now c.args.self.now c.wakes.self c.wait.new.self c.take.new.self c.hear.new.self c.next_of-next.result (Some c.in-Some.edge) c.requires.begun.2 (c.wakes.invariant c.requires.begun.0 c.requires.begun.1 c.requires.begun.2) c.next_of-next.ensures
     (record {
       waits = c.wait.ensures.same;
       goes = sym c.is_silent.ensures ∙ c.wakes-test.true;
       waits_later = c.wait.ensures.later;
-      waits_near = c.wait.ensures.bounded;
+      waits_near = c.wait.ensures.near;
       waits_next = c.wait.ensures.next;
       waits_stands = c.wait.ensures.stands;
       takes = c.take.ensures;
@@ -75,8 +75,8 @@ returns-in-Some-clause-onward c =
       hears_stands = h.stands;
     })).0
 
-pub returns-in-Some-clause-instant : goal.returns-in-Some-clause-instant
-returns-in-Some-clause-instant c = let h = c.in-Some.ensures in omega (arith, h.edge.0, h.time)
+pub returns-in-Some-clause-at : goal.returns-in-Some-clause-at
+returns-in-Some-clause-at c = let h = c.in-Some.ensures in omega (arith, h.edge.0, h.time)
 
 pub returns-in-Some-clause-found : goal.returns-in-Some-clause-found
 returns-in-Some-clause-found c = λ past b f.
@@ -86,7 +86,7 @@ returns-in-Some-clause-found c = λ past b f.
       waits = c.wait.ensures.same;
       goes = sym c.is_silent.ensures ∙ c.wakes-test.true;
       waits_later = c.wait.ensures.later;
-      waits_near = c.wait.ensures.bounded;
+      waits_near = c.wait.ensures.near;
       waits_next = c.wait.ensures.next;
       waits_stands = c.wait.ensures.stands;
       takes = c.take.ensures;
@@ -98,15 +98,15 @@ returns-in-Some-clause-found c = λ past b f.
       hears_stands = h.stands;
     })
 
-pub returns-in-Some-clause-bounded : goal.returns-in-Some-clause-bounded
-returns-in-Some-clause-bounded c = λ past b f sparse l.
+pub returns-in-Some-clause-near : goal.returns-in-Some-clause-near
+returns-in-Some-clause-near c = λ past b f sparse l.
     let h = c.in-Some.ensures in
     let t = turned past c.args.coming.now c.args.self.now c.wakes.self c.wait.new.self c.take.new.self c.hear.new.self c.next_of-next.result (Some c.in-Some.edge) f (c.wakes.invariant past b f) c.next_of-next.ensures
     (record {
       waits = c.wait.ensures.same;
       goes = sym c.is_silent.ensures ∙ c.wakes-test.true;
       waits_later = c.wait.ensures.later;
-      waits_near = c.wait.ensures.bounded;
+      waits_near = c.wait.ensures.near;
       waits_next = c.wait.ensures.next;
       waits_stands = c.wait.ensures.stands;
       takes = c.take.ensures;
@@ -127,7 +127,7 @@ wakes-smaller c =
       waits = c.wait.ensures.same;
       goes = sym c.is_silent.ensures ∙ c.wakes-test.true;
       waits_later = c.wait.ensures.later;
-      waits_near = c.wait.ensures.bounded;
+      waits_near = c.wait.ensures.near;
       waits_next = c.wait.ensures.next;
       waits_stands = c.wait.ensures.stands;
       takes = c.take.ensures;
@@ -149,7 +149,7 @@ wakes-preserved c = λ past b f.
       waits = c.wait.ensures.same;
       goes = sym c.is_silent.ensures ∙ c.wakes-test.true;
       waits_later = c.wait.ensures.later;
-      waits_near = c.wait.ensures.bounded;
+      waits_near = c.wait.ensures.near;
       waits_next = c.wait.ensures.next;
       waits_stands = c.wait.ensures.stands;
       takes = c.take.ensures;
@@ -164,11 +164,11 @@ wakes-preserved c = λ past b f.
 pub returns-clause-round : goal.returns-clause-round
 returns-clause-round c = (c.wakes.invariant c.requires.begun.0 c.requires.begun.1 c.requires.begun.2).round
 
-pub returns-clause-onward : goal.returns-clause-onward
-returns-clause-onward c = sym c.is_silent.ensures ∙ c.wakes-test.false
+pub returns-clause-goes : goal.returns-clause-goes
+returns-clause-goes c = sym c.is_silent.ensures ∙ c.wakes-test.false
 
 pub returns-clause-found : goal.returns-clause-found
 returns-clause-found c = λ past b f. found_none past c.args.coming.now c.args.self.now c.wakes.self b f (c.wakes.invariant past b f) (sym c.is_silent.ensures ∙ c.wakes-test.false)
 
-pub returns-clause-bounded : goal.returns-clause-bounded
-returns-clause-bounded c = λ past b f sparse l. let g = c.wakes.invariant past b f in let n = g.near sparse l in omega (arith, n, g.round.begin)
+pub returns-clause-near : goal.returns-clause-near
+returns-clause-near c = λ past b f sparse l. let g = c.wakes.invariant past b f in let n = g.near sparse l in omega (arith, n, g.round.begin)

@@ -31,7 +31,7 @@ pub finished-requires-clause-begun : goal.finished-requires-clause-begun
 finished-requires-clause-begun c = (take c.next_edge_among.new.self.begun c.split_at.result.1.now, c.next_edge_among.ensures.begun)
 
 pub finished-requires-clause-silent : goal.finished-requires-clause-silent
-finished-requires-clause-silent c = goes_quiet c.next_edge_among.result c.edges.self c.next_edge_among.new.self (sym c.is_some.ensures ∙ c.edges-test.false) c.next_edge_among.ensures.onward
+finished-requires-clause-silent c = goes_quiet c.next_edge_among.result c.edges.self c.next_edge_among.new.self (sym c.is_some.ensures ∙ c.edges-test.false) c.next_edge_among.ensures.goes
 
 pub returns : goal.returns
 returns c =

@@ -31,4 +31,4 @@ returns-clause-edge c =
 
 pub returns-clause-state : goal.returns-clause-state
 returns-clause-state c =
-    let v = c.next_edge_of.new.wire in (v.time, ap (λ (t : NetState). record t { heard = Some v.time }) c.self.view_is, c.next_edge_of.ensures.instant)
+    let v = c.next_edge_of.new.wire in (v.time, ap (λ (t : NetState). record t { heard = Some v.time }) c.self.view_is, c.next_edge_of.ensures.at)
