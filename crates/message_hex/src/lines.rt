@@ -67,7 +67,7 @@ fn add_with_remark<'a, S: Sink>(out: &mut Counted<'_, S>, text: &'a [u8], word: 
     ensures { Adds out.old out.new (text.now ++ codes " # " ++ word.now ++ codes "\n") }
 {
     out.add_line(&[
-        Piece::LineBytes(text),
+        Piece::Bytes(text),
         Piece::Text(" # "),
         Piece::Text(word),
         Piece::Text("\n"),
@@ -80,7 +80,7 @@ pub fn add_frame<S: Sink>(out: &mut Counted<'_, S>, frame: &Frame)
 {
     let text = frame_text(frame);
     match remark(frame) {
-        None => out.add_line(&[Piece::LineBytes(text.as_slice()), Piece::Text("\n")]),
+        None => out.add_line(&[Piece::Bytes(text.as_slice()), Piece::Text("\n")]),
         Some(word) => add_with_remark(out, text.as_slice(), word),
     }
 }
