@@ -235,6 +235,7 @@ pub fn write_notes<S: Sink>(bytes: &[u8], out: &mut S) -> Result<u128, WriteFaul
     let mut lines = Counted::new(out);
     add_notes(bytes, &mut lines);
     let written = lines.written();
+    // No effect at run time. The proof reads what `out` holds from the sink that comes back.
     let _below = lines.into_sink();
     written
 }

@@ -103,6 +103,7 @@ pub fn write_readout<S: Sink>(ddc: &mut Ddc, out: &mut S) -> Result<u128, WriteF
     let mut text = Counted::new(out);
     add_segments(ddc, &mut text);
     let written = text.written();
+    // No effect at run time. The proof reads what `out` holds from the sink that comes back.
     let _below = text.into_sink();
     written
 }

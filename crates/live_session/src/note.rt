@@ -82,6 +82,7 @@ fn add_pulse(net: &mut Foreseen, pulses: &[Stretch]) -> bool
     let Some((pulse, others)) = pulses.split_first() else {
         return false;
     };
+    // No effect at run time. The proof reads from it how many are left.
     let _others = others;
     match net.add_pulse(*pulse) {
         Ok(()) => false,

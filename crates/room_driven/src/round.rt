@@ -81,6 +81,7 @@ pub fn add_drives<S: Sink, W>(
     ensures { Adds out.old out.new (round_of wires (drives_of (seats_of net.now begin) begin net.now.pulses outcome.now) begin outcome.now) }
 {
     let seats = net.seats(begin);
+    // No effect at run time. The proof reads from it how many there are at most.
     let _stretches = outcome.wave.as_slice();
     add_round(out, wires, &seats, begin, net.pulls(), outcome);
 }

@@ -126,6 +126,7 @@ impl Net<EdgeWire> {
             return false;
         };
         let seats = seats_of(&self.devices, self.rest, begin);
+        // No effect at run time. The proof reads from it how many there are at most.
         let _pulses = self.pulses.as_slice();
         let mut wire = EdgeWire::new();
         wire.begin(&seats, begin);
@@ -163,6 +164,7 @@ impl Net<EdgeWire> {
         requires known { number < length self.now.tree }
         ensures { OfRound self.now (λ begin heard low. standing_by_code result ≡ standing_reported low begin heard) }
     {
+        // No effect at run time. The proof reads from it how many there are at most.
         let _pulses = self.pulses.as_slice();
         match &self.begun {
             None => unreachable!(),

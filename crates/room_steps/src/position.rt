@@ -139,6 +139,7 @@ impl Position {
         let Some((event, others)) = input.left(self.applied).split_first() else {
             unreachable!();
         };
+        // No effect at run time. The proof reads from it how many are left.
         let _left = others;
         let mut totals = Totals::default();
         take_event(&mut self.net, &mut totals, at, event, reporter);
@@ -190,6 +191,7 @@ impl Position {
     {
         let begin = self.pass_events(input)?;
         let outcome = self.net.round_at(begin);
+        // No effect at run time. The proof reads from it how many there are at most.
         let _stretches = outcome.wave.as_slice();
         self.is_first = false;
         Some(RoundReport { begin, outcome })

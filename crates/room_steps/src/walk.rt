@@ -302,6 +302,7 @@ impl Walk {
         let Some(edge) = self.inside.hear_ahead(&mut self.ahead) else {
             last.copy_from(&self.inside);
             let report = last.net.finish_round();
+            // No effect at run time. The proof reads from it how many there are at most.
             let _stretches = report.outcome.wave.as_slice();
             last.is_first = false;
             return self.first_edge(last, next, out);
