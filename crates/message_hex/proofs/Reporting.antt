@@ -16,7 +16,7 @@ checked_more text rest after current number frame same parts read =
 
 pub fault_at : (text rest after current : List ℕ) (number : ℕ) (cause : DisCause)
     → first_fault 1 (lines_of text) ≡ first_fault number (lines_of rest) → lines_of rest ≡ current ∷ lines_of after
-    → line_frame current ≡ Err cause → first_fault 1 (lines_of text) ≡ Some (record { line = number; cause = cause })
+    → line_frame current ≡ Err cause → first_fault 1 (lines_of text) ≡ Some (record { line = number; cause = cause; word = 0 })
 fault_at text rest after current number cause same parts read =
     same ∙ ap (first_fault number) parts ∙ ap (λ r. fault_of number r (first_fault (number + 1) (lines_of after))) read
 

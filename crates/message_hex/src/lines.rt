@@ -9,7 +9,7 @@ use crate::bytes::{DisCause, frame_in};
 use crate::remarks::remark;
 use line_frames::Frame;
 use message_text::frame_text;
-use text_core::{At, Counted, Piece, Sink, WriteFault, at_word, first_line, is_skipped};
+use text_core::{At, Counted, Piece, Sink, WriteFault, first_line, is_skipped};
 use thiserror::Error;
 
 /// Why the texts of frames are not written.
@@ -54,7 +54,11 @@ pub fn check_lines(text: &[u8]) -> Result<(), At<DisCause>>
     let mut line = 1u64;
     'lines: while let Some((current, after)) = first_line(rest) {
         if let Err(cause) = line_frame(current) {
-            return Err(at_word(0, cause).on_line(line));
+            return Err(At {
+                line,
+                cause,
+                word: 0,
+            });
         }
         rest = after;
         line += 1;
