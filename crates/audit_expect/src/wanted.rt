@@ -1,15 +1,14 @@
 //! Expectations of remarks, the first of them at fault, and the other lines.
-ghost use Rattle.std.specs.Prelude.{◌≡◌, ◌≤◌, ◌++◌, codes, is_some, length, IfOk, OnOk};
+ghost use Rattle.std.specs.Prelude.{◌≡◌, ◌++◌, codes, is_some, IfOk, OnOk};
 ghost use Rattle.std.specs.Option.{option_map};
 ghost use Rattle.text_core.specs.Lines.{lines_of};
-ghost use Rattle.expect_text.specs.Form.{is_open_ended, is_pattern, stars};
 ghost use Rattle.audit_expect.specs.Wanted.{is_any_wanted, is_called, lone_fault, pattern_fault, plain_line, plain_text, remark_kinds, wanted_as, wanted_by, wanted_fault, wanted_faults, wanted_of};
 
 use audit_lines::AuditLine;
-use expect_text::{ExpectCause, fits};
+use expect_text::{ExpectCause, fits, is_pattern};
 use json_trace::{after_word, word};
 use std::alloc::{AllocError, Global};
-use text_core::{At, AtWord, at_word, byte_at, first_line};
+use text_core::{At, AtWord, at_word, first_line};
 
 /// What a line expects of the remarks of an audit.
 #[derive(Clone, Copy, Debug)]
@@ -36,12 +35,6 @@ const REMARKS: &[AuditLine] = &[
     AuditLine::Receivers,
     AuditLine::Operands,
 ];
-
-/// The most bytes of a pattern.
-const PATTERN_MOST: usize = 160;
-
-/// The most `*` of a pattern.
-const STARS_MOST: usize = 4;
 
 fn wanted_by<'a>(how: &[u8], rest: &'a [u8]) -> Option<WantedRemarks<'a>>
     ensures { option_map wanted_as result ≡ wanted_by how.now rest.now }
@@ -125,34 +118,6 @@ pub(crate) fn plain_text(alloc: Global, text: &[u8]) -> Result<Vec<u8>, AllocErr
 }
 
 // ---- faults
-
-// How many `*` a text has.
-fn stars(text: &[u8]) -> usize
-    ensures value { result ≡ stars text.now }
-    ensures within { result ≤ length text.now }
-{
-    match text {
-        [] => 0,
-        [b'*', rest @ ..] => 1 + stars(rest),
-        [_, rest @ ..] => stars(rest),
-    }
-}
-
-// Whether a text has a space at an end.
-fn is_open_ended(text: &[u8]) -> bool
-    ensures { result ≡ is_open_ended text.now }
-{
-    byte_at(text, 0) == b' ' || byte_at(text, text.len().saturating_sub(1)) == b' '
-}
-
-fn is_pattern(text: &[u8]) -> bool
-    ensures { result ≡ is_pattern text.now }
-{
-    !text.is_empty()
-        && text.len() <= PATTERN_MOST
-        && stars(text) <= STARS_MOST
-        && !is_open_ended(text)
-}
 
 // Whether one of these kinds is called so.
 fn is_called(pattern: &[u8], kinds: &[AuditLine]) -> bool

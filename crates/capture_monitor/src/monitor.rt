@@ -9,8 +9,8 @@ use line_frames::Reading;
 use line_reading::{STANDARD, Told, WideReceiver, Windows};
 use line_wave::Edge;
 
-// The reading that ran, where instant `t` told that it ended.
-fn ended_of(reported: Told, t: u64, running: Option<Reading>) -> Option<Reading>
+/// The reading that ran, where instant `t` told that it ended.
+pub fn ended_of(reported: Told, t: u64, running: Option<Reading>) -> Option<Reading>
     requires room { IfSome running (λ reading. length reading.bits.items < most_bits) }
     ensures { option_map listed_as result ≡ ended_of reported t (option_map listed_as running) }
 {

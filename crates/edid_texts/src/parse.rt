@@ -45,7 +45,7 @@ fn end_of(text: &[u8]) -> Option<usize>
 }
 
 /// The first line with its line feed, if it has one, and the text after it. An empty text has none.
-fn first_line(text: &[u8]) -> Option<(&[u8], &[u8])>
+pub fn first_line(text: &[u8]) -> Option<(&[u8], &[u8])>
     ensures lines { MatchOption result (lines_with_feeds text.now ≡ []) (λ p. lines_with_feeds text.now ≡ p.0.now ∷ lines_with_feeds p.1.now) }
     ensures shorter { IfSome result (λ p. length p.1.now < length text.now) }
 {

@@ -132,7 +132,8 @@ fn is_open_ended(text: &[u8]) -> bool
     byte_at(text, 0) == b' ' || byte_at(text, text.len().saturating_sub(1)) == b' '
 }
 
-fn is_pattern(text: &[u8]) -> bool
+/// Whether a text is a pattern: 1 to 160 bytes, at most four `*`, and a space at neither end.
+pub fn is_pattern(text: &[u8]) -> bool
     ensures { result ≡ is_pattern text.now }
 {
     !text.is_empty()

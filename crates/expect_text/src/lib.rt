@@ -17,7 +17,9 @@ mod state_words;
 
 pub use fault::after_label;
 pub use faults::{fault_among, first_fault};
-pub use form::{ExpectCause, ExpectLine, ExpectWindow, Quantity, exact_number, form_in};
+pub use form::{
+    ExpectCause, ExpectLine, ExpectWindow, Quantity, exact_number, form_in, is_pattern,
+};
 pub use labels::Labels;
 pub use laws::{
     hex_is_written_in_its_class, names_are_met, patterns_are_met, readings_are_said,

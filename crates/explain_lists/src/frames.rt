@@ -5,8 +5,8 @@ use message_shapes::{frame_shape, set_label};
 use message_table::{Operand, Operands, WordSet, name, operands_of};
 use std::alloc::{AllocError, Global};
 
-/// The sets of words, in the order in which help lists them.
-const SETS: &[WordSet] = &[
+/// The sets of words that stand for an operand of a frame, in the order in which help lists them.
+pub const OPERAND_WORDS: &[WordSet] = &[
     WordSet::Reason,
     WordSet::Power,
     WordSet::OnOff,
@@ -128,7 +128,7 @@ fn add_form(draft: &mut Draft, code: u8) {
 // The words of each set, and what the other words in capitals are.
 fn add_values(draft: &mut Draft) {
     draft.add("where these words stand for a byte:\n");
-    for set in SETS {
+    for set in OPERAND_WORDS {
         list_set(draft, set_label(*set), LABELS, *set);
     }
     draft.add("and\n");

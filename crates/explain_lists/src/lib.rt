@@ -11,6 +11,6 @@ mod script_words;
 mod words;
 
 pub use draft::Draft;
-pub use frames::{add_name, add_shape, frame_forms};
+pub use frames::{OPERAND_WORDS, add_name, add_shape, frame_forms};
 pub use script_words::{add_key_lines, add_keys_of, add_set, run_words, taken_by};
 pub use words::{Gaps, span_of, word_at, word_count};

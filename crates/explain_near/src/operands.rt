@@ -1,27 +1,10 @@
 //! What the operands of a frame's text may have been meant for.
 use crate::frames::{front_of, is_joined, tail_from};
 use crate::near::{add_near, add_suggestion};
-use explain_lists::{Draft, word_at, word_count};
+use explain_lists::{Draft, OPERAND_WORDS, word_at, word_count};
 use line_frames::Frame;
 use message_table::{Operand, Operands, WordSet, code_named, operands_of};
 use message_text::frame_text;
-
-/// The sets of words that stand for an operand of a frame.
-const OPERAND_WORDS: &[WordSet] = &[
-    WordSet::Reason,
-    WordSet::Power,
-    WordSet::OnOff,
-    WordSet::DeviceType,
-    WordSet::StatusRequest,
-    WordSet::DeckInfo,
-    WordSet::PlayMode,
-    WordSet::DeckControl,
-    WordSet::Display,
-    WordSet::MenuRequest,
-    WordSet::MenuState,
-    WordSet::Version,
-    WordSet::UserControl,
-];
 
 /// Words that stand for an operand elsewhere, each with one here.
 const OTHER_WORDS: &[(&str, &str)] = &[

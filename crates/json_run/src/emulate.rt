@@ -1,36 +1,23 @@
 //! From the texts of a topology and a script to the objects of their trace.
 ghost use Rattle.std.specs.Prelude.{◌≡◌, ◌++◌, ℕ, List, IfOk, IfErr, OnOk};
 ghost use Rattle.std.specs.Io.KnownBytes.{Appends};
-ghost use Rattle.std.specs.Option.{option_map};
 ghost use Rattle.json_trace.specs.Object.{AreInOrder};
 ghost use Rattle.text_core.specs.Lines.{lines_of};
 ghost use Rattle.room_run.specs.Emulate.{IsReported, IsTraceOf};
 ghost use Rattle.json_run.specs.Made.{AreCut};
 
 use crate::run::write_run;
-use edid_core::{Edid, root_on_heap};
+use edid_core::root_on_heap;
 use json_trace::LineObjects;
 use room_net::Net;
-use room_run::Totals;
 use room_run::emulate::EmulateError;
+use room_run::{Totals, edid_on_heap};
 use room_script::{parse_script, parse_topology};
-use std::alloc::{AllocError, Global};
+use std::alloc::Global;
 use text_core::{Held, Sink};
 
 /// Room for the lines of a turn, in bytes. More is taken where ports pass on a long EDID.
 const TURN: usize = 16_384;
-
-// The EDID that ports pass on, or that there is none, on the heap: it is large.
-#[inline(never)]
-fn edid_on_heap(alloc: Global, edid: Option<Box<Edid>>) -> Result<Box<Option<Edid>>, AllocError>
-    ensures { IfOk result (λ boxed. boxed.value ≡ option_map (λ b. b.value) edid) }
-{
-    let boxed = match edid {
-        None => Box::new(alloc, None)?,
-        Some(edid) => Box::new(alloc, Some(Box::into_inner(edid)))?,
-    };
-    Ok(boxed)
-}
 
 /// Runs a script on a topology, and writes while it runs what stands first, and then the object of each line of the trace. No more of
 /// the trace is held than the lines of one turn.

@@ -1,14 +1,12 @@
 //! Readings of the line, in plain numbers.
-ghost use Rattle.std.specs.Prelude.{◌≡◌, ◌<◌, length, option_map, IfSome};
-ghost use Rattle.line_reading.specs.Reports.{ended_of, listed_as};
+ghost use Rattle.std.specs.Prelude.{◌≡◌, option_map};
+ghost use Rattle.line_reading.specs.Reports.{listed_as};
 ghost use Rattle.library_wire.specs.Readings.{AreReadingParts, IsFrameAnswer, IsReadingFrame, IsReadingPut, reading_in};
-ghost use Rattle.line_frames.specs.Bits.{most_bits};
 
 use crate::heard::{ending_in, ending_number};
 use arrayvec::ArrayVec;
 use library_answers::{Answer, Code, put, refused};
 use line_frames::{Frame, MOST_BITS, Reading};
-use line_reading::Told;
 
 /// A reading of the line, in plain numbers.
 #[repr(C)]
@@ -48,35 +46,6 @@ pub(crate) fn put_reading(reading: Option<Reading>, place: &mut ReadingParts)
     match reading {
         Some(reading) => *place = parts_of(&reading),
         None => {}
-    }
-}
-
-/// The reading that ran, where instant `t` told that it ended.
-pub(crate) fn ended_of(reported: Told, t: u64, running: Option<Reading>) -> Option<Reading>
-    requires room { IfSome running (λ reading. length reading.bits.items < most_bits) }
-    ensures { option_map listed_as result ≡ ended_of reported t (option_map listed_as running) }
-{
-    let Some(reading) = running else {
-        return None;
-    };
-    match reported {
-        Told::Nothing | Told::Bit(..) => None,
-        Told::Last(bit, ending) => {
-            let mut bits = reading.bits;
-            bits.push(bit);
-            Some(Reading {
-                begin: reading.begin,
-                at: t,
-                ending,
-                bits,
-            })
-        }
-        Told::Ended(ending) => Some(Reading {
-            begin: reading.begin,
-            at: t,
-            ending,
-            bits: reading.bits,
-        }),
     }
 }
 

@@ -11,7 +11,8 @@ ghost use Rattle.library_wire.specs.Heard.{heard_code, instant_of, instant_refus
 ghost use Rattle.library_wire.specs.Receiver.{HasHeard, IsNoReceiver, IsRunning, IsStart};
 
 use crate::heard::{Instant, InstantHeard, heard_of, heard_refused, instant_of, instant_refused};
-use crate::readings::{ReadingParts, ended_of, put_reading};
+use crate::readings::{ReadingParts, put_reading};
+use capture_monitor::ended_of;
 use library_answers::Code;
 use line_frames::Reading;
 use line_reading::{Receiver, ReceiverParts};

@@ -13,7 +13,7 @@ use crate::turns::{certain_until, next_edge, soonest, take_turns};
 use edid_core::Edid;
 use edid_tree::Tree;
 use line_wave::LATEST_EVENT;
-use room_run::{Totals, first_time};
+use room_run::{Totals, edid_on_heap, first_time};
 use room_script::{ScriptCause, ScriptDraft};
 use room_trace::{add_last_lines, write_ports};
 use std::alloc::{AllocError, Global};
@@ -125,18 +125,6 @@ fn shown(device: Option<usize>) -> Step
         None => refuse(1, RefusalCause::Script(ScriptCause::Name)),
         Some(device) => Step::Show(device),
     }
-}
-
-// The EDID of a session in its place on the heap: it is large.
-#[inline(never)]
-fn edid_on_heap(alloc: Global, edid: Option<Box<Edid>>) -> Result<Box<Option<Edid>>, AllocError>
-    ensures { IfOk result (λ place. place.value ≡ option_map (λ b. b.value) edid) }
-{
-    let place = match edid {
-        None => Box::new(alloc, None)?,
-        Some(edid) => Box::new(alloc, Some(Box::into_inner(edid)))?,
-    };
-    Ok(place)
 }
 
 impl Live {

@@ -3,8 +3,9 @@ use Rattle.std.specs.Prelude.{ℕ, ◌+◌, ◌*◌, ◌/◌, ◌==◌, ◌&&◌
 use Rattle.std.specs.Fmt.{decimal}
 use Rattle.edid_base.specs.declared.base.Revision.{Revision}
 use Rattle.edid_base.specs.declared.base.Revision.TheVariants.{Three, Four}
-use Rattle.meaning_words.specs.Notes.{text_between, digit, hundredths}
+use Rattle.meaning_words.specs.Notes.{text_between, hundredths}
 use Rattle.meaning_words.specs.Rates.{nearest}
+use Rattle.meaning_fields.specs.Fields.{ten_thousandths}
 
 -- ---- week and year of manufacture
 
@@ -46,9 +47,6 @@ gamma_text gamma = if gamma == 255 then codes "elsewhere" else hundredths (gamma
 -- ---- chromaticities
 
 -- in units of 1 / 1024, to the nearest of four decimals
-abbrev pub ten_thousandths : ℕ → List ℕ
-ten_thousandths n = decimal (n / 10000) ++ (codes "." ++ (digit (n / 1000) ++ (digit (n / 100) ++ (digit (n / 10) ++ digit n))))
-
 abbrev pub coordinate : ℕ → List ℕ
 coordinate x = ten_thousandths (nearest (x * 10000) 1024)
 

@@ -2,13 +2,13 @@
 ghost use Rattle.std.specs.Prelude.{◌≡◌, ◌≤◌, ◌<◌, ◌+◌, ◌^◌, ◌++◌, length, slice_index};
 ghost use Rattle.arrayvec.specs.ArrayVec.{array_vec_len};
 ghost use Rattle.meaning_words.specs.Notes.{own_line};
-ghost use Rattle.meaning_base.specs.Figures.{week_text, made_text, plain_size, ratio_text, aspect_size, size_text, gamma_text, ten_thousandths, coordinate, point_text, chroma_text, standard_height, standard_text};
+ghost use Rattle.meaning_base.specs.Figures.{week_text, made_text, plain_size, ratio_text, aspect_size, size_text, gamma_text, coordinate, point_text, chroma_text, standard_height, standard_text};
 
 use arrayvec::ArrayVec;
 use edid_base::{Revision, append};
+use meaning_fields::append_ten_thousandths;
 use meaning_words::{
-    NOTE, Note, PAGE, Page, append_between, append_decimal, append_digit, append_hundredths,
-    append_line, nearest,
+    NOTE, Note, PAGE, Page, append_between, append_decimal, append_hundredths, append_line, nearest,
 };
 
 /// The week that marks a model year in 1.4.
@@ -138,19 +138,6 @@ pub fn append_gamma(page: &mut Page, numbers: &[u32])
     ensures { page.new.items ≡ page.old.items ++ own_line (gamma_text (slice_index numbers.now 0)) }
 {
     append_line(page, gamma_note(number_at(numbers, 0)).as_slice());
-}
-
-fn append_ten_thousandths(note: &mut Note, number: u64)
-    requires { array_vec_len note.old + 25 ≤ NOTE }
-    ensures items { note.new.items ≡ note.old.items ++ ten_thousandths number }
-    ensures len { array_vec_len note.new ≤ array_vec_len note.old + 25 }
-{
-    append_decimal(note, number / 10_000);
-    append(note, b".");
-    append_digit(note, number / 1000);
-    append_digit(note, number / 100);
-    append_digit(note, number / 10);
-    append_digit(note, number);
 }
 
 fn append_coordinate(note: &mut Note, number: u64)

@@ -40,10 +40,11 @@ hex_text before b = before ++ encode_lower (b ∷ [])
 abbrev pub hex : List ℕ → ℕ → ℕ → List ℕ
 hex before weight v = if v == 0 then [] else hex_text before (weight * v % 256)
 
--- the value and some, in units of which so many are 1, to the nearest of four decimals
+-- a number of ten thousandths, with four decimals
 abbrev pub ten_thousandths : ℕ → List ℕ
 ten_thousandths n = decimal (n / 10000) ++ (codes "." ++ (digit (n / 1000) ++ (digit (n / 100) ++ (digit (n / 10) ++ digit n))))
 
+-- the value and some, in units of which so many are 1, to the nearest of four decimals
 unfoldable pub share : List ℕ → ℕ → ℕ → ℕ → List ℕ
 share before plus by v = before ++ ten_thousandths (nearest ((v + plus) * 10000) by)
 

@@ -190,7 +190,8 @@ fn append_hex_of(note: &mut Note, before: &str, weight: u64, value: u64)
     }
 }
 
-fn append_ten_thousandths(note: &mut Note, number: u64)
+/// Appends a number of ten thousandths, with four decimals.
+pub fn append_ten_thousandths(note: &mut Note, number: u64)
     requires { array_vec_len note.old + 25 ≤ NOTE }
     ensures items { note.new.items ≡ note.old.items ++ ten_thousandths number }
     ensures len { array_vec_len note.new ≤ array_vec_len note.old + 25 }

@@ -1,30 +1,18 @@
 //! From the texts of a topology and a script to the trace with who holds what.
-ghost use Rattle.std.specs.Prelude.{◌≡◌, ℕ, List, IfErr, IfOk};
+ghost use Rattle.std.specs.Prelude.{ℕ, List, IfErr, IfOk};
 ghost use Rattle.std.specs.Io.KnownBytes.{Appends};
-ghost use Rattle.std.specs.Option.{option_map};
 ghost use Rattle.room_run.specs.Emulate.{IsReported};
 ghost use Rattle.room_run.specs.HeldTrace.{IsHeldTraceOf};
 
 use crate::emulate::EmulateError;
+use crate::heap::edid_on_heap;
 use crate::held_text::write_held_trace;
 use crate::{ScriptSource, Totals};
-use edid_core::{Edid, root_on_heap};
+use edid_core::root_on_heap;
 use room_net::Net;
 use room_script::parse_topology;
-use std::alloc::{AllocError, Global};
+use std::alloc::Global;
 use text_core::Sink;
-
-// The EDID that ports pass on, or that there is none, on the heap: it is large.
-#[inline(never)]
-fn edid_on_heap(alloc: Global, edid: Option<Box<Edid>>) -> Result<Box<Option<Edid>>, AllocError>
-    ensures { IfOk result (λ boxed. boxed.value ≡ option_map (λ b. b.value) edid) }
-{
-    let boxed = match edid {
-        None => Box::new(alloc, None)?,
-        Some(edid) => Box::new(alloc, Some(Box::into_inner(edid)))?,
-    };
-    Ok(boxed)
-}
 
 /// Runs the script that a source has on a topology, and writes the trace of the run, in which the line of each round ends with who
 /// holds which logical address when it begins.

@@ -3,6 +3,7 @@
 
 pub mod edges;
 pub mod emulate;
+mod heap;
 mod held_line;
 mod held_run;
 mod held_text;
@@ -16,6 +17,7 @@ mod trace_text;
 mod turn;
 mod turn_by_turn;
 
+pub use heap::edid_on_heap;
 pub use held_run::emulate_held;
 pub use laws::{
     accepted_texts_fit_runs, all_before_is_one, calls_are_turns, edges_are_the_line,

@@ -1,5 +1,5 @@
 //! Where a run stands, and how its steps lead on.
-ghost use Rattle.std.specs.Prelude.{◌≡◌, ℕ, Option, Result, Some, IfOk, IsSome, length, option_map};
+ghost use Rattle.std.specs.Prelude.{◌≡◌, ℕ, Option, Result, Some, IsSome, length};
 ghost use Rattle.text_core.specs.Cut.{WrittenText};
 ghost use Rattle.edid_core.specs.Root.{HasAddress};
 ghost use Rattle.room_steps.specs.Ready.{IsReady, point_of, run_of};
@@ -8,11 +8,11 @@ ghost use Rattle.room_steps.specs.declared.stepper.StepError.TheVariants.{Write}
 
 use crate::position::{Ahead, Position, RunInput};
 use crate::stepper::StepError;
-use edid_core::{Edid, root_on_heap};
+use edid_core::root_on_heap;
 use line_rounds::Outcome;
 use line_wire::EdgeWire;
 use room_net::Net;
-use room_run::TraceText;
+use room_run::{TraceText, edid_on_heap};
 use room_script::{Script, Topology};
 use room_step_text::{Break, stops};
 use room_trace::{add_round, write_state};
@@ -51,18 +51,6 @@ impl Model for Walk {
     ghost invariant = { λ s. HasAddress s.input.edid.value × IsReady s.input.end (point_of s.input.events.items s.last)
         × InsideIf s.is_begun s.input.end (point_of s.input.events.items s.last) (point_of s.input.events.items s.inside)
         × AheadIf s.ahead s.inside.net.value };
-}
-
-// The EDID of a run in its place on the heap: it is large.
-#[inline(never)]
-fn edid_on_heap(alloc: Global, edid: Option<Box<Edid>>) -> Result<Box<Option<Edid>>, AllocError>
-    ensures { IfOk result (λ place. place.value ≡ option_map (λ b. b.value) edid) }
-{
-    let place = match edid {
-        None => Box::new(alloc, None)?,
-        Some(edid) => Box::new(alloc, Some(Box::into_inner(edid)))?,
-    };
-    Ok(place)
 }
 
 fn step_error(fault: WriteFault) -> StepError
