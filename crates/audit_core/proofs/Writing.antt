@@ -40,12 +40,12 @@ line_cut mid new was is line written inner cut now sum = record {
       (cut_again_here old front w.0 w.1, now.2);
 }
   where
+    same : (n : ℕ) → reported_count (written + n) ≡ reported_count (written + reported_count n)
+    same n = omega arith
+
     cut_again_here : (old : Option (List ℕ)) (front : List ℕ) → written ≡ reported_count (length front) → Appends old mid front → CutOff old new (front ++ line) cut
     cut_again_here old front e before =
         cut_later old mid new front line written (record { count = reported_count inner.count }) cut e before (inner.count, now.0, refl, now.1) (sum ∙ same inner.count)
-
-    same : (n : ℕ) → reported_count (written + n) ≡ reported_count (written + reported_count n)
-    same n = omega arith
 
 pub writes_grown : (mid new : Option (List ℕ)) (was is : Bool) (line : List ℕ) (written : ℕ) (before after reported : Result ℕ WriteFault) → before ≡ Ok written → after ≡ length_after written reported → WrittenLine mid new was is line reported
     → WritesOn mid new was is line before after
