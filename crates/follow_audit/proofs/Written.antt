@@ -11,12 +11,13 @@ use Rattle.capture_core.specs.Edges.{Captured}
 use Rattle.capture_core.specs.declared.fault.Cause.{Cause}
 use Rattle.capture_forms.specs.Captures.{capture_in}
 use Rattle.live_incoming.specs.Incoming.{IsNext, IsWhole, Leads, text_of_lines}
+use Rattle.live_incoming.specs.declared.incoming.IncomingFault.{IncomingFault}
 use Rattle.live_incoming.specs.declared.incoming.IncomingFault.TheVariants as line_fault
 use Rattle.follow_core.specs.Follow.{AreFirst, AreLeft, Come, HaveCome, LongLinesAreTooMuch}
 use Rattle.follow_core.specs.Lines.{form_as, lines_captured}
 use Rattle.follow_core.specs.declared.lines.LineForm.{LineForm}
 use Rattle.follow_core.specs.declared.lines.LineForm.TheVariants as forms
-use Rattle.follow_audit.specs.Follow.{Ends, Follows, HasBegun, HasCut, HasHeard, HasStopped, Hears, HoldsNothing, IsFollowed, IsHandedOn, IsPrompt, IsReady, IsUpToDate, LeavesAlone, kind_of, text_of}
+use Rattle.follow_audit.specs.Follow.{Ends, Follows, HasBegun, HasCut, HasHeard, HasStopped, Hears, HoldsNothing, IsFollowed, IsHandedOn, IsPrompt, IsReady, IsUpToDate, LeavesAlone, kind_of, line_error, text_of}
 use Rattle.follow_audit.specs.declared.error.FollowAuditError.{FollowAuditError}
 use Rattle.follow_audit.specs.declared.error.FollowAuditError.TheVariants.{Capture, Memory, Read, TooLong, Waiting, Write}
 use Rattle.follow_audit.specs.declared.follower.AuditFollower.{AuditFollower}
@@ -302,7 +303,7 @@ line_stops form signal win timing known now next before mid after old new number
 line_stops form signal win timing known now next before mid after old new number line TooLong g leads h = absurd h
 
 -- nothing more is read
-pub reading_stops : (form : LineForm) (signal : List ℕ) (win : Windows) (timing : Bool) (known now before after : Option (List ℕ)) (f : AuditFollower) (number : ℕ) → Going form signal win timing known now before after f number
+reading_stops : (form : LineForm) (signal : List ℕ) (win : Windows) (timing : Bool) (known now before after : Option (List ℕ)) (f : AuditFollower) (number : ℕ) → Going form signal win timing known now before after f number
     → Follows form signal win timing known before after (Err Read)
 reading_stops form signal win timing known now before after f number g = record {
   past = g.past;
@@ -311,13 +312,23 @@ reading_stops form signal win timing known now before after f number g = record 
 }
 
 -- a line is too long
-pub length_stops : (too_long : LongLinesAreTooMuch) (form : LineForm) (signal : List ℕ) (win : Windows) (timing : Bool) (known now next before after : Option (List ℕ)) (f : AuditFollower) (number : ℕ) (line : List ℕ)
+length_stops : (too_long : LongLinesAreTooMuch) (form : LineForm) (signal : List ℕ) (win : Windows) (timing : Bool) (known now next before after : Option (List ℕ)) (f : AuditFollower) (number : ℕ) (line : List ℕ)
     → Going form signal win timing known now before after f number → IsNext now next line (Err line_fault.TooLong) → Follows form signal win timing known before after (Err TooLong)
 length_stops too_long form signal win timing known now next before after f number line g h = record {
   past = g.past;
   over = too_long known now next g.past line g.come h;
   written = up_to_date form signal win timing known now before after after f number g (Appends-nil after);
 }
+
+-- no line could be read
+pub line_fails : (too_long : LongLinesAreTooMuch) (form : LineForm) (signal : List ℕ) (win : Windows) (timing : Bool) (known now next before after : Option (List ℕ)) (f : AuditFollower) (number : ℕ) (line : List ℕ) (fault : IncomingFault)
+    → Going form signal win timing known now before after f number → IsNext now next line (Err fault) → Follows form signal win timing known before after (Err (line_error fault))
+line_fails too_long form signal win timing known now next before after f number line line_fault.Read g h = reading_stops form signal win timing known now before after f number g
+line_fails too_long form signal win timing known now next before after f number line line_fault.TooLong g h = length_stops too_long form signal win timing known now next before after f number line g h
+
+pub line_handed : (fault : IncomingFault) (error : FollowAuditError) (pending : List ℕ) → error ≡ line_error fault → pending ≡ [] → IsHandedOn error pending
+line_handed line_fault.Read error pending is none = subst (λ (e : FollowAuditError). IsHandedOn e pending) (sym is) none
+line_handed line_fault.TooLong error pending is none = subst (λ (e : FollowAuditError). IsHandedOn e pending) (sym is) none
 
 -- as many lines as are counted
 pub lines_run_out : (form : LineForm) (signal : List ℕ) (win : Windows) (timing : Bool) (known now before after : Option (List ℕ)) (f : AuditFollower) (number : ℕ) → Going form signal win timing known now before after f number

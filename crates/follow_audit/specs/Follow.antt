@@ -15,6 +15,8 @@ use Rattle.capture_monitor.specs.Joined.{captured_by}
 use Rattle.audit_core.specs.Audit.{audit_text_of}
 use Rattle.capture_forms.specs.Captures.{capture_in}
 use Rattle.follow_core.specs.Follow.{AreFirst, AreLeft, HaveCome, IsRefused, IsTooMuch, NoneBefore}
+use Rattle.live_incoming.specs.declared.incoming.IncomingFault.{IncomingFault}
+use Rattle.live_incoming.specs.declared.incoming.IncomingFault.TheVariants as line_fault
 use Rattle.follow_core.specs.Lines.{IsEarly, form_as, from_of, lines_captured, lines_left}
 use Rattle.follow_core.specs.declared.lines.LineForm.{LineForm}
 use Rattle.follow_audit.specs.Listener.{IsAudited, SaysAllKnown}
@@ -263,3 +265,8 @@ kind_of Memory = Memory
 -- where nothing was held back before
 abbrev pub HoldsNothing : Result (Unit {0}) FollowAuditError → List ℕ → List ℕ → Type 0
 HoldsNothing result old new = IfErr result (λ error. old ≡ [] → IsHandedOn error new)
+
+-- why no line could be read
+abbrev pub line_error : IncomingFault → FollowAuditError
+line_error line_fault.Read = Read
+line_error line_fault.TooLong = TooLong

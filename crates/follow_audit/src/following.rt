@@ -3,7 +3,7 @@ ghost use Rattle.std.specs.Prelude.{◌≡◌, [], List, OnOk, ℕ};
 ghost use Rattle.std.specs.Io.KnownBytes.{Keeps};
 ghost use Rattle.text_core.specs.Buffered.{pending};
 ghost use Rattle.line_reading.specs.Windows.{AreWindows};
-ghost use Rattle.follow_audit.specs.Follow.{Ends, Follows, Hears, HoldsNothing, IsReady, LeavesAlone, kind_of};
+ghost use Rattle.follow_audit.specs.Follow.{Ends, Follows, Hears, HoldsNothing, IsReady, LeavesAlone, kind_of, line_error};
 
 use crate::error::FollowAuditError;
 use crate::follower::AuditFollower;
@@ -34,6 +34,16 @@ fn stopped<S: Sink>(error: FollowAuditError, out: &mut Buffered<S>) -> FollowAud
             Ok(()) => FollowAuditError::Write(count),
             Err(fault) => FollowAuditError::Write(fault.count),
         },
+    }
+}
+
+// Why no line could be read.
+fn line_error(fault: IncomingFault) -> FollowAuditError
+    ensures { result ≡ line_error fault }
+{
+    match fault {
+        IncomingFault::Read => FollowAuditError::Read,
+        IncomingFault::TooLong => FollowAuditError::TooLong,
     }
 }
 
@@ -106,17 +116,14 @@ pub fn follow_audit<R: Read, S: Sink>(
     ensures handed { OnOk result (pending out.new ≡ []) }
     ensures kept { HoldsNothing result (pending out.old) (pending out.new) }
 {
+    // No effect at run time. The proof reads from it when a line is too long.
+    long_lines_are_too_much();
     let mut lines = Lines::new();
     let mut line = ArrayVec::new();
     let mut follower = AuditFollower::new(alloc, form, windows, timing);
     for read in 0..MOST_LINES {
         match lines.next(input, &mut line) {
-            Err(IncomingFault::Read) => return Err(FollowAuditError::Read),
-            Err(IncomingFault::TooLong) => {
-                // No effect at run time. The proof reads from it that the line is too long.
-                long_lines_are_too_much();
-                return Err(FollowAuditError::TooLong);
-            }
+            Err(fault) => return Err(line_error(fault)),
             Ok(more) => {
                 if !more {
                     return finish(follower, alloc, read + 1, out);

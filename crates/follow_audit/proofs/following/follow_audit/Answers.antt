@@ -1,6 +1,8 @@
-use Rattle.std.proofs.Common.{◌+◌, ℕ, List, arith, sym, subst}
+use Rattle.std.proofs.Common.{◌+◌, ℕ, List, Err, arith, sym, subst}
 use Rattle.live_incoming.specs.Incoming.{IsWhole, Leads, bytes_left, to_come}
-use Rattle.follow_audit.proofs.Written.{end_stops, going_first, going_more, handed_after, held, length_stops, line_stops, lines_run_out, next_end, next_line, reading_stops}
+use Rattle.follow_audit.specs.Follow.{Follows}
+use Rattle.follow_audit.specs.declared.error.FollowAuditError.{FollowAuditError}
+use Rattle.follow_audit.proofs.Written.{end_stops, going_first, going_more, handed_after, held, line_fails, line_handed, line_stops, lines_run_out, next_end, next_line}
 use Rattle.follow_audit.proofs.following.follow_audit.Goals as goal
 
 pub loop-read-init : goal.loop-read-init
@@ -10,17 +12,12 @@ loop-read-init g c = record {
   kept = λ none. none;
 }
 
-pub returns-in-Err-Read-clause-follows : goal.returns-in-Err-Read-clause-follows
-returns-in-Err-Read-clause-follows g c =
+pub returns-in-Err-clause-follows : goal.returns-in-Err-clause-follows
+returns-in-Err-clause-follows g c =
     let at = c.loop-read in
-    reading_stops c.args.form c.args.signal.now c.args.windows c.args.timing (g.R.Read.remaining c.args.input.now) (to_come at.lines (g.R.Read.remaining at.input)) (held g.S.Sink.contents c.args.out.now) (held g.S.Sink.contents at.out)
-    at.follower (at.read + 1) at.invariant.going
-
-pub returns-in-Err-TooLong-clause-follows : goal.returns-in-Err-TooLong-clause-follows
-returns-in-Err-TooLong-clause-follows g c =
-    let at = c.loop-read in
-    length_stops c.long_lines_are_too_much.ensures c.args.form c.args.signal.now c.args.windows c.args.timing (g.R.Read.remaining c.args.input.now) (to_come at.lines (g.R.Read.remaining at.input)) (to_come c.next.new.self (g.R.Read.remaining c.next.new.input))
-    (held g.S.Sink.contents c.args.out.now) (held g.S.Sink.contents at.out) at.follower (at.read + 1) c.next.new.line.items at.invariant.going c.in-Err-TooLong.ensures.next
+    subst (λ (e : FollowAuditError). Follows c.args.form c.args.signal.now c.args.windows c.args.timing (g.R.Read.remaining c.args.input.now) (held g.S.Sink.contents c.args.out.now) (held g.S.Sink.contents at.out) (Err e)) (sym c.line_error.ensures)
+    (line_fails c.long_lines_are_too_much.ensures c.args.form c.args.signal.now c.args.windows c.args.timing (g.R.Read.remaining c.args.input.now) (to_come at.lines (g.R.Read.remaining at.input)) (to_come c.next.new.self (g.R.Read.remaining c.next.new.input))
+    (held g.S.Sink.contents c.args.out.now) (held g.S.Sink.contents at.out) at.follower (at.read + 1) c.next.new.line.items c.in-Err.fault at.invariant.going c.in-Err.ensures.next)
 
 pub finish-requires : goal.finish-requires
 finish-requires g c = record { ready = c.loop-read.invariant.going.ready }
@@ -35,14 +32,14 @@ returns-then-not-more-clause-follows g c =
 pub hear-requires : goal.hear-requires
 hear-requires g c = record { ready = c.loop-read.invariant.going.ready }
 
-pub returns-in-Err-clause-follows : goal.returns-in-Err-clause-follows
-returns-in-Err-clause-follows g c =
+pub returns-in-Err-hear-clause-follows : goal.returns-in-Err-hear-clause-follows
+returns-in-Err-hear-clause-follows g c =
     let at = c.loop-read in
     let now = to_come at.lines (g.R.Read.remaining at.input) in
     let next = to_come c.next.new.self (g.R.Read.remaining c.next.new.input) in
     line_stops c.args.form c.args.signal.now c.args.windows c.args.timing (g.R.Read.remaining c.args.input.now) now next (held g.S.Sink.contents c.args.out.now) (held g.S.Sink.contents at.out) (held g.S.Sink.contents c.hear.new.out)
-    at.follower c.hear.new.follower (at.read + 1) c.as_slice.result.now c.in-Err.error at.invariant.going
-    (subst (λ (line : List ℕ). Leads now next line) (sym c.as_slice.ensures.value) (next_line now next c.next.new.line.items c.in-Ok.more c.if-not-more.false c.in-Ok.ensures.next)) c.in-Err.ensures.hears
+    at.follower c.hear.new.follower (at.read + 1) c.as_slice.result.now c.in-Err-hear.error at.invariant.going
+    (subst (λ (line : List ℕ). Leads now next line) (sym c.as_slice.ensures.value) (next_line now next c.next.new.line.items c.in-Ok.more c.if-not-more.false c.in-Ok.ensures.next)) c.in-Err-hear.ensures.hears
 
 pub loop-read-preserved : goal.loop-read-preserved
 loop-read-preserved g c =
@@ -66,17 +63,14 @@ returns-clause-follows g c =
     lines_run_out c.args.form c.args.signal.now c.args.windows c.args.timing (g.R.Read.remaining c.args.input.now) (to_come at.lines (g.R.Read.remaining at.input)) (held g.S.Sink.contents c.args.out.now) (held g.S.Sink.contents at.out)
     at.follower (at.read + 1) at.invariant.going (omega arith)
 
-pub returns-in-Err-Read-clause-kept : goal.returns-in-Err-Read-clause-kept
-returns-in-Err-Read-clause-kept g c = λ none. c.loop-read.invariant.kept none
-
-pub returns-in-Err-TooLong-clause-kept : goal.returns-in-Err-TooLong-clause-kept
-returns-in-Err-TooLong-clause-kept g c = λ none. c.loop-read.invariant.kept none
+pub returns-in-Err-clause-kept : goal.returns-in-Err-clause-kept
+returns-in-Err-clause-kept g c = λ none. line_handed c.in-Err.fault c.line_error.result c.loop-read.out.pending.items c.line_error.ensures (c.loop-read.invariant.kept none)
 
 pub returns-then-not-more-clause-kept : goal.returns-then-not-more-clause-kept
 returns-then-not-more-clause-kept g c = handed_after c.finish.result c.args.out.now.pending.items c.loop-read.out.pending.items c.finish.new.out.pending.items c.loop-read.invariant.kept c.finish.ensures.kept
 
-pub returns-in-Err-clause-kept : goal.returns-in-Err-clause-kept
-returns-in-Err-clause-kept g c = λ none. c.in-Err.ensures.kept (c.loop-read.invariant.kept none)
+pub returns-in-Err-hear-clause-kept : goal.returns-in-Err-hear-clause-kept
+returns-in-Err-hear-clause-kept g c = λ none. c.in-Err-hear.ensures.kept (c.loop-read.invariant.kept none)
 
 pub returns-clause-kept : goal.returns-clause-kept
 returns-clause-kept g c = λ none. c.loop-read.invariant.kept none
