@@ -1,7 +1,7 @@
 //! Cases of the tables as texts. A line has five columns: kinds, what the record has before, a frame or a key, what
 //! of the record has changed after it, and the frames that it queues. `@` stands for the device's own address.
 use arrayvec::ArrayVec;
-use device_core::{Device, Fate, Key, KeyError, Note, Port, Record, Volume, VolumeKey};
+use device_core::{Device, Fate, HeardReport, Key, KeyError, Port, Record, Volume, VolumeKey};
 use line_frames::{Addr, Frame};
 use message_table::{DeckInfo, Triple, UserControl};
 use std::process::Abort;
@@ -119,9 +119,9 @@ fn language_of(value: &str) -> Option<Triple> {
 }
 
 // What was heard: from where, the opcode and the first operand.
-fn note_of(value: &str) -> Option<Note> {
+fn note_of(value: &str) -> Option<HeardReport> {
     match bytes_between(value, ':', 0).as_slice() {
-        [from, opcode, first] => Some(Note {
+        [from, opcode, first] => Some(HeardReport {
             from: Addr::new(*from % 16),
             opcode: *opcode,
             first: *first,
@@ -227,7 +227,7 @@ fn phys_bytes(phys: Option<Phys>) -> [u8; 3] {
     }
 }
 
-fn note_bytes(note: Option<Note>) -> [u8; 4] {
+fn note_bytes(note: Option<HeardReport>) -> [u8; 4] {
     match note {
         None => [0, 0, 0, 0],
         Some(note) => [1, note.from.value(), note.opcode, note.first],
