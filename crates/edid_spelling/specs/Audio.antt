@@ -4,7 +4,7 @@ use Rattle.std.specs.Prelude.{ℕ, ◌+◌, ◌-◌, ◌*◌, ◌/◌, ◌%◌, 
 use Rattle.std.specs.Result.{is_err}
 use Rattle.std.specs.Str.{bytes_eq}
 use Rattle.text_core.specs.Number.{number_of}
-use Rattle.text_core.specs.Phys.{digit_value, is_hex_digit}
+use Rattle.text_core.specs.Hex.{hex_byte}
 use Rattle.edid_spelling.specs.declared.audio.AudioDescriptor.{AudioDescriptor}
 use Rattle.edid_spelling.specs.Rows.{Row, row, stands_for, parts_of, bits_of, fault_place}
 
@@ -62,17 +62,10 @@ abbrev pub bit_rate_of : Option ℕ → Option ℕ
 bit_rate_of None = None
 bit_rate_of (Some rate) = if (rate % 8 == 0) && nat_le rate 2040 then Some (rate / 8) else None
 
--- two hex digits in lower case
-abbrev pub byte_of : List ℕ → Option ℕ
-byte_of [] = None
-byte_of (a ∷ []) = None
-byte_of (a ∷ b ∷ []) = if is_hex_digit a && is_hex_digit b then Some (digit_value a * 16 + digit_value b) else None
-byte_of (a ∷ b ∷ c ∷ more) = None
-
 -- the third byte: sizes of linear PCM, the bit rate of formats 2 to 8, in hex what others have there
 abbrev pub third_of : ℕ → List ℕ → Option ℕ
 third_of format word =
-    if format == 1 then set_of size_rows word else if nat_le format 8 then bit_rate_of (number_of word) else byte_of word
+    if format == 1 then set_of size_rows word else if nat_le format 8 then bit_rate_of (number_of word) else hex_byte word
 
 -- bits 6 to 3 are the format, bits 2 to 0 the channels less one
 abbrev pub first_byte : ℕ → ℕ → ℕ

@@ -4,12 +4,12 @@ ghost use Rattle.arrayvec.specs.ArrayVec.{array_vec_len};
 ghost use Rattle.std.specs.Option.{option_copied};
 ghost use Rattle.text_core.specs.Words.{words_after};
 ghost use Rattle.edid_spelling.specs.Rows.{bits_of, parts_of, stands_for};
-ghost use Rattle.edid_spelling.specs.Audio.{bit_rate_of, byte_of, channels_of, descriptor_bytes, descriptor_of, descriptors_of, first_byte, format_rows, rate_rows, set_of, size_rows, third_of};
+ghost use Rattle.edid_spelling.specs.Audio.{bit_rate_of, channels_of, descriptor_bytes, descriptor_of, descriptors_of, first_byte, format_rows, rate_rows, set_of, size_rows, third_of};
 
 use crate::rows::{Named, bits_in, named_rows, next_word, stands_for};
 use arrayvec::ArrayVec;
 use edid_base::append;
-use text_core::{digit_value, first_word, is_hex_digit, number_in};
+use text_core::{first_word, hex_byte, number_in};
 
 /// The three bytes of a descriptor.
 #[derive(Clone, Copy)]
@@ -131,19 +131,6 @@ fn bit_rate_of(rate: Option<u64>) -> Option<u8>
     }
 }
 
-fn byte_of(word: &[u8]) -> Option<u8>
-    ensures { result ≡ byte_of word.now }
-{
-    let [high, low] = word else {
-        return None;
-    };
-    if is_hex_digit(*high) && is_hex_digit(*low) {
-        Some(digit_value(*high) * 16 + digit_value(*low))
-    } else {
-        None
-    }
-}
-
 // The third byte of a descriptor of a format.
 fn third_of(format: u32, word: &[u8]) -> Option<u8>
     ensures { result ≡ third_of format word.now }
@@ -153,7 +140,7 @@ fn third_of(format: u32, word: &[u8]) -> Option<u8>
     } else if format <= ATRAC {
         bit_rate_of(number_in(word))
     } else {
-        byte_of(word)
+        hex_byte(word)
     }
 }
 

@@ -1,9 +1,9 @@
 -- Texts of steps (own): lines `edge`, `round`, `until opcode XX`, `until device NAME`, `until break`, `show NAME`. Of a line
 -- that is none, the word at fault is given: its number from 0; where one is missing, the number that it would have. A name is
 -- looked for where the words are as many as they should be.
-use Rattle.std.specs.Prelude.{◌≡◌, ℕ, ◌+◌, ◌*◌, ◌&&◌, if◌then◌else◌, codes, List, [], ◌∷◌, ◌++◌, Option, Some, None, Result, Ok, Err}
+use Rattle.std.specs.Prelude.{◌≡◌, ℕ, ◌+◌, if◌then◌else◌, codes, List, [], ◌∷◌, ◌++◌, Option, Some, None, Result, Ok, Err}
 use Rattle.std.specs.Str.{bytes_eq}
-use Rattle.text_core.specs.Phys.{digit_value, is_hex_digit}
+use Rattle.text_core.specs.Hex.{hex_byte}
 use Rattle.edid_tree.specs.Node.{Node}
 use Rattle.edid_tree.specs.Tree.{device_named}
 use Rattle.text_core.specs.Lines.{lines_of, is_skipped}
@@ -13,13 +13,6 @@ use Rattle.room_step_text.specs.declared.commands.StepCommand.{StepCommand}
 use Rattle.room_step_text.specs.declared.commands.StepCommand.TheVariants.{Edge, Round, Until, Show}
 use Rattle.room_step_text.specs.declared.commands.CommandsError.{CommandsError}
 use Rattle.room_step_text.specs.declared.commands.CommandsError.TheVariants.{At, Memory}
-
--- two hex digits in lower case
-abbrev pub byte_of : List ℕ → Option ℕ
-byte_of [] = None
-byte_of (a ∷ []) = None
-byte_of (a ∷ b ∷ []) = if is_hex_digit a && is_hex_digit b then Some (digit_value a * 16 + digit_value b) else None
-byte_of (a ∷ b ∷ c ∷ more) = None
 
 -- a step that so many words say, where none stands after them
 abbrev pub command_alone : ℕ → List (List ℕ) → StepCommand → Result StepCommand ℕ
@@ -33,7 +26,7 @@ opcode_by (Some opcode) words = command_alone 3 words (Until (Opcode opcode))
 
 abbrev pub until_opcode : List (List ℕ) → Result StepCommand ℕ
 until_opcode [] = Err 2
-until_opcode (word ∷ words) = opcode_by (byte_of word) words
+until_opcode (word ∷ words) = opcode_by (hex_byte word) words
 
 -- the device that the one word after so many names
 abbrev pub device_by : ℕ → Option ℕ → Result ℕ ℕ

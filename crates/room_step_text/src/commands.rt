@@ -2,12 +2,12 @@
 ghost use Rattle.std.specs.Prelude.{◌≡◌, ◌+◌, ◌<◌, IfOk, IfErr, Ok};
 ghost use Rattle.std.specs.Option.{option_copied};
 ghost use Rattle.text_core.specs.Words.{words_after};
-ghost use Rattle.room_step_text.specs.Commands.{IsFault, byte_of, command_alone, command_of, commands_of, device_after, opcode_by, show_by, until_by, until_of, until_opcode};
+ghost use Rattle.room_step_text.specs.Commands.{IsFault, command_alone, command_of, commands_of, device_after, opcode_by, show_by, until_by, until_of, until_opcode};
 
 use crate::break_at::Break;
 use edid_tree::Tree;
 use std::alloc::{AllocFailed, Global};
-use text_core::{digit_value, first_line, first_word, is_hex_digit, is_skipped};
+use text_core::{first_line, first_word, hex_byte, is_skipped};
 
 /// A step that is asked for.
 #[derive(Clone, Copy, Debug, PartialEq, Eq)]
@@ -39,19 +39,6 @@ impl<T: Drop> From<AllocFailed<T>> for CommandsError {
 
     fn from(_error: AllocFailed<T>) -> CommandsError {
         CommandsError::Memory
-    }
-}
-
-fn byte_of(word: &[u8]) -> Option<u8>
-    ensures { result ≡ byte_of word.now }
-{
-    let [high, low] = word else {
-        return None;
-    };
-    if is_hex_digit(*high) && is_hex_digit(*low) {
-        Some(digit_value(*high) * 16 + digit_value(*low))
-    } else {
-        None
     }
 }
 
@@ -89,7 +76,7 @@ fn until_opcode(rest: Option<&[u8]>) -> Result<StepCommand, usize>
         return Err(2);
     };
     let (word, rest) = first_word(rest);
-    opcode_by(byte_of(word), rest)
+    opcode_by(hex_byte(word), rest)
 }
 
 // The device that the one word after so many names.

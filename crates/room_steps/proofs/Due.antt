@@ -11,6 +11,7 @@ use Rattle.std.proofs.KnownBytes.{Appends-trans}
 use Rattle.edid_tree.specs.Node.{Node}
 use Rattle.edid_tree.specs.Tree.{device_named}
 use Rattle.text_core.specs.Cut.{WrittenText, reported_count}
+use Rattle.text_core.specs.Hex.{hex_byte}
 use Rattle.text_core.specs.Lines.{lines_of, is_skipped}
 use Rattle.text_core.specs.Words.{words_of}
 use Rattle.text_core.proofs.Cutting.{cut_later}
@@ -26,7 +27,7 @@ use Rattle.room_step_text.specs.declared.break_at.Break.{Break}
 use Rattle.room_step_text.specs.declared.break_at.Break.TheVariants.{Opcode, AnyBreak}
 use Rattle.room_step_text.specs.declared.commands.StepCommand.{StepCommand}
 use Rattle.room_step_text.specs.declared.commands.StepCommand.TheVariants.{Edge, Round, Until, Show}
-use Rattle.room_step_text.specs.Commands.{LineFault, byte_of, command_alone, command_of, command_of_words, commands_of, device_after, device_by, lines_read, onward, opcode_by, show_by, until_by, until_of, until_opcode}
+use Rattle.room_step_text.specs.Commands.{LineFault, command_alone, command_of, command_of_words, commands_of, device_after, device_by, lines_read, onward, opcode_by, show_by, until_by, until_of, until_opcode}
 use Rattle.room_steps.specs.Steps.{Point, Steps, IsEdgeStepBy, IsRoundStep, IsTaken, Skips, device_count, passed_by, passed_from}
 use Rattle.room_steps.specs.Ready.{InsideIf}
 use Rattle.room_steps.specs.declared.stepper.StepError.TheVariants.{Ended}
@@ -169,7 +170,7 @@ opcode_names count (Some opcode) words = alone_names count 3 words (Until (Opcod
 
 opcodes_name : (count : ℕ) (words : List (List ℕ)) → Named count (until_opcode words)
 opcodes_name count [] = tt
-opcodes_name count (word ∷ words) = opcode_names count (byte_of word) words
+opcodes_name count (word ∷ words) = opcode_names count (hex_byte word) words
 
 until_names : (count : ℕ) (device : Result ℕ ℕ) → Named count (until_by device)
 until_names count (Err word) = tt

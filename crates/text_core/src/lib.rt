@@ -21,7 +21,7 @@ mod written;
 pub use at::{At, AtWord, at_word};
 pub use buffered::Buffered;
 pub use held::Held;
-pub use hex::{hex_at, hex_bytes};
+pub use hex::{hex_at, hex_byte, hex_bytes};
 pub use kind::Kind;
 pub use laws::{
     cut_parts_are_a_front, failures_last, faults_cut_the_whole_off, found_by_its_word,
