@@ -1,3 +1,4 @@
+mod Lists
 pub mod Sent
 pub mod Slots
 pub mod Seats

@@ -13,7 +13,6 @@ use Rattle.line_rounds.specs.declared.Seat.{Seat}
 use Rattle.line_wire.specs.declared.reading.Ended.{Ended as Ending_kept}
 use Rattle.line_rounds.specs.Round.{IsRoundLine}
 use Rattle.line_rounds.proofs.Bounds.{rounds_are_short}
-use Rattle.line_rounds.proofs.Law.{all_in}
 use Rattle.line_rounds.proofs.Still.{high_sparse, pulse_only}
 use Rattle.line_wire.specs.declared.edge_wire.EdgeWire.{EdgeWire}
 use Rattle.line_wave.specs.Pulls.{EndsInTime}
@@ -23,6 +22,7 @@ use Rattle.line_wire.specs.Wire.{IsRead}
 use Rattle.line_wire.specs.Wired.{EachLine, IsBegunWith, StandsOnLine, end_in, is_low_in, pulls_in, is_silent_in}
 use Rattle.line_wire.proofs.Hearing.{low_next, kept_end}
 use Rattle.line_wire.proofs.Turning.{made_line, made_round}
+use Rattle.line_wire.proofs.Lists.{all_in}
 
 -- ---- a pull alone
 

@@ -1,3 +1,4 @@
+mod Lists
 pub mod Along
 pub mod Lows
 pub mod Standing

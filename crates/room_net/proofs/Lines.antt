@@ -19,7 +19,6 @@ use Rattle.line_rounds.specs.Lasting.{is_begun}
 use Rattle.line_rounds.specs.Alone.{part_of, outcome_listed}
 use Rattle.line_rounds.specs.Elements.{In}
 use Rattle.line_rounds.proofs.Alone.{rounds_are_lone}
-use Rattle.line_rounds.proofs.Law.{all_in, in_filter}
 use Rattle.room_event.specs.declared.event.Event.{Event}
 use Rattle.room_net.specs.Start.{sooner, least_start, first_onset}
 use Rattle.room_net.specs.State.{NetState, next_start}
@@ -31,6 +30,7 @@ use Rattle.room_net.specs.Framed.{AreFramed}
 use Rattle.room_net.proofs.Framed.{framed-applied, framed-round, seats_fit}
 use Rattle.room_net.proofs.Kept.{event_keeps}
 use Rattle.room_net.proofs.Progress.{or_true, true_or, wave-weaker, Led, led}
+use Rattle.room_net.proofs.Lists.{all_in, in_filter}
 
 -- ---- what begins a round
 

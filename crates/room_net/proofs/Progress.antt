@@ -15,7 +15,6 @@ use Rattle.line_rounds.specs.declared.Seat.{Seat}
 use Rattle.line_rounds.specs.declared.Outcome.{Outcome}
 use Rattle.line_reading.specs.Sending.{sender_pulls}
 use Rattle.line_rounds.specs.Round.{IsRound, IsRoundLine, is_pulled, pulse_pulls, is_acknowledged, is_broken, frames_of, rest_of}
-use Rattle.line_rounds.proofs.Differ.{any_in, in_any}
 use Rattle.device_core.specs.State.{State}
 use Rattle.device_core.specs.Place.{front_of, ready_of, is_on_wire, is_allocating}
 use Rattle.device_core.specs.FreeTime.{free_time_of}
@@ -33,6 +32,7 @@ use Rattle.room_net.specs.Sound.{EndsEarly, IsSound}
 use Rattle.line_rounds.specs.Round.{close_in}
 use Rattle.line_reading.specs.Known.{nothing}
 use Rattle.line_rounds.specs.Elements.{In}
+use Rattle.room_net.proofs.Lists.{any_in, in_any}
 
 -- ---- the line is low at the begin
 

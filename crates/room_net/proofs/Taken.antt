@@ -10,7 +10,6 @@ use Rattle.line_rounds.specs.declared.Outcome.{Outcome}
 use Rattle.line_rounds.specs.Round.{is_within, pulse_pulls}
 use Rattle.line_rounds.specs.Elements.{In}
 use Rattle.line_rounds.proofs.Alone.{rounds_are_lone}
-use Rattle.line_rounds.proofs.Differ.{any_in}
 use Rattle.room_net.specs.State.{NetState}
 use Rattle.room_net.specs.Step.{seats_of}
 use Rattle.room_net.specs.Framed.{AreFramed}
@@ -19,6 +18,7 @@ use Rattle.room_net.specs.Taken.{IsOn, IsAfter, RoundsTakePulses}
 use Rattle.room_net.proofs.Framed.{seats_fit}
 use Rattle.room_net.proofs.Lines.{begun, begins_by}
 use Rattle.room_net.proofs.Progress.{or_true, true_or}
+use Rattle.room_net.proofs.Lists.{any_in}
 
 -- a stretch is low in itself
 covers_own : (s : Stretch) (t : ℕ) → s.from ≤ t → t < s.to → covers s t ≡ true

@@ -1,3 +1,4 @@
+mod Lists
 pub mod Slots
 pub mod Nominal
 pub mod Widths

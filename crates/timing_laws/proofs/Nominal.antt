@@ -31,7 +31,7 @@ use Rattle.line_rounds.proofs.Lows.{before_slots}
 use Rattle.line_rounds.proofs.Lays.{start_at, before_start, after_start}
 use Rattle.line_rounds.proofs.Early.{sender_low}
 use Rattle.line_rounds.proofs.Walk.{next_falls, reach_next}
-use Rattle.line_rounds.proofs.Law.{all_in, least_of, reached_start}
+use Rattle.line_rounds.proofs.Law.{least_of, reached_start}
 use Rattle.line_rounds.proofs.Lasting.{begun_by, contended, low_at_begin}
 use Rattle.line_rounds.proofs.Afterwards.{no_fall_after}
 use Rattle.line_rounds.proofs.Still.{high_before}
@@ -39,6 +39,7 @@ use Rattle.line_rounds.proofs.OneOutcome.{one_outcome}
 use Rattle.timing_laws.specs.Nominal.{RoundsAreNominal}
 use Rattle.timing_laws.proofs.Slots.{Calm, IsSlotTime, OnSlot, Puller, SlotLow, Starter, falls_nominal, high_to, in_slot, low_for, quiet_slot, quiet_start, slot_low, soon_low, starter, who_makes}
 use Rattle.line_reading.specs.Known.{nothing}
+use Rattle.timing_laws.proofs.Lists.{all_in}
 
 -- ---- from slot to slot
 

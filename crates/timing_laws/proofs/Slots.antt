@@ -27,17 +27,16 @@ use Rattle.line_rounds.specs.Elements.{In}
 use Rattle.line_rounds.specs.Begins.{Reports}
 use Rattle.line_rounds.specs.Made.{FallBy}
 use Rattle.line_rounds.specs.Reached.{Reached}
-use Rattle.line_rounds.proofs.Differ.{in_any}
 use Rattle.line_rounds.proofs.Lays.{slot_or_none, after_start}
 use Rattle.line_rounds.proofs.Early.{leaves_more, no_acks, sender_low}
-use Rattle.line_rounds.proofs.Walk.{over_sampled, known_unsampled}
+use Rattle.line_rounds.proofs.Walk.{known_unsampled}
 use Rattle.line_rounds.proofs.Inside.{stays_by, known_here}
-use Rattle.line_rounds.proofs.Law.{in_filter}
 use Rattle.line_rounds.proofs.Holding.{acks_now, done_by}
 use Rattle.line_rounds.proofs.Lasting.{contended}
 use Rattle.line_rounds.proofs.Falls.{round_fall_by}
 use Rattle.line_rounds.proofs.SameLine.{same_line}
 use Rattle.line_reading.specs.Known.{nothing}
+use Rattle.timing_laws.proofs.Lists.{in_any, in_filter, over_sampled}
 
 -- ---- a line without falls
 
