@@ -1,3 +1,4 @@
+mod Counting
 pub mod ReadBy
 pub mod Waiting
 pub mod Files

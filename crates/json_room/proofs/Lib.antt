@@ -1,2 +1,3 @@
+mod Counting
 pub mod Heads
 pub mod Traced

@@ -180,16 +180,18 @@ shown_all Is Now IsText first body tail more totals start mid left a m n = shown
 
 -- ---- what is written of it
 
-pub run_whole : (head : List ℕ) (Is : List ℕ → List ℕ → Type 0) (IsText : List ℕ → Totals → Type 0) (old new : Option (List ℕ)) (was is : Bool) (a m n : Tally) (totals : Totals) (count : ℕ)
-    → Adds a m head → AreShown Is IsText m n totals → n.failed ≡ false → ((text : List ℕ) → Adds a n text → WrittenText old new was is text (Ok count)) → AreWritten head Is IsText old new was is (Ok (Some totals))
-run_whole head Is IsText old new was is a m n totals count first shown well holds =
-    let w = holds (head ++ shown.objects) (then a m n head shown.objects first shown.added) in
+pub run_whole : (head : List ℕ) (Is : List ℕ → List ℕ → Type 0) (IsText : List ℕ → Totals → Type 0) (old new : Option (List ℕ)) (was is : Bool) (a m n : Tally) (totals : Totals) (written : Result ℕ WriteFault) (count : ℕ)
+    → Adds a m head → AreShown Is IsText m n totals → n.failed ≡ false → written ≡ Ok count → ((text : List ℕ) → Adds a n text → WrittenText old new was is text written) → AreWritten head Is IsText old new was is (Ok (Some totals))
+run_whole head Is IsText old new was is a m n totals written count first shown well same holds =
+    let text = head ++ shown.objects in
+    let w = subst (WrittenText old new was is text) same (holds text (then a m n head shown.objects first shown.added)) in
     (shown.shown, shown.objects, shown.whole well, shown.are, w.1, w.2)
 
-pub run_cut : (head : List ℕ) (Is : List ℕ → List ℕ → Type 0) (IsText : List ℕ → Totals → Type 0) (old new : Option (List ℕ)) (was is : Bool) (a m n : Tally) (totals : Totals) (fault : WriteFault)
-    → Adds a m head → AreShown Is IsText m n totals → ((text : List ℕ) → Adds a n text → WrittenText old new was is text (Err fault)) → AreWritten head Is IsText old new was is (Err fault)
-run_cut head Is IsText old new was is a m n totals fault first shown holds =
-    let w = holds (head ++ shown.objects) (then a m n head shown.objects first shown.added) in
+pub run_cut : (head : List ℕ) (Is : List ℕ → List ℕ → Type 0) (IsText : List ℕ → Totals → Type 0) (old new : Option (List ℕ)) (was is : Bool) (a m n : Tally) (totals : Totals) (written : Result ℕ WriteFault) (fault : WriteFault)
+    → Adds a m head → AreShown Is IsText m n totals → written ≡ Err fault → ((text : List ℕ) → Adds a n text → WrittenText old new was is text written) → AreWritten head Is IsText old new was is (Err fault)
+run_cut head Is IsText old new was is a m n totals written fault first shown same holds =
+    let text = head ++ shown.objects in
+    let w = subst (WrittenText old new was is text) same (holds text (then a m n head shown.objects first shown.added)) in
     record { shown = shown.shown; objects = shown.objects; are = shown.are; cut = w.0; front = shown.front }
 
 -- a text of this run is one of another that is the same

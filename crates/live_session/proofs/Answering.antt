@@ -96,10 +96,10 @@ idle_taken s old new added = record { text = idle_line s.horizon; after = s; due
 
 -- ---- what was written, where what is due was added from the first byte on
 
-pub answered : (step : Step) (s t : Session) (old b : Tally) (known : Option (List ℕ)) (was : Bool) (result : Result ℕ WriteFault) → (w : IsTaken step s t old b) → is_err result ≡ b.failed
-    → WrittenText known b.known was b.stuck w.text result → IsAnswered step s t known b.known was b.stuck result
-answered step s t old b known was (Ok count) w failed wrote = (w.text, subst (λ (u : Session). IsDue step s w.text u) (sym (w.stands (sym failed))) w.due, wrote.0, wrote.1, wrote.2)
-answered step s t old b known was (Err fault) w failed wrote = ((w.text, w.after, w.due, wrote.0), wrote.1, w.somewhere)
+pub answered : (step : Step) (s t : Session) (old b : Tally) (known now : Option (List ℕ)) (was is : Bool) (result : Result ℕ WriteFault) → (w : IsTaken step s t old b) → is_err result ≡ b.failed
+    → WrittenText known now was is w.text result → IsAnswered step s t known now was is result
+answered step s t old b known now was is (Ok count) w failed wrote = (w.text, subst (λ (u : Session). IsDue step s w.text u) (sym (w.stands (sym failed))) w.due, wrote.0, wrote.1, wrote.2)
+answered step s t old b known now was is (Err fault) w failed wrote = ((w.text, w.after, w.due, wrote.0), wrote.1, w.somewhere)
 
 -- ---- one text is due
 

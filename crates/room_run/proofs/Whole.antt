@@ -6,7 +6,7 @@ use Rattle.std.specs.List.{flat_map}
 use Rattle.text_core.specs.Cut.{CutOff, WrittenText}
 use Rattle.text_core.specs.declared.sink.WriteFault.{WriteFault}
 use Rattle.text_core.specs.Adds.{Adds, Tally, begun}
-use Rattle.text_core.proofs.Adding.{after_failure, cut_short, loan_ended, not_yet, nothing, then}
+use Rattle.text_core.proofs.Adding.{after_failure, cut_short, text_ended, not_yet, nothing, then}
 use Rattle.edid_tree.specs.Node.{Node}
 use Rattle.edid_core.specs.declared.edid.Edid.{Edid}
 use Rattle.room_script.specs.declared.script.TimedEvent.{TimedEvent}
@@ -130,12 +130,8 @@ pub run_ended : {V : Type 0} (contents : V → Option (List ℕ)) (is_stuck : V 
     → back ≡ n.loan → contents below ≡ n.known → is_stuck below ≡ n.stuck → (back ≡ loan → new ≡ below)
     → IsRunWritten IsText (contents old) (contents new) (is_stuck old) (is_stuck new) result
 run_ended contents is_stuck old new below loan back IsText first body tail totals a b m n written result begins told before heard after failed holds same name known stuck over =
-    let text = first ++ (body ++ tail) in
-    loan_ended contents is_stuck old new below loan back a n text (λ k s. IsRunWritten IsText (contents old) k (is_stuck old) s result)
-    begins (then a b n first (body ++ tail) before (then b m n body tail heard after))
-    (λ _. ended_by IsText first body tail totals a b m n (contents old) n.known (is_stuck old) n.stuck written result told before heard after failed
-    (λ t adds. holds (contents old) (is_stuck old) loan t (subst (λ (x : Tally). Adds x n t) begins adds)) same)
-    name known stuck over
+    ended_by IsText first body tail totals a b m n (contents old) (contents new) (is_stuck old) (is_stuck new) written result told before heard after failed
+    (λ t adds. text_ended contents is_stuck old new below loan back a n t written begins adds holds name known stuck over) same
 
 -- its four clauses
 pub written_ok : (IsText : List ℕ → Totals → Type 0) (old new : Option (List ℕ)) (was is : Bool) (result : Result Totals WriteFault) → IsRunWritten IsText old new was is result

@@ -1,15 +1,13 @@
 use Rattle.std.proofs.Common.{◌++◌, ◌∙◌, ℕ, Bool, List, Option, Ok, Err, Result, ap, refl, rules, subst}
 use Rattle.std.specs.List.{flat_map}
 use Rattle.text_core.specs.Adds.{Adds}
-use Rattle.text_core.specs.Cut.{WrittenText}
 use Rattle.text_core.specs.Lines.{lines_of}
-use Rattle.text_core.specs.declared.sink.WriteFault.{WriteFault}
-use Rattle.text_core.proofs.Adding.{loan_ended, then}
+use Rattle.text_core.proofs.Adding.{text_ended, then}
 use Rattle.json_trace.specs.Object.{AreInOrder}
-use Rattle.json_trace.specs.Written.{WritesText}
 use Rattle.json_trace.proofs.Writing.{adds_as}
 use Rattle.json_room.specs.Event.{IsRoomObject}
 use Rattle.json_room.specs.Head.{head_text}
+use Rattle.json_room.proofs.Counting.{all_of, front_of}
 use Rattle.json_room.proofs.lines.write_room_objects.Goals as goal
 
 pub returns-in-Ok : goal.returns-in-Ok
@@ -26,10 +24,10 @@ returns-in-Ok g c =
     let all : Adds c.new-objects.result c.add.new.out text = then _ _ _ _ _ (adds_as c.new-objects.result c.add_head.new.out _ _ heads c.add_head.ensures) t.2 in (
       text,
       (t.0, are, refl),
-      loan_ended g.S.Sink.contents g.S.Sink.is_stuck c.args.out.now _ c.into_sink-below.result.now _ c.into_sink-below.result.ghost_name c.new-objects.result c.add.new.out text
-          (λ (k : Option (List ℕ)) (s : Bool). WritesText old k was s text (Ok tt)) c.new-objects.ensures all
-          (λ added. let whole = subst (λ (r : Result ℕ WriteFault). WrittenText old c.add.new.out.known was c.add.new.out.stuck text r) c.in-Ok.is (c.written-written.ensures.text _ _ _ text added) in (whole.1, whole.2))
-          c.into_sink-below.ensures.loan c.into_sink-below.ensures.known c.into_sink-below.ensures.stuck (search rules),
+      all_of old _ was _ text c.written-written.result _ c.in-Ok.is
+          (text_ended g.S.Sink.contents g.S.Sink.is_stuck c.args.out.now _ c.into_sink-below.result.now _ c.into_sink-below.result.ghost_name c.new-objects.result c.add.new.out text c.written-written.result
+          c.new-objects.ensures all c.written-written.ensures.text
+          c.into_sink-below.ensures.loan c.into_sink-below.ensures.known c.into_sink-below.ensures.stuck (search rules)),
     )
 
 pub returns-in-Err : goal.returns-in-Err
@@ -46,8 +44,8 @@ returns-in-Err g c =
     let all : Adds c.new-objects.result c.add.new.out text = then _ _ _ _ _ (adds_as c.new-objects.result c.add_head.new.out _ _ heads c.add_head.ensures) t.2 in (
       text,
       (t.0, are, refl),
-      loan_ended g.S.Sink.contents g.S.Sink.is_stuck c.args.out.now _ c.into_sink-below.result.now _ c.into_sink-below.result.ghost_name c.new-objects.result c.add.new.out text
-          (λ (k : Option (List ℕ)) (s : Bool). WritesText old k was s text (Err c.in-Err.fault)) c.new-objects.ensures all
-          (λ added. subst (λ (r : Result ℕ WriteFault). WrittenText old c.add.new.out.known was c.add.new.out.stuck text r) c.in-Err.is (c.written-written.ensures.text _ _ _ text added))
-          c.into_sink-below.ensures.loan c.into_sink-below.ensures.known c.into_sink-below.ensures.stuck (search rules),
+      front_of old _ was _ text c.written-written.result c.in-Err.fault c.in-Err.is
+          (text_ended g.S.Sink.contents g.S.Sink.is_stuck c.args.out.now _ c.into_sink-below.result.now _ c.into_sink-below.result.ghost_name c.new-objects.result c.add.new.out text c.written-written.result
+          c.new-objects.ensures all c.written-written.ensures.text
+          c.into_sink-below.ensures.loan c.into_sink-below.ensures.known c.into_sink-below.ensures.stuck (search rules)),
     )
