@@ -100,10 +100,10 @@ second_in quantity first [] = Err (in_window quantity 3 Word)
 second_in quantity first (second ∷ words) = pattern_in quantity first second words
 
 -- the words after a window's first one, with this one between its values
-abbrev pub parts_in : Quantity → List ℕ → List (List ℕ) → Result Parts (AtWord ExpectCause)
-parts_in quantity joint [] = Err (in_window quantity 1 Word)
-parts_in quantity joint (first ∷ []) = Err (in_window quantity 2 Word)
-parts_in quantity joint (first ∷ word ∷ words) = if bytes_eq word joint then second_in quantity first words else Err (in_window quantity 2 Word)
+abbrev pub values_around : Quantity → List ℕ → List (List ℕ) → Result Parts (AtWord ExpectCause)
+values_around quantity joint [] = Err (in_window quantity 1 Word)
+values_around quantity joint (first ∷ []) = Err (in_window quantity 2 Word)
+values_around quantity joint (first ∷ word ∷ words) = if bytes_eq word joint then second_in quantity first words else Err (in_window quantity 2 Word)
 
 abbrev pub within : Quantity → Option ℕ → Parts → Result ExpectLine (AtWord ExpectCause)
 within quantity None parts = Err (in_window quantity 1 Number)
@@ -126,8 +126,8 @@ between_by quantity (Ok parts) = rounds_between quantity (exact_number parts.fir
 abbrev pub rounds_in : Quantity → List (List ℕ) → Result ExpectLine (AtWord ExpectCause)
 rounds_in quantity [] = Err (in_window quantity 0 Word)
 rounds_in quantity (kind ∷ words) =
-    if bytes_eq kind (codes "within") then within_by quantity (parts_in quantity (codes "of") words)
-    else if bytes_eq kind (codes "from") then between_by quantity (parts_in quantity (codes "to") words)
+    if bytes_eq kind (codes "within") then within_by quantity (values_around quantity (codes "of") words)
+    else if bytes_eq kind (codes "from") then between_by quantity (values_around quantity (codes "to") words)
     else Err (in_window quantity 0 Word)
 
 -- ---- expectations of states: times as in scripts, at most 1,000,000,000,000 microseconds

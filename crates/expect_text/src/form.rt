@@ -4,7 +4,7 @@ ghost use Rattle.std.specs.Option.{option_copied};
 ghost use Rattle.text_core.specs.Words.{words_after, words_of};
 ghost use Rattle.text_core.specs.Number.{number_of};
 ghost use Rattle.expect_text.specs.Fault.{IsNear};
-ghost use Rattle.expect_text.specs.Form.{AreParts, IsEarly, IsForm, between_by, empty_from, exact_number, expectation_in, form_in, in_window, is_open_ended, lacking, or_lacking, is_pattern, parts_as, parts_in, pattern_by, pattern_in, refused_in, rounds_between, rounds_in, second_in, stars, state_at_time, state_in, window_word, within, within_by};
+ghost use Rattle.expect_text.specs.Form.{AreParts, IsEarly, IsForm, between_by, empty_from, exact_number, expectation_in, form_in, in_window, is_open_ended, lacking, or_lacking, is_pattern, parts_as, pattern_by, pattern_in, refused_in, rounds_between, rounds_in, second_in, stars, state_at_time, state_in, values_around, window_word, within, within_by};
 
 use line_wave::LATEST_EVENT;
 use text_core::{AtWord, at_word, byte_at, first_word, number_in};
@@ -205,12 +205,12 @@ fn second_in<'a>(
 }
 
 // What stands after the first word of a window that has this word between its values.
-fn parts_in<'a>(
+fn values_around<'a>(
     quantity: Quantity,
     joint: &[u8],
     rest: Option<&'a [u8]>,
 ) -> Result<Parts<'a>, AtWord<ExpectCause>>
-    ensures form { AreParts (parts_in quantity joint.now (words_after (option_copied rest.entry))) result }
+    ensures form { AreParts (values_around quantity joint.now (words_after (option_copied rest.entry))) result }
     ensures bounded { IfErr result IsNear }
 {
     let Some(text) = rest else {
@@ -271,11 +271,11 @@ fn within_in<'a>(
     quantity: Quantity,
     rest: Option<&'a [u8]>,
 ) -> Result<ExpectLine<'a>, AtWord<ExpectCause>>
-    ensures form { IsForm (within_by quantity (parts_in quantity (codes "of") (words_after (option_copied rest.entry)))) result }
+    ensures form { IsForm (within_by quantity (values_around quantity (codes "of") (words_after (option_copied rest.entry)))) result }
     ensures early { IfOk result IsEarly }
     ensures bounded { IfErr result IsNear }
 {
-    match parts_in(quantity, b"of", rest) {
+    match values_around(quantity, b"of", rest) {
         Err(fault) => Err(fault),
         Ok(parts) => within(quantity, &parts),
     }
@@ -285,11 +285,11 @@ fn between_in<'a>(
     quantity: Quantity,
     rest: Option<&'a [u8]>,
 ) -> Result<ExpectLine<'a>, AtWord<ExpectCause>>
-    ensures form { IsForm (between_by quantity (parts_in quantity (codes "to") (words_after (option_copied rest.entry)))) result }
+    ensures form { IsForm (between_by quantity (values_around quantity (codes "to") (words_after (option_copied rest.entry)))) result }
     ensures early { IfOk result IsEarly }
     ensures bounded { IfErr result IsNear }
 {
-    match parts_in(quantity, b"to", rest) {
+    match values_around(quantity, b"to", rest) {
         Err(fault) => Err(fault),
         Ok(parts) => rounds_between(quantity, &parts),
     }

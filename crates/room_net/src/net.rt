@@ -107,8 +107,8 @@ impl<W> Net<W> {
         &self.devices
     }
 
-    /// No logical address below 15 is held twice, by two devices that are not from outside or by one, wherever a run stands.
-    pub fn addresses_are_held_once(&self)
+    // No logical address below 15 is held twice, by two devices that are not from outside or by one, wherever a run stands.
+    fn addresses_are_held_once(&self)
         ensures { HeldOnce self.now.devices }
     {
         let _devices = &self.devices;
