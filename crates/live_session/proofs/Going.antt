@@ -16,7 +16,7 @@ use Rattle.room_run.specs.declared.run.Turn.{Turn}
 use Rattle.room_run.specs.declared.run.Turn.TheVariants.{Stop, Apply, Round}
 use Rattle.room_run.specs.Run.{Config, turn_at, turn_of, first_time}
 use Rattle.room_run.specs.Happening.{Happening, Happens, HappensBy, text_of}
-use Rattle.room_run.specs.Heard.{Hears}
+use Rattle.room_run.specs.Heard.{AddsEach, Hears}
 use Rattle.room_run.proofs.Whole.{heard_text, trace_by}
 use Rattle.room_run.specs.Certain.{LeadsIf, IsHeldBy}
 use Rattle.live_session.specs.declared.edges.InstantRange.{InstantRange}
@@ -157,13 +157,19 @@ record Kept : Type 0 where
   edid : Option Edid
   span : InstantRange
 
+heard_as : {R : Type 0} (hears adds : R → Happening → R → Type 0) → ((r s : R) (x : Happening) → hears r x s → adds r x s) → (xs : List Happening) (r s : R) → Hears hears r xs s
+    → Hears adds r xs s
+heard_as hears adds one [] r s heard = heard
+heard_as hears adds one (x ∷ xs) r s (mid, first, rest) = (mid, one r mid x first, heard_as hears adds one xs mid s rest)
+
 pub told_text : {R : Type 0} (hears : R → Happening → R → Type 0) (tally : R → Tally) (edid : R → Option Edid) (span : R → InstantRange)
     → ((r s : R) (x : Happening) → hears r x s → Adds (tally r) (tally s) (text_with (edid r) (span r) x) × (edid s ≡ edid r) × (span s ≡ span r))
     → (xs : List Happening) (r s : R) → Hears hears r xs s → Adds (tally r) (tally s) (flat_map (text_with (edid r) (span r)) xs)
 told_text {R} hears tally edid span one xs r s heard =
     let keep : R → Kept = λ r. record { edid = edid r; span = span r } in
     let said : Kept → Happening → List ℕ = λ k. text_with k.edid k.span in
-    heard_text hears tally keep said (λ r s x h. ((one r s x h).0, λ i. record { edid = (one r s x h).1 i; span = (one r s x h).2 i })) xs r s heard
+    heard_text tally keep said xs r s
+    (heard_as hears (AddsEach tally keep said) (λ r s x h. ((one r s x h).0, λ i. record { edid = (one r s x h).1 i; span = (one r s x h).2 i })) xs r s heard)
 
 pub told_from : (old now mid : Tally) (edid passed : Option Edid) (span wide : InstantRange) (xs : List Happening) → now ≡ old → passed ≡ edid → wide ≡ span → Adds now mid (flat_map (text_with passed wide) xs)
     → Adds old mid (flat_map (text_with edid span) xs)

@@ -6,24 +6,11 @@ use Rattle.std.specs.List.{flat_map}
 use Rattle.text_core.specs.Adds.{Adds, Tally, begun}
 use Rattle.text_core.specs.Cut.{WrittenText}
 use Rattle.text_core.specs.declared.sink.WriteFault.{WriteFault}
-use Rattle.text_core.proofs.Adding.{not_yet, nothing, text_ended, then}
+use Rattle.text_core.proofs.Adding.{not_yet, text_ended, then}
 use Rattle.edid_core.specs.declared.edid.Edid.{Edid}
 use Rattle.room_trace.specs.TraceText.{comma_list}
 use Rattle.room_run.specs.Happening.{Happening}
-use Rattle.room_run.specs.Heard.{Hears}
 use Rattle.room_run.specs.declared.run.Totals.{Totals}
-use Rattle.room_run.specs.HeldTrace.{held_text}
-
--- what was heard of, turn by turn, is one text, by one EDID
-pub heard_text : {R : Type 0} (hears : R → Happening → R → Type 0) (tally : R → Tally) (edid : R → Option Edid)
-    → ((r s : R) (x : Happening) → hears r x s → Adds (tally r) (tally s) (held_text (edid r) x) × (edid s ≡ edid r))
-    → (xs : List Happening) (r s : R) → Hears hears r xs s → Adds (tally r) (tally s) (flat_map (held_text (edid r)) xs)
-heard_text hears tally edid one [] r s heard = subst (λ k. Adds (tally r) (tally k) []) (sym heard) (nothing (tally r))
-heard_text {R} hears tally edid one (x ∷ xs) r s (mid, first, rest) =
-    let here = one r mid x first in
-    let there : Adds (tally mid) (tally s) (flat_map (held_text (edid r)) xs) =
-    subst (λ (e : Option Edid). Adds (tally mid) (tally s) (flat_map (held_text e) xs)) here.1 (heard_text hears tally edid one xs mid s rest) in
-    then (tally r) (tally mid) (tally s) (held_text (edid r) x) (flat_map (held_text (edid r)) xs) here.0 there
 
 -- what stands first, what was heard of, and what stands last
 pub three : (a b m n : Tally) (first body tail : List ℕ) → Adds a b first → Adds b m body → Adds m n tail → Adds a n (first ++ (body ++ tail))

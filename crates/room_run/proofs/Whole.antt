@@ -23,22 +23,20 @@ use Rattle.room_run.specs.declared.run.Turn.TheVariants.{Stop, Apply, Round}
 use Rattle.room_run.specs.Turns.{IsTold, RunsAreTold, SaysOf, TracesSay}
 use Rattle.room_run.specs.Run.{Config, turn_at, start_reported, end_reported, event_text, IsEventTurn, IsRunText, IsTurnBy, Leads}
 use Rattle.room_run.specs.Happening.{Happening, HappensBy, Goes, IsApplied, line_of_turn, text_of}
-use Rattle.room_run.specs.Heard.{Hears, IsRunWritten}
+use Rattle.room_run.specs.Heard.{AddsEach, Hears, IsRunWritten}
 use Rattle.room_run.proofs.Names.{line_before}
 use Rattle.room_run.proofs.Ports.{event_ports}
 use Rattle.room_run.proofs.Turns.{front_of_text, whole_text}
 
--- ---- what a text has heard of, turn by turn, is one text; it goes by something that stays (an EDID, a format)
+-- ---- what a text has heard of, turn by turn, is one text
 
-pub heard_text : {R K : Type 0} (hears : R → Happening → R → Type 0) (tally : R → Tally) (kept : R → K) (said : K → Happening → List ℕ)
-    → ((r s : R) (x : Happening) → hears r x s → Adds (tally r) (tally s) (said (kept r) x) × (kept s ≡ kept r))
-    → (xs : List Happening) (r s : R) → Hears hears r xs s → Adds (tally r) (tally s) (flat_map (said (kept r)) xs)
-heard_text hears tally kept said one [] r s heard = subst (λ k. Adds (tally r) (tally k) []) (sym heard) (nothing (tally r))
-heard_text {R} {K} hears tally kept said one (x ∷ xs) r s (mid, first, rest) =
-    let here = one r mid x first in
+pub heard_text : {R K : Type 0} (tally : R → Tally) (kept : R → K) (said : K → Happening → List ℕ) (xs : List Happening) (r s : R) → Hears (AddsEach tally kept said) r xs s
+    → Adds (tally r) (tally s) (flat_map (said (kept r)) xs)
+heard_text tally kept said [] r s heard = subst (λ k. Adds (tally r) (tally k) []) (sym heard) (nothing (tally r))
+heard_text {R} {K} tally kept said (x ∷ xs) r s (mid, first, rest) =
     let there : Adds (tally mid) (tally s) (flat_map (said (kept r)) xs) =
-    subst (λ (k : K). Adds (tally mid) (tally s) (flat_map (said k) xs)) here.1 (heard_text hears tally kept said one xs mid s rest) in
-    then (tally r) (tally mid) (tally s) (said (kept r) x) (flat_map (said (kept r)) xs) here.0 there
+    subst (λ (k : K). Adds (tally mid) (tally s) (flat_map (said k) xs)) first.1 (heard_text tally kept said xs mid s rest) in
+    then (tally r) (tally mid) (tally s) (said (kept r) x) (flat_map (said (kept r)) xs) first.0 there
 
 -- ---- what is said of each turn is what is reported of it
 

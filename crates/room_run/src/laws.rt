@@ -3,6 +3,7 @@ ghost use Rattle.room_run.specs.Run.{OneRunText, OneTrace};
 ghost use Rattle.room_run.specs.RunLine.{EdgesAreTheLine, LinesAreOfTheRounds, RunsAreRead, RunsAreShort};
 ghost use Rattle.room_run.specs.Accepted.{AddressedEach, AddressesAreThere, ScriptsBeginEarly, ScriptsEndEarly, TextsAreOfOneRun, TopologiesHaveDevices};
 ghost use Rattle.room_run.specs.Emulate.{TextsHaveOneLine, TextsHaveOneTrace};
+ghost use Rattle.room_run.specs.Heard.{TurnsAreAdded};
 ghost use Rattle.room_run.specs.HasRun.{RunsHaveTexts, TextsHaveTraces};
 ghost use Rattle.room_run.specs.OneRun.{OneRun, RunsCloseSoon, TextsHaveOneRun, TracesHaveParts};
 ghost use Rattle.room_run.specs.Certain.{AllBeforeIsOne, LatePulsesDoNotPull, NoneAfterHeld, ReportedIsFront, RoundTurnsStay, RoundsStay, TurnsAreCertain, TurnsStayCertain};
@@ -202,4 +203,9 @@ pub fn rounds_stay()
 /// The ports whose devices come onto the wire by an event are told by which devices were on it before.
 pub fn ports_go_by_what_was()
     ensures { PortsAreThoseBefore }
+{}
+
+/// A reporter that adds a text of each turn, by something that stays, has added the texts of the turns, one after another.
+pub fn turns_are_added<R, K>()
+    ensures { TurnsAreAdded R K }
 {}

@@ -25,8 +25,8 @@ pub use laws::{
     ports_go_by_what_was, reported_is_front, rounds_stay, runs_are_causal, runs_are_read,
     runs_are_short, runs_close_soon, runs_have_texts, texts_have_one_held_trace,
     texts_have_one_line, texts_have_one_run, texts_have_one_trace, texts_have_traces,
-    totals_count_turns, traces_are_causal, traces_have_parts, turns_are_certain, turns_are_one,
-    turns_bring_on, turns_stay_certain, turns_tell_the_text,
+    totals_count_turns, traces_are_causal, traces_have_parts, turns_are_added, turns_are_certain,
+    turns_are_one, turns_bring_on, turns_stay_certain, turns_tell_the_text,
 };
 pub use reporter::Reporter;
 pub use run::{Totals, Turn, first_time, next_turn, told};

@@ -20,7 +20,7 @@ returns g c =
     let tail = last (max c.args.end run.last.net.close) in
     let before : Adds c.new-text.result c.add_head.new.out first = subst (λ (ds : List State). Adds c.new-text.result c.add_head.new.out (head_of c.args.wires (names_of ds))) c.devices.ensures c.add_head.ensures in
     let heard : Adds c.add_head.new.out c.run_turns-totals.new.reporter.text (flat_map said run.happened) =
-    heard_text _ (λ r. r.text) (λ r. r.wires) wires_of_turn (λ r s x h. h) run.happened _ _ run.heard in
+    heard_text (λ r. r.text) (λ r. r.wires) wires_of_turn run.happened _ _ run.heard in
     let end : c.max.result ≡ max c.args.end run.last.net.close = c.max.ensures ∙ ap (max c.args.end) (c.close.ensures ∙ ap (λ (s : NetState). s.close) run.net_is) in
     let after : Adds c.run_turns-totals.new.reporter.text c.add_last.new.out tail =
     subst (λ (n : ℕ). Adds c.run_turns-totals.new.reporter.text c.add_last.new.out (last n)) end c.add_last.ensures in

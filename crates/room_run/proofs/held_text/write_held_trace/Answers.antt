@@ -11,7 +11,8 @@ use Rattle.room_trace.specs.TraceText.{end_line}
 use Rattle.room_run.specs.declared.run.Reporting.TheVariants.{Trace}
 use Rattle.room_run.specs.Run.{end_reported, start, start_reported}
 use Rattle.room_run.specs.HeldTrace.{IsHeldRun, held_text}
-use Rattle.room_run.proofs.HeldWritten.{heard_text, run_written, three, well_before}
+use Rattle.room_run.proofs.HeldWritten.{run_written, three, well_before}
+use Rattle.room_run.proofs.Whole.{heard_text}
 use Rattle.room_run.proofs.held_text.write_held_trace.Goals as goal
 
 pub returns : goal.returns
@@ -29,7 +30,7 @@ returns g c =
     let before : Adds a b first = subst (λ (tree : List Node). Adds a b (port_lines 0 edid (λ device. false) tree)) c.tree.ensures c.add_new_ports.ensures in
     let heard : Adds b m body =
     subst₂ (λ (x : Tally) (e : Option Edid). Adds x m (flat_map (held_text e) run.happened)) c.new-trace.ensures.text c.new-trace.ensures.edid
-    (heard_text _ (λ r. r.trace.text) (λ r. r.trace.passed.edid.now) (λ r s x h. h) run.happened _ _ run.heard) in
+    (heard_text (λ r. r.trace.text) (λ r. r.trace.passed.edid.now) held_text run.happened _ _ run.heard) in
     let devices : c.devices.result.now ≡ run.last.net.devices = c.devices.ensures ∙ ap (λ (s : NetState). s.devices) run.net_is in
     let after : Adds m n tail =
     subst₂ (λ (x : Tally) (ds : List State). Adds x n (flat_map state_line ds ++ end_line c.args.end)) c.into_text-text.ensures devices c.add_last_lines.ensures in

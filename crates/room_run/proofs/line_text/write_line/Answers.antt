@@ -15,7 +15,7 @@ returns g c =
     let from = start c.args.net.now c.args.events.now in
     let run = c.run_turns-totals.ensures in
     let heard : Adds c.add_start.new.out c.run_turns-totals.new.reporter.text (flat_map (line_of_turn format) run.happened) =
-    heard_text _ (λ r. r.text) (λ r. r.format) line_of_turn (λ r s x h. h) run.happened _ _ run.heard in
+    heard_text (λ r. r.text) (λ r. r.format) line_of_turn run.happened _ _ run.heard in
     let last : c.max.result ≡ max c.args.end run.last.net.close = c.max.ensures ∙ ap (max c.args.end) (c.close.ensures ∙ ap (λ (s : NetState). s.close) run.net_is) in
     let after : Adds c.run_turns-totals.new.reporter.text c.add_end.new.out (end_reported (Line format) c.args.end run.last.net) =
     subst (λ (n : ℕ). Adds c.run_turns-totals.new.reporter.text c.add_end.new.out (line_end format n)) last c.add_end.ensures in

@@ -21,7 +21,7 @@ returns g c =
     let before : Adds c.new-text.result c.add_new_ports.new.out (start_reported (Trace edid) c.args.net.now) =
     subst (λ (tree : List Node). Adds c.new-text.result c.add_new_ports.new.out (port_lines 0 edid (λ device. false) tree)) c.tree.ensures c.add_new_ports.ensures in
     let heard : Adds c.add_new_ports.new.out c.run_turns-totals.new.reporter.text (flat_map (text_of edid) run.happened) =
-    heard_text _ (λ r. r.text) (λ r. r.passed.edid.now) text_of (λ r s x h. h) run.happened _ _ run.heard in
+    heard_text (λ r. r.text) (λ r. r.passed.edid.now) text_of run.happened _ _ run.heard in
     let devices : c.devices.result.now ≡ run.last.net.devices = c.devices.ensures ∙ ap (λ (s : NetState). s.devices) run.net_is in
     let after : Adds c.run_turns-totals.new.reporter.text c.add_last_lines.new.out (end_reported (Trace edid) c.args.end run.last.net) =
     subst (λ (ds : List State). Adds c.run_turns-totals.new.reporter.text c.add_last_lines.new.out (flat_map state_line ds ++ end_line c.args.end)) devices c.add_last_lines.ensures in

@@ -22,7 +22,7 @@ returns g c =
     let begin : Adds c.new-text.result c.new-trace.result.text (start_text edid p) = subst (λ (t : Tally). Adds c.new-text.result t (start_text edid p)) (sym c.new-trace.ensures.text) c.add_start.ensures in
     let kept : c.new-trace.result.passed.edid.now ≡ edid = c.new-trace.ensures.edid ∙ c.deref.ensures in
     let heard : Adds c.new-trace.result.text c.to_round-begin.new.reporter.text (flat_map (text_of c.new-trace.result.passed.edid.now) (happened end p)) =
-    heard_text _ (λ r. r.text) (λ r. r.passed.edid.now) text_of (λ r s x h. h) (happened end p) _ _ c.to_round-begin.ensures.heard in
+    heard_text (λ r. r.text) (λ r. r.passed.edid.now) text_of (happened end p) _ _ c.to_round-begin.ensures.heard in
     let events : Adds c.new-trace.result.text c.to_round-begin.new.reporter.text (passed_text edid end p) =
     subst (λ (t : List ℕ). Adds c.new-trace.result.text c.to_round-begin.new.reporter.text t) (ap (λ (e : Option Edid). flat_map (text_of e) (happened end p)) kept ∙ passed_heard edid end p.net p.events) heard in
     let line : Adds c.to_round-begin.new.reporter.text c.add_round.new.out (round_line c.args.after.now.net.value.devices outcome) =
