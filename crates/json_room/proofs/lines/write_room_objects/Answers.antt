@@ -1,12 +1,11 @@
 use Rattle.std.proofs.Common.{◌++◌, ◌∙◌, ℕ, Bool, List, Option, Ok, Err, Result, ap, refl, rules, subst}
 use Rattle.std.specs.List.{flat_map}
 use Rattle.text_core.specs.Adds.{Adds}
-use Rattle.text_core.specs.Cut.{WrittenText}
+use Rattle.text_core.specs.Cut.{WritesText, WrittenText}
 use Rattle.text_core.specs.Lines.{lines_of}
 use Rattle.text_core.specs.declared.sink.WriteFault.{WriteFault}
 use Rattle.text_core.proofs.Adding.{loan_ended, then}
-use Rattle.json_trace.specs.Object.{AreInOrder}
-use Rattle.json_trace.specs.Written.{WritesText}
+use Rattle.text_core.specs.ByLine.{AreInOrder}
 use Rattle.json_trace.proofs.Writing.{adds_as}
 use Rattle.json_room.specs.Event.{IsRoomObject}
 use Rattle.json_room.specs.Head.{head_text}
