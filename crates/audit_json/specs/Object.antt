@@ -1,7 +1,8 @@
 -- The object of a line of an audit: of a reading that of its line, of another line its type, kind, section and values (own).
 use Rattle.std.specs.Prelude.{◌≡◌, ℕ, Bool, true, false, ◌||◌, if◌then◌else◌, List, [], ◌++◌, drop, codes}
 use Rattle.json_trace.specs.Columns.{field}
-use Rattle.json_trace.specs.Object.{AreInOrder, IsReported, object, type_field}
+use Rattle.text_core.specs.ByLine.{AreInOrder}
+use Rattle.json_trace.specs.Object.{IsReported, object, type_field}
 use Rattle.json_trace.specs.ReadBack.{line_of}
 use Rattle.json_trace.specs.declared.values.ValueShape.TheVariants.{Text}
 use Rattle.audit_lines.specs.Kinds.{is_remark, kind_of, name_of, section_of}

@@ -1,21 +1,23 @@
 //! The objects of the lines of an audit.
 ghost use Rattle.std.specs.Prelude.{ℕ, List};
-ghost use Rattle.text_core.specs.Adds.{Adds};
 ghost use Rattle.text_core.specs.Lines.{lines_of};
 ghost use Rattle.audit_json.specs.Object.{AreAuditObjects};
-ghost use Rattle.json_trace.specs.Written.{WritesText};
+ghost use Rattle.text_core.specs.Cut.{WritesText};
 
 use crate::object::add_audit_object;
-use text_core::{Counted, Sink, WriteFault, first_line};
+use json_trace::{ObjectOfLine, write_each_object};
+use text_core::{Counted, Sink, WriteFault};
 
-// Adds the object of each line.
-fn add_objects<S: Sink>(out: &mut Counted<'_, S>, text: &[u8])
-    ensures { (objects : List ℕ) × AreAuditObjects (lines_of text.now) objects × Adds out.old out.new objects }
-{
-    let mut rest = text;
-    while let Some((line, after)) = first_line(rest) {
+// The lines of an audit.
+struct AuditLines;
+
+impl ObjectOfLine for AuditLines {
+    ghost use Rattle.audit_json.specs.Object.{IsAuditObject};
+
+    ghost is = { λ lines. IsAuditObject };
+
+    fn add_object<S: Sink>(&self, out: &mut Counted<'_, S>, line: &[u8]) {
         add_audit_object(out, line);
-        rest = after;
     }
 }
 
@@ -30,13 +32,5 @@ pub fn write_audit_objects<S: Sink>(text: &[u8], out: &mut S) -> Result<(), Writ
     ensures { (objects : List ℕ) × AreAuditObjects (lines_of text.now) objects
         × WritesText (S.contents out.old) (S.contents out.new) (S.is_stuck out.old) (S.is_stuck out.new) objects result }
 {
-    let mut objects = Counted::new(out);
-    add_objects(&mut objects, text);
-    let written = objects.written();
-    // No effect at run time. The proof reads what `out` holds from the sink that comes back.
-    let _below = objects.into_sink();
-    match written {
-        Ok(_) => Ok(()),
-        Err(fault) => Err(fault),
-    }
+    write_each_object(&AuditLines, text, out)
 }

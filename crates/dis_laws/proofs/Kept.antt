@@ -7,10 +7,10 @@ use Rattle.audit_core.specs.Kept.{IsPlain, PlainIf, is_remark, without_remarks}
 use Rattle.audit_core.proofs.KeptLines.{by_line, remark_gone}
 use Rattle.audit_core.proofs.OneLine.{plain_frame}
 use Rattle.audit_core.proofs.Plain.{plain_codes, plain_more}
-use Rattle.message_hex.specs.Lines.{frame_line, line_frame, line_text, remark_text, reported_line}
+use Rattle.message_hex.specs.Lines.{frame_line, line_frame, line_text, read_text, remark_text}
 use Rattle.message_hex.specs.Remark.{remark}
 use Rattle.message_hex.specs.declared.bytes.DisCause.{DisCause}
-use Rattle.message_meaning.specs.Lines.{meant_frame, meant_read, meant_text}
+use Rattle.message_meaning.specs.Lines.{meant_frame, meant_text}
 use Rattle.message_meaning.specs.Meaning.{meaning_line}
 use Rattle.dis_laws.specs.Kept.{MeaningsKeepTheTexts}
 use Rattle.dis_laws.proofs.Meanings.{meaning_remark}
@@ -41,7 +41,7 @@ meaning_gone : (frame rest : List ℕ) → without_remarks (meaning_line frame +
 meaning_gone [] rest = refl
 meaning_gone (header ∷ others) rest = remark_gone (meaning_line (header ∷ others)) rest (meaning_remark header others)
 
-one_kept : (read : Result (Option (List ℕ)) DisCause) (rest : List ℕ) → without_remarks (meant_read read ++ rest) ≡ reported_line read ++ without_remarks rest
+one_kept : (read : Result (Option (List ℕ)) DisCause) (rest : List ℕ) → without_remarks (read_text meant_frame read ++ rest) ≡ read_text frame_line read ++ without_remarks rest
 one_kept (Ok None) rest = refl
 one_kept (Ok (Some frame)) rest =
     ap without_remarks (append_assoc (frame_line frame) (meaning_line frame) rest) ∙ frame_stays frame (meaning_line frame ++ rest) ∙ ap (λ (t : List ℕ). frame_line frame ++ t) (meaning_gone frame rest)

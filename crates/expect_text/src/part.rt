@@ -1,14 +1,12 @@
 //! Texts as parts, and which patterns a text of such parts meets.
-ghost use Rattle.std.specs.Prelude.{◌≡◌, ◌++◌, map, codes};
-ghost use Rattle.text_core.specs.Piece.{hex_text};
+ghost use Rattle.std.specs.Prelude.{◌≡◌, map};
 ghost use Rattle.message_table.specs.WordSets.{word_in_code};
 ghost use Rattle.message_text.specs.FrameText.{opcode_text};
 ghost use Rattle.expect_text.specs.Parts.{after_set, after_text, after_word, has, is_met};
 
 use crate::pattern::fits;
-use arrayvec::ArrayVec;
-use message_table::{NamedByte, WordSet, name};
-use text_core::hex_digit;
+use message_table::{NamedByte, WordSet};
+use message_text::opcode_text;
 
 /// Bytes of a text.
 #[derive(Clone, Copy, Debug, Drop, PartialEq, Eq)]
@@ -103,29 +101,6 @@ fn is_met_by_set(set: WordSet, parts: &[PatternPart], pattern: &[u8]) -> bool
     ensures { result ≡ after_set set (is_met parts.now) pattern.now }
 {
     is_met_by_word(set.words(), parts, pattern)
-}
-
-// `op-` and the hex digits of an opcode.
-fn nameless_text(code: u8) -> [u8; 5]
-    ensures { result ≡ codes "op-" ++ hex_text code }
-{
-    [b'o', b'p', b'-', hex_digit(code / 16), hex_digit(code % 16)]
-}
-
-// The name of an opcode, or `op-` and its hex digits where it has none.
-fn opcode_text(code: u8) -> ArrayVec<u8, 32>
-    ensures { result.items ≡ opcode_text code }
-{
-    let mut items = ArrayVec::new();
-    match name(code) {
-        Some(name) => {
-            let _ = items.try_extend_from_slice(name.as_bytes());
-        }
-        None => {
-            let _ = items.try_extend_from_slice(&nameless_text(code));
-        }
-    }
-    items
 }
 
 // Whether the name of an opcode and then one of the parts meets the pattern.

@@ -3,7 +3,8 @@
 use Rattle.std.specs.Prelude.{◌≡◌, ℕ, Bool, if◌then◌else◌, List, [], ◌∷◌, ◌++◌, codes}
 use Rattle.std.specs.Str.{bytes_eq}
 use Rattle.json_trace.specs.Columns.{field, field_lead, fields}
-use Rattle.json_trace.specs.Object.{AreInOrder, IsObject, IsReported, object, type_field}
+use Rattle.text_core.specs.ByLine.{AreInOrder}
+use Rattle.json_trace.specs.Object.{IsObject, IsReported, object, type_field}
 use Rattle.json_trace.specs.Parts.{after_word, word}
 use Rattle.json_trace.specs.ReadBack.{line_of}
 use Rattle.json_trace.specs.declared.values.ValueShape.{ValueShape}

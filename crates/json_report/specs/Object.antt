@@ -2,7 +2,8 @@
 use Rattle.std.specs.Prelude.{◌≡◌, ℕ, true, false, if◌then◌else◌, codes, take, drop, List, ◌++◌}
 use Rattle.std.specs.Str.{bytes_eq}
 use Rattle.json_trace.specs.Columns.{field}
-use Rattle.json_trace.specs.Object.{AreInOrder, IsReported, object, type_field}
+use Rattle.text_core.specs.ByLine.{AreInOrder}
+use Rattle.json_trace.specs.Object.{IsReported, object, type_field}
 use Rattle.json_trace.specs.Parts.{after_word, word}
 use Rattle.json_trace.specs.declared.values.ValueShape.TheVariants.{Number}
 use Rattle.json_report.specs.TestLine.{test_reported}

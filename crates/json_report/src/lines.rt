@@ -1,21 +1,20 @@
 //! The objects of the lines of a report.
 ghost use Rattle.std.specs.Prelude.{ℕ, List};
-ghost use Rattle.text_core.specs.Adds.{Adds};
 ghost use Rattle.text_core.specs.Lines.{lines_of};
-ghost use Rattle.json_trace.specs.Written.{WritesText};
+ghost use Rattle.text_core.specs.Cut.{WritesText};
 ghost use Rattle.json_report.specs.Object.{AreReportObjects};
 
 use crate::object::{ReportKind, add_report_object};
-use text_core::{Counted, Sink, WriteFault, first_line};
+use json_trace::{ObjectOfLine, write_each_object};
+use text_core::{Counted, Sink, WriteFault};
 
-// Adds the object of each line.
-fn add_report_objects<S: Sink>(out: &mut Counted<'_, S>, report: ReportKind, text: &[u8])
-    ensures { (objects : List ℕ) × AreReportObjects report (lines_of text.now) objects × Adds out.old out.new objects }
-{
-    let mut rest = text;
-    while let Some((line, after)) = first_line(rest) {
-        add_report_object(out, report, line);
-        rest = after;
+impl ObjectOfLine for ReportKind {
+    ghost use Rattle.json_report.specs.Object.{IsReportObject};
+
+    ghost is = { λ report. IsReportObject report };
+
+    fn add_object<S: Sink>(&self, out: &mut Counted<'_, S>, line: &[u8]) {
+        add_report_object(out, *self, line);
     }
 }
 
@@ -32,13 +31,5 @@ pub fn write_report_objects<S: Sink>(
     ensures { (objects : List ℕ) × AreReportObjects report (lines_of text.now) objects
         × WritesText (S.contents out.old) (S.contents out.new) (S.is_stuck out.old) (S.is_stuck out.new) objects result }
 {
-    let mut objects = Counted::new(out);
-    add_report_objects(&mut objects, report, text);
-    let written = objects.written();
-    // No effect at run time. The proof reads what `out` holds from the sink that comes back.
-    let _below = objects.into_sink();
-    match written {
-        Ok(_) => Ok(()),
-        Err(fault) => Err(fault),
-    }
+    write_each_object(&report, text, out)
 }

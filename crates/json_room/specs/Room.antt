@@ -1,7 +1,7 @@
 -- The objects of a run with its room (own).
 use Rattle.std.specs.Prelude.{◌≡◌, ℕ, List, ◌++◌}
 use Rattle.std.specs.List.{flat_map}
-use Rattle.json_trace.specs.Object.{AreInOrder}
+use Rattle.text_core.specs.ByLine.{AreInOrder}
 use Rattle.json_room.specs.Event.{IsRoomObject}
 use Rattle.json_room.specs.Head.{head_text}
 use Rattle.text_core.specs.Lines.{lines_of}

@@ -1,6 +1,6 @@
 //! The objects of a run with its room.
 ghost use Rattle.std.specs.Prelude.{◌≡◌, ℕ, List, drop};
-ghost use Rattle.json_trace.specs.Written.{WritesText};
+ghost use Rattle.text_core.specs.Cut.{WritesText};
 ghost use Rattle.json_room.specs.Event.{place_of};
 ghost use Rattle.json_room.specs.Room.{AreRoomObjects};
 ghost use Rattle.text_core.specs.Lines.{lines_of};

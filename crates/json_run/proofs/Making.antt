@@ -9,7 +9,7 @@ use Rattle.text_core.proofs.Adding.{nothing, then}
 use Rattle.edid_core.specs.declared.edid.Edid.{Edid}
 use Rattle.expect_run.specs.Sieve.{IsClosed}
 use Rattle.text_core.specs.Held.{held_bytes, is_full}
-use Rattle.json_trace.specs.Object.{AreInOrder}
+use Rattle.text_core.specs.ByLine.{AreInOrder}
 use Rattle.text_core.specs.declared.held.Held.{Held}
 use Rattle.room_run.specs.Happening.{Happening, text_of}
 use Rattle.room_run.specs.Heard.{Hears}

@@ -3,7 +3,7 @@ use Rattle.std.specs.Prelude.{◌≡◌, ℕ, Bool, false, List, ◌++◌, Optio
 use Rattle.std.specs.Io.KnownBytes.{Appends}
 use Rattle.expect_run.specs.Sieve.{IsClosed}
 use Rattle.text_core.specs.Held.{held_bytes, is_full}
-use Rattle.json_trace.specs.Object.{AreInOrder}
+use Rattle.text_core.specs.ByLine.{AreInOrder}
 use Rattle.text_core.specs.declared.held.Held.{Held}
 use Rattle.room_run.specs.Emulate.{IsTraceOf}
 use Rattle.room_run.specs.declared.emulate.EmulateError.{EmulateError}

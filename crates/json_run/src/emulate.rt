@@ -1,7 +1,7 @@
 //! From the texts of a topology and a script to the objects of their trace.
 ghost use Rattle.std.specs.Prelude.{◌≡◌, ◌++◌, ℕ, List, IfOk, IfErr, OnOk};
 ghost use Rattle.std.specs.Io.KnownBytes.{Appends};
-ghost use Rattle.json_trace.specs.Object.{AreInOrder};
+ghost use Rattle.text_core.specs.ByLine.{AreInOrder};
 ghost use Rattle.text_core.specs.Lines.{lines_of};
 ghost use Rattle.room_run.specs.Emulate.{IsReported, IsTraceOf};
 ghost use Rattle.json_run.specs.Made.{AreCut};

@@ -6,7 +6,8 @@ use Rattle.text_core.specs.Adds.{Adds, Tally}
 use Rattle.text_core.proofs.Adding.{nothing, then}
 use Rattle.text_core.specs.Lines.{lines_of}
 use Rattle.json_trace.specs.Columns.{field, fields, field_lead, reading_fields, column_parts}
-use Rattle.json_trace.specs.Object.{AreBytesOf, AreInOrder, Done, reading_start, broken_body, bytes_value, complete_body, complete_fields, frame_fields, frame_in, reading_type, seats, type_field}
+use Rattle.text_core.specs.ByLine.{AreInOrder}
+use Rattle.json_trace.specs.Object.{AreBytesOf, Done, reading_start, broken_body, bytes_value, complete_body, complete_fields, frame_fields, frame_in, reading_type, seats, type_field}
 use Rattle.json_trace.specs.Parts.{after_byte, after_word, before_byte, before_last, after_ending, has_seats, reported_in, value_of, word}
 use Rattle.json_trace.specs.Values.{code_text, code_texts, report_value, some_report}
 use Rattle.json_trace.specs.declared.columns.JsonField.{JsonField}

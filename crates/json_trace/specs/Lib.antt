@@ -1,4 +1,3 @@
-pub mod Written
 pub mod Parts
 pub mod Values
 pub mod Columns

@@ -3,6 +3,7 @@ use Rattle.std.specs.Prelude.{◌≡◌, ℕ, Bool, ◌||◌, if◌then◌else�
 use Rattle.std.specs.List.{flat_map}
 use Rattle.std.specs.Str.{bytes_eq}
 use Rattle.text_core.specs.Adds.{Adds, Tally}
+use Rattle.text_core.specs.ByLine.{AreInOrder}
 use Rattle.text_core.specs.Lines.{lines_of}
 use Rattle.text_core.specs.Piece.{hex_text}
 use Rattle.message_text.specs.FrameLines.{IsTextOf}
@@ -115,11 +116,6 @@ object line reported = codes "{\"line\":" ++ string_text line ++ reported ++ cod
 
 abbrev pub IsObject : List ℕ → List ℕ → Type 0
 IsObject line text = (reported : List ℕ) × IsReported line reported × (text ≡ object line reported)
-
--- a text is one text for each of these lines, in order
-abbrev pub AreInOrder : (List ℕ → List ℕ → Type 0) → List (List ℕ) → List ℕ → Type 0
-AreInOrder Is [] text = text ≡ []
-AreInOrder Is (line ∷ lines) text = (first : List ℕ) × (others : List ℕ) × Is line first × AreInOrder Is lines others × (text ≡ first ++ others)
 
 -- of a text the objects of the lines before the rest are added, in order
 pub record Done (Is : List ℕ → List ℕ → Type 0) (text rest : List ℕ) (old now : Tally) : Type 0 where

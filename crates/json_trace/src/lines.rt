@@ -2,19 +2,30 @@
 ghost use Rattle.std.specs.Prelude.{ℕ, List};
 ghost use Rattle.text_core.specs.Adds.{Adds};
 ghost use Rattle.text_core.specs.Lines.{lines_of};
-ghost use Rattle.json_trace.specs.Object.{AreInOrder, AreObjects};
-ghost use Rattle.json_trace.specs.Written.{WritesText};
+ghost use Rattle.text_core.specs.ByLine.{AreInOrder};
+ghost use Rattle.json_trace.specs.Object.{AreObjects};
+ghost use Rattle.text_core.specs.Cut.{WritesText};
 
 use crate::object::add_object;
 use text_core::{Counted, Sink, WriteFault, first_line};
 
+/// What adds the object of a line.
+pub trait ObjectOfLine {
+    /// What is the object of a line.
+    ghost is: { Self → List ℕ → List ℕ → Type 0 };
+
+    /// Adds the object of a line.
+    fn add_object<S: Sink>(&self, out: &mut Counted<'_, S>, line: &[u8])
+        ensures { (object : List ℕ) × is self.now line.now object × Adds out.old out.new object };
+}
+
 // Adds the object of each line.
-fn add_objects<S: Sink>(out: &mut Counted<'_, S>, text: &[u8])
-    ensures { (objects : List ℕ) × AreObjects (lines_of text.now) objects × Adds out.old out.new objects }
+fn add_objects<S: Sink, L: ObjectOfLine>(out: &mut Counted<'_, S>, each: &L, text: &[u8])
+    ensures { (objects : List ℕ) × AreInOrder (L.is each.now) (lines_of text.now) objects × Adds out.old out.new objects }
 {
     let mut rest = text;
     while let Some((line, after)) = first_line(rest) {
-        add_object(out, line);
+        each.add_object(out, line);
         rest = after;
     }
 }
@@ -41,6 +52,16 @@ pub trait LineObjects {
 #[derive(Clone, Copy, Debug)]
 pub struct PlainLines;
 
+impl ObjectOfLine for PlainLines {
+    ghost use Rattle.json_trace.specs.Object.{IsObject};
+
+    ghost is = { λ lines. IsObject };
+
+    fn add_object<S: Sink>(&self, out: &mut Counted<'_, S>, line: &[u8]) {
+        add_object(out, line);
+    }
+}
+
 impl LineObjects for PlainLines {
     ghost use Rattle.std.specs.Prelude.{[]};
     ghost use Rattle.json_trace.specs.Object.{IsObject};
@@ -53,21 +74,25 @@ impl LineObjects for PlainLines {
     fn add_head<S: Sink>(&self, _out: &mut Counted<'_, S>) {}
 
     fn add<S: Sink>(&mut self, out: &mut Counted<'_, S>, text: &[u8]) {
-        add_objects(out, text);
+        add_objects(out, &PlainLines, text);
     }
 }
 
-/// Writes the object of each line of a trace, or of readings, a line each.
+/// Writes the object of each line of a text, a line each.
 ///
 /// # Errors
 ///
 /// The sink takes no more: then the front of the objects was written, as long as it reports.
-pub fn write_objects<S: Sink>(text: &[u8], out: &mut S) -> Result<(), WriteFault>
-    ensures { (objects : List ℕ) × AreObjects (lines_of text.now) objects
+pub fn write_each_object<S: Sink, L: ObjectOfLine>(
+    each: &L,
+    text: &[u8],
+    out: &mut S,
+) -> Result<(), WriteFault>
+    ensures { (objects : List ℕ) × AreInOrder (L.is each.now) (lines_of text.now) objects
         × WritesText (S.contents out.old) (S.contents out.new) (S.is_stuck out.old) (S.is_stuck out.new) objects result }
 {
     let mut objects = Counted::new(out);
-    add_objects(&mut objects, text);
+    add_objects(&mut objects, each, text);
     let written = objects.written();
     // No effect at run time. The proof reads what `out` holds from the sink that comes back.
     let _below = objects.into_sink();
@@ -75,4 +100,16 @@ pub fn write_objects<S: Sink>(text: &[u8], out: &mut S) -> Result<(), WriteFault
         Ok(_) => Ok(()),
         Err(fault) => Err(fault),
     }
+}
+
+/// Writes the object of each line of a trace, or of readings, a line each.
+///
+/// # Errors
+///
+/// Those of `write_each_object`.
+pub fn write_objects<S: Sink>(text: &[u8], out: &mut S) -> Result<(), WriteFault>
+    ensures { (objects : List ℕ) × AreObjects (lines_of text.now) objects
+        × WritesText (S.contents out.old) (S.contents out.new) (S.is_stuck out.old) (S.is_stuck out.new) objects result }
+{
+    write_each_object(&PlainLines, text, out)
 }

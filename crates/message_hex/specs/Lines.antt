@@ -3,11 +3,9 @@
 use Rattle.std.specs.Prelude.{◌≡◌, ℕ, ◌+◌, Bool, true, if◌then◌else◌, List, [], ◌∷◌, ◌++◌, codes, Option, Some, None, Result, Ok, Err}
 use Rattle.std.specs.List.{flat_map}
 use Rattle.text_core.specs.At.{at_line, at_word}
-use Rattle.text_core.specs.Lines.{is_skipped, lines_of}
-use Rattle.text_core.specs.Adds.{Adds, Tally}
+use Rattle.text_core.specs.Lines.{is_skipped}
 use Rattle.text_core.specs.Cut.{CutOff}
 use Rattle.text_core.specs.declared.at.At.{At}
-use Rattle.text_core.specs.declared.sink.WriteFault.{WriteFault}
 use Rattle.message_text.specs.FrameText.{frame_text}
 use Rattle.message_hex.specs.Bytes.{frame_in}
 use Rattle.message_hex.specs.Remark.{remark}
@@ -32,14 +30,18 @@ remark_text (Some word) = codes " # " ++ word
 abbrev pub frame_line : List ℕ → List ℕ
 frame_line frame = frame_text frame ++ remark_text (remark frame) ++ codes "\n"
 
-abbrev pub reported_line : Result (Option (List ℕ)) DisCause → List ℕ
-reported_line (Ok None) = []
-reported_line (Ok (Some frame)) = frame_line frame
-reported_line (Err cause) = []
+-- what is written of a line that is so read, by what is written of a frame
+abbrev pub read_text : (List ℕ → List ℕ) → Result (Option (List ℕ)) DisCause → List ℕ
+read_text text_of (Ok None) = []
+read_text text_of (Ok (Some frame)) = text_of frame
+read_text text_of (Err cause) = []
+
+abbrev pub text_by : (List ℕ → List ℕ) → List ℕ → List ℕ
+text_by text_of line = read_text text_of (line_frame line)
 
 -- what is written of a line
 abbrev pub line_text : List ℕ → List ℕ
-line_text line = reported_line (line_frame line)
+line_text line = text_by frame_line line
 
 abbrev pub fault_of : ℕ → Result (Option (List ℕ)) DisCause → Option (At DisCause) → Option (At DisCause)
 fault_of number (Ok frame) next = next
@@ -59,19 +61,3 @@ Answers text_of old new was is lines (Err (Write fault)) =
     (first_fault 1 lines ≡ None) × CutOff old new (flat_map text_of lines) fault × (is ≡ true)
 Answers text_of old new was is lines (Err (Line fault)) =
     (first_fault 1 lines ≡ Some fault) × (new ≡ old) × (is ≡ was)
-
--- what lines give is written, whole or its front up to a fault
-abbrev pub WritesLines : (List ℕ → List ℕ) → Option (List ℕ) → Option (List ℕ) → Bool → Bool → List (List ℕ) → Result (Unit {0}) WriteFault → Type 0
-WritesLines text_of old new was is lines (Ok n) = Appends old new (flat_map text_of lines) × (is ≡ was)
-WritesLines text_of old new was is lines (Err fault) = CutOff old new (flat_map text_of lines) fault × (is ≡ true)
-
--- of these lines what stands before the rest is added
-pub record Put (f : List ℕ → List ℕ) (lines : List (List ℕ)) (rest : List ℕ) (old now : Tally) : Type 0 where
-  pub done : List ℕ
-  pub parts : flat_map f lines ≡ done ++ flat_map f (lines_of rest)
-  pub so_far : Adds old now done
-
--- and the line after it
-abbrev pub LinesGoOn : Type 0
-LinesGoOn = (f : List ℕ → List ℕ) (lines : List (List ℕ)) (rest after current : List ℕ) (a b c : Tally) → Put f lines rest a b → lines_of rest ≡ current ∷ lines_of after
-    → Adds b c (f current) → Put f lines after a c

@@ -7,6 +7,6 @@ mod lines;
 mod remarks;
 
 pub use bytes::{DisCause, frame_in};
-pub use laws::{assembled_frames_are_read, lines_are_added_in_order, spellings_are_read};
-pub use lines::{DisError, add_frame, check_lines, dis_lines, line_frame};
+pub use laws::{assembled_frames_are_read, spellings_are_read};
+pub use lines::{DisError, TextOfFrame, add_frame, dis_lines, write_frames};
 pub use remarks::remark;

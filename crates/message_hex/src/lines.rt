@@ -1,15 +1,18 @@
 //! Frames in hex, one a line, and their texts.
-ghost use Rattle.std.specs.Prelude.{◌≡◌, ◌++◌, codes, Ok, Err, Some, None, Option, MatchResult};
-ghost use Rattle.message_hex.specs.Lines.{Answers, WritesLines, first_fault, frame_line, line_frame, line_text};
+ghost use Rattle.std.specs.Prelude.{◌≡◌, ◌++◌, ℕ, List, codes, Ok, Err, Some, None, Option, MatchResult};
+ghost use Rattle.message_hex.specs.Lines.{Answers, first_fault, frame_line, line_frame, line_text, text_by};
 ghost use Rattle.std.specs.List.{flat_map};
 ghost use Rattle.text_core.specs.Adds.{Adds};
+ghost use Rattle.text_core.specs.Cut.{WritesText};
 ghost use Rattle.text_core.specs.Lines.{lines_of};
 
 use crate::bytes::{DisCause, frame_in};
 use crate::remarks::remark;
 use line_frames::Frame;
 use message_text::frame_text;
-use text_core::{At, Counted, Piece, Sink, WriteFault, first_line, is_skipped};
+use text_core::{
+    At, Counted, Piece, Sink, TextOfLine, WriteFault, first_line, is_skipped, write_lines,
+};
 use thiserror::Error;
 
 /// Why the texts of frames are not written.
@@ -23,12 +26,8 @@ pub enum DisError {
     Write(WriteFault),
 }
 
-/// The frame of a line, unless the line is skipped.
-///
-/// # Errors
-///
-/// The line has no frame, and why.
-pub fn line_frame(line: &[u8]) -> Result<Option<Frame>, DisCause>
+// The frame of a line, unless the line is skipped.
+fn line_frame(line: &[u8]) -> Result<Option<Frame>, DisCause>
     ensures { result ≡ line_frame line.now }
 {
     if is_skipped(line) {
@@ -40,12 +39,8 @@ pub fn line_frame(line: &[u8]) -> Result<Option<Frame>, DisCause>
     }
 }
 
-/// Looks for a line that has no frame.
-///
-/// # Errors
-///
-/// The first such line, and why.
-pub fn check_lines(text: &[u8]) -> Result<(), At<DisCause>>
+// Looks for a line that has no frame.
+fn check_lines(text: &[u8]) -> Result<(), At<DisCause>>
     ensures { MatchResult result
         (λ _. first_fault 1 (lines_of text.now) ≡ None)
         (λ fault. first_fault 1 (lines_of text.now) ≡ Some fault) }
@@ -89,43 +84,82 @@ pub fn add_frame<S: Sink>(out: &mut Counted<'_, S>, frame: &Frame)
     }
 }
 
-// Adds what a line has, if anything.
+/// What adds what is written of a frame.
+pub trait TextOfFrame {
+    /// What is written of a frame.
+    ghost text: { Self → List ℕ → List ℕ };
+
+    /// Adds what is written of a frame.
+    fn add<S: Sink>(&self, out: &mut Counted<'_, S>, frame: &Frame)
+        ensures { Adds out.old out.new (text self.now frame.now) };
+}
+
+// Adds what is written of a line's frame, if it has one.
 #[tactic(auto, using(text_core::proofs::Adding::nothing))]
-fn add_one<S: Sink>(out: &mut Counted<'_, S>, line: &[u8])
-    ensures { Adds out.old out.new (line_text line.now) }
+fn add_one<S: Sink, F: TextOfFrame>(out: &mut Counted<'_, S>, each: &F, line: &[u8])
+    ensures { Adds out.old out.new (text_by (F.text each.now) line.now) }
 {
     match line_frame(line) {
-        Ok(Some(frame)) => add_frame(out, &frame),
+        Ok(Some(frame)) => each.add(out, &frame),
         Ok(None) => {}
         Err(_) => {}
     }
 }
 
-// Adds what the lines have, up to a fault.
-fn add_lines<S: Sink>(out: &mut Counted<'_, S>, text: &[u8])
-    ensures { Adds out.old out.new (flat_map line_text (lines_of text.now)) }
-{
-    let mut rest = text;
-    'lines: while let Some((current, after)) = first_line(rest) {
-        add_one(out, current);
-        if out.has_failed() {
-            return;
-        }
-        rest = after;
+// What is written of the frames of lines.
+#[derive(Drop)]
+struct FramesOf<'a, F: TextOfFrame> {
+    each: &'a F,
+}
+
+impl<'a, F: TextOfFrame> TextOfLine for FramesOf<'a, F> {
+    ghost use Rattle.std.specs.Prelude.{◌≡◌};
+    ghost use Rattle.message_hex.specs.Lines.{text_by};
+
+    ghost is = { λ frames line text. text ≡ text_by (F.text frames.each.now) line };
+
+    fn add<S: Sink>(&self, out: &mut Counted<'_, S>, line: &[u8]) {
+        add_one(out, self.each, line);
     }
 }
 
-fn write_lines<S: Sink>(text: &[u8], out: &mut S) -> Result<(), WriteFault>
-    ensures { WritesLines line_text (S.contents out.old) (S.contents out.new) (S.is_stuck out.old) (S.is_stuck out.new) (lines_of text.now) result }
+fn write_each<S: Sink, F: TextOfFrame>(text: &[u8], each: &F, out: &mut S) -> Result<(), WriteFault>
+    ensures { WritesText (S.contents out.old) (S.contents out.new) (S.is_stuck out.old) (S.is_stuck out.new) (flat_map (text_by (F.text each.now)) (lines_of text.now)) result }
 {
-    let mut lines = Counted::new(out);
-    add_lines(&mut lines, text);
-    let written = lines.written();
-    // No effect at run time. The proof reads what `out` holds from the sink that comes back.
-    let _below = lines.into_sink();
-    match written {
-        Ok(_) => Ok(()),
-        Err(fault) => Err(fault),
+    write_lines(text, &FramesOf { each }, out)
+}
+
+/// Writes what is written of the frames whose bytes the lines of a text spell in hex. It takes no memory.
+///
+/// # Errors
+///
+/// Those of `dis_lines`.
+pub fn write_frames<S: Sink, F: TextOfFrame>(
+    text: &[u8],
+    each: &F,
+    out: &mut S,
+) -> Result<(), DisError>
+    ensures { Answers (text_by (F.text each.now)) (S.contents out.old) (S.contents out.new) (S.is_stuck out.old) (S.is_stuck out.new) (lines_of text.now) result }
+{
+    if let Err(fault) = check_lines(text) {
+        return Err(DisError::Line(fault));
+    }
+    match write_each(text, each, out) {
+        Ok(()) => Ok(()),
+        Err(fault) => Err(DisError::Write(fault)),
+    }
+}
+
+// Of a frame its text.
+struct FrameTexts;
+
+impl TextOfFrame for FrameTexts {
+    ghost use Rattle.message_hex.specs.Lines.{frame_line};
+
+    ghost text = { λ frames. frame_line };
+
+    fn add<S: Sink>(&self, out: &mut Counted<'_, S>, frame: &Frame) {
+        add_frame(out, frame);
     }
 }
 
@@ -141,11 +175,5 @@ fn write_lines<S: Sink>(text: &[u8], out: &mut S) -> Result<(), WriteFault>
 pub fn dis_lines<S: Sink>(text: &[u8], out: &mut S) -> Result<(), DisError>
     ensures { Answers line_text (S.contents out.old) (S.contents out.new) (S.is_stuck out.old) (S.is_stuck out.new) (lines_of text.now) result }
 {
-    if let Err(fault) = check_lines(text) {
-        return Err(DisError::Line(fault));
-    }
-    match write_lines(text, out) {
-        Ok(()) => Ok(()),
-        Err(fault) => Err(DisError::Write(fault)),
-    }
+    write_frames(text, &FrameTexts, out)
 }

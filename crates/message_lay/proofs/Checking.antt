@@ -1,13 +1,13 @@
 -- Lines that are looked at one after another, and their pulls.
-use Rattle.std.proofs.Common.{◌≡◌, ℕ, ◌+◌, List, [], ◌∷◌, ◌++◌, Result, Ok, Err, true, refl, sym, ap, subst, ◌∙◌, append_assoc, append-nil}
+use Rattle.std.proofs.Common.{◌≡◌, ℕ, ◌+◌, List, [], ◌∷◌, ◌++◌, Result, Ok, Err, refl, sym, ap, subst, ◌∙◌, append_assoc, append-nil}
 use Rattle.std.specs.List.{flat_map}
 use Rattle.std.proofs.lemmas.Grind.{flat_map-append}
-use Rattle.text_core.specs.Adds.{Adds, Tally}
+use Rattle.text_core.specs.ByLine.{AreInOrder}
 use Rattle.text_core.specs.Lines.{lines_of}
-pub use Rattle.text_core.proofs.Adding.{cut_short, more, nothing, then}
+pub use Rattle.text_core.proofs.Adding.{more}
 use Rattle.line_wave.specs.declared.Stretch.{Stretch}
 use Rattle.message_lay.specs.Line.{IsLineRead}
-use Rattle.message_lay.specs.Text.{AreLinesRead, IsFollowed, Notes, Onward, follow, follows, no_notes, pull_line, taken, taken_by}
+use Rattle.message_lay.specs.Text.{AreLinesRead, ArePullsOf, IsFollowed, Notes, Onward, follow, follows, no_notes, pull_line, taken, taken_by}
 use Rattle.text_core.specs.At.{at_line}
 use Rattle.message_lay.specs.declared.fault.LayCause.{LayCause}
 use Rattle.text_core.specs.declared.at.At.{At}
@@ -60,16 +60,6 @@ checked_all text rest line free k e =
 
 -- ---- what is written
 
--- the pulls of the lines so far are added, and the others give the rest of all pulls
-pub record Put (pulls : List Stretch) (rest : List ℕ) (old now : Tally) : Type 0 where
-  pub number : ℕ
-  pub notes : Notes
-  pub left : AreLinesRead (lines_of rest) number notes (Ok pulls)
-  pub so_far : Adds old now (flat_map pull_line notes.pulls)
-
-pub put_none : (pulls : List Stretch) (text : List ℕ) (a : Tally) → AreLinesRead (lines_of text) 1 no_notes (Ok pulls) → Put pulls text a a
-put_none pulls text a h = record { number = 1; notes = no_notes; left = h; so_far = nothing a }
-
 -- a line of which the pulls are read, and those after it
 pub onward_by : (lines : List (List ℕ)) (number : ℕ) (notes : Notes) (current : List ℕ) (now : Result (List Stretch) (AtWord LayCause)) (pulls : List Stretch) (R : Type 0) → IsLineRead current now
     → Onward number (taken notes now) (λ next. AreLinesRead lines (number + 1) next (Ok pulls)) (Ok pulls)
@@ -83,39 +73,24 @@ onward_by lines number notes current (Ok own) pulls R is h f = by (follow notes.
     by (Err fault) e g = cc
     by (Ok free) e g = f free own e is g
 
-pub put_more : (pulls : List Stretch) (rest after current : List ℕ) (a b c : Tally) → Put pulls rest a b → lines_of rest ≡ current ∷ lines_of after
-    → ((own : List Stretch) → IsLineRead current (Ok own) → Adds b c (flat_map pull_line own)) → Put pulls after a c
-put_more pulls rest after current a b c k e added =
-    let left : AreLinesRead (current ∷ lines_of after) k.number k.notes (Ok pulls) = subst (λ (ls : List (List ℕ)). AreLinesRead ls k.number k.notes (Ok pulls)) e k.left in
-    onward_by (lines_of after) k.number k.notes current left.0 pulls (Put pulls after a c) left.1 left.2
-    (λ free own follows is others. record {
-      number = k.number + 1;
-      notes = notes_so free (k.notes.pulls ++ own);
-      left = others;
-      so_far = subst (Adds a c) (sym (flat_map-append pull_line k.notes.pulls own))
-          (then a b c (flat_map pull_line k.notes.pulls) (flat_map pull_line own) k.so_far (added own is));
-    })
+-- a line's pulls, and those of the lines after it
+in_order_next : (line : List ℕ) (lines : List (List ℕ)) (own more : List Stretch) → IsLineRead line (Ok own) → AreInOrder ArePullsOf lines (flat_map pull_line more)
+    → AreInOrder ArePullsOf (line ∷ lines) (flat_map pull_line (own ++ more))
+in_order_next line lines own more is others = (flat_map pull_line own, flat_map pull_line more, (own, is, refl), others, flat_map-append pull_line own more)
 
--- the pulls of the lines before come first
-more_pulls : (lines : List (List ℕ)) (number : ℕ) (notes : Notes) (pulls : List Stretch) → AreLinesRead lines number notes (Ok pulls) → (more : List Stretch) × (pulls ≡ notes.pulls ++ more)
-more_pulls [] number notes pulls h =
+-- the pulls of lines are those of the lines before, and then those of each line, in order
+pulls_after : (lines : List (List ℕ)) (number : ℕ) (notes : Notes) (pulls : List Stretch) → AreLinesRead lines number notes (Ok pulls)
+    → (more : List Stretch) × (pulls ≡ notes.pulls ++ more) × AreInOrder ArePullsOf lines (flat_map pull_line more)
+pulls_after [] number notes pulls h =
     let same : pulls ≡ notes.pulls = cc in
-    ([], same ∙ sym (append-nil notes.pulls))
-more_pulls (line ∷ lines) number notes pulls h =
-    onward_by lines number notes line h.0 pulls ((more : List Stretch) × (pulls ≡ notes.pulls ++ more)) h.1 h.2
+    ([], same ∙ sym (append-nil notes.pulls), refl)
+pulls_after (line ∷ lines) number notes pulls h =
+    onward_by lines number notes line h.0 pulls ((more : List Stretch) × (pulls ≡ notes.pulls ++ more) × AreInOrder ArePullsOf (line ∷ lines) (flat_map pull_line more)) h.1 h.2
     (λ free own follows is others.
-    let later = more_pulls lines (number + 1) (notes_so free (notes.pulls ++ own)) pulls others in
-    (own ++ later.0, later.1 ∙ append_assoc notes.pulls own later.0))
+    let later = pulls_after lines (number + 1) (notes_so free (notes.pulls ++ own)) pulls others in
+    (own ++ later.0, later.1 ∙ append_assoc notes.pulls own later.0, in_order_next line lines own later.0 is later.2))
 
--- a fault cuts the rest off
-pub put_short : (pulls : List Stretch) (rest : List ℕ) (a b : Tally) → Put pulls rest a b → b.failed ≡ true → Adds a b (flat_map pull_line pulls)
-put_short pulls rest a b k failed =
-    let more = more_pulls (lines_of rest) k.number k.notes pulls k.left in
-    let parts = ap (flat_map pull_line) more.1 ∙ flat_map-append pull_line k.notes.pulls more.0 in
-    subst (Adds a b) (sym parts) (cut_short a b (flat_map pull_line k.notes.pulls) (flat_map pull_line more.0) failed k.so_far)
-
-pub put_whole : (pulls : List Stretch) (rest : List ℕ) (a b : Tally) → Put pulls rest a b → lines_of rest ≡ [] → Adds a b (flat_map pull_line pulls)
-put_whole pulls rest a b k over =
-    let last : Ok pulls ≡ Ok k.notes.pulls = subst (λ (ls : List (List ℕ)). AreLinesRead ls k.number k.notes (Ok pulls)) over k.left in
-    let same : pulls ≡ k.notes.pulls = cc in
-    subst (Adds a b) (sym (ap (flat_map pull_line) same)) k.so_far
+pub pulls_in_order : (lines : List (List ℕ)) (pulls : List Stretch) → AreLinesRead lines 1 no_notes (Ok pulls) → AreInOrder ArePullsOf lines (flat_map pull_line pulls)
+pulls_in_order lines pulls h =
+    let all = pulls_after lines 1 no_notes pulls h in
+    subst (λ (ps : List Stretch). AreInOrder ArePullsOf lines (flat_map pull_line ps)) (sym all.1) all.2

@@ -5,7 +5,6 @@ use Rattle.std.specs.Io.KnownBytes.{Appends}
 use Rattle.std.specs.List.{flat_map}
 use Rattle.text_core.specs.At.{at_line, at_word}
 use Rattle.text_core.specs.Cut.{CutOff}
-use Rattle.text_core.specs.declared.sink.WriteFault.{WriteFault}
 use Rattle.line_wave.specs.Bounds.{latest_event, widest_pull}
 use Rattle.line_wave.specs.declared.Stretch.{Stretch}
 use Rattle.message_lay.specs.Line.{IsLineRead}
@@ -80,10 +79,9 @@ AreLinesRead (line ∷ lines) number notes read =
 abbrev pub pull_line : Stretch → List ℕ
 pull_line p = codes "pull " ++ decimal p.from ++ codes " " ++ decimal (p.to - p.from) ++ codes "\n"
 
--- pulls are written, whole or their front up to a fault
-abbrev pub WritesPulls : Option (List ℕ) → Option (List ℕ) → Bool → Bool → List Stretch → Result (Unit {0}) WriteFault → Type 0
-WritesPulls old new was is pulls (Ok n) = Appends old new (flat_map pull_line pulls) × (is ≡ was)
-WritesPulls old new was is pulls (Err fault) = CutOff old new (flat_map pull_line pulls) fault × (is ≡ true)
+-- a text is the pulls of a line, as lines of a script
+abbrev pub ArePullsOf : List ℕ → List ℕ → Type 0
+ArePullsOf line text = (pulls : List Stretch) × IsLineRead line (Ok pulls) × (text ≡ flat_map pull_line pulls)
 
 -- All lines are laid, and their pulls are written, whole or their front up to a fault; or the first that is not is returned, and
 -- nothing is written.

@@ -3,16 +3,19 @@ ghost use Rattle.std.specs.Prelude.{◌≡◌, ◌++◌, ◌-◌, List, Ok, Err,
 ghost use Rattle.std.specs.Fmt.{decimal};
 ghost use Rattle.std.specs.List.{flat_map};
 ghost use Rattle.text_core.specs.Adds.{Adds};
+ghost use Rattle.text_core.specs.Cut.{WritesText};
 ghost use Rattle.text_core.specs.Lines.{lines_of};
 ghost use Rattle.line_wave.specs.declared.Stretch.{Stretch as StretchValue};
 ghost use Rattle.message_lay.specs.Line.{IsLineRead};
-ghost use Rattle.message_lay.specs.Text.{Answers, AreLinesRead, IsFollowed, WritesPulls, no_notes, pull_line};
+ghost use Rattle.message_lay.specs.Text.{Answers, AreLinesRead, IsFollowed, no_notes, pull_line};
 
 use crate::fault::{LayCause, LayError};
 use crate::line::line_pulls;
 use crate::order::follow;
 use line_wave::Stretch;
-use text_core::{At, AtWord, Counted, Piece, Sink, WriteFault, first_line};
+use text_core::{
+    At, AtWord, Counted, Piece, Sink, TextOfLine, WriteFault, first_line, write_lines,
+};
 
 // From when on a pull may begin after those of a line.
 fn follow_line(free: u64, line: &[u8]) -> Result<u64, AtWord<LayCause>>
@@ -74,33 +77,25 @@ fn add_laid<S: Sink>(out: &mut Counted<'_, S>, line: &[u8])
     }
 }
 
-// Adds the pulls of lines, up to a fault.
-fn add_lines<S: Sink>(out: &mut Counted<'_, S>, text: &[u8])
-    ensures { (pulls : List StretchValue) → AreLinesRead (lines_of text.now) 1 no_notes (Ok pulls) → Adds out.old out.new (flat_map pull_line pulls) }
-{
-    let mut rest = text;
-    'lines: while let Some((current, after)) = first_line(rest) {
-        add_laid(out, current);
-        if out.has_failed() {
-            return;
-        }
-        rest = after;
+// The pulls of lines that are laid.
+struct LaidLines;
+
+impl TextOfLine for LaidLines {
+    ghost use Rattle.message_lay.specs.Text.{ArePullsOf};
+
+    ghost is = { λ lines. ArePullsOf };
+
+    fn add<S: Sink>(&self, out: &mut Counted<'_, S>, line: &[u8]) {
+        add_laid(out, line);
     }
 }
 
-fn write_lines<S: Sink>(text: &[u8], out: &mut S) -> Result<(), WriteFault>
+// Writes the pulls of lines, which are known to be laid.
+fn write_pulls<S: Sink>(text: &[u8], out: &mut S) -> Result<(), WriteFault>
     ensures { (pulls : List StretchValue) → AreLinesRead (lines_of text.now) 1 no_notes (Ok pulls)
-        → WritesPulls (S.contents out.old) (S.contents out.new) (S.is_stuck out.old) (S.is_stuck out.new) pulls result }
+        → WritesText (S.contents out.old) (S.contents out.new) (S.is_stuck out.old) (S.is_stuck out.new) (flat_map pull_line pulls) result }
 {
-    let mut lines = Counted::new(out);
-    add_lines(&mut lines, text);
-    let written = lines.written();
-    // No effect at run time. The proof reads what `out` holds from the sink that comes back.
-    let _below = lines.into_sink();
-    match written {
-        Ok(_) => Ok(()),
-        Err(fault) => Err(fault),
-    }
+    write_lines(text, &LaidLines, out)
 }
 
 /// Writes the pulls of frames, as lines `pull T WIDTH` of a script. A line is `T FRAME` or `T FAULT FRAME`: the frame's start bit
@@ -130,7 +125,7 @@ pub fn lay_lines<S: Sink>(text: &[u8], out: &mut S) -> Result<(), LayError>
     if let Err(fault) = check_lines(text) {
         return Err(LayError::Line(fault));
     }
-    match write_lines(text, out) {
+    match write_pulls(text, out) {
         Ok(()) => Ok(()),
         Err(fault) => Err(LayError::Write(fault)),
     }

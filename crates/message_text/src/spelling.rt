@@ -288,7 +288,7 @@ pub(crate) fn nameless_text(code: u8) -> [u8; 5]
 }
 
 /// The name of an opcode, or `op-` and its hex digits where it has none.
-pub(crate) fn opcode_text(code: u8) -> ArrayVec<u8, 32>
+pub fn opcode_text(code: u8) -> ArrayVec<u8, 32>
     ensures { result.items ≡ opcode_text code }
 {
     let mut items = ArrayVec::new();

@@ -2,7 +2,8 @@
 use Rattle.std.proofs.Common.{◌≡◌, ◌++◌, ℕ, Bool, true, false, List, [], OnOk, Option, Result, Some, refl, subst}
 use Rattle.std.specs.Io.KnownBytes.{Appends}
 use Rattle.std.specs.List.{flat_map}
-use Rattle.json_trace.specs.Object.{AreInOrder, IsObject}
+use Rattle.text_core.specs.ByLine.{AreInOrder}
+use Rattle.json_trace.specs.Object.{IsObject}
 use Rattle.json_room.specs.Event.{IsRoomObject}
 use Rattle.json_room.specs.Head.{head_text}
 use Rattle.room_run.specs.Emulate.{IsTraceOf}

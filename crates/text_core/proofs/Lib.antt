@@ -6,3 +6,4 @@ pub mod LineLemmas
 pub mod PartedLemmas
 pub mod Cutting
 pub mod Adding
+pub mod LineByLine

@@ -17,6 +17,11 @@ abbrev pub WrittenText : Option (List ℕ) → Option (List ℕ) → Bool → Bo
 WrittenText old new was is text (Ok n) = (n ≡ reported_count (length text)) × Appends old new text × (is ≡ was)
 WrittenText old new was is text (Err fault) = CutOff old new text fault × (is ≡ true)
 
+-- the same, where the length is not answered
+abbrev pub WritesText : Option (List ℕ) → Option (List ℕ) → Bool → Bool → List ℕ → Result (Unit {0}) WriteFault → Type 0
+WritesText old new was is text (Ok n) = Appends old new text × (is ≡ was)
+WritesText old new was is text (Err fault) = CutOff old new text fault × (is ≡ true)
+
 -- a text is written, and a fault cuts off the one after it
 abbrev pub CutLater : Type 0
 CutLater = (a b c : Option (List ℕ)) (xs ys : List ℕ) (n : ℕ) (inner fault : WriteFault) → n ≡ reported_count (length xs) → Appends a b xs

@@ -13,3 +13,4 @@ pub mod Held
 pub mod Hex
 pub mod Cut
 pub mod Adds
+pub mod ByLine

@@ -4,6 +4,7 @@
 
 mod at;
 mod buffered;
+mod by_line;
 mod held;
 mod hex;
 mod kind;
@@ -20,6 +21,7 @@ mod written;
 
 pub use at::{At, AtWord, at_word};
 pub use buffered::Buffered;
+pub use by_line::{TextOfLine, write_lines};
 pub use held::Held;
 pub use hex::{hex_at, hex_byte, hex_bytes};
 pub use kind::Kind;

@@ -3,7 +3,7 @@ use Rattle.std.specs.List.{flat_map}
 use Rattle.text_core.specs.Adds.{Adds}
 use Rattle.text_core.specs.Lines.{lines_of}
 use Rattle.text_core.proofs.Adding.{text_ended, then}
-use Rattle.json_trace.specs.Object.{AreInOrder}
+use Rattle.text_core.specs.ByLine.{AreInOrder}
 use Rattle.json_trace.proofs.Writing.{adds_as}
 use Rattle.json_room.specs.Event.{IsRoomObject}
 use Rattle.json_room.specs.Head.{head_text}

@@ -2,7 +2,7 @@ use Rattle.std.proofs.Common.{◌≡◌, ◌∙◌, ◌++◌, ℕ, List, [], fal
 use Rattle.std.specs.List.{flat_map}
 use Rattle.device_core.specs.State.{State}
 use Rattle.text_core.specs.Held.{is_full}
-use Rattle.json_trace.specs.Object.{AreInOrder}
+use Rattle.text_core.specs.ByLine.{AreInOrder}
 use Rattle.room_net.specs.State.{NetState}
 use Rattle.room_run.specs.Happening.{text_of}
 use Rattle.room_run.specs.Run.{IsRunText, end_reported, start, start_reported}

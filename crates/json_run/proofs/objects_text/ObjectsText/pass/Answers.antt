@@ -2,7 +2,7 @@ use Rattle.std.proofs.Common.{◌≡◌, ◌∙◌, ℕ, List, [], rules, subst,
 use Rattle.text_core.specs.Lines.{lines_of}
 use Rattle.expect_run.specs.Sieve.{IsClosed}
 use Rattle.text_core.specs.Held.{held_bytes}
-use Rattle.json_trace.specs.Object.{AreInOrder}
+use Rattle.text_core.specs.ByLine.{AreInOrder}
 use Rattle.json_run.specs.Made.{AreMade}
 use Rattle.json_run.proofs.Making.{made_passed}
 use Rattle.json_run.proofs.objects_text.ObjectsText.pass.Goals as goal

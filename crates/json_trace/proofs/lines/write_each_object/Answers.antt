@@ -1,9 +1,8 @@
 use Rattle.std.proofs.Common.{ℕ, Bool, List, Option, Ok, Err, Result, rules, subst}
-use Rattle.text_core.specs.Cut.{WrittenText}
+use Rattle.text_core.specs.Cut.{WritesText, WrittenText}
 use Rattle.text_core.specs.declared.sink.WriteFault.{WriteFault}
 use Rattle.text_core.proofs.Adding.{loan_ended}
-use Rattle.json_trace.specs.Written.{WritesText}
-use Rattle.json_trace.proofs.lines.write_objects.Goals as goal
+use Rattle.json_trace.proofs.lines.write_each_object.Goals as goal
 
 pub returns-in-Ok : goal.returns-in-Ok
 returns-in-Ok g c =
