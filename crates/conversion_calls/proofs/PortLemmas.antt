@@ -3,12 +3,13 @@ use Rattle.std.proofs.Common.{◌≡◌, ℕ, ◌+◌, ◌*◌, ◌/◌, ◌%◌
 use Rattle.std.specs.List.{list_all}
 use Rattle.std.specs.Option.{option_map_or}
 use Rattle.std.proofs.lemmas.Bool.{leb-true, ltb-true, ne_eqb, and_parts}
+use Rattle.text_core.specs.Phys.{nibbles}
 use Rattle.text_core.specs.declared.phys.Phys.{Phys}
 use Rattle.edid_core.specs.Passing.{passed_on_bytes}
 use Rattle.edid_core.specs.declared.edid.Edid.{Edid}
 use Rattle.edid_tree.specs.declared.plug.Plug.{Plug}
 use Rattle.edid_tree.specs.Node.{Node}
-use Rattle.edid_tree.specs.Path.{address_by, nibbles, path_of, path_within}
+use Rattle.edid_tree.specs.Path.{address_by, path_of, path_within}
 use Rattle.edid_tree.specs.Port.{audio_from, port_address, port_bytes}
 use Rattle.edid_tree.specs.Tree.{is_root, plug_of}
 use Rattle.conversion_calls.specs.Laws.{PassesAsTheTree, TelevisionsPassAsTheTree}

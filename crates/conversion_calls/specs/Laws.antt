@@ -1,9 +1,10 @@
 -- The EDID in a port, by the device's own EDID and by the tree (HDMI 1.4, sections 8.7.2 and 8.7.3).
 use Rattle.std.specs.Prelude.{◌≡◌, ℕ, true, IsTrue, List, Some}
 use Rattle.std.specs.List.{list_all}
+use Rattle.text_core.specs.Phys.{nibbles}
 use Rattle.edid_core.specs.declared.edid.Edid.{Edid}
 use Rattle.edid_tree.specs.Node.{Node}
-use Rattle.edid_tree.specs.Path.{address_by, nibbles, path_of}
+use Rattle.edid_tree.specs.Path.{address_by, path_of}
 use Rattle.edid_tree.specs.Port.{IsPassedOn, audio_from}
 use Rattle.edid_tree.specs.Tree.{is_root}
 use Rattle.conversion_calls.specs.Passing.{IsPassedOnAs, is_port}

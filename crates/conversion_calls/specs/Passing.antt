@@ -1,5 +1,6 @@
 -- The EDID that is passed on to a device at a place (HDMI 1.4, sections 8.7.2 and 8.7.3).
 use Rattle.std.specs.Prelude.{◌≡◌, ℕ, ◌/◌, ◌%◌, ◌==◌, Bool, true, ◌&&◌, nat_lt, nat_le, if◌then◌else◌, IsTrue, List, Some, None}
+use Rattle.text_core.specs.Phys.{nibbles}
 use Rattle.text_core.specs.declared.phys.Phys.{Phys}
 use Rattle.edid_core.specs.Address.{edid_address}
 use Rattle.edid_core.specs.Bytes.{edid_bytes, IsRefused}
@@ -7,7 +8,6 @@ use Rattle.edid_core.specs.Passing.{passed_on_bytes}
 use Rattle.edid_core.specs.declared.edid.Edid.{Edid as EdidValue}
 use Rattle.edid_cta.specs.declared.raw.Ext.{Ext}
 use Rattle.edid_base.specs.declared.base.Base.{Base}
-use Rattle.edid_tree.specs.Path.{nibbles}
 use Rattle.conversion_calls.specs.declared.passing.Destination.{Destination}
 use Rattle.conversion_calls.specs.declared.passing.Destination.TheVariants.{Address, Port}
 use Rattle.conversion_calls.specs.declared.passing.Passing.{Passing}

@@ -1,6 +1,5 @@
 //! The forms in which an EDID is written.
-ghost use Rattle.std.specs.Prelude.{◌≡◌, ◌+◌, ◌*◌, ◌≤◌, ◌++◌, flat_map, length};
-ghost use Rattle.arrayvec.specs.ArrayVec.{array_vec_len};
+ghost use Rattle.std.specs.Prelude.{◌≡◌, ◌≤◌, ◌++◌, flat_map, length};
 ghost use Rattle.text_core.specs.Written.{WrittenAll};
 ghost use Rattle.edid_base.specs.Base.{base_bytes};
 ghost use Rattle.edid_cta.specs.Ext.{ext_bytes};
@@ -8,8 +7,8 @@ ghost use Rattle.conversion_calls.specs.Form.{form_text, hex_line, parts_text};
 
 use arrayvec::ArrayVec;
 use edid_base::{Base, append, write_base};
-use edid_core::Edid;
-use edid_cta::{Ext, write_ext};
+use edid_core::{Edid, append_extensions};
+use edid_cta::Ext;
 use edid_texts::write_parts;
 use text_core::{Piece, Sink, WriteFault, put_all, write_line};
 
@@ -39,18 +38,6 @@ fn write_bytes<S: Sink>(bytes: &[u8], out: &mut S) -> Result<(), WriteFault>
     ensures { WrittenAll (S.contents out.old) (S.contents out.new) (S.is_stuck out.old) (S.is_stuck out.new) bytes.now result }
 {
     put_all(out, bytes)
-}
-
-// Appends the bytes of extensions for which there is room.
-fn append_extensions(bytes: &mut ArrayVec<u8, 512>, extensions: &[Ext])
-    requires { array_vec_len bytes.old + 128 * length extensions.now ≤ 512 }
-    ensures { bytes.new.items ≡ bytes.old.items ++ flat_map ext_bytes extensions.now }
-{
-    let Some((ext, others)) = extensions.split_first() else {
-        return;
-    };
-    append(bytes, &write_ext(ext));
-    append_extensions(bytes, others);
 }
 
 // The bytes of an EDID of these parts.

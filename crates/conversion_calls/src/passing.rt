@@ -1,6 +1,5 @@
 //! The EDID that is passed on to a device: with another address, and with an amplifier's audio.
-ghost use Rattle.std.specs.Prelude.{◌≡◌, ◌<◌, ◌≤◌, [], IfOk, IfErr, IsTrue};
-ghost use Rattle.edid_tree.specs.Path.{nibbles};
+ghost use Rattle.std.specs.Prelude.{◌≡◌, ◌≤◌, [], IfOk, IfErr, IsTrue};
 ghost use Rattle.conversion_calls.specs.Passing.{address_in, is_place, place_address, IsPassedOnIn, IsNotPassedOn};
 
 use crate::in_place::{first_address, pass_on_extensions};
@@ -48,19 +47,6 @@ pub enum PassOnError {
     Write(u128),
 }
 
-fn nibbles(a: u8, b: u8, c: u8, d: u8) -> Phys
-    requires a { a < 16 }
-    requires b { b < 16 }
-    requires c { c < 16 }
-    requires d { d < 16 }
-    ensures { result ≡ nibbles a b c d }
-{
-    Phys {
-        high: a * 16 + b,
-        low: c * 16 + d,
-    }
-}
-
 /// The address in a port of the device with an address: the port stands in its first free place (HDMI 1.4, section 8.7.2).
 fn address_in(own: Phys, port: u8) -> Phys
     requires { port ≤ 15 }
@@ -68,15 +54,15 @@ fn address_in(own: Phys, port: u8) -> Phys
 {
     let (a, b, c, d) = (own.high / 16, own.high % 16, own.low / 16, own.low % 16);
     if a == 0 {
-        nibbles(port, 0, 0, 0)
+        Phys::of_nibbles(port, 0, 0, 0)
     } else if b == 0 {
-        nibbles(a, port, 0, 0)
+        Phys::of_nibbles(a, port, 0, 0)
     } else if c == 0 {
-        nibbles(a, b, port, 0)
+        Phys::of_nibbles(a, b, port, 0)
     } else if d == 0 {
-        nibbles(a, b, c, port)
+        Phys::of_nibbles(a, b, c, port)
     } else {
-        nibbles(15, 15, 15, 15)
+        Phys::of_nibbles(15, 15, 15, 15)
     }
 }
 

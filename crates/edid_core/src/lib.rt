@@ -15,5 +15,5 @@ pub use laws::{
     addresses_stand_in_the_first_hdmi_block, extensions_are_passed_on_by_the_first,
     lengths_are_of_whole_blocks, one_spelling_of_edids, spelled_edids_are_accepted,
 };
-pub use passing::{AudioFrom, write_passed_parts};
+pub use passing::{AudioFrom, append_extensions, write_passed_parts};
 pub use root::{EdidCause, RootError, root_of, root_on_heap};

@@ -48,7 +48,7 @@ fn write_passed(ext: &Ext, audio: AudioFrom, address: Phys) -> Result<[u8; 128],
 }
 
 /// Appends the bytes of extensions for which there is room.
-fn append_extensions(bytes: &mut ArrayVec<u8, 512>, extensions: &[Ext])
+pub fn append_extensions(bytes: &mut ArrayVec<u8, 512>, extensions: &[Ext])
     requires { array_vec_len bytes.old + 128 * length extensions.now ≤ 512 }
     ensures { bytes.new.items ≡ bytes.old.items ++ flat_map ext_bytes extensions.now }
 {

@@ -15,6 +15,15 @@ use edid_cta::DataBlock;
 /// Room for all blocks, of which each kind is at most as long as an extension.
 const ROOM: usize = 1536;
 
+/// The blocks of the display and those of the receiver itself, each as many as an extension has room for.
+#[derive(Drop)]
+struct Sides<'a> {
+    display: &'a [DataBlock],
+    own: &'a [DataBlock],
+    ghost display_fits: { length (flat_map block_bytes display.now) ≤ 123 },
+    ghost own_fits: { length (flat_map block_bytes own.now) ≤ 123 },
+}
+
 // Adds the blocks of a kind.
 fn add_blocks(out: &mut ArrayVec<u8, ROOM>, subject: Subject, blocks: &[DataBlock])
     requires { array_vec_len out.old + length (flat_map block_bytes blocks.now) ≤ 1536 }
@@ -65,42 +74,28 @@ fn add_one(out: &mut ArrayVec<u8, ROOM>, ways: &[Way], display: &DataBlock, own:
 }
 
 // Adds the first blocks of a kind as one, where both have one.
-fn add_both(
-    out: &mut ArrayVec<u8, ROOM>,
-    ways: &[Way],
-    subject: Subject,
-    display: &[DataBlock],
-    own: &[DataBlock],
-)
+fn add_both(out: &mut ArrayVec<u8, ROOM>, ways: &[Way], subject: Subject, sides: &Sides<'_>)
     requires { array_vec_len out.old + 123 ≤ 1536 }
-    ensures items { out.new.items ≡ out.old.items ++ one_of ways.now subject display.now own.now }
+    ensures items { out.new.items ≡ out.old.items ++ one_of ways.now subject sides.now.display.now sides.now.own.now }
     ensures len { array_vec_len out.new ≤ array_vec_len out.old + 123 }
 {
-    match first_of(subject, display) {
+    match first_of(subject, sides.display) {
         None => {}
-        Some(shown) => match first_of(subject, own) {
+        Some(shown) => match first_of(subject, sides.own) {
             None => {}
             Some(known) => add_one(out, ways, shown, known),
         },
     }
 }
 
-fn add_by_whose(
-    out: &mut ArrayVec<u8, ROOM>,
-    row: Whose,
-    subject: Subject,
-    display: &[DataBlock],
-    own: &[DataBlock],
-)
-    requires room { array_vec_len out.old + 123 ≤ 1536 }
-    requires display { length (flat_map block_bytes display.now) ≤ 123 }
-    requires own { length (flat_map block_bytes own.now) ≤ 123 }
-    ensures items { out.new.items ≡ out.old.items ++ by_whose row subject display.now own.now }
+fn add_by_whose(out: &mut ArrayVec<u8, ROOM>, row: Whose, subject: Subject, sides: &Sides<'_>)
+    requires { array_vec_len out.old + 123 ≤ 1536 }
+    ensures items { out.new.items ≡ out.old.items ++ by_whose row subject sides.now.display.now sides.now.own.now }
     ensures len { array_vec_len out.new ≤ array_vec_len out.old + 123 }
 {
     match row {
-        Whose::Keep => add_blocks(out, subject, display),
-        Whose::Own => add_blocks(out, subject, own),
+        Whose::Keep => add_blocks(out, subject, sides.display),
+        Whose::Own => add_blocks(out, subject, sides.own),
     }
 }
 
@@ -109,19 +104,16 @@ fn add_by_bits(
     row: Bits,
     ways: &[Way],
     subject: Subject,
-    display: &[DataBlock],
-    own: &[DataBlock],
+    sides: &Sides<'_>,
 )
-    requires room { array_vec_len out.old + 123 ≤ 1536 }
-    requires display { length (flat_map block_bytes display.now) ≤ 123 }
-    requires own { length (flat_map block_bytes own.now) ≤ 123 }
-    ensures items { out.new.items ≡ out.old.items ++ by_bits row ways.now subject display.now own.now }
+    requires { array_vec_len out.old + 123 ≤ 1536 }
+    ensures items { out.new.items ≡ out.old.items ++ by_bits row ways.now subject sides.now.display.now sides.now.own.now }
     ensures len { array_vec_len out.new ≤ array_vec_len out.old + 123 }
 {
     match row {
-        Bits::Keep => add_blocks(out, subject, display),
-        Bits::Own => add_blocks(out, subject, own),
-        Bits::And => add_both(out, ways, subject, display, own),
+        Bits::Keep => add_blocks(out, subject, sides.display),
+        Bits::Own => add_blocks(out, subject, sides.own),
+        Bits::And => add_both(out, ways, subject, sides),
     }
 }
 
@@ -130,65 +122,44 @@ fn add_by_numbers(
     row: Numbers,
     ways: &[Way],
     subject: Subject,
-    display: &[DataBlock],
-    own: &[DataBlock],
+    sides: &Sides<'_>,
 )
-    requires room { array_vec_len out.old + 123 ≤ 1536 }
-    requires display { length (flat_map block_bytes display.now) ≤ 123 }
-    requires own { length (flat_map block_bytes own.now) ≤ 123 }
-    ensures items { out.new.items ≡ out.old.items ++ by_numbers row ways.now subject display.now own.now }
+    requires { array_vec_len out.old + 123 ≤ 1536 }
+    ensures items { out.new.items ≡ out.old.items ++ by_numbers row ways.now subject sides.now.display.now sides.now.own.now }
     ensures len { array_vec_len out.new ≤ array_vec_len out.old + 123 }
 {
     match row {
-        Numbers::Keep => add_blocks(out, subject, display),
-        Numbers::Own => add_blocks(out, subject, own),
-        Numbers::Least => add_both(out, ways, subject, display, own),
+        Numbers::Keep => add_blocks(out, subject, sides.display),
+        Numbers::Own => add_blocks(out, subject, sides.own),
+        Numbers::Least => add_both(out, ways, subject, sides),
     }
 }
 
 // Adds the blocks of sound and pictures.
-fn add_main(out: &mut ArrayVec<u8, ROOM>, table: &Table, display: &[DataBlock], own: &[DataBlock])
-    requires room { array_vec_len out.old + 369 ≤ 1536 }
-    requires display { length (flat_map block_bytes display.now) ≤ 123 }
-    requires own { length (flat_map block_bytes own.now) ≤ 123 }
-    ensures items { out.new.items ≡ out.old.items ++ main_blocks table.now display.now own.now }
+fn add_main(out: &mut ArrayVec<u8, ROOM>, table: &Table, sides: &Sides<'_>)
+    requires { array_vec_len out.old + 369 ≤ 1536 }
+    ensures items { out.new.items ≡ out.old.items ++ main_blocks table.now sides.now.display.now sides.now.own.now }
     ensures len { array_vec_len out.new ≤ array_vec_len out.old + 369 }
 {
-    add_by_whose(out, table.video, Subject::Video, display, own);
-    add_by_whose(out, table.audio, Subject::Audio, display, own);
-    add_by_bits(
-        out,
-        table.speakers,
-        SPEAKERS,
-        Subject::Speakers,
-        display,
-        own,
-    );
+    add_by_whose(out, table.video, Subject::Video, sides);
+    add_by_whose(out, table.audio, Subject::Audio, sides);
+    add_by_bits(out, table.speakers, SPEAKERS, Subject::Speakers, sides);
 }
 
 // Adds the blocks of the link.
-fn add_link(out: &mut ArrayVec<u8, ROOM>, table: &Table, display: &[DataBlock], own: &[DataBlock])
-    requires room { array_vec_len out.old + 246 ≤ 1536 }
-    requires display { length (flat_map block_bytes display.now) ≤ 123 }
-    requires own { length (flat_map block_bytes own.now) ≤ 123 }
-    ensures items { out.new.items ≡ out.old.items ++ link_blocks table.now display.now own.now }
+fn add_link(out: &mut ArrayVec<u8, ROOM>, table: &Table, sides: &Sides<'_>)
+    requires { array_vec_len out.old + 246 ≤ 1536 }
+    ensures items { out.new.items ≡ out.old.items ++ link_blocks table.now sides.now.display.now sides.now.own.now }
     ensures len { array_vec_len out.new ≤ array_vec_len out.old + 246 }
 {
-    add_by_numbers(out, table.hdmi, HDMI, Subject::Hdmi, display, own);
-    add_by_numbers(out, table.forum, FORUM, Subject::Forum, display, own);
+    add_by_numbers(out, table.hdmi, HDMI, Subject::Hdmi, sides);
+    add_by_numbers(out, table.forum, FORUM, Subject::Forum, sides);
 }
 
 // Adds the blocks of colours.
-fn add_colours(
-    out: &mut ArrayVec<u8, ROOM>,
-    table: &Table,
-    display: &[DataBlock],
-    own: &[DataBlock],
-)
-    requires room { array_vec_len out.old + 369 ≤ 1536 }
-    requires display { length (flat_map block_bytes display.now) ≤ 123 }
-    requires own { length (flat_map block_bytes own.now) ≤ 123 }
-    ensures items { out.new.items ≡ out.old.items ++ colour_blocks table.now display.now own.now }
+fn add_colours(out: &mut ArrayVec<u8, ROOM>, table: &Table, sides: &Sides<'_>)
+    requires { array_vec_len out.old + 369 ≤ 1536 }
+    ensures items { out.new.items ≡ out.old.items ++ colour_blocks table.now sides.now.display.now sides.now.own.now }
     ensures len { array_vec_len out.new ≤ array_vec_len out.old + 369 }
 {
     add_by_bits(
@@ -196,36 +167,21 @@ fn add_colours(
         table.capability,
         CAPABILITY,
         Subject::Capability,
-        display,
-        own,
+        sides,
     );
-    add_by_bits(
-        out,
-        table.colorimetry,
-        COLOURS,
-        Subject::Colorimetry,
-        display,
-        own,
-    );
-    add_by_bits(out, table.hdr, COLOURS, Subject::Hdr, display, own);
+    add_by_bits(out, table.colorimetry, COLOURS, Subject::Colorimetry, sides);
+    add_by_bits(out, table.hdr, COLOURS, Subject::Hdr, sides);
 }
 
 // Adds what makers have added, and what is not known.
-fn add_further(
-    out: &mut ArrayVec<u8, ROOM>,
-    table: &Table,
-    display: &[DataBlock],
-    own: &[DataBlock],
-)
-    requires room { array_vec_len out.old + 369 ≤ 1536 }
-    requires display { length (flat_map block_bytes display.now) ≤ 123 }
-    requires own { length (flat_map block_bytes own.now) ≤ 123 }
-    ensures items { out.new.items ≡ out.old.items ++ further_blocks table.now display.now own.now }
+fn add_further(out: &mut ArrayVec<u8, ROOM>, table: &Table, sides: &Sides<'_>)
+    requires { array_vec_len out.old + 369 ≤ 1536 }
+    ensures items { out.new.items ≡ out.old.items ++ further_blocks table.now sides.now.display.now sides.now.own.now }
     ensures len { array_vec_len out.new ≤ array_vec_len out.old + 369 }
 {
-    add_by_whose(out, table.maker_video, Subject::MakerVideo, display, own);
-    add_by_whose(out, table.maker_audio, Subject::MakerAudio, display, own);
-    add_by_whose(out, table.other, Subject::Other, display, own);
+    add_by_whose(out, table.maker_video, Subject::MakerVideo, sides);
+    add_by_whose(out, table.maker_audio, Subject::MakerAudio, sides);
+    add_by_whose(out, table.other, Subject::Other, sides);
 }
 
 /// The bytes of the data blocks that a receiver answers with, by a table, of the display's and of its own. They may be more than
@@ -236,10 +192,11 @@ pub fn merged_blocks(table: &Table, display: &[DataBlock], own: &[DataBlock]) ->
     requires own { length (flat_map block_bytes own.now) ≤ 123 }
     ensures { result.items ≡ merged_blocks table.now display.now own.now }
 {
+    let sides = Sides { display, own };
     let mut out = ArrayVec::new();
-    add_main(&mut out, table, display, own);
-    add_link(&mut out, table, display, own);
-    add_colours(&mut out, table, display, own);
-    add_further(&mut out, table, display, own);
+    add_main(&mut out, table, &sides);
+    add_link(&mut out, table, &sides);
+    add_colours(&mut out, table, &sides);
+    add_further(&mut out, table, &sides);
     out
 }

@@ -14,11 +14,12 @@ ghost use Rattle.expect_run.specs.Sieve.{IsClosed, IsLine};
 use crate::group::{Group, groups_of, is_any_met};
 use crate::times::Times;
 use crate::watch::{all_watches, fits_any, patterns_of};
-use boxcar::tag::{Names, Tag};
+use boxcar::tag::Tag;
 use expect_judge::{EventLine, NamedLines, RoundLine, event_in, refusal_in, round_in};
 use expect_text::Labels;
 use std::alloc::{AllocError, Global};
 use text_core::{Sink, first_line, first_word};
+use text_tag::with_bytes;
 
 /// What a script needs to be kept: the lines of its labels, the times of those that are events, and what its expectations look for: in
 /// groups, and the patterns of all, and of those whose span is not known.
@@ -165,19 +166,6 @@ fn ends_line(text: &[u8]) -> bool
         None => false,
         Some((last, _)) => *last == b'\n',
     }
-}
-
-// The bytes of one text and another, for clauses alone.
-struct Joined;
-
-impl<'a> Names<(&'a Tag, &'a [u8])> for Joined {
-    ghost numbers = { λ p. p.0.now.numbers ++ p.1.now };
-}
-
-fn with_bytes(before: &Tag, bytes: &[u8]) -> Tag
-    ensures { result.numbers ≡ before.now.numbers ++ bytes.now }
-{
-    Tag::of::<(&Tag, &[u8]), Joined>(&(before, bytes))
 }
 
 /// What was put, of which the lines that a script needs are kept, and the line that has not ended. `passed`, the text of the lines

@@ -9,6 +9,7 @@ use boxcar::tag::{Names, Tag};
 use std::alloc::Global;
 use std::marker::Model;
 use text_core::{Buffered, Sink, before, len_before};
+use text_tag::with_bytes;
 
 /// Why no more objects are put.
 #[derive(Clone, Copy, Debug, Drop, PartialEq, Eq)]
@@ -30,19 +31,6 @@ fn mark_of<S: Sink>(sink: &S) -> Tag
     ensures { result.numbers ≡ mark (S.contents sink.now) }
 {
     Tag::of::<S, Held>(sink)
-}
-
-// The bytes of one text and another, for clauses alone.
-struct Joined;
-
-impl<'a> Names<(&'a Tag, &'a [u8])> for Joined {
-    ghost numbers = { λ p. p.0.now.numbers ++ p.1.now };
-}
-
-fn with_bytes(before: &Tag, bytes: &[u8]) -> Tag
-    ensures { result.numbers ≡ before.now.numbers ++ bytes.now }
-{
-    Tag::of::<(&Tag, &[u8]), Joined>(&(before, bytes))
 }
 
 /// A `Sink` that takes the text of a session, and puts the object of each line to a sink below, and hands it on, as soon as the line

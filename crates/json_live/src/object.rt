@@ -8,8 +8,8 @@ ghost use Rattle.json_trace.specs.declared.values.ValueShape.TheVariants.{Text};
 ghost use Rattle.json_live.specs.Object.{IsBody, IsLiveObject, edge_body, horizon_body, kind_by, kind_of, refusal_body, truth};
 
 use json_trace::{
-    JsonField, ValueShape, add_field, add_fields, add_lead, add_quoted, add_reported, add_type,
-    after_word, word,
+    AT, JsonField, LEVEL, ValueShape, add_field, add_fields, add_lead, add_quoted, add_reported,
+    add_type, after_word, json_fields, word,
 };
 use text_core::{Counted, Sink};
 
@@ -28,29 +28,10 @@ pub enum SessionLine {
     Trace,
 }
 
-/// After `=`: the instant in microseconds.
-const HORIZON: &[JsonField] = &[JsonField {
-    name: "at",
-    shape: ValueShape::Number,
-}];
-
 /// After `!`.
-const REFUSAL: &[JsonField] = &[JsonField {
-    name: "script_line",
-    shape: ValueShape::Number,
-}];
-
-/// After `~`: the instant in microseconds, and the level from then on.
-const EDGE: &[JsonField] = &[
-    JsonField {
-        name: "at",
-        shape: ValueShape::Number,
-    },
-    JsonField {
-        name: "level",
-        shape: ValueShape::Number,
-    },
-];
+const REFUSAL: &[JsonField] = json_fields! {
+    "script_line" Number;
+};
 
 fn kind_by(first: &[u8], second: &[u8]) -> SessionLine
     ensures { result ≡ kind_by first.now second.now }
@@ -108,7 +89,7 @@ fn add_horizon<S: Sink>(out: &mut Counted<'_, S>, rest: &[u8])
     ensures { Adds out.old out.new (horizon_body rest.now) }
 {
     add_type(out, "horizon");
-    add_fields(out, HORIZON, rest);
+    add_fields(out, AT, rest);
     add_lead(out, "idle");
     add_idle(out, rest);
 }
@@ -129,7 +110,7 @@ fn add_edge<S: Sink>(out: &mut Counted<'_, S>, rest: &[u8])
     ensures { Adds out.old out.new (edge_body rest.now) }
 {
     add_type(out, "edge");
-    add_fields(out, EDGE, rest);
+    add_fields(out, LEVEL, rest);
 }
 
 // Adds what a line says.

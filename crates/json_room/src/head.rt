@@ -6,7 +6,9 @@ ghost use Rattle.text_core.specs.Adds.{Adds};
 ghost use Rattle.json_room.specs.Head.{device_body, edid_body, head_of, head_text, pin_body, plug_body, pulse_body, pull_body, said_by};
 ghost use Rattle.text_core.specs.Lines.{lines_of};
 
-use json_trace::{JsonField, ValueShape, add_fields, add_quoted, add_type, after_word, word};
+use json_trace::{
+    JsonField, LEVEL, add_fields, add_quoted, add_type, after_word, json_fields, word,
+};
 use text_core::{Counted, Sink, first_line};
 
 /// Which line of a topology or of a script it is.
@@ -23,66 +25,29 @@ pub enum RoomLine {
 }
 
 /// After `device`.
-const DEVICE: &[JsonField] = &[
-    JsonField {
-        name: "device",
-        shape: ValueShape::Text,
-    },
-    JsonField {
-        name: "kind",
-        shape: ValueShape::Text,
-    },
-    JsonField {
-        name: "ports",
-        shape: ValueShape::Number,
-    },
-];
+const DEVICE: &[JsonField] = json_fields! {
+    "device" Text;
+    "kind" Text;
+    "ports" Number;
+};
 
 /// After `plug`.
-const PLUG: &[JsonField] = &[
-    JsonField {
-        name: "device",
-        shape: ValueShape::Text,
-    },
-    JsonField {
-        name: "parent",
-        shape: ValueShape::Text,
-    },
-    JsonField {
-        name: "port",
-        shape: ValueShape::Number,
-    },
-];
+const PLUG: &[JsonField] = json_fields! {
+    "device" Text;
+    "parent" Text;
+    "port" Number;
+};
 
 /// After `edid`.
-const EDID: &[JsonField] = &[JsonField {
-    name: "edid",
-    shape: ValueShape::Text,
-}];
+const EDID: &[JsonField] = json_fields! {
+    "edid" Text;
+};
 
 /// After `pulse` and `pull`: microseconds.
-const LOW: &[JsonField] = &[
-    JsonField {
-        name: "at",
-        shape: ValueShape::Number,
-    },
-    JsonField {
-        name: "width",
-        shape: ValueShape::Number,
-    },
-];
-
-/// After `pin`: microseconds, and 0 or 1.
-const LEVEL: &[JsonField] = &[
-    JsonField {
-        name: "at",
-        shape: ValueShape::Number,
-    },
-    JsonField {
-        name: "level",
-        shape: ValueShape::Number,
-    },
-];
+const LOW: &[JsonField] = json_fields! {
+    "at" Number;
+    "width" Number;
+};
 
 fn head_of(word: &[u8]) -> RoomLine
     ensures { result ≡ head_of word.now }

@@ -14,40 +14,51 @@ pub struct JsonField {
     pub shape: ValueShape,
 }
 
-macro_rules! columns {
+/// Rows of fields: the name of each, and how a word is its value.
+#[macro_export]
+macro_rules! json_fields {
     ($($name:literal $shape:ident;)*) => {
-        &[$(JsonField { name: $name, shape: ValueShape::$shape },)*]
+        &[$($crate::JsonField {
+            name: $name,
+            shape: $crate::ValueShape::$shape,
+        },)*]
     };
 }
 
 /// `T port NAME P HEX`, `T event LINE ..`, `T end`: the instant in microseconds.
-pub const AT: &[JsonField] = columns! {
+pub const AT: &[JsonField] = json_fields! {
     "at" Number;
 };
 
+/// `T L`: the instant in microseconds, and the level from then on, 0 or 1.
+pub const LEVEL: &[JsonField] = json_fields! {
+    "at" Number;
+    "level" Number;
+};
+
 /// After `port`.
-pub const PORT: &[JsonField] = columns! {
+pub const PORT: &[JsonField] = json_fields! {
     "device" Text;
     "port" Number;
     "edid" Text;
 };
 
 /// After `event`.
-pub const EVENT: &[JsonField] = columns! {
+pub const EVENT: &[JsonField] = json_fields! {
     "script_line" Number;
     "verdict" Text;
     "cause" Text;
 };
 
 /// `START END ENDING`.
-pub const READING: &[JsonField] = columns! {
+pub const READING: &[JsonField] = json_fields! {
     "begin" Number;
     "close" Number;
     "ending" Text;
 };
 
 /// After `state`.
-pub const STATE: &[JsonField] = columns! {
+pub const STATE: &[JsonField] = json_fields! {
     "device" Text;
     "kind" Text;
     "logical_addresses" Units;

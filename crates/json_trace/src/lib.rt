@@ -8,7 +8,7 @@ mod object;
 mod parts;
 mod values;
 
-pub use columns::{JsonField, add_field, add_fields, add_lead};
+pub use columns::{AT, JsonField, LEVEL, add_field, add_fields, add_lead};
 pub use laws::{equal_texts_are_added, lines_are_read_back, lines_stand_first, one_line_an_object};
 pub use lines::{LineObjects, ObjectOfLine, PlainLines, write_each_object, write_objects};
 pub use object::{add_reported, add_type};

@@ -3,6 +3,7 @@ use Rattle.std.proofs.Common.{◌≡◌, ◌≢◌, ℕ, zero, suc, ◌+◌, ◌
 use Rattle.std.proofs.lemmas.Bool.{eq-eqb}
 use Rattle.std.proofs.lemmas.Bool.Decides.{nat_tests, eqb_tells}
 use Rattle.std.proofs.lemmas.Option.{slice_get_cases}
+use Rattle.text_core.specs.Phys as phys
 use Rattle.text_core.specs.declared.phys.Phys.{Phys}
 use Rattle.edid_tree.specs.declared.plug.Plug.{Plug}
 use Rattle.edid_tree.specs.Node.{Node}
@@ -50,7 +51,7 @@ upper a b h = omega arith
 lower : (a b : ℕ) → b ≤ 15 → (a * 16 + b) % 16 ≡ b
 lower a b h = omega arith
 
-nibbles_back : (a b c d : ℕ) → b ≤ 15 → d ≤ 15 → nibbles (topo.nibbles a b c d) ≡ a ∷ b ∷ c ∷ d ∷ []
+nibbles_back : (a b c d : ℕ) → b ≤ 15 → d ≤ 15 → nibbles (phys.nibbles a b c d) ≡ a ∷ b ∷ c ∷ d ∷ []
 nibbles_back a b c d h l = rw (upper a b h, lower a b h, upper c d l, lower c d l) refl
 
 -- so many nibbles, with zeros after a path

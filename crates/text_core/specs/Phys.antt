@@ -10,6 +10,10 @@ is_hex_digit b = (nat_le 48 b && nat_le b 57) || (nat_le 97 b && nat_le b 102)
 abbrev pub digit_value : ℕ → ℕ
 digit_value b = (if nat_lt b 97 then b - 48 else b - 87) % 16
 
+-- the address of four nibbles, the first uppermost
+abbrev pub nibbles : ℕ → ℕ → ℕ → ℕ → Phys
+nibbles a b c d = record { high = a * 16 + b; low = c * 16 + d }
+
 -- a physical address: four hex digits with dots between them
 abbrev pub has_dots : List ℕ → Bool
 has_dots text = (slice_index text 1 == 46) && (slice_index text 3 == 46) && (slice_index text 5 == 46)

@@ -1,6 +1,6 @@
 //! Physical addresses: the path of ports from the root to a device.
 ghost use Rattle.std.specs.Prelude.{◌≡◌, ◌<◌, length, IfSome, Some};
-ghost use Rattle.text_core.specs.Phys.{digit_value, has_digits, has_dots, is_hex_digit, phys_at, phys_of};
+ghost use Rattle.text_core.specs.Phys.{digit_value, has_digits, has_dots, is_hex_digit, nibbles, phys_at, phys_of};
 ghost use Rattle.text_core.specs.Piece.{phys_text};
 ghost use Rattle.text_core.specs.declared.phys.Phys.{Phys as PhysValue};
 
@@ -58,6 +58,20 @@ fn phys_at(text: &[u8]) -> Phys
 }
 
 impl Phys {
+    /// The address of four nibbles, the first uppermost.
+    pub fn of_nibbles(a: u8, b: u8, c: u8, d: u8) -> Phys
+        requires a { a < 16 }
+        requires b { b < 16 }
+        requires c { c < 16 }
+        requires d { d < 16 }
+        ensures { result ≡ nibbles a b c d }
+    {
+        Phys {
+            high: a * 16 + b,
+            low: c * 16 + d,
+        }
+    }
+
     /// The address as it stands in a text.
     pub fn text(self) -> [u8; 7]
         ensures { result ≡ phys_text self }
