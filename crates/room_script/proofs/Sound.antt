@@ -35,7 +35,7 @@ use Rattle.room_script.specs.Lines.{AreFew, AreSound, IsEarly, LinesKeepSound, N
 use Rattle.room_script.proofs.Adding.{few_pulses, none_while_low}
 use Rattle.text_core.specs.declared.at.AtWord.{AtWord}
 use Rattle.room_script.specs.declared.script.ScriptCause.{ScriptCause}
-use Rattle.room_script.specs.Script.{Course, Notes, within_limit, time_of, last_time, last_end, notes_with_event, plug_read, plug_words, unplug_read, unplug_words, key_read, key_words, act_read, hold_words, drop_words, send_read, frame_event, event_words, unless_fault, pulse_refusal, notes_with_pulse, pulse_read, pulse_words, touches, notes_with_pull, pull_read, pull_words, is_before, level_of, pin_falls, pin_rises, pin_stays_high, pin_stays_low, notes_with_level, pin_read, pin_words, pulses_ended, end_read, end_words, other_words, course_at_end, no_notes, IsFrameOf, IsSendRead, IsEventRead, IsWordsRead, IsLineRead, IsSchedule, AreFramedEvents, IsNoWider, MayFall, IsScript, Onward, AreLinesRead, ScriptsAreSound}
+use Rattle.room_script.specs.Script.{Course, Notes, within_limit, time_of, last_time, last_end, notes_with_event, plug_read, plug_words, unplug_read, unplug_words, key_read, key_words, act_read, hold_words, drop_words, send_read, frame_event, event_words, unless_fault, pulse_refusal, notes_with_pulse, span_read, pulse_read, pulse_words, touches, notes_with_pull, pull_read, pull_words, is_before, level_of, pin_falls, pin_rises, pin_stays_high, pin_stays_low, notes_with_level, pin_read, pin_words, pulses_ended, end_read, end_words, other_words, course_at_end, no_notes, IsFrameOf, IsSendRead, IsEventRead, IsWordsRead, IsLineRead, IsSchedule, AreFramedEvents, IsNoWider, MayFall, IsScript, Onward, AreLinesRead, ScriptsAreSound}
 
 -- ---- times
 
@@ -401,7 +401,7 @@ pulsed-keeps count notes waiting pulse s within =
     apart : pulse_refusal notes.pin (last_end notes.pulses) pulse ≡ None → IsApart (last_end notes.pulses) pulse
     apart e = pulse-apart (last_end notes.pulses) pulse (by notes.pin e (high e))
 
-pulse_read-keeps : (count : ℕ) (notes : Notes) (waiting : ℕ) (time width : Option ℕ) → AreSound count notes → ((t : ℕ) → time ≡ Some t → t ≤ latest_event) → Keeps count (pulse_read notes waiting time width)
+pulse_read-keeps : (count : ℕ) (notes : Notes) (waiting : ℕ) (time width : Option ℕ) → AreSound count notes → ((t : ℕ) → time ≡ Some t → t ≤ latest_event) → Keeps count (pulse_read notes waiting (span_read time width))
 pulse_read-keeps count notes waiting None width s limit = keeps_err count _ refl
 pulse_read-keeps count notes waiting (Some time) None s limit = keeps_err count _ refl
 pulse_read-keeps count notes waiting (Some time) (Some width) s limit = pulsed-keeps count notes waiting (record { from = time; to = time + min width 65535 }) s (limit time refl)
@@ -488,7 +488,7 @@ pin_words-keeps : (count : ℕ) (notes : Notes) (waiting many : ℕ) (words : Op
 pin_words-keeps count notes waiting many None s = keeps_err count _ refl
 pin_words-keeps count notes waiting many (Some words) s = pin_read-keeps count notes waiting (time_of words.0) (level_of words.1) s (within_limit-limit (number_of words.0))
 
-pull_read-keeps : (count : ℕ) (notes : Notes) (waiting : ℕ) (time width : Option ℕ) → AreSound count notes → ((t : ℕ) → time ≡ Some t → t ≤ latest_event) → Keeps count (pull_read notes waiting time width)
+pull_read-keeps : (count : ℕ) (notes : Notes) (waiting : ℕ) (time width : Option ℕ) → AreSound count notes → ((t : ℕ) → time ≡ Some t → t ≤ latest_event) → Keeps count (pull_read notes waiting (span_read time width))
 pull_read-keeps count notes waiting None width s limit = keeps_err count _ refl
 pull_read-keeps count notes waiting (Some time) None s limit = keeps_err count _ refl
 pull_read-keeps count notes waiting (Some time) (Some width) s limit = pulled-keeps count notes waiting time width s (limit time refl)
