@@ -386,6 +386,12 @@ Gives notes (Ok done) IsRead = IsRead (Ok notes)
 Gives notes (Err Memory) IsRead = Unit {0}
 Gives notes (Err (Fault fault)) IsRead = IsRead (Err fault)
 
+-- what is answered is this script or this fault
+abbrev pub GivesCourse : Result Script ScriptError → Result Course (At ScriptCause) → Type 0
+GivesCourse (Ok script) read = read ≡ Ok (course_of script)
+GivesCourse (Err errors.Memory) read = ⊥
+GivesCourse (Err (errors.At fault)) read = read ≡ Err fault
+
 -- what is answered is what the text says, unless memory ran out
 abbrev pub GivesScript : List Node → List ℕ → Result Script ScriptError → Type 0
 GivesScript tree text (Ok script) = IsScriptRead tree text (Ok (course_of script))

@@ -1,10 +1,11 @@
 //! The texts of scripts.
-ghost use Rattle.std.specs.Prelude.{◌≡◌, ◌+◌, ◌<◌, ◌≤◌, length, Result, Ok, Err, Some, None, IfOk, OnErr};
+ghost use Rattle.std.specs.Prelude.{◌≡◌, ◌+◌, ◌<◌, ◌≤◌, true, length, Result, Ok, Err, Some, None, IfOk, OnErr};
 ghost use Rattle.std.specs.Option.{option_copied};
 ghost use Rattle.line_wave.specs.Bounds.{latest_event};
+ghost use Rattle.line_wave.specs.Pulls.{are_timely};
 ghost use Rattle.text_core.specs.Words.{words_of, words_after, one_of, two_of, three_of};
 ghost use Rattle.room_script.specs.Header.{digits_text, header_names};
-ghost use Rattle.room_script.specs.Script.{no_notes, notes_of, course_of, time_of, last_time, last_end, notes_with_event, plug_words, unplug_words, key_words, act_read, hold_words, drop_words, event_words, send_read, frame_event, pulse_fault, pulse_refusal, notes_with_pulse, span_words, pulse_words, touches, notes_with_pull, pull_words, end_words, other_words, error_at, IsFrameOf, IsSendRead, IsEventRead, IsLineRead, GivesNotes, Gives, GivesScript, IsScript};
+ghost use Rattle.room_script.specs.Script.{no_notes, notes_of, course_of, time_of, last_time, last_end, notes_with_event, plug_words, unplug_words, key_words, act_read, hold_words, drop_words, event_words, send_read, frame_event, pulse_fault, pulse_refusal, notes_with_pulse, span_words, pulse_words, touches, notes_with_pull, pull_words, end_words, other_words, course_at_end, error_at, IsFrameOf, IsSendRead, IsEventRead, IsLineRead, GivesNotes, Gives, GivesCourse, GivesScript, IsScript};
 
 use crate::course::Script;
 use crate::fault::misfit;
@@ -147,6 +148,29 @@ impl ScriptDraft {
             pin: None,
             alloc,
         }
+    }
+
+    /// The script that these lines say, which end before the line of this number.
+    ///
+    /// # Errors
+    ///
+    /// `End` on that line where no `end` stands above it.
+    pub fn finish(self, line: u64) -> Result<Script, ScriptError>
+        requires { are_timely self.pulses.items ≡ true }
+        ensures { GivesCourse result (course_at_end (notes_of self) line self.end) }
+    {
+        let Some(end) = self.end else {
+            return Err(ScriptError::At(At {
+                line,
+                cause: ScriptCause::End,
+                word: 0,
+            }));
+        };
+        Ok(Script {
+            events: self.events,
+            pulses: self.pulses,
+            end,
+        })
     }
 }
 
@@ -739,16 +763,5 @@ pub fn parse_script(alloc: Global, topology: &Topology, text: &[u8]) -> Result<S
         rest = after;
         number += 1;
     }
-    let Some(end) = draft.end else {
-        return Err(ScriptError::At(At {
-            line: number,
-            cause: ScriptCause::End,
-            word: 0,
-        }));
-    };
-    Ok(Script {
-        events: draft.events,
-        pulses: draft.pulses,
-        end,
-    })
+    draft.finish(number)
 }
