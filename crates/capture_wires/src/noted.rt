@@ -123,54 +123,46 @@ fn next_note(notes: &[WireText<'_>], t: u64, next: u64) -> u64
 
 // ---- one instant
 
+// The line, who drives it, the pulses below them, and what is noted beside them.
+#[derive(Clone, Copy)]
+struct NotedWires<'a> {
+    line: &'a [Stretch],
+    drives: &'a [Drive],
+    pulses: &'a [Stretch],
+    notes: &'a [WireText<'a>],
+}
+
 // Adds the changes of the line and of the wires below it, the pulses' last.
-fn add_all_changes<S: Sink>(
-    out: &mut Counted<'_, S>,
-    t: u64,
-    line: &[Stretch],
-    drives: &[Drive],
-    pulses: &[Stretch],
-)
-    requires { length drives.now ≤ 90 }
-    ensures { Adds out.old out.new (changes_from t 0 (line.now ∷ (drives.now ++ pulses.now ∷ []))) }
+fn add_all_changes<S: Sink>(out: &mut Counted<'_, S>, t: u64, wires: &NotedWires<'_>)
+    requires { length wires.now.drives.now ≤ 90 }
+    ensures { Adds out.old out.new (changes_from t 0 (wires.now.line.now ∷ (wires.now.drives.now ++ wires.now.pulses.now ∷ []))) }
 {
-    add_change(out, t, 0, line);
-    add_changes(out, t, 1, drives);
-    add_change(out, t, drives.len() as u8 + 1, pulses);
+    add_change(out, t, 0, wires.line);
+    add_changes(out, t, 1, wires.drives);
+    add_change(out, t, wires.drives.len() as u8 + 1, wires.pulses);
 }
 
 // Adds an instant, those changes then, and what is noted.
-fn add_timed<S: Sink>(
-    out: &mut Counted<'_, S>,
-    t: u64,
-    line: &[Stretch],
-    drives: &[Drive],
-    pulses: &[Stretch],
-    notes: &[WireText<'_>],
-)
-    requires { length drives.now ≤ 90 }
-    ensures { Adds out.old out.new ((concat (codes "#" ∷ decimal t ∷ codes "\n" ∷ []) ++ changes_from t 0 (line.now ∷ (drives.now ++ pulses.now ∷ []))) ++ notes_at t (map noted notes.now)) }
+fn add_timed<S: Sink>(out: &mut Counted<'_, S>, t: u64, wires: &NotedWires<'_>)
+    requires { length wires.now.drives.now ≤ 90 }
+    ensures { Adds out.old out.new ((concat (codes "#" ∷ decimal t ∷ codes "\n" ∷ []) ++ changes_from t 0 (wires.now.line.now ∷ (wires.now.drives.now ++ wires.now.pulses.now ∷ []))) ++ notes_at t (map noted wires.now.notes.now)) }
 {
     add_time(out, t);
-    add_all_changes(out, t, line, drives, pulses);
-    add_notes_at(out, t, notes);
+    add_all_changes(out, t, wires);
+    add_notes_at(out, t, wires.notes);
 }
 
 // Adds an instant, where some wire changes then or something is noted.
 #[tactic(auto, using(text_core::proofs::Adding::nothing))]
-fn add_instant<S: Sink>(
-    out: &mut Counted<'_, S>,
-    t: u64,
-    line: &[Stretch],
-    drives: &[Drive],
-    pulses: &[Stretch],
-    notes: &[WireText<'_>],
-)
-    requires { length drives.now ≤ 90 }
-    ensures { Adds out.old out.new (noted_instant (line.now ∷ (drives.now ++ pulses.now ∷ [])) (map noted notes.now) t) }
+fn add_instant<S: Sink>(out: &mut Counted<'_, S>, t: u64, wires: &NotedWires<'_>)
+    requires { length wires.now.drives.now ≤ 90 }
+    ensures { Adds out.old out.new (noted_instant (wires.now.line.now ∷ (wires.now.drives.now ++ wires.now.pulses.now ∷ [])) (map noted wires.now.notes.now) t) }
 {
-    if turns(line, t) || (any_turns(drives, t) || turns(pulses, t)) || is_noted(t, notes) {
-        add_timed(out, t, line, drives, pulses, notes);
+    if turns(wires.line, t)
+        || (any_turns(wires.drives, t) || turns(wires.pulses, t))
+        || is_noted(t, wires.notes)
+    {
+        add_timed(out, t, wires);
     }
 }
 
@@ -197,7 +189,13 @@ pub fn add_noted_wires<S: Sink>(
     'instants: while t < to {
         left = not_over(left, t);
         let next = next_two(left);
-        add_instant(out, t, line, drives, next, notes);
+        let wires = NotedWires {
+            line,
+            drives,
+            pulses: next,
+            notes,
+        };
+        add_instant(out, t, &wires);
         let change = next_end(line, t, next_end_of(drives, t, next_end(next, t, to)));
         t = next_note(notes, t, change);
     }

@@ -1,6 +1,6 @@
 //! A device: who it is, and what it has to send.
-ghost use Rattle.std.specs.Prelude.{◌≡◌, ◌<◌, ◌≤◌, ◌+◌, ◌*◌, ◌==◌, ◌∷◌, [], length, false};
-ghost use Rattle.device_core.specs.State.{with_queued, speaks, holds, is_held, main_of, source};
+ghost use Rattle.std.specs.Prelude.{◌≡◌, ◌<◌, ◌≤◌, ◌==◌, [], length, false};
+ghost use Rattle.device_core.specs.State.{with_queued, speaks, holds, is_held, main_of, source, frame_of};
 ghost use Rattle.device_core.specs.Say.{say, say_all};
 
 use crate::free_time::FreeTime;
@@ -23,7 +23,7 @@ pub struct Queued {
 impl Default for Queued {
     fn default() -> Self {
         Queued {
-            frame: framed(Addr::new(0), Addr::new(0), &[]),
+            frame: frame_of(Addr::new(0), Addr::new(0), &[]),
             ready: 0,
         }
     }
@@ -81,10 +81,10 @@ impl<const Q: usize> Model for Device<Q> {
     } };
 }
 
-/// A frame of a header and up to fifteen bytes more.
-pub(crate) fn framed(from: Addr, to: Addr, rest: &[u8]) -> Frame
+/// A frame of a header block and the blocks after it, up to fifteen.
+pub fn frame_of(from: Addr, to: Addr, rest: &[u8]) -> Frame
     requires { length rest.now ≤ 15 }
-    ensures { result ≡ (from * 16 + to) ∷ rest.now }
+    ensures { result ≡ frame_of from to rest.now }
 {
     let mut bytes: ArrayVec<u8, 16> = ArrayVec::new();
     bytes.push(from.value() * 16 + to.value());
@@ -159,7 +159,7 @@ impl<const Q: usize> Device<Q> {
             return;
         }
         if self.queue.len() < Q {
-            let frame = framed(from, to, rest);
+            let frame = frame_of(from, to, rest);
             self.queue.push(Queued { frame, ready: at });
         } else {
             self.dropped = self.dropped.saturating_add(1);

@@ -10,7 +10,7 @@ mod outside;
 mod place;
 mod state;
 
-pub use device::{Device, Queued, SubmitError};
+pub use device::{Device, Queued, SubmitError, frame_of};
 pub use device_features::{HeardReport, Key, Port, Record, Volume, VolumeKey};
 pub use free_time::FreeTime;
 pub use keys::KeyError;

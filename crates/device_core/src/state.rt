@@ -3,7 +3,7 @@ ghost use Rattle.std.specs.Prelude.{◌≡◌, ◌≤◌, length};
 ghost use Rattle.device_core.specs.State.{addresses_held};
 ghost use Rattle.device_core.specs.Place.{front_of, ready_of, is_allocating, is_on_wire};
 
-use crate::device::{Device, Queued, framed};
+use crate::device::{Device, Queued, frame_of};
 use crate::free_time::FreeTime;
 use crate::place::{Place, name_copy};
 use arrayvec::ArrayVec;
@@ -94,7 +94,7 @@ impl<const Q: usize> Device<Q> {
         ensures { result ≡ front_of self.now }
     {
         match self.polled() {
-            Some(address) => Some(framed(address, address, &[])),
+            Some(address) => Some(frame_of(address, address, &[])),
             None => match self.queue.as_slice() {
                 [] => None,
                 [front, ..] => Some(front.frame.copy()),

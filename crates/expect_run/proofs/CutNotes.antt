@@ -26,7 +26,7 @@ use Rattle.text_core.specs.At.{at_word}
 use Rattle.text_core.specs.declared.at.AtWord.{AtWord}
 use Rattle.room_script.specs.declared.script.ScriptCause.{ScriptCause}
 use Rattle.room_script.specs.declared.script.ScriptCause.TheVariants.{Word, Width, Order, TooMany, End}
-use Rattle.room_script.specs.Script.{is_before as is_over, Notes, within_limit, time_of, last_time, last_end, notes_with_event, plug_read, plug_words, unplug_read, unplug_words, key_read, key_words, act_read, hold_words, drop_words, send_read, frame_event, event_words, unless_fault, pulse_refusal, pulse_read, pulse_words, touches, pull_read, pull_words, level_of, pin_falls, pin_stays_high, notes_with_level, pin_read, pin_words, pulses_ended, end_read, end_words, IsSendRead, IsEventRead, IsLineRead}
+use Rattle.room_script.specs.Script.{is_before as is_over, Notes, within_limit, time_of, last_time, last_end, notes_with_event, plug_read, plug_words, unplug_read, unplug_words, key_read, key_words, act_read, hold_words, drop_words, send_read, frame_event, event_words, unless_fault, pulse_refusal, span_read, pulse_read, pulse_words, touches, pull_read, pull_words, level_of, pin_falls, pin_stays_high, notes_with_level, pin_read, pin_words, pulses_ended, end_read, end_words, IsSendRead, IsEventRead, IsLineRead}
 use Rattle.expect_text.specs.Line.{is_before, is_sooner}
 use Rattle.expect_run.specs.Cuts.{is_early}
 
@@ -379,7 +379,7 @@ pulse_goes time notes next many (Some w) e = read (time_of w.0) (number_of w.1) 
     faulted None pulse e = by (nat_le most_pulses (length notes.pulses)) (is_some notes.end) pulse refl e
     faulted (Some fault) pulse e = cc
 
-    read : (from width : Option ℕ) → Ok next ≡ pulse_read notes (length notes.pulses) from width → Opens time notes next (pulse_read (cut_notes time notes) (length notes.pulses) from width)
+    read : (from width : Option ℕ) → Ok next ≡ pulse_read notes (length notes.pulses) (span_read from width) → Opens time notes next (pulse_read (cut_notes time notes) (length notes.pulses) (span_read from width))
     read None width e = cc
     read (Some from) None e = cc
     read (Some from) (Some width) e =
@@ -406,7 +406,7 @@ pull_goes time notes next many (Some w) e = read (time_of w.0) (number_of w.1) e
     by false false false true from width p e = cc
     by false false false false from width p e = opens time notes next (more from width notes) e refl refl p
 
-    read : (from width : Option ℕ) → Ok next ≡ pull_read notes (length notes.pulses) from width → Opens time notes next (pull_read (cut_notes time notes) (length notes.pulses) from width)
+    read : (from width : Option ℕ) → Ok next ≡ pull_read notes (length notes.pulses) (span_read from width) → Opens time notes next (pull_read (cut_notes time notes) (length notes.pulses) (span_read from width))
     read None width e = cc
     read (Some from) None e = cc
     read (Some from) (Some width) e =

@@ -1,5 +1,5 @@
 -- A script without labels and expectations has a line for each of the script's.
-use Rattle.std.proofs.Common.{◌≡◌, ℕ, ◌==◌, Bool, true, false, cond, codes, if◌then◌else◌, List, [], ◌∷◌, length, map, Some, None, Result, Ok, Err, refl, sym, ap, subst, arith}
+use Rattle.std.proofs.Common.{◌≡◌, ℕ, ◌==◌, Bool, true, false, cond, codes, if◌then◌else◌, List, [], ◌∷◌, length, map, Result, Ok, Err, IfOk, refl, sym, ap, subst, arith}
 use Rattle.std.specs.Str.{bytes_eq}
 use Rattle.std.specs.List.{onto_first}
 use Rattle.std.proofs.lemmas.List.Elements.{All-append, All-head, All-tail}
@@ -7,20 +7,20 @@ use Rattle.edid_tree.specs.Node.{Node}
 use Rattle.text_core.specs.Lines.{lines_of}
 use Rattle.text_core.specs.Words.{words_of, text_of}
 use Rattle.capture_core.proofs.Texts.{more_lack, none_lack}
-use Rattle.text_core.specs.At.{at_line, at_word}
-use Rattle.room_script.specs.Script.{Course, Notes, AreLinesRead, Gives, GivesScript, IsLineRead, IsScriptRead, course_at_end, error_at, no_notes}
+use Rattle.text_core.specs.At.{at_line}
+use Rattle.room_script.specs.Script.{Course, Notes, AreLinesRead, Gives, GivesCourse, GivesScript, IsLineRead, IsScript, IsScriptRead, course_at_end, course_of, error_at, no_notes}
 use Rattle.text_core.specs.declared.at.At.{At}
 use Rattle.room_script.specs.declared.script.ScriptCause.{ScriptCause}
 use Rattle.text_core.specs.declared.at.AtWord.{AtWord}
 use Rattle.capture_core.specs.Texts.{Lacks}
-use Rattle.room_script.specs.declared.script.ScriptCause.TheVariants.{End}
-use Rattle.room_script.specs.declared.script.ScriptError.TheVariants as errors
+use Rattle.room_script.specs.declared.course.Script.{Script}
+use Rattle.room_script.specs.declared.script.ScriptError.{ScriptError}
 use Rattle.room_script.specs.declared.script.ScriptLineError.{ScriptLineError}
 use Rattle.room_script.specs.declared.script.ScriptLineError.TheVariants.{Fault, Memory}
 use Rattle.room_script.specs.Lines.{AreFew, AreSound}
 use Rattle.room_script.proofs.Adding.{few_pulses}
 use Rattle.room_script.proofs.Reading.{last_line}
-use Rattle.room_script.proofs.Sound.{sound_start}
+use Rattle.room_script.proofs.Sound.{answer_given, sound_start}
 use Rattle.expect_text.specs.Line.{after_name, is_expectation, plain_part, plain_script, unlabelled_words}
 use Rattle.expect_run.proofs.EachLine.{Lacking, lines_each}
 
@@ -99,15 +99,8 @@ line_refused tree script lines after line text number waiting notes now (Fault f
     leads (Err (at_line number fault)) (subst (λ ls. AreLinesRead tree (map plain_part ls) number notes (Err (at_line number fault))) (sym split)
     (Err fault, read_again tree line text number waiting notes (Err fault) part wait gives, refl))
 
--- after the last line, where no end stands above
-pub end_lacks : (tree : List Node) (script : List ℕ) (lines : List (List ℕ)) (number : ℕ) (notes : Notes) → Leads tree script lines number notes → lines ≡ [] → notes.end ≡ None
-    → GivesScript tree (plain_script script) (Err (errors.At (at_line number (at_word 0 End))))
-end_lacks tree script lines number notes leads none end =
-    leads (Err (at_line number (at_word 0 End))) (subst (λ ls. AreLinesRead tree (map plain_part ls) number notes (Err (at_line number (at_word 0 End)))) (sym none)
-    (sym (ap (course_at_end notes number) end)))
-
--- and where one does
-pub course_read : (tree : List Node) (script : List ℕ) (lines : List (List ℕ)) (number : ℕ) (notes : Notes) (time : ℕ) → Leads tree script lines number notes → lines ≡ [] → notes.end ≡ Some time
-    → IsScriptRead tree (plain_script script) (Ok (record { events = notes.events; pulses = notes.pulses; end = time }))
-course_read tree script lines number notes time leads none end =
-    leads (Ok (record { events = notes.events; pulses = notes.pulses; end = time })) (last_line tree (map plain_part lines) number notes time (ap (map plain_part) none) end)
+-- after the last line
+pub last_read : (tree : List Node) (script : List ℕ) (lines : List (List ℕ)) (number : ℕ) (notes : Notes) (answer : Result Script ScriptError) → Leads tree script lines number notes → lines ≡ []
+    → GivesCourse answer (course_at_end notes number notes.end) → GivesScript tree (plain_script script) answer × IfOk answer (λ read. IsScript (length tree) (course_of read))
+last_read tree script lines number notes answer leads none gives =
+    answer_given tree (plain_script script) _ answer (leads _ (last_line tree (map plain_part lines) number notes (ap (map plain_part) none))) gives

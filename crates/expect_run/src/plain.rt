@@ -5,9 +5,9 @@ ghost use Rattle.expect_text.specs.Line.{plain_script};
 
 use expect_text::plain_part;
 use room_run::ScriptSource;
-use room_script::{Script, ScriptCause, ScriptDraft, ScriptError, Topology, error_at, take_line};
+use room_script::{Script, ScriptDraft, ScriptError, Topology, error_at, take_line};
 use std::alloc::Global;
-use text_core::{At, first_line};
+use text_core::first_line;
 
 /// The plain script of a script, read line by line.
 #[derive(Clone, Copy)]
@@ -24,7 +24,7 @@ impl ScriptSource for PlainScriptLines<'_> {
 }
 
 // Reads a script as `parse_script` reads its plain script.
-#[tactic(auto, using(crate::proofs::PlainRead::line_refused, crate::proofs::PlainRead::end_lacks, crate::proofs::PlainRead::course_read))]
+#[tactic(auto, using(crate::proofs::PlainRead::line_refused))]
 fn parse_plain(alloc: Global, topology: &Topology, script: &[u8]) -> Result<Script, ScriptError>
     ensures gives { GivesScript topology.now.tree (plain_script script.now) result }
     ensures script { IfOk result (λ read. IsScript (length topology.now.tree) (course_of read)) }
@@ -41,16 +41,5 @@ fn parse_plain(alloc: Global, topology: &Topology, script: &[u8]) -> Result<Scri
         rest = after;
         number += 1;
     }
-    let Some(end) = draft.end else {
-        return Err(ScriptError::At(At {
-            line: number,
-            cause: ScriptCause::End,
-            word: 0,
-        }));
-    };
-    Ok(Script {
-        events: draft.events,
-        pulses: draft.pulses,
-        end,
-    })
+    draft.finish(number)
 }

@@ -27,7 +27,7 @@ use Rattle.text_core.specs.declared.at.AtWord.{AtWord}
 use Rattle.room_script.specs.declared.script.ScriptCause.{ScriptCause}
 use Rattle.room_script.specs.declared.script.ScriptCause.TheVariants as causes
 use Rattle.room_script.specs.declared.script.TimedEvent.{TimedEvent}
-use Rattle.room_script.specs.Script.{AreLinesRead, Course, IsEventRead, IsLineRead, IsScriptRead, IsSendRead, IsWordsRead, Notes, Onward, end_read, end_words, course_at_end, event_words, key_read, key_words, act_read, hold_words, drop_words, last_end, last_time, no_notes, other_words, plug_read, plug_words, pulse_read, pulse_words, pull_read, pull_words, pulse_refusal, touches, is_before, level_of, notes_with_level, pin_read, pin_words, pulses_ended, notes_with_event, frame_event, send_read, time_of, unless_fault, unplug_read, unplug_words}
+use Rattle.room_script.specs.Script.{AreLinesRead, Course, IsEventRead, IsLineRead, IsScriptRead, IsSendRead, IsWordsRead, Notes, Onward, end_read, end_words, course_at_end, event_words, key_read, key_words, act_read, hold_words, drop_words, last_end, last_time, no_notes, other_words, plug_read, plug_words, span_read, pulse_read, pulse_words, pull_read, pull_words, pulse_refusal, touches, is_before, level_of, notes_with_level, pin_read, pin_words, pulses_ended, notes_with_event, frame_event, send_read, time_of, unless_fault, unplug_read, unplug_words}
 use Rattle.line_wave.specs.Bounds.{most_pulses, most_pulls, widest_pull}
 
 -- no event stands below this line
@@ -149,7 +149,7 @@ fits_pulsed (Some fault) notes line pulse h = tt
 fits_pulsed None notes line pulse h =
     fits_if line (nat_le most_pulses (length notes.pulses)) (Err (at_word 0 causes.TooMany)) _ tt (fits_if line (is_some notes.end) (Err (at_word 0 causes.End)) (Ok (record notes { pulses = notes.pulses ++ pulse ∷ [] })) tt h)
 
-fits_pulse : (notes : Notes) (line : ℕ) (time width : Option ℕ) → AreBy line notes.events → Fits line (pulse_read notes (length notes.pulses) time width)
+fits_pulse : (notes : Notes) (line : ℕ) (time width : Option ℕ) → AreBy line notes.events → Fits line (pulse_read notes (length notes.pulses) (span_read time width))
 unfolding Fits
 fits_pulse notes line None width h = tt
 fits_pulse notes line (Some time) None h = tt
@@ -162,7 +162,7 @@ unfolding Fits
 fits_pulse_words notes line many None h = tt
 fits_pulse_words notes line many (Some words) h = fits_pulse notes line (time_of words.0) (number_of words.1) h
 
-fits_pull : (notes : Notes) (line : ℕ) (time width : Option ℕ) → AreBy line notes.events → Fits line (pull_read notes (length notes.pulses) time width)
+fits_pull : (notes : Notes) (line : ℕ) (time width : Option ℕ) → AreBy line notes.events → Fits line (pull_read notes (length notes.pulses) (span_read time width))
 unfolding Fits
 fits_pull notes line None width h = tt
 fits_pull notes line (Some time) None h = tt

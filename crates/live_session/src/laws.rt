@@ -43,36 +43,13 @@ pub fn sessions_report_traces_of()
 
 /// The edges that a session has told, where edges are on and the pin is high after each of its lines, are the first of the edge file of
 /// every run that may still come of the lines that were taken: all that lie before the horizon, and no other. So it is from any line
-/// on, of the edges from the horizon before it.
-pub fn edges_are_certain()
-    ensures { EdgesAreCertain }
-{
-    rounds_are_lone();
-    runs_are_waves();
-    runs_are_in_order();
-    rounds_take_pulses();
-    one_run();
-    runs_have_texts();
-    edges_are_the_line();
-}
-
-/// Once the script has ended they are all that the edge file of its run has from there on.
-pub fn edges_are_told()
-    ensures { EdgesAreTold }
-{
-    rounds_are_lone();
-    runs_are_waves();
-    runs_are_in_order();
-    rounds_take_pulses();
-    one_run();
-    runs_have_texts();
-    edges_are_the_line();
-}
-
+/// on, of the edges from the horizon before it. Once the script has ended they are all that the edge file of its run has from there on.
 /// The edges that a line tells, whether the pin is high or low after it, are those of the edge file of every run that may still come
 /// from the horizon before the line to the one after it.
-pub fn line_edges_are_certain()
-    ensures { LineEdgesAreCertain }
+pub fn edges_are_certain()
+    ensures certain { EdgesAreCertain }
+    ensures told { EdgesAreTold }
+    ensures line { LineEdgesAreCertain }
 {
     rounds_are_lone();
     runs_are_waves();

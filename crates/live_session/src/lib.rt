@@ -13,7 +13,7 @@ mod turns;
 
 pub use answer::{Refusal, RefusalCause};
 pub use laws::{
-    edges_are_certain, edges_are_told, edges_stay, line_edges_are_certain, pinned_edges_stay,
-    sessions_report_fronts, sessions_report_traces, sessions_report_traces_of, steps_have_one_text,
+    edges_are_certain, edges_stay, pinned_edges_stay, sessions_report_fronts,
+    sessions_report_traces, sessions_report_traces_of, steps_have_one_text,
 };
 pub use live::{Answered, Live, LiveError, Step};

@@ -38,11 +38,7 @@ impl<'a, 'e, S: Sink> SessionText<'a, 'e, S> {
         ensures { result ≡ self.entry.trace.text }
     {
         let SessionText { trace, span: _span } = self;
-        let TraceText {
-            text,
-            passed: _passed,
-        } = trace;
-        text
+        trace.into_text()
     }
 }
 

@@ -1,12 +1,11 @@
 //! Names in the header block of a frame that is handed in.
-ghost use Rattle.std.specs.Prelude.{◌≡◌, ◌<◌, ◌≤◌, [], ◌∷◌, length, IfSome};
-ghost use Rattle.device_core.specs.State.{addresses_held, frame_of};
+ghost use Rattle.std.specs.Prelude.{◌≡◌, ◌<◌, [], ◌∷◌, length, IfSome};
+ghost use Rattle.device_core.specs.State.{addresses_held};
 ghost use Rattle.room_event.specs.Events.{AreNamed};
 ghost use Rattle.room_net.specs.Apply.{first_of, address_for, named_frame, nameless};
 
-use arrayvec::ArrayVec;
-use device_core::{Device, SubmitError};
-use line_frames::{Addr, Frame, FrameError};
+use device_core::{Device, SubmitError, frame_of};
+use line_frames::{Addr, Frame};
 use room_event::HeaderNames;
 
 // The first address below 15 of two units.
@@ -40,21 +39,6 @@ fn address_for(devices: &[Device<16>], name: Option<usize>, own: Addr) -> Option
     }
 }
 
-// A frame of a header block and the blocks after it.
-fn framed(from: Addr, to: Addr, rest: &[u8]) -> Frame
-    requires { length rest.now ≤ 15 }
-    ensures { result ≡ frame_of from to rest.now }
-{
-    let mut bytes: ArrayVec<u8, 16> = ArrayVec::new();
-    bytes.push(from.value() * 16 + to.value());
-    let _ = bytes.try_extend_from_slice(rest);
-    match Frame::new(&bytes) {
-        Ok(frame) => frame,
-        Err(FrameError::Empty) => unreachable!(),
-        Err(FrameError::TooLong) => unreachable!(),
-    }
-}
-
 /// The frame with addresses in its header block for the names. There is none where a device of a name holds no address.
 pub(crate) fn named_frame(
     devices: &[Device<16>],
@@ -71,7 +55,7 @@ pub(crate) fn named_frame(
         return None;
     };
     let (_header, rest) = frame.bytes().split_at(1);
-    Some(framed(from, to, rest))
+    Some(frame_of(from, to, rest))
 }
 
 /// Why a device can't send a frame with a name that stands for no address.

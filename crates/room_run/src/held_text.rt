@@ -40,11 +40,7 @@ impl<'a, 'e, S: Sink> HeldText<'a, 'e, S> {
         ensures { result ≡ self.entry.trace.text }
     {
         let HeldText { trace } = self;
-        let TraceText {
-            text,
-            passed: _passed,
-        } = trace;
-        text
+        trace.into_text()
     }
 }
 

@@ -48,6 +48,17 @@ impl<'a, 'e, S: Sink> TraceText<'a, 'e, S> {
             passed: Passed { edid },
         }
     }
+
+    /// The text again.
+    pub fn into_text(self) -> Counted<'a, S>
+        ensures { result ≡ self.entry.text }
+    {
+        let TraceText {
+            text,
+            passed: _passed,
+        } = self;
+        text
+    }
 }
 
 impl<'a, 'e, S: Sink> Reporter for TraceText<'a, 'e, S> {
@@ -107,10 +118,7 @@ pub fn write_trace<S: Sink, W: Wire>(
         passed: Passed { edid },
     };
     let totals = run_turns(net, events, end, &mut trace);
-    let TraceText {
-        mut text,
-        passed: _passed,
-    } = trace;
+    let mut text = trace.into_text();
     add_last_lines(&mut text, net.devices(), end);
     let written = text.written();
     // No effect at run time. The proof reads what `out` holds from the sink that comes back.

@@ -27,7 +27,7 @@ use Rattle.text_core.specs.At.{at_word}
 use Rattle.text_core.specs.declared.at.AtWord.{AtWord}
 use Rattle.room_script.specs.declared.script.ScriptCause.{ScriptCause}
 use Rattle.room_script.specs.declared.script.ScriptCause.TheVariants.{Word, Width, Order, TooMany, End}
-use Rattle.room_script.specs.Script.{Notes, time_of, last_time, last_end, notes_with_event, plug_read, plug_words, unplug_read, unplug_words, key_read, key_words, act_read, hold_words, drop_words, send_read, frame_event, event_words, unless_fault, pulse_refusal, pulse_read, pulse_words, touches, notes_with_pull, pull_read, pull_words, is_before, level_of, pin_falls, pin_rises, pin_stays_high, pin_stays_low, notes_with_level, pin_read, pin_words, pulses_ended, end_read, end_words, other_words, IsSendRead, IsEventRead, IsWordsRead, IsLineRead}
+use Rattle.room_script.specs.Script.{Notes, time_of, last_time, last_end, notes_with_event, plug_read, plug_words, unplug_read, unplug_words, key_read, key_words, act_read, hold_words, drop_words, send_read, frame_event, event_words, unless_fault, pulse_refusal, span_read, pulse_read, pulse_words, touches, notes_with_pull, pull_read, pull_words, is_before, level_of, pin_falls, pin_rises, pin_stays_high, pin_stays_low, notes_with_level, pin_read, pin_words, pulses_ended, end_read, end_words, other_words, IsSendRead, IsEventRead, IsWordsRead, IsLineRead}
 use Rattle.room_script.specs.Lines.{AreFew, IsMore, LinesAdd, LinesAreOfScripts, LinesKeepFew, pulls_held}
 use Rattle.line_wave.specs.Bounds.{latest_event, most_pulses, most_pulls, widest_pull}
 
@@ -242,7 +242,7 @@ none_while_low (Some from) before pulse h = by (stretch_fault None pulse) h
     by None k = cc
     by (Some fault) k = cc
 
-pulse_read-adds : (waiting : ℕ) (notes : Notes) (time width : Option ℕ) → Adds waiting notes (pulse_read notes waiting time width)
+pulse_read-adds : (waiting : ℕ) (notes : Notes) (time width : Option ℕ) → Adds waiting notes (pulse_read notes waiting (span_read time width))
 pulse_read-adds waiting notes None width = adds_err waiting notes _ refl
 pulse_read-adds waiting notes (Some time) None = adds_err waiting notes _ refl
 pulse_read-adds waiting notes (Some time) (Some width) =
@@ -295,7 +295,7 @@ pin_words-adds : (waiting : ℕ) (notes : Notes) (many : ℕ) (words : Option (L
 pin_words-adds waiting notes many None = adds_err waiting notes _ refl
 pin_words-adds waiting notes many (Some words) = pin_read-adds waiting notes (time_of words.0) (level_of words.1)
 
-pull_read-adds : (waiting : ℕ) (notes : Notes) (time width : Option ℕ) → Adds waiting notes (pull_read notes waiting time width)
+pull_read-adds : (waiting : ℕ) (notes : Notes) (time width : Option ℕ) → Adds waiting notes (pull_read notes waiting (span_read time width))
 pull_read-adds waiting notes None width = adds_err waiting notes _ refl
 pull_read-adds waiting notes (Some time) None = adds_err waiting notes _ refl
 pull_read-adds waiting notes (Some time) (Some width) = pulled-adds waiting notes time width
@@ -369,7 +369,7 @@ unless_again None notes next waiting pulse few h = by_room (nat_le most_pulses w
     by_room true k = cc
     by_room false k = by_end (is_some notes.end) k
 
-pulse_again : (notes next : Notes) (waiting : ℕ) (time width : Option ℕ) → length next.pulses ≤ most_pulses → Ok next ≡ pulse_read notes waiting time width → Ok next ≡ pulse_read notes (length notes.pulses) time width
+pulse_again : (notes next : Notes) (waiting : ℕ) (time width : Option ℕ) → length next.pulses ≤ most_pulses → Ok next ≡ pulse_read notes waiting (span_read time width) → Ok next ≡ pulse_read notes (length notes.pulses) (span_read time width)
 pulse_again notes next waiting None width few h = h
 pulse_again notes next waiting (Some time) None few h = h
 pulse_again notes next waiting (Some time) (Some width) few h =
@@ -413,7 +413,7 @@ pull_again notes next waiting time width few h = by_width (width == 0 || nat_lt 
     by_width true k = cc
     by_width false k = by_time (is_some notes.pin || touches (last_end notes.pulses) time) k
 
-pull_read_again : (notes next : Notes) (waiting : ℕ) (time width : Option ℕ) → length next.pulses ≤ most_pulses → Ok next ≡ pull_read notes waiting time width → Ok next ≡ pull_read notes (length notes.pulses) time width
+pull_read_again : (notes next : Notes) (waiting : ℕ) (time width : Option ℕ) → length next.pulses ≤ most_pulses → Ok next ≡ pull_read notes waiting (span_read time width) → Ok next ≡ pull_read notes (length notes.pulses) (span_read time width)
 pull_read_again notes next waiting None width few h = h
 pull_read_again notes next waiting (Some time) None few h = h
 pull_read_again notes next waiting (Some time) (Some width) few h = pull_again notes next waiting time width few h

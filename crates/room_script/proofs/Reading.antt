@@ -67,8 +67,7 @@ line_read tree texts after text line notes next read split first rest =
 
 -- after the last line
 pub last_line : LinesEnd
-last_line tree texts line notes time none end =
-    let course : Course = record { events = notes.events; pulses = notes.pulses; end = time } in
-    let read : Ok course ≡ course_at_end notes line notes.end = sym (ap (course_at_end notes line) end) in
-    let P : List (List ℕ) → Type 0 = λ t. AreLinesRead tree t line notes (Ok course) in
-    subst P (sym none) read
+last_line tree texts line notes none =
+    let read = course_at_end notes line notes.end in
+    let P : List (List ℕ) → Type 0 = λ t. AreLinesRead tree t line notes read in
+    subst P (sym none) refl

@@ -31,11 +31,12 @@ use Rattle.room_event.specs.declared.event.Event.{Event}
 use Rattle.room_event.specs.declared.event.Event.TheVariants.{Plug, Unplug, Key, Send, SendNamed, Outside}
 use Rattle.room_event.specs.declared.event.HeaderNames.{HeaderNames}
 use Rattle.room_script.specs.declared.script.TimedEvent.{TimedEvent}
-use Rattle.room_script.specs.Lines.{AreFew, AreSound, IsEarly, LinesKeepSound, NoneAreSound, SoundAreTimely}
+use Rattle.room_script.specs.Lines.{AnswersAreGiven, AreFew, AreSound, IsEarly, LinesKeepSound, NoneAreSound, SoundAreTimely}
 use Rattle.room_script.proofs.Adding.{few_pulses, none_while_low}
 use Rattle.text_core.specs.declared.at.AtWord.{AtWord}
 use Rattle.room_script.specs.declared.script.ScriptCause.{ScriptCause}
-use Rattle.room_script.specs.Script.{Course, Notes, within_limit, time_of, last_time, last_end, notes_with_event, plug_read, plug_words, unplug_read, unplug_words, key_read, key_words, act_read, hold_words, drop_words, send_read, frame_event, event_words, unless_fault, pulse_refusal, notes_with_pulse, pulse_read, pulse_words, touches, notes_with_pull, pull_read, pull_words, is_before, level_of, pin_falls, pin_rises, pin_stays_high, pin_stays_low, notes_with_level, pin_read, pin_words, pulses_ended, end_read, end_words, other_words, course_at_end, no_notes, IsFrameOf, IsSendRead, IsEventRead, IsWordsRead, IsLineRead, IsSchedule, AreFramedEvents, IsNoWider, MayFall, IsScript, Onward, AreLinesRead, ScriptsAreSound}
+use Rattle.room_script.specs.declared.script.ScriptError.TheVariants as errors
+use Rattle.room_script.specs.Script.{Course, Notes, within_limit, time_of, last_time, last_end, notes_with_event, plug_read, plug_words, unplug_read, unplug_words, key_read, key_words, act_read, hold_words, drop_words, send_read, frame_event, event_words, unless_fault, pulse_refusal, notes_with_pulse, span_read, pulse_read, pulse_words, touches, notes_with_pull, pull_read, pull_words, is_before, level_of, pin_falls, pin_rises, pin_stays_high, pin_stays_low, notes_with_level, pin_read, pin_words, pulses_ended, end_read, end_words, other_words, course_at_end, course_of, no_notes, IsFrameOf, IsSendRead, IsEventRead, IsWordsRead, IsLineRead, IsSchedule, AreFramedEvents, IsNoWider, MayFall, IsScript, Onward, AreLinesRead, IsScriptRead, ScriptsAreSound}
 
 -- ---- times
 
@@ -401,7 +402,7 @@ pulsed-keeps count notes waiting pulse s within =
     apart : pulse_refusal notes.pin (last_end notes.pulses) pulse ≡ None → IsApart (last_end notes.pulses) pulse
     apart e = pulse-apart (last_end notes.pulses) pulse (by notes.pin e (high e))
 
-pulse_read-keeps : (count : ℕ) (notes : Notes) (waiting : ℕ) (time width : Option ℕ) → AreSound count notes → ((t : ℕ) → time ≡ Some t → t ≤ latest_event) → Keeps count (pulse_read notes waiting time width)
+pulse_read-keeps : (count : ℕ) (notes : Notes) (waiting : ℕ) (time width : Option ℕ) → AreSound count notes → ((t : ℕ) → time ≡ Some t → t ≤ latest_event) → Keeps count (pulse_read notes waiting (span_read time width))
 pulse_read-keeps count notes waiting None width s limit = keeps_err count _ refl
 pulse_read-keeps count notes waiting (Some time) None s limit = keeps_err count _ refl
 pulse_read-keeps count notes waiting (Some time) (Some width) s limit = pulsed-keeps count notes waiting (record { from = time; to = time + min width 65535 }) s (limit time refl)
@@ -488,7 +489,7 @@ pin_words-keeps : (count : ℕ) (notes : Notes) (waiting many : ℕ) (words : Op
 pin_words-keeps count notes waiting many None s = keeps_err count _ refl
 pin_words-keeps count notes waiting many (Some words) s = pin_read-keeps count notes waiting (time_of words.0) (level_of words.1) s (within_limit-limit (number_of words.0))
 
-pull_read-keeps : (count : ℕ) (notes : Notes) (waiting : ℕ) (time width : Option ℕ) → AreSound count notes → ((t : ℕ) → time ≡ Some t → t ≤ latest_event) → Keeps count (pull_read notes waiting time width)
+pull_read-keeps : (count : ℕ) (notes : Notes) (waiting : ℕ) (time width : Option ℕ) → AreSound count notes → ((t : ℕ) → time ≡ Some t → t ≤ latest_event) → Keeps count (pull_read notes waiting (span_read time width))
 pull_read-keeps count notes waiting None width s limit = keeps_err count _ refl
 pull_read-keeps count notes waiting (Some time) None s limit = keeps_err count _ refl
 pull_read-keeps count notes waiting (Some time) (Some width) s limit = pulled-keeps count notes waiting time width s (limit time refl)
@@ -594,3 +595,8 @@ lines-sound tree (text ∷ texts) line notes course s few h = step h.0 h.1 h.2 (
 
 pub scripts_are_sound : ScriptsAreSound
 scripts_are_sound tree text course h = lines-sound tree (lines_of text) 1 no_notes course (sound_start (length tree)) (omega arith) h
+
+pub answer_given : AnswersAreGiven
+answer_given tree text read (Ok script) is gives = let of = subst (IsScriptRead tree text) gives is in (of, scripts_are_sound tree text (course_of script) of)
+answer_given tree text read (Err errors.Memory) is gives = (tt, tt)
+answer_given tree text read (Err (errors.At fault)) is gives = (subst (IsScriptRead tree text) gives is, tt)

@@ -1,5 +1,5 @@
 -- What holds of the notes of a script line by line.
-use Rattle.std.specs.Prelude.{◌≡◌, ℕ, ◌+◌, ◌≤◌, true, List, [], ◌∷◌, ◌++◌, length, max, Option, Some, None, Result, Ok, All}
+use Rattle.std.specs.Prelude.{◌≡◌, ℕ, ◌+◌, ◌≤◌, true, List, [], ◌∷◌, ◌++◌, length, max, Option, Some, None, Result, Ok, IfOk, All}
 use Rattle.line_wave.specs.declared.Stretch.{Stretch}
 use Rattle.line_wave.specs.Line.{IsWave}
 use Rattle.line_wave.specs.Pulls.{are_timely}
@@ -8,7 +8,9 @@ use Rattle.edid_tree.specs.Node.{Node}
 use Rattle.room_script.specs.declared.script.TimedEvent.{TimedEvent}
 use Rattle.text_core.specs.declared.at.At.{At}
 use Rattle.room_script.specs.declared.script.ScriptCause.{ScriptCause}
-use Rattle.room_script.specs.Script.{Course, Notes, last_time, no_notes, AreFramedEvents, AreLinesRead, IsLineRead, IsNoWider, IsSchedule, MayFall}
+use Rattle.room_script.specs.declared.course.Script.{Script}
+use Rattle.room_script.specs.declared.script.ScriptError.{ScriptError}
+use Rattle.room_script.specs.Script.{Course, Notes, course_at_end, course_of, last_time, no_notes, AreFramedEvents, AreLinesRead, GivesCourse, GivesScript, IsLineRead, IsNoWider, IsSchedule, IsScript, IsScriptRead, MayFall}
 
 -- ---- what the lines so far keep
 
@@ -80,7 +82,11 @@ abbrev pub LinesFollow : Type 0
 LinesFollow = (tree : List Node) (texts after : List (List ℕ)) (text : List ℕ) (line : ℕ) (notes next : Notes) (read : Result Course (At ScriptCause)) → texts ≡ text ∷ after
     → IsLineRead tree notes (length notes.pulses) line text (Ok next) → AreLinesRead tree after (line + 1) next read → AreLinesRead tree texts line notes read
 
--- after the last line
+-- after the last line: a script, where an end stands above
 abbrev pub LinesEnd : Type 0
-LinesEnd = (tree : List Node) (texts : List (List ℕ)) (line : ℕ) (notes : Notes) (time : ℕ) → texts ≡ [] → notes.end ≡ Some time
-    → AreLinesRead tree texts line notes (Ok (record { events = notes.events; pulses = notes.pulses; end = time }))
+LinesEnd = (tree : List Node) (texts : List (List ℕ)) (line : ℕ) (notes : Notes) → texts ≡ [] → AreLinesRead tree texts line notes (course_at_end notes line notes.end)
+
+-- what is answered of what a text says is answered of the text
+abbrev pub AnswersAreGiven : Type 0
+AnswersAreGiven = (tree : List Node) (text : List ℕ) (read : Result Course (At ScriptCause)) (answer : Result Script ScriptError) → IsScriptRead tree text read → GivesCourse answer read
+    → GivesScript tree text answer × IfOk answer (λ script. IsScript (length tree) (course_of script))

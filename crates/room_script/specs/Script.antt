@@ -220,15 +220,23 @@ pulse_refusal (Some from) before pulse = first_of (stretch_fault None pulse) (So
 abbrev pub notes_with_pulse : Notes → ℕ → Stretch → Result Notes (AtWord ScriptCause)
 notes_with_pulse notes waiting pulse = unless_fault (pulse_refusal notes.pin (last_end notes.pulses) pulse) notes waiting pulse
 
+-- the time and the width of a pulse or pull
+abbrev pub span_read : Option ℕ → Option ℕ → Result (ℕ × ℕ) (AtWord ScriptCause)
+span_read None width = Err (at_word 1 Number)
+span_read (Some time) None = Err (at_word 2 Number)
+span_read (Some time) (Some width) = Ok (time, width)
+
+abbrev pub span_words : ℕ → Option (List ℕ × List ℕ) → Result (ℕ × ℕ) (AtWord ScriptCause)
+span_words count None = Err (misfit 1 count 2)
+span_words count (Some words) = span_read (time_of words.0) (number_of words.1)
+
 -- `pulse T WIDTH`; a width above 65,535 counts as 65,535
-abbrev pub pulse_read : Notes → ℕ → Option ℕ → Option ℕ → Result Notes (AtWord ScriptCause)
-pulse_read notes waiting None width = Err (at_word 1 Number)
-pulse_read notes waiting (Some time) None = Err (at_word 2 Number)
-pulse_read notes waiting (Some time) (Some width) = notes_with_pulse notes waiting (record { from = time; to = time + min width 65535 })
+abbrev pub pulse_read : Notes → ℕ → Result (ℕ × ℕ) (AtWord ScriptCause) → Result Notes (AtWord ScriptCause)
+pulse_read notes waiting (Err fault) = Err fault
+pulse_read notes waiting (Ok span) = notes_with_pulse notes waiting (record { from = span.0; to = span.0 + min span.1 65535 })
 
 abbrev pub pulse_words : Notes → ℕ → ℕ → Option (List ℕ × List ℕ) → Result Notes (AtWord ScriptCause)
-pulse_words notes waiting count None = Err (misfit 1 count 2)
-pulse_words notes waiting count (Some words) = pulse_read notes waiting (time_of words.0) (number_of words.1)
+pulse_words notes waiting count words = pulse_read notes waiting (span_words count words)
 
 -- whether a pull from an instant on would overlap or touch one that ends so
 abbrev pub touches : Option ℕ → ℕ → Bool
@@ -246,14 +254,12 @@ notes_with_pull notes waiting time width =
     else Ok (record notes { pulses = notes.pulses ++ record { from = time; to = time + width } ∷ [] })
 
 -- `pull T WIDTH`
-abbrev pub pull_read : Notes → ℕ → Option ℕ → Option ℕ → Result Notes (AtWord ScriptCause)
-pull_read notes waiting None width = Err (at_word 1 Number)
-pull_read notes waiting (Some time) None = Err (at_word 2 Number)
-pull_read notes waiting (Some time) (Some width) = notes_with_pull notes waiting time width
+abbrev pub pull_read : Notes → ℕ → Result (ℕ × ℕ) (AtWord ScriptCause) → Result Notes (AtWord ScriptCause)
+pull_read notes waiting (Err fault) = Err fault
+pull_read notes waiting (Ok span) = notes_with_pull notes waiting span.0 span.1
 
 abbrev pub pull_words : Notes → ℕ → ℕ → Option (List ℕ × List ℕ) → Result Notes (AtWord ScriptCause)
-pull_words notes waiting count None = Err (misfit 1 count 2)
-pull_words notes waiting count (Some words) = pull_read notes waiting (time_of words.0) (number_of words.1)
+pull_words notes waiting count words = pull_read notes waiting (span_words count words)
 
 -- `0` is low, `1` is high
 abbrev pub level_of : List ℕ → Option Bool
@@ -379,6 +385,12 @@ abbrev pub Gives : Notes → Result Unit ScriptLineError → (Result Notes (AtWo
 Gives notes (Ok done) IsRead = IsRead (Ok notes)
 Gives notes (Err Memory) IsRead = Unit {0}
 Gives notes (Err (Fault fault)) IsRead = IsRead (Err fault)
+
+-- what is answered is this script or this fault
+abbrev pub GivesCourse : Result Script ScriptError → Result Course (At ScriptCause) → Type 0
+GivesCourse (Ok script) read = read ≡ Ok (course_of script)
+GivesCourse (Err errors.Memory) read = ⊥
+GivesCourse (Err (errors.At fault)) read = read ≡ Err fault
 
 -- what is answered is what the text says, unless memory ran out
 abbrev pub GivesScript : List Node → List ℕ → Result Script ScriptError → Type 0

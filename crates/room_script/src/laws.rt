@@ -3,7 +3,7 @@ ghost use Rattle.std.specs.Prelude.{◌≡◌, ℕ, List, ◌∷◌, Ok};
 ghost use Rattle.device_features.specs.KeyWords.{key_text, word_of_key};
 ghost use Rattle.device_features.specs.declared.keys.Key.{Key};
 ghost use Rattle.room_script.specs.Keys.{key_of};
-ghost use Rattle.room_script.specs.Lines.{LinesAdd, LinesAreOfScripts, LinesEnd, LinesFollow, LinesKeepFew, LinesKeepSound, NoneAreSound, SoundAreTimely};
+ghost use Rattle.room_script.specs.Lines.{AnswersAreGiven, LinesAdd, LinesAreOfScripts, LinesEnd, LinesFollow, LinesKeepFew, LinesKeepSound, NoneAreSound, SoundAreTimely};
 ghost use Rattle.room_script.specs.Script.{OneScript, ScriptsAreSound};
 
 /// Every text of a script gives events in the order of their times, of devices that are there and of frames that are
@@ -38,8 +38,10 @@ pub fn lines_add_little()
     ensures again { LinesAreOfScripts }
 {}
 
-/// Lines are read one after another: a line that is taken and those after it, and nothing after the last, where an end stands.
+/// Lines are read one after another: a line that is taken and those after it, and after the last a script, where an end stands.
+/// Where a text says this, its answer is the text's, and a script that is answered is sound.
 pub fn lines_are_read_in_order()
     ensures first { LinesFollow }
     ensures last { LinesEnd }
+    ensures given { AnswersAreGiven }
 {}

@@ -1,10 +1,11 @@
 //! The texts of scripts.
-ghost use Rattle.std.specs.Prelude.{◌≡◌, ◌+◌, ◌<◌, ◌≤◌, length, Result, Ok, Err, Some, None, IfOk, OnErr};
+ghost use Rattle.std.specs.Prelude.{◌≡◌, ◌+◌, ◌<◌, ◌≤◌, true, length, Result, Ok, Err, Some, None, IfOk, OnErr};
 ghost use Rattle.std.specs.Option.{option_copied};
 ghost use Rattle.line_wave.specs.Bounds.{latest_event};
+ghost use Rattle.line_wave.specs.Pulls.{are_timely};
 ghost use Rattle.text_core.specs.Words.{words_of, words_after, one_of, two_of, three_of};
 ghost use Rattle.room_script.specs.Header.{digits_text, header_names};
-ghost use Rattle.room_script.specs.Script.{no_notes, notes_of, course_of, time_of, last_time, last_end, notes_with_event, plug_words, unplug_words, key_words, act_read, hold_words, drop_words, event_words, send_read, frame_event, pulse_fault, pulse_refusal, notes_with_pulse, pulse_words, touches, notes_with_pull, pull_words, end_words, other_words, error_at, IsFrameOf, IsSendRead, IsEventRead, IsLineRead, GivesNotes, Gives, GivesScript, IsScript};
+ghost use Rattle.room_script.specs.Script.{no_notes, notes_of, course_of, time_of, last_time, last_end, notes_with_event, plug_words, unplug_words, key_words, act_read, hold_words, drop_words, event_words, send_read, frame_event, pulse_fault, pulse_refusal, notes_with_pulse, span_words, pulse_words, touches, notes_with_pull, pull_words, end_words, other_words, course_at_end, error_at, IsFrameOf, IsSendRead, IsEventRead, IsLineRead, GivesNotes, Gives, GivesCourse, GivesScript, IsScript};
 
 use crate::course::Script;
 use crate::fault::misfit;
@@ -147,6 +148,29 @@ impl ScriptDraft {
             pin: None,
             alloc,
         }
+    }
+
+    /// The script that these lines say, which end before the line of this number.
+    ///
+    /// # Errors
+    ///
+    /// `End` on that line where no `end` stands above it.
+    pub fn finish(self, line: u64) -> Result<Script, ScriptError>
+        requires { are_timely self.pulses.items ≡ true }
+        ensures { GivesCourse result (course_at_end (notes_of self) line self.end) }
+    {
+        let Some(end) = self.end else {
+            return Err(ScriptError::At(At {
+                line,
+                cause: ScriptCause::End,
+                word: 0,
+            }));
+        };
+        Ok(Script {
+            events: self.events,
+            pulses: self.pulses,
+            end,
+        })
     }
 }
 
@@ -491,6 +515,23 @@ fn add_pulse(draft: &mut ScriptDraft, waiting: usize, pulse: Stretch) -> Result<
     Ok(())
 }
 
+/// The time and the width of a pulse or pull.
+fn span_in(rest: Option<&[u8]>) -> Result<(u64, u64), AtWord<ScriptCause>>
+    ensures read { result ≡ span_words (length (words_after (option_copied rest.entry))) (two_of (words_after (option_copied rest.entry))) }
+    ensures early { IfOk result (λ span. span.0 ≤ latest_event) }
+{
+    let Some((from, width)) = two_words(rest) else {
+        return Err(misfit(1, rest, 2));
+    };
+    let Some(from) = time_in(from) else {
+        return Err(at_word(1, ScriptCause::Number));
+    };
+    let Some(width) = number_in(width) else {
+        return Err(at_word(2, ScriptCause::Number));
+    };
+    Ok((from, width))
+}
+
 /// Takes the words after `pulse`.
 fn take_pulse(
     draft: &mut ScriptDraft,
@@ -500,17 +541,13 @@ fn take_pulse(
     ensures gives { GivesNotes (notes_of draft.new) result (pulse_words (notes_of draft.old) waiting (length (words_after (option_copied rest.entry))) (two_of (words_after (option_copied rest.entry)))) }
     ensures kept { OnErr result (notes_of draft.new ≡ notes_of draft.old) }
 {
-    let Some((from, width)) = two_words(rest) else {
-        return Err(ScriptLineError::Fault(misfit(1, rest, 2)));
-    };
-    let Some(from) = time_in(from) else {
-        return Err(ScriptLineError::Fault(at_word(1, ScriptCause::Number)));
-    };
-    let Some(width) = number_in(width) else {
-        return Err(ScriptLineError::Fault(at_word(2, ScriptCause::Number)));
-    };
-    let to = from + width.min(WIDEST_COUNTED);
-    add_pulse(draft, waiting, Stretch { from, to })
+    match span_in(rest) {
+        Ok((from, width)) => {
+            let to = from + width.min(WIDEST_COUNTED);
+            add_pulse(draft, waiting, Stretch { from, to })
+        }
+        Err(fault) => Err(ScriptLineError::Fault(fault)),
+    }
 }
 
 /// Whether a pull from an instant on would overlap or touch one that ends so.
@@ -559,16 +596,10 @@ fn take_pull(
     ensures gives { GivesNotes (notes_of draft.new) result (pull_words (notes_of draft.old) waiting (length (words_after (option_copied rest.entry))) (two_of (words_after (option_copied rest.entry)))) }
     ensures kept { OnErr result (notes_of draft.new ≡ notes_of draft.old) }
 {
-    let Some((from, width)) = two_words(rest) else {
-        return Err(ScriptLineError::Fault(misfit(1, rest, 2)));
-    };
-    let Some(from) = time_in(from) else {
-        return Err(ScriptLineError::Fault(at_word(1, ScriptCause::Number)));
-    };
-    let Some(width) = number_in(width) else {
-        return Err(ScriptLineError::Fault(at_word(2, ScriptCause::Number)));
-    };
-    add_pull(draft, waiting, from, width)
+    match span_in(rest) {
+        Ok((from, width)) => add_pull(draft, waiting, from, width),
+        Err(fault) => Err(ScriptLineError::Fault(fault)),
+    }
 }
 
 /// Takes the word after `end`.
@@ -732,16 +763,5 @@ pub fn parse_script(alloc: Global, topology: &Topology, text: &[u8]) -> Result<S
         rest = after;
         number += 1;
     }
-    let Some(end) = draft.end else {
-        return Err(ScriptError::At(At {
-            line: number,
-            cause: ScriptCause::End,
-            word: 0,
-        }));
-    };
-    Ok(Script {
-        events: draft.events,
-        pulses: draft.pulses,
-        end,
-    })
+    draft.finish(number)
 }

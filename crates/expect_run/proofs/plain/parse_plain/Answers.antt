@@ -2,9 +2,9 @@ use Rattle.std.proofs.Common.{rules, ◌≡◌, ℕ, length, map, Ok, ap, subst,
 use Rattle.text_core.specs.Lines.{lines_of}
 use Rattle.room_script.specs.Script.{IsLineRead, notes_of}
 use Rattle.room_script.proofs.Reading.{line_read}
-use Rattle.room_script.proofs.Sound.{tested, line-keeps, scripts_are_sound}
-use Rattle.expect_text.specs.Line.{plain_part, plain_script}
-use Rattle.expect_run.proofs.PlainRead.{begun, course_read, few_more}
+use Rattle.room_script.proofs.Sound.{tested, line-keeps}
+use Rattle.expect_text.specs.Line.{plain_part}
+use Rattle.expect_run.proofs.PlainRead.{begun, last_read, few_more}
 use Rattle.expect_run.proofs.plain.parse_plain.Goals as goal
 
 pub lines-init : goal.lines-init
@@ -34,15 +34,18 @@ lines-preserved c =
       counts = omega arith;
     }
 
-pub invariant_of-result : goal.invariant_of-result
-invariant_of-result c =
+pub finish-requires : goal.finish-requires
+finish-requires c =
     let sound = c.lines.invariant.sound in
     let few = c.lines.invariant.few in
-    record { timely = tested (notes_of c.lines.draft).pulses (omega (arith, few)) sound.order sound.wide sound.early }
+    tested (notes_of c.lines.draft).pulses (omega (arith, few)) sound.order sound.wide sound.early
+
+pub returns-clause-gives : goal.returns-clause-gives
+returns-clause-gives c =
+    (last_read c.args.topology.now.tree c.args.script.now (lines_of c.lines.rest.now) c.lines.number (notes_of c.lines.draft) c.finish.result
+    (λ read rest. c.lines.invariant.leads read rest) c.in_default.ensures.lines c.finish.ensures).0
 
 pub returns-clause-script : goal.returns-clause-script
 returns-clause-script c =
-    let tree = c.args.topology.now.tree in
-    let notes = notes_of c.lines.draft in
-    scripts_are_sound tree (plain_script c.args.script.now) _ (course_read tree c.args.script.now (lines_of c.lines.rest.now) c.lines.number notes c.in-Some-end.end
-    (λ read rest. c.lines.invariant.leads read rest) c.in_default.ensures.lines c.in-Some-end.is)
+    (last_read c.args.topology.now.tree c.args.script.now (lines_of c.lines.rest.now) c.lines.number (notes_of c.lines.draft) c.finish.result
+    (λ read rest. c.lines.invariant.leads read rest) c.in_default.ensures.lines c.finish.ensures).1

@@ -1,6 +1,6 @@
-use Rattle.std.proofs.Common.{rules, ◌≡◌, ◌∙◌, ◌++◌, false, List, ap, subst}
+use Rattle.std.proofs.Common.{rules, ◌≡◌, ◌∙◌, ◌++◌, false, List, ap, subst, subst₂}
 use Rattle.std.specs.List.{flat_map}
-use Rattle.text_core.specs.Adds.{Adds}
+use Rattle.text_core.specs.Adds.{Adds, Tally}
 use Rattle.edid_tree.specs.Node.{Node}
 use Rattle.device_core.specs.State.{State}
 use Rattle.room_net.specs.State.{NetState}
@@ -24,7 +24,7 @@ returns g c =
     heard_text (λ r. r.text) (λ r. r.passed.edid.now) text_of run.happened _ _ run.heard in
     let devices : c.devices.result.now ≡ run.last.net.devices = c.devices.ensures ∙ ap (λ (s : NetState). s.devices) run.net_is in
     let after : Adds c.run_turns-totals.new.reporter.text c.add_last_lines.new.out (end_reported (Trace edid) c.args.end run.last.net) =
-    subst (λ (ds : List State). Adds c.run_turns-totals.new.reporter.text c.add_last_lines.new.out (flat_map state_line ds ++ end_line c.args.end)) devices c.add_last_lines.ensures in
+    subst₂ (λ (x : Tally) (ds : List State). Adds x c.add_last_lines.new.out (flat_map state_line ds ++ end_line c.args.end)) c.into_text-text.ensures devices c.add_last_lines.ensures in
     let told = run_told (Trace edid) (text_of edid) (trace_by edid) c.args.end from run.last run.happened c.run_turns-totals.result _ run.whole run.goes run.totals_is in
     run_ended g.S.Sink.contents g.S.Sink.is_stuck c.args.out.now _ c.into_sink-below.result.now _ c.into_sink-below.result.ghost_name
     (IsRunText (Trace edid) c.args.end from) (start_reported (Trace edid) c.args.net.now) (flat_map (text_of edid) run.happened) (end_reported (Trace edid) c.args.end run.last.net) c.run_turns-totals.result

@@ -3,7 +3,7 @@ use Rattle.text_core.specs.Lines.{lines_of}
 use Rattle.room_script.specs.Script.{IsLineRead, notes_of}
 use Rattle.room_script.proofs.Adding.{few_pulses}
 use Rattle.room_script.proofs.Reading.{line_read, last_line}
-use Rattle.room_script.proofs.Sound.{tested, line-keeps, scripts_are_sound}
+use Rattle.room_script.proofs.Sound.{answer_given, tested, line-keeps}
 use Rattle.room_script.proofs.script.parse_script.Goals as goal
 
 pub loop-line-preserved : goal.loop-line-preserved
@@ -24,15 +24,20 @@ loop-line-preserved c =
       counts = omega arith;
     }
 
-pub invariant_of-result : goal.invariant_of-result
-invariant_of-result c =
+pub finish-requires : goal.finish-requires
+finish-requires c =
     let sound = c.loop-line.invariant.sound in
     let few = c.loop-line.invariant.few in
-    record { timely = tested (notes_of c.loop-line.draft).pulses (omega (arith, few)) sound.order sound.wide sound.early }
+    tested (notes_of c.loop-line.draft).pulses (omega (arith, few)) sound.order sound.wide sound.early
+
+pub returns-clause-gives : goal.returns-clause-gives
+returns-clause-gives c =
+    let tree = c.args.topology.now.tree in
+    let last = last_line tree (lines_of c.loop-line.rest.now) c.loop-line.number (notes_of c.loop-line.draft) c.in_default.ensures.lines in
+    (answer_given tree c.args.text.now _ c.finish.result (c.loop-line.invariant.reads _ last) c.finish.ensures).0
 
 pub returns-clause-script : goal.returns-clause-script
 returns-clause-script c =
     let tree = c.args.topology.now.tree in
-    let notes = notes_of c.loop-line.draft in
-    let last = last_line tree (lines_of c.loop-line.rest.now) c.loop-line.number notes c.in-Some-end.end c.in_default.ensures.lines c.in-Some-end.is in
-    scripts_are_sound tree c.args.text.now _ (c.loop-line.invariant.reads _ last)
+    let last = last_line tree (lines_of c.loop-line.rest.now) c.loop-line.number (notes_of c.loop-line.draft) c.in_default.ensures.lines in
+    (answer_given tree c.args.text.now _ c.finish.result (c.loop-line.invariant.reads _ last) c.finish.ensures).1
