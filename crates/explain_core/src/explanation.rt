@@ -84,16 +84,13 @@ fn add_word(draft: &mut Draft, at: FaultyLine<'_>, mark: Mark) {
         InputFault::Script(_) => label_words(at.what, at.text),
         _ => 0,
     };
-    let own = if labels > 0 {
+    let text = if labels > 0 {
         plain(at.what, at.text)
     } else {
         at.text
     };
-    add_meant(
-        draft,
-        FaultyLine { text: own, ..at },
-        mark.first.saturating_sub(labels),
-    );
+    let own = FaultyLine { text, ..at };
+    add_meant(draft, own, mark.first.saturating_sub(labels));
     if gaps_of(at.fault) != Gaps::Spaces {
         return;
     }
@@ -153,16 +150,13 @@ fn add_line(draft: &mut Draft, at: FaultyLine<'_>) -> bool {
 fn add_place(draft: &mut Draft, what: Input, place: InputLine<'_>, fault: InputFault) -> bool {
     match shown(draft.alloc(), place.line) {
         Ok(line) => {
-            let text = line.as_str();
-            add_line(
-                draft,
-                FaultyLine {
-                    what,
-                    place,
-                    fault,
-                    text,
-                },
-            )
+            let at = FaultyLine {
+                what,
+                place,
+                fault,
+                text: line.as_str(),
+            };
+            add_line(draft, at)
         }
         Err(AllocError) => {
             draft.fail();

@@ -30,7 +30,7 @@ pub enum Input {
     EdidWords,
 }
 
-/// A line that parts an input, as the parts after it are called.
+/// A line that parts an input, named as the part that follows it.
 #[derive(Clone, Copy, Debug, PartialEq, Eq)]
 pub enum Parting {
     Script,
@@ -38,7 +38,7 @@ pub enum Parting {
     Capture,
 }
 
-/// What is at fault where no line of the input is: the input as a whole, or what became of the program.
+/// A fault that stands in no line of the input: it is of the whole input, of the program or of its command line.
 #[derive(Clone, Copy, Debug)]
 pub enum WholeFault {
     /// A text without a hex dump of an EDID.
@@ -113,8 +113,8 @@ pub enum InputFault {
         line: u64,
         word: usize,
     },
-    /// No line parts the input so.
+    /// The line is missing that parts the input so.
     NoParting(Parting),
-    /// None of the input's lines.
+    /// No line is at fault.
     Whole(WholeFault),
 }
