@@ -63,6 +63,13 @@ Faults go to standard error, as `hdminet: script line 3: word`; with --explain i
 Exit status: 0 done; 1 input refused, or a test failed; 2 command line refused; 3 a read or write fault,
 or input past 1048576 bytes; 4 no memory; 5 an EDID fails --check.";
 
+/// The flag that names a wire of a capture.
+const SIGNAL: (&str, &str, &str) = (
+    "signal",
+    "NAME",
+    "Reads the wire of this name in a vcd or csv; where it is left out the first",
+);
+
 pub const RUN_ABOUT: &str = "Runs a topology and a script, and prints the trace (the default)";
 
 /// The flags of `run`, each with its help.
@@ -217,11 +224,7 @@ pub const CHECK_VALUES: &[(&str, &str, &str)] = &[
         "FORM",
         "Reads a capture as edges, vcd, pin or csv; where it is left out its first line says which",
     ),
-    (
-        "signal",
-        "NAME",
-        "Reads the wire of this name in a vcd or csv; where it is left out the first",
-    ),
+    SIGNAL,
     (
         "glitch",
         "MICROSECONDS",
@@ -466,11 +469,7 @@ pub const MON_VALUES: &[(&str, &str, &str)] = &[
         "FORM",
         "Reads edges, vcd, pin or csv; where it is left out the first line says which",
     ),
-    (
-        "signal",
-        "NAME",
-        "Reads the wire of this name in a vcd or csv; where it is left out the first",
-    ),
+    SIGNAL,
     (
         "glitch",
         "MICROSECONDS",

@@ -9,7 +9,7 @@ use Rattle.edid_dump.specs.declared.digits.Column.{Column}
 use Rattle.edid_dump.specs.declared.digits.Column.TheVariants.{Absent, AfterBar}
 use Rattle.edid_dump.specs.declared.rows.DumpForm.TheVariants.{Bars, Colon, Plain}
 use Rattle.edid_dump.specs.Digits.{is_column, onto, pairs}
-use Rattle.edid_dump.specs.Rows.{counted_bytes, digits_start, form_of, has_header, has_offset, header, row, row_from}
+use Rattle.edid_dump.specs.Rows.{begins_with, counted_bytes, digits_start, form_of, has_header, has_offset, header, row, row_from}
 use Rattle.edid_dump.specs.Dump.{dumped_from, gathered_by, ordered}
 use Rattle.edid_dump.specs.Printed.{BarsAreRead, bars_line, bars_text, character, offset_text, pairs_text}
 use Rattle.edid_dump.proofs.DigitFacts.{joins}
@@ -122,9 +122,9 @@ not_colon place part = row_absent Colon (bars_line place part) (ap (λ b. if b t
 
 bars_first : (line part : List ℕ) → row Plain line ≡ None → row Colon line ≡ None → row Bars line ≡ Some part → take 8 part ≡ header → form_of line ≡ Some Bars
 bars_first line part h k is begins =
-    let e : has_header (row Plain line) ≡ false = ap has_header h in
-    let f : has_header (row Colon line) ≡ false = ap has_header k in
-    let g : has_header (row Bars line) ≡ true = ap has_header is ∙ header_found part begins in
+    let e : has_header line Plain ≡ false = ap (begins_with header) h in
+    let f : has_header line Colon ≡ false = ap (begins_with header) k in
+    let g : has_header line Bars ≡ true = ap (begins_with header) is ∙ header_found part begins in
     rw (e, f, g) refl
 
 concat_end : (parts : List (List ℕ)) → concat (parts ++ [] ∷ []) ≡ concat parts

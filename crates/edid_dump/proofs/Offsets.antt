@@ -9,7 +9,7 @@ use Rattle.text_core.specs.Piece.{hex_text}
 use Rattle.edid_dump.specs.declared.digits.Column.TheVariants.{AfterGap}
 use Rattle.edid_dump.specs.declared.rows.DumpForm.TheVariants.{Colon, Plain}
 use Rattle.edid_dump.specs.Digits.{onto, pairs}
-use Rattle.edid_dump.specs.Rows.{counted_bytes, digits_start, form_of, has_header, has_offset, header, row, row_from}
+use Rattle.edid_dump.specs.Rows.{begins_with, counted_bytes, digits_start, form_of, has_header, has_offset, header, row, row_from}
 use Rattle.edid_dump.specs.Printed.{OffsetsAreRead, by_twos, character, colon_line, colon_text, offset_text}
 use Rattle.edid_dump.proofs.DigitFacts.{joins, joins_byte, joins_none, mark, mark_hex, pairs_byte, pairs_gap}
 use Rattle.edid_dump.proofs.Pairing.{pairs_column}
@@ -125,8 +125,8 @@ not_plain (b ∷ c ∷ part) h = refl
 
 colon_first : (line part : List ℕ) → row Plain line ≡ None → row Colon line ≡ Some part → take 8 part ≡ header → form_of line ≡ Some Colon
 colon_first line part h k begins =
-    let e : has_header (row Plain line) ≡ false = ap has_header h in
-    let f : has_header (row Colon line) ≡ true = ap has_header k ∙ header_found part begins in
+    let e : has_header line Plain ≡ false = ap (begins_with header) h in
+    let f : has_header line Colon ≡ true = ap (begins_with header) k ∙ header_found part begins in
     rw (e, f) refl
 
 pub offsets_are_read : OffsetsAreRead

@@ -14,7 +14,7 @@ use Rattle.edid_dump.specs.declared.rows.DumpForm.TheVariants.{Plain}
 use Rattle.edid_dump.specs.declared.dump.DumpError.{DumpError}
 use Rattle.edid_dump.specs.declared.dump.DumpError.TheVariants.{Cut, Long}
 use Rattle.edid_dump.specs.Digits.{is_column, onto, pairs}
-use Rattle.edid_dump.specs.Rows.{counted_bytes, form_of, has_header, header, in_order, is_repeat, next_form, row}
+use Rattle.edid_dump.specs.Rows.{begins_with, counted_bytes, form_of, has_header, header, in_order, is_repeat, next_form, row}
 use Rattle.edid_dump.specs.Dump.{edid_in_dump, dumped_from, bytes_of_rows, gathered_by, ordered, with_row}
 use Rattle.edid_dump.specs.Printed.{IsParted, DigitsAreRead, PairsAreRead, pairs_text}
 use Rattle.edid_dump.proofs.DigitFacts.{joins, joins_byte, joins_none, mark, mark_other, pairs_byte, pairs_digits}
@@ -88,12 +88,12 @@ rows_dumped form text line part lines parts steady split first rows is =
     ∙ ap (ordered form) (rows_gathered form (line ∷ lines) (part ∷ parts) 1 [] steady rows is.most is.blocks)
     ∙ ap Ok (steady.same (concat (part ∷ parts)))
 
-pub header_found : (part : List ℕ) → take 8 part ≡ header → has_header (Some part) ≡ true
+pub header_found : (part : List ℕ) → take 8 part ≡ header → begins_with header (Some part) ≡ true
 header_found part h = ap (λ l. bytes_eq l header) h
 
 plain_first : (line part : List ℕ) → row Plain line ≡ Some part → take 8 part ≡ header → form_of line ≡ Some Plain
 plain_first line part is h =
-    let e : has_header (row Plain line) ≡ true = ap has_header is ∙ header_found part h in
+    let e : has_header line Plain ≡ true = ap (begins_with header) is ∙ header_found part h in
     rw e refl
 
 -- ---- a line for each part

@@ -1,5 +1,5 @@
 -- Rows of a hex dump, in the forms in which EDIDs are printed (own).
-use Rattle.std.specs.Prelude.{ℕ, ◌-◌, ◌/◌, ◌==◌, ◌&&◌, ◌||◌, nat_le, nat_lt, Bool, true, false, if◌then◌else◌, List, [], ◌∷◌, length, take, drop, slice_index, Option, Some, None}
+use Rattle.std.specs.Prelude.{ℕ, ◌-◌, ◌/◌, ◌==◌, ◌&&◌, ◌||◌, nat_le, nat_lt, Bool, true, false, if◌then◌else◌, List, [], ◌∷◌, length, take, drop, slice_index, find, Option, Some, None}
 use Rattle.std.specs.List.{list_all}
 use Rattle.std.specs.Str.{bytes_eq}
 use Rattle.std.specs.Char.{is_ascii_hexdigit}
@@ -131,24 +131,22 @@ abbrev pub begins_with : List ℕ → Option (List ℕ) → Bool
 begins_with front None = false
 begins_with front (Some bytes) = bytes_eq (take 8 bytes) front
 
-abbrev pub has_header : Option (List ℕ) → Bool
-has_header bytes = begins_with header bytes
-
--- as words
+-- the same in words
 abbrev pub words_header : List ℕ
 words_header = 255 ∷ 0 ∷ 255 ∷ 255 ∷ 255 ∷ 255 ∷ 0 ∷ 255 ∷ []
 
+-- as the rows of a form have it
+abbrev pub header_in : DumpForm → List ℕ
+header_in Words = words_header
+header_in _ = header
+
+abbrev pub has_header : List ℕ → DumpForm → Bool
+has_header line form = begins_with (header_in form) (row form line)
+
+-- the forms of a first row, in the order in which a line is tried
+abbrev pub first_forms : List DumpForm
+first_forms = Plain ∷ Colon ∷ Bars ∷ Octal ∷ Six ∷ LogPairs ∷ LogDigits ∷ Short ∷ Words ∷ Opened ∷ []
+
 -- the form of a line that an EDID begins with, the first that fits
 abbrev pub form_of : List ℕ → Option DumpForm
-form_of line =
-    if has_header (row Plain line) then Some Plain
-    else if has_header (row Colon line) then Some Colon
-    else if has_header (row Bars line) then Some Bars
-    else if has_header (row Octal line) then Some Octal
-    else if has_header (row Six line) then Some Six
-    else if has_header (row LogPairs line) then Some LogPairs
-    else if has_header (row LogDigits line) then Some LogDigits
-    else if has_header (row Short line) then Some Short
-    else if begins_with words_header (row Words line) then Some Words
-    else if has_header (row Opened line) then Some Opened
-    else None
+form_of line = find (has_header line) first_forms

@@ -140,18 +140,10 @@ fn gather(form: DumpForm, first: u64, text: &[u8]) -> Result<ArrayVec<u8, MOST>,
 fn in_order(form: DumpForm, bytes: ArrayVec<u8, MOST>) -> ArrayVec<u8, MOST>
     ensures { result.items ≡ in_order form bytes.items }
 {
-    match form {
-        DumpForm::Words => swapped(&bytes),
-        DumpForm::Plain
-        | DumpForm::Colon
-        | DumpForm::Bars
-        | DumpForm::Octal
-        | DumpForm::Six
-        | DumpForm::LogPairs
-        | DumpForm::LogDigits
-        | DumpForm::Short
-        | DumpForm::Opened
-        | DumpForm::Listed => bytes,
+    if form == DumpForm::Words {
+        swapped(&bytes)
+    } else {
+        bytes
     }
 }
 

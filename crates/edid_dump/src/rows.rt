@@ -4,8 +4,7 @@ ghost use Rattle.std.specs.Option.{option_map};
 ghost use Rattle.std.specs.List.{list_all};
 ghost use Rattle.std.specs.Char.{is_ascii_hexdigit};
 ghost use Rattle.edid_dump.specs.Digits.{bytes_with_row};
-ghost use Rattle.edid_dump.specs.Rows.{after_number, begins_with, column_of, digits_read, digits_start, form_of, has_header, has_number, has_offset, is_list, is_repeat, is_short, is_star, may_have, next_form, place_of, row, tail_start, words_header};
-ghost use Rattle.edid_dump.specs.declared.rows.DumpForm.TheVariants.{Words};
+ghost use Rattle.edid_dump.specs.Rows.{after_number, begins_with, column_of, digits_read, digits_start, form_of, has_header, header_in, has_number, has_offset, is_list, is_repeat, is_short, is_star, may_have, next_form, place_of, row, tail_start};
 
 use crate::digits::{Column, is_blank, octal_of, offset_of, pair_count, push_pairs};
 use crate::lists::{list_start, listed_count, push_listed};
@@ -38,6 +37,20 @@ pub enum DumpForm {
     /// A further line of such a list.
     Listed,
 }
+
+/// The forms of a dump's first row, in the order in which a line is tried.
+const FIRST_FORMS: &[DumpForm] = &[
+    DumpForm::Plain,
+    DumpForm::Colon,
+    DumpForm::Bars,
+    DumpForm::Octal,
+    DumpForm::Six,
+    DumpForm::LogPairs,
+    DumpForm::LogDigits,
+    DumpForm::Short,
+    DumpForm::Words,
+    DumpForm::Opened,
+];
 
 /// The header of an EDID (VESA E-EDID, 3.3).
 const HEADER: &[u8] = &[0, 0xff, 0xff, 0xff, 0xff, 0xff, 0xff, 0];
@@ -156,18 +169,7 @@ fn may_have(form: DumpForm, count: usize) -> bool
 fn is_list(form: DumpForm) -> bool
     ensures { result ≡ is_list form }
 {
-    match form {
-        DumpForm::Opened | DumpForm::Listed => true,
-        DumpForm::Plain
-        | DumpForm::Colon
-        | DumpForm::Bars
-        | DumpForm::Octal
-        | DumpForm::Six
-        | DumpForm::LogPairs
-        | DumpForm::LogDigits
-        | DumpForm::Short
-        | DumpForm::Words => false,
-    }
+    matches!(form, DumpForm::Opened | DumpForm::Listed)
 }
 
 // How many bytes digits spell, as a row of this form has them.
@@ -297,43 +299,29 @@ fn begins_with(front: &[u8], form: DumpForm, line: &[u8]) -> bool
     before(&bytes, 8) == front
 }
 
-fn has_header(form: DumpForm, line: &[u8]) -> bool
-    ensures { result ≡ has_header (row form line.now) }
+// The header as the rows of a form have it.
+fn header_in(form: DumpForm) -> &'static [u8]
+    ensures { result.now ≡ header_in form }
 {
-    begins_with(HEADER, form, line)
+    if form == DumpForm::Words {
+        WORDS_HEADER
+    } else {
+        HEADER
+    }
 }
 
-fn begins_in_words(line: &[u8]) -> bool
-    ensures { result ≡ begins_with words_header (row Words line.now) }
+fn has_header(form: DumpForm, line: &[u8]) -> bool
+    ensures { result ≡ has_header line.now form }
 {
-    begins_with(WORDS_HEADER, DumpForm::Words, line)
+    begins_with(header_in(form), form, line)
 }
 
 /// The form of a line that an EDID begins with.
 pub fn form_of(line: &[u8]) -> Option<DumpForm>
     ensures { result ≡ form_of line.now }
 {
-    if has_header(DumpForm::Plain, line) {
-        Some(DumpForm::Plain)
-    } else if has_header(DumpForm::Colon, line) {
-        Some(DumpForm::Colon)
-    } else if has_header(DumpForm::Bars, line) {
-        Some(DumpForm::Bars)
-    } else if has_header(DumpForm::Octal, line) {
-        Some(DumpForm::Octal)
-    } else if has_header(DumpForm::Six, line) {
-        Some(DumpForm::Six)
-    } else if has_header(DumpForm::LogPairs, line) {
-        Some(DumpForm::LogPairs)
-    } else if has_header(DumpForm::LogDigits, line) {
-        Some(DumpForm::LogDigits)
-    } else if has_header(DumpForm::Short, line) {
-        Some(DumpForm::Short)
-    } else if begins_in_words(line) {
-        Some(DumpForm::Words)
-    } else if has_header(DumpForm::Opened, line) {
-        Some(DumpForm::Opened)
-    } else {
-        None
-    }
+    FIRST_FORMS
+        .iter()
+        .copied()
+        .find(|form| has_header(*form, line))
 }

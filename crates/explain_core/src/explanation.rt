@@ -2,14 +2,14 @@
 use crate::edids::{add_lack, add_length};
 use crate::hints::{is_shown, of_edid, of_edid_text, of_line, of_text};
 use crate::right::right;
-use edid_core::EdidError;
+use edid_core::{EdidCause, EdidError};
 use edid_dump::looks_like_dump;
 use edid_text_lines::WORD_TEXTS;
 use explain_forms::{add_meant, add_right_forms, add_slip};
 use explain_lists::{Draft, Gaps, span_of, word_at};
 use explain_marks::{
-    Input, InputFault, InputLine, Mark, WordSlip, gaps_of, is_line_end, label_words, marked,
-    place_in_session, place_of, plain, slip_of,
+    FaultyLine, Input, InputFault, InputLine, Mark, Parting, WordSlip, gaps_of, is_line_end,
+    label_words, marked, place_in_session, place_of, plain, slip_of,
 };
 use rules_explain::lacks_line_feed;
 use std::alloc::{AllocError, Global};
@@ -65,39 +65,36 @@ fn add_head(draft: &mut Draft, place: InputLine<'_>) -> usize {
 }
 
 // The number and the text of a line, and the mark below its words.
-fn add_shown(draft: &mut Draft, place: InputLine<'_>, line: &str, gaps: Gaps, mark: Option<Mark>) {
-    let before = add_head(draft, place);
-    let end = if place.line.len() > COLUMNS {
+fn add_shown(draft: &mut Draft, at: FaultyLine<'_>, gaps: Gaps, mark: Option<Mark>) {
+    let before = add_head(draft, at.place);
+    let end = if at.place.line.len() > COLUMNS {
         " ..\n"
     } else {
         "\n"
     };
-    draft.add_all(&[line, end]);
+    draft.add_all(&[at.text, end]);
     if let Some(mark) = mark {
-        add_mark(draft, before, place.line, gaps, mark);
+        add_mark(draft, before, at.place.line, gaps, mark);
     }
 }
 
 // What there is to say of the word at fault: that it may have been meant for another one, or that no remark begins there.
-fn add_word(
-    draft: &mut Draft,
-    what: Input,
-    place: InputLine<'_>,
-    fault: InputFault,
-    line: &str,
-    mark: Mark,
-) {
-    let labels = match fault {
-        InputFault::Script(_) => label_words(what, line),
+fn add_word(draft: &mut Draft, at: FaultyLine<'_>, mark: Mark) {
+    let labels = match at.fault {
+        InputFault::Script(_) => label_words(at.what, at.text),
         _ => 0,
     };
-    let own = if labels > 0 { plain(what, line) } else { line };
-    let number = mark.first.saturating_sub(labels);
-    add_meant(draft, what, place, fault, own, number);
-    if gaps_of(fault) != Gaps::Spaces {
+    let text = if labels > 0 {
+        plain(at.what, at.text)
+    } else {
+        at.text
+    };
+    let own = FaultyLine { text, ..at };
+    add_meant(draft, own, mark.first.saturating_sub(labels));
+    if gaps_of(at.fault) != Gaps::Spaces {
         return;
     }
-    if let Some(word) = word_at(line, mark.first) {
+    if let Some(word) = word_at(at.text, mark.first) {
         if mark.first > 0 && word.starts_with("#") {
             draft.add_line("`#` begins a remark at the start of a line alone");
         }
@@ -106,54 +103,42 @@ fn add_word(
 
 // A line as it is shown, with its mark, what is odd about it, and what it would have to look like. Returns whether what would be
 // right in place of any such fault is of no use then.
-fn add_marked(
-    draft: &mut Draft,
-    what: Input,
-    place: InputLine<'_>,
-    fault: InputFault,
-    line: &str,
-) -> bool {
-    let mark = marked(what, fault, line);
-    add_shown(draft, place, line, gaps_of(fault), mark);
-    add_hints(draft, of_line(place.line, line).as_slice());
-    let slip = slip_of(fault, line);
+fn add_marked(draft: &mut Draft, at: FaultyLine<'_>) -> bool {
+    let mark = marked(at.what, at.fault, at.text);
+    add_shown(draft, at, gaps_of(at.fault), mark);
+    add_hints(draft, of_line(at.place.line, at.text).as_slice());
+    let slip = slip_of(at.fault, at.text);
     if let Some(found) = slip {
         add_slip(draft, found.slip);
     }
-    let is_said = add_right_forms(draft, what, place, fault, line);
+    let is_said = add_right_forms(draft, at);
     match (mark, slip) {
         (Some(_), Some(found)) if found.slip == WordSlip::NoName => {}
-        (Some(mark), _) => add_word(draft, what, place, fault, line, mark),
+        (Some(mark), _) => add_word(draft, at, mark),
         (None, _) => {}
     }
     is_said
 }
 
 // Whether all that is wrong with a line of an EDID's text is that no line feed ends it.
-fn is_unended(place: InputLine<'_>, fault: InputFault, line: &str) -> bool {
-    let is_last = place.number >= place.input.split(is_line_end).count();
-    let is_known = WORD_TEXTS.contains(&word_at(line, 0).unwrap_or(""));
-    matches!(fault, InputFault::TextSyntax { .. })
+fn is_unended(at: FaultyLine<'_>) -> bool {
+    let is_last = at.place.number >= at.place.input.split(is_line_end).count();
+    let is_known = WORD_TEXTS.contains(&word_at(at.text, 0).unwrap_or(""));
+    matches!(at.fault, InputFault::TextSyntax { .. })
         && is_last
         && is_known
-        && lacks_line_feed(place.input)
+        && lacks_line_feed(at.place.input)
 }
 
-// What there is to say of a line that is shown so. Returns whether what would be right in place of any such fault is of no use.
-fn add_line(
-    draft: &mut Draft,
-    what: Input,
-    place: InputLine<'_>,
-    fault: InputFault,
-    line: &str,
-) -> bool {
-    if is_unended(place, fault, line) {
-        add_shown(draft, place, line, Gaps::Spaces, None);
+// What there is to say of a line. Returns whether what would be right in place of any such fault is of no use.
+fn add_line(draft: &mut Draft, at: FaultyLine<'_>) -> bool {
+    if is_unended(at) {
+        add_shown(draft, at, Gaps::Spaces, None);
         return true;
     }
-    let is_said = add_marked(draft, what, place, fault, line);
-    match fault {
-        InputFault::NoScriptLine if !line.trim_ascii_start().starts_with("s") => {
+    let is_said = add_marked(draft, at);
+    match at.fault {
+        InputFault::NoParting(Parting::Script) if !at.text.trim_ascii_start().starts_with("s") => {
             draft.add_line("above this line the line `script` is missing");
         }
         _ => {}
@@ -164,7 +149,15 @@ fn add_line(
 // The line of a fault. Returns whether what would be right in place of any such fault is of no use.
 fn add_place(draft: &mut Draft, what: Input, place: InputLine<'_>, fault: InputFault) -> bool {
     match shown(draft.alloc(), place.line) {
-        Ok(line) => add_line(draft, what, place, fault, line.as_str()),
+        Ok(line) => {
+            let at = FaultyLine {
+                what,
+                place,
+                fault,
+                text: line.as_str(),
+            };
+            add_line(draft, at)
+        }
         Err(AllocError) => {
             draft.fail();
             false
@@ -175,7 +168,9 @@ fn add_place(draft: &mut Draft, what: Input, place: InputLine<'_>, fault: InputF
 // What is odd about an input that is to be the bytes of an EDID.
 fn add_edid_hints(draft: &mut Draft, fault: InputFault, input: &[u8]) {
     add_hints(draft, of_edid(input).as_slice());
-    if matches!(fault, InputFault::Edid(EdidError::Length)) && !looks_like_dump(input) {
+    if matches!(fault, InputFault::Edid(EdidCause::Edid(EdidError::Length)))
+        && !looks_like_dump(input)
+    {
         add_length(draft, input.len());
     }
 }
@@ -184,15 +179,7 @@ fn add_edid_hints(draft: &mut Draft, fault: InputFault, input: &[u8]) {
 fn is_of_program(fault: InputFault) -> bool {
     matches!(
         fault,
-        InputFault::NoStepsLine
-            | InputFault::NoRange
-            | InputFault::InputTooLong
-            | InputFault::LineTooLong
-            | InputFault::Read
-            | InputFault::Write
-            | InputFault::Memory
-            | InputFault::NotUtf8
-            | InputFault::Dump(_)
+        InputFault::NoParting(Parting::Steps) | InputFault::Whole(_)
     )
 }
 
@@ -231,7 +218,7 @@ pub fn explain(
     if !is_said {
         draft.add_line(right(fault));
     }
-    if let (InputFault::NoHdmiBlock, Some(place)) = (fault, place) {
+    if let (InputFault::Edid(EdidCause::NoHdmiBlock), Some(place)) = (fault, place) {
         add_lack(&mut draft, place);
     }
     add_input_hints(&mut draft, what, fault, input);

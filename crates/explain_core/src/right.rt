@@ -1,10 +1,10 @@
 //! What would be right, said once for each cause.
 use capture_forms::Cause;
 use edid_base::BaseError;
-use edid_core::EdidError;
+use edid_core::{EdidCause, EdidError};
 use edid_dump::DumpError;
 use expect_text::{ExpectCause, RangeCause};
-use explain_marks::InputFault;
+use explain_marks::{InputFault, Parting, WholeFault};
 use message_hex::DisCause;
 use message_lay::LayCause;
 use message_text::AssembleError;
@@ -211,6 +211,15 @@ fn of_edid(error: EdidError) -> &'static str {
     }
 }
 
+fn of_edid_cause(cause: EdidCause) -> &'static str {
+    match cause {
+        EdidCause::Edid(error) => of_edid(error),
+        EdidCause::NoHdmiBlock => {
+            "the EDID of a television has a data block of HDMI, with a physical address for its ports to pass on"
+        }
+    }
+}
+
 fn of_dump(error: DumpError) -> &'static str {
     match error {
         DumpError::NoDump => {
@@ -220,6 +229,39 @@ fn of_dump(error: DumpError) -> &'static str {
             "an EDID has 128, 256, 384 or 512 bytes, so its dump ends at the end of a block of 128"
         }
         DumpError::Long(_) => "an EDID has 512 bytes at most",
+    }
+}
+
+fn of_parting(parting: Parting) -> &'static str {
+    match parting {
+        Parting::Script => {
+            "a line `script`, and nothing else on it, parts the topology from the script"
+        }
+        Parting::Steps => {
+            "a line `steps`, and nothing else on it, parts the script from the commands"
+        }
+        Parting::Capture => {
+            "a line `capture`, and nothing else on it, parts the expectations from the capture"
+        }
+    }
+}
+
+fn of_whole(fault: WholeFault) -> &'static str {
+    match fault {
+        WholeFault::Dump(error) => of_dump(error),
+        WholeFault::NoRange => "no time of the script is a range, as `at 5..9 press tv power`",
+        WholeFault::InputTooLong => {
+            "standard input has at most 1048576 bytes, a capture with `--from` 67108864"
+        }
+        WholeFault::LineTooLong => "a line of a session has at most 4096 bytes",
+        WholeFault::Read => {
+            "standard input is not to be read: is it open, and is it a file and no folder?"
+        }
+        WholeFault::Write => {
+            "standard output takes no more: is the disk full, or the reader gone? What was written before is the front of the output"
+        }
+        WholeFault::Memory => "the system gave no more memory",
+        WholeFault::NotUtf8 => "the words of the command line are UTF-8",
     }
 }
 
@@ -240,10 +282,7 @@ pub fn right(fault: InputFault) -> &'static str {
         InputFault::Hex { cause, .. } => of_hex(cause),
         InputFault::Lay { cause, .. } => of_laid(cause),
         InputFault::Capture { cause, .. } => of_capture(cause),
-        InputFault::Edid(error) => of_edid(error),
-        InputFault::NoHdmiBlock => {
-            "the EDID of a television has a data block of HDMI, with a physical address for its ports to pass on"
-        }
+        InputFault::Edid(cause) => of_edid_cause(cause),
         InputFault::NoPort => "a device has ports 1 to 15",
         InputFault::TextSyntax { .. } => {
             "here another line has to stand: `edid --help` shows the lines in their order; each has its word and all its fields, and ends with a line feed"
@@ -251,28 +290,7 @@ pub fn right(fault: InputFault) -> &'static str {
         InputFault::TextField { .. } => {
             "a field is out of its range or not spelled as it should be: numbers are decimal with no zero before them, hex is lower case"
         }
-        InputFault::Dump(error) => of_dump(error),
-        InputFault::NoScriptLine => {
-            "a line `script`, and nothing else on it, parts the topology from the script"
-        }
-        InputFault::NoStepsLine => {
-            "a line `steps`, and nothing else on it, parts the script from the commands"
-        }
-        InputFault::NoCaptureLine => {
-            "a line `capture`, and nothing else on it, parts the expectations from the capture"
-        }
-        InputFault::NoRange => "no time of the script is a range, as `at 5..9 press tv power`",
-        InputFault::InputTooLong => {
-            "standard input has at most 1048576 bytes, a capture with `--from` 67108864"
-        }
-        InputFault::LineTooLong => "a line of a session has at most 4096 bytes",
-        InputFault::Read => {
-            "standard input is not to be read: is it open, and is it a file and no folder?"
-        }
-        InputFault::Write => {
-            "standard output takes no more: is the disk full, or the reader gone? What was written before is the front of the output"
-        }
-        InputFault::Memory => "the system gave no more memory",
-        InputFault::NotUtf8 => "the words of the command line are UTF-8",
+        InputFault::NoParting(parting) => of_parting(parting),
+        InputFault::Whole(fault) => of_whole(fault),
     }
 }

@@ -7,9 +7,9 @@ use crate::room::{add_field_count, add_lack_of_room, is_hex_alone};
 use expect_text::ExpectCause;
 use explain_lists::{Draft, word_at, word_count};
 use explain_marks::{
-    Input, InputFault, InputLine, LAID, REFUSALS, REMARKS, SCRIPT, SESSION, STEPS, TEST, TOPOLOGY,
-    as_form, fitting, forms_of, frame_start, is_word, missing, most_fitting, plain, slip_of,
-    without_label,
+    FaultyLine, Input, InputFault, InputLine, LAID, REFUSALS, REMARKS, SCRIPT, SESSION, STEPS,
+    TEST, TOPOLOGY, as_form, fitting, forms_of, frame_start, is_word, missing, most_fitting, plain,
+    slip_of, without_label,
 };
 use message_lay::LayCause;
 use room_script::{ScriptCause, TopologyCause};
@@ -66,23 +66,17 @@ fn add_script_forms(draft: &mut Draft, what: Input, line: &str) {
 }
 
 // What a line of a script would be, by the number of its first word that it may not have. Returns whether more would be of no use.
-fn add_script_line(
-    draft: &mut Draft,
-    what: Input,
-    place: InputLine<'_>,
-    line: &str,
-    word: usize,
-) -> bool {
-    let is_key = is_of_key(line, word);
+fn add_script_line(draft: &mut Draft, at: FaultyLine<'_>, word: usize) -> bool {
+    let is_key = is_of_key(at.text, word);
     if !is_key || word == 4 {
-        add_script_forms(draft, what, line);
+        add_script_forms(draft, at.what, at.text);
     }
-    if word >= 4 && is_word(line, 2, "hold") {
+    if word >= 4 && is_word(at.text, 2, "hold") {
         draft.add_line(
             "ADDRS is `-` for none, or one or two logical addresses, 0 to e: `4`, `4+8`",
         );
     }
-    is_key && add_key(draft, place, line, word)
+    is_key && add_key(draft, at.place, at.text, word)
 }
 
 // Whether the word after the first one has hex digits alone.
@@ -124,18 +118,11 @@ fn add_topology(draft: &mut Draft, cause: TopologyCause, line: &str) {
 
 // What a line of a script would be that is refused for a cause, by the number of its word at fault. Returns whether more would
 // be of no use.
-fn add_script(
-    draft: &mut Draft,
-    what: Input,
-    place: InputLine<'_>,
-    cause: ScriptCause,
-    line: &str,
-    word: usize,
-) -> bool {
+fn add_script(draft: &mut Draft, at: FaultyLine<'_>, cause: ScriptCause, word: usize) -> bool {
     match cause {
-        ScriptCause::Word => return add_script_line(draft, what, place, line, word),
-        ScriptCause::Order => add_order(draft, place),
-        ScriptCause::Frame(cause) => add_frame(draft, cause, line, 4),
+        ScriptCause::Word => return add_script_line(draft, at, word),
+        ScriptCause::Order => add_order(draft, at.place),
+        ScriptCause::Frame(cause) => add_frame(draft, cause, at.text, 4),
         ScriptCause::Number
         | ScriptCause::Name
         | ScriptCause::Width
@@ -147,11 +134,11 @@ fn add_script(
 }
 
 // The forms of a line of expectations. Where a word slipped, none is missing at its end.
-fn add_expectation_forms(draft: &mut Draft, what: Input, fault: InputFault, line: &str) {
-    let own = as_form(what, line);
-    match slip_of(fault, line) {
-        Some(_) => add_fitting(draft, forms_of(what), own),
-        None => add_forms(draft, forms_of(what), own),
+fn add_expectation_forms(draft: &mut Draft, at: FaultyLine<'_>) {
+    let own = as_form(at.what, at.text);
+    match slip_of(at.fault, at.text) {
+        Some(_) => add_fitting(draft, forms_of(at.what), own),
+        None => add_forms(draft, forms_of(at.what), own),
     }
     let lacks_word = own.starts_with("expect state ") && own.ends_with(" not");
     if lacks_word || own == "expect refused" {
@@ -198,21 +185,13 @@ fn add_remarks(draft: &mut Draft, line: &str) -> bool {
 }
 
 // What a line of expectations would be that is refused for a cause. Returns whether more would be of no use.
-fn add_expectation(
-    draft: &mut Draft,
-    what: Input,
-    fault: InputFault,
-    cause: ExpectCause,
-    line: &str,
-) -> bool {
+fn add_expectation(draft: &mut Draft, at: FaultyLine<'_>, cause: ExpectCause) -> bool {
     match cause {
-        ExpectCause::Word | ExpectCause::Pattern => {
-            add_expectation_forms(draft, what, fault, line);
-        }
+        ExpectCause::Word | ExpectCause::Pattern => add_expectation_forms(draft, at),
         ExpectCause::Unmet => {
-            return add_state_words(draft, line)
-                || add_refusals(draft, line)
-                || add_remarks(draft, line);
+            return add_state_words(draft, at.text)
+                || add_refusals(draft, at.text)
+                || add_remarks(draft, at.text);
         }
         ExpectCause::Number | ExpectCause::Name | ExpectCause::Label | ExpectCause::Order => {}
     }
@@ -236,14 +215,23 @@ fn fields_in(what: Input, word: &str, line: &str) -> Option<&'static str> {
     }
 }
 
+// What a line with a frame to lay would be that is refused for a cause, by the number of its word at fault.
+fn add_laid(draft: &mut Draft, cause: LayCause, line: &str, word: usize) {
+    match cause {
+        LayCause::Frame(cause) => add_frame(draft, cause, line, frame_start(cause, word)),
+        LayCause::Word | LayCause::Number => add_forms(draft, LAID, line),
+        LayCause::Blocks | LayCause::Width | LayCause::Slot | LayCause::Order | LayCause::Late => {}
+    }
+}
+
 // What the fields of a line of an EDID's text are, or that its extension has no room for it. Returns whether more would be of no
 // use.
-fn add_fields(draft: &mut Draft, what: Input, place: InputLine<'_>, line: &str) -> bool {
-    if add_lack_of_room(draft, place) {
+fn add_fields(draft: &mut Draft, at: FaultyLine<'_>) -> bool {
+    if add_lack_of_room(draft, at.place) {
         return true;
     }
-    if let Some(word) = word_at(line, 0) {
-        if let Some(fields) = fields_in(what, word, line) {
+    if let Some(word) = word_at(at.text, 0) {
+        if let Some(fields) = fields_in(at.what, word, at.text) {
             draft.add_line(fields);
         }
     }
@@ -252,54 +240,28 @@ fn add_fields(draft: &mut Draft, what: Input, place: InputLine<'_>, line: &str) 
 
 /// The forms that a line could have, or the line that it should not stand after. Returns whether what would be right in place
 /// of any fault of this cause is of no use then.
-pub fn add_right_forms(
-    draft: &mut Draft,
-    what: Input,
-    place: InputLine<'_>,
-    fault: InputFault,
-    line: &str,
-) -> bool {
-    match fault {
-        InputFault::Topology(at) => add_topology(draft, at.cause, line),
-        InputFault::Script(at) => {
-            let line = plain(what, line);
-            return add_script(draft, what, place, at.cause, line, at.word);
+pub fn add_right_forms(draft: &mut Draft, at: FaultyLine<'_>) -> bool {
+    let line = at.text;
+    match at.fault {
+        InputFault::Topology(fault) => add_topology(draft, fault.cause, line),
+        InputFault::Script(fault) => {
+            let text = plain(at.what, line);
+            return add_script(draft, FaultyLine { text, ..at }, fault.cause, fault.word);
         }
-        InputFault::Expectation(at) => {
-            return add_expectation(draft, what, fault, at.cause, line);
-        }
+        InputFault::Expectation(fault) => return add_expectation(draft, at, fault.cause),
         InputFault::Steps { .. } => add_forms(draft, STEPS, line),
         InputFault::Frame { cause, .. } => add_frame(draft, cause, line, 0),
-        InputFault::Lay {
-            cause: LayCause::Frame(cause),
-            word,
-            ..
-        } => add_frame(draft, cause, line, frame_start(cause, word)),
-        InputFault::Lay {
-            cause: LayCause::Word | LayCause::Number,
-            ..
-        } => add_forms(draft, LAID, line),
-        InputFault::TextField { .. } => return add_fields(draft, what, place, line),
+        InputFault::Lay { cause, word, .. } => add_laid(draft, cause, line, word),
+        InputFault::TextField { .. } => return add_fields(draft, at),
         InputFault::TextSyntax { .. } => return add_field_count(draft, line),
         InputFault::Past { .. }
         | InputFault::Range(_)
         | InputFault::Hex { .. }
-        | InputFault::Lay { .. }
         | InputFault::Capture { .. }
         | InputFault::Edid(_)
-        | InputFault::NoHdmiBlock
         | InputFault::NoPort
-        | InputFault::Dump(_)
-        | InputFault::NoScriptLine
-        | InputFault::NoStepsLine
-        | InputFault::NoCaptureLine
-        | InputFault::NoRange
-        | InputFault::InputTooLong
-        | InputFault::LineTooLong
-        | InputFault::Read
-        | InputFault::Write
-        | InputFault::Memory
-        | InputFault::NotUtf8 => {}
+        | InputFault::NoParting(_)
+        | InputFault::Whole(_) => {}
     }
     false
 }

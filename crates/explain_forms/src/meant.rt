@@ -10,8 +10,8 @@ use device_features::KeyWord;
 use edid_text_lines::WORD_TEXTS;
 use explain_lists::{Draft, word_at};
 use explain_marks::{
-    EXPECTATIONS, Input, InputFault, InputLine, LAID, NETWORK, SESSION, SESSION_ALONE, STEPS,
-    is_number, is_word, most_fitting,
+    EXPECTATIONS, FaultyLine, Input, InputFault, InputLine, LAID, NETWORK, SESSION, SESSION_ALONE,
+    STEPS, is_number, is_word, most_fitting,
 };
 use explain_near::{add_near, add_nearest, add_number, add_other, add_set_meant, add_suggestion};
 use message_lay::LayCause;
@@ -207,22 +207,14 @@ fn of_script_frame(
 }
 
 // What a word of a script may have been meant for, by its number in the line without a label.
-fn of_script(
-    draft: &mut Draft,
-    what: Input,
-    place: InputLine<'_>,
-    cause: ScriptCause,
-    line: &str,
-    number: usize,
-) {
-    let Some(word) = word_at(line, number) else {
-        return;
-    };
+fn of_script(draft: &mut Draft, at: FaultyLine<'_>, cause: ScriptCause, word: &str, number: usize) {
     match cause {
-        ScriptCause::Name => of_script_name(draft, place, line, word, number),
-        ScriptCause::Number => of_script_number(draft, line, word, number),
-        ScriptCause::Word => of_script_word(draft, what, line, word, number),
-        ScriptCause::Frame(cause) => of_script_frame(draft, place, cause, line, word, number),
+        ScriptCause::Name => of_script_name(draft, at.place, at.text, word, number),
+        ScriptCause::Number => of_script_number(draft, at.text, word, number),
+        ScriptCause::Word => of_script_word(draft, at.what, at.text, word, number),
+        ScriptCause::Frame(cause) => {
+            of_script_frame(draft, at.place, cause, at.text, word, number);
+        }
         ScriptCause::Width
         | ScriptCause::Order
         | ScriptCause::Close
@@ -267,66 +259,55 @@ fn of_edge(draft: &mut Draft, word: &str, number: usize) {
     }
 }
 
-/// What the word at fault of a line may have been meant for. The line is without the label that it has in a test, and words
-/// are counted so.
-pub fn add_meant(
-    draft: &mut Draft,
-    what: Input,
-    place: InputLine<'_>,
-    fault: InputFault,
-    line: &str,
-    number: usize,
-) {
-    let Some(word) = word_at(line, number) else {
+// What a word of a captured line may have been meant for.
+fn of_capture(draft: &mut Draft, form: CaptureForm, cause: Cause, word: &str, number: usize) {
+    if form == CaptureForm::Edges && cause == Cause::Line {
+        of_edge(draft, word, number);
+    }
+}
+
+// What a word of a frame to lay may have been meant for.
+fn of_laid(draft: &mut Draft, cause: LayCause, line: &str, word: &str, number: usize) {
+    match cause {
+        LayCause::Number => add_number(draft, word),
+        LayCause::Frame(AssembleError::Address) if add_nearest_of(draft, LAID, word) => {}
+        LayCause::Frame(cause) => add_frame_meant(draft, cause, line, number),
+        LayCause::Word
+        | LayCause::Blocks
+        | LayCause::Width
+        | LayCause::Slot
+        | LayCause::Order
+        | LayCause::Late => {}
+    }
+}
+
+/// What the word of this number in a line may have been meant for. The line is without the label that it has in a test.
+pub fn add_meant(draft: &mut Draft, at: FaultyLine<'_>, number: usize) {
+    let Some(word) = word_at(at.text, number) else {
         return;
     };
-    match fault {
-        InputFault::Topology(at) => add_topology_meant(draft, place, at.cause, line, number),
-        InputFault::Script(at) => of_script(draft, what, place, at.cause, line, number),
-        InputFault::Expectation(at) => {
-            add_expected_meant(draft, place, at.cause, line, number);
+    match at.fault {
+        InputFault::Topology(fault) => {
+            add_topology_meant(draft, at.place, fault.cause, at.text, number);
         }
-        InputFault::Steps { .. } => of_step(draft, place, line, word, number),
-        InputFault::Frame { cause, .. } => add_frame_meant(draft, cause, line, number),
-        InputFault::Lay {
-            cause: LayCause::Number,
-            ..
-        } => add_number(draft, word),
-        InputFault::Lay {
-            cause: LayCause::Frame(AssembleError::Address),
-            ..
-        } if add_nearest_of(draft, LAID, word) => {}
-        InputFault::Lay {
-            cause: LayCause::Frame(cause),
-            ..
-        } => add_frame_meant(draft, cause, line, number),
+        InputFault::Script(fault) => of_script(draft, at, fault.cause, word, number),
+        InputFault::Expectation(fault) => {
+            add_expected_meant(draft, at.place, fault.cause, at.text, number);
+        }
+        InputFault::Steps { .. } => of_step(draft, at.place, at.text, word, number),
+        InputFault::Frame { cause, .. } => add_frame_meant(draft, cause, at.text, number),
+        InputFault::Lay { cause, .. } => of_laid(draft, cause, at.text, word, number),
         InputFault::TextSyntax { .. } => {
             let _ = add_nearest(draft, WORD_TEXTS, word);
         }
-        InputFault::Capture {
-            form: CaptureForm::Edges,
-            cause: Cause::Line,
-            ..
-        } => of_edge(draft, word, number),
+        InputFault::Capture { form, cause, .. } => of_capture(draft, form, cause, word, number),
         InputFault::Past { .. }
         | InputFault::Range(_)
         | InputFault::Hex { .. }
-        | InputFault::Lay { .. }
-        | InputFault::Capture { .. }
-        | InputFault::Edid(_)
-        | InputFault::NoHdmiBlock
-        | InputFault::NoPort
         | InputFault::TextField { .. }
-        | InputFault::Dump(_)
-        | InputFault::NoScriptLine
-        | InputFault::NoStepsLine
-        | InputFault::NoCaptureLine
-        | InputFault::NoRange
-        | InputFault::InputTooLong
-        | InputFault::LineTooLong
-        | InputFault::Read
-        | InputFault::Write
-        | InputFault::Memory
-        | InputFault::NotUtf8 => {}
+        | InputFault::Edid(_)
+        | InputFault::NoPort
+        | InputFault::NoParting(_)
+        | InputFault::Whole(_) => {}
     }
 }

@@ -1,6 +1,6 @@
 //! The faults of inputs, as the libraries return them.
 use capture_forms::{CaptureForm, Cause};
-use edid_core::EdidError;
+use edid_core::EdidCause;
 use edid_dump::DumpError;
 use expect_text::{ExpectCause, RangeCause};
 use message_hex::DisCause;
@@ -28,6 +28,31 @@ pub enum Input {
     EdidText,
     /// The same, in which payloads may stand in words.
     EdidWords,
+}
+
+/// A line that parts an input, named as the part that follows it.
+#[derive(Clone, Copy, Debug, PartialEq, Eq)]
+pub enum Parting {
+    Script,
+    Steps,
+    Capture,
+}
+
+/// A fault that stands in no line of the input: it is of the whole input, of the program or of its command line.
+#[derive(Clone, Copy, Debug)]
+pub enum WholeFault {
+    /// A text without a hex dump of an EDID.
+    Dump(DumpError),
+    /// No time of a script is a range.
+    NoRange,
+    InputTooLong,
+    /// A line of a session is.
+    LineTooLong,
+    Read,
+    Write,
+    Memory,
+    /// A word of the command line is none of UTF-8.
+    NotUtf8,
 }
 
 /// Why the program did not do what it was asked. Lines count from 1 in their part of the input, words from 0 in their line;
@@ -76,9 +101,7 @@ pub enum InputFault {
         word: usize,
     },
     /// The bytes of an EDID, of the input or of a topology's line `edid`.
-    Edid(EdidError),
-    /// An EDID of a television that has no HDMI block.
-    NoHdmiBlock,
+    Edid(EdidCause),
     /// No device has such a port.
     NoPort,
     /// A line of an EDID's text that has another form.
@@ -90,19 +113,8 @@ pub enum InputFault {
         line: u64,
         word: usize,
     },
-    /// A text without a hex dump of an EDID.
-    Dump(DumpError),
-    NoScriptLine,
-    NoStepsLine,
-    NoCaptureLine,
-    /// No time of a script is a range.
-    NoRange,
-    InputTooLong,
-    /// A line of a session is.
-    LineTooLong,
-    Read,
-    Write,
-    Memory,
-    /// A word of the command line is none of UTF-8.
-    NotUtf8,
+    /// The line is missing that parts the input so.
+    NoParting(Parting),
+    /// No line is at fault.
+    Whole(WholeFault),
 }

@@ -12,13 +12,13 @@ mod place;
 mod slips;
 
 pub use expectations::{as_form, forms_of, label_words, labelled_by, plain, without_label};
-pub use fault::{Input, InputFault};
+pub use fault::{Input, InputFault, Parting, WholeFault};
 pub use grammar::{
     EXPECTATIONS, LAID, NETWORK, REFUSALS, REMARKS, SCRIPT, SESSION, SESSION_ALONE, STEPS, TEST,
     TOPOLOGY, fitting, is_value, missing, most_fitting, wanted_at,
 };
 pub use marks::{Mark, frame_start, gaps_of, is_number, is_word, marked};
 pub use place::{
-    InputLine, declared_by, is_line_end, kind_of, place_in_session, place_of, ports_of,
+    FaultyLine, InputLine, declared_by, is_line_end, kind_of, place_in_session, place_of, ports_of,
 };
 pub use slips::{WordSlip, slip_of};

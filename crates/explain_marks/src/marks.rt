@@ -186,22 +186,13 @@ fn told(what: Input, fault: InputFault, line: &str) -> Option<Mark> {
             word,
             ..
         } => in_capture(form, cause, word, line),
-        InputFault::Edid(_) | InputFault::NoHdmiBlock => from(1),
+        InputFault::Edid(_) => from(1),
         InputFault::TextField { word, .. } => in_text(line, word),
         InputFault::TextSyntax { .. } => one(0),
         InputFault::Hex { .. }
         | InputFault::NoPort
-        | InputFault::Dump(_)
-        | InputFault::NoScriptLine
-        | InputFault::NoStepsLine
-        | InputFault::NoCaptureLine
-        | InputFault::NoRange
-        | InputFault::InputTooLong
-        | InputFault::LineTooLong
-        | InputFault::Read
-        | InputFault::Write
-        | InputFault::Memory
-        | InputFault::NotUtf8 => None,
+        | InputFault::NoParting(_)
+        | InputFault::Whole(_) => None,
     }
 }
 

@@ -1,5 +1,5 @@
 //! Where in an input a fault stands.
-use crate::fault::{Input, InputFault};
+use crate::fault::{Input, InputFault, Parting};
 use text_core::At;
 
 /// A line of an input, with its number from 1.
@@ -11,6 +11,17 @@ pub struct InputLine<'a> {
     /// Its number in the whole input.
     pub number: usize,
     pub line: &'a [u8],
+}
+
+/// A line with a fault, as it is explained.
+#[derive(Clone, Copy)]
+pub struct FaultyLine<'a> {
+    /// What the input is to be.
+    pub what: Input,
+    pub place: InputLine<'a>,
+    pub fault: InputFault,
+    /// The line's text, as it is shown, or without the label that it has in a test.
+    pub text: &'a str,
 }
 
 /// Whether a byte ends a line, or parts it from the next one.
@@ -71,6 +82,21 @@ fn find_parting<'a>(input: &'a [u8], parting: &str, later: &[&str]) -> Option<In
     match find_like(input, &[parting]) {
         Some(place) => Some(place),
         None => find_like(input, later),
+    }
+}
+
+// The line that was meant to part an input so, or that stands in its place.
+fn parting_line(input: &[u8], parting: Parting) -> Option<InputLine<'_>> {
+    match parting {
+        Parting::Script => find_parting(
+            input,
+            "script",
+            &[
+                "at ", "pulse ", "pull ", "pin ", "end ", "label ", "expect ",
+            ],
+        ),
+        Parting::Steps => find_parting(input, "steps", &["edge", "round", "until ", "show "]),
+        Parting::Capture => find_parting(input, "capture", &[]),
     }
 }
 
@@ -156,29 +182,9 @@ pub fn place_of(input: &[u8], what: Input, fault: InputFault) -> Option<InputLin
         | InputFault::Lay { line, .. }
         | InputFault::TextSyntax { line }
         | InputFault::TextField { line, .. } => line_of(input, 0, line),
-        InputFault::Edid(_) | InputFault::NoHdmiBlock => edid_line(what, input),
-        InputFault::NoScriptLine => find_parting(
-            input,
-            "script",
-            &[
-                "at ", "pulse ", "pull ", "pin ", "end ", "label ", "expect ",
-            ],
-        ),
-        InputFault::NoStepsLine => find_parting(
-            input,
-            "steps",
-            &["edge", "round", "until ", "show "],
-        ),
-        InputFault::NoCaptureLine => find_parting(input, "capture", &[]),
-        InputFault::NoPort
-        | InputFault::Dump(_)
-        | InputFault::NoRange
-        | InputFault::InputTooLong
-        | InputFault::LineTooLong
-        | InputFault::Read
-        | InputFault::Write
-        | InputFault::Memory
-        | InputFault::NotUtf8 => None,
+        InputFault::Edid(_) => edid_line(what, input),
+        InputFault::NoParting(parting) => parting_line(input, parting),
+        InputFault::NoPort | InputFault::Whole(_) => None,
     }
 }
 

@@ -4,7 +4,7 @@ use capture_forms::CaptureForm;
 use cli_words::{CommandChoice, Objects, Source};
 use edid_core::EdidCause;
 use expect_run::CheckError;
-use explain_marks::{Input, InputFault as Explained};
+use explain_marks::{Input, InputFault as Explained, Parting, WholeFault};
 use follow_core::LineForm;
 use live_dialogue::{ScriptEnd, SessionError};
 use message_hex::DisError;
@@ -67,13 +67,6 @@ pub fn form_in(choice: CommandChoice, input: &[u8]) -> CaptureForm {
     }
 }
 
-fn of_root(cause: &EdidCause) -> Explained {
-    match cause {
-        EdidCause::Edid(error) => Explained::Edid(*error),
-        EdidCause::NoHdmiBlock => Explained::NoHdmiBlock,
-    }
-}
-
 fn of_run(error: &EmulateError) -> Explained {
     match error {
         EmulateError::Topology { line, cause, word } => Explained::Topology(At {
@@ -86,9 +79,9 @@ fn of_run(error: &EmulateError) -> Explained {
             cause: *cause,
             word: *word,
         }),
-        EmulateError::Edid(cause) => of_root(cause),
-        EmulateError::Write(_) => Explained::Write,
-        EmulateError::Memory => Explained::Memory,
+        EmulateError::Edid(cause) => Explained::Edid(*cause),
+        EmulateError::Write(_) => Explained::Whole(WholeFault::Write),
+        EmulateError::Memory => Explained::Whole(WholeFault::Memory),
     }
 }
 
@@ -96,8 +89,8 @@ fn of_test(error: &CheckError) -> Explained {
     match error {
         CheckError::Emulate(error) => of_run(error),
         CheckError::Expect(fault) => Explained::Expectation(*fault),
-        CheckError::Write(_) => Explained::Write,
-        CheckError::Memory => Explained::Memory,
+        CheckError::Write(_) => Explained::Whole(WholeFault::Write),
+        CheckError::Memory => Explained::Whole(WholeFault::Memory),
     }
 }
 
@@ -105,24 +98,24 @@ fn of_test(error: &CheckError) -> Explained {
 fn of_end(line: u64, cause: ScriptEnd) -> Explained {
     match cause {
         ScriptEnd::End => Explained::Script(at_word(0, ScriptCause::End).on_line(line)),
-        ScriptEnd::TooLong => Explained::LineTooLong,
+        ScriptEnd::TooLong => Explained::Whole(WholeFault::LineTooLong),
     }
 }
 
 fn of_session(error: &SessionError) -> Explained {
     match error {
-        SessionError::Read => Explained::Read,
-        SessionError::TooLong => Explained::InputTooLong,
-        SessionError::NoScriptLine => Explained::NoScriptLine,
+        SessionError::Read => Explained::Whole(WholeFault::Read),
+        SessionError::TooLong => Explained::Whole(WholeFault::InputTooLong),
+        SessionError::NoScriptLine => Explained::NoParting(Parting::Script),
         SessionError::Topology { line, cause, word } => Explained::Topology(At {
             line: *line,
             cause: *cause,
             word: *word,
         }),
-        SessionError::Edid(cause) => of_root(cause),
+        SessionError::Edid(cause) => Explained::Edid(*cause),
         SessionError::Script { line, cause } => of_end(*line, *cause),
-        SessionError::Write(_) => Explained::Write,
-        SessionError::Memory => Explained::Memory,
+        SessionError::Write(_) => Explained::Whole(WholeFault::Write),
+        SessionError::Memory => Explained::Whole(WholeFault::Memory),
     }
 }
 
@@ -132,7 +125,7 @@ fn of_frames(error: &FrameLinesError) -> Explained {
             line: fault.line,
             cause: fault.cause,
         },
-        FrameLinesError::Write(_) => Explained::Write,
+        FrameLinesError::Write(_) => Explained::Whole(WholeFault::Write),
     }
 }
 
@@ -142,7 +135,7 @@ fn of_hex(error: &DisError) -> Explained {
             line: fault.line,
             cause: fault.cause,
         },
-        DisError::Write(_) => Explained::Write,
+        DisError::Write(_) => Explained::Whole(WholeFault::Write),
     }
 }
 
@@ -153,33 +146,33 @@ fn of_laid(error: &LayError) -> Explained {
             cause: fault.cause,
             word: fault.word,
         },
-        LayError::Write(_) => Explained::Write,
+        LayError::Write(_) => Explained::Whole(WholeFault::Write),
     }
 }
 
 fn of_input(error: &InputError) -> Explained {
     match error {
-        InputError::Read => Explained::Read,
-        InputError::TooLong => Explained::InputTooLong,
-        InputError::NoScriptLine => Explained::NoScriptLine,
-        InputError::NoStepsLine => Explained::NoStepsLine,
-        InputError::NoCaptureLine => Explained::NoCaptureLine,
-        InputError::Memory(_) => Explained::Memory,
+        InputError::Read => Explained::Whole(WholeFault::Read),
+        InputError::TooLong => Explained::Whole(WholeFault::InputTooLong),
+        InputError::NoScriptLine => Explained::NoParting(Parting::Script),
+        InputError::NoStepsLine => Explained::NoParting(Parting::Steps),
+        InputError::NoCaptureLine => Explained::NoParting(Parting::Capture),
+        InputError::Memory(_) => Explained::Whole(WholeFault::Memory),
     }
 }
 
 fn of_capture(form: CaptureForm, fault: &MonitorFault) -> Option<Explained> {
     let explained = match fault {
-        MonitorFault::Read => Explained::Read,
-        MonitorFault::TooLong => Explained::InputTooLong,
+        MonitorFault::Read => Explained::Whole(WholeFault::Read),
+        MonitorFault::TooLong => Explained::Whole(WholeFault::InputTooLong),
         MonitorFault::Line(fault) => Explained::Capture {
             form,
             line: fault.line,
             cause: fault.cause,
             word: fault.word,
         },
-        MonitorFault::Write(_) => Explained::Write,
-        MonitorFault::Memory(_) => Explained::Memory,
+        MonitorFault::Write(_) => Explained::Whole(WholeFault::Write),
+        MonitorFault::Memory(_) => Explained::Whole(WholeFault::Memory),
         MonitorFault::Remarked => return None,
     };
     Some(explained)
@@ -187,17 +180,17 @@ fn of_capture(form: CaptureForm, fault: &MonitorFault) -> Option<Explained> {
 
 fn of_edid(fault: &EdidFault) -> Option<Explained> {
     let explained = match fault {
-        EdidFault::Edid(error) => Explained::Edid(*error),
+        EdidFault::Edid(error) => Explained::Edid(EdidCause::Edid(*error)),
         EdidFault::Syntax(line) => Explained::TextSyntax { line: *line as u64 },
         EdidFault::Field { line, word } => Explained::TextField {
             line: *line as u64,
             word: *word,
         },
-        EdidFault::Dump(error) => Explained::Dump(*error),
+        EdidFault::Dump(error) => Explained::Whole(WholeFault::Dump(*error)),
         EdidFault::PortRange => Explained::NoPort,
-        EdidFault::NoHdmiBlock => Explained::NoHdmiBlock,
-        EdidFault::Write(_) => Explained::Write,
-        EdidFault::Memory(_) => Explained::Memory,
+        EdidFault::NoHdmiBlock => Explained::Edid(EdidCause::NoHdmiBlock),
+        EdidFault::Write(_) => Explained::Whole(WholeFault::Write),
+        EdidFault::Memory(_) => Explained::Whole(WholeFault::Memory),
         EdidFault::RuleFails | EdidFault::Merge(_) | EdidFault::Speakers(_) => return None,
     };
     Some(explained)
@@ -206,13 +199,13 @@ fn of_edid(fault: &EdidFault) -> Option<Explained> {
 /// A fault as it is explained, where a capture has this form; None of what was done and is not as it was wanted.
 pub fn explained(form: CaptureForm, fault: &ProgramFault) -> Option<Explained> {
     let explained = match fault {
-        ProgramFault::NotUtf8 => Explained::NotUtf8,
+        ProgramFault::NotUtf8 => Explained::Whole(WholeFault::NotUtf8),
         ProgramFault::Input(error) => of_input(error),
         ProgramFault::Emulate(error) => of_run(error),
         ProgramFault::Expect(fault) | ProgramFault::CaptureExpect(fault) => Explained::Expectation(
             *fault,
         ),
-        ProgramFault::NoRange => Explained::NoRange,
+        ProgramFault::NoRange => Explained::Whole(WholeFault::NoRange),
         ProgramFault::Range(fault) => Explained::Range(*fault),
         ProgramFault::AtInstant { error, .. } => of_test(error),
         ProgramFault::Session(error) => of_session(error),
@@ -225,8 +218,8 @@ pub fn explained(form: CaptureForm, fault: &ProgramFault) -> Option<Explained> {
         ProgramFault::Lay(error) => of_laid(error),
         ProgramFault::Capture(fault) => return of_capture(form, fault),
         ProgramFault::Edid(fault) => return of_edid(fault),
-        ProgramFault::Write(_) => Explained::Write,
-        ProgramFault::Memory(_) => Explained::Memory,
+        ProgramFault::Write(_) => Explained::Whole(WholeFault::Write),
+        ProgramFault::Memory(_) => Explained::Whole(WholeFault::Memory),
         ProgramFault::EventsRefused(_) | ProgramFault::TestsFailed(_) | ProgramFault::SweepFailed =>
             {
                 return None;

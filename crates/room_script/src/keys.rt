@@ -31,12 +31,7 @@ fn key_alone(fault: AtWord<ScriptCause>, word: KeyWord) -> Result<Key, AtWord<Sc
         KeyWord::VolumeUp => Ok(Key::Volume(VolumeKey::Up)),
         KeyWord::VolumeDown => Ok(Key::Volume(VolumeKey::Down)),
         KeyWord::Mute => Ok(Key::Volume(VolumeKey::Mute)),
-        KeyWord::Port
-        | KeyWord::Watch
-        | KeyWord::Language
-        | KeyWord::Audio
-        | KeyWord::Arc
-        | KeyWord::Remote => Err(fault),
+        _ => Err(fault),
     }
 }
 
@@ -155,16 +150,7 @@ fn key_with(
         KeyWord::Audio => key_or_cause(switch_in(value).map(|on| Key::Audio { on })),
         KeyWord::Arc => key_or_cause(switch_in(value).map(|on| Key::Arc { on })),
         KeyWord::Language => key_or_cause(language_in(value).map(Key::Language)),
-        KeyWord::Play
-        | KeyWord::Stop
-        | KeyWord::Eject
-        | KeyWord::Load
-        | KeyWord::Menu
-        | KeyWord::Power
-        | KeyWord::VolumeUp
-        | KeyWord::VolumeDown
-        | KeyWord::Mute
-        | KeyWord::Remote => Err(fault),
+        _ => Err(fault),
     }
 }
 
