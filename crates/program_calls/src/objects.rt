@@ -69,7 +69,7 @@ impl Lines<'_> {
     // Writes them, where they are not those of a run.
     fn write<W: Sink>(self, out: &mut W) -> Result<Recap, ProgramFault>
         requires { are_of_run self.objects ≡ false }
-        ensures { OnOk result (WritesLines self.objects self.signal.now self.input.now (W.contents out.old) (W.contents out.new)) }
+        ensures { OnOk result (WritesLines self.entry.objects self.entry.signal.now self.entry.input.now (W.contents out.old) (W.contents out.new)) }
     {
         let Lines {
             alloc,
@@ -105,7 +105,7 @@ impl Lines<'_> {
     #[inline(never)]
     fn write_held<W: Sink>(self, out: &mut W) -> Result<Recap, ProgramFault>
         requires { are_of_run self.objects ≡ false }
-        ensures { OnOk result (Writes (CommandChoice.Json self.objects) self.signal.now self.input.now (W.contents out.old) (W.contents out.new)) }
+        ensures { OnOk result (Writes (CommandChoice.Json self.entry.objects) self.entry.signal.now self.entry.input.now (W.contents out.old) (W.contents out.new)) }
     {
         let mut held = Held::new(self.alloc);
         let done = self.write(&mut held);
@@ -118,7 +118,7 @@ impl Lines<'_> {
 
     // Writes their objects.
     fn write_objects<W: Sink>(self, out: &mut W) -> Result<Recap, ProgramFault>
-        ensures { OnOk result (Writes (CommandChoice.Json self.objects) self.signal.now self.input.now (W.contents out.old) (W.contents out.new)) }
+        ensures { OnOk result (Writes (CommandChoice.Json self.entry.objects) self.entry.signal.now self.entry.input.now (W.contents out.old) (W.contents out.new)) }
     {
         match self.objects {
             Objects::Trace { strict } => run_to_objects(self.alloc, strict, self.input, out),

@@ -127,7 +127,7 @@ impl Call<'_> {
         err: &mut E,
     ) -> u8
         requires { is_line_by_line self.asked.choice ≡ false }
-        ensures { result ≡ 0 → Writes self.asked.choice signal.now input.now (⟦<Buffered<W> as Sink>⟧.contents out.old) (W.contents (below out.new)) }
+        ensures { result ≡ 0 → Writes self.entry.asked.choice signal.now input.now (⟦<Buffered<W> as Sink>⟧.contents out.old) (W.contents (below out.new)) }
     {
         let Call { alloc, asked, .. } = self;
         let mut progress = ProgressLines { alloc, err };
@@ -240,7 +240,7 @@ impl Call<'_> {
         out: &mut Buffered<W>,
         err: &mut E,
     ) -> u8
-        ensures { result ≡ 0 → FollowsTo followed.form followed.signal.now followed.margin followed.report (R.remaining input.old) (⟦<Buffered<W> as Sink>⟧.contents out.old) (W.contents (below out.new)) }
+        ensures { result ≡ 0 → FollowsTo followed.entry.form followed.entry.signal.now followed.entry.margin followed.entry.report (R.remaining input.old) (⟦<Buffered<W> as Sink>⟧.contents out.old) (W.contents (below out.new)) }
     {
         let Followed {
             form,
@@ -264,7 +264,7 @@ impl Call<'_> {
         out: W,
         err: &mut E,
     ) -> ProgramEnd<W>
-        ensures { result.status ≡ 0 → FollowsTo followed.form followed.signal.now followed.margin followed.report (R.remaining input.old) (W.contents out) (W.contents result.out) }
+        ensures { result.status ≡ 0 → FollowsTo followed.entry.form followed.entry.signal.now followed.entry.margin followed.entry.report (R.remaining input.old) (W.contents out) (W.contents result.out) }
     {
         let mut out = Buffered::new(out);
         let status = self.follow_lines(followed, input, &mut out, err);
@@ -283,7 +283,7 @@ impl Call<'_> {
         err: &mut E,
     ) -> u8
         requires { is_line_by_line self.asked.choice ≡ false }
-        ensures { result ≡ 0 → IsServed (R.remaining input.old) (⟦<Buffered<W> as Sink>⟧.contents out.old) (W.contents (below out.new)) self.asked.choice signal.now }
+        ensures { result ≡ 0 → IsServed (R.remaining input.old) (⟦<Buffered<W> as Sink>⟧.contents out.old) (W.contents (below out.new)) self.entry.asked.choice signal.now }
     {
         match read_input(self.alloc, limit_of(self.asked.choice), input) {
             Ok(input) => self.answer(signal, &input, out, err),
@@ -299,7 +299,7 @@ impl Call<'_> {
         err: &mut E,
     ) -> u8
         requires { is_line_by_line self.asked.choice ≡ false }
-        ensures { result ≡ 0 → IsServed (R.remaining input.old) (⟦<Buffered<W> as Sink>⟧.contents out.old) (W.contents (below out.new)) self.asked.choice (name_of (signal_in (map string_bytes self.words.now))) }
+        ensures { result ≡ 0 → IsServed (R.remaining input.old) (⟦<Buffered<W> as Sink>⟧.contents out.old) (W.contents (below out.new)) self.entry.asked.choice (name_of (signal_in (map string_bytes self.entry.words.now))) }
     {
         match name_of(self.alloc, self.words) {
             Ok(name) => self.serve_whole(&name, input, out, err),
@@ -315,7 +315,7 @@ impl Call<'_> {
         err: &mut E,
     ) -> ProgramEnd<W>
         requires { is_line_by_line self.asked.choice ≡ false }
-        ensures { result.status ≡ 0 → IsServed (R.remaining input.old) (W.contents out) (W.contents result.out) self.asked.choice (name_of (signal_in (map string_bytes self.words.now))) }
+        ensures { result.status ≡ 0 → IsServed (R.remaining input.old) (W.contents out) (W.contents result.out) self.entry.asked.choice (name_of (signal_in (map string_bytes self.entry.words.now))) }
     {
         let mut out = Buffered::new(out);
         let status = self.serve_named(input, &mut out, err);
@@ -327,7 +327,7 @@ impl Call<'_> {
 
     // Does what is asked for.
     fn serve<R: Read, W: Sink, E: Sink>(self, input: &mut R, out: W, err: &mut E) -> ProgramEnd<W>
-        ensures { result.status ≡ 0 → IsServed (R.remaining input.old) (W.contents out) (W.contents result.out) self.asked.choice (name_of (signal_in (map string_bytes self.words.now))) }
+        ensures { result.status ≡ 0 → IsServed (R.remaining input.old) (W.contents out) (W.contents result.out) self.entry.asked.choice (name_of (signal_in (map string_bytes self.entry.words.now))) }
     {
         match self.asked.choice {
             CommandChoice::Live { json } => self.serve_session(json, input, out, err),

@@ -113,21 +113,21 @@ fn without_remark(text: &[u8]) -> Result<(), MonitorFault>
 impl Listener<'_> {
     fn write_readings<W: Sink>(self, out: &mut W) -> Result<(), MonitorFault>
         requires { AreWindows self.windows }
-        ensures { OnOk result (Reports CaptureReport.Readings self.capture.now (captured_by self.windows self.capture.now) (W.contents out.old) (W.contents out.new)) }
+        ensures { OnOk result (Reports CaptureReport.Readings self.entry.capture.now (captured_by self.entry.windows self.entry.capture.now) (W.contents out.old) (W.contents out.new)) }
     {
         Ok(watch_capture_by(self.capture, self.windows, out)?)
     }
 
     fn write_from_idle<W: Sink>(self, out: &mut W) -> Result<(), MonitorFault>
         requires { AreWindows self.windows }
-        ensures { OnOk result (Reports CaptureReport.FromIdle self.capture.now (captured_by self.windows self.capture.now) (W.contents out.old) (W.contents out.new)) }
+        ensures { OnOk result (Reports CaptureReport.FromIdle self.entry.capture.now (captured_by self.entry.windows self.entry.capture.now) (W.contents out.old) (W.contents out.new)) }
     {
         Ok(watch_from_idle_by(self.capture, self.windows, out)?)
     }
 
     fn write_audit<W: Sink>(self, timing: bool, out: &mut W) -> Result<(), MonitorFault>
         requires { AreWindows self.windows }
-        ensures { OnOk result (Reports (CaptureReport.Audit timing false) self.capture.now (captured_by self.windows self.capture.now) (W.contents out.old) (W.contents out.new)) }
+        ensures { OnOk result (Reports (CaptureReport.Audit timing false) self.entry.capture.now (captured_by self.entry.windows self.entry.capture.now) (W.contents out.old) (W.contents out.new)) }
     {
         Ok(audit_capture_by(self.capture, self.windows, AuditOptions { timing }, out)?)
     }
@@ -135,7 +135,7 @@ impl Listener<'_> {
     // An audit as it is held: `Err` where memory runs out.
     fn held_audit(self, timing: bool) -> Result<Held, AllocError>
         requires { AreWindows self.windows }
-        ensures { IfOk result (λ held. ⟦<Held as Sink>⟧.contents held ≡ Some (audit_text_of timing self.capture.now (captured_by self.windows self.capture.now))) }
+        ensures { IfOk result (λ held. ⟦<Held as Sink>⟧.contents held ≡ Some (audit_text_of timing self.entry.capture.now (captured_by self.entry.windows self.entry.capture.now))) }
     {
         let mut held = Held::new(self.alloc);
         match audit_capture_by(
@@ -152,7 +152,7 @@ impl Listener<'_> {
     // The audit of which a remark is a fault. All of it is written then too.
     fn write_strict_audit<W: Sink>(self, timing: bool, out: &mut W) -> Result<(), MonitorFault>
         requires { AreWindows self.windows }
-        ensures { OnOk result (Reports (CaptureReport.Audit timing true) self.capture.now (captured_by self.windows self.capture.now) (W.contents out.old) (W.contents out.new)) }
+        ensures { OnOk result (Reports (CaptureReport.Audit timing true) self.entry.capture.now (captured_by self.entry.windows self.entry.capture.now) (W.contents out.old) (W.contents out.new)) }
     {
         let held = self.held_audit(timing)?;
         let text = held.bytes();
@@ -167,7 +167,7 @@ impl Listener<'_> {
         out: &mut W,
     ) -> Result<(), MonitorFault>
         requires { AreWindows self.windows }
-        ensures { OnOk result (Reports (CaptureReport.Audit timing strict) self.capture.now (captured_by self.windows self.capture.now) (W.contents out.old) (W.contents out.new)) }
+        ensures { OnOk result (Reports (CaptureReport.Audit timing strict) self.entry.capture.now (captured_by self.entry.windows self.entry.capture.now) (W.contents out.old) (W.contents out.new)) }
     {
         if strict {
             self.write_strict_audit(timing, out)
@@ -179,7 +179,7 @@ impl Listener<'_> {
     // Writes what is asked for of the capture.
     fn write_report<W: Sink>(self, report: CaptureReport, out: &mut W) -> Result<(), MonitorFault>
         requires { AreWindows self.windows }
-        ensures { OnOk result (Reports report self.capture.now (captured_by self.windows self.capture.now) (W.contents out.old) (W.contents out.new)) }
+        ensures { OnOk result (Reports report self.entry.capture.now (captured_by self.entry.windows self.entry.capture.now) (W.contents out.old) (W.contents out.new)) }
     {
         match report {
             CaptureReport::Readings => self.write_readings(out),
@@ -210,7 +210,7 @@ fn listen<W: Sink>(
     input: &[u8],
     out: &mut W,
 ) -> Result<Signs, MonitorFault>
-    ensures { OnOk result (Heard form hearing.signal.now hearing.inverted hearing.glitch hearing.margin report input.now (W.contents out.old) (W.contents out.new)) }
+    ensures { OnOk result (Heard form hearing.entry.signal.now hearing.entry.inverted hearing.entry.glitch hearing.entry.margin report input.now (W.contents out.old) (W.contents out.new)) }
 {
     let whole = read_capture(alloc, form, hearing.signal, input)?;
     let kept = as_read(alloc, hearing.inverted, hearing.glitch, whole)?;
@@ -232,7 +232,7 @@ fn monitor<W: Sink>(
     input: &[u8],
     out: &mut W,
 ) -> Result<Signs, MonitorFault>
-    ensures { OnOk result (Heard (form_of hearing.form input.now) hearing.signal.now hearing.inverted hearing.glitch hearing.margin (report_of hearing.report (form_of hearing.form input.now)) input.now (W.contents out.old) (W.contents out.new)) }
+    ensures { OnOk result (Heard (form_of hearing.entry.form input.now) hearing.entry.signal.now hearing.entry.inverted hearing.entry.glitch hearing.entry.margin (report_of hearing.entry.report (form_of hearing.entry.form input.now)) input.now (W.contents out.old) (W.contents out.new)) }
 {
     let form = form_of(hearing.form, input);
     let report = report_of(hearing.report, form);
@@ -256,7 +256,7 @@ fn show_folded<W: Sink>(
     input: &[u8],
     out: &mut W,
 ) -> Result<Signs, MonitorFault>
-    ensures { OnOk result (Shown true (form_of hearing.form input.now) hearing.signal.now hearing.inverted hearing.glitch hearing.margin (report_of hearing.report (form_of hearing.form input.now)) input.now (W.contents out.old) (W.contents out.new)) }
+    ensures { OnOk result (Shown true (form_of hearing.entry.form input.now) hearing.entry.signal.now hearing.entry.inverted hearing.entry.glitch hearing.entry.margin (report_of hearing.entry.report (form_of hearing.entry.form input.now)) input.now (W.contents out.old) (W.contents out.new)) }
 {
     let mut held = Held::new(alloc);
     let done = monitor(alloc, hearing, input, &mut held);

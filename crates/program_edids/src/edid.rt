@@ -232,7 +232,7 @@ pub fn origin_of(place: Recipient) -> Origin
 impl Blocks<'_> {
     // Writes what is passed on of it in a port of an amplifier, with its speakers.
     fn write_spoken<W: Sink>(self, port: u8, shape: EdidShape, out: &mut W) -> Result<(), EdidFault>
-        ensures { OnOk result (Shows (View.Whole (Recipient.Port port Sound.Spoken) shape) self.bytes.now (W.contents out.old) (W.contents out.new)) }
+        ensures { OnOk result (Shows (View.Whole (Recipient.Port port Sound.Spoken) shape) self.entry.bytes.now (W.contents out.old) (W.contents out.new)) }
     {
         let given = spoken_bytes(self.alloc, port, self.bytes)?;
         write_own(given.as_slice(), shape, out)
@@ -246,7 +246,7 @@ impl Blocks<'_> {
         shape: EdidShape,
         out: &mut W,
     ) -> Result<(), EdidFault>
-        ensures { OnOk result (Shows (View.Whole (Recipient.Port port sound) shape) self.bytes.now (W.contents out.old) (W.contents out.new)) }
+        ensures { OnOk result (Shows (View.Whole (Recipient.Port port sound) shape) self.entry.bytes.now (W.contents out.old) (W.contents out.new)) }
     {
         match sound {
             Sound::Kept => write_passed(self.bytes, in_port(port, false), shape, out),
@@ -262,7 +262,7 @@ impl Blocks<'_> {
         shape: EdidShape,
         out: &mut W,
     ) -> Result<(), EdidFault>
-        ensures { OnOk result (Shows (View.Whole place shape) self.bytes.now (W.contents out.old) (W.contents out.new)) }
+        ensures { OnOk result (Shows (View.Whole place shape) self.entry.bytes.now (W.contents out.old) (W.contents out.new)) }
     {
         match place {
             Recipient::Own => write_own(self.bytes, shape, out),
@@ -273,7 +273,7 @@ impl Blocks<'_> {
 
     // Writes the rules that it breaks in a port, with the speakers of an amplifier.
     fn check_spoken<W: Sink>(self, port: u8, out: &mut W) -> Result<(), EdidFault>
-        ensures { OnOk result (Shows (View.Findings (Recipient.Port port Sound.Spoken)) self.bytes.now (W.contents out.old) (W.contents out.new)) }
+        ensures { OnOk result (Shows (View.Findings (Recipient.Port port Sound.Spoken)) self.entry.bytes.now (W.contents out.old) (W.contents out.new)) }
     {
         let given = spoken_bytes(self.alloc, port, self.bytes)?;
         write_own_rules(Origin::Port, given.as_slice(), out)
@@ -281,7 +281,7 @@ impl Blocks<'_> {
 
     // Writes the rules that what is passed on of it in a port breaks.
     fn check_in_port<W: Sink>(self, port: u8, sound: Sound, out: &mut W) -> Result<(), EdidFault>
-        ensures { OnOk result (Shows (View.Findings (Recipient.Port port sound)) self.bytes.now (W.contents out.old) (W.contents out.new)) }
+        ensures { OnOk result (Shows (View.Findings (Recipient.Port port sound)) self.entry.bytes.now (W.contents out.old) (W.contents out.new)) }
     {
         match sound {
             Sound::Kept => check_passed(self.bytes, in_port(port, false), out),
@@ -292,7 +292,7 @@ impl Blocks<'_> {
 
     // Writes the rules that the EDID breaks, for a device.
     fn write_rules<W: Sink>(self, place: Recipient, out: &mut W) -> Result<(), EdidFault>
-        ensures { OnOk result (Shows (View.Findings place) self.bytes.now (W.contents out.old) (W.contents out.new)) }
+        ensures { OnOk result (Shows (View.Findings place) self.entry.bytes.now (W.contents out.old) (W.contents out.new)) }
     {
         match place {
             Recipient::Own => check_own(self.bytes, out),
@@ -303,7 +303,7 @@ impl Blocks<'_> {
 
     // Writes the text of the EDID, for a device, with what it means.
     fn write_meaning<W: Sink>(self, place: Recipient, out: &mut W) -> Result<(), EdidFault>
-        ensures { OnOk result (Shows (View.Meaning place) self.bytes.now (W.contents out.old) (W.contents out.new)) }
+        ensures { OnOk result (Shows (View.Meaning place) self.entry.bytes.now (W.contents out.old) (W.contents out.new)) }
     {
         let given = given_to(self.alloc, place, self.bytes)?;
         Ok(edid_to_meaning(given.as_slice(), out)?)
@@ -311,7 +311,7 @@ impl Blocks<'_> {
 
     // Writes the address in the EDID, for a device.
     fn write_place<W: Sink>(self, place: Recipient, out: &mut W) -> Result<(), EdidFault>
-        ensures { OnOk result (Shows (View.Address place) self.bytes.now (W.contents out.old) (W.contents out.new)) }
+        ensures { OnOk result (Shows (View.Address place) self.entry.bytes.now (W.contents out.old) (W.contents out.new)) }
     {
         let given = given_to(self.alloc, place, self.bytes)?;
         Ok(write_address(given.as_slice(), out)?)
@@ -319,7 +319,7 @@ impl Blocks<'_> {
 
     // Writes what a device reads of the EDID over DDC.
     fn write_ddc<W: Sink>(self, place: Recipient, out: &mut W) -> Result<(), EdidFault>
-        ensures { OnOk result (Shows (View.Readout place) self.bytes.now (W.contents out.old) (W.contents out.new)) }
+        ensures { OnOk result (Shows (View.Readout place) self.entry.bytes.now (W.contents out.old) (W.contents out.new)) }
     {
         let given = given_to(self.alloc, place, self.bytes)?;
         let blocks = given.as_slice();
@@ -329,7 +329,7 @@ impl Blocks<'_> {
 
     // Writes what is asked for of the EDID.
     fn show<W: Sink>(self, view: View, out: &mut W) -> Result<(), EdidFault>
-        ensures { OnOk result (Shows view self.bytes.now (W.contents out.old) (W.contents out.new)) }
+        ensures { OnOk result (Shows view self.entry.bytes.now (W.contents out.old) (W.contents out.new)) }
     {
         match view {
             View::Whole(place, shape) => self.write_whole(place, shape, out),
@@ -342,7 +342,7 @@ impl Blocks<'_> {
 
     // The bytes of the EDID, for a device, with another count in byte 126.
     fn recounted(self, count: u8, place: Recipient) -> Result<ArrayVec<u8, 512>, EdidFault>
-        ensures { IfOk result (λ new. IsRecounted count place self.bytes.now new.items) }
+        ensures { IfOk result (λ new. IsRecounted count place self.entry.bytes.now new.items) }
     {
         let given = given_to(self.alloc, place, self.bytes)?;
         let blocks = given.as_slice();
@@ -360,7 +360,7 @@ impl Blocks<'_> {
         place: Recipient,
         out: &mut W,
     ) -> Result<(), EdidFault>
-        ensures { OnOk result (ShowsCounted count (View.Whole place EdidShape.Hex) self.bytes.now (W.contents out.old) (W.contents out.new)) }
+        ensures { OnOk result (ShowsCounted count (View.Whole place EdidShape.Hex) self.entry.bytes.now (W.contents out.old) (W.contents out.new)) }
     {
         let mended = self.recounted(count, place)?;
         Ok(write_hex_line(mended.as_slice(), out)?)
@@ -373,7 +373,7 @@ impl Blocks<'_> {
         place: Recipient,
         out: &mut W,
     ) -> Result<(), EdidFault>
-        ensures { OnOk result (ShowsCounted count (View.Whole place EdidShape.Bytes) self.bytes.now (W.contents out.old) (W.contents out.new)) }
+        ensures { OnOk result (ShowsCounted count (View.Whole place EdidShape.Bytes) self.entry.bytes.now (W.contents out.old) (W.contents out.new)) }
     {
         let mended = self.recounted(count, place)?;
         Ok(put_all(out, mended.as_slice())?)
@@ -386,7 +386,7 @@ impl Blocks<'_> {
         place: Recipient,
         out: &mut W,
     ) -> Result<(), EdidFault>
-        ensures { OnOk result (ShowsCounted count (View.Readout place) self.bytes.now (W.contents out.old) (W.contents out.new)) }
+        ensures { OnOk result (ShowsCounted count (View.Readout place) self.entry.bytes.now (W.contents out.old) (W.contents out.new)) }
     {
         let mended = self.recounted(count, place)?;
         write_reading(mended.as_slice(), out)
@@ -399,7 +399,7 @@ impl Blocks<'_> {
         place: Recipient,
         out: &mut W,
     ) -> Result<(), EdidFault>
-        ensures { OnOk result (ShowsCounted count (View.Findings place) self.bytes.now (W.contents out.old) (W.contents out.new)) }
+        ensures { OnOk result (ShowsCounted count (View.Findings place) self.entry.bytes.now (W.contents out.old) (W.contents out.new)) }
     {
         let given = given_to(self.alloc, place, self.bytes)?;
         write_counted_rules(origin_of(place), count, self.bytes, given.as_slice(), out)
@@ -413,7 +413,7 @@ impl Blocks<'_> {
         shape: EdidShape,
         out: &mut W,
     ) -> Result<(), EdidFault>
-        ensures { OnOk result (ShowsCounted count (View.Whole place shape) self.bytes.now (W.contents out.old) (W.contents out.new)) }
+        ensures { OnOk result (ShowsCounted count (View.Whole place shape) self.entry.bytes.now (W.contents out.old) (W.contents out.new)) }
     {
         match shape {
             EdidShape::Hex => self.write_counted_hex(count, place, out),
@@ -425,7 +425,7 @@ impl Blocks<'_> {
     // Writes what is asked for where the HDMI Forum's override counts the extensions. Bytes that are written have this count in
     // byte 126.
     fn show_counted<W: Sink>(self, count: u8, view: View, out: &mut W) -> Result<(), EdidFault>
-        ensures { OnOk result (ShowsCounted count view self.bytes.now (W.contents out.old) (W.contents out.new)) }
+        ensures { OnOk result (ShowsCounted count view self.entry.bytes.now (W.contents out.old) (W.contents out.new)) }
     {
         match view {
             View::Whole(place, shape) => self.show_counted_whole(count, place, shape, out),
@@ -438,7 +438,7 @@ impl Blocks<'_> {
 
     // Writes what is asked for of bytes in which the override counts the extensions.
     fn show_overridden<W: Sink>(self, count: u8, view: View, out: &mut W) -> Result<(), EdidFault>
-        ensures { OnOk result (ShowsAs EdidReading.Overridden count view self.bytes.now (W.contents out.old) (W.contents out.new)) }
+        ensures { OnOk result (ShowsAs EdidReading.Overridden count view self.entry.bytes.now (W.contents out.old) (W.contents out.new)) }
     {
         match counted(self.bytes) {
             Ok(bytes) => {
@@ -454,7 +454,7 @@ impl Blocks<'_> {
 
     // Writes what is asked for of bytes as a source reads them.
     fn show_as_source<W: Sink>(self, count: u8, view: View, out: &mut W) -> Result<(), EdidFault>
-        ensures { OnOk result (ShowsAs EdidReading.AsSource count view self.bytes.now (W.contents out.old) (W.contents out.new)) }
+        ensures { OnOk result (ShowsAs EdidReading.AsSource count view self.entry.bytes.now (W.contents out.old) (W.contents out.new)) }
     {
         match as_source(self.bytes) {
             Ok(bytes) => {
@@ -476,7 +476,7 @@ impl Blocks<'_> {
         view: View,
         out: &mut W,
     ) -> Result<(), EdidFault>
-        ensures { OnOk result (ShowsAs reading count view self.bytes.now (W.contents out.old) (W.contents out.new)) }
+        ensures { OnOk result (ShowsAs reading count view self.entry.bytes.now (W.contents out.old) (W.contents out.new)) }
     {
         match reading {
             EdidReading::Strict => self.show(view, out),
