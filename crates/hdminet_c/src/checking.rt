@@ -1,6 +1,5 @@
 //! Whether a run is as the expectations of its script have it.
-ghost use Rattle.std.specs.Prelude.{◌≤◌, ◌<◌};
-ghost use Rattle.library_run.specs.Checking.{IsCheckRefused, IsReportPut};
+ghost use Rattle.library_run.specs.Checking.{AnswersCheck};
 
 use library_answers::Answer;
 use library_run::{TestCounts, put_report};
@@ -19,8 +18,7 @@ pub extern "C" fn hdminet_check(
     room: &mut [u8],
     counts: &mut TestCounts,
 ) -> Answer
-    ensures done { result.code ≤ 1 → IsReportPut topology.now script.now room.old room.new counts.new result }
-    ensures refused { 1 < result.code → IsCheckRefused topology.now script.now room.old room.new counts.old counts.new result }
+    ensures { AnswersCheck topology.now script.now room.old room.new counts.old counts.new result }
 {
     put_report(alloc, topology, script, room, counts)
 }

@@ -1,14 +1,5 @@
 //! A receiver of the CEC line. The caller keeps what it keeps.
-ghost use Rattle.std.specs.Prelude.{◌≡◌, ◌≤◌, ◌<◌};
-ghost use Rattle.line_wave.specs.Bounds.{latest_heard};
-ghost use Rattle.line_reading.specs.Hears.{heard_by, wake_of};
-ghost use Rattle.line_reading.specs.Reports.{running_by};
-ghost use Rattle.line_reading.specs.Parts.{ArePartsOf};
-ghost use Rattle.line_reading.specs.declared.receiver.Receiver.{Receiver as ReceiverValue};
-ghost use Rattle.library_answers.specs.Codes.{number_of};
-ghost use Rattle.library_answers.specs.declared.code.Code.TheVariants.{Late, State};
-ghost use Rattle.library_wire.specs.Heard.{heard_code, instant_of, instant_refused};
-ghost use Rattle.library_wire.specs.Receiver.{HasHeard, IsNoReceiver, IsRunning, IsStart};
+ghost use Rattle.library_wire.specs.Receiver.{AnswersInstant, AnswersRunning, AnswersWake, IsStart};
 
 use library_wire::{
     Instant, InstantHeard, ReadingParts, receiver_hear, receiver_new, receiver_running,
@@ -36,11 +27,7 @@ pub extern "C" fn hdminet_receiver_hear(
     is_low: bool,
     reading: &mut ReadingParts,
 ) -> InstantHeard
-    ensures hears { (r : ReceiverValue) → ArePartsOf r receiver.old → t ≤ latest_heard
-        → HasHeard r t is_low result receiver.new reading.old reading.new }
-    ensures spoilt { IsNoReceiver receiver.old → (result ≡ heard_code State) × (receiver.new ≡ receiver.old) × (reading.new ≡ reading.old) }
-    ensures late { (r : ReceiverValue) → ArePartsOf r receiver.old → latest_heard < t
-        → (result ≡ heard_code Late) × (receiver.new ≡ receiver.old) × (reading.new ≡ reading.old) }
+    ensures { AnswersInstant t is_low result receiver.old receiver.new reading.old reading.new }
 {
     receiver_hear(receiver, t, is_low, reading)
 }
@@ -50,8 +37,7 @@ pub extern "C" fn hdminet_receiver_hear(
 /// Refused where the state is no receiver's, and absent where no reading runs.
 #[unsafe(no_mangle)]
 pub extern "C" fn hdminet_receiver_wakes_at(receiver: &ReceiverParts) -> Instant
-    ensures wakes { (r : ReceiverValue) → ArePartsOf r receiver.now → result ≡ instant_of (wake_of (heard_by r)) }
-    ensures spoilt { IsNoReceiver receiver.now → result ≡ instant_refused State }
+    ensures { AnswersWake receiver.now result }
 {
     receiver_wakes_at(receiver)
 }
@@ -65,8 +51,7 @@ pub extern "C" fn hdminet_receiver_running(
     t: u64,
     reading: &mut ReadingParts,
 ) -> u32
-    ensures runs { (r : ReceiverValue) → ArePartsOf r receiver.now → IsRunning (running_by (heard_by r) t) result reading.old reading.new }
-    ensures spoilt { IsNoReceiver receiver.now → (result ≡ number_of State) × (reading.new ≡ reading.old) }
+    ensures { AnswersRunning receiver.now t result reading.old reading.new }
 {
     receiver_running(receiver, t, reading)
 }

@@ -1,5 +1,5 @@
 -- What is answered of a script with expectations (this profile's own).
-use Rattle.std.specs.Prelude.{◌≡◌, ℕ, List, [], Some}
+use Rattle.std.specs.Prelude.{◌≡◌, ◌≤◌, ◌<◌, ℕ, List, [], Some}
 use Rattle.expect_run.specs.Check.{IsCheckReported, IsChecked}
 use Rattle.expect_run.specs.declared.checking.CheckError.{CheckError}
 use Rattle.expect_run.specs.declared.checking.CheckError.TheVariants.{Emulate, Expect, Write, Memory as NoMemory}
@@ -41,3 +41,8 @@ IsReportPut topology script old new counts answer =
 abbrev pub IsCheckRefused : List ℕ → List ℕ → List ℕ → List ℕ → TestCounts → TestCounts → Answer → Type 0
 IsCheckRefused topology script old new before after answer =
     (cause : CheckError) × IsCheckReported topology script cause × (answer ≡ check_answer cause) × (new ≡ old) × (after ≡ before)
+
+-- the one or the other, by its code
+abbrev pub AnswersCheck : List ℕ → List ℕ → List ℕ → List ℕ → TestCounts → TestCounts → Answer → Type 0
+AnswersCheck topology script old new before after answer =
+    (answer.code ≤ 1 → IsReportPut topology script old new after answer) × (1 < answer.code → IsCheckRefused topology script old new before after answer)

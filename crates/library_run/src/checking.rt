@@ -1,6 +1,6 @@
 //! Whether a run is as the expectations of its script have it.
-ghost use Rattle.std.specs.Prelude.{◌≡◌, ◌≤◌, ◌<◌};
-ghost use Rattle.library_run.specs.Checking.{IsCheckRefused, IsReportPut, check_answer, counts_of, expect_code};
+ghost use Rattle.std.specs.Prelude.{◌≡◌};
+ghost use Rattle.library_run.specs.Checking.{AnswersCheck, check_answer, counts_of, expect_code};
 
 use crate::run::run_refused;
 use expect_run::{CheckError, Tally, check};
@@ -63,15 +63,14 @@ pub fn put_report(
     topology: &[u8],
     script: &[u8],
     room: &mut [u8],
-    counts: &mut TestCounts,
+    tests: &mut TestCounts,
 ) -> Answer
-    ensures done { result.code ≤ 1 → IsReportPut topology.now script.now room.old room.new counts.new result }
-    ensures refused { 1 < result.code → IsCheckRefused topology.now script.now room.old room.new counts.old counts.new result }
+    ensures { AnswersCheck topology.now script.now room.old room.new tests.old tests.new result }
 {
     let mut report = Held::new(alloc);
     match check(alloc, topology, script, &mut report) {
         Ok(tally) => {
-            *counts = counts_of(tally);
+            *tests = counts_of(tally);
             put(report.bytes(), room)
         }
         Err(error) => check_refused(&error),

@@ -1,14 +1,8 @@
 //! A receiver of the CEC line. The caller keeps what it keeps.
-ghost use Rattle.std.specs.Prelude.{◌≡◌, ◌≤◌, ◌<◌, option_map};
-ghost use Rattle.line_wave.specs.Bounds.{latest_heard};
-ghost use Rattle.line_reading.specs.Hears.{heard_by, wake_of};
-ghost use Rattle.line_reading.specs.Reports.{listed_as, running_by};
-ghost use Rattle.line_reading.specs.Parts.{ArePartsOf};
-ghost use Rattle.line_reading.specs.declared.receiver.Receiver.{Receiver as ReceiverValue};
-ghost use Rattle.library_answers.specs.Codes.{number_of};
-ghost use Rattle.library_answers.specs.declared.code.Code.TheVariants.{Late, State};
-ghost use Rattle.library_wire.specs.Heard.{heard_code, instant_of, instant_refused};
-ghost use Rattle.library_wire.specs.Receiver.{HasHeard, IsNoReceiver, IsRunning, IsStart};
+ghost use Rattle.std.specs.Prelude.{◌≡◌, option_map};
+ghost use Rattle.line_reading.specs.Hears.{heard_by};
+ghost use Rattle.line_reading.specs.Reports.{listed_as};
+ghost use Rattle.library_wire.specs.Receiver.{AnswersInstant, AnswersRunning, AnswersWake, IsRunning, IsStart};
 
 use crate::heard::{Instant, InstantHeard, heard_of, heard_refused, instant_of, instant_refused};
 use crate::readings::{ReadingParts, put_reading};
@@ -41,7 +35,7 @@ fn noted(receiver: Receiver, t: u64, is_low: bool) -> Receiver
 }
 
 /// Instant `t` has come, from which on the line is low or not: an edge, or a wake with the level as it was. Answers what
-/// that instant reports. Where it ends a reading, this one is put in `reading`. Instants rise, and none is after the wake.
+/// that instant reports. Where it ends a reading, this one is put in `place`. Instants rise, and none is after the wake.
 ///
 /// Refused where the state is no receiver's, and then where `t` is after 3,000,000,000,000 microseconds: both stay as they
 /// were.
@@ -49,13 +43,9 @@ pub fn receiver_hear(
     receiver: &mut ReceiverParts,
     t: u64,
     is_low: bool,
-    reading: &mut ReadingParts,
+    place: &mut ReadingParts,
 ) -> InstantHeard
-    ensures hears { (r : ReceiverValue) → ArePartsOf r receiver.old → t ≤ latest_heard
-        → HasHeard r t is_low result receiver.new reading.old reading.new }
-    ensures spoilt { IsNoReceiver receiver.old → (result ≡ heard_code State) × (receiver.new ≡ receiver.old) × (reading.new ≡ reading.old) }
-    ensures late { (r : ReceiverValue) → ArePartsOf r receiver.old → latest_heard < t
-        → (result ≡ heard_code Late) × (receiver.new ≡ receiver.old) × (reading.new ≡ reading.old) }
+    ensures { AnswersInstant t is_low result receiver.old receiver.new place.old place.new }
 {
     let Some(was) = Receiver::of_parts(receiver) else {
         return heard_refused(Code::State);
@@ -66,7 +56,7 @@ pub fn receiver_hear(
     let mut next = noted(was, t, is_low);
     let running = next.running(t);
     let reported = next.tick(t);
-    put_reading(ended_of(reported, t, running), reading);
+    put_reading(ended_of(reported, t, running), place);
     *receiver = next.parts();
     heard_of(reported)
 }
@@ -75,8 +65,7 @@ pub fn receiver_hear(
 ///
 /// Refused where the state is no receiver's, and absent where no reading runs.
 pub fn receiver_wakes_at(receiver: &ReceiverParts) -> Instant
-    ensures wakes { (r : ReceiverValue) → ArePartsOf r receiver.now → result ≡ instant_of (wake_of (heard_by r)) }
-    ensures spoilt { IsNoReceiver receiver.now → result ≡ instant_refused State }
+    ensures { AnswersWake receiver.now result }
 {
     match Receiver::of_parts(receiver) {
         Some(receiver) => instant_of(receiver.wakes_at()),
@@ -85,26 +74,25 @@ pub fn receiver_wakes_at(receiver: &ReceiverParts) -> Instant
 }
 
 // Puts the reading that runs, if one does.
-fn put_running(running: Option<Reading>, reading: &mut ReadingParts) -> u32
-    ensures { IsRunning (option_map listed_as running) result reading.old reading.new }
+fn put_running(running: Option<Reading>, place: &mut ReadingParts) -> u32
+    ensures { IsRunning (option_map listed_as running) result place.old place.new }
 {
     let code = match running {
         Some(_) => Code::Done,
         None => Code::Absent,
     };
-    put_reading(running, reading);
+    put_reading(running, place);
     code.number()
 }
 
-/// Puts the reading that runs in `reading`, as far as it was heard: it is open at `t`. Answers the number of a `Code`.
+/// Puts the reading that runs in `place`, as far as it was heard: it is open at `t`. Answers the number of a `Code`.
 ///
-/// Refused where the state is no receiver's, and absent where no reading runs: `reading` stays as it was.
-pub fn receiver_running(receiver: &ReceiverParts, t: u64, reading: &mut ReadingParts) -> u32
-    ensures runs { (r : ReceiverValue) → ArePartsOf r receiver.now → IsRunning (running_by (heard_by r) t) result reading.old reading.new }
-    ensures spoilt { IsNoReceiver receiver.now → (result ≡ number_of State) × (reading.new ≡ reading.old) }
+/// Refused where the state is no receiver's, and absent where no reading runs: `place` stays as it was.
+pub fn receiver_running(receiver: &ReceiverParts, t: u64, place: &mut ReadingParts) -> u32
+    ensures { AnswersRunning receiver.now t result place.old place.new }
 {
     match Receiver::of_parts(receiver) {
-        Some(receiver) => put_running(receiver.running(t), reading),
+        Some(receiver) => put_running(receiver.running(t), place),
         None => Code::State.number(),
     }
 }

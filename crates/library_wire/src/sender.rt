@@ -1,14 +1,6 @@
 //! A sender of a frame on the CEC line. The caller keeps what it keeps.
-ghost use Rattle.std.specs.Prelude.{◌≡◌, ◌≤◌, ◌<◌, Some, None, length};
-ghost use Rattle.line_wave.specs.Bounds.{latest_heard};
-ghost use Rattle.line_reading.specs.Parts.{ArePartsOfSender};
-ghost use Rattle.line_reading.specs.Sending.{pull_of};
-ghost use Rattle.line_reading.specs.declared.receiver.Told.{Told as ReportedValue};
-ghost use Rattle.line_reading.specs.declared.sender.Sender.{Sender as SenderValue};
-ghost use Rattle.library_answers.specs.Codes.{number_of};
-ghost use Rattle.library_answers.specs.declared.code.Code.TheVariants.{Done, FrameEmpty, FrameTooLong, Heard as NothingHeard, Late, State};
-ghost use Rattle.library_wire.specs.Heard.{instant_refused, reported_in};
-ghost use Rattle.library_wire.specs.Sender.{HasBegun, IsChange, IsLeft, IsNoSender, IsReported, pull_code, pull_reported};
+ghost use Rattle.std.specs.Prelude.{◌≡◌};
+ghost use Rattle.library_wire.specs.Sender.{AnswersBegin, AnswersChange, AnswersHeard, AnswersPull, pull_code};
 
 use crate::heard::{Instant, InstantHeard, instant_of, instant_refused, reported_in};
 use library_answers::{Code, frame_code};
@@ -31,10 +23,7 @@ pub struct PullAnswer {
 /// Refused where there is no byte, or more than 16, and then where `t` is after 3,000,000,000,000: the sender stays as it
 /// was.
 pub fn sender_begin(sender: &mut SenderParts, bytes: &[u8], t: u64) -> u32
-    ensures begun { 1 ≤ length bytes.now → length bytes.now ≤ 16 → t ≤ latest_heard → (result ≡ number_of Done) × HasBegun bytes.now t sender.new }
-    ensures empty { length bytes.now ≡ 0 → IsLeft FrameEmpty result sender.old sender.new }
-    ensures too_long { 16 < length bytes.now → IsLeft FrameTooLong result sender.old sender.new }
-    ensures late { 1 ≤ length bytes.now → length bytes.now ≤ 16 → latest_heard < t → IsLeft Late result sender.old sender.new }
+    ensures { AnswersBegin bytes.now t result sender.old sender.new }
 {
     let frame = match Frame::new(bytes) {
         Ok(frame) => frame,
@@ -52,12 +41,7 @@ pub fn sender_begin(sender: &mut SenderParts, bytes: &[u8], t: u64) -> u32
 /// Refused where the state is no sender's, then where no receiver reports this, and then where `t` is after
 /// 3,000,000,000,000 microseconds: the sender stays as it was.
 pub fn sender_heard(sender: &mut SenderParts, heard: &InstantHeard, t: u64) -> u32
-    ensures hears { (s : SenderValue) → (reported : ReportedValue) → ArePartsOfSender s sender.old → reported_in heard.now ≡ Some reported → t ≤ latest_heard
-        → (result ≡ number_of Done) × IsReported s reported t sender.new }
-    ensures spoilt { IsNoSender sender.old → IsLeft State result sender.old sender.new }
-    ensures nothing { (s : SenderValue) → ArePartsOfSender s sender.old → reported_in heard.now ≡ None → IsLeft NothingHeard result sender.old sender.new }
-    ensures late { (s : SenderValue) → (reported : ReportedValue) → ArePartsOfSender s sender.old → reported_in heard.now ≡ Some reported → latest_heard < t
-        → IsLeft Late result sender.old sender.new }
+    ensures { AnswersHeard heard.now t result sender.old sender.new }
 {
     let Some(was) = Sender::of_parts(sender) else {
         return Code::State.number();
@@ -87,9 +71,7 @@ fn pull_refused(code: Code) -> PullAnswer
 ///
 /// Refused where the state is no sender's, and then where `t` is after 3,000,000,000,000.
 pub fn sender_pulls(sender: &SenderParts, t: u64) -> PullAnswer
-    ensures pulls { (s : SenderValue) → ArePartsOfSender s sender.now → t ≤ latest_heard → result ≡ pull_reported (pull_of s t) }
-    ensures spoilt { IsNoSender sender.now → result ≡ pull_code State }
-    ensures late { (s : SenderValue) → ArePartsOfSender s sender.now → latest_heard < t → result ≡ pull_code Late }
+    ensures { AnswersPull sender.now t result }
 {
     let Some(sender) = Sender::of_parts(sender) else {
         return pull_refused(Code::State);
@@ -107,9 +89,7 @@ pub fn sender_pulls(sender: &SenderParts, t: u64) -> PullAnswer
 ///
 /// Refused where the state is no sender's, then where `t` is after 3,000,000,000,000, and absent where it changes no more.
 pub fn sender_next_change(sender: &SenderParts, t: u64) -> Instant
-    ensures changes { (s : SenderValue) → ArePartsOfSender s sender.now → t ≤ latest_heard → IsChange s t result }
-    ensures spoilt { IsNoSender sender.now → result ≡ instant_refused State }
-    ensures late { (s : SenderValue) → ArePartsOfSender s sender.now → latest_heard < t → result ≡ instant_refused Late }
+    ensures { AnswersChange sender.now t result }
 {
     let Some(sender) = Sender::of_parts(sender) else {
         return instant_refused(Code::State);

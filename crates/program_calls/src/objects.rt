@@ -10,47 +10,17 @@ use crate::told::Recap;
 use cli_words::{CommandChoice, Objects, TestView};
 use expect_sweep::SilentProgress;
 use json_report::{ReportKind, write_report_objects};
-use program_captures::{monitor, write_capture_objects};
+use program_captures::{show, write_capture_objects};
 use std::alloc::{AllocError, Global};
 use text_core::{Held, Sink, before};
 
-// Writes the lines whose objects are asked for, where they are not those of a run.
-fn write_lines<W: Sink>(
+// The lines of an input whose objects are asked for, and the memory for them.
+#[derive(Clone, Copy)]
+struct Lines<'a> {
     alloc: Global,
     objects: Objects,
-    signal: &[u8],
-    input: &[u8],
-    out: &mut W,
-) -> Result<Recap, ProgramFault>
-    requires { are_of_run objects ≡ false }
-    ensures { OnOk result (WritesLines objects signal.now input.now (W.contents out.old) (W.contents out.new)) }
-{
-    match objects {
-        Objects::Trace { .. } => unreachable!(),
-        Objects::Room { .. } => unreachable!(),
-        Objects::Capture {
-            form,
-            glitch,
-            margin,
-            inverted,
-            report,
-        } => {
-            let signs = monitor(
-                alloc, form, signal, inverted, glitch, margin, report, input, out,
-            )?;
-            Ok(Recap::Capture(signs))
-        }
-        Objects::Test { traced } => test(
-            alloc,
-            report_view(traced),
-            input,
-            out,
-            &mut SilentProgress,
-        ),
-        Objects::CaptureTest { form, glitch } => {
-            test_capture(alloc, form, signal, glitch, input, out)
-        }
-    }
+    signal: &'a [u8],
+    input: &'a [u8],
 }
 
 // Which report lines are of: that of one run begins with its version, a sweep with an instant.
@@ -84,25 +54,80 @@ fn write_objects_of<W: Sink>(
     }
 }
 
-// Writes the objects of lines that are not those of a run, which are held until they are all there.
-#[inline(never)]
-fn write_held<W: Sink>(
-    alloc: Global,
-    objects: Objects,
-    signal: &[u8],
-    input: &[u8],
-    out: &mut W,
-) -> Result<Recap, ProgramFault>
-    requires { are_of_run objects ≡ false }
-    ensures { OnOk result (Writes (CommandChoice.Json objects) signal.now input.now (W.contents out.old) (W.contents out.new)) }
+// A report, with its trace or without.
+fn report_view(traced: bool) -> TestView
+    ensures { result ≡ report_view traced }
 {
-    let mut held = Held::new(alloc);
-    let done = write_lines(alloc, objects, signal, input, &mut held);
-    if held.is_full() {
-        return Err(ProgramFault::Memory(AllocError));
+    if traced {
+        TestView::Traced
+    } else {
+        TestView::Report
     }
-    write_objects_of(objects, held.bytes(), out)?;
-    done
+}
+
+impl Lines<'_> {
+    // Writes them, where they are not those of a run.
+    fn write<W: Sink>(self, out: &mut W) -> Result<Recap, ProgramFault>
+        requires { are_of_run self.objects ≡ false }
+        ensures { OnOk result (WritesLines self.entry.objects self.entry.signal.now self.entry.input.now (W.contents out.old) (W.contents out.new)) }
+    {
+        let Lines {
+            alloc,
+            signal,
+            input,
+            ..
+        } = self;
+        match self.objects {
+            Objects::Trace { .. } => unreachable!(),
+            Objects::Room { .. } => unreachable!(),
+            Objects::Capture {
+                form,
+                glitch,
+                margin,
+                inverted,
+                report,
+            } => {
+                let signs = show(
+                    alloc, false, form, signal, inverted, glitch, margin, report, input, out,
+                )?;
+                Ok(Recap::Capture(signs))
+            }
+            Objects::Test { traced } => {
+                test(alloc, report_view(traced), input, out, &mut SilentProgress)
+            }
+            Objects::CaptureTest { form, glitch } => {
+                test_capture(alloc, form, signal, glitch, input, out)
+            }
+        }
+    }
+
+    // Writes their objects, where they are not those of a run. They are held until they are all there.
+    #[inline(never)]
+    fn write_held<W: Sink>(self, out: &mut W) -> Result<Recap, ProgramFault>
+        requires { are_of_run self.objects ≡ false }
+        ensures { OnOk result (Writes (CommandChoice.Json self.entry.objects) self.entry.signal.now self.entry.input.now (W.contents out.old) (W.contents out.new)) }
+    {
+        let mut held = Held::new(self.alloc);
+        let done = self.write(&mut held);
+        if held.is_full() {
+            return Err(ProgramFault::Memory(AllocError));
+        }
+        write_objects_of(self.objects, held.bytes(), out)?;
+        done
+    }
+
+    // Writes their objects.
+    fn write_objects<W: Sink>(self, out: &mut W) -> Result<Recap, ProgramFault>
+        ensures { OnOk result (Writes (CommandChoice.Json self.entry.objects) self.entry.signal.now self.entry.input.now (W.contents out.old) (W.contents out.new)) }
+    {
+        match self.objects {
+            Objects::Trace { strict } => run_to_objects(self.alloc, strict, self.input, out),
+            Objects::Room { strict } => run_to_room(self.alloc, strict, self.input, out),
+            Objects::Capture { .. } | Objects::Test { .. } | Objects::CaptureTest { .. } => {
+                self.write_held(out)
+            }
+        }
+    }
 }
 
 /// Writes the objects of lines: of a run while it runs, and of all others once they are all there.
@@ -115,22 +140,11 @@ pub fn write_json<W: Sink>(
 ) -> Result<Recap, ProgramFault>
     ensures { OnOk result (Writes (CommandChoice.Json objects) signal.now input.now (W.contents out.old) (W.contents out.new)) }
 {
-    match objects {
-        Objects::Trace { strict } => run_to_objects(alloc, strict, input, out),
-        Objects::Room { strict } => run_to_room(alloc, strict, input, out),
-        Objects::Capture { .. } | Objects::Test { .. } | Objects::CaptureTest { .. } => write_held(
-            alloc, objects, signal, input, out,
-        ),
-    }
-}
-
-// A report, with its trace or without.
-fn report_view(traced: bool) -> TestView
-    ensures { result ≡ report_view traced }
-{
-    if traced {
-        TestView::Traced
-    } else {
-        TestView::Report
-    }
+    let lines = Lines {
+        alloc,
+        objects,
+        signal,
+        input,
+    };
+    lines.write_objects(out)
 }

@@ -1,5 +1,5 @@
 //! The program over a reader and two sinks.
-ghost use Rattle.std.specs.Prelude.{◌≡◌, false, OnOk, IfOk, None, Ok, map, string_bytes};
+ghost use Rattle.std.specs.Prelude.{◌≡◌, ◌<◌, false, OnOk, IfOk, None, Ok, map, string_bytes};
 ghost use Rattle.std.specs.Io.KnownBytes.{Keeps};
 ghost use Rattle.text_core.specs.Buffered.{below};
 ghost use Rattle.program_captures.specs.Captures.{name_of};
@@ -73,189 +73,21 @@ fn refuse<W: Sink, E: Sink>(refused: &Refused, out: &mut Buffered<W>, err: &mut 
     }
 }
 
-// Does what is asked for with an input, and says how it went. Answers the exit status.
-fn answer<W: Sink, E: Sink>(
+// What the words of a command line ask for, and the memory for it.
+#[derive(Clone, Copy)]
+struct Call<'a> {
     alloc: Global,
+    words: &'a [String],
     asked: Asked,
-    signal: &[u8],
-    input: &[u8],
-    out: &mut Buffered<W>,
-    err: &mut E,
-) -> u8
-    requires { is_line_by_line asked.choice ≡ false }
-    ensures { result ≡ 0 → Writes asked.choice signal.now input.now (⟦<Buffered<W> as Sink>⟧.contents out.old) (W.contents (below out.new)) }
-{
-    let mut progress = ProgressLines { alloc, err };
-    let done = perform(alloc, asked.choice, signal, input, out, &mut progress);
-    match handed_on(done, out) {
-        Ok(told) => {
-            remark(alloc, asked, told, input, err);
-            0
-        }
-        Err(fault) => report(alloc, asked, &fault, input, err),
-    }
 }
 
-// Answers the lines of an input as they come, and says how it went. Answers the exit status.
-fn serve_lines<R: Read, W: Sink, E: Sink>(
-    alloc: Global,
-    asked: Asked,
-    input: &mut R,
-    out: &mut Buffered<W>,
-    err: &mut E,
-) -> u8
-    ensures { result ≡ 0 → Lives (R.remaining input.old) (⟦<Buffered<W> as Sink>⟧.contents out.old) (W.contents (below out.new)) }
-{
-    match live(alloc, asked.explains, input, out, err) {
-        Ok(()) => 0,
-        Err(fault) => report(alloc, asked, &fault, b"", err),
-    }
-}
-
-// Says how a session in objects went. Answers the exit status.
-fn report_objects<E: Sink>(
-    alloc: Global,
-    asked: Asked,
-    done: Result<(), SessionError>,
-    halted: Option<Halt>,
-    err: &mut E,
-) -> u8
-    ensures { result ≡ 0 → (done ≡ Ok tt) × (halted ≡ None) }
-{
-    match halted {
-        Some(Halt::Write(count)) => {
-            report(
-                alloc,
-                asked,
-                &ProgramFault::Write(WriteFault { count }),
-                b"",
-                err,
-            )
-        }
-        Some(Halt::Memory) => report(alloc, asked, &ProgramFault::Memory(AllocError), b"", err),
-        None => match done {
-            Ok(()) => 0,
-            Err(fault) => report(alloc, asked, &ProgramFault::from(fault), b"", err),
-        },
-    }
-}
-
-// Answers the lines of an input as they come.
-fn serve_in_lines<R: Read, W: Sink, E: Sink>(
-    alloc: Global,
-    asked: Asked,
-    input: &mut R,
-    out: W,
-    err: &mut E,
-) -> ProgramEnd<W>
-    ensures { result.status ≡ 0 → Lives (R.remaining input.old) (W.contents out) (W.contents result.out) }
-{
-    let mut out = Buffered::new(out);
-    let status = serve_lines(alloc, asked, input, &mut out, err);
-    ProgramEnd {
-        status,
-        out: out.into_below(),
-    }
-}
-
-// The same in objects.
-fn serve_in_objects<R: Read, W: Sink, E: Sink>(
-    alloc: Global,
-    asked: Asked,
-    input: &mut R,
-    out: W,
-    err: &mut E,
-) -> ProgramEnd<W>
-    ensures { result.status ≡ 0 → LivesInObjects (R.remaining input.old) (W.contents out) (W.contents result.out) }
-{
-    let LiveEnded { done, halted, out } = live_in_objects(alloc, asked.explains, input, out, err);
-    let status = report_objects(alloc, asked, done, halted, err);
-    ProgramEnd {
-        status,
-        out: out.into_below(),
-    }
-}
-
-// In objects or in lines.
-fn serve_session<R: Read, W: Sink, E: Sink>(
-    alloc: Global,
-    json: bool,
-    asked: Asked,
-    input: &mut R,
-    out: W,
-    err: &mut E,
-) -> ProgramEnd<W>
-    ensures { result.status ≡ 0 → LivesAs json (R.remaining input.old) (W.contents out) (W.contents result.out) }
-{
-    if json {
-        serve_in_objects(alloc, asked, input, out, err)
-    } else {
-        serve_in_lines(alloc, asked, input, out, err)
-    }
-}
-
-// Reports a capture as its lines come, and says how it went. Answers the exit status.
-fn follow_lines<R: Read, W: Sink, E: Sink>(
-    alloc: Global,
-    asked: Asked,
+// A capture that is reported as its lines come.
+#[derive(Clone, Copy)]
+struct Followed<'a> {
     form: LineForm,
-    signal: &[u8],
+    signal: &'a [u8],
     margin: u64,
-    kind: FollowReport,
-    input: &mut R,
-    out: &mut Buffered<W>,
-    err: &mut E,
-) -> u8
-    ensures { result ≡ 0 → FollowsTo form signal.now margin kind (R.remaining input.old) (⟦<Buffered<W> as Sink>⟧.contents out.old) (W.contents (below out.new)) }
-{
-    match follow_capture(alloc, form, signal, margin, kind, input, out) {
-        Ok(()) => 0,
-        Err(fault) => report(alloc, asked, &ProgramFault::from(fault), b"", err),
-    }
-}
-
-// Reports a capture as its lines come. Not inlined: an audit that is kept while they come takes much of the stack, which what else
-// is asked for does not need.
-#[inline(never)]
-fn serve_capture<R: Read, W: Sink, E: Sink>(
-    alloc: Global,
-    asked: Asked,
-    form: LineForm,
-    signal: &[u8],
-    margin: u64,
-    kind: FollowReport,
-    input: &mut R,
-    out: W,
-    err: &mut E,
-) -> ProgramEnd<W>
-    ensures { result.status ≡ 0 → FollowsTo form signal.now margin kind (R.remaining input.old) (W.contents out) (W.contents result.out) }
-{
-    let mut out = Buffered::new(out);
-    let status = follow_lines(
-        alloc, asked, form, signal, margin, kind, input, &mut out, err,
-    );
-    ProgramEnd {
-        status,
-        out: out.into_below(),
-    }
-}
-
-// Does what is asked for with all there is to read. Answers the exit status.
-fn serve_whole<R: Read, W: Sink, E: Sink>(
-    alloc: Global,
-    asked: Asked,
-    signal: &[u8],
-    input: &mut R,
-    out: &mut Buffered<W>,
-    err: &mut E,
-) -> u8
-    requires { is_line_by_line asked.choice ≡ false }
-    ensures { result ≡ 0 → IsServed (R.remaining input.old) (⟦<Buffered<W> as Sink>⟧.contents out.old) (W.contents (below out.new)) asked.choice signal.now }
-{
-    match read_input(alloc, limit_of(asked.choice), input) {
-        Ok(input) => answer(alloc, asked, signal, &input, out, err),
-        Err(fault) => report(alloc, asked, &ProgramFault::from(fault), b"", err),
-    }
+    report: FollowReport,
 }
 
 // The name of the wire that some words name, or an empty one.
@@ -278,75 +110,243 @@ fn name_of(alloc: Global, words: &[String]) -> Result<Vec<u8>, AllocError>
     }
 }
 
-// Does what is asked for, of the wire that the words name. Answers the exit status.
-fn serve_named<R: Read, W: Sink, E: Sink>(
-    alloc: Global,
-    asked: Asked,
-    words: &[String],
-    input: &mut R,
-    out: &mut Buffered<W>,
-    err: &mut E,
-) -> u8
-    requires { is_line_by_line asked.choice ≡ false }
-    ensures { result ≡ 0 → IsServed (R.remaining input.old) (⟦<Buffered<W> as Sink>⟧.contents out.old) (W.contents (below out.new)) asked.choice (name_of (signal_in (map string_bytes words.now))) }
-{
-    match name_of(alloc, words) {
-        Ok(name) => serve_whole(alloc, asked, &name, input, out, err),
-        Err(AllocError) => write_fault(&ProgramFault::Memory(AllocError), err),
+impl Call<'_> {
+    // Says why it failed. Answers the exit status.
+    fn fail<E: Sink>(self, fault: &ProgramFault, err: &mut E) -> u8
+        ensures { 0 < result }
+    {
+        report(self.alloc, self.asked, fault, b"", err)
     }
-}
 
-// The same, and how it ended.
-fn serve_input<R: Read, W: Sink, E: Sink>(
-    alloc: Global,
-    asked: Asked,
-    words: &[String],
-    input: &mut R,
-    out: W,
-    err: &mut E,
-) -> ProgramEnd<W>
-    requires { is_line_by_line asked.choice ≡ false }
-    ensures { result.status ≡ 0 → IsServed (R.remaining input.old) (W.contents out) (W.contents result.out) asked.choice (name_of (signal_in (map string_bytes words.now))) }
-{
-    let mut out = Buffered::new(out);
-    let status = serve_named(alloc, asked, words, input, &mut out, err);
-    ProgramEnd {
-        status,
-        out: out.into_below(),
-    }
-}
-
-// Does what is asked for.
-fn serve<R: Read, W: Sink, E: Sink>(
-    alloc: Global,
-    asked: Asked,
-    words: &[String],
-    input: &mut R,
-    out: W,
-    err: &mut E,
-) -> ProgramEnd<W>
-    ensures { result.status ≡ 0 → IsServed (R.remaining input.old) (W.contents out) (W.contents result.out) asked.choice (name_of (signal_in (map string_bytes words.now))) }
-{
-    match asked.choice {
-        CommandChoice::Live { json } => serve_session(alloc, json, asked, input, out, err),
-        CommandChoice::Follow {
-            form,
-            margin,
-            report: kind,
-        } => {
-            serve_capture(
-                alloc,
-                asked,
-                form,
-                signal_of(words),
-                margin,
-                kind,
-                input,
-                out,
-                err,
-            )
+    // Does what is asked for with an input, and says how it went. Answers the exit status.
+    fn answer<W: Sink, E: Sink>(
+        self,
+        signal: &[u8],
+        input: &[u8],
+        out: &mut Buffered<W>,
+        err: &mut E,
+    ) -> u8
+        requires { is_line_by_line self.asked.choice ≡ false }
+        ensures { result ≡ 0 → Writes self.entry.asked.choice signal.now input.now (⟦<Buffered<W> as Sink>⟧.contents out.old) (W.contents (below out.new)) }
+    {
+        let Call { alloc, asked, .. } = self;
+        let mut progress = ProgressLines { alloc, err };
+        let done = perform(alloc, asked.choice, signal, input, out, &mut progress);
+        match handed_on(done, out) {
+            Ok(told) => {
+                remark(alloc, asked, told, input, err);
+                0
+            }
+            Err(fault) => report(alloc, asked, &fault, input, err),
         }
-        _ => serve_input(alloc, asked, words, input, out, err),
+    }
+
+    // Answers the lines of an input as they come, and says how it went. Answers the exit status.
+    fn serve_lines<R: Read, W: Sink, E: Sink>(
+        self,
+        input: &mut R,
+        out: &mut Buffered<W>,
+        err: &mut E,
+    ) -> u8
+        ensures { result ≡ 0 → Lives (R.remaining input.old) (⟦<Buffered<W> as Sink>⟧.contents out.old) (W.contents (below out.new)) }
+    {
+        match live(self.alloc, self.asked.explains, input, out, err) {
+            Ok(()) => 0,
+            Err(fault) => self.fail(&fault, err),
+        }
+    }
+
+    // Says how a session in objects went. Answers the exit status.
+    fn report_objects<E: Sink>(
+        self,
+        done: Result<(), SessionError>,
+        halted: Option<Halt>,
+        err: &mut E,
+    ) -> u8
+        ensures { result ≡ 0 → (done ≡ Ok tt) × (halted ≡ None) }
+    {
+        match halted {
+            Some(Halt::Write(count)) => self.fail(&ProgramFault::Write(WriteFault { count }), err),
+            Some(Halt::Memory) => self.fail(&ProgramFault::Memory(AllocError), err),
+            None => match done {
+                Ok(()) => 0,
+                Err(fault) => self.fail(&ProgramFault::from(fault), err),
+            },
+        }
+    }
+
+    // Answers the lines of an input as they come.
+    fn serve_in_lines<R: Read, W: Sink, E: Sink>(
+        self,
+        input: &mut R,
+        out: W,
+        err: &mut E,
+    ) -> ProgramEnd<W>
+        ensures { result.status ≡ 0 → Lives (R.remaining input.old) (W.contents out) (W.contents result.out) }
+    {
+        let mut out = Buffered::new(out);
+        let status = self.serve_lines(input, &mut out, err);
+        ProgramEnd {
+            status,
+            out: out.into_below(),
+        }
+    }
+
+    // The same in objects.
+    fn serve_in_objects<R: Read, W: Sink, E: Sink>(
+        self,
+        input: &mut R,
+        out: W,
+        err: &mut E,
+    ) -> ProgramEnd<W>
+        ensures { result.status ≡ 0 → LivesInObjects (R.remaining input.old) (W.contents out) (W.contents result.out) }
+    {
+        let LiveEnded { done, halted, out } = live_in_objects(
+            self.alloc,
+            self.asked.explains,
+            input,
+            out,
+            err,
+        );
+        let status = self.report_objects(done, halted, err);
+        ProgramEnd {
+            status,
+            out: out.into_below(),
+        }
+    }
+
+    // In objects or in lines.
+    fn serve_session<R: Read, W: Sink, E: Sink>(
+        self,
+        json: bool,
+        input: &mut R,
+        out: W,
+        err: &mut E,
+    ) -> ProgramEnd<W>
+        ensures { result.status ≡ 0 → LivesAs json (R.remaining input.old) (W.contents out) (W.contents result.out) }
+    {
+        if json {
+            self.serve_in_objects(input, out, err)
+        } else {
+            self.serve_in_lines(input, out, err)
+        }
+    }
+
+    // Reports a capture as its lines come, and says how it went. Answers the exit status.
+    fn follow_lines<R: Read, W: Sink, E: Sink>(
+        self,
+        followed: Followed<'_>,
+        input: &mut R,
+        out: &mut Buffered<W>,
+        err: &mut E,
+    ) -> u8
+        ensures { result ≡ 0 → FollowsTo followed.entry.form followed.entry.signal.now followed.entry.margin followed.entry.report (R.remaining input.old) (⟦<Buffered<W> as Sink>⟧.contents out.old) (W.contents (below out.new)) }
+    {
+        let Followed {
+            form,
+            signal,
+            margin,
+            report,
+        } = followed;
+        match follow_capture(self.alloc, form, signal, margin, report, input, out) {
+            Ok(()) => 0,
+            Err(fault) => self.fail(&ProgramFault::from(fault), err),
+        }
+    }
+
+    // Reports a capture as its lines come. Not inlined: an audit that is kept while they come takes much of the stack, which what
+    // else is asked for does not need.
+    #[inline(never)]
+    fn serve_capture<R: Read, W: Sink, E: Sink>(
+        self,
+        followed: Followed<'_>,
+        input: &mut R,
+        out: W,
+        err: &mut E,
+    ) -> ProgramEnd<W>
+        ensures { result.status ≡ 0 → FollowsTo followed.entry.form followed.entry.signal.now followed.entry.margin followed.entry.report (R.remaining input.old) (W.contents out) (W.contents result.out) }
+    {
+        let mut out = Buffered::new(out);
+        let status = self.follow_lines(followed, input, &mut out, err);
+        ProgramEnd {
+            status,
+            out: out.into_below(),
+        }
+    }
+
+    // Does what is asked for with all there is to read. Answers the exit status.
+    fn serve_whole<R: Read, W: Sink, E: Sink>(
+        self,
+        signal: &[u8],
+        input: &mut R,
+        out: &mut Buffered<W>,
+        err: &mut E,
+    ) -> u8
+        requires { is_line_by_line self.asked.choice ≡ false }
+        ensures { result ≡ 0 → IsServed (R.remaining input.old) (⟦<Buffered<W> as Sink>⟧.contents out.old) (W.contents (below out.new)) self.entry.asked.choice signal.now }
+    {
+        match read_input(self.alloc, limit_of(self.asked.choice), input) {
+            Ok(input) => self.answer(signal, &input, out, err),
+            Err(fault) => self.fail(&ProgramFault::from(fault), err),
+        }
+    }
+
+    // Does what is asked for, of the wire that the words name. Answers the exit status.
+    fn serve_named<R: Read, W: Sink, E: Sink>(
+        self,
+        input: &mut R,
+        out: &mut Buffered<W>,
+        err: &mut E,
+    ) -> u8
+        requires { is_line_by_line self.asked.choice ≡ false }
+        ensures { result ≡ 0 → IsServed (R.remaining input.old) (⟦<Buffered<W> as Sink>⟧.contents out.old) (W.contents (below out.new)) self.entry.asked.choice (name_of (signal_in (map string_bytes self.entry.words.now))) }
+    {
+        match name_of(self.alloc, self.words) {
+            Ok(name) => self.serve_whole(&name, input, out, err),
+            Err(AllocError) => write_fault(&ProgramFault::Memory(AllocError), err),
+        }
+    }
+
+    // The same, and how it ended.
+    fn serve_input<R: Read, W: Sink, E: Sink>(
+        self,
+        input: &mut R,
+        out: W,
+        err: &mut E,
+    ) -> ProgramEnd<W>
+        requires { is_line_by_line self.asked.choice ≡ false }
+        ensures { result.status ≡ 0 → IsServed (R.remaining input.old) (W.contents out) (W.contents result.out) self.entry.asked.choice (name_of (signal_in (map string_bytes self.entry.words.now))) }
+    {
+        let mut out = Buffered::new(out);
+        let status = self.serve_named(input, &mut out, err);
+        ProgramEnd {
+            status,
+            out: out.into_below(),
+        }
+    }
+
+    // Does what is asked for.
+    fn serve<R: Read, W: Sink, E: Sink>(self, input: &mut R, out: W, err: &mut E) -> ProgramEnd<W>
+        ensures { result.status ≡ 0 → IsServed (R.remaining input.old) (W.contents out) (W.contents result.out) self.entry.asked.choice (name_of (signal_in (map string_bytes self.entry.words.now))) }
+    {
+        match self.asked.choice {
+            CommandChoice::Live { json } => self.serve_session(json, input, out, err),
+            CommandChoice::Follow {
+                form,
+                margin,
+                report,
+            } => {
+                let signal = signal_of(self.words);
+                let followed = Followed {
+                    form,
+                    signal,
+                    margin,
+                    report,
+                };
+                self.serve_capture(followed, input, out, err)
+            }
+            _ => self.serve_input(input, out, err),
+        }
     }
 }
 
@@ -373,7 +373,12 @@ fn act<R: Read, W: Sink, E: Sink>(
     ensures { result.status ≡ 0 → AreServed (map string_bytes words.now) (R.remaining input.old) (W.contents out) (W.contents result.out) }
 {
     match choose(alloc, words) {
-        Ok(asked) => serve(alloc, asked, words, input, out, err),
+        Ok(asked) => Call {
+            alloc,
+            words,
+            asked,
+        }
+        .serve(input, out, err),
         Err(refused) => decline(&refused, out, err),
     }
 }

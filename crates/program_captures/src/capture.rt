@@ -27,6 +27,17 @@ use std::alloc::{AllocError, Global};
 use std::fmt::Write;
 use text_core::{Held, Sink, put_all};
 
+// How a capture is heard, and what is written of it.
+#[derive(Clone, Copy)]
+struct Hearing<'a> {
+    form: Option<CaptureForm>,
+    signal: &'a [u8],
+    inverted: bool,
+    glitch: u64,
+    margin: u64,
+    report: Option<CaptureReport>,
+}
+
 /// The form of a capture: what is asked for, or else what its first line reports.
 pub fn form_of(form: Option<CaptureForm>, input: &[u8]) -> CaptureForm
     ensures { result ≡ form_of form input.now }
@@ -81,55 +92,12 @@ fn as_read(
     }
 }
 
-fn write_readings<W: Sink>(
-    capture: &Capture,
-    windows: Windows,
-    out: &mut W,
-) -> Result<(), MonitorFault>
-    requires { AreWindows windows }
-    ensures { OnOk result (Reports CaptureReport.Readings capture.now (captured_by windows capture.now) (W.contents out.old) (W.contents out.new)) }
-{
-    Ok(watch_capture_by(capture, windows, out)?)
-}
-
-fn write_from_idle<W: Sink>(
-    capture: &Capture,
-    windows: Windows,
-    out: &mut W,
-) -> Result<(), MonitorFault>
-    requires { AreWindows windows }
-    ensures { OnOk result (Reports CaptureReport.FromIdle capture.now (captured_by windows capture.now) (W.contents out.old) (W.contents out.new)) }
-{
-    Ok(watch_from_idle_by(capture, windows, out)?)
-}
-
-fn write_audit<W: Sink>(
-    capture: &Capture,
-    windows: Windows,
-    timing: bool,
-    out: &mut W,
-) -> Result<(), MonitorFault>
-    requires { AreWindows windows }
-    ensures { OnOk result (Reports (CaptureReport.Audit timing false) capture.now (captured_by windows capture.now) (W.contents out.old) (W.contents out.new)) }
-{
-    Ok(audit_capture_by(capture, windows, AuditOptions { timing }, out)?)
-}
-
-// An audit as it is held: `Err` where memory runs out.
-fn held_audit(
+// A capture and the windows by which it is read, and the memory for what is held of it.
+#[derive(Clone, Copy)]
+struct Listener<'a> {
     alloc: Global,
-    capture: &Capture,
+    capture: &'a Capture,
     windows: Windows,
-    timing: bool,
-) -> Result<Held, AllocError>
-    requires { AreWindows windows }
-    ensures { IfOk result (λ held. ⟦<Held as Sink>⟧.contents held ≡ Some (audit_text_of timing capture.now (captured_by windows capture.now))) }
-{
-    let mut held = Held::new(alloc);
-    match audit_capture_by(capture, windows, AuditOptions { timing }, &mut held) {
-        Ok(()) => Ok(held),
-        Err(_) => Err(AllocError),
-    }
 }
 
 // Fails where a text has a remark.
@@ -142,58 +110,82 @@ fn without_remark(text: &[u8]) -> Result<(), MonitorFault>
     Ok(())
 }
 
-// The audit of which a remark is a fault. All of it is written then too.
-fn write_strict_audit<W: Sink>(
-    alloc: Global,
-    capture: &Capture,
-    windows: Windows,
-    timing: bool,
-    out: &mut W,
-) -> Result<(), MonitorFault>
-    requires { AreWindows windows }
-    ensures { OnOk result (Reports (CaptureReport.Audit timing true) capture.now (captured_by windows capture.now) (W.contents out.old) (W.contents out.new)) }
-{
-    let held = held_audit(alloc, capture, windows, timing)?;
-    let text = held.bytes();
-    put_all(out, text)?;
-    without_remark(text)
-}
-
-fn write_any_audit<W: Sink>(
-    alloc: Global,
-    capture: &Capture,
-    windows: Windows,
-    timing: bool,
-    strict: bool,
-    out: &mut W,
-) -> Result<(), MonitorFault>
-    requires { AreWindows windows }
-    ensures { OnOk result (Reports (CaptureReport.Audit timing strict) capture.now (captured_by windows capture.now) (W.contents out.old) (W.contents out.new)) }
-{
-    if strict {
-        write_strict_audit(alloc, capture, windows, timing, out)
-    } else {
-        write_audit(capture, windows, timing, out)
+impl Listener<'_> {
+    fn write_readings<W: Sink>(self, out: &mut W) -> Result<(), MonitorFault>
+        requires { AreWindows self.windows }
+        ensures { OnOk result (Reports CaptureReport.Readings self.entry.capture.now (captured_by self.entry.windows self.entry.capture.now) (W.contents out.old) (W.contents out.new)) }
+    {
+        Ok(watch_capture_by(self.capture, self.windows, out)?)
     }
-}
 
-// Writes what is asked for of a capture, as these windows read it.
-fn write_report<W: Sink>(
-    alloc: Global,
-    capture: &Capture,
-    windows: Windows,
-    report: CaptureReport,
-    out: &mut W,
-) -> Result<(), MonitorFault>
-    requires { AreWindows windows }
-    ensures { OnOk result (Reports report capture.now (captured_by windows capture.now) (W.contents out.old) (W.contents out.new)) }
-{
-    match report {
-        CaptureReport::Readings => write_readings(capture, windows, out),
-        CaptureReport::FromIdle => write_from_idle(capture, windows, out),
-        CaptureReport::Audit { timing, strict } => write_any_audit(
-            alloc, capture, windows, timing, strict, out,
-        ),
+    fn write_from_idle<W: Sink>(self, out: &mut W) -> Result<(), MonitorFault>
+        requires { AreWindows self.windows }
+        ensures { OnOk result (Reports CaptureReport.FromIdle self.entry.capture.now (captured_by self.entry.windows self.entry.capture.now) (W.contents out.old) (W.contents out.new)) }
+    {
+        Ok(watch_from_idle_by(self.capture, self.windows, out)?)
+    }
+
+    fn write_audit<W: Sink>(self, timing: bool, out: &mut W) -> Result<(), MonitorFault>
+        requires { AreWindows self.windows }
+        ensures { OnOk result (Reports (CaptureReport.Audit timing false) self.entry.capture.now (captured_by self.entry.windows self.entry.capture.now) (W.contents out.old) (W.contents out.new)) }
+    {
+        Ok(audit_capture_by(self.capture, self.windows, AuditOptions { timing }, out)?)
+    }
+
+    // An audit as it is held: `Err` where memory runs out.
+    fn held_audit(self, timing: bool) -> Result<Held, AllocError>
+        requires { AreWindows self.windows }
+        ensures { IfOk result (λ held. ⟦<Held as Sink>⟧.contents held ≡ Some (audit_text_of timing self.entry.capture.now (captured_by self.entry.windows self.entry.capture.now))) }
+    {
+        let mut held = Held::new(self.alloc);
+        match audit_capture_by(
+            self.capture,
+            self.windows,
+            AuditOptions { timing },
+            &mut held,
+        ) {
+            Ok(()) => Ok(held),
+            Err(_) => Err(AllocError),
+        }
+    }
+
+    // The audit of which a remark is a fault. All of it is written then too.
+    fn write_strict_audit<W: Sink>(self, timing: bool, out: &mut W) -> Result<(), MonitorFault>
+        requires { AreWindows self.windows }
+        ensures { OnOk result (Reports (CaptureReport.Audit timing true) self.entry.capture.now (captured_by self.entry.windows self.entry.capture.now) (W.contents out.old) (W.contents out.new)) }
+    {
+        let held = self.held_audit(timing)?;
+        let text = held.bytes();
+        put_all(out, text)?;
+        without_remark(text)
+    }
+
+    fn write_any_audit<W: Sink>(
+        self,
+        timing: bool,
+        strict: bool,
+        out: &mut W,
+    ) -> Result<(), MonitorFault>
+        requires { AreWindows self.windows }
+        ensures { OnOk result (Reports (CaptureReport.Audit timing strict) self.entry.capture.now (captured_by self.entry.windows self.entry.capture.now) (W.contents out.old) (W.contents out.new)) }
+    {
+        if strict {
+            self.write_strict_audit(timing, out)
+        } else {
+            self.write_audit(timing, out)
+        }
+    }
+
+    // Writes what is asked for of the capture.
+    fn write_report<W: Sink>(self, report: CaptureReport, out: &mut W) -> Result<(), MonitorFault>
+        requires { AreWindows self.windows }
+        ensures { OnOk result (Reports report self.entry.capture.now (captured_by self.entry.windows self.entry.capture.now) (W.contents out.old) (W.contents out.new)) }
+    {
+        match report {
+            CaptureReport::Readings => self.write_readings(out),
+            CaptureReport::FromIdle => self.write_from_idle(out),
+            CaptureReport::Audit { timing, strict } => self.write_any_audit(timing, strict, out),
+        }
     }
 }
 
@@ -208,49 +200,43 @@ pub(crate) fn within_most(margin: u64) -> u64
     }
 }
 
-// Writes what is asked for of a capture in a form, of the wire of a name, with a margin.
+// Writes this report of a capture in this form, as it is heard.
 #[inline(never)]
 fn listen<W: Sink>(
     alloc: Global,
     form: CaptureForm,
-    signal: &[u8],
-    inverted: bool,
-    glitch: u64,
-    margin: u64,
     report: CaptureReport,
+    hearing: Hearing<'_>,
     input: &[u8],
     out: &mut W,
 ) -> Result<Signs, MonitorFault>
-    ensures { OnOk result (Heard form signal.now inverted glitch margin report input.now (W.contents out.old) (W.contents out.new)) }
+    ensures { OnOk result (Heard form hearing.entry.signal.now hearing.entry.inverted hearing.entry.glitch hearing.entry.margin report input.now (W.contents out.old) (W.contents out.new)) }
 {
-    let whole = read_capture(alloc, form, signal, input)?;
-    let kept = as_read(alloc, inverted, glitch, whole)?;
-    let windows = Windows::wider(within_most(margin));
-    write_report(alloc, &kept, windows, report, out)?;
-    let is_first = signal.is_empty() && has_several(alloc, form, input);
+    let whole = read_capture(alloc, form, hearing.signal, input)?;
+    let kept = as_read(alloc, hearing.inverted, hearing.glitch, whole)?;
+    let windows = Windows::wider(within_most(hearing.margin));
+    let listener = Listener {
+        alloc,
+        capture: &kept,
+        windows,
+    };
+    listener.write_report(report, out)?;
+    let is_first = hearing.signal.is_empty() && has_several(alloc, form, input);
     Ok(signs_of(&kept, is_first))
 }
 
-/// Writes what is asked for of a capture: in a form, or in the one that its first line reports, of the wire of a name, or the
-/// first where that is empty, with its levels turned or not, as windows read it that are `margin` wider at either side. Returns what the capture looks like.
-pub fn monitor<W: Sink>(
+// Writes what is asked for of a capture, as it is heard.
+fn monitor<W: Sink>(
     alloc: Global,
-    form: Option<CaptureForm>,
-    signal: &[u8],
-    inverted: bool,
-    glitch: u64,
-    margin: u64,
-    report: Option<CaptureReport>,
+    hearing: Hearing<'_>,
     input: &[u8],
     out: &mut W,
 ) -> Result<Signs, MonitorFault>
-    ensures { OnOk result (Heard (form_of form input.now) signal.now inverted glitch margin (report_of report (form_of form input.now)) input.now (W.contents out.old) (W.contents out.new)) }
+    ensures { OnOk result (Heard (form_of hearing.entry.form input.now) hearing.entry.signal.now hearing.entry.inverted hearing.entry.glitch hearing.entry.margin (report_of hearing.entry.report (form_of hearing.entry.form input.now)) input.now (W.contents out.old) (W.contents out.new)) }
 {
-    let form = form_of(form, input);
-    let report = report_of(report, form);
-    listen(
-        alloc, form, signal, inverted, glitch, margin, report, input, out,
-    )
+    let form = form_of(hearing.form, input);
+    let report = report_of(hearing.report, form);
+    listen(alloc, form, report, hearing, input, out)
 }
 
 // Writes lines, bad starts one after another as one.
@@ -266,21 +252,14 @@ fn write_folded<W: Sink>(alloc: Global, lines: &[u8], out: &mut W) -> Result<(),
 #[inline(never)]
 fn show_folded<W: Sink>(
     alloc: Global,
-    form: Option<CaptureForm>,
-    signal: &[u8],
-    inverted: bool,
-    glitch: u64,
-    margin: u64,
-    report: Option<CaptureReport>,
+    hearing: Hearing<'_>,
     input: &[u8],
     out: &mut W,
 ) -> Result<Signs, MonitorFault>
-    ensures { OnOk result (Shown true (form_of form input.now) signal.now inverted glitch margin (report_of report (form_of form input.now)) input.now (W.contents out.old) (W.contents out.new)) }
+    ensures { OnOk result (Shown true (form_of hearing.entry.form input.now) hearing.entry.signal.now hearing.entry.inverted hearing.entry.glitch hearing.entry.margin (report_of hearing.entry.report (form_of hearing.entry.form input.now)) input.now (W.contents out.old) (W.contents out.new)) }
 {
     let mut held = Held::new(alloc);
-    let done = monitor(
-        alloc, form, signal, inverted, glitch, margin, report, input, &mut held,
-    );
+    let done = monitor(alloc, hearing, input, &mut held);
     if held.is_full() {
         return Err(MonitorFault::Memory(AllocError));
     }
@@ -288,7 +267,9 @@ fn show_folded<W: Sink>(
     done
 }
 
-/// Writes the same as `monitor`, as it stands or with bad starts one after another as one line.
+/// Writes what is asked for of a capture: in a form, or in the one that its first line reports, of the wire of a name, or the
+/// first where that is empty, with its levels turned or not, as windows read it that are `margin` wider at either side; as it stands
+/// or with bad starts one after another as one line. Returns what the capture looks like.
 pub fn show<W: Sink>(
     alloc: Global,
     folds: bool,
@@ -303,14 +284,18 @@ pub fn show<W: Sink>(
 ) -> Result<Signs, MonitorFault>
     ensures { OnOk result (Shown folds (form_of form input.now) signal.now inverted glitch margin (report_of report (form_of form input.now)) input.now (W.contents out.old) (W.contents out.new)) }
 {
+    let hearing = Hearing {
+        form,
+        signal,
+        inverted,
+        glitch,
+        margin,
+        report,
+    };
     if folds {
-        show_folded(
-            alloc, form, signal, inverted, glitch, margin, report, input, out,
-        )
+        show_folded(alloc, hearing, input, out)
     } else {
-        monitor(
-            alloc, form, signal, inverted, glitch, margin, report, input, out,
-        )
+        monitor(alloc, hearing, input, out)
     }
 }
 

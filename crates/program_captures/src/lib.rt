@@ -7,7 +7,7 @@ mod following;
 mod objects;
 mod signs;
 
-pub use capture::{form_of, monitor, name_lost, show, without_short};
+pub use capture::{form_of, name_lost, show, without_short};
 pub use fault::MonitorFault;
 pub use following::follow_capture;
 pub use objects::write_capture_objects;

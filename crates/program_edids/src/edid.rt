@@ -79,6 +79,13 @@ fn is_edid(bytes: &[u8]) -> Result<(), EdidFault>
     }
 }
 
+// The bytes of an EDID, and the memory for what is made of them.
+#[derive(Clone, Copy)]
+struct Blocks<'a> {
+    alloc: Global,
+    bytes: &'a [u8],
+}
+
 // Writes bytes as one line of hex.
 fn write_hex_line<S: Sink>(bytes: &[u8], out: &mut S) -> Result<(), WriteFault>
     ensures { WrittenAll (S.contents out.old) (S.contents out.new) (S.is_stuck out.old) (S.is_stuck out.new) (hex_line bytes.now) result }
@@ -143,55 +150,6 @@ fn spoken_bytes(alloc: Global, port: u8, bytes: &[u8]) -> Result<Vec<u8>, EdidFa
     }
 }
 
-// Writes them.
-fn write_spoken<W: Sink>(
-    alloc: Global,
-    bytes: &[u8],
-    port: u8,
-    shape: EdidShape,
-    out: &mut W,
-) -> Result<(), EdidFault>
-    ensures { OnOk result (Shows (View.Whole (Recipient.Port port Sound.Spoken) shape) bytes.now (W.contents out.old) (W.contents out.new)) }
-{
-    let given = spoken_bytes(alloc, port, bytes)?;
-    write_own(given.as_slice(), shape, out)
-}
-
-// Writes what is passed on of the EDID of some bytes in a port.
-fn write_in_port<W: Sink>(
-    alloc: Global,
-    bytes: &[u8],
-    port: u8,
-    sound: Sound,
-    shape: EdidShape,
-    out: &mut W,
-) -> Result<(), EdidFault>
-    ensures { OnOk result (Shows (View.Whole (Recipient.Port port sound) shape) bytes.now (W.contents out.old) (W.contents out.new)) }
-{
-    match sound {
-        Sound::Kept => write_passed(bytes, in_port(port, false), shape, out),
-        Sound::Amplified => write_passed(bytes, in_port(port, true), shape, out),
-        Sound::Spoken => write_spoken(alloc, bytes, port, shape, out),
-    }
-}
-
-// Writes the EDID of some bytes, for a device.
-fn write_whole<W: Sink>(
-    alloc: Global,
-    bytes: &[u8],
-    place: Recipient,
-    shape: EdidShape,
-    out: &mut W,
-) -> Result<(), EdidFault>
-    ensures { OnOk result (Shows (View.Whole place shape) bytes.now (W.contents out.old) (W.contents out.new)) }
-{
-    match place {
-        Recipient::Own => write_own(bytes, shape, out),
-        Recipient::At(address) => write_passed(bytes, at(address), shape, out),
-        Recipient::Port { port, sound } => write_in_port(alloc, bytes, port, sound, shape, out),
-    }
-}
-
 // Writes the rules that the EDID of some bytes breaks.
 fn check_own<W: Sink>(bytes: &[u8], out: &mut W) -> Result<(), EdidFault>
     ensures { OnOk result (Shows (View.Findings Recipient.Own) bytes.now (W.contents out.old) (W.contents out.new)) }
@@ -206,52 +164,6 @@ fn check_passed<W: Sink>(bytes: &[u8], passing: Passing, out: &mut W) -> Result<
 {
     let fails = check_passed_on(bytes, passing, out)?;
     unless_failed(fails)
-}
-
-// Writes the rules that it breaks with the speakers of an amplifier.
-fn check_spoken<W: Sink>(
-    alloc: Global,
-    bytes: &[u8],
-    port: u8,
-    out: &mut W,
-) -> Result<(), EdidFault>
-    ensures { OnOk result (Shows (View.Findings (Recipient.Port port Sound.Spoken)) bytes.now (W.contents out.old) (W.contents out.new)) }
-{
-    let given = spoken_bytes(alloc, port, bytes)?;
-    write_own_rules(Origin::Port, given.as_slice(), out)
-}
-
-// Writes the rules that what is passed on of it in a port breaks.
-fn check_in_port<W: Sink>(
-    alloc: Global,
-    bytes: &[u8],
-    port: u8,
-    sound: Sound,
-    out: &mut W,
-) -> Result<(), EdidFault>
-    ensures { OnOk result (Shows (View.Findings (Recipient.Port port sound)) bytes.now (W.contents out.old) (W.contents out.new)) }
-{
-    match sound {
-        Sound::Kept => check_passed(bytes, in_port(port, false), out),
-        Sound::Amplified => check_passed(bytes, in_port(port, true), out),
-        Sound::Spoken => check_spoken(alloc, bytes, port, out),
-    }
-}
-
-// Writes the rules that the EDID of some bytes breaks, for a device.
-fn write_rules<W: Sink>(
-    alloc: Global,
-    bytes: &[u8],
-    place: Recipient,
-    out: &mut W,
-) -> Result<(), EdidFault>
-    ensures { OnOk result (Shows (View.Findings place) bytes.now (W.contents out.old) (W.contents out.new)) }
-{
-    match place {
-        Recipient::Own => check_own(bytes, out),
-        Recipient::At(address) => check_passed(bytes, at(address), out),
-        Recipient::Port { port, sound } => check_in_port(alloc, bytes, port, sound, out),
-    }
 }
 
 // The bytes that are passed on of the EDID of some bytes.
@@ -289,32 +201,6 @@ pub fn given_to(alloc: Global, place: Recipient, bytes: &[u8]) -> Result<Vec<u8>
     }
 }
 
-// Writes the text of the EDID of some bytes, for a device, with what it means.
-fn write_meaning<W: Sink>(
-    alloc: Global,
-    bytes: &[u8],
-    place: Recipient,
-    out: &mut W,
-) -> Result<(), EdidFault>
-    ensures { OnOk result (Shows (View.Meaning place) bytes.now (W.contents out.old) (W.contents out.new)) }
-{
-    let given = given_to(alloc, place, bytes)?;
-    Ok(edid_to_meaning(given.as_slice(), out)?)
-}
-
-// Writes the address in the EDID of some bytes, for a device.
-fn write_place<W: Sink>(
-    alloc: Global,
-    bytes: &[u8],
-    place: Recipient,
-    out: &mut W,
-) -> Result<(), EdidFault>
-    ensures { OnOk result (Shows (View.Address place) bytes.now (W.contents out.old) (W.contents out.new)) }
-{
-    let given = given_to(alloc, place, bytes)?;
-    Ok(write_address(given.as_slice(), out)?)
-}
-
 // Why bytes can't be read over DDC: there is no whole number of blocks, or not so many.
 fn unread(_error: DdcError) -> EdidFault {
     EdidFault::Edid(EdidError::Length)
@@ -333,91 +219,6 @@ fn write_reading<W: Sink>(bytes: &[u8], out: &mut W) -> Result<(), EdidFault>
     }
 }
 
-// Writes what a device reads of the EDID of some bytes over DDC.
-fn write_ddc<W: Sink>(
-    alloc: Global,
-    bytes: &[u8],
-    place: Recipient,
-    out: &mut W,
-) -> Result<(), EdidFault>
-    ensures { OnOk result (Shows (View.Readout place) bytes.now (W.contents out.old) (W.contents out.new)) }
-{
-    let given = given_to(alloc, place, bytes)?;
-    let blocks = given.as_slice();
-    is_edid(blocks)?;
-    write_reading(blocks, out)
-}
-
-// Writes what is asked for of the EDID of some bytes.
-fn show<W: Sink>(alloc: Global, view: View, bytes: &[u8], out: &mut W) -> Result<(), EdidFault>
-    ensures { OnOk result (Shows view bytes.now (W.contents out.old) (W.contents out.new)) }
-{
-    match view {
-        View::Whole(place, shape) => write_whole(alloc, bytes, place, shape, out),
-        View::Findings(place) => write_rules(alloc, bytes, place, out),
-        View::Meaning(place) => write_meaning(alloc, bytes, place, out),
-        View::Address(place) => write_place(alloc, bytes, place, out),
-        View::Readout(place) => write_ddc(alloc, bytes, place, out),
-    }
-}
-
-// The bytes of an EDID, for a device, with another count in byte 126.
-fn recounted(
-    alloc: Global,
-    count: u8,
-    place: Recipient,
-    bytes: &[u8],
-) -> Result<ArrayVec<u8, 512>, EdidFault>
-    ensures { IfOk result (λ new. IsRecounted count place bytes.now new.items) }
-{
-    let given = given_to(alloc, place, bytes)?;
-    let blocks = given.as_slice();
-    is_edid(blocks)?;
-    if blocks.len() < LEAST || blocks.len() > MOST {
-        return Err(EdidFault::Edid(EdidError::Length));
-    }
-    Ok(with_count(blocks, count))
-}
-
-fn write_counted_hex<W: Sink>(
-    alloc: Global,
-    count: u8,
-    place: Recipient,
-    bytes: &[u8],
-    out: &mut W,
-) -> Result<(), EdidFault>
-    ensures { OnOk result (ShowsCounted count (View.Whole place EdidShape.Hex) bytes.now (W.contents out.old) (W.contents out.new)) }
-{
-    let mended = recounted(alloc, count, place, bytes)?;
-    Ok(write_hex_line(mended.as_slice(), out)?)
-}
-
-fn write_counted_bytes<W: Sink>(
-    alloc: Global,
-    count: u8,
-    place: Recipient,
-    bytes: &[u8],
-    out: &mut W,
-) -> Result<(), EdidFault>
-    ensures { OnOk result (ShowsCounted count (View.Whole place EdidShape.Bytes) bytes.now (W.contents out.old) (W.contents out.new)) }
-{
-    let mended = recounted(alloc, count, place, bytes)?;
-    Ok(put_all(out, mended.as_slice())?)
-}
-
-fn write_counted_ddc<W: Sink>(
-    alloc: Global,
-    count: u8,
-    place: Recipient,
-    bytes: &[u8],
-    out: &mut W,
-) -> Result<(), EdidFault>
-    ensures { OnOk result (ShowsCounted count (View.Readout place) bytes.now (W.contents out.old) (W.contents out.new)) }
-{
-    let mended = recounted(alloc, count, place, bytes)?;
-    write_reading(mended.as_slice(), out)
-}
-
 /// The rules are those for the EDID of a display, or for one that is passed on.
 pub fn origin_of(place: Recipient) -> Origin
     ensures { result ≡ origin_of place }
@@ -428,104 +229,260 @@ pub fn origin_of(place: Recipient) -> Origin
     }
 }
 
-// Writes the rules that the EDID of some bytes breaks, for a device, as its base block has this count in byte 126.
-fn check_counted<W: Sink>(
-    alloc: Global,
-    count: u8,
-    place: Recipient,
-    bytes: &[u8],
-    out: &mut W,
-) -> Result<(), EdidFault>
-    ensures { OnOk result (ShowsCounted count (View.Findings place) bytes.now (W.contents out.old) (W.contents out.new)) }
-{
-    let given = given_to(alloc, place, bytes)?;
-    write_counted_rules(origin_of(place), count, bytes, given.as_slice(), out)
-}
-
-// Writes the EDID of some bytes, for a device. Bytes that are written have this count in byte 126.
-fn show_counted_whole<W: Sink>(
-    alloc: Global,
-    count: u8,
-    place: Recipient,
-    shape: EdidShape,
-    bytes: &[u8],
-    out: &mut W,
-) -> Result<(), EdidFault>
-    ensures { OnOk result (ShowsCounted count (View.Whole place shape) bytes.now (W.contents out.old) (W.contents out.new)) }
-{
-    match shape {
-        EdidShape::Hex => write_counted_hex(alloc, count, place, bytes, out),
-        EdidShape::Bytes => write_counted_bytes(alloc, count, place, bytes, out),
-        EdidShape::Text => write_whole(alloc, bytes, place, EdidShape::Text, out),
+impl Blocks<'_> {
+    // Writes what is passed on of it in a port of an amplifier, with its speakers.
+    fn write_spoken<W: Sink>(self, port: u8, shape: EdidShape, out: &mut W) -> Result<(), EdidFault>
+        ensures { OnOk result (Shows (View.Whole (Recipient.Port port Sound.Spoken) shape) self.entry.bytes.now (W.contents out.old) (W.contents out.new)) }
+    {
+        let given = spoken_bytes(self.alloc, port, self.bytes)?;
+        write_own(given.as_slice(), shape, out)
     }
-}
 
-// The same where the HDMI Forum's override counts the extensions. Bytes that are written have this count in byte 126.
-fn show_counted<W: Sink>(
-    alloc: Global,
-    count: u8,
-    view: View,
-    bytes: &[u8],
-    out: &mut W,
-) -> Result<(), EdidFault>
-    ensures { OnOk result (ShowsCounted count view bytes.now (W.contents out.old) (W.contents out.new)) }
-{
-    match view {
-        View::Whole(place, shape) => show_counted_whole(alloc, count, place, shape, bytes, out),
-        View::Findings(place) => check_counted(alloc, count, place, bytes, out),
-        View::Meaning(place) => write_meaning(alloc, bytes, place, out),
-        View::Address(place) => write_place(alloc, bytes, place, out),
-        View::Readout(place) => write_counted_ddc(alloc, count, place, bytes, out),
+    // Writes what is passed on of it in a port.
+    fn write_in_port<W: Sink>(
+        self,
+        port: u8,
+        sound: Sound,
+        shape: EdidShape,
+        out: &mut W,
+    ) -> Result<(), EdidFault>
+        ensures { OnOk result (Shows (View.Whole (Recipient.Port port sound) shape) self.entry.bytes.now (W.contents out.old) (W.contents out.new)) }
+    {
+        match sound {
+            Sound::Kept => write_passed(self.bytes, in_port(port, false), shape, out),
+            Sound::Amplified => write_passed(self.bytes, in_port(port, true), shape, out),
+            Sound::Spoken => self.write_spoken(port, shape, out),
+        }
     }
-}
 
-// Writes what is asked for of bytes in which the override counts the extensions.
-fn show_overridden<W: Sink>(
-    alloc: Global,
-    count: u8,
-    view: View,
-    given: &[u8],
-    out: &mut W,
-) -> Result<(), EdidFault>
-    ensures { OnOk result (ShowsAs EdidReading.Overridden count view given.now (W.contents out.old) (W.contents out.new)) }
-{
-    match counted(given) {
-        Ok(bytes) => show_counted(alloc, count, view, bytes.as_slice(), out),
-        Err(error) => Err(EdidFault::Edid(error)),
+    // Writes the EDID, for a device.
+    fn write_whole<W: Sink>(
+        self,
+        place: Recipient,
+        shape: EdidShape,
+        out: &mut W,
+    ) -> Result<(), EdidFault>
+        ensures { OnOk result (Shows (View.Whole place shape) self.entry.bytes.now (W.contents out.old) (W.contents out.new)) }
+    {
+        match place {
+            Recipient::Own => write_own(self.bytes, shape, out),
+            Recipient::At(address) => write_passed(self.bytes, at(address), shape, out),
+            Recipient::Port { port, sound } => self.write_in_port(port, sound, shape, out),
+        }
     }
-}
 
-// Writes what is asked for of bytes as a source reads them.
-fn show_as_source<W: Sink>(
-    alloc: Global,
-    count: u8,
-    view: View,
-    given: &[u8],
-    out: &mut W,
-) -> Result<(), EdidFault>
-    ensures { OnOk result (ShowsAs EdidReading.AsSource count view given.now (W.contents out.old) (W.contents out.new)) }
-{
-    match as_source(given) {
-        Ok(bytes) => show(alloc, view, bytes.as_slice(), out),
-        Err(error) => Err(EdidFault::Edid(error)),
+    // Writes the rules that it breaks in a port, with the speakers of an amplifier.
+    fn check_spoken<W: Sink>(self, port: u8, out: &mut W) -> Result<(), EdidFault>
+        ensures { OnOk result (Shows (View.Findings (Recipient.Port port Sound.Spoken)) self.entry.bytes.now (W.contents out.old) (W.contents out.new)) }
+    {
+        let given = spoken_bytes(self.alloc, port, self.bytes)?;
+        write_own_rules(Origin::Port, given.as_slice(), out)
     }
-}
 
-// Writes what is asked for of bytes, as they are read.
-fn show_as<W: Sink>(
-    alloc: Global,
-    reading: EdidReading,
-    count: u8,
-    view: View,
-    given: &[u8],
-    out: &mut W,
-) -> Result<(), EdidFault>
-    ensures { OnOk result (ShowsAs reading count view given.now (W.contents out.old) (W.contents out.new)) }
-{
-    match reading {
-        EdidReading::Strict => show(alloc, view, given, out),
-        EdidReading::Overridden => show_overridden(alloc, count, view, given, out),
-        EdidReading::AsSource => show_as_source(alloc, count, view, given, out),
+    // Writes the rules that what is passed on of it in a port breaks.
+    fn check_in_port<W: Sink>(self, port: u8, sound: Sound, out: &mut W) -> Result<(), EdidFault>
+        ensures { OnOk result (Shows (View.Findings (Recipient.Port port sound)) self.entry.bytes.now (W.contents out.old) (W.contents out.new)) }
+    {
+        match sound {
+            Sound::Kept => check_passed(self.bytes, in_port(port, false), out),
+            Sound::Amplified => check_passed(self.bytes, in_port(port, true), out),
+            Sound::Spoken => self.check_spoken(port, out),
+        }
+    }
+
+    // Writes the rules that the EDID breaks, for a device.
+    fn write_rules<W: Sink>(self, place: Recipient, out: &mut W) -> Result<(), EdidFault>
+        ensures { OnOk result (Shows (View.Findings place) self.entry.bytes.now (W.contents out.old) (W.contents out.new)) }
+    {
+        match place {
+            Recipient::Own => check_own(self.bytes, out),
+            Recipient::At(address) => check_passed(self.bytes, at(address), out),
+            Recipient::Port { port, sound } => self.check_in_port(port, sound, out),
+        }
+    }
+
+    // Writes the text of the EDID, for a device, with what it means.
+    fn write_meaning<W: Sink>(self, place: Recipient, out: &mut W) -> Result<(), EdidFault>
+        ensures { OnOk result (Shows (View.Meaning place) self.entry.bytes.now (W.contents out.old) (W.contents out.new)) }
+    {
+        let given = given_to(self.alloc, place, self.bytes)?;
+        Ok(edid_to_meaning(given.as_slice(), out)?)
+    }
+
+    // Writes the address in the EDID, for a device.
+    fn write_place<W: Sink>(self, place: Recipient, out: &mut W) -> Result<(), EdidFault>
+        ensures { OnOk result (Shows (View.Address place) self.entry.bytes.now (W.contents out.old) (W.contents out.new)) }
+    {
+        let given = given_to(self.alloc, place, self.bytes)?;
+        Ok(write_address(given.as_slice(), out)?)
+    }
+
+    // Writes what a device reads of the EDID over DDC.
+    fn write_ddc<W: Sink>(self, place: Recipient, out: &mut W) -> Result<(), EdidFault>
+        ensures { OnOk result (Shows (View.Readout place) self.entry.bytes.now (W.contents out.old) (W.contents out.new)) }
+    {
+        let given = given_to(self.alloc, place, self.bytes)?;
+        let blocks = given.as_slice();
+        is_edid(blocks)?;
+        write_reading(blocks, out)
+    }
+
+    // Writes what is asked for of the EDID.
+    fn show<W: Sink>(self, view: View, out: &mut W) -> Result<(), EdidFault>
+        ensures { OnOk result (Shows view self.entry.bytes.now (W.contents out.old) (W.contents out.new)) }
+    {
+        match view {
+            View::Whole(place, shape) => self.write_whole(place, shape, out),
+            View::Findings(place) => self.write_rules(place, out),
+            View::Meaning(place) => self.write_meaning(place, out),
+            View::Address(place) => self.write_place(place, out),
+            View::Readout(place) => self.write_ddc(place, out),
+        }
+    }
+
+    // The bytes of the EDID, for a device, with another count in byte 126.
+    fn recounted(self, count: u8, place: Recipient) -> Result<ArrayVec<u8, 512>, EdidFault>
+        ensures { IfOk result (λ new. IsRecounted count place self.entry.bytes.now new.items) }
+    {
+        let given = given_to(self.alloc, place, self.bytes)?;
+        let blocks = given.as_slice();
+        is_edid(blocks)?;
+        if blocks.len() < LEAST || blocks.len() > MOST {
+            return Err(EdidFault::Edid(EdidError::Length));
+        }
+        Ok(with_count(blocks, count))
+    }
+
+    // Writes those bytes as one line of hex.
+    fn write_counted_hex<W: Sink>(
+        self,
+        count: u8,
+        place: Recipient,
+        out: &mut W,
+    ) -> Result<(), EdidFault>
+        ensures { OnOk result (ShowsCounted count (View.Whole place EdidShape.Hex) self.entry.bytes.now (W.contents out.old) (W.contents out.new)) }
+    {
+        let mended = self.recounted(count, place)?;
+        Ok(write_hex_line(mended.as_slice(), out)?)
+    }
+
+    // Writes those bytes as they are.
+    fn write_counted_bytes<W: Sink>(
+        self,
+        count: u8,
+        place: Recipient,
+        out: &mut W,
+    ) -> Result<(), EdidFault>
+        ensures { OnOk result (ShowsCounted count (View.Whole place EdidShape.Bytes) self.entry.bytes.now (W.contents out.old) (W.contents out.new)) }
+    {
+        let mended = self.recounted(count, place)?;
+        Ok(put_all(out, mended.as_slice())?)
+    }
+
+    // Writes what a device reads of them over DDC.
+    fn write_counted_ddc<W: Sink>(
+        self,
+        count: u8,
+        place: Recipient,
+        out: &mut W,
+    ) -> Result<(), EdidFault>
+        ensures { OnOk result (ShowsCounted count (View.Readout place) self.entry.bytes.now (W.contents out.old) (W.contents out.new)) }
+    {
+        let mended = self.recounted(count, place)?;
+        write_reading(mended.as_slice(), out)
+    }
+
+    // Writes the rules that the EDID breaks, for a device, as its base block has this count in byte 126.
+    fn check_counted<W: Sink>(
+        self,
+        count: u8,
+        place: Recipient,
+        out: &mut W,
+    ) -> Result<(), EdidFault>
+        ensures { OnOk result (ShowsCounted count (View.Findings place) self.entry.bytes.now (W.contents out.old) (W.contents out.new)) }
+    {
+        let given = given_to(self.alloc, place, self.bytes)?;
+        write_counted_rules(origin_of(place), count, self.bytes, given.as_slice(), out)
+    }
+
+    // Writes the EDID, for a device. Bytes that are written have this count in byte 126.
+    fn show_counted_whole<W: Sink>(
+        self,
+        count: u8,
+        place: Recipient,
+        shape: EdidShape,
+        out: &mut W,
+    ) -> Result<(), EdidFault>
+        ensures { OnOk result (ShowsCounted count (View.Whole place shape) self.entry.bytes.now (W.contents out.old) (W.contents out.new)) }
+    {
+        match shape {
+            EdidShape::Hex => self.write_counted_hex(count, place, out),
+            EdidShape::Bytes => self.write_counted_bytes(count, place, out),
+            EdidShape::Text => self.write_whole(place, EdidShape::Text, out),
+        }
+    }
+
+    // Writes what is asked for where the HDMI Forum's override counts the extensions. Bytes that are written have this count in
+    // byte 126.
+    fn show_counted<W: Sink>(self, count: u8, view: View, out: &mut W) -> Result<(), EdidFault>
+        ensures { OnOk result (ShowsCounted count view self.entry.bytes.now (W.contents out.old) (W.contents out.new)) }
+    {
+        match view {
+            View::Whole(place, shape) => self.show_counted_whole(count, place, shape, out),
+            View::Findings(place) => self.check_counted(count, place, out),
+            View::Meaning(place) => self.write_meaning(place, out),
+            View::Address(place) => self.write_place(place, out),
+            View::Readout(place) => self.write_counted_ddc(count, place, out),
+        }
+    }
+
+    // Writes what is asked for of bytes in which the override counts the extensions.
+    fn show_overridden<W: Sink>(self, count: u8, view: View, out: &mut W) -> Result<(), EdidFault>
+        ensures { OnOk result (ShowsAs EdidReading.Overridden count view self.entry.bytes.now (W.contents out.old) (W.contents out.new)) }
+    {
+        match counted(self.bytes) {
+            Ok(bytes) => {
+                let read = Blocks {
+                    bytes: bytes.as_slice(),
+                    ..self
+                };
+                read.show_counted(count, view, out)
+            }
+            Err(error) => Err(EdidFault::Edid(error)),
+        }
+    }
+
+    // Writes what is asked for of bytes as a source reads them.
+    fn show_as_source<W: Sink>(self, count: u8, view: View, out: &mut W) -> Result<(), EdidFault>
+        ensures { OnOk result (ShowsAs EdidReading.AsSource count view self.entry.bytes.now (W.contents out.old) (W.contents out.new)) }
+    {
+        match as_source(self.bytes) {
+            Ok(bytes) => {
+                let read = Blocks {
+                    bytes: bytes.as_slice(),
+                    ..self
+                };
+                read.show(view, out)
+            }
+            Err(error) => Err(EdidFault::Edid(error)),
+        }
+    }
+
+    // Writes what is asked for of bytes, as they are read.
+    fn show_as<W: Sink>(
+        self,
+        reading: EdidReading,
+        count: u8,
+        view: View,
+        out: &mut W,
+    ) -> Result<(), EdidFault>
+        ensures { OnOk result (ShowsAs reading count view self.entry.bytes.now (W.contents out.old) (W.contents out.new)) }
+    {
+        match reading {
+            EdidReading::Strict => self.show(view, out),
+            EdidReading::Overridden => self.show_overridden(count, view, out),
+            EdidReading::AsSource => self.show_as_source(count, view, out),
+        }
     }
 }
 
@@ -542,5 +499,5 @@ pub fn edid<W: Sink>(
 {
     let given = given_of(alloc, source, input)?;
     let bytes = given.as_slice();
-    show_as(alloc, reading, kept_count(source, bytes), view, bytes, out)
+    Blocks { alloc, bytes }.show_as(reading, kept_count(source, bytes), view, out)
 }

@@ -1,8 +1,9 @@
+use Rattle.std.proofs.Common.{rules}
 use Rattle.library_run.proofs.Refusals.{no_refusal, not_checked}
 use Rattle.library_run.proofs.checking.put_report.Goals as goal
 
-pub returns-in-Ok-clause-refused : goal.returns-in-Ok-clause-refused
-returns-in-Ok-clause-refused c = λ more. absurd (no_refusal c.bytes.result.now c.args.room.now c.put.new.room c.put.result c.put.ensures more)
+pub returns-in-Ok : goal.returns-in-Ok
+returns-in-Ok c = (search rules, λ more. absurd (no_refusal c.bytes.result.now c.args.room.now c.put.new.room c.put.result c.put.ensures more))
 
-pub returns-clause-done : goal.returns-clause-done
-returns-clause-done c = λ little. absurd (not_checked c.in-Err.error c.check_refused.result c.check_refused.ensures little)
+pub returns : goal.returns
+returns c = (λ little. absurd (not_checked c.in-Err.error c.check_refused.result c.check_refused.ensures little), search rules)

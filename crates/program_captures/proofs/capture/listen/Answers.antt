@@ -12,8 +12,8 @@ returns g c =
     let kept : Captured = c.in_ok-kept.kept in
     let whole : Captured = c.in_ok-whole.whole in
     let windows = c.wider-windows.result in
-    let same : kept ≡ without_short c.args.glitch (turned_by c.args.inverted whole) = same_capture kept _ _ c.in_ok-kept.ensures.edges c.in_ok-kept.ensures.end in
-    let read : captured_by windows kept ≡ readings_at c.args.margin (without_short c.args.glitch (turned_by c.args.inverted whole)) =
-    readings_are c.args.margin windows kept (c.wider-windows.ensures.wider ∙ ap wider c.within_most.ensures.same) ∙ ap (readings_at c.args.margin) same in
+    let same : kept ≡ without_short c.args.hearing.glitch (turned_by c.args.hearing.inverted whole) = same_capture kept _ _ c.in_ok-kept.ensures.edges c.in_ok-kept.ensures.end in
+    let read : captured_by windows kept ≡ readings_at c.args.hearing.margin (without_short c.args.hearing.glitch (turned_by c.args.hearing.inverted whole)) =
+    readings_are c.args.hearing.margin windows kept (c.wider-windows.ensures.wider ∙ ap wider c.within_most.ensures.same) ∙ ap (readings_at c.args.hearing.margin) same in
     let reported = c.in_ok-write_report.ensures in
     (reported.0, (whole, c.in_ok-whole.ensures, subst₂ (λ (x : Captured) (xs : List Listed). IsReport c.args.report x xs reported.0) same read reported.1), reported.2)

@@ -1,0 +1,14 @@
+use Rattle.std.proofs.Common.{OnOk, subst, sym}
+use Rattle.program_edids.specs.Edids.{Shows}
+use Rattle.cli_words.specs.declared.choice.View.{View}
+use Rattle.program_edids.proofs.edid.Blocks.show.Goals as goal
+
+pub returns-in-Meaning : goal.returns-in-Meaning
+returns-in-Meaning g c =
+    let Q : View → Type 0 = λ v. OnOk c.write_meaning.result (Shows v c.args.self.bytes.now (g.W.Sink.contents c.args.out.now) (g.W.Sink.contents c.write_meaning.new.out)) in
+    subst Q (sym c.in-Meaning.is) c.write_meaning.ensures
+
+pub returns-in-Address : goal.returns-in-Address
+returns-in-Address g c =
+    let Q : View → Type 0 = λ v. OnOk c.write_place.result (Shows v c.args.self.bytes.now (g.W.Sink.contents c.args.out.now) (g.W.Sink.contents c.write_place.new.out)) in
+    subst Q (sym c.in-Address.is) c.write_place.ensures
