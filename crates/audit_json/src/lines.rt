@@ -5,18 +5,24 @@ ghost use Rattle.audit_json.specs.Object.{AreAuditObjects};
 ghost use Rattle.text_core.specs.Cut.{WritesText};
 
 use crate::object::add_audit_object;
-use json_trace::{ObjectOfLine, write_each_object};
+use json_trace::{LineObjects, write_each_object};
 use text_core::{Counted, Sink, WriteFault};
 
 // The lines of an audit.
 struct AuditLines;
 
-impl ObjectOfLine for AuditLines {
+impl LineObjects for AuditLines {
+    ghost use Rattle.std.specs.Prelude.{[]};
     ghost use Rattle.audit_json.specs.Object.{IsAuditObject};
+
+    ghost head = { λ lines. [] };
 
     ghost is = { λ lines. IsAuditObject };
 
-    fn add_object<S: Sink>(&self, out: &mut Counted<'_, S>, line: &[u8]) {
+    #[tactic(auto, using(text_core::proofs::Adding::nothing))]
+    fn add_head<S: Sink>(&self, _out: &mut Counted<'_, S>) {}
+
+    fn add_object<S: Sink>(&mut self, out: &mut Counted<'_, S>, line: &[u8]) {
         add_audit_object(out, line);
     }
 }
@@ -32,5 +38,5 @@ pub fn write_audit_objects<S: Sink>(text: &[u8], out: &mut S) -> Result<(), Writ
     ensures { (objects : List ℕ) × AreAuditObjects (lines_of text.now) objects
         × WritesText (S.contents out.old) (S.contents out.new) (S.is_stuck out.old) (S.is_stuck out.new) objects result }
 {
-    write_each_object(&AuditLines, text, out)
+    write_each_object(&mut AuditLines, text, out)
 }

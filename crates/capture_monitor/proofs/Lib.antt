@@ -1,4 +1,3 @@
-mod Counting
 pub mod ReadBy
 pub mod Waiting
 pub mod Files

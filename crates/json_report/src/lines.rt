@@ -5,15 +5,21 @@ ghost use Rattle.text_core.specs.Cut.{WritesText};
 ghost use Rattle.json_report.specs.Object.{AreReportObjects};
 
 use crate::object::{ReportKind, add_report_object};
-use json_trace::{ObjectOfLine, write_each_object};
+use json_trace::{LineObjects, write_each_object};
 use text_core::{Counted, Sink, WriteFault};
 
-impl ObjectOfLine for ReportKind {
+impl LineObjects for ReportKind {
+    ghost use Rattle.std.specs.Prelude.{[]};
     ghost use Rattle.json_report.specs.Object.{IsReportObject};
+
+    ghost head = { λ report. [] };
 
     ghost is = { λ report. IsReportObject report };
 
-    fn add_object<S: Sink>(&self, out: &mut Counted<'_, S>, line: &[u8]) {
+    #[tactic(auto, using(text_core::proofs::Adding::nothing))]
+    fn add_head<S: Sink>(&self, _out: &mut Counted<'_, S>) {}
+
+    fn add_object<S: Sink>(&mut self, out: &mut Counted<'_, S>, line: &[u8]) {
         add_report_object(out, *self, line);
     }
 }
@@ -31,5 +37,6 @@ pub fn write_report_objects<S: Sink>(
     ensures { (objects : List ℕ) × AreReportObjects report (lines_of text.now) objects
         × WritesText (S.contents out.old) (S.contents out.new) (S.is_stuck out.old) (S.is_stuck out.new) objects result }
 {
-    write_each_object(&report, text, out)
+    let mut lines = report;
+    write_each_object(&mut lines, text, out)
 }

@@ -1,3 +1,2 @@
-mod Counting
 pub mod Heads
 pub mod Traced

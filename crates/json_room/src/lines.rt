@@ -7,8 +7,8 @@ ghost use Rattle.text_core.specs.Lines.{lines_of};
 
 use crate::event::{add_room_object, moved, place_of};
 use crate::head::add_heads;
-use json_trace::LineObjects;
-use text_core::{Counted, Sink, WriteFault, first_line};
+use json_trace::{LineObjects, write_each_object};
+use text_core::{Counted, Sink, WriteFault};
 
 /// The lines of a trace, in whose objects an event has its line of the script. The script is read on from the line of the event
 /// before.
@@ -67,13 +67,9 @@ impl<'a> LineObjects for RoomLines<'a> {
         add_heads(out, self.script);
     }
 
-    fn add<S: Sink>(&mut self, out: &mut Counted<'_, S>, text: &[u8]) {
-        let mut rest = text;
-        'lines: while let Some((line, after)) = first_line(rest) {
-            self.go_on(line);
-            add_room_object(out, self.ahead, line);
-            rest = after;
-        }
+    fn add_object<S: Sink>(&mut self, out: &mut Counted<'_, S>, line: &[u8]) {
+        self.go_on(line);
+        add_room_object(out, self.ahead, line);
     }
 }
 
@@ -92,15 +88,6 @@ pub fn write_room_objects<S: Sink>(
     ensures { (objects : List ℕ) × AreRoomObjects topology.now script.now trace.now objects
         × WritesText (S.contents out.old) (S.contents out.new) (S.is_stuck out.old) (S.is_stuck out.new) objects result }
 {
-    let mut objects = Counted::new(out);
     let mut lines = RoomLines::new(topology, script);
-    lines.add_head(&mut objects);
-    lines.add(&mut objects, trace);
-    let written = objects.written();
-    // No effect at run time. The proof reads what `out` holds from the sink that comes back.
-    let _below = objects.into_sink();
-    match written {
-        Ok(_) => Ok(()),
-        Err(fault) => Err(fault),
-    }
+    write_each_object(&mut lines, trace, out)
 }

@@ -4,7 +4,7 @@ ghost use Rattle.text_core.specs.Held.{held_bytes, is_full};
 ghost use Rattle.json_run.specs.Made.{Turned};
 
 use crate::lines::{Applied, ends_line, write_event, write_round};
-use json_trace::LineObjects;
+use json_trace::{LineObjects, add_objects};
 use line_rounds::Outcome;
 use room_event::EventError;
 use room_net::Net;
@@ -32,7 +32,7 @@ impl<'a, 'e, S: Sink, L: LineObjects> ObjectsText<'a, 'e, S, L> {
         if !ends_line(held) {
             return;
         }
-        self.lines.add(&mut self.text, held);
+        add_objects(&mut self.text, &mut self.lines, held);
         self.held.clear();
     }
 }

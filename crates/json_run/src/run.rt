@@ -11,7 +11,7 @@ ghost use Rattle.json_run.specs.Made.{AreShown, AreWritten};
 use crate::lines::write_last_lines;
 use crate::objects_text::ObjectsText;
 use edid_core::Edid;
-use json_trace::LineObjects;
+use json_trace::{LineObjects, add_objects};
 use line_rounds::Wire;
 use room_net::Net;
 use room_run::{Passed, Totals, run_turns};
@@ -65,7 +65,7 @@ pub fn add_run<'a, S: Sink, L: LineObjects + Drop, W: Wire>(
     if held.is_full() {
         return Ran { totals: None, text };
     }
-    lines.add(&mut text, held.bytes());
+    add_objects(&mut text, &mut lines, held.bytes());
     Ran {
         totals: Some(totals),
         text,

@@ -1,5 +1,5 @@
 //! The objects of the lines of a text.
-ghost use Rattle.std.specs.Prelude.{ℕ, List};
+ghost use Rattle.std.specs.Prelude.{ℕ, List, ◌++◌};
 ghost use Rattle.text_core.specs.Adds.{Adds};
 ghost use Rattle.text_core.specs.Lines.{lines_of};
 ghost use Rattle.text_core.specs.ByLine.{AreInOrder};
@@ -9,28 +9,7 @@ ghost use Rattle.text_core.specs.Cut.{WritesText};
 use crate::object::add_object;
 use text_core::{Counted, Sink, WriteFault, first_line};
 
-/// What adds the object of a line.
-pub trait ObjectOfLine {
-    /// What is the object of a line.
-    ghost is: { Self → List ℕ → List ℕ → Type 0 };
-
-    /// Adds the object of a line.
-    fn add_object<S: Sink>(&self, out: &mut Counted<'_, S>, line: &[u8])
-        ensures { (object : List ℕ) × is self.now line.now object × Adds out.old out.new object };
-}
-
-// Adds the object of each line.
-fn add_objects<S: Sink, L: ObjectOfLine>(out: &mut Counted<'_, S>, each: &L, text: &[u8])
-    ensures { (objects : List ℕ) × AreInOrder (L.is each.now) (lines_of text.now) objects × Adds out.old out.new objects }
-{
-    let mut rest = text;
-    while let Some((line, after)) = first_line(rest) {
-        each.add_object(out, line);
-        rest = after;
-    }
-}
-
-/// What adds the objects of lines, of one text after another.
+/// What adds the objects of lines, one line after another.
 pub trait LineObjects {
     /// What stands before the first object.
     ghost head: { Self → List ℕ };
@@ -42,25 +21,27 @@ pub trait LineObjects {
     fn add_head<S: Sink>(&self, out: &mut Counted<'_, S>)
         ensures { Adds out.old out.new (head self.now) };
 
-    /// Adds the object of each line of a text.
-    fn add<S: Sink>(&mut self, out: &mut Counted<'_, S>, text: &[u8])
-        ensures objects { (objects : List ℕ) × AreInOrder (is self.old) (lines_of text.now) objects × Adds out.old out.new objects }
+    /// Adds the object of a line.
+    fn add_object<S: Sink>(&mut self, out: &mut Counted<'_, S>, line: &[u8])
+        ensures object { (object : List ℕ) × is self.old line.now object × Adds out.old out.new object }
         ensures same { (line object : List ℕ) → is self.new line object → is self.old line object };
+}
+
+/// Adds the object of each line of a text.
+pub fn add_objects<S: Sink, L: LineObjects>(out: &mut Counted<'_, S>, lines: &mut L, text: &[u8])
+    ensures objects { (objects : List ℕ) × AreInOrder (L.is lines.old) (lines_of text.now) objects × Adds out.old out.new objects }
+    ensures same { (line object : List ℕ) → L.is lines.new line object → L.is lines.old line object }
+{
+    let mut rest = text;
+    'lines: while let Some((line, after)) = first_line(rest) {
+        lines.add_object(out, line);
+        rest = after;
+    }
 }
 
 /// The lines of a trace, or of readings, as they stand.
 #[derive(Clone, Copy, Debug)]
 pub struct PlainLines;
-
-impl ObjectOfLine for PlainLines {
-    ghost use Rattle.json_trace.specs.Object.{IsObject};
-
-    ghost is = { λ lines. IsObject };
-
-    fn add_object<S: Sink>(&self, out: &mut Counted<'_, S>, line: &[u8]) {
-        add_object(out, line);
-    }
-}
 
 impl LineObjects for PlainLines {
     ghost use Rattle.std.specs.Prelude.{[]};
@@ -73,26 +54,27 @@ impl LineObjects for PlainLines {
     #[tactic(auto, using(text_core::proofs::Adding::nothing))]
     fn add_head<S: Sink>(&self, _out: &mut Counted<'_, S>) {}
 
-    fn add<S: Sink>(&mut self, out: &mut Counted<'_, S>, text: &[u8]) {
-        add_objects(out, &PlainLines, text);
+    fn add_object<S: Sink>(&mut self, out: &mut Counted<'_, S>, line: &[u8]) {
+        add_object(out, line);
     }
 }
 
-/// Writes the object of each line of a text, a line each.
+/// Writes what stands first, and the object of each line of a text, a line each.
 ///
 /// # Errors
 ///
-/// The sink takes no more: then the front of the objects was written, as long as it reports.
-pub fn write_each_object<S: Sink, L: ObjectOfLine>(
-    each: &L,
+/// The sink takes no more: then the front of this was written, as long as it reports.
+pub fn write_each_object<S: Sink, L: LineObjects>(
+    lines: &mut L,
     text: &[u8],
     out: &mut S,
 ) -> Result<(), WriteFault>
-    ensures { (objects : List ℕ) × AreInOrder (L.is each.now) (lines_of text.now) objects
-        × WritesText (S.contents out.old) (S.contents out.new) (S.is_stuck out.old) (S.is_stuck out.new) objects result }
+    ensures { (objects : List ℕ) × AreInOrder (L.is lines.old) (lines_of text.now) objects
+        × WritesText (S.contents out.old) (S.contents out.new) (S.is_stuck out.old) (S.is_stuck out.new) (L.head lines.old ++ objects) result }
 {
     let mut objects = Counted::new(out);
-    add_objects(&mut objects, each, text);
+    lines.add_head(&mut objects);
+    add_objects(&mut objects, lines, text);
     let written = objects.written();
     // No effect at run time. The proof reads what `out` holds from the sink that comes back.
     let _below = objects.into_sink();
@@ -111,5 +93,5 @@ pub fn write_objects<S: Sink>(text: &[u8], out: &mut S) -> Result<(), WriteFault
     ensures { (objects : List ℕ) × AreObjects (lines_of text.now) objects
         × WritesText (S.contents out.old) (S.contents out.new) (S.is_stuck out.old) (S.is_stuck out.new) objects result }
 {
-    write_each_object(&PlainLines, text, out)
+    write_each_object(&mut PlainLines, text, out)
 }

@@ -6,4 +6,5 @@ pub mod LineLemmas
 pub mod PartedLemmas
 pub mod Cutting
 pub mod Adding
+pub mod Counting
 pub mod LineByLine

@@ -1,8 +1,8 @@
 //! What holds of the words of kinds, of lines and their words, and of texts that go to a sink.
-ghost use Rattle.std.specs.Prelude.{◌≡◌, ◌+◌, ◌-◌, ◌++◌, ◌∷◌, ◌<◌, ℕ, Bool, List, None, Option, Some, [], drop, false, get_or, length, position, take, true};
+ghost use Rattle.std.specs.Prelude.{◌≡◌, ◌+◌, ◌-◌, ◌++◌, ◌∷◌, ◌<◌, ℕ, Bool, Err, List, None, Ok, Option, Result, Some, [], drop, false, get_or, length, position, take, true};
 ghost use Rattle.std.specs.List.{flat_map, slice_split};
 ghost use Rattle.text_core.specs.Adds.{Adds, PartsAdded, Tally, TextEnded};
-ghost use Rattle.text_core.specs.Cut.{CutLater, CutOff, CutPart};
+ghost use Rattle.text_core.specs.Cut.{CutLater, CutOff, CutPart, WritesText, WrittenText};
 ghost use Rattle.text_core.specs.Kind.{kind_named, kind_word};
 ghost use Rattle.text_core.specs.Words.{FoundByWord, words_of};
 ghost use Rattle.text_core.specs.declared.kind.Kind.{Kind};
@@ -54,6 +54,14 @@ pub fn failures_last()
 /// A sink that was lent for a text is at the end of the loan as the text left it: of the text it holds what was written.
 pub fn lent_sinks_come_back<V>()
     ensures { TextEnded V }
+{}
+
+/// A text is written as its count says: whole where there is one, and up to the fault otherwise.
+pub fn counts_are_of_texts()
+    ensures whole { (old new : Option (List ℕ)) (was is : Bool) (text : List ℕ) (written : Result ℕ WriteFault) (count : ℕ) → written ≡ Ok count
+        → WrittenText old new was is text written → WritesText old new was is text (Ok tt) }
+    ensures cut { (old new : Option (List ℕ)) (was is : Bool) (text : List ℕ) (written : Result ℕ WriteFault) (fault : WriteFault) → written ≡ Err fault
+        → WrittenText old new was is text written → WritesText old new was is text (Err fault) }
 {}
 
 /// A fault that cuts off the front of a text, or the text after one that is written, cuts off the whole of it.

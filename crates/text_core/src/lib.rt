@@ -26,9 +26,9 @@ pub use held::Held;
 pub use hex::{hex_at, hex_byte, hex_bytes};
 pub use kind::Kind;
 pub use laws::{
-    cut_parts_are_a_front, failures_last, faults_cut_the_whole_off, found_by_its_word,
-    kinds_are_named_by_their_words, lent_sinks_come_back, lines_have_a_word, lists_are_parted,
-    parts_add_up, texts_add_up,
+    counts_are_of_texts, cut_parts_are_a_front, failures_last, faults_cut_the_whole_off,
+    found_by_its_word, kinds_are_named_by_their_words, lent_sinks_come_back, lines_have_a_word,
+    lists_are_parted, parts_add_up, texts_add_up,
 };
 pub use lines::{first_line, is_skipped};
 pub use number::{number_in, small_number};

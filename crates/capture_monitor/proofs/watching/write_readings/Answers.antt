@@ -1,7 +1,7 @@
 use Rattle.std.proofs.Common.{ℕ, Bool, List, Option, Ok, Err, Result, rules, subst}
 use Rattle.text_core.proofs.Adding.{text_ended}
 use Rattle.capture_monitor.specs.Watch.{file_readings, readings_text}
-use Rattle.capture_monitor.proofs.Counting.{all_of, front_of}
+use Rattle.text_core.proofs.Counting.{all_of, front_of}
 use Rattle.capture_monitor.proofs.watching.write_readings.Goals as goal
 
 pub returns-in-Ok : goal.returns-in-Ok

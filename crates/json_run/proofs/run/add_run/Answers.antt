@@ -44,7 +44,7 @@ returns g c =
     (put_text now last.held c.write_last_lines.new.out last.text (flat_map state_line c.devices.result.now ++ end_line c.args.end) c.write_last_lines.result c.write_last_lines.ensures) in
     let told = run_told (Trace edid) (text_of edid) (trace_by edid) c.args.end from run.last run.happened c.run_turns-totals.result _ run.whole run.goes run.totals_is in
     let room : is_full c.write_last_lines.new.out ≡ false = sym c.is_full.ensures ∙ c.if-is_full.false in
-    let t = c.add.ensures.objects in
+    let t = c.add_objects.ensures.objects in
     let are = subst (λ (x : List ℕ). AreInOrder now (lines_of x) t.0) c.bytes.ensures.bytes t.1 in
-    shown_all is now (IsRunText (Trace edid) c.args.end from) first body tail t.0 c.run_turns-totals.result c.args.held last.held c.write_last_lines.new.out c.args.text last.text c.add.new.out
+    shown_all is now (IsRunText (Trace edid) c.args.end from) first body tail t.0 c.run_turns-totals.result c.args.held last.held c.write_last_lines.new.out c.args.text last.text c.add_objects.new.out
     c.requires.empty room told front end are t.2

@@ -1,9 +1,13 @@
-use Rattle.std.proofs.Common.{length}
+use Rattle.std.proofs.Common.{ℕ, List, length}
 use Rattle.json_trace.specs.Object.{Done}
 use Rattle.json_trace.proofs.lines.add_objects.Given as goal
 
-abbrev pub invariant-loop-line : goal.invariant-loop-line
-invariant-loop-line g l = Done (g.L.ObjectOfLine.is l.each) l.text l.rest l.fn.out l.out
+-- the objects of the lines before the rest are added, and what is an object now was one before
+abbrev pub invariant-lines : goal.invariant-lines
+invariant-lines g l = record {
+  done : Done (g.L.LineObjects.is l.fn.lines) l.text l.rest l.fn.out l.out;
+  same : (line object : List ℕ) → g.L.LineObjects.is l.lines line object → g.L.LineObjects.is l.fn.lines line object;
+}
 
-abbrev pub decreases-loop-line : goal.decreases-loop-line
-decreases-loop-line g l = length l.rest
+abbrev pub decreases-lines : goal.decreases-lines
+decreases-lines g l = length l.rest

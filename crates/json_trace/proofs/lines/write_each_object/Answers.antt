@@ -1,31 +1,34 @@
-use Rattle.std.proofs.Common.{ℕ, Bool, List, Option, Ok, Err, Result, rules, subst}
-use Rattle.text_core.specs.Cut.{WritesText, WrittenText}
-use Rattle.text_core.specs.declared.sink.WriteFault.{WriteFault}
-use Rattle.text_core.proofs.Adding.{loan_ended}
+use Rattle.std.proofs.Common.{◌++◌, rules}
+use Rattle.text_core.proofs.Adding.{text_ended, then}
+use Rattle.text_core.proofs.Counting.{all_of, front_of}
 use Rattle.json_trace.proofs.lines.write_each_object.Goals as goal
 
 pub returns-in-Ok : goal.returns-in-Ok
 returns-in-Ok g c =
     let old = g.S.Sink.contents c.args.out.now in
     let was = g.S.Sink.is_stuck c.args.out.now in
-    let t = c.add_objects.ensures in (
+    let t = c.add_objects.ensures.objects in
+    let text = g.L.LineObjects.head c.args.lines.now ++ t.0 in
+    let all = then c.new-objects.result c.add_head.new.out c.add_objects.new.out _ _ c.add_head.ensures t.2 in (
       t.0,
       t.1,
-      loan_ended g.S.Sink.contents g.S.Sink.is_stuck c.args.out.now _ c.into_sink-below.result.now _ c.into_sink-below.result.ghost_name c.new-objects.result c.add_objects.new.out t.0
-          (λ (k : Option (List ℕ)) (s : Bool). WritesText old k was s t.0 (Ok tt)) c.new-objects.ensures t.2
-          (λ added. let whole = subst (λ (r : Result ℕ WriteFault). WrittenText old c.add_objects.new.out.known was c.add_objects.new.out.stuck t.0 r) c.in-Ok.is (c.written-written.ensures.text _ _ _ t.0 added) in (whole.1, whole.2))
-          c.into_sink-below.ensures.loan c.into_sink-below.ensures.known c.into_sink-below.ensures.stuck (search rules),
+      all_of old _ was _ text c.written-written.result _ c.in-Ok.is
+          (text_ended g.S.Sink.contents g.S.Sink.is_stuck c.args.out.now _ c.into_sink-below.result.now _ c.into_sink-below.result.ghost_name c.new-objects.result c.add_objects.new.out text c.written-written.result
+          c.new-objects.ensures all c.written-written.ensures.text
+          c.into_sink-below.ensures.loan c.into_sink-below.ensures.known c.into_sink-below.ensures.stuck (search rules)),
     )
 
 pub returns-in-Err : goal.returns-in-Err
 returns-in-Err g c =
     let old = g.S.Sink.contents c.args.out.now in
     let was = g.S.Sink.is_stuck c.args.out.now in
-    let t = c.add_objects.ensures in (
+    let t = c.add_objects.ensures.objects in
+    let text = g.L.LineObjects.head c.args.lines.now ++ t.0 in
+    let all = then c.new-objects.result c.add_head.new.out c.add_objects.new.out _ _ c.add_head.ensures t.2 in (
       t.0,
       t.1,
-      loan_ended g.S.Sink.contents g.S.Sink.is_stuck c.args.out.now _ c.into_sink-below.result.now _ c.into_sink-below.result.ghost_name c.new-objects.result c.add_objects.new.out t.0
-          (λ (k : Option (List ℕ)) (s : Bool). WritesText old k was s t.0 (Err c.in-Err.fault)) c.new-objects.ensures t.2
-          (λ added. subst (λ (r : Result ℕ WriteFault). WrittenText old c.add_objects.new.out.known was c.add_objects.new.out.stuck t.0 r) c.in-Err.is (c.written-written.ensures.text _ _ _ t.0 added))
-          c.into_sink-below.ensures.loan c.into_sink-below.ensures.known c.into_sink-below.ensures.stuck (search rules),
+      front_of old _ was _ text c.written-written.result c.in-Err.fault c.in-Err.is
+          (text_ended g.S.Sink.contents g.S.Sink.is_stuck c.args.out.now _ c.into_sink-below.result.now _ c.into_sink-below.result.ghost_name c.new-objects.result c.add_objects.new.out text c.written-written.result
+          c.new-objects.ensures all c.written-written.ensures.text
+          c.into_sink-below.ensures.loan c.into_sink-below.ensures.known c.into_sink-below.ensures.stuck (search rules)),
     )

@@ -13,11 +13,11 @@ returns-clause-turned g c =
     let held = held_bytes c.args.self.now.held in
     let bytes = c.bytes-held.ensures.bytes in
     let ends : c.ends_line.result ≡ true = search rules in
-    let t = c.add.ensures.objects in
-    let made = made_passed is held t.0 c.args.self.now.text c.add.new.out (subst (λ (b : List ℕ). IsClosed b) bytes (c.ends_line.ensures ends))
+    let t = c.add_objects.ensures.objects in
+    let made = made_passed is held t.0 c.args.self.now.text c.add_objects.new.out (subst (λ (b : List ℕ). IsClosed b) bytes (c.ends_line.ensures ends))
     (subst (λ (b : List ℕ). AreInOrder is (lines_of b) t.0) bytes t.1) t.2 in
     record {
       room = λ e. sym c.clear.ensures.full ∙ e;
-      made = λ e. subst (λ (left : List ℕ). AreMade is held [] left c.args.self.now.text c.add.new.out) (sym c.clear.ensures.bytes) made;
-      same = c.add.ensures.same;
+      made = λ e. subst (λ (left : List ℕ). AreMade is held [] left c.args.self.now.text c.add_objects.new.out) (sym c.clear.ensures.bytes) made;
+      same = c.add_objects.ensures.same;
     }
