@@ -16,7 +16,7 @@ use crate::pulls::{LinePulls, pulls_read};
 use crate::words::{fault_in, time_in};
 use arrayvec::ArrayVec;
 use message_text::{assemble, frame_word, frames_are_whole};
-use text_core::{AtWord, at_word, digit_value, first_word, is_hex_digit, is_skipped};
+use text_core::{AtWord, at_word, first_word, hex_bytes, is_hex_digit, is_skipped};
 
 type Blocks = ArrayVec<u8, MOST_BLOCKS>;
 
@@ -34,19 +34,6 @@ fn are_blocks(digits: &[u8]) -> bool
         && digits.len() <= 2 * MOST_BLOCKS
         && digits.len() % 2 == 0
         && are_hex_digits(digits)
-}
-
-fn hex_bytes(digits: &[u8]) -> Blocks
-    requires { length digits.now ≤ 2 * most_blocks }
-    ensures { result.items ≡ hex_bytes digits.now }
-{
-    let mut items = ArrayVec::new();
-    let mut rest = digits;
-    while let [high, low, more @ ..] = rest {
-        items.push(digit_value(*high) * 16 + digit_value(*low));
-        rest = more;
-    }
-    items
 }
 
 // The bytes of hex digits, the word of this number.

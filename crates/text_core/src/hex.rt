@@ -27,9 +27,9 @@ pub fn hex_byte(word: &[u8]) -> Option<u8>
     }
 }
 
-/// The bytes of at most 28 hex digits.
-pub fn hex_bytes(digits: &[u8]) -> ArrayVec<u8, 16>
-    requires { length digits.now ≤ 28 }
+/// The bytes of hex digits, two a byte.
+pub fn hex_bytes<const N: usize>(digits: &[u8]) -> ArrayVec<u8, N>
+    requires { length digits.now ≤ 2 * N }
     ensures { result.items ≡ hex_bytes digits.now }
 {
     let mut items = ArrayVec::new();
