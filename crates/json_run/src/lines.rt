@@ -12,34 +12,25 @@ use device_core::Device;
 use edid_core::Edid;
 use edid_tree::Tree;
 use line_rounds::Outcome;
-use room_event::EventError;
+use room_run::AppliedEvent;
 use room_trace::{add_event, add_last_lines, add_new_ports, add_round};
 use text_core::{Counted, Sink, WriteFault};
-
-/// An event that was applied at an instant, by its line of the script, and why it was refused.
-#[derive(Drop)]
-pub struct Applied {
-    pub at: u64,
-    pub line: u64,
-    pub refused: Option<EventError>,
-}
 
 /// Writes the line of an event, and those of the ports that come onto the wire by it.
 #[tactic(auto, using(text_core::proofs::Adding::then))]
 pub fn write_event<S: Sink>(
     out: &mut S,
-    applied: Applied,
+    applied: &AppliedEvent<'_>,
     edid: &Option<Edid>,
     tree: &Tree<15>,
-    was: &[bool],
 ) -> Result<u128, WriteFault>
     requires { HasAddress edid.now }
     ensures { WrittenText (S.contents out.old) (S.contents out.new) (S.is_stuck out.old) (S.is_stuck out.new)
-        (event_line applied.at applied.line applied.refused ++ port_lines applied.at edid.now (λ device. slice_index_or was.now device false) tree.now) result }
+        (event_line applied.now.at applied.now.event.now.line applied.now.refused ++ port_lines applied.now.at edid.now (λ device. slice_index_or applied.now.was.now device false) tree.now) result }
 {
     let mut text = Counted::new(out);
-    add_event(&mut text, applied.at, applied.line, applied.refused);
-    add_new_ports(&mut text, applied.at, edid, tree, was);
+    add_event(&mut text, applied.at, applied.event.line, applied.refused);
+    add_new_ports(&mut text, applied.at, edid, tree, applied.was);
     let written = text.written();
     // No effect at run time. The proof reads what `out` holds from the sink that comes back.
     let _below = text.into_sink();

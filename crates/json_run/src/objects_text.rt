@@ -3,13 +3,11 @@ ghost use Rattle.std.specs.Prelude.{◌≡◌, [], false, not};
 ghost use Rattle.text_core.specs.Held.{held_bytes, is_full};
 ghost use Rattle.json_run.specs.Made.{Turned};
 
-use crate::lines::{Applied, ends_line, write_event, write_round};
+use crate::lines::{ends_line, write_event, write_round};
 use json_trace::{LineObjects, add_objects};
 use line_rounds::Outcome;
-use room_event::EventError;
 use room_net::Net;
-use room_run::{Passed, Reporter};
-use room_script::TimedEvent;
+use room_run::{AppliedEvent, Passed, Reporter};
 use text_core::{Counted, Held, Sink};
 
 /// The objects, as far as they are written, and the lines that are held until theirs are: those of one turn.
@@ -48,20 +46,8 @@ impl<'a, 'e, S: Sink, L: LineObjects> Reporter for ObjectsText<'a, 'e, S, L> {
     ghost goes_on = { λ r. not r.text.failed && not (is_full r.held) };
 
     #[tactic(auto, using(room_run::proofs::Addressed::has_address))]
-    fn event<W>(
-        &mut self,
-        at: u64,
-        event: &TimedEvent,
-        refused: Option<EventError>,
-        was: &[bool],
-        net: &Net<W>,
-    ) {
-        let applied = Applied {
-            at,
-            line: event.line,
-            refused,
-        };
-        let _ = write_event(&mut self.held, applied, self.passed.edid, net.tree(), was);
+    fn event<W>(&mut self, applied: &AppliedEvent<'_>, net: &Net<W>) {
+        let _ = write_event(&mut self.held, applied, self.passed.edid, net.tree());
         self.pass();
     }
 

@@ -5,10 +5,8 @@ ghost use Rattle.edid_core.specs.Root.{HasAddress};
 use crate::edges::{InstantRange, add_edges};
 use edid_core::Edid;
 use line_rounds::Outcome;
-use room_event::EventError;
 use room_net::Net;
-use room_run::{Reporter, TraceText};
-use room_script::TimedEvent;
+use room_run::{AppliedEvent, Reporter, TraceText};
 use text_core::{Counted, Sink};
 
 /// The text of a session, as far as it is written: what the trace has of each turn, and before each round's line its edges that lie
@@ -51,15 +49,8 @@ impl<'a, 'e, S: Sink> Reporter for SessionText<'a, 'e, S> {
 
     ghost goes_on = { λ r. not r.trace.text.failed };
 
-    fn event<W>(
-        &mut self,
-        at: u64,
-        event: &TimedEvent,
-        refused: Option<EventError>,
-        was: &[bool],
-        net: &Net<W>,
-    ) {
-        self.trace.event(at, event, refused, was, net);
+    fn event<W>(&mut self, applied: &AppliedEvent<'_>, net: &Net<W>) {
+        self.trace.event(applied, net);
     }
 
     #[tactic(auto, using(text_core::proofs::Adding::then))]

@@ -4,10 +4,8 @@ ghost use Rattle.std.specs.Prelude.{◌≡◌, not};
 use crate::round::add_drives;
 use crate::wires::Wires;
 use line_rounds::Outcome;
-use room_event::EventError;
 use room_net::Net;
-use room_run::Reporter;
-use room_script::TimedEvent;
+use room_run::{AppliedEvent, Reporter};
 use text_core::{Counted, Sink};
 
 /// The drives, as far as they are written.
@@ -26,14 +24,7 @@ impl<'a, S: Sink> Reporter for DrivesText<'a, S> {
 
     ghost goes_on = { λ r. not r.text.failed };
 
-    fn event<W>(
-        &mut self,
-        _at: u64,
-        _event: &TimedEvent,
-        _refused: Option<EventError>,
-        _was: &[bool],
-        _net: &Net<W>,
-    ) {}
+    fn event<W>(&mut self, _applied: &AppliedEvent<'_>, _net: &Net<W>) {}
 
     fn round<W>(&mut self, begin: u64, outcome: &Outcome, net: &Net<W>) {
         add_drives(&mut self.text, self.wires, begin, outcome, net);

@@ -8,10 +8,9 @@ ghost use Rattle.room_run.specs.Run.{start};
 ghost use Rattle.room_run.specs.HeldTrace.{IsHeldRun};
 
 use crate::held_line::add_held_line;
-use crate::{Reporter, Totals, TraceText, run_turns, told};
+use crate::{AppliedEvent, Reporter, Totals, TraceText, run_turns, told};
 use edid_core::Edid;
 use line_rounds::{Outcome, Wire};
-use room_event::EventError;
 use room_net::Net;
 use room_script::TimedEvent;
 use room_trace::{add_last_lines, add_new_ports};
@@ -53,15 +52,8 @@ impl<'a, 'e, S: Sink> Reporter for HeldText<'a, 'e, S> {
 
     ghost goes_on = { λ r. not r.trace.text.failed };
 
-    fn event<W>(
-        &mut self,
-        at: u64,
-        event: &TimedEvent,
-        refused: Option<EventError>,
-        was: &[bool],
-        net: &Net<W>,
-    ) {
-        self.trace.event(at, event, refused, was, net);
+    fn event<W>(&mut self, applied: &AppliedEvent<'_>, net: &Net<W>) {
+        self.trace.event(applied, net);
     }
 
     fn round<W>(&mut self, _begin: u64, outcome: &Outcome, net: &Net<W>) {

@@ -28,7 +28,7 @@ pub use laws::{
     totals_count_turns, traces_are_causal, traces_have_parts, turns_are_added, turns_are_certain,
     turns_are_one, turns_bring_on, turns_stay_certain, turns_tell_the_text,
 };
-pub use reporter::Reporter;
+pub use reporter::{AppliedEvent, Reporter};
 pub use run::{Totals, Turn, first_time, next_turn, told};
 pub use source::ScriptSource;
 pub use trace_text::{Passed, TraceText};

@@ -6,12 +6,11 @@ ghost use Rattle.room_run.specs.declared.run.Reporting.TheVariants.{Line};
 ghost use Rattle.room_run.specs.Run.{IsRunText, start};
 ghost use Rattle.room_run.specs.Heard.{IsRunWritten};
 
-use crate::reporter::Reporter;
+use crate::reporter::{AppliedEvent, Reporter};
 use crate::run::{Totals, told};
 use crate::turn_by_turn::run_turns;
 use capture_forms::{CaptureForm, add_end, add_round, add_start};
 use line_rounds::{Outcome, Wire};
-use room_event::EventError;
 use room_net::Net;
 use room_script::TimedEvent;
 use text_core::{Counted, Sink, WriteFault};
@@ -32,14 +31,7 @@ impl<'a, S: Sink> Reporter for LineText<'a, S> {
 
     ghost goes_on = { λ r. not r.text.failed };
 
-    fn event<W>(
-        &mut self,
-        _at: u64,
-        _event: &TimedEvent,
-        _refused: Option<EventError>,
-        _was: &[bool],
-        _net: &Net<W>,
-    ) {}
+    fn event<W>(&mut self, _applied: &AppliedEvent<'_>, _net: &Net<W>) {}
 
     fn round<W>(&mut self, _begin: u64, outcome: &Outcome, _net: &Net<W>) {
         add_round(&mut self.text, self.format, outcome.wave.as_slice());

@@ -12,6 +12,18 @@ use room_event::EventError;
 use room_net::Net;
 use room_script::TimedEvent;
 
+/// An event that was applied.
+#[derive(Clone, Copy)]
+pub struct AppliedEvent<'a> {
+    /// When, in microseconds.
+    pub at: u64,
+    pub event: &'a TimedEvent,
+    /// Why it was refused.
+    pub refused: Option<EventError>,
+    /// Which devices were on the wire before it.
+    pub was: &'a [bool],
+}
+
 /// What hears of a run, turn by turn: a text of it, a report, a sieve.
 pub trait Reporter {
     /// To hear of a turn leads it from one state to another.
@@ -20,17 +32,10 @@ pub trait Reporter {
     /// Whether it is to hear of more.
     ghost goes_on: { Self → Bool };
 
-    /// Hears of an event that was applied at `at`, and why it was refused; which devices were on the wire before it; and the network
-    /// after it.
-    fn event<W>(
-        &mut self,
-        at: u64,
-        event: &TimedEvent,
-        refused: Option<EventError>,
-        was: &[bool],
-        net: &Net<W>,
-    )
-        ensures { (before : NetState) → IsApplied at event.now before refused was.now net.now → hears self.old (OfEvent at event.now before) self.new };
+    /// Hears of an event that was applied, with the network after it.
+    fn event<W>(&mut self, applied: &AppliedEvent<'_>, net: &Net<W>)
+        ensures { (before : NetState) → IsApplied applied.now.at applied.now.event.now before applied.now.refused applied.now.was.now net.now
+            → hears self.old (OfEvent applied.now.at applied.now.event.now before) self.new };
 
     /// Hears of a round that begins at `begin`, at most 2,000,000,000,000, and gives this outcome, with the network before it.
     fn round<W>(&mut self, begin: u64, outcome: &Outcome, net: &Net<W>)

@@ -9,12 +9,11 @@ ghost use Rattle.room_run.specs.declared.run.Reporting.TheVariants.{Trace};
 ghost use Rattle.room_run.specs.Run.{IsRunText, start};
 ghost use Rattle.room_run.specs.Heard.{IsRunWritten};
 
-use crate::reporter::Reporter;
+use crate::reporter::{AppliedEvent, Reporter};
 use crate::run::{Totals, told};
 use crate::turn_by_turn::run_turns;
 use edid_core::Edid;
 use line_rounds::{Outcome, Wire};
-use room_event::EventError;
 use room_net::Net;
 use room_script::TimedEvent;
 use room_trace::{add_event, add_last_lines, add_new_ports, add_round};
@@ -71,16 +70,20 @@ impl<'a, 'e, S: Sink> Reporter for TraceText<'a, 'e, S> {
     ghost goes_on = { λ r. not r.text.failed };
 
     #[tactic(auto, using(crate::proofs::Addressed::has_address, text_core::proofs::Adding::then))]
-    fn event<W>(
-        &mut self,
-        at: u64,
-        event: &TimedEvent,
-        refused: Option<EventError>,
-        was: &[bool],
-        net: &Net<W>,
-    ) {
-        add_event(&mut self.text, at, event.line, refused);
-        add_new_ports(&mut self.text, at, self.passed.edid, net.tree(), was);
+    fn event<W>(&mut self, applied: &AppliedEvent<'_>, net: &Net<W>) {
+        add_event(
+            &mut self.text,
+            applied.at,
+            applied.event.line,
+            applied.refused,
+        );
+        add_new_ports(
+            &mut self.text,
+            applied.at,
+            self.passed.edid,
+            net.tree(),
+            applied.was,
+        );
     }
 
     fn round<W>(&mut self, _begin: u64, outcome: &Outcome, net: &Net<W>) {

@@ -11,7 +11,7 @@ ghost use Rattle.message_text.specs.ReadingText.{is_complete};
 ghost use Rattle.room_run.specs.Run.{counted_event, counted_round};
 ghost use Rattle.room_run.specs.Happening.{OfEvent, OfRound};
 
-use crate::reporter::Reporter;
+use crate::reporter::{AppliedEvent, Reporter};
 use crate::run::Totals;
 use line_frames::Ending;
 use line_rounds::Outcome;
@@ -79,7 +79,13 @@ pub fn take_event<W, R: Reporter>(
 {
     let was = on_wire(net.tree());
     let refused = apply_counted(net, totals, at, event);
-    reporter.event(at, event, refused, &was, net);
+    let applied = AppliedEvent {
+        at,
+        event,
+        refused,
+        was: &was,
+    };
+    reporter.event(&applied, net);
 }
 
 /// Reports the next round, which begins at `begin` and gives this outcome, ends it and counts it. The outcome is what

@@ -20,9 +20,8 @@ use edid_tree::Tree;
 use line_rounds::Outcome;
 use line_wave::{Edge, Stretch};
 use line_wire::EdgeWire;
-use room_event::EventError;
 use room_net::{Net, RoundReport};
-use room_run::{Reporter, Totals, Turn, first_time, next_turn, take_event};
+use room_run::{AppliedEvent, Reporter, Totals, Turn, first_time, next_turn, take_event};
 use room_script::TimedEvent;
 use room_step_text::write_edge;
 use room_trace::add_new_ports;
@@ -66,14 +65,7 @@ impl Reporter for Silent {
 
     ghost goes_on = { λ r. true };
 
-    fn event<W>(
-        &mut self,
-        _at: u64,
-        _event: &TimedEvent,
-        _refused: Option<EventError>,
-        _was: &[bool],
-        _net: &Net<W>,
-    ) {}
+    fn event<W>(&mut self, _applied: &AppliedEvent<'_>, _net: &Net<W>) {}
 
     fn round<W>(&mut self, _begin: u64, _outcome: &Outcome, _net: &Net<W>) {}
 

@@ -4,6 +4,6 @@ use Rattle.room_run.proofs.trace_text.TraceTextReporter.event.Goals as goal
 
 pub returns : goal.returns
 returns g c = λ before applied. (
-  event_added c.args.at c.args.self.now.passed.edid.now c.args.event.now before c.args.net.now c.args.refused c.args.was.now c.tree.result.now _ _ _ applied c.tree.ensures c.add_event.ensures c.add_new_ports.ensures,
+  event_added c.args.applied.now.at c.args.self.now.passed.edid.now c.args.applied.now.event.now before c.args.net.now c.args.applied.now.refused c.args.applied.now.was.now c.tree.result.now _ _ _ applied c.tree.ensures c.add_event.ensures c.add_new_ports.ensures,
   refl,
 )
