@@ -10,22 +10,9 @@ ghost use Rattle.audit_expect.specs.Wanted.{plain_text};
 ghost use Rattle.audit_expect.specs.Faults.{earlier, first_fault, kinds_from, readings_fault};
 
 use crate::wanted::wanted_fault_in;
-use expect_text::{ExpectCause, after_label, exact_number, unlabelled};
+use expect_text::{ExpectCause, after_label, exact_number, has_verb, unlabelled};
 use std::alloc::{AllocError, Global};
 use text_core::{At, AtWord, at_word, first_line, first_word, is_skipped};
-
-// Whether this is the first word.
-fn has_verb(verb: &[u8], rest: Option<&[u8]>) -> bool
-    ensures { result ≡ has_verb verb.now (words_after (option_copied rest.entry)) }
-{
-    match rest {
-        None => false,
-        Some(rest) => {
-            let (word, _others) = first_word(rest);
-            word == verb
-        }
-    }
-}
 
 fn number_by(word: Option<&[u8]>) -> Option<u64>
     ensures { result ≡ number_by (option_copied word.entry) }

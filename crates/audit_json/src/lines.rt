@@ -9,6 +9,7 @@ use json_trace::{LineObjects, write_each_object};
 use text_core::{Counted, Sink, WriteFault};
 
 // The lines of an audit.
+#[derive(Clone, Copy)]
 struct AuditLines;
 
 impl LineObjects for AuditLines {

@@ -41,8 +41,8 @@ pub fn unlabelled(line: &[u8]) -> Labelled<'_>
     }
 }
 
-/// Whether this is the first word.
-pub(crate) fn has_verb(verb: &[u8], rest: Option<&[u8]>) -> bool
+/// Whether this is the first of the words after a label.
+pub fn has_verb(verb: &[u8], rest: Option<&[u8]>) -> bool
     ensures { result ≡ has_verb verb.now (words_after (option_copied rest.entry)) }
 {
     match rest {

@@ -6,8 +6,8 @@ ghost use Rattle.room_script.specs.Script.{time_of};
 ghost use Rattle.live_session.specs.Command.{command_of, edge_words, edges_words, run_words, show_words};
 
 use edid_tree::Tree;
-use line_wave::LATEST_EVENT;
-use text_core::{first_word, number_in, one_word, two_words};
+use room_script::time_in;
+use text_core::{first_word, one_word, two_words};
 
 /// What a line of a session is.
 #[derive(Clone, Copy, Debug, PartialEq, Eq)]
@@ -24,17 +24,6 @@ pub enum SessionCommand {
     Edge(Option<u64>),
     /// `edges on` or `edges off`: whether edges are reported.
     Edges(bool),
-}
-
-fn time_in(word: &[u8]) -> Option<u64>
-    ensures { result ≡ time_of word.now }
-{
-    let time = number_in(word)?;
-    if time > LATEST_EVENT {
-        None
-    } else {
-        Some(time)
-    }
 }
 
 // What the words after `run` ask for.

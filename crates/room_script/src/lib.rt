@@ -21,6 +21,6 @@ pub use message_table::WordSet;
 pub use message_text::{AssembleError, assemble, frame_text, write_frame};
 pub use script::{
     ScriptCause, ScriptDraft, ScriptError, ScriptLineError, TimedEvent, error_at, parse_script,
-    take_line,
+    take_line, time_in,
 };
 pub use topology::{Topology, TopologyCause, TopologyError, parse_topology};

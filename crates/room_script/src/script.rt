@@ -174,7 +174,8 @@ impl ScriptDraft {
     }
 }
 
-pub(crate) fn time_in(word: &[u8]) -> Option<u64>
+/// The time that a word of a line is, in microseconds.
+pub fn time_in(word: &[u8]) -> Option<u64>
     ensures { result ≡ time_of word.now }
 {
     let time = number_in(word)?;
