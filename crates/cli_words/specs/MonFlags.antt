@@ -8,6 +8,7 @@ use Rattle.cli_words.specs.Micros.{micros_of}
 use Rattle.cli_words.specs.declared.choice.Asked.{Asked}
 use Rattle.cli_words.specs.declared.choice.CommandChoice.{CommandChoice}
 use Rattle.cli_words.specs.declared.choice.CommandChoice.TheVariants.{Mon, Follow, Json}
+use Rattle.cli_words.specs.declared.choice.MonChoice.{MonChoice}
 use Rattle.cli_words.specs.declared.choice.Objects.TheVariants as objects
 use Rattle.capture_forms.specs.declared.form.CaptureForm.{CaptureForm}
 use Rattle.capture_forms.specs.declared.form.CaptureForm.TheVariants.{Edges, Vcd, Pin, Csv}
@@ -99,9 +100,9 @@ mon_report None true timing strict = Some (Some (Audit timing strict))
 mon_report (Some start) true timing strict = None
 
 -- what is done with the capture
-abbrev pub mon_choice : Bool → Option CaptureForm → ℕ → ℕ → Bool → Bool → Option CaptureReport → CommandChoice
-mon_choice true form glitch margin inverted folded report = Json (objects.Capture form glitch margin inverted report)
-mon_choice false form glitch margin inverted folded report = Mon form glitch margin inverted folded report
+abbrev pub mon_choice : Bool → MonChoice → CommandChoice
+mon_choice true mon = Json (objects.Capture mon.form mon.glitch mon.margin mon.inverted mon.report)
+mon_choice false mon = Mon mon
 
 -- the form of a capture that is read line by line, which is not guessed
 abbrev pub line_form : Option CaptureForm → Option LineForm
@@ -139,7 +140,14 @@ mon_asked flags =
     if is_misfit flags then None
     else if flags.follows then option_map (λ choice. record { choice = choice; explains = flags.explains }) (follow_choice flags)
     else option_map (λ report. record {
-      choice = mon_choice flags.json flags.form (unwrap_or flags.glitch 0) (unwrap_or flags.margin 0) flags.inverted flags.folded report;
+      choice = mon_choice flags.json (record {
+        form = flags.form;
+        glitch = unwrap_or flags.glitch 0;
+        margin = unwrap_or flags.margin 0;
+        inverted = flags.inverted;
+        folded = flags.folded;
+        report = report;
+      });
       explains = flags.explains;
     }) (mon_report flags.start (flags.audit || flags.timing) flags.timing flags.strict)
 

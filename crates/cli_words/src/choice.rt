@@ -160,6 +160,23 @@ pub enum View {
     Readout(Recipient),
 }
 
+/// How a capture is read, and what is reported of it.
+#[derive(Clone, Copy, Debug)]
+pub struct MonChoice {
+    /// Where none is given, its first line reports it.
+    pub form: Option<CaptureForm>,
+    /// Pulses and gaps shorter than so many microseconds are passed over.
+    pub glitch: u64,
+    /// The windows are so many microseconds wider, 300 at most.
+    pub margin: u64,
+    /// Whether its levels are read the other way round.
+    pub inverted: bool,
+    /// Whether bad starts one after another are one line.
+    pub folded: bool,
+    /// Where none is given, that is by the form.
+    pub report: Option<CaptureReport>,
+}
+
 /// What the words of a command line ask for.
 #[derive(Clone, Copy, Debug)]
 pub enum CommandChoice {
@@ -191,17 +208,8 @@ pub enum CommandChoice {
     },
     /// The pulls that lay frames on the line, whole or with a fault, from their instants and texts.
     Lay,
-    /// What a capture reports. Its first line reports its form where none is given; pulses and gaps shorter than so many
-    /// microseconds are passed over; the windows are so many microseconds wider, 300 at most; the levels are read as they stand, or
-    /// the other way round; bad starts one after another are a line each, or one; and where no report is given, that is by the form.
-    Mon {
-        form: Option<CaptureForm>,
-        glitch: u64,
-        margin: u64,
-        inverted: bool,
-        folded: bool,
-        report: Option<CaptureReport>,
-    },
+    /// What a capture reports.
+    Mon(MonChoice),
     /// What a capture in this form reports as its lines come; the windows are so many microseconds wider, 300 at most.
     Follow {
         form: LineForm,

@@ -2,7 +2,7 @@
 ghost use Rattle.std.specs.Prelude.{◌≡◌, map, string_bytes, Some, None, MatchOption, option_and_then};
 ghost use Rattle.cli_words.specs.MonFlags.{follow_choice, form_of, follow_report, goes_further, has_names, is_from_idle, line_form, margin_of, is_misfit, joined_signal, mon_asked, mon_choice, mon_flags, mon_report, signal_in, waited_mon, with_mon_flag, with_mon_value, with_mon_word};
 
-use crate::choice::{Asked, CaptureReport, CommandChoice, FollowReport, Objects};
+use crate::choice::{Asked, CaptureReport, CommandChoice, FollowReport, MonChoice, Objects};
 use crate::joined::joined;
 use crate::micros::micros_of;
 use capture_forms::CaptureForm;
@@ -249,34 +249,19 @@ fn mon_report(
 }
 
 // What is done with a capture.
-fn mon_choice(
-    json: bool,
-    form: Option<CaptureForm>,
-    glitch: u64,
-    margin: u64,
-    inverted: bool,
-    folded: bool,
-    report: Option<CaptureReport>,
-) -> CommandChoice
-    ensures { result ≡ mon_choice json form glitch margin inverted folded report }
+fn mon_choice(json: bool, mon: MonChoice) -> CommandChoice
+    ensures { result ≡ mon_choice json mon }
 {
     if json {
         CommandChoice::Json(Objects::Capture {
-            form,
-            glitch,
-            margin,
-            inverted,
-            report,
+            form: mon.form,
+            glitch: mon.glitch,
+            margin: mon.margin,
+            inverted: mon.inverted,
+            report: mon.report,
         })
     } else {
-        CommandChoice::Mon {
-            form,
-            glitch,
-            margin,
-            inverted,
-            folded,
-            report,
-        }
+        CommandChoice::Mon(mon)
     }
 }
 
@@ -362,16 +347,16 @@ pub fn mon_asked(flags: &MonFlags) -> Option<Asked>
     }
     let audited = flags.audit || flags.timing;
     let report = mon_report(flags.start, audited, flags.timing, flags.strict)?;
+    let mon = MonChoice {
+        form: flags.form,
+        glitch: flags.glitch.unwrap_or(0),
+        margin: flags.margin.unwrap_or(0),
+        inverted: flags.inverted,
+        folded: flags.folded,
+        report,
+    };
     Some(Asked {
-        choice: mon_choice(
-            flags.json,
-            flags.form,
-            flags.glitch.unwrap_or(0),
-            flags.margin.unwrap_or(0),
-            flags.inverted,
-            flags.folded,
-            report,
-        ),
+        choice: mon_choice(flags.json, mon),
         explains: flags.explains,
     })
 }

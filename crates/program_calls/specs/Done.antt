@@ -151,7 +151,8 @@ IsDone (Live json) name input text = IsLiveDoneAs json input text
 IsDone Asm name input text = (frames : List (List ℕ)) × AreTextsOf (lines_of_frames (lines_of input)) frames × (text ≡ flat_map frame_line frames)
 IsDone (Dis meaning) name input text = (first_fault 1 (lines_of input) ≡ None) × (text ≡ flat_map (dis_text meaning) (lines_of input))
 IsDone Lay name input text = (pulls : List Stretch) × AreLinesRead (lines_of input) 1 no_notes (Ok pulls) × (text ≡ flat_map pull_line pulls)
-IsDone (Mon form glitch margin inverted folded report) name input text = IsShown folded (form_of form input) name inverted glitch margin (report_of report (form_of form input)) input text
+IsDone (Mon mon) name input text =
+    IsShown mon.folded (form_of mon.form input) name mon.inverted mon.glitch mon.margin (report_of mon.report (form_of mon.form input)) input text
 IsDone (Follow form margin report) name input text = IsReported form margin report name input text
 IsDone (Json objects) name input text = (lines : List ℕ) × AreLines objects name input lines × AreObjectsOf objects input lines text
 IsDone (Edid source reading view) name input text = IsMade source reading view input text

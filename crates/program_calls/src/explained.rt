@@ -1,7 +1,7 @@
 //! The faults of the program as they are explained.
 use crate::fault::ProgramFault;
 use capture_forms::CaptureForm;
-use cli_words::{CommandChoice, Objects, Source};
+use cli_words::{CommandChoice, MonChoice, Objects, Source};
 use edid_core::EdidCause;
 use expect_run::CheckError;
 use explain_marks::{Input, InputFault as Explained, Parting, WholeFault};
@@ -31,7 +31,7 @@ pub fn input_of(choice: CommandChoice) -> Input {
         CommandChoice::Asm
         | CommandChoice::Dis { .. }
         | CommandChoice::Lay
-        | CommandChoice::Mon { .. }
+        | CommandChoice::Mon(_)
         | CommandChoice::Json(Objects::Capture { .. }) => { Input::Lines }
         CommandChoice::Edid { source, .. } => match source {
             Source::Bytes | Source::Pair { dumps: false, .. } => Input::EdidBytes,
@@ -45,9 +45,8 @@ pub fn input_of(choice: CommandChoice) -> Input {
 /// The form of the capture that a choice takes from its input.
 pub fn form_in(choice: CommandChoice, input: &[u8]) -> CaptureForm {
     match choice {
-        CommandChoice::Mon { form, .. } | CommandChoice::Json(Objects::Capture { form, .. }) => {
-            form_of(form, input)
-        }
+        CommandChoice::Mon(MonChoice { form, .. })
+        | CommandChoice::Json(Objects::Capture { form, .. }) => { form_of(form, input) }
         CommandChoice::Follow {
             form: LineForm::Pin,
             ..

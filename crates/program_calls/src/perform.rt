@@ -8,7 +8,7 @@ use crate::fault::ProgramFault;
 use crate::objects::write_json;
 use crate::run::{run, run_to_drives, run_to_line};
 use crate::told::Recap;
-use cli_words::{CommandChoice, Listing};
+use cli_words::{CommandChoice, Listing, MonChoice};
 use expect_sweep::ProgressHearer;
 use message_hex::dis_lines;
 use message_lay::lay_lines;
@@ -75,6 +75,31 @@ fn lay<W: Sink>(input: &[u8], out: &mut W) -> Result<Recap, ProgramFault>
     Ok(Recap::Nothing)
 }
 
+#[inline(never)]
+fn show_capture<W: Sink>(
+    alloc: Global,
+    mon: MonChoice,
+    signal: &[u8],
+    input: &[u8],
+    out: &mut W,
+) -> Result<Recap, ProgramFault>
+    ensures { OnOk result (Writes (CommandChoice.Mon mon) signal.now input.now (W.contents out.old) (W.contents out.new)) }
+{
+    let signs = show(
+        alloc,
+        mon.folded,
+        mon.form,
+        signal,
+        mon.inverted,
+        mon.glitch,
+        mon.margin,
+        mon.report,
+        input,
+        out,
+    )?;
+    Ok(Recap::Capture(signs))
+}
+
 /// Does what is asked for. Of a run the result has the counts. Of a sweep the hearer hears how far it is, where that is asked for.
 pub fn perform<W: Sink, H: ProgressHearer>(
     alloc: Global,
@@ -103,19 +128,7 @@ pub fn perform<W: Sink, H: ProgressHearer>(
         CommandChoice::Asm => assemble(input, out),
         CommandChoice::Dis { meaning } => disassemble(meaning, input, out),
         CommandChoice::Lay => lay(input, out),
-        CommandChoice::Mon {
-            form,
-            glitch,
-            margin,
-            inverted,
-            folded,
-            report,
-        } => {
-            let signs = show(
-                alloc, folded, form, signal, inverted, glitch, margin, report, input, out,
-            )?;
-            Ok(Recap::Capture(signs))
-        }
+        CommandChoice::Mon(mon) => show_capture(alloc, mon, signal, input, out),
         CommandChoice::Json(objects) => write_json(alloc, objects, signal, input, out),
         CommandChoice::Edid {
             source,

@@ -5,7 +5,7 @@ use crate::explained::{explained, form_in, input_of};
 use crate::fault::ProgramFault;
 use crate::status::write_fault;
 use crate::told::Recap;
-use cli_words::{Asked, CommandChoice, Objects, View};
+use cli_words::{Asked, CommandChoice, MonChoice, Objects, View};
 use expect_run::Tally;
 use explain_core::{counts, explain};
 use program_captures::{Signs, name_lost, write_hints};
@@ -127,7 +127,8 @@ fn add_help<E: Sink>(text: Result<String, AllocError>, err: &mut E) {
 // Names the lines of a capture before which events were lost.
 fn name_lost_of<E: Sink>(alloc: Global, choice: CommandChoice, input: &[u8], err: &mut E) {
     match choice {
-        CommandChoice::Mon { form, .. } | CommandChoice::Json(Objects::Capture { form, .. }) => {
+        CommandChoice::Mon(MonChoice { form, .. })
+        | CommandChoice::Json(Objects::Capture { form, .. }) => {
             name_lost(alloc, form, input, err);
         }
         CommandChoice::CheckCapture { form, .. }
@@ -175,12 +176,14 @@ pub fn report<E: Sink>(
 // Says what may have to be asked for otherwise of a capture.
 fn hint<E: Sink>(alloc: Global, choice: CommandChoice, signs: Signs, input: &[u8], err: &mut E) {
     match choice {
-        CommandChoice::Mon {
-            glitch,
-            margin,
-            inverted,
-            ..
-        }
+        CommandChoice::Mon(
+            MonChoice {
+                glitch,
+                margin,
+                inverted,
+                ..
+            },
+        )
         | CommandChoice::Json(
             Objects::Capture {
                 glitch,

@@ -3,7 +3,7 @@ ghost use Rattle.std.specs.Prelude.{IfOk};
 ghost use Rattle.program_input.specs.Read.{IsAllOf};
 
 use crate::error::InputError;
-use cli_words::{CommandChoice, Objects};
+use cli_words::{CommandChoice, MonChoice, Objects};
 use std::alloc::Global;
 use std::io::Read;
 
@@ -19,12 +19,12 @@ const CAPTURE_LIMIT: usize = 67_108_864;
 /// The longest input of a choice, in bytes.
 pub fn limit_of(choice: CommandChoice) -> usize {
     match choice {
-        CommandChoice::Mon { form: Some(_), .. }
+        CommandChoice::Mon(MonChoice { form: Some(_), .. })
         | CommandChoice::CheckCapture { form: Some(_), .. }
         | CommandChoice::Json(
             Objects::Capture { form: Some(_), .. } | Objects::CaptureTest { form: Some(_), .. },
         ) => CAPTURE_LIMIT,
-        CommandChoice::Mon { form: None, .. }
+        CommandChoice::Mon(MonChoice { form: None, .. })
         | CommandChoice::CheckCapture { form: None, .. }
         | CommandChoice::Json(
             Objects::Trace { .. }
