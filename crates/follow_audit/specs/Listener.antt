@@ -2,14 +2,13 @@
 use Rattle.std.specs.Prelude.{◌≡◌, ℕ, Bool, true, false, List, [], ◌++◌, Option, Some, None, Result, Ok, Err, option_map}
 use Rattle.std.specs.Option.{option_to_list}
 use Rattle.std.specs.Io.KnownBytes.{Appends}
-use Rattle.text_core.specs.declared.sink.WriteFault.{WriteFault}
+use Rattle.text_core.specs.Adds.{Adds, Tally}
 use Rattle.line_wave.specs.declared.Edge.{Edge}
 use Rattle.line_reading.specs.Readings.{Listed}
 use Rattle.line_reading.specs.Reports.{listed_as}
 use Rattle.audit_widths.specs.Lows.{gone_to}
 use Rattle.capture_monitor.specs.Watch.{listed_line}
 use Rattle.audit_core.specs.Audit.{after_all, audit_text_of, first_tape, remarks_text, reported_all, tape_at}
-use Rattle.audit_core.specs.Progress.{WritesOn}
 use Rattle.follow_audit.specs.Settled.{IsKnown, is_settled, later}
 use Rattle.follow_audit.specs.declared.error.FollowAuditError.{FollowAuditError}
 use Rattle.follow_audit.specs.declared.error.FollowAuditError.TheVariants.{Capture, Memory, Read, TooLong, Waiting, Write}
@@ -67,22 +66,29 @@ pub record Remarks (old new : Listener) : Type 0 where
   pub timing : new.timing ≡ old.timing
   pub audited : (edges left : List Edge) (ended : List Listed) (text : List ℕ) → WaitsForNothing old left → IsAudited edges old left ended text → IsAudited edges new left ended (text ++ remarked old)
 
--- some text is written, which goes on with the audit, of these further readings
-pub record Says (old : Listener) (more : List Listed) (new : Listener) (mid out : Option (List ℕ)) (was is : Bool) (before after : Result ℕ WriteFault) : Type 0 where
+-- some text is added, which goes on with the audit, of these further readings
+pub record Says (old : Listener) (more : List Listed) (new : Listener) (mid out : Tally) : Type 0 where
   pub text : List ℕ
-  pub put : WritesOn mid out was is text before after
+  pub put : Adds mid out text
   pub timing : new.timing ≡ old.timing
   pub audited : (edges left : List Edge) (ended : List Listed) (so_far : List ℕ) → IsAudited edges old left ended so_far → IsAudited edges new left (ended ++ more) (so_far ++ text)
 
--- where a reading is heard, if there was room for it
-abbrev pub HearsOne : Listener → Option Listed → Bool → Listener → Option (List ℕ) → Option (List ℕ) → Bool → Bool → Result ℕ WriteFault → Result ℕ WriteFault → Type 0
-HearsOne old reported true new mid out was is before after = Says old (option_to_list reported) new mid out was is before after
-HearsOne old reported false new mid out was is before after = Says old [] new mid out was is before after
+-- or only of the first of them
+pub record SaysSome (old : Listener) (more : List Listed) (new : Listener) (mid out : Tally) : Type 0 where
+  pub heard : List Listed
+  pub rest : List Listed
+  pub parts : more ≡ heard ++ rest
+  pub says : Says old heard new mid out
+
+-- where readings are heard, by whether nothing waited before each
+abbrev pub HearsAll : Listener → List Listed → Bool → Listener → Tally → Tally → Type 0
+HearsAll old more true new mid out = Says old more new mid out
+HearsAll old more false new mid out = SaysSome old more new mid out
 
 -- the same where no edge is left, so that nothing waits
-pub record SaysLast (old : Listener) (more : List Listed) (new : Listener) (mid out : Option (List ℕ)) (was is : Bool) (before after : Result ℕ WriteFault) : Type 0 where
+pub record SaysLast (old : Listener) (more : List Listed) (new : Listener) (mid out : Tally) : Type 0 where
   pub text : List ℕ
-  pub put : WritesOn mid out was is text before after
+  pub put : Adds mid out text
   pub none : new.waiting ≡ None
   pub timing : new.timing ≡ old.timing
   pub audited : (edges : List Edge) (ended : List Listed) (so_far : List ℕ) → IsAudited edges old [] ended so_far → IsAudited edges new [] (ended ++ more) (so_far ++ text)
