@@ -1,5 +1,5 @@
 -- What is written of the readings of a capture as they end.
-use Rattle.std.proofs.Common.{◌≡◌, ℕ, Bool, true, false, List, [], ◌∷◌, ◌++◌, Option, Some, None, Result, Ok, Err, take, drop, refl, sym, ap, ap₂, subst, ◌∙◌, append_assoc, append-nil, take-append-drop, option_map}
+use Rattle.std.proofs.Common.{◌≡◌, ℕ, ◌+◌, ◌≤◌, Bool, true, false, List, [], ◌∷◌, ◌++◌, Option, Some, None, Result, Ok, Err, take, drop, refl, sym, ap, ap₂, subst, ◌∙◌, append_assoc, append-nil, take-append-drop, length, length-append, option_map, arith}
 use Rattle.std.specs.Option.{option_to_list}
 use Rattle.std.specs.Io.KnownBytes.{Appends}
 use Rattle.text_core.specs.declared.sink.WriteFault.{WriteFault}
@@ -22,7 +22,7 @@ use Rattle.audit_core.specs.Lines.{answers_text, drive_text, failure_text, serie
 use Rattle.text_core.specs.Adds.{Adds, Tally}
 use Rattle.text_core.proofs.Adding.{nothing, then}
 use Rattle.audit_core.specs.declared.auditor.Auditor.{Auditor}
-use Rattle.follow_audit.specs.Listener.{HearsAll, IsAudited, IsFrontOf, PutsAll, PutsCut, PutsFront, PutsLast, Remarks, Says, SaysAllKnown, SaysLast, SaysSome, TakesEdge, WaitsForNothing, line_of, remarked, settled_by, waits}
+use Rattle.follow_audit.specs.Listener.{AreTwo, HearsAll, IsAudited, IsFrontOf, PutsAll, PutsCut, PutsFront, PutsLast, Remarks, Says, SaysAllKnown, SaysLast, SaysSome, TakesEdge, WaitsForNothing, line_of, remarked, settled_by, waiting_count, waits}
 use Rattle.follow_audit.specs.Settled.{IsKnown, is_settled, later}
 use Rattle.follow_audit.specs.declared.listener.Listener.{Listener}
 use Rattle.follow_audit.proofs.Known.{all_known, gone_before, gone_none, gone_twice, settled_known}
@@ -188,12 +188,20 @@ known_settled a r is settled left =
 no_more : (edges : List Edge) (a : Listener) (left : List Edge) (ended : List Listed) (text : List ℕ) → IsAudited edges a left ended text → IsAudited edges a left (ended ++ []) text
 no_more edges a left ended text w = subst (λ (xs : List Listed). IsAudited edges a left xs text) (sym (append-nil ended)) w
 
+-- how many wait
+none_waits : (a : Listener) → a.waiting ≡ None → waiting_count a ≡ 0
+none_waits a none = ap (λ (o : Option Reading). length (option_to_list (option_map listed_as o))) none
+
+pub one_waits : (a : Listener) (r : Reading) → a.waiting ≡ Some r → waiting_count a ≡ 1
+one_waits a r is = ap (λ (o : Option Reading). length (option_to_list (option_map listed_as o))) is
+
 -- nothing
 pub says_none : (a : Listener) (mid : Tally) → Says a [] a mid mid
 says_none a mid = record {
   text = [];
   put = nothing mid;
   timing = refl;
+  few = omega arith;
   audited = λ edges left ended so_far w. no_more edges a left ended (so_far ++ []) (subst (λ (t : List ℕ). IsAudited edges a left ended t) (sym (append-nil so_far)) w);
 }
 
@@ -202,6 +210,7 @@ says_remarked old new mid out known r put = record {
   text = remarked old;
   put = put;
   timing = r.timing;
+  few = let none = none_waits new r.none in omega (arith, none);
   audited = λ edges left ended so_far w. no_more edges new left ended (so_far ++ remarked old) (r.audited edges left ended so_far (known left) w);
 }
 
@@ -212,6 +221,7 @@ says_line old new r mid out none waiting timing auditor from window put = record
   text = listed_line (listed_as r);
   put = put;
   timing = timing;
+  few = let one = one_waits new r waiting in omega (arith, one);
   audited = λ edges left ended so_far w.
       let said = w.said ∙ ap (λ (o : Option Reading). reported_all old.timing (first_tape edges) w.done ++ line_of (option_map listed_as o)) none ∙ append-nil (reported_all old.timing (first_tape edges) w.done) in
       record {
@@ -230,6 +240,7 @@ says_two {old} {mid} {new} {xs} {ys} {a} {b} {c} one two = record {
   text = one.text ++ two.text;
   put = then a b c one.text two.text one.put two.put;
   timing = two.timing ∙ one.timing;
+  few = let first = one.few in let second = two.few in omega (arith, first, second, length-append xs ys);
   audited = λ edges left ended so_far w.
       subst (λ (zs : List Listed). IsAudited edges new left zs (so_far ++ (one.text ++ two.text))) (append_assoc ended xs ys)
       (subst (λ (z : List ℕ). IsAudited edges new left ((ended ++ xs) ++ ys) z) (append_assoc so_far one.text two.text)
@@ -240,8 +251,8 @@ pub says_more : {old mid new : Listener} {xs : List Listed} {a b c : Tally} → 
 says_more {old} {mid} {new} {xs} {a} {b} {c} one two = subst (λ (zs : List Listed). Says old zs new a c) (append-nil xs) (says_two one two)
 
 -- a reading before which something waits is not heard
-pub hears_none : (a : Listener) (more : List Listed) (mid : Tally) → SaysSome a more a mid mid
-hears_none a more mid = record { heard = []; rest = more; parts = refl; says = says_none a mid }
+pub hears_none : (a : Listener) (x : Listed) (mid : Tally) → waiting_count a ≡ 1 → SaysSome a (x ∷ []) a mid mid
+hears_none a x mid one = record { two = omega (arith, one); heard = []; rest = x ∷ []; parts = refl; says = says_none a mid }
 
 -- readings were heard, or some of them
 pub heard_all : (old new : Listener) (more : List Listed) (room : Bool) (a b : Tally) → room ≡ true → HearsAll old more room new a b → Says old more new a b
@@ -255,6 +266,7 @@ heard_some old new more false a b is h = h
 -- readings before which others were heard, or after which others are not heard
 pub some_then : (old mid new : Listener) (xs ys : List Listed) (a b c : Tally) → Says old xs mid a b → SaysSome mid ys new b c → SaysSome old (xs ++ ys) new a c
 some_then old mid new xs ys a b c one some = record {
+  two = let few = one.few in let two = some.two in omega (arith, few, two, length-append xs ys);
   heard = xs ++ some.heard;
   rest = some.rest;
   parts = ap (λ (zs : List Listed). xs ++ zs) some.parts ∙ sym (append_assoc xs some.heard some.rest);
@@ -263,6 +275,7 @@ some_then old mid new xs ys a b c one some = record {
 
 pub some_first : (old new : Listener) (xs ys : List Listed) (a b : Tally) → SaysSome old xs new a b → SaysSome old (xs ++ ys) new a b
 some_first old new xs ys a b some = record {
+  two = let two = some.two in omega (arith, two, length-append xs ys);
   heard = some.heard;
   rest = some.rest ++ ys;
   parts = ap (λ (zs : List Listed). zs ++ ys) some.parts ∙ append_assoc some.heard some.rest ys;
@@ -356,6 +369,12 @@ audited_front edges a left ended text w end more = by (waits a) w.parts w.said
               (ap (λ (l : List ℕ). l ++ summary) (append_assoc (listed_line x) remarks rest) ∙ append_assoc (listed_line x) (remarks ++ rest) summary)
               ∙ sym (append_assoc (reported_all a.timing (first_tape edges) w.done) (listed_line x) ((remarks ++ rest) ++ summary)) ∙ ap (λ (l : List ℕ). l ++ ((remarks ++ rest) ++ summary)) (sym said),
         )
+
+-- two of the readings that have ended are two of all
+pub two_ended : (edges : List Edge) (a : Listener) (left : List Edge) (ended more rest : List Listed) (text : List ℕ) → IsAudited edges a left ended text → AreTwo a more → 2 ≤ length ((ended ++ more) ++ rest)
+two_ended edges a left ended more rest text w two =
+    let parts : length ended ≡ length w.done + waiting_count a = ap length w.parts ∙ length-append w.done (option_to_list (waits a)) in
+    omega (arith, two, parts, length-append ended more, length-append (ended ++ more) rest)
 
 -- ---- what is put
 

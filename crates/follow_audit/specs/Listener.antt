@@ -1,5 +1,5 @@
 -- What is written of the readings of a capture as they end: the front of its audit (own).
-use Rattle.std.specs.Prelude.{◌≡◌, ℕ, Bool, true, false, List, [], ◌++◌, Option, Some, None, Result, Ok, Err, option_map}
+use Rattle.std.specs.Prelude.{◌≡◌, ℕ, ◌+◌, ◌≤◌, Bool, true, false, List, [], ◌++◌, length, Option, Some, None, Result, Ok, Err, option_map}
 use Rattle.std.specs.Option.{option_to_list}
 use Rattle.std.specs.Io.KnownBytes.{Appends}
 use Rattle.text_core.specs.Adds.{Adds, Tally}
@@ -22,6 +22,13 @@ line_of (Some x) = listed_line x
 -- what waits
 abbrev pub waits : Listener → Option Listed
 waits a = option_map listed_as a.waiting
+
+abbrev pub waiting_count : Listener → ℕ
+waiting_count a = length (option_to_list (waits a))
+
+-- there are two readings, of what waits and of these
+abbrev pub AreTwo : Listener → List Listed → Type 0
+AreTwo a more = 2 ≤ waiting_count a + length more
 
 -- Of a capture of these edges, some of which are left, these readings have ended: all of them is written, but for what there is to
 -- remark of the last one, where that waits.
@@ -71,10 +78,12 @@ pub record Says (old : Listener) (more : List Listed) (new : Listener) (mid out 
   pub text : List ℕ
   pub put : Adds mid out text
   pub timing : new.timing ≡ old.timing
+  pub few : waiting_count new ≤ waiting_count old + length more
   pub audited : (edges left : List Edge) (ended : List Listed) (so_far : List ℕ) → IsAudited edges old left ended so_far → IsAudited edges new left (ended ++ more) (so_far ++ text)
 
--- or only of the first of them
+-- or only of the first of them: one would wait beside another
 pub record SaysSome (old : Listener) (more : List Listed) (new : Listener) (mid out : Tally) : Type 0 where
+  pub two : AreTwo old more
   pub heard : List Listed
   pub rest : List Listed
   pub parts : more ≡ heard ++ rest
@@ -97,14 +106,15 @@ pub record SaysLast (old : Listener) (more : List Listed) (new : Listener) (mid 
 abbrev pub IsFrontOf : Bool → List Edge → List Listed → List ℕ → Type 0
 IsFrontOf timing edges ended text = (end : ℕ) (more : List Listed) → (rest : List ℕ) × (audit_text_of timing (record { edges = edges; end = end }) (ended ++ more) ≡ text ++ rest)
 
--- readings that have ended are told one after another: what goes on with the audit is put, or a front of it
-abbrev pub IsOfListening : FollowAuditError → Type 0
-IsOfListening (Write count) = Unit {0}
-IsOfListening Waiting = Unit {0}
-IsOfListening TooLong = ⊥
-IsOfListening (Capture fault) = ⊥
-IsOfListening Read = ⊥
-IsOfListening Memory = ⊥
+-- readings that have ended are told one after another: what goes on with the audit is put, or a front of it, where two wait or a
+-- `put` took none
+abbrev pub IsOfListening : Listener → List Listed → FollowAuditError → Type 0
+IsOfListening old more (Write count) = Unit {0}
+IsOfListening old more Waiting = AreTwo old more
+IsOfListening old more TooLong = ⊥
+IsOfListening old more (Capture fault) = ⊥
+IsOfListening old more Read = ⊥
+IsOfListening old more Memory = ⊥
 
 pub record PutsAll (old : Listener) (more : List Listed) (new : Listener) (before after : Option (List ℕ)) : Type 0 where
   pub text : List ℕ
@@ -119,7 +129,7 @@ pub record PutsFront (old : Listener) (more : List Listed) (before after : Optio
 
 abbrev pub Puts : Listener → List Listed → Listener → Option (List ℕ) → Option (List ℕ) → Result (Unit {0}) FollowAuditError → Type 0
 Puts old more new before after (Ok done) = PutsAll old more new before after
-Puts old more new before after (Err error) = PutsFront old more before after × IsOfListening error
+Puts old more new before after (Err error) = PutsFront old more before after × IsOfListening old more error
 
 -- no edge is left: all is put, up to the end
 pub record PutsLast (old : Listener) (more : List Listed) (end : ℕ) (before after : Option (List ℕ)) : Type 0 where
@@ -133,6 +143,15 @@ pub record PutsCut (old : Listener) (more : List Listed) (end : ℕ) (before aft
   pub put : Appends before after text
   pub whole : (edges : List Edge) (ended : List Listed) (so_far : List ℕ) → IsAudited edges old [] ended so_far → audit_text_of old.timing (record { edges = edges; end = end }) (ended ++ more) ≡ so_far ++ (text ++ rest)
 
+-- a `put` took none
+abbrev pub IsOfWriting : FollowAuditError → Type 0
+IsOfWriting (Write count) = Unit {0}
+IsOfWriting Waiting = ⊥
+IsOfWriting TooLong = ⊥
+IsOfWriting (Capture fault) = ⊥
+IsOfWriting Read = ⊥
+IsOfWriting Memory = ⊥
+
 abbrev pub Finishes : Listener → List Listed → ℕ → Option (List ℕ) → Option (List ℕ) → Result (Unit {0}) FollowAuditError → Type 0
 Finishes old more end before after (Ok done) = PutsLast old more end before after
-Finishes old more end before after (Err error) = PutsCut old more end before after × IsOfListening error
+Finishes old more end before after (Err error) = PutsCut old more end before after × IsOfWriting error

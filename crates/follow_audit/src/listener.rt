@@ -32,7 +32,7 @@ pub(crate) struct Listener {
 }
 
 impl Listener {
-    ghost use Rattle.follow_audit.specs.Listener.{Finishes, HearsAll, IsAudited, Puts, Remarks, Says, SaysAllKnown, SaysLast, TakesEdge, WaitsForNothing, remarked};
+    ghost use Rattle.follow_audit.specs.Listener.{Finishes, HearsAll, IsAudited, Puts, Remarks, Says, SaysAllKnown, SaysLast, TakesEdge, WaitsForNothing, remarked, waiting_count};
 
     /// Of a capture of which nothing has come.
     pub(crate) fn new(alloc: Global, timing: bool) -> Self
@@ -134,7 +134,8 @@ impl Listener {
     }
 
     fn waits(&self) -> bool
-        ensures { result ≡ false → self.now.waiting ≡ None }
+        ensures none { result ≡ false → self.now.waiting ≡ None }
+        ensures one { result ≡ true → waiting_count self.now ≡ 1 }
     {
         match &self.waiting {
             None => false,

@@ -2,7 +2,7 @@ use Rattle.std.proofs.Common.{Option, option_map, subst, sym}
 use Rattle.std.specs.Option.{option_to_list}
 use Rattle.line_frames.specs.declared.Reading.{Reading}
 use Rattle.line_reading.specs.Reports.{listed_as}
-use Rattle.follow_audit.specs.Listener.{Says}
+use Rattle.follow_audit.specs.Listener.{Says, SaysSome}
 use Rattle.follow_audit.proofs.Audited.{hears_none, says_more, says_none}
 use Rattle.follow_audit.proofs.listener.Listener.hear.Goals as goal
 
@@ -11,7 +11,9 @@ returns-in-None-clause-says g c =
     subst (λ (o : Option Reading). Says c.args.self.now (option_to_list (option_map listed_as o)) c.args.self.now c.args.out.now c.args.out.now) (sym c.in-None.is) (says_none c.args.self.now _)
 
 pub returns-then-waits-clause-says : goal.returns-then-waits-clause-says
-returns-then-waits-clause-says g c = hears_none c.args.self.now _ _
+returns-then-waits-clause-says g c =
+    subst (λ (o : Option Reading). SaysSome c.args.self.now (option_to_list (option_map listed_as o)) c.args.self.now c.args.out.now c.args.out.now) (sym c.in-Some.is)
+    (hears_none c.args.self.now (listed_as c.in-Some.reading) _ (c.waits.ensures.one c.if-waits.true))
 
 pub returns-else-waits-clause-says : goal.returns-else-waits-clause-says
 returns-else-waits-clause-says g c =

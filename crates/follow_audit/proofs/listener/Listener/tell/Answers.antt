@@ -13,7 +13,7 @@ returns-then-not-heard-clause-puts g c =
           (text_ended g.S.Sink.contents g.S.Sink.is_stuck c.args.out.now _ c.into_sink-below.result.now _ c.into_sink-below.result.ghost_name c.new-audit.result c.hear_all-heard.new.out some.says.text c.written-written.result
           c.new-audit.ensures some.says.put c.written-written.ensures.text
           c.into_sink-below.ensures.loan c.into_sink-below.ensures.known c.into_sink-below.ensures.stuck (search rules)),
-      tt,
+      some.two,
     )
 
 pub returns-in-Ok-clause-puts : goal.returns-in-Ok-clause-puts
