@@ -1,23 +1,21 @@
 -- A capture audited edge by edge.
-use Rattle.std.proofs.Common.{◌≡◌, ℕ, suc, ◌+◌, ◌<◌, ◌≤◌, Bool, true, false, nat_lt, if◌then◌else◌, zero, ◌-◌, ◌&&◌, List, [], ◌∷◌, ◌++◌, length, get_or, drop, Option, Result, Ok, append_assoc, refl, arith, ap, ◌∙◌, sym, subst}
+use Rattle.std.proofs.Common.{◌≡◌, ℕ, suc, ◌+◌, ◌<◌, ◌≤◌, Bool, true, false, nat_lt, if◌then◌else◌, zero, ◌-◌, ◌&&◌, List, [], ◌∷◌, ◌++◌, length, get_or, drop, Option, append_assoc, refl, arith, ap, ◌∙◌, sym, subst}
 use Rattle.std.proofs.Math.Seq.{drop-cons}
 use Rattle.std.proofs.Math.ListN.{drop_of_length-le}
 use Rattle.std.specs.Option.{option_to_list}
 use Rattle.std.proofs.lemmas.Bool.Decides.{nat_tests}
-use Rattle.text_core.specs.declared.sink.WriteFault.{WriteFault}
+use Rattle.text_core.specs.Adds.{Adds, Tally}
+use Rattle.text_core.proofs.Adding.{nothing, then}
 use Rattle.line_wave.specs.declared.Edge.{Edge}
 use Rattle.line_wave.specs.Line.{Line, was_low}
 use Rattle.line_reading.specs.declared.times.Windows.{Windows}
 use Rattle.line_reading.specs.Readings.{Listed}
-use Rattle.text_core.specs.Cut.{WrittenText}
 use Rattle.capture_core.specs.Edges.{AreInTurn, Captured, EndBy, IsCapture, level_at, line_of_edges}
 use Rattle.capture_core.proofs.Recording.{before_turn}
 use Rattle.capture_monitor.specs.declared.monitor.Monitor.{Monitor as Watcher}
 use Rattle.capture_monitor.specs.Monitor.{HeardBeforeBy, FollowsEdgeBy, FollowsEndBy}
 use Rattle.capture_monitor.specs.ReadBy.{ended_before_by, readings_by}
-use Rattle.audit_core.specs.Progress.{WritesOn}
 use Rattle.audit_core.specs.Audit.{Tape, after, after_all, audit_text_of, first_tape, summary_text, line_and_remarks, reported_all}
-use Rattle.audit_core.proofs.Writing.{writes_first}
 use Rattle.line_wave.proofs.Waves.{was_now}
 
 -- ---- readings, one after another
@@ -40,7 +38,7 @@ edge_early (e ∷ edges) end (suc k) none h l = edge_early edges end k none h.1 
 
 -- ---- the edges up to these are told, and what has ended before the next one is written
 
-pub record Audited (win : Windows) (c : Captured) (left : List Edge) (m : Watcher) (timing : Bool) (tape : Tape) (old now : Option (List ℕ)) (was is : Bool) (so_far : Result ℕ WriteFault) : Type 0 where
+pub record Audited (win : Windows) (c : Captured) (left : List Edge) (m : Watcher) (timing : Bool) (tape : Tape) (old now : Tally) : Type 0 where
   pub is_low : Bool
   pub from : ℕ
   pub level : (u : ℕ) → from ≤ u → line_of_edges c.edges u ≡ level_at is_low left u
@@ -50,12 +48,12 @@ pub record Audited (win : Windows) (c : Captured) (left : List Edge) (m : Watche
   pub reach : from ≤ c.end + 1
   pub heard : HeardBeforeBy win m (line_of_edges c.edges) from
   pub kept : tape ≡ after_all (first_tape c.edges) (ended_before_by win (line_of_edges c.edges) from)
-  pub wrote : WrittenText old now was is (reported_all timing (first_tape c.edges) (ended_before_by win (line_of_edges c.edges) from)) so_far
+  pub wrote : Adds old now (reported_all timing (first_tape c.edges) (ended_before_by win (line_of_edges c.edges) from))
 
-pub audited_first : (win : Windows) (c : Captured) (m : Watcher) (timing : Bool) (tape : Tape) (old : Option (List ℕ)) (was : Bool) (so_far : Result ℕ WriteFault) → IsCapture c.edges c.end → ((low : Line) → HeardBeforeBy win m low 0)
-    → tape ≡ first_tape c.edges → so_far ≡ Ok 0 → Audited win c c.edges m timing tape old old was was so_far
+pub audited_first : (win : Windows) (c : Captured) (m : Watcher) (timing : Bool) (tape : Tape) (old : Tally) → IsCapture c.edges c.end → ((low : Line) → HeardBeforeBy win m low 0)
+    → tape ≡ first_tape c.edges → Audited win c c.edges m timing tape old old
 unfolding ended_before_by
-audited_first win c m timing tape old was so_far is heard first none = record {
+audited_first win c m timing tape old is heard first = record {
   is_low = false;
   from = 0;
   level = λ u l. refl;
@@ -65,24 +63,24 @@ audited_first win c m timing tape old was so_far is heard first none = record {
   reach = omega arith;
   heard = heard (line_of_edges c.edges);
   kept = first;
-  wrote = subst (λ (r : Result ℕ WriteFault). WrittenText old old was was [] r) (sym none) (writes_first old was);
+  wrote = nothing old;
 }
 
 -- what is reported next, and what is written of it
-more_written : (timing : Bool) (t tape : Tape) (xs : List Listed) (reported : Option Listed) (old mid out : Option (List ℕ)) (was is now : Bool) (p q : Result ℕ WriteFault) → tape ≡ after_all t xs
-    → WrittenText old mid was is (reported_all timing t xs) p → WritesOn mid out is now (reported_all timing tape (option_to_list reported)) p q → WrittenText old out was now (reported_all timing t (xs ++ option_to_list reported)) q
-more_written timing t tape xs reported old mid out was is now p q kept wrote next =
-    subst (λ (z : List ℕ). WrittenText old out was now z q)
+more_written : (timing : Bool) (t tape : Tape) (xs : List Listed) (reported : Option Listed) (old mid out : Tally) → tape ≡ after_all t xs
+    → Adds old mid (reported_all timing t xs) → Adds mid out (reported_all timing tape (option_to_list reported)) → Adds old out (reported_all timing t (xs ++ option_to_list reported))
+more_written timing t tape xs reported old mid out kept wrote next =
+    subst (λ (z : List ℕ). Adds old out z)
     (ap (λ (s : Tape). reported_all timing t xs ++ reported_all timing s (option_to_list reported)) kept ∙ sym (reported_more timing t xs (option_to_list reported)))
-    (next.on old was (reported_all timing t xs) wrote)
+    (then old mid out (reported_all timing t xs) (reported_all timing tape (option_to_list reported)) wrote next)
 
 more_kept : (t tape new : Tape) (xs : List Listed) (reported : Option Listed) → tape ≡ after_all t xs → new ≡ after_all tape (option_to_list reported) → new ≡ after_all t (xs ++ option_to_list reported)
 more_kept t tape new xs reported kept next = next ∙ ap (λ (s : Tape). after_all s (option_to_list reported)) kept ∙ sym (after_more t xs (option_to_list reported))
 
-pub audited_more : (win : Windows) (c : Captured) (left rest : List Edge) (m new : Watcher) (e : Edge) (reported : Option Listed) (timing : Bool) (tape later : Tape) (old mid out : Option (List ℕ)) (was is now : Bool) (p q : Result ℕ WriteFault)
-    → Audited win c left m timing tape old mid was is p → left ≡ e ∷ rest → FollowsEdgeBy win m e reported new → later ≡ after_all tape (option_to_list reported) → WritesOn mid out is now (reported_all timing tape (option_to_list reported)) p q
-    → Audited win c rest new timing later old out was now q
-audited_more win c left rest m new e reported timing tape later old mid out was is now p q audited cut follows next writes = record {
+pub audited_more : (win : Windows) (c : Captured) (left rest : List Edge) (m new : Watcher) (e : Edge) (reported : Option Listed) (timing : Bool) (tape later : Tape) (old mid out : Tally)
+    → Audited win c left m timing tape old mid → left ≡ e ∷ rest → FollowsEdgeBy win m e reported new → later ≡ after_all tape (option_to_list reported) → Adds mid out (reported_all timing tape (option_to_list reported))
+    → Audited win c rest new timing later old out
+audited_more win c left rest m new e reported timing tape later old mid out audited cut follows next writes = record {
   is_low = e.low;
   from = e.at + 1;
   level = λ u l. past u (omega arith);
@@ -92,15 +90,15 @@ audited_more win c left rest m new e reported timing tape later old mid out was 
   reach = let last = w.ends.0 in omega (arith, last);
   heard = d.0;
   kept = subst (λ (xs : List Listed). later ≡ after_all (first_tape c.edges) xs) (sym ended) (more_kept (first_tape c.edges) tape later (ended_before_by win low w.from) reported w.kept next);
-  wrote = subst (λ (xs : List Listed). WrittenText old out was now (reported_all timing (first_tape c.edges) xs) q) (sym ended)
-      (more_written timing (first_tape c.edges) tape (ended_before_by win low w.from) reported old mid out was is now p q w.kept w.wrote writes);
+  wrote = subst (λ (xs : List Listed). Adds old out (reported_all timing (first_tape c.edges) xs)) (sym ended)
+      (more_written timing (first_tape c.edges) tape (ended_before_by win low w.from) reported old mid out w.kept w.wrote writes);
 }
   where
     low : Line
     low = line_of_edges c.edges
 
-    w : Audited win c (e ∷ rest) m timing tape old mid was is p
-    w = subst (λ (l : List Edge). Audited win c l m timing tape old mid was is p) cut audited
+    w : Audited win c (e ∷ rest) m timing tape old mid
+    w = subst (λ (l : List Edge). Audited win c l m timing tape old mid) cut audited
 
     after_it : w.from ≤ e.at
     after_it = w.turn.1
@@ -121,15 +119,15 @@ audited_more win c left rest m new e reported timing tape later old mid out was 
     ended = ap (ended_before_by win (line_of_edges c.edges)) (let x : e.at + 1 ≡ suc e.at = omega arith in x) ∙ d.1
 
 -- the end of a capture
-pub audited_end : (win : Windows) (c : Captured) (left : List Edge) (m : Watcher) (reported : Option Listed) (timing : Bool) (tape later : Tape) (old mid out last : Option (List ℕ)) (was is now at : Bool) (p q r : Result ℕ WriteFault)
-    → Audited win c left m timing tape old mid was is p → left ≡ [] → FollowsEndBy win m c.end reported → later ≡ after_all tape (option_to_list reported) → WritesOn mid out is now (reported_all timing tape (option_to_list reported)) p q
-    → WritesOn out last now at (summary_text c.end later) q r → WrittenText old last was at (audit_text_of timing c (readings_by win (line_of_edges c.edges) c.end)) r
-audited_end win c left m reported timing tape later old mid out last was is now at p q r audited none follows next writes ends =
-    subst (λ (t : Tape). WrittenText old last was at (reported_all timing (first_tape c.edges) (readings_by win (line_of_edges c.edges) c.end) ++ summary_text c.end t) r) kept
-    (ends.on old was (reported_all timing (first_tape c.edges) (readings_by win (line_of_edges c.edges) c.end)) wrote)
+pub audited_end : (win : Windows) (c : Captured) (left : List Edge) (m : Watcher) (reported : Option Listed) (timing : Bool) (tape later : Tape) (old mid out last : Tally)
+    → Audited win c left m timing tape old mid → left ≡ [] → FollowsEndBy win m c.end reported → later ≡ after_all tape (option_to_list reported) → Adds mid out (reported_all timing tape (option_to_list reported))
+    → Adds out last (summary_text c.end later) → Adds old last (audit_text_of timing c (readings_by win (line_of_edges c.edges) c.end))
+audited_end win c left m reported timing tape later old mid out last audited none follows next writes ends =
+    subst (λ (t : Tape). Adds old last (reported_all timing (first_tape c.edges) (readings_by win (line_of_edges c.edges) c.end) ++ summary_text c.end t)) kept
+    (then old out last (reported_all timing (first_tape c.edges) (readings_by win (line_of_edges c.edges) c.end)) (summary_text c.end later) wrote ends)
   where
-    w : Audited win c [] m timing tape old mid was is p
-    w = subst (λ (l : List Edge). Audited win c l m timing tape old mid was is p) none audited
+    w : Audited win c [] m timing tape old mid
+    w = subst (λ (l : List Edge). Audited win c l m timing tape old mid) none audited
 
     read : readings_by win (line_of_edges c.edges) c.end ≡ ended_before_by win (line_of_edges c.edges) w.from ++ option_to_list reported
     read = follows (line_of_edges c.edges) w.from w.heard w.reach (λ u k s. w.level u k ∙ sym w.before ∙ sym w.heard.stood.level)
@@ -137,9 +135,9 @@ audited_end win c left m reported timing tape later old mid out last was is now 
     kept : later ≡ after_all (first_tape c.edges) (readings_by win (line_of_edges c.edges) c.end)
     kept = subst (λ (xs : List Listed). later ≡ after_all (first_tape c.edges) xs) (sym read) (more_kept (first_tape c.edges) tape later (ended_before_by win (line_of_edges c.edges) w.from) reported w.kept next)
 
-    wrote : WrittenText old out was now (reported_all timing (first_tape c.edges) (readings_by win (line_of_edges c.edges) c.end)) q
-    wrote = subst (λ (xs : List Listed). WrittenText old out was now (reported_all timing (first_tape c.edges) xs) q) (sym read)
-        (more_written timing (first_tape c.edges) tape (ended_before_by win (line_of_edges c.edges) w.from) reported old mid out was is now p q w.kept w.wrote writes)
+    wrote : Adds old out (reported_all timing (first_tape c.edges) (readings_by win (line_of_edges c.edges) c.end))
+    wrote = subst (λ (xs : List Listed). Adds old out (reported_all timing (first_tape c.edges) xs)) (sym read)
+        (more_written timing (first_tape c.edges) tape (ended_before_by win (line_of_edges c.edges) w.from) reported old mid out w.kept w.wrote writes)
 
 -- the next edge of a list
 pub next_edge : (edges : List Edge) (k : ℕ) (none : Edge) → k < length edges → drop k edges ≡ get_or edges k none ∷ drop (k + 1) edges

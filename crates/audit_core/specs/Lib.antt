@@ -1,4 +1,4 @@
-pub mod Progress
+pub mod Written
 pub mod Lines
 pub mod Audit
 pub mod Kept

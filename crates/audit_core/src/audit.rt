@@ -2,20 +2,42 @@
 ghost use Rattle.line_reading.specs.Windows.{AreWindows};
 ghost use Rattle.capture_monitor.specs.Joined.{captured_by};
 ghost use Rattle.audit_core.specs.Audit.{audit_text, audit_text_of};
-ghost use Rattle.audit_core.specs.Progress.{WritesText};
+ghost use Rattle.audit_core.specs.Written.{WritesText};
+ghost use Rattle.text_core.specs.Adds.{Adds};
 
-use crate::progress::TextProgress;
 use crate::whole::WholeAudit;
 use capture_core::Capture;
 use capture_monitor::Monitor;
 use line_reading::{STANDARD, Windows};
-use text_core::{Sink, WriteFault};
+use text_core::{Counted, Sink, WriteFault};
 
 /// What an audit writes.
 #[derive(Clone, Copy, Debug, Default, PartialEq, Eq)]
 pub struct AuditOptions {
     /// The widths of each reading too.
     pub timing: bool,
+}
+
+// Adds what there is to say of each reading of a capture, as a monitor reads it by these windows, and then of all of them.
+fn add_audit<S: Sink>(
+    out: &mut Counted<'_, S>,
+    capture: &Capture,
+    windows: Windows,
+    options: AuditOptions,
+)
+    requires { AreWindows windows }
+    ensures { Adds out.old out.new (audit_text_of options.timing capture.now (captured_by windows capture.now)) }
+{
+    let edges = capture.edges();
+    let mut monitor = Monitor::with_windows(windows);
+    let mut auditor = WholeAudit::new(edges);
+    for edge in edges {
+        let reading = monitor.edge(*edge);
+        auditor.hear(out, &reading, options.timing);
+    }
+    let reading = monitor.finish(capture.end());
+    auditor.hear(out, &reading, options.timing);
+    auditor.summarize(out, capture.end());
 }
 
 /// Writes the readings of a capture, a line each, and below each what a person who knows the standard would remark, in
@@ -54,16 +76,13 @@ pub fn audit_capture_by<S: Sink>(
     requires { AreWindows windows }
     ensures { WritesText (S.contents out.old) (S.contents out.new) (S.is_stuck out.old) (S.is_stuck out.new) (audit_text_of options.timing capture.now (captured_by windows capture.now)) result }
 {
-    let edges = capture.edges();
-    let mut monitor = Monitor::with_windows(windows);
-    let mut auditor = WholeAudit::new(edges);
-    let mut progress = TextProgress::new();
-    for edge in edges {
-        let reading = monitor.edge(*edge);
-        auditor.hear(&reading, options.timing, &mut progress, out);
+    let mut audit = Counted::new(out);
+    add_audit(&mut audit, capture, windows, options);
+    let written = audit.written();
+    // No effect at run time. The proof reads what `out` holds from the sink that comes back.
+    let _below = audit.into_sink();
+    match written {
+        Ok(_) => Ok(()),
+        Err(fault) => Err(fault),
     }
-    let reading = monitor.finish(capture.end());
-    auditor.hear(&reading, options.timing, &mut progress, out);
-    auditor.summarize(capture.end(), &mut progress, out);
-    progress.result()
 }

@@ -6,16 +6,15 @@ ghost use Rattle.line_reading.specs.Reports.{listed_as};
 ghost use Rattle.audit_core.specs.Audit.{drive_of, falls_until, first_tape, frame_text, is_folded, lows_of, named_of, notes_text, tape_after, tape_at, tape_by, reading_misfits, remarks_text, summary_text, times_text, unfinished_of, unless_driven};
 ghost use Rattle.audit_remarks.specs.Frames.{delivered_frame};
 ghost use Rattle.audit_core.specs.Lines.{timing_text};
-ghost use Rattle.audit_core.specs.Progress.{WritesOn};
+ghost use Rattle.text_core.specs.Adds.{Adds};
 ghost use Rattle.audit_widths.specs.Spreads.{no_widths, with_slots};
 ghost use Rattle.line_wave.specs.Bounds.{most_sent};
 
 use crate::lines::{
-    write_answers, write_claims, write_counts, write_drive, write_failure, write_head, write_late,
-    write_misfits, write_missing, write_moved, write_named, write_receivers, write_series,
-    write_soon, write_unfinished, write_widths, write_within,
+    add_answers, add_claims, add_counts, add_drive, add_failure, add_head, add_late, add_misfits,
+    add_missing, add_moved, add_named, add_receivers, add_series, add_soon, add_unfinished,
+    add_widths, add_within,
 };
-use crate::progress::TextProgress;
 use arrayvec::ArrayVec;
 use audit_remarks::{
     Attempts, BadStartSeries, Counts, Places, Previous, Sources, Waiting, after_frame,
@@ -26,7 +25,7 @@ use audit_widths::{Cursor, Low, Widths, drive_within, first_low, low_drive, lows
 use line_frames::{Ending, Reading};
 use line_wave::{Edge, MOST_SENT};
 use message_hex::remark;
-use text_core::{Piece, Sink};
+use text_core::{Counted, Piece, Sink};
 
 /// What is kept of the readings so far. It is told the edges of each, and keeps none.
 #[derive(Drop)]
@@ -97,11 +96,11 @@ fn named_of(reading: &Reading) -> Option<&'static str>
 }
 
 // What was read, in words.
-fn write_notes<S: Sink>(reading: &Reading, progress: &mut TextProgress, out: &mut S)
-    ensures { WritesOn (S.contents out.old) (S.contents out.new) (S.is_stuck out.old) (S.is_stuck out.new) (notes_text (listed_as reading.now)) progress.old.so_far progress.new.so_far }
+fn add_notes<S: Sink>(out: &mut Counted<'_, S>, reading: &Reading)
+    ensures { Adds out.old out.new (notes_text (listed_as reading.now)) }
 {
-    write_head(head_read(reading.ending, &reading.bits), progress, out);
-    write_named(named_of(reading), progress, out);
+    add_head(out, head_read(reading.ending, &reading.bits));
+    add_named(out, named_of(reading));
 }
 
 // Whether a reading's widths are left out: it is a bad start after another one.
@@ -111,21 +110,20 @@ fn is_folded(series: BadStartSeries, ending: Ending) -> bool
     is_bad_start(ending) && series.count > 0
 }
 
-fn write_reading_misfits<S: Sink>(
+#[tactic(auto, using(text_core::proofs::Adding::nothing))]
+fn add_reading_misfits<S: Sink>(
+    out: &mut Counted<'_, S>,
     series: BadStartSeries,
     reading: &Reading,
     lows: &[Low],
-    progress: &mut TextProgress,
-    out: &mut S,
 )
     requires { length lows.now ≤ most_sent }
-    ensures { WritesOn (S.contents out.old) (S.contents out.new) (S.is_stuck out.old) (S.is_stuck out.new)
-        (reading_misfits series (listed_as reading.now) lows.now) progress.old.so_far progress.new.so_far }
+    ensures { Adds out.old out.new (reading_misfits series (listed_as reading.now) lows.now) }
 {
     if is_folded(series, reading.ending) {
         return;
     }
-    write_misfits(reading.ending, &reading.bits, 0, lows, progress, out);
+    add_misfits(out, reading.ending, &reading.bits, 0, lows);
 }
 
 // The widths of one reading.
@@ -139,21 +137,20 @@ fn widths_of(reading: &Reading, lows: &[Low]) -> Widths
 }
 
 // The widths of a reading, where they are asked for.
-fn write_reading_widths<S: Sink>(
+#[tactic(auto, using(text_core::proofs::Adding::nothing))]
+fn add_reading_widths<S: Sink>(
+    out: &mut Counted<'_, S>,
     timing: bool,
     reading: &Reading,
     lows: &[Low],
-    progress: &mut TextProgress,
-    out: &mut S,
 )
     requires { length lows.now ≤ most_sent }
-    ensures { WritesOn (S.contents out.old) (S.contents out.new) (S.is_stuck out.old) (S.is_stuck out.new)
-        (timing_text timing (with_slots reading.now.ending reading.now.bits.items 0 lows.now no_widths)) progress.old.so_far progress.new.so_far }
+    ensures { Adds out.old out.new (timing_text timing (with_slots reading.now.ending reading.now.bits.items 0 lows.now no_widths)) }
 {
     if !timing {
         return;
     }
-    write_widths(widths_of(reading, lows), progress, out);
+    add_widths(out, widths_of(reading, lows));
 }
 
 impl Auditor {
@@ -174,73 +171,62 @@ impl Auditor {
     }
 
     // What there is to remark of what was before a reading, of its times and its blocks.
-    fn write_times<S: Sink>(
+    fn add_times<S: Sink>(
         &self,
+        out: &mut Counted<'_, S>,
         reading: &Reading,
         edges: &[Edge],
         lows: &[Low],
         frame: &[u8],
-        progress: &mut TextProgress,
-        out: &mut S,
     )
         requires lows { lows.now ≡ lows_of (listed_as reading.now) edges.now }
         requires few { length lows.now ≤ most_sent }
         requires frame { frame.now ≡ delivered_frame (listed_as reading.now) }
-        ensures { WritesOn (S.contents out.old) (S.contents out.new) (S.is_stuck out.old) (S.is_stuck out.new)
-            (times_text (tape_at edges.now self.now) (listed_as reading.now)) progress.old.so_far progress.new.so_far }
+        ensures { Adds out.old out.new (times_text (tape_at edges.now self.now) (listed_as reading.now)) }
     {
         let free = self.previous.free_before(reading.begin);
         let again = self.attempts.tries_again(&reading.bits);
-        write_series(self.series.over(reading.ending), progress, out);
-        write_answers(reading.begin, frame, &self.waiting, progress, out);
-        write_soon(self.previous.too_soon(reading, again), progress, out);
-        write_reading_misfits(self.series, reading, lows, progress, out);
-        write_drive(drive_of(reading, edges), progress, out);
-        write_within(drive_within(lows), progress, out);
-        write_unfinished(unfinished_of(reading, lows), progress, out);
-        write_failure(
-            self.attempts.failure_of(reading.begin, free, &reading.bits),
-            progress,
+        add_series(out, self.series.over(reading.ending));
+        add_answers(out, reading.begin, frame, &self.waiting);
+        add_soon(out, self.previous.too_soon(reading, again));
+        add_reading_misfits(out, self.series, reading, lows);
+        add_drive(out, drive_of(reading, edges));
+        add_within(out, drive_within(lows));
+        add_unfinished(out, unfinished_of(reading, lows));
+        add_failure(
             out,
+            self.attempts.failure_of(reading.begin, free, &reading.bits),
         );
     }
 
     // What there is to remark of what a frame says.
-    fn write_frame<S: Sink>(&self, frame: &[u8], progress: &mut TextProgress, out: &mut S)
-        ensures { WritesOn (S.contents out.old) (S.contents out.new) (S.is_stuck out.old) (S.is_stuck out.new)
-            (frame_text (tape_at [] self.now) frame.now) progress.old.so_far progress.new.so_far }
+    fn add_frame<S: Sink>(&self, out: &mut Counted<'_, S>, frame: &[u8])
+        ensures { Adds out.old out.new (frame_text (tape_at [] self.now) frame.now) }
     {
-        write_moved(
-            sender(frame),
-            moved_from(frame, &self.places),
-            progress,
-            out,
-        );
-        write_receivers(missed_receivers(frame), progress, out);
-        write_missing(missing_operands(frame), progress, out);
+        add_moved(out, sender(frame), moved_from(frame, &self.places));
+        add_receivers(out, missed_receivers(frame));
+        add_missing(out, missing_operands(frame));
     }
 
     // What there is to remark of a reading.
-    fn write_remarks<S: Sink>(
+    fn add_remarks<S: Sink>(
         &self,
+        out: &mut Counted<'_, S>,
         reading: &Reading,
         edges: &[Edge],
         lows: &[Low],
         frame: &[u8],
         timing: bool,
-        progress: &mut TextProgress,
-        out: &mut S,
     )
         requires lows { lows.now ≡ lows_of (listed_as reading.now) edges.now }
         requires few { length lows.now ≤ most_sent }
         requires frame { frame.now ≡ delivered_frame (listed_as reading.now) }
-        ensures { WritesOn (S.contents out.old) (S.contents out.new) (S.is_stuck out.old) (S.is_stuck out.new)
-            (remarks_text timing (tape_at edges.now self.now) (listed_as reading.now)) progress.old.so_far progress.new.so_far }
+        ensures { Adds out.old out.new (remarks_text timing (tape_at edges.now self.now) (listed_as reading.now)) }
     {
-        write_notes(reading, progress, out);
-        self.write_times(reading, edges, lows, frame, progress, out);
-        self.write_frame(frame, progress, out);
-        write_reading_widths(timing, reading, lows, progress, out);
+        add_notes(out, reading);
+        self.add_times(out, reading, edges, lows, frame);
+        self.add_frame(out, frame);
+        add_reading_widths(out, timing, reading, lows);
     }
 
     // A reading is kept.
@@ -260,34 +246,31 @@ impl Auditor {
         self.widths.add(reading.ending, &reading.bits, 0, lows);
     }
 
-    /// Writes what there is to remark of a reading, and keeps it. `edges` are those of the capture from its fall on.
+    /// Adds what there is to remark of a reading, and keeps it. `edges` are those of the capture from its fall on.
     pub fn remark<S: Sink>(
         &mut self,
+        out: &mut Counted<'_, S>,
         reading: &Reading,
         edges: &[Edge],
         timing: bool,
-        progress: &mut TextProgress,
-        out: &mut S,
     )
         ensures kept { tape_at edges.now self.new ≡ tape_after (listed_as reading.now) (tape_at edges.now self.old) }
-        ensures written { WritesOn (S.contents out.old) (S.contents out.new) (S.is_stuck out.old) (S.is_stuck out.new)
-            (remarks_text timing (tape_at edges.now self.old) (listed_as reading.now)) progress.old.so_far progress.new.so_far }
+        ensures written { Adds out.old out.new (remarks_text timing (tape_at edges.now self.old) (listed_as reading.now)) }
     {
         let lows = lows_of(reading, edges);
         let frame = delivered_frame(reading);
-        self.write_remarks(reading, edges, &lows, &frame, timing, progress, out);
+        self.add_remarks(out, reading, edges, &lows, &frame, timing);
         self.note(reading, &lows, &frame);
     }
 
-    /// Writes what there is to say of all readings up to an end.
-    pub fn summarize<S: Sink>(&self, end: u64, progress: &mut TextProgress, out: &mut S)
-        ensures { WritesOn (S.contents out.old) (S.contents out.new) (S.is_stuck out.old) (S.is_stuck out.new)
-            (summary_text end (tape_at [] self.now)) progress.old.so_far progress.new.so_far }
+    /// Adds what there is to say of all readings up to an end.
+    pub fn summarize<S: Sink>(&self, out: &mut Counted<'_, S>, end: u64)
+        ensures { Adds out.old out.new (summary_text end (tape_at [] self.now)) }
     {
-        progress.line(out, &[Piece::Text("  all readings\n")]);
-        write_late(end, &self.waiting, progress, out);
-        write_claims(&self.sources, self.sources.active(), progress, out);
-        write_counts(0, &self.counts, progress, out);
-        write_widths(self.widths, progress, out);
+        out.add_line(&[Piece::Text("  all readings\n")]);
+        add_late(out, end, &self.waiting);
+        add_claims(out, &self.sources, self.sources.active());
+        add_counts(out, 0, &self.counts);
+        add_widths(out, self.widths);
     }
 }

@@ -5,7 +5,6 @@ mod audit;
 mod auditor;
 mod laws;
 mod lines;
-mod progress;
 mod whole;
 
 pub use audit::{AuditOptions, audit_capture, audit_capture_by};
@@ -14,4 +13,3 @@ pub use laws::{
     audits_keep_readings, frames_and_readings_are_one_line, remarks_are_left_out,
     texts_without_a_line_feed, words_without_a_line_feed,
 };
-pub use progress::TextProgress;

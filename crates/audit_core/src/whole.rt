@@ -3,14 +3,14 @@ ghost use Rattle.std.specs.Prelude.{◌≡◌, option_map};
 ghost use Rattle.std.specs.Option.{option_to_list};
 ghost use Rattle.line_reading.specs.Reports.{listed_as};
 ghost use Rattle.audit_core.specs.Audit.{after, after_all, come_to, first_tape, line_and_remarks, reported_all, summary_text, tape_of};
-ghost use Rattle.audit_core.specs.Progress.{WritesOn};
+ghost use Rattle.text_core.specs.Adds.{Adds};
 
 use crate::auditor::Auditor;
-use crate::progress::TextProgress;
 use audit_widths::Cursor;
 use line_frames::Reading;
 use line_wave::Edge;
-use text_core::Sink;
+use message_text::add_reading;
+use text_core::{Counted, Sink};
 
 /// An auditor of a capture, and its place there.
 #[derive(Drop)]
@@ -38,47 +38,38 @@ impl<'a> WholeAudit<'a> {
         self.cursor.go_to(reading.begin);
     }
 
-    // Writes a reading's line, and what there is to remark.
-    fn report<S: Sink>(
-        &mut self,
-        reading: &Reading,
-        timing: bool,
-        progress: &mut TextProgress,
-        out: &mut S,
-    )
+    // Adds a reading's line, and what there is to remark.
+    fn report<S: Sink>(&mut self, out: &mut Counted<'_, S>, reading: &Reading, timing: bool)
         ensures kept { tape_of self.new ≡ after (listed_as reading.now) (tape_of self.old) }
-        ensures written { WritesOn (S.contents out.old) (S.contents out.new) (S.is_stuck out.old) (S.is_stuck out.new)
-            (line_and_remarks timing (tape_of self.old) (listed_as reading.now)) progress.old.so_far progress.new.so_far }
+        ensures written { Adds out.old out.new (line_and_remarks timing (tape_of self.old) (listed_as reading.now)) }
     {
         self.come_to(reading);
-        progress.reading(out, reading);
+        add_reading(out, reading);
         self.auditor
-            .remark(reading, self.cursor.edges(), timing, progress, out);
+            .remark(out, reading, self.cursor.edges(), timing);
     }
 
     /// The same of what a monitor reported.
+    #[tactic(auto, using(text_core::proofs::Adding::nothing))]
     pub(crate) fn hear<S: Sink>(
         &mut self,
+        out: &mut Counted<'_, S>,
         reading: &Option<Reading>,
         timing: bool,
-        progress: &mut TextProgress,
-        out: &mut S,
     )
         ensures kept { tape_of self.new ≡ after_all (tape_of self.old) (option_to_list (option_map listed_as reading.now)) }
-        ensures written { WritesOn (S.contents out.old) (S.contents out.new) (S.is_stuck out.old) (S.is_stuck out.new)
-            (reported_all timing (tape_of self.old) (option_to_list (option_map listed_as reading.now))) progress.old.so_far progress.new.so_far }
+        ensures written { Adds out.old out.new (reported_all timing (tape_of self.old) (option_to_list (option_map listed_as reading.now))) }
     {
         let Some(reading) = reading else {
             return;
         };
-        self.report(reading, timing, progress, out);
+        self.report(out, reading, timing);
     }
 
-    /// Writes what there is to say of all readings up to an end.
-    pub(crate) fn summarize<S: Sink>(&self, end: u64, progress: &mut TextProgress, out: &mut S)
-        ensures { WritesOn (S.contents out.old) (S.contents out.new) (S.is_stuck out.old) (S.is_stuck out.new)
-            (summary_text end (tape_of self.now)) progress.old.so_far progress.new.so_far }
+    /// Adds what there is to say of all readings up to an end.
+    pub(crate) fn summarize<S: Sink>(&self, out: &mut Counted<'_, S>, end: u64)
+        ensures { Adds out.old out.new (summary_text end (tape_of self.now)) }
     {
-        self.auditor.summarize(end, progress, out);
+        self.auditor.summarize(out, end);
     }
 }

@@ -1,5 +1,5 @@
 -- What is written of the readings of a capture as they end.
-use Rattle.std.proofs.Common.{◌≡◌, ℕ, Bool, true, false, List, [], ◌∷◌, ◌++◌, Option, Some, None, Result, Ok, Err, take, drop, refl, sym, ap, ap₂, subst, ◌∙◌, append_assoc, append-nil, take-append-drop, option_map}
+use Rattle.std.proofs.Common.{◌≡◌, ℕ, ◌+◌, ◌≤◌, Bool, true, false, List, [], ◌∷◌, ◌++◌, Option, Some, None, Result, Ok, Err, take, drop, refl, sym, ap, ap₂, subst, ◌∙◌, append_assoc, append-nil, take-append-drop, length, length-append, option_map, arith}
 use Rattle.std.specs.Option.{option_to_list}
 use Rattle.std.specs.Io.KnownBytes.{Appends}
 use Rattle.text_core.specs.declared.sink.WriteFault.{WriteFault}
@@ -19,9 +19,10 @@ use Rattle.audit_remarks.specs.Free.{free_before, too_soon}
 use Rattle.audit_remarks.specs.Series.{series_over}
 use Rattle.audit_core.specs.Audit.{Tape, after, after_all, audit_text_of, drive_of, first_tape, frame_text, line_and_remarks, lows_of, notes_text, reading_misfits, remarks_text, reported_all, summary_text, tape_after, tape_at, tape_by, unfinished_of}
 use Rattle.audit_core.specs.Lines.{answers_text, drive_text, failure_text, series_text, soon_text, timing_text, unfinished_text, within_text}
-use Rattle.audit_core.specs.Progress.{WritesOn, result_of}
+use Rattle.text_core.specs.Adds.{Adds, Tally}
+use Rattle.text_core.proofs.Adding.{nothing, then}
 use Rattle.audit_core.specs.declared.auditor.Auditor.{Auditor}
-use Rattle.follow_audit.specs.Listener.{HearsOne, IsAudited, IsFrontOf, PutsAll, PutsCut, PutsFront, PutsLast, Remarks, Says, SaysAllKnown, SaysLast, TakesEdge, WaitsForNothing, line_of, remarked, settled_by, waits}
+use Rattle.follow_audit.specs.Listener.{AreTwo, HearsAll, IsAudited, IsFrontOf, PutsAll, PutsCut, PutsFront, PutsLast, Remarks, Says, SaysAllKnown, SaysLast, SaysSome, TakesEdge, WaitsForNothing, line_of, remarked, settled_by, waiting_count, waits}
 use Rattle.follow_audit.specs.Settled.{IsKnown, is_settled, later}
 use Rattle.follow_audit.specs.declared.listener.Listener.{Listener}
 use Rattle.follow_audit.proofs.Known.{all_known, gone_before, gone_none, gone_twice, settled_known}
@@ -162,6 +163,12 @@ remarks_all old new r waiting none timing window from kept = record {
         come = ap (λ (t : Tape). record t { place = gone_to r.begin t.place }) (sym place)
             ∙ ap (λ (es : List Edge). tape_at es old.auditor) (gone_twice old.from r.begin (old.window.items ++ left) ∙ known.place)
 
+pub remarked_none : (a : Listener) (t : Tally) → a.waiting ≡ None → Adds t t (remarked a)
+remarked_none a t none = subst (λ (o : Option Reading). Adds t t (by o)) (sym none) (nothing t)
+  where
+    by : Option Reading → List ℕ
+    by o = remarked (record a { waiting = o })
+
 -- whether that is known
 pub all_told : (a : Listener) → a.waiting ≡ None → SaysAllKnown a
 all_told a none = ap (λ (o : Option Reading). settled_by a (option_map listed_as o)) none
@@ -181,31 +188,40 @@ known_settled a r is settled left =
 no_more : (edges : List Edge) (a : Listener) (left : List Edge) (ended : List Listed) (text : List ℕ) → IsAudited edges a left ended text → IsAudited edges a left (ended ++ []) text
 no_more edges a left ended text w = subst (λ (xs : List Listed). IsAudited edges a left xs text) (sym (append-nil ended)) w
 
+-- how many wait
+none_waits : (a : Listener) → a.waiting ≡ None → waiting_count a ≡ 0
+none_waits a none = ap (λ (o : Option Reading). length (option_to_list (option_map listed_as o))) none
+
+pub one_waits : (a : Listener) (r : Reading) → a.waiting ≡ Some r → waiting_count a ≡ 1
+one_waits a r is = ap (λ (o : Option Reading). length (option_to_list (option_map listed_as o))) is
+
 -- nothing
-pub says_none : (a : Listener) (mid : Option (List ℕ)) (was : Bool) (before : Result ℕ WriteFault) → Says a [] a mid mid was was before before
-says_none a mid was before = record {
+pub says_none : (a : Listener) (mid : Tally) → Says a [] a mid mid
+says_none a mid = record {
   text = [];
-  put = record { on = λ old first front w. subst (λ (t : List ℕ). WrittenText old mid first was t before) (sym (append-nil front)) w };
+  put = nothing mid;
   timing = refl;
+  few = omega arith;
   audited = λ edges left ended so_far w. no_more edges a left ended (so_far ++ []) (subst (λ (t : List ℕ). IsAudited edges a left ended t) (sym (append-nil so_far)) w);
 }
 
-pub says_remarked : (old new : Listener) (mid out : Option (List ℕ)) (was is : Bool) (before after : Result ℕ WriteFault) → ((left : List Edge) → WaitsForNothing old left) → Remarks old new
-    → WritesOn mid out was is (remarked old) before after → Says old [] new mid out was is before after
-says_remarked old new mid out was is before after known r put = record {
+pub says_remarked : (old new : Listener) (mid out : Tally) → ((left : List Edge) → WaitsForNothing old left) → Remarks old new → Adds mid out (remarked old) → Says old [] new mid out
+says_remarked old new mid out known r put = record {
   text = remarked old;
   put = put;
   timing = r.timing;
+  few = let none = none_waits new r.none in omega (arith, none);
   audited = λ edges left ended so_far w. no_more edges new left ended (so_far ++ remarked old) (r.audited edges left ended so_far (known left) w);
 }
 
 -- the line of a reading that waits then
-pub says_line : (old new : Listener) (r : Reading) (mid out : Option (List ℕ)) (was is : Bool) (before after : Result ℕ WriteFault) → old.waiting ≡ None → new.waiting ≡ Some r → new.timing ≡ old.timing → new.auditor ≡ old.auditor
-    → new.from ≡ old.from → new.window ≡ old.window → WritesOn mid out was is (listed_line (listed_as r)) before after → Says old (listed_as r ∷ []) new mid out was is before after
-says_line old new r mid out was is before after none waiting timing auditor from window put = record {
+pub says_line : (old new : Listener) (r : Reading) (mid out : Tally) → old.waiting ≡ None → new.waiting ≡ Some r → new.timing ≡ old.timing → new.auditor ≡ old.auditor
+    → new.from ≡ old.from → new.window ≡ old.window → Adds mid out (listed_line (listed_as r)) → Says old (listed_as r ∷ []) new mid out
+says_line old new r mid out none waiting timing auditor from window put = record {
   text = listed_line (listed_as r);
   put = put;
   timing = timing;
+  few = let one = one_waits new r waiting in omega (arith, one);
   audited = λ edges left ended so_far w.
       let said = w.said ∙ ap (λ (o : Option Reading). reported_all old.timing (first_tape edges) w.done ++ line_of (option_map listed_as o)) none ∙ append-nil (reported_all old.timing (first_tape edges) w.done) in
       record {
@@ -218,41 +234,63 @@ says_line old new r mid out was is before after none waiting timing auditor from
       };
 }
 
-writes_two : {a b c : Option (List ℕ)} {s t u : Bool} {x y : List ℕ} {p q r : Result ℕ WriteFault} → WritesOn a b s t x p q → WritesOn b c t u y q r → WritesOn a c s u (x ++ y) p r
-writes_two {a} {b} {c} {s} {t} {u} {x} {y} {p} {q} {r} one two = record {
-  on = λ old first front w. subst (λ (z : List ℕ). WrittenText old c first u z r) (append_assoc front x y) (two.on old first (front ++ x) (one.on old first front w));
-}
-
 -- one after another
-pub says_two : {old mid new : Listener} {xs ys : List Listed} {a b c : Option (List ℕ)} {s t u : Bool} {p q r : Result ℕ WriteFault} → Says old xs mid a b s t p q → Says mid ys new b c t u q r → Says old (xs ++ ys) new a c s u p r
-says_two {old} {mid} {new} {xs} {ys} one two = record {
+pub says_two : {old mid new : Listener} {xs ys : List Listed} {a b c : Tally} → Says old xs mid a b → Says mid ys new b c → Says old (xs ++ ys) new a c
+says_two {old} {mid} {new} {xs} {ys} {a} {b} {c} one two = record {
   text = one.text ++ two.text;
-  put = writes_two one.put two.put;
+  put = then a b c one.text two.text one.put two.put;
   timing = two.timing ∙ one.timing;
+  few = let first = one.few in let second = two.few in omega (arith, first, second, length-append xs ys);
   audited = λ edges left ended so_far w.
       subst (λ (zs : List Listed). IsAudited edges new left zs (so_far ++ (one.text ++ two.text))) (append_assoc ended xs ys)
       (subst (λ (z : List ℕ). IsAudited edges new left ((ended ++ xs) ++ ys) z) (append_assoc so_far one.text two.text)
       (two.audited edges left (ended ++ xs) (so_far ++ one.text) (one.audited edges left ended so_far w)));
 }
 
-pub says_more : {old mid new : Listener} {xs : List Listed} {a b c : Option (List ℕ)} {s t u : Bool} {p q r : Result ℕ WriteFault} → Says old xs mid a b s t p q → Says mid [] new b c t u q r → Says old xs new a c s u p r
-says_more {old} {mid} {new} {xs} {a} {b} {c} {s} {t} {u} {p} {q} {r} one two = subst (λ (zs : List Listed). Says old zs new a c s u p r) (append-nil xs) (says_two one two)
+pub says_more : {old mid new : Listener} {xs : List Listed} {a b c : Tally} → Says old xs mid a b → Says mid [] new b c → Says old xs new a c
+says_more {old} {mid} {new} {xs} {a} {b} {c} one two = subst (λ (zs : List Listed). Says old zs new a c) (append-nil xs) (says_two one two)
 
--- a reading was heard, or not
-pub heard_one : (old new : Listener) (reported : Option Listed) (room : Bool) (a b : Option (List ℕ)) (s t : Bool) (p q : Result ℕ WriteFault) → room ≡ true → HearsOne old reported room new a b s t p q
-    → Says old (option_to_list reported) new a b s t p q
-heard_one old new reported true a b s t p q is h = h
-heard_one old new reported false a b s t p q is h = cc
+-- a reading before which something waits is not heard
+pub hears_none : (a : Listener) (x : Listed) (mid : Tally) → waiting_count a ≡ 1 → SaysSome a (x ∷ []) a mid mid
+hears_none a x mid one = record { two = omega (arith, one); heard = []; rest = x ∷ []; parts = refl; says = says_none a mid }
 
-pub heard_none : (old new : Listener) (reported : Option Listed) (room : Bool) (a b : Option (List ℕ)) (s t : Bool) (p q : Result ℕ WriteFault) → room ≡ false → HearsOne old reported room new a b s t p q → Says old [] new a b s t p q
-heard_none old new reported true a b s t p q is h = cc
-heard_none old new reported false a b s t p q is h = h
+-- readings were heard, or some of them
+pub heard_all : (old new : Listener) (more : List Listed) (room : Bool) (a b : Tally) → room ≡ true → HearsAll old more room new a b → Says old more new a b
+heard_all old new more true a b is h = h
+heard_all old new more false a b is h = cc
+
+pub heard_some : (old new : Listener) (more : List Listed) (room : Bool) (a b : Tally) → room ≡ false → HearsAll old more room new a b → SaysSome old more new a b
+heard_some old new more true a b is h = cc
+heard_some old new more false a b is h = h
+
+-- readings before which others were heard, or after which others are not heard
+pub some_then : (old mid new : Listener) (xs ys : List Listed) (a b c : Tally) → Says old xs mid a b → SaysSome mid ys new b c → SaysSome old (xs ++ ys) new a c
+some_then old mid new xs ys a b c one some = record {
+  two = let few = one.few in let two = some.two in omega (arith, few, two, length-append xs ys);
+  heard = xs ++ some.heard;
+  rest = some.rest;
+  parts = ap (λ (zs : List Listed). xs ++ zs) some.parts ∙ sym (append_assoc xs some.heard some.rest);
+  says = says_two one some.says;
+}
+
+pub some_first : (old new : Listener) (xs ys : List Listed) (a b : Tally) → SaysSome old xs new a b → SaysSome old (xs ++ ys) new a b
+some_first old new xs ys a b some = record {
+  two = let two = some.two in omega (arith, two, length-append xs ys);
+  heard = some.heard;
+  rest = some.rest ++ ys;
+  parts = ap (λ (zs : List Listed). zs ++ ys) some.parts ∙ append_assoc some.heard some.rest ys;
+  says = some.says;
+}
+
+pub hears_then : (old mid new : Listener) (xs ys : List Listed) (room : Bool) (a b c : Tally) → Says old xs mid a b → HearsAll mid ys room new b c → HearsAll old (xs ++ ys) room new a c
+hears_then old mid new xs ys true a b c one two = says_two one two
+hears_then old mid new xs ys false a b c one two = some_then old mid new xs ys a b c one two
 
 -- ---- where no edge is left
 
-pub last_none : (a : Listener) (mid : Option (List ℕ)) (was : Bool) (before : Result ℕ WriteFault) → a.waiting ≡ None → SaysLast a [] a mid mid was was before before
-last_none a mid was before waits =
-    let s = says_none a mid was before in
+pub last_none : (a : Listener) (mid : Tally) → a.waiting ≡ None → SaysLast a [] a mid mid
+last_none a mid waits =
+    let s = says_none a mid in
     record { text = s.text; put = s.put; none = waits; timing = refl; audited = λ edges ended so_far w. s.audited edges [] ended so_far w }
 
 known_last : (a : Listener) (o : Option Reading) → a.waiting ≡ o → WaitsForNothing a []
@@ -262,8 +300,8 @@ known_last a o is = subst (λ (o : Option Reading). WaitsForNothing (record a { 
     by None = tt
     by (Some r) = all_known a.from a.window.items (listed_as r)
 
-pub last_remarked : (old new : Listener) (mid out : Option (List ℕ)) (was is : Bool) (before after : Result ℕ WriteFault) → Remarks old new → WritesOn mid out was is (remarked old) before after → SaysLast old [] new mid out was is before after
-last_remarked old new mid out was is before after r put = record {
+pub last_remarked : (old new : Listener) (mid out : Tally) → Remarks old new → Adds mid out (remarked old) → SaysLast old [] new mid out
+last_remarked old new mid out r put = record {
   text = remarked old;
   put = put;
   none = r.none;
@@ -271,10 +309,10 @@ last_remarked old new mid out was is before after r put = record {
   audited = λ edges ended so_far w. no_more edges new [] ended (so_far ++ remarked old) (r.audited edges [] ended so_far (known_last old old.waiting refl) w);
 }
 
-pub last_line : {old mid new : Listener} {xs : List Listed} {a b c : Option (List ℕ)} {s t u : Bool} {p q r : Result ℕ WriteFault} → Says old xs mid a b s t p q → SaysLast mid [] new b c t u q r → SaysLast old xs new a c s u p r
-last_line {old} {mid} {new} {xs} one two = record {
+pub last_line : {old mid new : Listener} {xs : List Listed} {a b c : Tally} → Says old xs mid a b → SaysLast mid [] new b c → SaysLast old xs new a c
+last_line {old} {mid} {new} {xs} {a} {b} {c} one two = record {
   text = one.text ++ two.text;
-  put = writes_two one.put two.put;
+  put = then a b c one.text two.text one.put two.put;
   none = two.none;
   timing = two.timing ∙ one.timing;
   audited = λ edges ended so_far w.
@@ -283,10 +321,10 @@ last_line {old} {mid} {new} {xs} one two = record {
       (two.audited edges (ended ++ xs) (so_far ++ one.text) (one.audited edges [] ended so_far w)));
 }
 
-pub last_two : {old mid new : Listener} {xs ys : List Listed} {a b c : Option (List ℕ)} {s t u : Bool} {p q r : Result ℕ WriteFault} → SaysLast old xs mid a b s t p q → SaysLast mid ys new b c t u q r → SaysLast old (xs ++ ys) new a c s u p r
-last_two {old} {mid} {new} {xs} {ys} one two = record {
+pub last_two : {old mid new : Listener} {xs ys : List Listed} {a b c : Tally} → SaysLast old xs mid a b → SaysLast mid ys new b c → SaysLast old (xs ++ ys) new a c
+last_two {old} {mid} {new} {xs} {ys} {a} {b} {c} one two = record {
   text = one.text ++ two.text;
-  put = writes_two one.put two.put;
+  put = then a b c one.text two.text one.put two.put;
   none = two.none;
   timing = two.timing ∙ one.timing;
   audited = λ edges ended so_far w.
@@ -332,41 +370,36 @@ audited_front edges a left ended text w end more = by (waits a) w.parts w.said
               ∙ sym (append_assoc (reported_all a.timing (first_tape edges) w.done) (listed_line x) ((remarks ++ rest) ++ summary)) ∙ ap (λ (l : List ℕ). l ++ ((remarks ++ rest) ++ summary)) (sym said),
         )
 
+-- two of the readings that have ended are two of all
+pub two_ended : (edges : List Edge) (a : Listener) (left : List Edge) (ended more rest : List Listed) (text : List ℕ) → IsAudited edges a left ended text → AreTwo a more → 2 ≤ length ((ended ++ more) ++ rest)
+two_ended edges a left ended more rest text w two =
+    let parts : length ended ≡ length w.done + waiting_count a = ap length w.parts ∙ length-append w.done (option_to_list (waits a)) in
+    omega (arith, two, parts, length-append ended more, length-append (ended ++ more) rest)
+
 -- ---- what is put
 
 -- a text, or the front of it
 abbrev pub IsPart : Option (List ℕ) → Option (List ℕ) → List ℕ → Type 0
 IsPart old new text = (front : List ℕ) × (rest : List ℕ) × (text ≡ front ++ rest) × Appends old new front
 
-first_written : (old : Option (List ℕ)) (was : Bool) (so_far : Result ℕ WriteFault) → so_far ≡ Ok 0 → WrittenText old old was was [] so_far
-first_written old was so_far none = subst (λ (r : Result ℕ WriteFault). WrittenText old old was was [] r) (sym none) (by old)
-  where
-    by : (old : Option (List ℕ)) → WrittenText old old was was [] (Ok 0)
-    by None = (refl, tt, refl)
-    by (Some xs) = (refl, sym (append-nil xs), refl)
-
-put_part : (old new : Option (List ℕ)) (was is : Bool) (text : List ℕ) (after : Result ℕ WriteFault) → WrittenText old new was is text after → IsPart old new text
+put_part : (old new : Option (List ℕ)) (was is : Bool) (text : List ℕ) (written : Result ℕ WriteFault) → WrittenText old new was is text written → IsPart old new text
 put_part old new was is text (Ok n) w = (text, [], sym (append-nil text), w.1)
 put_part old new was is text (Err fault) w = let c = w.0 in (take c.0 text, drop c.0 text, sym (take-append-drop c.0 text), c.3)
 
-part_of : (old new : Option (List ℕ)) (was is : Bool) (text : List ℕ) (before after : Result ℕ WriteFault) → before ≡ Ok 0 → WritesOn old new was is text before after → IsPart old new text
-part_of old new was is text before after none put = put_part old new was is text after (put.on old was [] (first_written old was before none))
+put_all : (old new : Option (List ℕ)) (was is : Bool) (text : List ℕ) (written : Result ℕ WriteFault) (n : ℕ) → written ≡ Ok n → WrittenText old new was is text written → Appends old new text
+put_all old new was is text (Ok m) n ok w = w.1
+put_all old new was is text (Err fault) n ok w = cc
 
-put_all : (old new : Option (List ℕ)) (was is : Bool) (text : List ℕ) (after : Result ℕ WriteFault) (done : Unit {0}) → WrittenText old new was is text after → result_of after ≡ Ok done → Appends old new text
-put_all old new was is text (Ok n) done w ok = w.1
-put_all old new was is text (Err fault) done w ok = cc
-
-all_of : (old new : Option (List ℕ)) (was is : Bool) (text : List ℕ) (before after : Result ℕ WriteFault) (done : Unit {0}) → before ≡ Ok 0 → WritesOn old new was is text before after → result_of after ≡ Ok done → Appends old new text
-all_of old new was is text before after done none put ok = put_all old new was is text after done (put.on old was [] (first_written old was before none)) ok
-
-pub puts_all : {old new : Listener} {xs : List Listed} {a b : Option (List ℕ)} {s t : Bool} {p q : Result ℕ WriteFault} (done : Unit {0}) → p ≡ Ok 0 → Says old xs new a b s t p q → result_of q ≡ Ok done → PutsAll old xs new a b
-puts_all {old} {new} {xs} {a} {b} {s} {t} {p} {q} done none says ok =
-    record { text = says.text; put = all_of a b s t says.text p q done none says.put ok; timing = says.timing; audited = says.audited }
+pub puts_all : {old new : Listener} {xs : List Listed} {a b : Tally} (before after : Option (List ℕ)) (was is : Bool) (written : Result ℕ WriteFault) (n : ℕ) → written ≡ Ok n → (says : Says old xs new a b)
+    → WrittenText before after was is says.text written → PutsAll old xs new before after
+puts_all {old} {new} {xs} {a} {b} before after was is written n ok says w =
+    record { text = says.text; put = put_all before after was is says.text written n ok w; timing = says.timing; audited = says.audited }
 
 -- of these readings some were heard, and perhaps not all of that was put
-pub puts_front : {old new : Listener} {xs : List Listed} {a b : Option (List ℕ)} {s t : Bool} {p q : Result ℕ WriteFault} (ys : List Listed) → p ≡ Ok 0 → Says old xs new a b s t p q → PutsFront old (xs ++ ys) a b
-puts_front {old} {new} {xs} {a} {b} {s} {t} {p} {q} ys none says =
-    let part = part_of a b s t says.text p q none says.put in
+pub puts_front : {old new : Listener} {xs : List Listed} {a b : Tally} (before after : Option (List ℕ)) (was is : Bool) (written : Result ℕ WriteFault) (ys : List Listed) → (says : Says old xs new a b)
+    → WrittenText before after was is says.text written → PutsFront old (xs ++ ys) before after
+puts_front {old} {new} {xs} {a} {b} before after was is written ys says w =
+    let part = put_part before after was is says.text written w in
     record {
       text = part.0;
       put = part.3;
@@ -380,8 +413,14 @@ puts_front {old} {new} {xs} {a} {b} {s} {t} {p} {q} ys none says =
           );
     }
 
-pub puts_cut : {old new : Listener} {xs : List Listed} {a b : Option (List ℕ)} {s t : Bool} {p q : Result ℕ WriteFault} → p ≡ Ok 0 → Says old xs new a b s t p q → PutsFront old xs a b
-puts_cut {old} {new} {xs} {a} {b} none says = subst (λ (zs : List Listed). PutsFront old zs a b) (append-nil xs) (puts_front [] none says)
+pub puts_some : {old new : Listener} {more : List Listed} {a b : Tally} (before after : Option (List ℕ)) (was is : Bool) (written : Result ℕ WriteFault) → (some : SaysSome old more new a b)
+    → WrittenText before after was is some.says.text written → PutsFront old more before after
+puts_some {old} {new} {more} {a} {b} before after was is written some w =
+    subst (λ (zs : List Listed). PutsFront old zs before after) (sym some.parts) (puts_front before after was is written some.rest some.says w)
+
+pub puts_cut : {old new : Listener} {xs : List Listed} {a b : Tally} (before after : Option (List ℕ)) (was is : Bool) (written : Result ℕ WriteFault) → (says : Says old xs new a b)
+    → WrittenText before after was is says.text written → PutsFront old xs before after
+puts_cut {old} {new} {xs} {a} {b} before after was is written says w = subst (λ (zs : List Listed). PutsFront old zs before after) (append-nil xs) (puts_front before after was is written [] says w)
 
 -- ---- the end
 
@@ -405,18 +444,22 @@ whole_text old mid xs end text none timing says edges ended so_far w =
     said : so_far ++ text ≡ reported_all mid.timing (first_tape edges) n.done
     said = n.said ∙ ap (λ (o : Option Reading). reported_all mid.timing (first_tape edges) n.done ++ line_of (option_map listed_as o)) none ∙ append-nil (reported_all mid.timing (first_tape edges) n.done)
 
-pub finishes_all : {old mid : Listener} {xs : List Listed} {a b c : Option (List ℕ)} {s t u : Bool} {p q r : Result ℕ WriteFault} (end : ℕ) (done : Unit {0}) → p ≡ Ok 0 → SaysLast old xs mid a b s t p q
-    → WritesOn b c t u (summary_text end (tape_at [] mid.auditor)) q r → result_of r ≡ Ok done → PutsLast old xs end a c
-finishes_all {old} {mid} {xs} {a} {b} {c} {s} {t} {u} {p} {q} {r} end done none says last ok = record {
+-- what is added up to the end
+pub finishes : {old mid : Listener} {xs : List Listed} {a b : Tally} (c : Tally) (end : ℕ) → (says : SaysLast old xs mid a b) → Adds b c (summary_text end (tape_at [] mid.auditor)) → Adds a c (says.text ++ summary_text end (tape_at [] mid.auditor))
+finishes {old} {mid} {xs} {a} {b} c end says last = then a b c says.text (summary_text end (tape_at [] mid.auditor)) says.put last
+
+pub finishes_all : {old mid : Listener} {xs : List Listed} {a b : Tally} (before after : Option (List ℕ)) (was is : Bool) (written : Result ℕ WriteFault) (n end : ℕ) → written ≡ Ok n → (says : SaysLast old xs mid a b)
+    → WrittenText before after was is (says.text ++ summary_text end (tape_at [] mid.auditor)) written → PutsLast old xs end before after
+finishes_all {old} {mid} {xs} {a} {b} before after was is written n end ok says w = record {
   text = says.text ++ summary_text end (tape_at [] mid.auditor);
-  put = all_of a c s u (says.text ++ summary_text end (tape_at [] mid.auditor)) p r done none (writes_two says.put last) ok;
+  put = put_all before after was is (says.text ++ summary_text end (tape_at [] mid.auditor)) written n ok w;
   whole = whole_text old mid xs end says.text says.none says.timing says.audited;
 }
 
-pub finishes_front : {old mid : Listener} {xs : List Listed} {a b c : Option (List ℕ)} {s t u : Bool} {p q r : Result ℕ WriteFault} (end : ℕ) → p ≡ Ok 0 → SaysLast old xs mid a b s t p q
-    → WritesOn b c t u (summary_text end (tape_at [] mid.auditor)) q r → PutsCut old xs end a c
-finishes_front {old} {mid} {xs} {a} {b} {c} {s} {t} {u} {p} {q} {r} end none says last =
-    let part = part_of a c s u (says.text ++ summary_text end (tape_at [] mid.auditor)) p r none (writes_two says.put last) in
+pub finishes_front : {old mid : Listener} {xs : List Listed} {a b : Tally} (before after : Option (List ℕ)) (was is : Bool) (written : Result ℕ WriteFault) (end : ℕ) → (says : SaysLast old xs mid a b)
+    → WrittenText before after was is (says.text ++ summary_text end (tape_at [] mid.auditor)) written → PutsCut old xs end before after
+finishes_front {old} {mid} {xs} {a} {b} before after was is written end says w =
+    let part = put_part before after was is (says.text ++ summary_text end (tape_at [] mid.auditor)) written w in
     record {
       text = part.0;
       rest = part.1;

@@ -1,5 +1,5 @@
 -- What is written of a capture as its lines come.
-use Rattle.std.proofs.Common.{◌≡◌, ℕ, ◌+◌, ◌≤◌, Bool, true, false, List, [], ◌∷◌, ◌++◌, Option, Ok, Err, IfErr, OnOk, Result, refl, sym, ap, subst, ◌∙◌, append_assoc, append-nil, arith}
+use Rattle.std.proofs.Common.{◌≡◌, ℕ, ◌+◌, ◌≤◌, Bool, true, false, List, [], ◌∷◌, ◌++◌, length, Option, Ok, Err, IfErr, OnOk, Result, refl, sym, ap, subst, ◌∙◌, append_assoc, append-nil, arith}
 use Rattle.std.specs.Option.{option_to_list}
 use Rattle.std.proofs.KnownBytes.{Appends-nil}
 use Rattle.line_wave.specs.declared.Edge.{Edge}
@@ -22,15 +22,15 @@ use Rattle.follow_core.specs.declared.lines.Last.{Last}
 use Rattle.follow_core.specs.declared.lines.LineForm.{LineForm}
 pub use Rattle.live_incoming.proofs.Coming.{lines_again}
 pub use Rattle.follow_core.proofs.Telling.{both, captured_turn, end_same, goes_on as none_before, split_read, with_none}
-use Rattle.follow_audit.specs.Follow.{Ends, Goes, GoesCut, GoesEnd, GoesLast, GoesOn, GoesTo, HasCut, HasHeard, HasStopped, HasWritten, Hears, IsAt, IsFollowed, IsFront, IsFrontOfAll, IsOfGoing, IsPrompt, LeavesAlone, text_of}
-use Rattle.follow_audit.specs.Listener.{Finishes, IsAudited, IsOfListening, Puts, PutsAll, PutsFront, SaysAllKnown, TakesEdge}
+use Rattle.follow_audit.specs.Follow.{Ends, EndsTwo, Goes, GoesCut, GoesEnd, GoesLast, GoesOn, GoesTo, HasCut, HasHeard, HasStopped, HasTwo, HasWritten, Hears, HearsTwo, IsAt, IsFollowed, IsFront, IsFrontOfAll, IsOfEnding, IsOfGoing, IsPrompt, LeavesAlone, text_of}
+use Rattle.follow_audit.specs.Listener.{AreTwo, Finishes, IsAudited, IsOfListening, IsOfWriting, Puts, PutsAll, PutsFront, SaysAllKnown, TakesEdge}
 use Rattle.follow_audit.specs.Teller.{IsTold, TellsCalm, TellsEdge, TellsEnd}
 use Rattle.follow_audit.specs.declared.error.FollowAuditError.{FollowAuditError}
 use Rattle.follow_audit.specs.declared.error.FollowAuditError.TheVariants.{Capture, Memory, Read, TooLong, Waiting, Write}
 use Rattle.follow_audit.specs.declared.follower.AuditFollower.{AuditFollower}
 use Rattle.follow_audit.specs.declared.listener.Listener.{Listener}
 use Rattle.follow_audit.specs.declared.teller.Teller.{Teller}
-use Rattle.follow_audit.proofs.Audited.{audited_front}
+use Rattle.follow_audit.proofs.Audited.{audited_front, two_ended}
 use Rattle.follow_audit.proofs.Told.{told_first, told_front}
 
 -- ---- the begin
@@ -52,13 +52,21 @@ followed_first file pin csv form signal win timing f first heard known audited t
 nothing_more : (text : List ℕ) (rest whole : List ℕ) → whole ≡ text ++ rest → whole ≡ (text ++ []) ++ rest
 nothing_more text rest whole h = h ∙ ap (λ t. t ++ rest) (sym (append-nil text))
 
-going_errs : (error : FollowAuditError) → IsOfListening error → IsOfGoing error
-going_errs (Write count) h = tt
-going_errs Waiting h = tt
-going_errs TooLong h = h
-going_errs (Capture fault) h = h
-going_errs Read h = h
-going_errs Memory h = tt
+going_errs : (old : AuditFollower) (edge : Option Edge) (listener : Listener) (more : List Listed) (error : FollowAuditError) → (AreTwo listener more → EndsTwo old edge) → IsOfListening listener more error → IsOfGoing old edge error
+going_errs old edge listener more (Write count) two h = tt
+going_errs old edge listener more Waiting two h = two h
+going_errs old edge listener more TooLong two h = h
+going_errs old edge listener more (Capture fault) two h = h
+going_errs old edge listener more Read two h = h
+going_errs old edge listener more Memory two h = tt
+
+ending_errs : (error : FollowAuditError) → IsOfWriting error → IsOfEnding error
+ending_errs (Write count) h = tt
+ending_errs Waiting h = h
+ending_errs TooLong h = h
+ending_errs (Capture fault) h = h
+ending_errs Read h = h
+ending_errs Memory h = tt
 
 -- the front where nothing more is put
 at_front : (win : Windows) (f : AuditFollower) (all left : List Edge) (end : ℕ) (text : List ℕ) → IsAt win f all left end text → IsFrontOfAll win f.listener.timing all end text
@@ -111,11 +119,20 @@ goes_to old new listener mid edge one two before after take first second puts = 
       (f.0, ap (audit_text_of old.listener.timing whole) more.1 ∙ ap (λ (b : Bool). audit_text_of b whole ((w.ended ++ (option_to_list one ++ option_to_list two)) ++ more.0)) (sym take.0) ∙ f.1);
 }
 
+-- two readings that were told are two of the capture
+goes_two : (old new : AuditFollower) (listener : Listener) (mid : Teller) (edge : Option Edge) (one two : Option Listed) → TakesEdge old.listener edge listener → TellsEdge old.teller edge one mid
+    → TellsCalm mid (from_of old.lines) two new.teller → AreTwo listener (option_to_list one ++ option_to_list two) → EndsTwo old edge
+goes_two old new listener mid edge one two take first second are win all left end so_far none reach w =
+    let more : List Listed = option_to_list one ++ option_to_list two in
+    let told = told_both old mid new.teller edge one two first second win (line_of_edges all) left end w.ended none reach w.told in
+    let rest = told_front win new.teller (line_of_edges all) left end (w.ended ++ more) told in
+    subst (λ (xs : List Listed). 2 ≤ length xs) (sym rest.1) (two_ended all listener left w.ended more rest.0 so_far (take.2 all left w.ended so_far w.audited) are)
+
 pub goes : (old new : AuditFollower) (listener : Listener) (mid : Teller) (edge : Option Edge) (one two : Option Listed) (before after : Option (List ℕ)) (result : Result (Unit {0}) FollowAuditError) → TakesEdge old.listener edge listener
     → TellsEdge old.teller edge one mid → TellsCalm mid (from_of old.lines) two new.teller → new.lines ≡ old.lines → Puts listener (option_to_list one ++ option_to_list two) new.listener before after result
     → Goes old edge new before after result
 goes old new listener mid edge one two before after (Ok done) take first second lines puts = goes_on old new listener mid edge one two before after take first second lines puts
-goes old new listener mid edge one two before after (Err error) take first second lines puts = (goes_to old new listener mid edge one two before after take first second puts.0, going_errs error puts.1)
+goes old new listener mid edge one two before after (Err error) take first second lines puts = (goes_to old new listener mid edge one two before after take first second puts.0, going_errs old edge listener (option_to_list one ++ option_to_list two) error (goes_two old new listener mid edge one two take first second) puts.1)
 
 -- ---- to the end
 
@@ -161,7 +178,7 @@ goes_end old listener mid edge end one two before after (Err error) take first l
               ∙ sym (append_assoc so_far puts.0.text puts.0.rest),
         );
   },
-  going_errs error puts.1,
+  ending_errs error puts.1,
 )
 
 -- ---- a line
@@ -231,12 +248,21 @@ line_stopped signal number line old taken edge before after teller listener take
       (f.0, ap (text_of timing win) d.2 ∙ ap (λ (b : Bool). text_of b win (record { edges = all; end = d.0.end })) (sym w.timed ∙ sym (ap (λ (x : Listener). x.timing) listener)) ∙ f.1);
 }
 
+line_two : (signal : List ℕ) (number : ℕ) (line : List ℕ) (old taken : AuditFollower) (edge : Option Edge) → taken.teller ≡ old.teller → taken.listener ≡ old.listener
+    → TakesLine signal old.lines number line (Ok edge) taken.lines → LinesGoOn signal taken (number + 1) → EndsTwo taken edge → HearsTwo signal number line old
+line_two signal number line old taken edge teller listener takes on two form win timing past so_far w rest c h =
+    let d = split_read (w.edges ++ option_to_list edge) (lines_left signal taken.lines (number + 1) rest) c (sym (read_line form signal win timing past number line old taken edge so_far w takes rest) ∙ h) in
+    let go = on rest d.0 d.1 in
+    let all = (w.edges ++ option_to_list edge) ++ d.0.edges in
+    subst (λ (x : Captured). HasTwo win x) (sym d.2) (two win all d.0.edges d.0.end so_far go.0 go.1 (at_line form signal win timing past number line old taken edge so_far w teller listener takes rest d.0 d.1))
+
 pub line_heard_so : (signal : List ℕ) (number : ℕ) (line : List ℕ) (old taken new : AuditFollower) (edge : Option Edge) (before after : Option (List ℕ)) (result : Result (Unit {0}) FollowAuditError) → taken.teller ≡ old.teller
     → taken.listener ≡ old.listener → TakesLine signal old.lines number line (Ok edge) taken.lines → LinesGoOn signal taken (number + 1) → Goes taken edge new before after result → OnOk result (IsPrompt new)
     → Hears signal number line old new before after result
 line_heard_so signal number line old taken new edge before after (Ok done) teller listener takes on g prompt = line_heard signal number line old taken new edge before after teller listener takes on g prompt
 line_heard_so signal number line old taken new edge before after (Err (Write count)) teller listener takes on g prompt = line_stopped signal number line old taken edge before after teller listener takes on g.0
-line_heard_so signal number line old taken new edge before after (Err Waiting) teller listener takes on g prompt = line_stopped signal number line old taken edge before after teller listener takes on g.0
+line_heard_so signal number line old taken new edge before after (Err Waiting) teller listener takes on g prompt =
+    (line_stopped signal number line old taken edge before after teller listener takes on g.0, line_two signal number line old taken edge teller listener takes on g.1)
 line_heard_so signal number line old taken new edge before after (Err Memory) teller listener takes on g prompt = line_stopped signal number line old taken edge before after teller listener takes on g.0
 line_heard_so signal number line old taken new edge before after (Err (Capture fault)) teller listener takes on g prompt = absurd g.1
 line_heard_so signal number line old taken new edge before after (Err Read) teller listener takes on g prompt = absurd g.1
@@ -326,7 +352,7 @@ pub end_heard : (number : ℕ) (f : AuditFollower) (last : Last) (before after :
     → Ends number f before after result
 end_heard number f last before after (Ok done) ends g = end_written number f last before after ends g
 end_heard number f last before after (Err (Write count)) ends g = end_cut number f last before after ends g.0
-end_heard number f last before after (Err Waiting) ends g = end_cut number f last before after ends g.0
+end_heard number f last before after (Err Waiting) ends g = absurd g.1
 end_heard number f last before after (Err Memory) ends g = end_cut number f last before after ends g.0
 end_heard number f last before after (Err (Capture fault)) ends g = absurd g.1
 end_heard number f last before after (Err Read) ends g = absurd g.1

@@ -71,7 +71,7 @@ line_kept : (signal : List ℕ) (number : ℕ) (line : List ℕ) (old new : Audi
     → Hears signal number line old new before after (Err error)
 line_kept signal number line old new before mid after (Capture fault) h k = record { put = Appends-kept before mid after [] h.put k; place = h.place; refused = h.refused }
 line_kept signal number line old new before mid after (Write count) h k = stop_kept signal number line old before mid after h k
-line_kept signal number line old new before mid after Waiting h k = stop_kept signal number line old before mid after h k
+line_kept signal number line old new before mid after Waiting h k = (stop_kept signal number line old before mid after h.0 k, h.1)
 line_kept signal number line old new before mid after Memory h k = stop_kept signal number line old before mid after h k
 line_kept signal number line old new before mid after Read h k = h
 line_kept signal number line old new before mid after TooLong h k = h
@@ -100,7 +100,7 @@ cut_kept number f before mid after h k = record { text = h.text; put = Appends-k
 end_kept : (number : ℕ) (f : AuditFollower) (before mid after : Option (List ℕ)) (error : FollowAuditError) → Ends number f before mid (Err error) → Keeps mid after → Ends number f before after (Err error)
 end_kept number f before mid after (Capture fault) h k = record { put = Appends-kept before mid after [] h.put k; place = h.place; refused = h.refused }
 end_kept number f before mid after (Write count) h k = cut_kept number f before mid after h k
-end_kept number f before mid after Waiting h k = cut_kept number f before mid after h k
+end_kept number f before mid after Waiting h k = h
 end_kept number f before mid after Memory h k = cut_kept number f before mid after h k
 end_kept number f before mid after Read h k = h
 end_kept number f before mid after TooLong h k = h
@@ -274,7 +274,7 @@ refused_end form signal (Some xs) (Some ys) past fault a end refused =
     by_lines form signal xs ∙ ap (lines_captured form signal) (a ∙ ap (λ t. past ++ lines_of t) end ∙ append-nil past) ∙ refused
 
 -- a line that stops it
-line_begun : (form : LineForm) (signal : List ℕ) (win : Windows) (timing : Bool) (known now next before mid after : Option (List ℕ)) (old : AuditFollower) (number : ℕ) (line : List ℕ) → Going form signal win timing known now before mid old number
+abbrev line_begun : (form : LineForm) (signal : List ℕ) (win : Windows) (timing : Bool) (known now next before mid after : Option (List ℕ)) (old : AuditFollower) (number : ℕ) (line : List ℕ) → Going form signal win timing known now before mid old number
     → Leads now next line → HasStopped signal number line old mid after → HasBegun form signal win timing known before after
 line_begun form signal win timing known now next before mid after old number line g leads h = record {
   past = g.past ++ line ∷ [];
@@ -297,7 +297,8 @@ line_stops form signal win timing known now next before mid after old new number
   written = up_to_date form signal win timing known now before mid after old number g h.put;
 }
 line_stops form signal win timing known now next before mid after old new number line (Write count) g leads h = line_begun form signal win timing known now next before mid after old number line g leads h
-line_stops form signal win timing known now next before mid after old new number line Waiting g leads h = line_begun form signal win timing known now next before mid after old number line g leads h
+line_stops form signal win timing known now next before mid after old new number line Waiting g leads h =
+    record { begun = line_begun form signal win timing known now next before mid after old number line g leads h.0; two = h.1 form win timing g.past g.text g.followed }
 line_stops form signal win timing known now next before mid after old new number line Memory g leads h = line_begun form signal win timing known now next before mid after old number line g leads h
 line_stops form signal win timing known now next before mid after old new number line Read g leads h = absurd h
 line_stops form signal win timing known now next before mid after old new number line TooLong g leads h = absurd h
@@ -379,7 +380,7 @@ end_stops form signal win timing known now before mid after f number (Err (Captu
   written = up_to_date form signal win timing known now before mid after f number g h.put;
 }
 end_stops form signal win timing known now before mid after f number (Err (Write count)) g end h = end_begun form signal win timing known now before mid after f number g end h
-end_stops form signal win timing known now before mid after f number (Err Waiting) g end h = end_begun form signal win timing known now before mid after f number g end h
+end_stops form signal win timing known now before mid after f number (Err Waiting) g end h = absurd h
 end_stops form signal win timing known now before mid after f number (Err Memory) g end h = end_begun form signal win timing known now before mid after f number g end h
 end_stops form signal win timing known now before mid after f number (Err Read) g end h = absurd h
 end_stops form signal win timing known now before mid after f number (Err TooLong) g end h = absurd h

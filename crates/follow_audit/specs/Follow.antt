@@ -30,6 +30,10 @@ use Rattle.follow_audit.specs.declared.follower.AuditFollower.{AuditFollower}
 abbrev pub text_of : Bool → Windows → Captured → List ℕ
 text_of timing windows c = audit_text_of timing c (captured_by windows c)
 
+-- a capture has two readings
+abbrev pub HasTwo : Windows → Captured → Type 0
+HasTwo windows c = 2 ≤ length (captured_by windows c)
+
 -- ---- a follower
 
 -- Of a capture these lines came, before the one of this number, and this text was written: whatever comes later, this is the audit
@@ -74,18 +78,23 @@ pub record GoesTo (old : AuditFollower) (edge : Option Edge) (before after : Opt
   pub front : (windows : Windows) (all left : List Edge) (end : ℕ) (so_far : List ℕ) → NoneBefore (from_of old.lines) left → from_of old.lines ≤ end + 1
       → IsAt windows old all (option_to_list edge ++ left) end so_far → IsFrontOfAll windows old.listener.timing all end (so_far ++ text)
 
+-- two readings have ended by this edge, whatever comes later
+abbrev pub EndsTwo : AuditFollower → Option Edge → Type 0
+EndsTwo old edge = (windows : Windows) (all left : List Edge) (end : ℕ) (so_far : List ℕ) → NoneBefore (from_of old.lines) left → from_of old.lines ≤ end + 1
+    → IsAt windows old all (option_to_list edge ++ left) end so_far → HasTwo windows (record { edges = all; end = end })
+
 -- neither a fault of a line nor of a reader, nor that more came than is followed
-abbrev pub IsOfGoing : FollowAuditError → Type 0
-IsOfGoing (Write count) = Unit {0}
-IsOfGoing Waiting = Unit {0}
-IsOfGoing Memory = Unit {0}
-IsOfGoing (Capture fault) = ⊥
-IsOfGoing Read = ⊥
-IsOfGoing TooLong = ⊥
+abbrev pub IsOfGoing : AuditFollower → Option Edge → FollowAuditError → Type 0
+IsOfGoing old edge (Write count) = Unit {0}
+IsOfGoing old edge Waiting = EndsTwo old edge
+IsOfGoing old edge Memory = Unit {0}
+IsOfGoing old edge (Capture fault) = ⊥
+IsOfGoing old edge Read = ⊥
+IsOfGoing old edge TooLong = ⊥
 
 abbrev pub Goes : AuditFollower → Option Edge → AuditFollower → Option (List ℕ) → Option (List ℕ) → Result (Unit {0}) FollowAuditError → Type 0
 Goes old edge new before after (Ok done) = GoesOn old edge new before after
-Goes old edge new before after (Err error) = GoesTo old edge before after × IsOfGoing error
+Goes old edge new before after (Err error) = GoesTo old edge before after × IsOfGoing old edge error
 
 -- the last edge and the end
 pub record GoesLast (old : AuditFollower) (edge : Option Edge) (end : ℕ) (before after : Option (List ℕ)) : Type 0 where
@@ -99,9 +108,18 @@ pub record GoesCut (old : AuditFollower) (edge : Option Edge) (end : ℕ) (befor
   pub put : Appends before after text
   pub front : (windows : Windows) (all : List Edge) (so_far : List ℕ) → IsAt windows old all (option_to_list edge) end so_far → IsFrontOfAll windows old.listener.timing all end (so_far ++ text)
 
+-- nor that two wait
+abbrev pub IsOfEnding : FollowAuditError → Type 0
+IsOfEnding (Write count) = Unit {0}
+IsOfEnding Memory = Unit {0}
+IsOfEnding Waiting = ⊥
+IsOfEnding (Capture fault) = ⊥
+IsOfEnding Read = ⊥
+IsOfEnding TooLong = ⊥
+
 abbrev pub GoesEnd : AuditFollower → Option Edge → ℕ → Option (List ℕ) → Option (List ℕ) → Result (Unit {0}) FollowAuditError → Type 0
 GoesEnd old edge end before after (Ok done) = GoesLast old edge end before after
-GoesEnd old edge end before after (Err error) = GoesCut old edge end before after × IsOfGoing error
+GoesEnd old edge end before after (Err error) = GoesCut old edge end before after × IsOfEnding error
 
 -- ---- lines
 
@@ -109,6 +127,10 @@ GoesEnd old edge end before after (Err error) = GoesCut old edge end before afte
 abbrev pub IsFront : Bool → LineForm → List ℕ → Windows → Bool → List (List ℕ) → List ℕ → Type 0
 IsFront more form signal windows timing past text = (rest : List (List ℕ)) (c : Captured) → AreLeft more rest → lines_captured form signal (past ++ rest) ≡ Ok c
     → (left : List ℕ) × (text_of timing windows c ≡ text ++ left)
+
+-- Each capture that begins with these lines has two readings.
+abbrev pub BeginsWithTwo : LineForm → List ℕ → Windows → List (List ℕ) → Type 0
+BeginsWithTwo form signal windows past = (rest : List (List ℕ)) (c : Captured) → lines_captured form signal (past ++ rest) ≡ Ok c → HasTwo windows c
 
 -- a line has come, and what there is to say by it is written
 pub record HasHeard (signal : List ℕ) (number : ℕ) (line : List ℕ) (old new : AuditFollower) (before after : Option (List ℕ)) : Type 0 where
@@ -132,11 +154,16 @@ pub record HasStopped (signal : List ℕ) (number : ℕ) (line : List ℕ) (old 
   pub front : (form : LineForm) (windows : Windows) (timing : Bool) (past : List (List ℕ)) (so_far : List ℕ) → IsFollowed form signal windows timing past number old so_far
       → IsFront true form signal windows timing (past ++ line ∷ []) (so_far ++ text)
 
+-- by this line there are two readings
+abbrev pub HearsTwo : List ℕ → ℕ → List ℕ → AuditFollower → Type 0
+HearsTwo signal number line old = (form : LineForm) (windows : Windows) (timing : Bool) (past : List (List ℕ)) (so_far : List ℕ) → IsFollowed form signal windows timing past number old so_far
+    → BeginsWithTwo form signal windows (past ++ line ∷ [])
+
 abbrev pub Hears : List ℕ → ℕ → List ℕ → AuditFollower → AuditFollower → Option (List ℕ) → Option (List ℕ) → Result (Unit {0}) FollowAuditError → Type 0
 Hears signal number line old new before after (Ok done) = HasHeard signal number line old new before after
 Hears signal number line old new before after (Err (Capture fault)) = IsAtFault signal number line old before after fault
 Hears signal number line old new before after (Err (Write count)) = HasStopped signal number line old before after
-Hears signal number line old new before after (Err Waiting) = HasStopped signal number line old before after
+Hears signal number line old new before after (Err Waiting) = HasStopped signal number line old before after × HearsTwo signal number line old
 Hears signal number line old new before after (Err Memory) = HasStopped signal number line old before after
 Hears signal number line old new before after (Err Read) = ⊥
 Hears signal number line old new before after (Err TooLong) = ⊥
@@ -171,7 +198,7 @@ abbrev pub Ends : ℕ → AuditFollower → Option (List ℕ) → Option (List �
 Ends number f before after (Ok done) = HasWritten number f before after
 Ends number f before after (Err (Capture fault)) = LacksEnd number f before after fault
 Ends number f before after (Err (Write count)) = HasCut number f before after
-Ends number f before after (Err Waiting) = HasCut number f before after
+Ends number f before after (Err Waiting) = ⊥
 Ends number f before after (Err Memory) = HasCut number f before after
 Ends number f before after (Err Read) = ⊥
 Ends number f before after (Err TooLong) = ⊥
@@ -226,12 +253,17 @@ pub record HasBegun (form : LineForm) (signal : List ℕ) (windows : Windows) (t
   pub front : IsFront more form signal windows timing past text
   pub put : Appends old new text
 
+-- the same where two readings wait
+pub record StopsAtTwo (form : LineForm) (signal : List ℕ) (windows : Windows) (timing : Bool) (known old new : Option (List ℕ)) : Type 0 where
+  pub begun : HasBegun form signal windows timing known old new
+  pub two : BeginsWithTwo form signal windows begun.past
+
 abbrev pub Follows : LineForm → List ℕ → Windows → Bool → Option (List ℕ) → Option (List ℕ) → Option (List ℕ) → Result (Unit {0}) FollowAuditError → Type 0
 Follows form signal windows timing known old new (Ok done) = HasFollowed form signal windows timing known old new
 Follows form signal windows timing known old new (Err (Capture fault)) = StopsAtFault form signal windows timing known old new fault
 Follows form signal windows timing known old new (Err Read) = StopsAtRead form signal windows timing known old new
 Follows form signal windows timing known old new (Err TooLong) = StopsAtLength form signal windows timing known old new
-Follows form signal windows timing known old new (Err Waiting) = HasBegun form signal windows timing known old new
+Follows form signal windows timing known old new (Err Waiting) = StopsAtTwo form signal windows timing known old new
 Follows form signal windows timing known old new (Err Memory) = HasBegun form signal windows timing known old new
 Follows form signal windows timing known old new (Err (Write count)) = HasBegun form signal windows timing known old new
 

@@ -1,15 +1,14 @@
 -- What is written of the readings of a capture as they end: the front of its audit (own).
-use Rattle.std.specs.Prelude.{◌≡◌, ℕ, Bool, true, false, List, [], ◌++◌, Option, Some, None, Result, Ok, Err, option_map}
+use Rattle.std.specs.Prelude.{◌≡◌, ℕ, ◌+◌, ◌≤◌, Bool, true, false, List, [], ◌++◌, length, Option, Some, None, Result, Ok, Err, option_map}
 use Rattle.std.specs.Option.{option_to_list}
 use Rattle.std.specs.Io.KnownBytes.{Appends}
-use Rattle.text_core.specs.declared.sink.WriteFault.{WriteFault}
+use Rattle.text_core.specs.Adds.{Adds, Tally}
 use Rattle.line_wave.specs.declared.Edge.{Edge}
 use Rattle.line_reading.specs.Readings.{Listed}
 use Rattle.line_reading.specs.Reports.{listed_as}
 use Rattle.audit_widths.specs.Lows.{gone_to}
 use Rattle.capture_monitor.specs.Watch.{listed_line}
 use Rattle.audit_core.specs.Audit.{after_all, audit_text_of, first_tape, remarks_text, reported_all, tape_at}
-use Rattle.audit_core.specs.Progress.{WritesOn}
 use Rattle.follow_audit.specs.Settled.{IsKnown, is_settled, later}
 use Rattle.follow_audit.specs.declared.error.FollowAuditError.{FollowAuditError}
 use Rattle.follow_audit.specs.declared.error.FollowAuditError.TheVariants.{Capture, Memory, Read, TooLong, Waiting, Write}
@@ -23,6 +22,13 @@ line_of (Some x) = listed_line x
 -- what waits
 abbrev pub waits : Listener → Option Listed
 waits a = option_map listed_as a.waiting
+
+abbrev pub waiting_count : Listener → ℕ
+waiting_count a = length (option_to_list (waits a))
+
+-- there are two readings, of what waits and of these
+abbrev pub AreTwo : Listener → List Listed → Type 0
+AreTwo a more = 2 ≤ waiting_count a + length more
 
 -- Of a capture of these edges, some of which are left, these readings have ended: all of them is written, but for what there is to
 -- remark of the last one, where that waits.
@@ -67,22 +73,31 @@ pub record Remarks (old new : Listener) : Type 0 where
   pub timing : new.timing ≡ old.timing
   pub audited : (edges left : List Edge) (ended : List Listed) (text : List ℕ) → WaitsForNothing old left → IsAudited edges old left ended text → IsAudited edges new left ended (text ++ remarked old)
 
--- some text is written, which goes on with the audit, of these further readings
-pub record Says (old : Listener) (more : List Listed) (new : Listener) (mid out : Option (List ℕ)) (was is : Bool) (before after : Result ℕ WriteFault) : Type 0 where
+-- some text is added, which goes on with the audit, of these further readings
+pub record Says (old : Listener) (more : List Listed) (new : Listener) (mid out : Tally) : Type 0 where
   pub text : List ℕ
-  pub put : WritesOn mid out was is text before after
+  pub put : Adds mid out text
   pub timing : new.timing ≡ old.timing
+  pub few : waiting_count new ≤ waiting_count old + length more
   pub audited : (edges left : List Edge) (ended : List Listed) (so_far : List ℕ) → IsAudited edges old left ended so_far → IsAudited edges new left (ended ++ more) (so_far ++ text)
 
--- where a reading is heard, if there was room for it
-abbrev pub HearsOne : Listener → Option Listed → Bool → Listener → Option (List ℕ) → Option (List ℕ) → Bool → Bool → Result ℕ WriteFault → Result ℕ WriteFault → Type 0
-HearsOne old reported true new mid out was is before after = Says old (option_to_list reported) new mid out was is before after
-HearsOne old reported false new mid out was is before after = Says old [] new mid out was is before after
+-- or only of the first of them: one would wait beside another
+pub record SaysSome (old : Listener) (more : List Listed) (new : Listener) (mid out : Tally) : Type 0 where
+  pub two : AreTwo old more
+  pub heard : List Listed
+  pub rest : List Listed
+  pub parts : more ≡ heard ++ rest
+  pub says : Says old heard new mid out
+
+-- where readings are heard, by whether nothing waited before each
+abbrev pub HearsAll : Listener → List Listed → Bool → Listener → Tally → Tally → Type 0
+HearsAll old more true new mid out = Says old more new mid out
+HearsAll old more false new mid out = SaysSome old more new mid out
 
 -- the same where no edge is left, so that nothing waits
-pub record SaysLast (old : Listener) (more : List Listed) (new : Listener) (mid out : Option (List ℕ)) (was is : Bool) (before after : Result ℕ WriteFault) : Type 0 where
+pub record SaysLast (old : Listener) (more : List Listed) (new : Listener) (mid out : Tally) : Type 0 where
   pub text : List ℕ
-  pub put : WritesOn mid out was is text before after
+  pub put : Adds mid out text
   pub none : new.waiting ≡ None
   pub timing : new.timing ≡ old.timing
   pub audited : (edges : List Edge) (ended : List Listed) (so_far : List ℕ) → IsAudited edges old [] ended so_far → IsAudited edges new [] (ended ++ more) (so_far ++ text)
@@ -91,14 +106,15 @@ pub record SaysLast (old : Listener) (more : List Listed) (new : Listener) (mid 
 abbrev pub IsFrontOf : Bool → List Edge → List Listed → List ℕ → Type 0
 IsFrontOf timing edges ended text = (end : ℕ) (more : List Listed) → (rest : List ℕ) × (audit_text_of timing (record { edges = edges; end = end }) (ended ++ more) ≡ text ++ rest)
 
--- readings that have ended are told one after another: what goes on with the audit is put, or a front of it
-abbrev pub IsOfListening : FollowAuditError → Type 0
-IsOfListening (Write count) = Unit {0}
-IsOfListening Waiting = Unit {0}
-IsOfListening TooLong = ⊥
-IsOfListening (Capture fault) = ⊥
-IsOfListening Read = ⊥
-IsOfListening Memory = ⊥
+-- readings that have ended are told one after another: what goes on with the audit is put, or a front of it, where two wait or a
+-- `put` took none
+abbrev pub IsOfListening : Listener → List Listed → FollowAuditError → Type 0
+IsOfListening old more (Write count) = Unit {0}
+IsOfListening old more Waiting = AreTwo old more
+IsOfListening old more TooLong = ⊥
+IsOfListening old more (Capture fault) = ⊥
+IsOfListening old more Read = ⊥
+IsOfListening old more Memory = ⊥
 
 pub record PutsAll (old : Listener) (more : List Listed) (new : Listener) (before after : Option (List ℕ)) : Type 0 where
   pub text : List ℕ
@@ -113,7 +129,7 @@ pub record PutsFront (old : Listener) (more : List Listed) (before after : Optio
 
 abbrev pub Puts : Listener → List Listed → Listener → Option (List ℕ) → Option (List ℕ) → Result (Unit {0}) FollowAuditError → Type 0
 Puts old more new before after (Ok done) = PutsAll old more new before after
-Puts old more new before after (Err error) = PutsFront old more before after × IsOfListening error
+Puts old more new before after (Err error) = PutsFront old more before after × IsOfListening old more error
 
 -- no edge is left: all is put, up to the end
 pub record PutsLast (old : Listener) (more : List Listed) (end : ℕ) (before after : Option (List ℕ)) : Type 0 where
@@ -127,6 +143,15 @@ pub record PutsCut (old : Listener) (more : List Listed) (end : ℕ) (before aft
   pub put : Appends before after text
   pub whole : (edges : List Edge) (ended : List Listed) (so_far : List ℕ) → IsAudited edges old [] ended so_far → audit_text_of old.timing (record { edges = edges; end = end }) (ended ++ more) ≡ so_far ++ (text ++ rest)
 
+-- a `put` took none
+abbrev pub IsOfWriting : FollowAuditError → Type 0
+IsOfWriting (Write count) = Unit {0}
+IsOfWriting Waiting = ⊥
+IsOfWriting TooLong = ⊥
+IsOfWriting (Capture fault) = ⊥
+IsOfWriting Read = ⊥
+IsOfWriting Memory = ⊥
+
 abbrev pub Finishes : Listener → List Listed → ℕ → Option (List ℕ) → Option (List ℕ) → Result (Unit {0}) FollowAuditError → Type 0
 Finishes old more end before after (Ok done) = PutsLast old more end before after
-Finishes old more end before after (Err error) = PutsCut old more end before after × IsOfListening error
+Finishes old more end before after (Err error) = PutsCut old more end before after × IsOfWriting error

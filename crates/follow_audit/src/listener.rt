@@ -3,15 +3,16 @@ ghost use Rattle.std.specs.Prelude.{◌≡◌, [], ◌∷◌, ◌++◌, List, No
 ghost use Rattle.std.specs.Option.{option_to_list};
 ghost use Rattle.line_wave.specs.declared.Edge.{Edge as EdgeOf};
 ghost use Rattle.line_reading.specs.Reports.{listed_as};
-ghost use Rattle.audit_core.specs.Progress.{WritesOn};
+ghost use Rattle.text_core.specs.Adds.{Adds};
 
 use crate::error::FollowAuditError;
 use crate::settled::{edges_from, is_settled, later};
-use audit_core::{Auditor, TextProgress};
+use audit_core::Auditor;
 use line_frames::Reading;
 use line_wave::Edge;
+use message_text::add_reading;
 use std::alloc::{AllocError, Global};
-use text_core::Sink;
+use text_core::{Counted, Sink};
 
 /// So many edges are kept before those are let go that are no longer needed: a reading has 322 at most.
 const KEPT: usize = 1024;
@@ -31,7 +32,7 @@ pub(crate) struct Listener {
 }
 
 impl Listener {
-    ghost use Rattle.follow_audit.specs.Listener.{Finishes, HearsOne, IsAudited, Puts, Remarks, Says, SaysAllKnown, SaysLast, TakesEdge, WaitsForNothing, remarked};
+    ghost use Rattle.follow_audit.specs.Listener.{Finishes, HearsAll, IsAudited, Puts, Remarks, Says, SaysAllKnown, SaysLast, TakesEdge, WaitsForNothing, remarked, waiting_count};
 
     /// Of a capture of which nothing has come.
     pub(crate) fn new(alloc: Global, timing: bool) -> Self
@@ -83,11 +84,11 @@ impl Listener {
         }
     }
 
-    // Writes what there is to remark of the reading that waits, if one does.
-    fn remark<S: Sink>(&mut self, progress: &mut TextProgress, out: &mut S)
+    // Adds what there is to remark of the reading that waits, if one does.
+    #[tactic(auto, using(text_core::proofs::Adding::nothing))]
+    fn remark<S: Sink>(&mut self, out: &mut Counted<'_, S>)
         ensures remarks { Remarks self.old self.new }
-        ensures written { WritesOn (S.contents out.old) (S.contents out.new) (S.is_stuck out.old) (S.is_stuck out.new)
-            (remarked self.old) progress.old.so_far progress.new.so_far }
+        ensures written { Adds out.old out.new (remarked self.old) }
     {
         let Some(reading) = self.waiting.take() else {
             return;
@@ -95,7 +96,7 @@ impl Listener {
         self.from = later(self.from, reading.begin);
         let edges = edges_from(&self.window, self.from);
         self.auditor
-            .remark(&reading, edges.edges(), self.timing, progress, out);
+            .remark(out, &reading, edges.edges(), self.timing);
     }
 
     // Whether the edges that have come say all that there is to remark of the reading that waits, if one does.
@@ -112,28 +113,29 @@ impl Listener {
         }
     }
 
-    // Writes that, where it is known.
-    fn settle<S: Sink>(&mut self, progress: &mut TextProgress, out: &mut S)
-        ensures says { Says self.old [] self.new (S.contents out.old) (S.contents out.new) (S.is_stuck out.old) (S.is_stuck out.new) progress.old.so_far progress.new.so_far }
+    // Adds that, where it is known.
+    fn settle<S: Sink>(&mut self, out: &mut Counted<'_, S>)
+        ensures says { Says self.old [] self.new out.old out.new }
         ensures waits { SaysAllKnown self.new }
     {
         if !self.is_settled() {
             return;
         }
-        self.remark(progress, out);
+        self.remark(out);
     }
 
-    // Writes the line of a reading that has ended, where nothing waits: it waits then.
-    fn write_line<S: Sink>(&mut self, reading: Reading, progress: &mut TextProgress, out: &mut S)
+    // Adds the line of a reading that has ended, where nothing waits: it waits then.
+    fn add_line<S: Sink>(&mut self, out: &mut Counted<'_, S>, reading: Reading)
         requires { self.old.waiting ≡ None }
-        ensures { Says self.old (listed_as reading ∷ []) self.new (S.contents out.old) (S.contents out.new) (S.is_stuck out.old) (S.is_stuck out.new) progress.old.so_far progress.new.so_far }
+        ensures { Says self.old (listed_as reading ∷ []) self.new out.old out.new }
     {
-        progress.reading(out, &reading);
+        add_reading(out, &reading);
         self.waiting = Some(reading);
     }
 
     fn waits(&self) -> bool
-        ensures { result ≡ false → self.now.waiting ≡ None }
+        ensures none { result ≡ false → self.now.waiting ≡ None }
+        ensures one { result ≡ true → waiting_count self.now ≡ 1 }
     {
         match &self.waiting {
             None => false,
@@ -142,14 +144,9 @@ impl Listener {
     }
 
     // Hears a reading that has ended, if there is one, and returns whether nothing waited.
-    fn hear<S: Sink>(
-        &mut self,
-        reading: Option<Reading>,
-        progress: &mut TextProgress,
-        out: &mut S,
-    ) -> bool
+    fn hear<S: Sink>(&mut self, out: &mut Counted<'_, S>, reading: Option<Reading>) -> bool
         ensures waits { result ≡ true → SaysAllKnown self.old → SaysAllKnown self.new }
-        ensures says { HearsOne self.old (option_map listed_as reading) result self.new (S.contents out.old) (S.contents out.new) (S.is_stuck out.old) (S.is_stuck out.new) progress.old.so_far progress.new.so_far }
+        ensures says { HearsAll self.old (option_to_list (option_map listed_as reading)) result self.new out.old out.new }
     {
         match reading {
             None => true,
@@ -157,11 +154,28 @@ impl Listener {
                 if self.waits() {
                     return false;
                 }
-                self.write_line(reading, progress, out);
-                self.settle(progress, out);
+                self.add_line(out, reading);
+                self.settle(out);
                 true
             }
         }
+    }
+
+    // Adds what is known by the edge that came, and hears the readings that have ended. Returns whether nothing waited before each.
+    fn hear_all<S: Sink>(
+        &mut self,
+        out: &mut Counted<'_, S>,
+        first: Option<Reading>,
+        second: Option<Reading>,
+    ) -> bool
+        ensures waits { result ≡ true → SaysAllKnown self.new }
+        ensures says { HearsAll self.old (option_to_list (option_map listed_as first) ++ option_to_list (option_map listed_as second)) result self.new out.old out.new }
+    {
+        self.settle(out);
+        if !self.hear(out, first) {
+            return false;
+        }
+        self.hear(out, second)
     }
 
     /// Hears the readings that have ended since the last call, at most two, after the edge that came: writes their lines, and what
@@ -179,35 +193,30 @@ impl Listener {
         ensures waits { OnOk result (SaysAllKnown self.new) }
         ensures puts { Puts self.old (option_to_list (option_map listed_as first) ++ option_to_list (option_map listed_as second)) self.new (S.contents out.old) (S.contents out.new) result }
     {
-        let mut progress = TextProgress::new();
-        self.settle(&mut progress, out);
-        if !self.hear(first, &mut progress, out) {
+        let mut audit = Counted::new(out);
+        let heard = self.hear_all(&mut audit, first, second);
+        let written = audit.written();
+        // No effect at run time. The proof reads what `out` holds from the sink that comes back.
+        let _below = audit.into_sink();
+        if !heard {
             return Err(FollowAuditError::Waiting);
         }
-        if !self.hear(second, &mut progress, out) {
-            return Err(FollowAuditError::Waiting);
-        }
-        match progress.result() {
-            Ok(()) => Ok(()),
+        match written {
+            Ok(_) => Ok(()),
             Err(fault) => Err(FollowAuditError::Write(fault.count)),
         }
     }
 
     // Hears a reading where no edge is left, if there is one. Nothing waits.
-    fn hear_last<S: Sink>(
-        &mut self,
-        reading: Option<Reading>,
-        progress: &mut TextProgress,
-        out: &mut S,
-    )
+    fn hear_last<S: Sink>(&mut self, out: &mut Counted<'_, S>, reading: Option<Reading>)
         requires { self.old.waiting ≡ None }
-        ensures { SaysLast self.old (option_to_list (option_map listed_as reading)) self.new (S.contents out.old) (S.contents out.new) (S.is_stuck out.old) (S.is_stuck out.new) progress.old.so_far progress.new.so_far }
+        ensures { SaysLast self.old (option_to_list (option_map listed_as reading)) self.new out.old out.new }
     {
         match reading {
             None => {}
             Some(reading) => {
-                self.write_line(reading, progress, out);
-                self.remark(progress, out);
+                self.add_line(out, reading);
+                self.remark(out);
             }
         }
     }
@@ -227,13 +236,16 @@ impl Listener {
         ensures { Finishes self (option_to_list (option_map listed_as first) ++ option_to_list (option_map listed_as second)) end (S.contents out.old) (S.contents out.new) result }
     {
         let mut listener = self;
-        let mut progress = TextProgress::new();
-        listener.remark(&mut progress, out);
-        listener.hear_last(first, &mut progress, out);
-        listener.hear_last(second, &mut progress, out);
-        listener.auditor.summarize(end, &mut progress, out);
-        match progress.result() {
-            Ok(()) => Ok(()),
+        let mut audit = Counted::new(out);
+        listener.remark(&mut audit);
+        listener.hear_last(&mut audit, first);
+        listener.hear_last(&mut audit, second);
+        listener.auditor.summarize(&mut audit, end);
+        let written = audit.written();
+        // No effect at run time. The proof reads what `out` holds from the sink that comes back.
+        let _below = audit.into_sink();
+        match written {
+            Ok(_) => Ok(()),
             Err(fault) => Err(FollowAuditError::Write(fault.count)),
         }
     }

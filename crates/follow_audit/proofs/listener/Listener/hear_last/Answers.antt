@@ -8,12 +8,9 @@ use Rattle.follow_audit.proofs.listener.Listener.hear_last.Goals as goal
 
 pub returns-in-None : goal.returns-in-None
 returns-in-None g c =
-    subst
-    (λ (o : Option Reading). SaysLast c.args.self.now (option_to_list (option_map listed_as o)) c.args.self.now (g.S.Sink.contents c.args.out.now) (g.S.Sink.contents c.args.out.now) (g.S.Sink.is_stuck c.args.out.now) (g.S.Sink.is_stuck c.args.out.now) c.args.progress.now.so_far c.args.progress.now.so_far)
-    (sym c.in-None.is) (last_none c.args.self.now _ _ _ c.requires)
+    subst (λ (o : Option Reading). SaysLast c.args.self.now (option_to_list (option_map listed_as o)) c.args.self.now c.args.out.now c.args.out.now) (sym c.in-None.is) (last_none c.args.self.now _ c.requires)
 
 pub returns-in-Some : goal.returns-in-Some
 returns-in-Some g c =
-    subst
-    (λ (o : Option Reading). SaysLast c.args.self.now (option_to_list (option_map listed_as o)) c.remark.new.self (g.S.Sink.contents c.args.out.now) (g.S.Sink.contents c.remark.new.out) (g.S.Sink.is_stuck c.args.out.now) (g.S.Sink.is_stuck c.remark.new.out) c.args.progress.now.so_far c.remark.new.progress.so_far)
-    (sym c.in-Some.is) (last_line c.write_line.ensures (last_remarked _ _ _ _ _ _ _ _ c.remark.ensures.remarks c.remark.ensures.written))
+    subst (λ (o : Option Reading). SaysLast c.args.self.now (option_to_list (option_map listed_as o)) c.remark.new.self c.args.out.now c.remark.new.out) (sym c.in-Some.is)
+    (last_line c.add_line.ensures (last_remarked _ _ _ _ c.remark.ensures.remarks c.remark.ensures.written))

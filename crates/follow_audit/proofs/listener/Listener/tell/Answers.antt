@@ -1,44 +1,40 @@
-use Rattle.std.proofs.Common.{◌++◌, option_map, sym, ◌∙◌}
+use Rattle.std.proofs.Common.{◌++◌, option_map, rules}
 use Rattle.std.specs.Option.{option_to_list}
 use Rattle.line_reading.specs.Reports.{listed_as}
-use Rattle.follow_audit.proofs.Audited.{heard_none, heard_one, puts_all, puts_cut, puts_front, says_more, says_two}
+use Rattle.text_core.proofs.Adding.{text_ended}
+use Rattle.follow_audit.proofs.Audited.{heard_all, heard_some, puts_all, puts_cut, puts_some}
 use Rattle.follow_audit.proofs.listener.Listener.tell.Goals as goal
 
-pub returns-then-not-hear-clause-puts : goal.returns-then-not-hear-clause-puts
-returns-then-not-hear-clause-puts g c = (
-  puts_front (option_to_list (option_map listed_as c.args.first) ++ option_to_list (option_map listed_as c.args.second)) c.new-progress.ensures
-      (says_two c.settle.ensures.says
-      (heard_none c.settle.new.self c.hear.new.self (option_map listed_as c.args.first) c.hear.result (g.S.Sink.contents c.settle.new.out) (g.S.Sink.contents c.hear.new.out) (g.S.Sink.is_stuck c.settle.new.out) (g.S.Sink.is_stuck c.hear.new.out)
-      c.settle.new.progress.so_far c.hear.new.progress.so_far c.if-not-hear.true c.hear.ensures.says)),
-  tt,
-)
-
-pub returns-then-not-hear-2-clause-puts : goal.returns-then-not-hear-2-clause-puts
-returns-then-not-hear-2-clause-puts g c =
-    let first = heard_one c.settle.new.self c.hear.new.self (option_map listed_as c.args.first) c.hear.result (g.S.Sink.contents c.settle.new.out) (g.S.Sink.contents c.hear.new.out) (g.S.Sink.is_stuck c.settle.new.out) (g.S.Sink.is_stuck c.hear.new.out)
-    c.settle.new.progress.so_far c.hear.new.progress.so_far c.if-not-hear.false c.hear.ensures.says in (
-      puts_front (option_to_list (option_map listed_as c.args.second)) c.new-progress.ensures
-          (says_more (says_two c.settle.ensures.says first)
-          (heard_none c.hear.new.self c.hear-2.new.self (option_map listed_as c.args.second) c.hear-2.result (g.S.Sink.contents c.hear.new.out) (g.S.Sink.contents c.hear-2.new.out) (g.S.Sink.is_stuck c.hear.new.out) (g.S.Sink.is_stuck c.hear-2.new.out)
-          c.hear.new.progress.so_far c.hear-2.new.progress.so_far c.if-not-hear-2.true c.hear-2.ensures.says)),
-      tt,
+pub returns-then-not-heard-clause-puts : goal.returns-then-not-heard-clause-puts
+returns-then-not-heard-clause-puts g c =
+    let more = option_to_list (option_map listed_as c.args.first) ++ option_to_list (option_map listed_as c.args.second) in
+    let some = heard_some c.args.self.now c.hear_all-heard.new.self more c.hear_all-heard.result c.new-audit.result c.hear_all-heard.new.out c.if-not-heard.true c.hear_all-heard.ensures.says in (
+      puts_some _ _ _ _ c.written-written.result some
+          (text_ended g.S.Sink.contents g.S.Sink.is_stuck c.args.out.now _ c.into_sink-below.result.now _ c.into_sink-below.result.ghost_name c.new-audit.result c.hear_all-heard.new.out some.says.text c.written-written.result
+          c.new-audit.ensures some.says.put c.written-written.ensures.text
+          c.into_sink-below.ensures.loan c.into_sink-below.ensures.known c.into_sink-below.ensures.stuck (search rules)),
+      some.two,
     )
 
 pub returns-in-Ok-clause-puts : goal.returns-in-Ok-clause-puts
 returns-in-Ok-clause-puts g c =
-    let first = heard_one c.settle.new.self c.hear.new.self (option_map listed_as c.args.first) c.hear.result (g.S.Sink.contents c.settle.new.out) (g.S.Sink.contents c.hear.new.out) (g.S.Sink.is_stuck c.settle.new.out) (g.S.Sink.is_stuck c.hear.new.out)
-    c.settle.new.progress.so_far c.hear.new.progress.so_far c.if-not-hear.false c.hear.ensures.says in
-    let second = heard_one c.hear.new.self c.hear-2.new.self (option_map listed_as c.args.second) c.hear-2.result (g.S.Sink.contents c.hear.new.out) (g.S.Sink.contents c.hear-2.new.out) (g.S.Sink.is_stuck c.hear.new.out) (g.S.Sink.is_stuck c.hear-2.new.out)
-    c.hear.new.progress.so_far c.hear-2.new.progress.so_far c.if-not-hear-2.false c.hear-2.ensures.says in
-    puts_all c.in-Ok.field-0 c.new-progress.ensures (says_two (says_two c.settle.ensures.says first) second) (sym c.result.ensures ∙ c.in-Ok.is)
+    let more = option_to_list (option_map listed_as c.args.first) ++ option_to_list (option_map listed_as c.args.second) in
+    let says = heard_all c.args.self.now c.hear_all-heard.new.self more c.hear_all-heard.result c.new-audit.result c.hear_all-heard.new.out c.if-not-heard.false c.hear_all-heard.ensures.says in
+    puts_all _ _ _ _ c.written-written.result _ c.in-Ok.is says
+    (text_ended g.S.Sink.contents g.S.Sink.is_stuck c.args.out.now _ c.into_sink-below.result.now _ c.into_sink-below.result.ghost_name c.new-audit.result c.hear_all-heard.new.out says.text c.written-written.result
+    c.new-audit.ensures says.put c.written-written.ensures.text
+    c.into_sink-below.ensures.loan c.into_sink-below.ensures.known c.into_sink-below.ensures.stuck (search rules))
 
 pub returns-in-Err-clause-puts : goal.returns-in-Err-clause-puts
 returns-in-Err-clause-puts g c =
-    let first = heard_one c.settle.new.self c.hear.new.self (option_map listed_as c.args.first) c.hear.result (g.S.Sink.contents c.settle.new.out) (g.S.Sink.contents c.hear.new.out) (g.S.Sink.is_stuck c.settle.new.out) (g.S.Sink.is_stuck c.hear.new.out)
-    c.settle.new.progress.so_far c.hear.new.progress.so_far c.if-not-hear.false c.hear.ensures.says in
-    let second = heard_one c.hear.new.self c.hear-2.new.self (option_map listed_as c.args.second) c.hear-2.result (g.S.Sink.contents c.hear.new.out) (g.S.Sink.contents c.hear-2.new.out) (g.S.Sink.is_stuck c.hear.new.out) (g.S.Sink.is_stuck c.hear-2.new.out)
-    c.hear.new.progress.so_far c.hear-2.new.progress.so_far c.if-not-hear-2.false c.hear-2.ensures.says in
-    (puts_cut c.new-progress.ensures (says_two (says_two c.settle.ensures.says first) second), tt)
+    let more = option_to_list (option_map listed_as c.args.first) ++ option_to_list (option_map listed_as c.args.second) in
+    let says = heard_all c.args.self.now c.hear_all-heard.new.self more c.hear_all-heard.result c.new-audit.result c.hear_all-heard.new.out c.if-not-heard.false c.hear_all-heard.ensures.says in (
+      puts_cut _ _ _ _ c.written-written.result says
+          (text_ended g.S.Sink.contents g.S.Sink.is_stuck c.args.out.now _ c.into_sink-below.result.now _ c.into_sink-below.result.ghost_name c.new-audit.result c.hear_all-heard.new.out says.text c.written-written.result
+          c.new-audit.ensures says.put c.written-written.ensures.text
+          c.into_sink-below.ensures.loan c.into_sink-below.ensures.known c.into_sink-below.ensures.stuck (search rules)),
+      tt,
+    )
 
 pub returns-in-Ok-clause-waits : goal.returns-in-Ok-clause-waits
-returns-in-Ok-clause-waits g c = c.hear-2.ensures.waits c.if-not-hear-2.false (c.hear.ensures.waits c.if-not-hear.false c.settle.ensures.waits)
+returns-in-Ok-clause-waits g c = c.hear_all-heard.ensures.waits c.if-not-heard.false

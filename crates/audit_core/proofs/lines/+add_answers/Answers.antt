@@ -1,0 +1,16 @@
+use Rattle.std.proofs.Common.{◌≡◌, ℕ, ◌≤◌, List, [], ◌∷◌, ◌++◌, length, get_or, drop, refl, arith}
+use Rattle.std.proofs.lemmas.List.{take_rest}
+use Rattle.audit_remarks.specs.declared.requests.Request.{Request}
+use Rattle.audit_core.specs.Lines.{answer_text, answers_text}
+use Rattle.text_core.proofs.Adding.{then}
+use Rattle.audit_core.proofs.Writing.{adds_as}
+use Rattle.audit_core.proofs.lines.+add_answers.Goals as goal
+
+-- a request, and the rest
+answers_more : (begin : ℕ) (frame : List ℕ) (waiting : List Request) (none : Request) → 1 ≤ length waiting
+    → answer_text begin frame (get_or waiting 0 none) ++ answers_text begin frame (drop 1 waiting) ≡ answers_text begin frame waiting
+answers_more begin frame [] none h = absurd (omega arith)
+answers_more begin frame (r ∷ rs) none h = refl
+
+pub returns : goal.returns
+returns g t c = adds_as c.args.out.now c.add_answers.new.out _ _ (rw take_rest (answers_more c.args.begin c.args.frame.now c.args.waiting.now _ c.in-len1-up.len_at_least)) (then c.args.out.now c.add_answer.new.out c.add_answers.new.out _ _ c.add_answer.ensures c.add_answers.ensures)

@@ -1,7 +1,0 @@
-use Rattle.std.proofs.Common.{ap, sym}
-use Rattle.audit_core.specs.Lines.{moved_text}
-use Rattle.audit_core.proofs.Writing.{writes_as}
-use Rattle.audit_core.proofs.lines.write_moved.Goals as goal
-
-pub returns : goal.returns
-returns g c = writes_as (ap (moved_text c.args.initiator) (sym c.in-Some.is)) c.line.ensures
