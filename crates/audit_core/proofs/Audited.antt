@@ -5,7 +5,7 @@ use Rattle.std.proofs.Math.ListN.{drop_of_length-le}
 use Rattle.std.specs.Option.{option_to_list}
 use Rattle.std.proofs.lemmas.Bool.Decides.{nat_tests}
 use Rattle.text_core.specs.Adds.{Adds, Tally}
-use Rattle.text_core.proofs.Adding.{nothing, then}
+use Rattle.text_core.proofs.Adding.{nothing, then as adds_both}
 use Rattle.line_wave.specs.declared.Edge.{Edge}
 use Rattle.line_wave.specs.Line.{Line, was_low}
 use Rattle.line_reading.specs.declared.times.Windows.{Windows}
@@ -72,7 +72,7 @@ more_written : (timing : Bool) (t tape : Tape) (xs : List Listed) (reported : Op
 more_written timing t tape xs reported old mid out kept wrote next =
     subst (λ (z : List ℕ). Adds old out z)
     (ap (λ (s : Tape). reported_all timing t xs ++ reported_all timing s (option_to_list reported)) kept ∙ sym (reported_more timing t xs (option_to_list reported)))
-    (then old mid out (reported_all timing t xs) (reported_all timing tape (option_to_list reported)) wrote next)
+    (adds_both old mid out (reported_all timing t xs) (reported_all timing tape (option_to_list reported)) wrote next)
 
 more_kept : (t tape new : Tape) (xs : List Listed) (reported : Option Listed) → tape ≡ after_all t xs → new ≡ after_all tape (option_to_list reported) → new ≡ after_all t (xs ++ option_to_list reported)
 more_kept t tape new xs reported kept next = next ∙ ap (λ (s : Tape). after_all s (option_to_list reported)) kept ∙ sym (after_more t xs (option_to_list reported))
@@ -124,7 +124,7 @@ pub audited_end : (win : Windows) (c : Captured) (left : List Edge) (m : Watcher
     → Adds out last (summary_text c.end later) → Adds old last (audit_text_of timing c (readings_by win (line_of_edges c.edges) c.end))
 audited_end win c left m reported timing tape later old mid out last audited none follows next writes ends =
     subst (λ (t : Tape). Adds old last (reported_all timing (first_tape c.edges) (readings_by win (line_of_edges c.edges) c.end) ++ summary_text c.end t)) kept
-    (then old out last (reported_all timing (first_tape c.edges) (readings_by win (line_of_edges c.edges) c.end)) (summary_text c.end later) wrote ends)
+    (adds_both old out last (reported_all timing (first_tape c.edges) (readings_by win (line_of_edges c.edges) c.end)) (summary_text c.end later) wrote ends)
   where
     w : Audited win c [] m timing tape old mid
     w = subst (λ (l : List Edge). Audited win c l m timing tape old mid) none audited
