@@ -170,12 +170,12 @@ fn add_instant<S: Sink>(out: &mut Counted<'_, S>, t: u64, wires: &NotedWires<'_>
 
 /// Adds the changes of the line and of the wires below it, and what is noted, from one instant up to another: those of its
 /// drives, and after them that of the pulses, which come in order, as many as there are.
-pub fn add_noted_wires<S: Sink>(
+pub fn add_noted_wires<'a, S: Sink>(
     out: &mut Counted<'_, S>,
-    line: &[Stretch],
-    drives: &[Drive],
-    pulses: &[Stretch],
-    notes: &[WireText<'_>],
+    line: &'a [Stretch],
+    drives: &'a [Drive],
+    pulses: &'a [Stretch],
+    notes: &'a [WireText<'a>],
     from: u64,
     to: u64,
 )

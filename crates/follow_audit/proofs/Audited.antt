@@ -254,13 +254,16 @@ says_more {old} {mid} {new} {xs} {a} {b} {c} one two = subst (λ (zs : List List
 pub hears_none : (a : Listener) (x : Listed) (mid : Tally) → waiting_count a ≡ 1 → SaysSome a (x ∷ []) a mid mid
 hears_none a x mid one = record { two = omega (arith, one); heard = []; rest = x ∷ []; parts = refl; says = says_none a mid }
 
+either : {P : Type 0} → true ≡ false → P
+either h = cc
+
 -- readings were heard, or some of them
 pub heard_all : (old new : Listener) (more : List Listed) (room : Bool) (a b : Tally) → room ≡ true → HearsAll old more room new a b → Says old more new a b
 heard_all old new more true a b is h = h
-heard_all old new more false a b is h = cc
+heard_all old new more false a b is h = either (sym is)
 
 pub heard_some : (old new : Listener) (more : List Listed) (room : Bool) (a b : Tally) → room ≡ false → HearsAll old more room new a b → SaysSome old more new a b
-heard_some old new more true a b is h = cc
+heard_some old new more true a b is h = either is
 heard_some old new more false a b is h = h
 
 -- readings before which others were heard, or after which others are not heard

@@ -13,8 +13,8 @@ returns-in-Ok g c =
     c.new-audit.ensures (finishes c.summarize.new.out c.args.end says c.summarize.ensures) c.written-written.ensures.text
     c.into_sink-below.ensures.loan c.into_sink-below.ensures.known c.into_sink-below.ensures.stuck (search rules))
 
-pub returns-in-Err : goal.returns-in-Err
-returns-in-Err g c =
+pub returns : goal.returns
+returns g c =
     let says = last_two (last_two (last_remarked _ _ _ _ c.remark.ensures.remarks c.remark.ensures.written) c.hear_last.ensures) c.hear_last-2.ensures in (
       finishes_front _ _ _ _ c.written-written.result c.args.end says
           (text_ended g.S.Sink.contents g.S.Sink.is_stuck c.args.out.now _ c.into_sink-below.result.now _ c.into_sink-below.result.ghost_name c.new-audit.result c.summarize.new.out
