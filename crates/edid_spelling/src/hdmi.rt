@@ -318,7 +318,7 @@ fn said_from(
     let Some(text) = rest else {
         return Ok(said);
     };
-    let [row, others @ ..] = rows else {
+    let Some((row, others)) = rows.split_first() else {
         return Err(number);
     };
     let (word, more) = first_word(text);
