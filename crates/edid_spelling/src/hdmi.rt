@@ -318,10 +318,10 @@ fn said_from(
     let Some(text) = rest else {
         return Ok(said);
     };
+    let (word, more) = first_word(text);
     let Some((row, others)) = rows.split_first() else {
         return Err(number);
     };
-    let (word, more) = first_word(text);
     if word != row.word.as_bytes() {
         return said_from(others, said, number, rest);
     }
