@@ -3,7 +3,6 @@ ghost use Rattle.std.specs.Prelude.{◌≡◌, ◌+◌, ◌*◌, ◌<◌, ◌≤
 ghost use Rattle.arrayvec.specs.ArrayVec.{array_vec_len};
 ghost use Rattle.std.specs.Option.{option_copied};
 ghost use Rattle.text_core.specs.Words.{words_after};
-ghost use Rattle.edid_spelling.specs.Rows.{first_of, others_of};
 ghost use Rattle.edid_spelling.specs.Hdmi.{capabilities, clock_of, contents, delay_bytes, delay_of, delays_of, format_bytes, format_count, formats_of, has_video, hdmi_bytes, hdmi_of, hdmi_row_in_code, hdmi_rows, head_bytes, nothing, presence, said_from, time_byte, video_bytes, weight, with_flag};
 
 use crate::rows::next_word;
@@ -294,17 +293,6 @@ fn delays_of(video: &[u8], audio: &[u8]) -> Result<Delays, usize>
     Ok(Delays { video, audio })
 }
 
-// The latencies of the next two words, or which of them is at fault, and what stands after both.
-fn next_delays(rest: Option<&[u8]>) -> (Result<Delays, usize>, Option<&[u8]>)
-    ensures value { result.0 ≡ delays_of (first_of (words_after (option_copied rest.entry))) (first_of (others_of (words_after (option_copied rest.entry)))) }
-    ensures few { MatchResult result.0 (λ d. Unit {0}) (λ word. word < 2) }
-    ensures rest { words_after (option_copied result.1) ≡ others_of (others_of (words_after (option_copied rest.entry))) }
-{
-    let (video, more) = next_word(rest);
-    let (audio, more) = next_word(more);
-    (delays_of(video, audio), more)
-}
-
 // What is said and what the words that are left say, or the number of the word at fault.
 fn said_from(
     rows: &[HdmiRow],
@@ -315,37 +303,59 @@ fn said_from(
     requires { number + 3 * length rows.now < 1000 }
     ensures { result ≡ said_from (map hdmi_row_in_code rows.now) said number (words_after (option_copied rest.entry)) }
 {
-    let Some(text) = rest else {
-        return Ok(said);
-    };
-    let (word, more) = first_word(text);
-    let Some((row, others)) = rows.split_first() else {
-        return Err(number);
-    };
-    if word != row.word.as_bytes() {
-        return said_from(others, said, number, rest);
-    }
-    match row.says {
-        HdmiWord::Flag(flag) => said_from(others, with_flag(flag, said), number + 1, more),
-        HdmiWord::Clock => {
-            let (clock, more) = next_word(more);
-            let Some(clock) = clock_of(number_in(clock)) else {
-                return Err(number + 1);
-            };
-            said_from(others, with_clock(clock, said), number + 2, more)
-        }
-        HdmiWord::Latency => {
-            let (delays, more) = next_delays(more);
-            match delays {
-                Err(word) => Err(number + 1 + word),
-                Ok(delays) => said_from(others, with_latencies(delays, said), number + 3, more),
-            }
-        }
-        HdmiWord::InterlacedLatency => {
-            let (delays, more) = next_delays(more);
-            match delays {
-                Err(word) => Err(number + 1 + word),
-                Ok(delays) => said_from(others, with_interlaced(delays, said), number + 3, more),
+    match rest {
+        None => Ok(said),
+        Some(text) => {
+            let (word, more) = first_word(text);
+            match rows {
+                [] => Err(number),
+                [row, others @ ..] => {
+                    if word != row.word.as_bytes() {
+                        return said_from(others, said, number, rest);
+                    }
+                    match row.says {
+                        HdmiWord::Flag(flag) => {
+                            said_from(others, with_flag(flag, said), number + 1, more)
+                        }
+                        HdmiWord::Clock => {
+                            let (clock, more) = next_word(more);
+                            let Some(clock) = clock_of(number_in(clock)) else {
+                                return Err(number + 1);
+                            };
+                            said_from(others, with_clock(clock, said), number + 2, more)
+                        }
+                        HdmiWord::Latency => {
+                            let (video, more) = next_word(more);
+                            let (audio, more) = next_word(more);
+                            match delays_of(video, audio) {
+                                Err(word) => Err(number + 1 + word),
+                                Ok(delays) => {
+                                    said_from(
+                                        others,
+                                        with_latencies(delays, said),
+                                        number + 3,
+                                        more,
+                                    )
+                                }
+                            }
+                        }
+                        HdmiWord::InterlacedLatency => {
+                            let (video, more) = next_word(more);
+                            let (audio, more) = next_word(more);
+                            match delays_of(video, audio) {
+                                Err(word) => Err(number + 1 + word),
+                                Ok(delays) => {
+                                    said_from(
+                                        others,
+                                        with_interlaced(delays, said),
+                                        number + 3,
+                                        more,
+                                    )
+                                }
+                            }
+                        }
+                    }
+                }
             }
         }
     }
