@@ -14,7 +14,7 @@ use Rattle.capture_core.specs.declared.fault.Cause.{Cause}
 use Rattle.capture_monitor.specs.Joined.{captured_by}
 use Rattle.audit_core.specs.Audit.{audit_text_of}
 use Rattle.capture_forms.specs.Captures.{capture_in}
-use Rattle.follow_core.specs.Follow.{AreFirst, AreLeft, HaveCome, IsRefused, IsTooMuch, NoneBefore}
+use Rattle.follow_core.specs.Follow.{AreLeft, NoneBefore, StopsAtFault, StopsAtLength, StopsAtRead}
 use Rattle.live_incoming.specs.declared.incoming.IncomingFault.{IncomingFault}
 use Rattle.live_incoming.specs.declared.incoming.IncomingFault.TheVariants as line_fault
 use Rattle.follow_core.specs.Lines.{IsEarly, form_as, from_of, lines_captured, lines_left}
@@ -222,28 +222,6 @@ pub record IsUpToDate (form : LineForm) (signal : List ℕ) (windows : Windows) 
   pub front : IsFront true form signal windows timing past text
   pub put : Appends old new text
 
--- the fault is that of the input, and at the line after these
-pub record StopsAtFault (form : LineForm) (signal : List ℕ) (windows : Windows) (timing : Bool) (known old new : Option (List ℕ)) (fault : At Cause) : Type 0 where
-  pub past : List (List ℕ)
-  pub next : Option (List ℕ)
-  pub came : HaveCome known past next
-  pub place : fault.line ≡ length past + 1
-  pub refused : IsRefused form signal past next fault
-  pub read : IfSome known (λ text. capture_in (form_as form) signal text ≡ Err fault)
-  pub written : IsUpToDate form signal windows timing past old new
-
--- a read failed after these lines
-pub record StopsAtRead (form : LineForm) (signal : List ℕ) (windows : Windows) (timing : Bool) (known old new : Option (List ℕ)) : Type 0 where
-  pub past : List (List ℕ)
-  pub came : AreFirst known past
-  pub written : IsUpToDate form signal windows timing past old new
-
--- more came than is followed: all is written that the lines before say
-pub record StopsAtLength (form : LineForm) (signal : List ℕ) (windows : Windows) (timing : Bool) (known old new : Option (List ℕ)) : Type 0 where
-  pub past : List (List ℕ)
-  pub over : IsTooMuch known past
-  pub written : IsUpToDate form signal windows timing past old new
-
 -- lines of it have come, all of them or not, and a front of the audit is written
 pub record HasBegun (form : LineForm) (signal : List ℕ) (windows : Windows) (timing : Bool) (known old new : Option (List ℕ)) : Type 0 where
   pub past : List (List ℕ)
@@ -260,9 +238,9 @@ pub record StopsAtTwo (form : LineForm) (signal : List ℕ) (windows : Windows) 
 
 abbrev pub Follows : LineForm → List ℕ → Windows → Bool → Option (List ℕ) → Option (List ℕ) → Option (List ℕ) → Result (Unit {0}) FollowAuditError → Type 0
 Follows form signal windows timing known old new (Ok done) = HasFollowed form signal windows timing known old new
-Follows form signal windows timing known old new (Err (Capture fault)) = StopsAtFault form signal windows timing known old new fault
-Follows form signal windows timing known old new (Err Read) = StopsAtRead form signal windows timing known old new
-Follows form signal windows timing known old new (Err TooLong) = StopsAtLength form signal windows timing known old new
+Follows form signal windows timing known old new (Err (Capture fault)) = StopsAtFault form signal known fault (λ past. IsUpToDate form signal windows timing past old new)
+Follows form signal windows timing known old new (Err Read) = StopsAtRead known (λ past. IsUpToDate form signal windows timing past old new)
+Follows form signal windows timing known old new (Err TooLong) = StopsAtLength known (λ past. IsUpToDate form signal windows timing past old new)
 Follows form signal windows timing known old new (Err Waiting) = StopsAtTwo form signal windows timing known old new
 Follows form signal windows timing known old new (Err Memory) = HasBegun form signal windows timing known old new
 Follows form signal windows timing known old new (Err (Write count)) = HasBegun form signal windows timing known old new

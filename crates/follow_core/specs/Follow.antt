@@ -223,21 +223,21 @@ abbrev pub IsRefused : LineForm → List ℕ → List (List ℕ) → Option (Lis
 IsRefused form signal past (Some line) fault = (rest : List (List ℕ)) → lines_captured form signal (past ++ line ∷ rest) ≡ Err fault
 IsRefused form signal past None fault = lines_captured form signal past ≡ Err fault
 
--- the fault is that of the input, and at the line after these
-pub record StopsAtFault (form : LineForm) (signal : List ℕ) (windows : Windows) (known old new : Option (List ℕ)) (fault : At Cause) : Type 0 where
+-- the fault is that of the input, and at the line after these, up to which all is written
+pub record StopsAtFault (form : LineForm) (signal : List ℕ) (known : Option (List ℕ)) (fault : At Cause) (IsUpTo : List (List ℕ) → Type 0) : Type 0 where
   pub past : List (List ℕ)
   pub next : Option (List ℕ)
   pub came : HaveCome known past next
   pub place : fault.line ≡ length past + 1
   pub refused : IsRefused form signal past next fault
   pub read : IfSome known (λ text. capture_in (form_as form) signal text ≡ Err fault)
-  pub written : IsUpToDate form signal windows past old new
+  pub written : IsUpTo past
 
 -- a read failed after these lines
-pub record StopsAtRead (form : LineForm) (signal : List ℕ) (windows : Windows) (known old new : Option (List ℕ)) : Type 0 where
+pub record StopsAtRead (known : Option (List ℕ)) (IsUpTo : List (List ℕ) → Type 0) : Type 0 where
   pub past : List (List ℕ)
   pub came : AreFirst known past
-  pub written : IsUpToDate form signal windows past old new
+  pub written : IsUpTo past
 
 -- the line after these has more bytes than a line may have, or these are as many as are counted
 abbrev pub IsTooMuch : Option (List ℕ) → List (List ℕ) → Type 0
@@ -247,10 +247,11 @@ IsTooMuch known past = ((line : List ℕ) × (longest_line < length line) × Hav
 abbrev pub LongLinesAreTooMuch : Type 0
 LongLinesAreTooMuch = (known now next : Option (List ℕ)) (past : List (List ℕ)) (line : List ℕ) → Come known now past → IsNext now next line (Err line_fault.TooLong) → IsTooMuch known past
 
-pub record StopsAtLength (form : LineForm) (signal : List ℕ) (windows : Windows) (known old new : Option (List ℕ)) : Type 0 where
+-- more came than is followed: all is written that the lines before say
+pub record StopsAtLength (known : Option (List ℕ)) (IsUpTo : List (List ℕ) → Type 0) : Type 0 where
   pub past : List (List ℕ)
   pub over : IsTooMuch known past
-  pub written : IsUpToDate form signal windows past old new
+  pub written : IsUpTo past
 
 -- this text is all that is over by these lines and the next one, or by all of them where there is none; and this is a front of that of
 -- each capture that begins so
@@ -290,9 +291,9 @@ line_error line_fault.Read = Read
 line_error line_fault.TooLong = TooLong
 
 abbrev pub Stops : LineForm → List ℕ → Windows → Option (List ℕ) → Option (List ℕ) → Option (List ℕ) → FollowError → Type 0
-Stops form signal windows known old new (Capture fault) = StopsAtFault form signal windows known old new fault
-Stops form signal windows known old new Read = StopsAtRead form signal windows known old new
-Stops form signal windows known old new TooLong = StopsAtLength form signal windows known old new
+Stops form signal windows known old new (Capture fault) = StopsAtFault form signal known fault (λ past. IsUpToDate form signal windows past old new)
+Stops form signal windows known old new Read = StopsAtRead known (λ past. IsUpToDate form signal windows past old new)
+Stops form signal windows known old new TooLong = StopsAtLength known (λ past. IsUpToDate form signal windows past old new)
 Stops form signal windows known old new (Write count) = StopsAtWrite form signal windows known old new
 
 abbrev pub Follows : LineForm → List ℕ → Windows → Option (List ℕ) → Option (List ℕ) → Option (List ℕ) → Result (Unit {0}) FollowError → Type 0

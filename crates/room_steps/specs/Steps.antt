@@ -1,5 +1,5 @@
 -- A run taken step by step, and what each step writes (own).
-use Rattle.std.specs.Prelude.{◌≡◌, ℕ, zero, suc, ◌+◌, ◌<◌, ◌⊎◌, Bool, true, false, List, [], ◌∷◌, ◌++◌, length, take, slice_get, Option, Some, None, Result, Ok, Err}
+use Rattle.std.specs.Prelude.{◌≡◌, ℕ, zero, suc, ◌+◌, ◌<◌, ◌⊎◌, Bool, true, false, List, [], ◌∷◌, ◌++◌, length, take, slice_get, Option, Some, None, MatchOption, Result, Ok, Err}
 use Rattle.std.specs.Io.KnownBytes.{Appends}
 use Rattle.line_wave.specs.Line.{IsWave}
 use Rattle.line_wave.specs.declared.Edge.{Edge}
@@ -100,6 +100,10 @@ step_text run p o q = (start_text run.edid p ++ passed_text run.edid run.end p) 
 -- no round comes any more
 abbrev pub IsOver : ℕ → Point → Type 0
 IsOver end p = turn_at end (after_events end p) ≡ Stop
+
+-- what comes after the events before it: a round that begins then, or nothing more
+abbrev pub ComesTo : ℕ → Point → Option ℕ → Type 0
+ComesTo end p comes = MatchOption comes (IsOver end p) (λ begin. turn_at end (after_events end p) ≡ Round begin)
 
 -- ---- a stepper
 

@@ -9,11 +9,11 @@ ghost use Rattle.room_step_text.specs.EdgeText.{edge_line};
 ghost use Rattle.text_core.specs.Cut.{WrittenText};
 ghost use Rattle.text_core.specs.Adds.{Adds};
 ghost use Rattle.room_run.specs.Heard.{Hears};
-ghost use Rattle.room_run.specs.declared.run.Turn.TheVariants.{Apply, Round, Stop};
+ghost use Rattle.room_run.specs.declared.run.Turn.TheVariants.{Apply, Stop};
 ghost use Rattle.edid_core.specs.Root.{HasAddress};
 ghost use Rattle.room_steps.specs.Ready.{AheadIf, AreAlike, Begins, Brings, HearsFirst, IsAhead, IsReady, Passes, happened, point_of, written_of};
 ghost use Rattle.room_steps.specs.declared.position.Ahead.{Ahead as AheadOf};
-ghost use Rattle.room_steps.specs.Steps.{IsOver, IsRoundStep, after_events, start_text, turn_at};
+ghost use Rattle.room_steps.specs.Steps.{ComesTo, IsOver, IsRoundStep, after_events, start_text, turn_at};
 
 use edid_core::Edid;
 use edid_tree::Tree;
@@ -143,9 +143,7 @@ impl Position {
     pub fn to_round<R: Reporter>(&mut self, input: &RunInput, reporter: &mut R) -> Option<u64>
         requires ready { IsReady input.now.end (point_of input.now.events.items self.old) }
         ensures point { point_of input.now.events.items self.new ≡ after_events input.now.end (point_of input.now.events.items self.old) }
-        ensures comes { MatchOption result
-            (IsOver input.now.end (point_of input.now.events.items self.old))
-            (λ begin. turn_at input.now.end (after_events input.now.end (point_of input.now.events.items self.old)) ≡ Round begin) }
+        ensures comes { ComesTo input.now.end (point_of input.now.events.items self.old) result }
         ensures rest { self.new.net.value.rest ≡ self.old.net.value.rest }
         ensures ready { IsReady input.now.end (point_of input.now.events.items self.new) }
         ensures heard { Hears R.hears reporter.old (happened input.now.end (point_of input.now.events.items self.old)) reporter.new }
@@ -163,9 +161,7 @@ impl Position {
     pub fn pass_events(&mut self, input: &RunInput) -> Option<u64>
         requires { IsReady input.now.end (point_of input.now.events.items self.old) }
         ensures point { point_of input.now.events.items self.new ≡ after_events input.now.end (point_of input.now.events.items self.old) }
-        ensures comes { MatchOption result
-            (IsOver input.now.end (point_of input.now.events.items self.old))
-            (λ begin. turn_at input.now.end (after_events input.now.end (point_of input.now.events.items self.old)) ≡ Round begin) }
+        ensures comes { ComesTo input.now.end (point_of input.now.events.items self.old) result }
         ensures rest { self.new.net.value.rest ≡ self.old.net.value.rest }
         ensures ready { IsReady input.now.end (point_of input.now.events.items self.new) }
     {
