@@ -5,7 +5,6 @@
 mod edid_findings;
 mod edid_text;
 mod form;
-mod in_place;
 mod laws;
 mod passed_on;
 mod passing;

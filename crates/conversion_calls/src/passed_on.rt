@@ -4,10 +4,9 @@ ghost use Rattle.text_core.specs.Written.{WrittenLine};
 ghost use Rattle.conversion_calls.specs.PassedOn.{AddressAnswers, PassedAnswers, PassedFindingAnswers, address_line, is_cut, is_check_cut};
 
 use crate::form::{EdidForm, write_in};
-use crate::in_place::first_address;
 use crate::passing::{PassOnError, Passing, pass_on};
 use arrayvec::ArrayVec;
-use edid_core::read_parts;
+use edid_core::{first_address, read_parts};
 use edid_cta::Ext;
 use rules_check::{Origin, check, has_failure, write_findings};
 use text_core::{Phys, Piece, Sink, WriteFault, write_line};

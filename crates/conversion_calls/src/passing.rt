@@ -2,10 +2,9 @@
 ghost use Rattle.std.specs.Prelude.{◌≡◌, ◌≤◌, [], IfOk, IfErr, IsTrue};
 ghost use Rattle.conversion_calls.specs.Passing.{address_in, is_place, place_address, IsPassedOnIn, IsNotPassedOn};
 
-use crate::in_place::{first_address, pass_on_extensions};
 use arrayvec::ArrayVec;
 use edid_base::Base;
-use edid_core::{AudioFrom, EdidError, read_parts};
+use edid_core::{AudioFrom, EdidError, first_address, pass_on_extensions, read_parts};
 use edid_cta::Ext;
 use text_core::Phys;
 use thiserror::Error;

@@ -13,7 +13,7 @@ fn has_address(ext: &Ext) -> bool
 }
 
 /// The first extension that has an HDMI block.
-pub fn first_addressed(extensions: &[Ext]) -> Option<usize>
+pub(crate) fn first_addressed(extensions: &[Ext]) -> Option<usize>
     ensures { result ≡ position has_address extensions.now }
 {
     extensions.iter().position(|ext| has_address(ext))

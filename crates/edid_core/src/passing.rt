@@ -1,5 +1,5 @@
 //! The EDID that is passed on to the device in a port.
-ghost use Rattle.std.specs.Prelude.{◌≡◌, ◌≤◌, ◌<◌, ◌+◌, ◌*◌, ◌++◌, ◌↔◌, None, Some, IsErr, IfOk, length, slice_set, flat_map};
+ghost use Rattle.std.specs.Prelude.{◌≡◌, ◌≤◌, ◌<◌, ◌+◌, ◌*◌, ◌++◌, ◌↔◌, None, Some, IsErr, IfOk, OnOk, length, slice_set, flat_map};
 ghost use Rattle.arrayvec.specs.ArrayVec.{array_vec_len};
 ghost use Rattle.edid_cta.specs.Ext.{ext_bytes};
 ghost use Rattle.edid_cta.specs.Hdmi.{address_of};
@@ -24,7 +24,18 @@ pub enum AudioFrom {
     Amplifier,
 }
 
-/// An extension with another physical address, and with an amplifier's audio.
+/// An extension with another physical address, and with an amplifier's audio. What is made on the way has a frame of its own.
+#[inline(never)]
+fn amplified(ext: &Ext, address: Phys) -> Result<Ext, NoHdmiBlock>
+    ensures bytes { IfOk result (λ e. ext_bytes e ≡ passed_bytes AudioFrom.Amplifier address ext.now) }
+    ensures addressed { IfOk result (λ e. address_of e ≡ Some address) }
+    ensures refused { IsErr result ↔ (address_of ext.now ≡ None) }
+{
+    with_address(&with_audio(ext), address)
+}
+
+/// An extension with another physical address, and with an amplifier's audio where it is asked for.
+#[inline(never)]
 fn passed_extension(ext: &Ext, audio: AudioFrom, address: Phys) -> Result<Ext, NoHdmiBlock>
     ensures bytes { IfOk result (λ e. ext_bytes e ≡ passed_bytes audio address ext.now) }
     ensures addressed { IfOk result (λ e. address_of e ≡ Some address) }
@@ -32,7 +43,7 @@ fn passed_extension(ext: &Ext, audio: AudioFrom, address: Phys) -> Result<Ext, N
 {
     match audio {
         AudioFrom::Television => with_address(ext, address),
-        AudioFrom::Amplifier => with_address(&with_audio(ext), address),
+        AudioFrom::Amplifier => amplified(ext, address),
     }
 }
 
@@ -112,15 +123,42 @@ fn copies_of(extensions: &[Ext]) -> ArrayVec<Ext, 3>
     copies
 }
 
-/// The same extensions, but for one.
-fn with_extension(extensions: &[Ext], index: usize, ext: Ext) -> ArrayVec<Ext, 3>
-    requires few { length extensions.now ≤ 3 }
-    requires known { index < length extensions.now }
-    ensures { result.items ≡ slice_set extensions.now index ext }
+/// Puts an extension in the place of another.
+fn put(extensions: &mut ArrayVec<Ext, 3>, index: usize, ext: Ext)
+    requires { index < length extensions.old.items }
+    ensures { extensions.new.items ≡ slice_set extensions.old.items index ext }
 {
-    let mut copies = copies_of(extensions);
-    copies[index] = ext;
-    copies
+    extensions[index] = ext;
+}
+
+/// Puts another address, and an amplifier's audio where it is asked for, into the first extension that has an HDMI block: an
+/// EDID is large.
+///
+/// # Errors
+///
+/// None has one.
+#[inline(never)]
+pub fn pass_on_extensions(
+    list: &mut ArrayVec<Ext, 3>,
+    audio: AudioFrom,
+    address: Phys,
+) -> Result<(), NoHdmiBlock>
+    ensures bytes { OnOk result (flat_map ext_bytes list.new.items ≡ passed_extensions audio address list.old.items) }
+    ensures addressed { OnOk result (first_address list.new.items ≡ Some address) }
+    ensures count { length list.new.items ≡ length list.old.items }
+    ensures refused { IsErr result ↔ (first_address list.old.items ≡ None) }
+{
+    let extensions = list.as_slice();
+    let Some(index) = first_addressed(extensions) else {
+        return Err(NoHdmiBlock);
+    };
+    match passed_extension(&extensions[index], audio, address) {
+        Err(refused) => Err(refused),
+        Ok(passed) => {
+            put(list, index, passed);
+            Ok(())
+        }
+    }
 }
 
 impl Edid {
@@ -132,15 +170,12 @@ impl Edid {
         ensures addressed { IfOk result (λ e. edid_address e ≡ Some address) }
         ensures refused { IsErr result ↔ (edid_address self.now ≡ None) }
     {
-        let extensions = self.extensions.as_slice();
-        let Some(index) = first_addressed(extensions) else {
-            return Err(NoHdmiBlock);
-        };
-        match passed_extension(&extensions[index], audio, address) {
+        let mut extensions = copies_of(self.extensions.as_slice());
+        match pass_on_extensions(&mut extensions, audio, address) {
             Err(refused) => Err(refused),
-            Ok(passed) => Ok(Edid {
+            Ok(()) => Ok(Edid {
                 base: self.base.copy(),
-                extensions: with_extension(extensions, index, passed),
+                extensions,
             }),
         }
     }
