@@ -9,9 +9,14 @@ use Rattle.edid_cta.specs.Ext.{ext_bytes}
 use Rattle.edid_cta.specs.Hdmi.{address_of}
 use Rattle.edid_cta.specs.declared.raw.Ext.{Ext}
 use Rattle.text_core.specs.declared.phys.Phys.{Phys}
-use Rattle.edid_core.specs.Address.{has_address, first_address, IsFirst}
+use Rattle.edid_core.specs.Address.{has_address, first_address}
 use Rattle.edid_core.specs.Passing.{passed_bytes, passed_extensions}
 use Rattle.edid_core.specs.declared.passing.AudioFrom.{AudioFrom}
+
+-- the first extension that has an HDMI block stands at this place
+pub record IsFirst (xs : List Ext) (i : ℕ) : Type 0 where
+  pub place : i ≡ position_or_len has_address xs
+  pub known : i < length xs
 
 at_first : (x : Ext) (xs : List Ext) → has_address x ≡ true → position_or_len has_address (x ∷ xs) ≡ 0
 at_first x xs h = rw h refl

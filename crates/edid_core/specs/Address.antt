@@ -1,7 +1,6 @@
 -- The physical address that an EDID reports: that of its first HDMI block, the HDMI VSDB (HDMI 1.4, sections 8.3.2 and
 -- 8.7.2).
-use Rattle.std.specs.Prelude.{◌≡◌, ℕ, ◌<◌, Bool, if◌then◌else◌, List, [], ◌∷◌, length, Option, None, is_some}
-use Rattle.std.specs.List.{position_or_len}
+use Rattle.std.specs.Prelude.{Bool, if◌then◌else◌, List, [], ◌∷◌, Option, None, is_some}
 use Rattle.edid_cta.specs.Hdmi.{address_of}
 use Rattle.edid_cta.specs.declared.raw.Ext.{Ext}
 use Rattle.text_core.specs.declared.phys.Phys.{Phys}
@@ -10,11 +9,6 @@ use Rattle.edid_core.specs.declared.edid.Edid.{Edid}
 -- an extension has an HDMI block
 abbrev pub has_address : Ext → Bool
 has_address x = is_some (address_of x)
-
--- the first extension that has an HDMI block stands at this place
-pub record IsFirst (xs : List Ext) (i : ℕ) : Type 0 where
-  pub place : i ≡ position_or_len has_address xs
-  pub known : i < length xs
 
 -- the address in the first extension that has one
 abbrev pub first_address : List Ext → Option Phys

@@ -12,9 +12,6 @@ mod root;
 pub use address::first_address;
 pub use bytes::{EdidError, edid_from_bytes, edid_to_bytes, read_parts};
 pub use edid::Edid;
-pub use laws::{
-    addresses_stand_in_the_first_hdmi_block, extensions_are_passed_on_by_the_first,
-    lengths_are_of_whole_blocks, one_spelling_of_edids, spelled_edids_are_accepted,
-};
+pub use laws::{lengths_are_of_whole_blocks, one_spelling_of_edids, spelled_edids_are_accepted};
 pub use passing::{AudioFrom, append_extensions, pass_on_extensions, write_passed_parts};
 pub use root::{EdidCause, RootError, root_of, root_on_heap};
