@@ -8,6 +8,7 @@ use message_lay::LayCause;
 use message_text::AssembleError;
 use room_script::{ScriptCause, TopologyCause};
 use text_core::At;
+use thiserror::Error;
 
 /// What an input is to be.
 #[derive(Clone, Copy, Debug, PartialEq, Eq)]
@@ -31,10 +32,13 @@ pub enum Input {
 }
 
 /// A line that parts an input, named as the part that follows it.
-#[derive(Clone, Copy, Debug, PartialEq, Eq)]
+#[derive(Clone, Copy, Debug, Drop, PartialEq, Eq, Error)]
 pub enum Parting {
+    #[error("script")]
     Script,
+    #[error("steps")]
     Steps,
+    #[error("capture")]
     Capture,
 }
 

@@ -1,10 +1,5 @@
 //! Frames and their texts.
-ghost use Rattle.std.specs.Prelude.{◌≡◌, ℕ, ◌<◌, ◌≤◌, List, length, IsTrue};
-ghost use Rattle.message_text.specs.FrameReading.{is_frame};
-ghost use Rattle.message_text.specs.FrameText.{frame_text};
-ghost use Rattle.library_answers.specs.Room.{IsPut, IsRefused};
-ghost use Rattle.library_answers.specs.declared.code.Code.TheVariants.{FrameEmpty, FrameTooLong};
-ghost use Rattle.library_wire.specs.Frames.{IsFramePut, IsNoFrameText};
+ghost use Rattle.library_wire.specs.Frames.{AnswersFrameBytes, AnswersFrameText};
 
 use library_answers::{Answer, frame_code, put, refused, text_code};
 use line_frames::Frame;
@@ -14,9 +9,7 @@ use message_text::{assemble, frame_text};
 ///
 /// Refused where there is no byte, or more than 16.
 pub fn put_frame_text(bytes: &[u8], room: &mut [u8]) -> Answer
-    ensures put { 1 ≤ length bytes.now → length bytes.now ≤ 16 → IsPut (frame_text bytes.now) room.old room.new result }
-    ensures empty { length bytes.now ≡ 0 → IsRefused FrameEmpty 0 room.old room.new result }
-    ensures too_long { 16 < length bytes.now → IsRefused FrameTooLong 0 room.old room.new result }
+    ensures { AnswersFrameText bytes.now room.old room.new result }
 {
     match Frame::new(bytes) {
         Ok(frame) => put(&frame_text(&frame), room),
@@ -28,9 +21,7 @@ pub fn put_frame_text(bytes: &[u8], room: &mut [u8]) -> Answer
 ///
 /// Refused with the first cause for which it is no frame's text.
 pub fn put_frame_bytes(text: &[u8], room: &mut [u8]) -> Answer
-    ensures put { (frame : List ℕ) → IsTrue (is_frame frame) → text.now ≡ frame_text frame → IsPut frame room.old room.new result }
-    ensures found { result.code ≤ 1 → IsFramePut text.now room.old room.new result }
-    ensures refused { 1 < result.code → IsNoFrameText text.now room.old room.new result }
+    ensures { AnswersFrameBytes text.now room.old room.new result }
 {
     match assemble(text) {
         Ok(frame) => put(frame.bytes(), room),

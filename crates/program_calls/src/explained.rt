@@ -153,9 +153,7 @@ fn of_input(error: &InputError) -> Explained {
     match error {
         InputError::Read => Explained::Whole(WholeFault::Read),
         InputError::TooLong => Explained::Whole(WholeFault::InputTooLong),
-        InputError::NoScriptLine => Explained::NoParting(Parting::Script),
-        InputError::NoStepsLine => Explained::NoParting(Parting::Steps),
-        InputError::NoCaptureLine => Explained::NoParting(Parting::Capture),
+        InputError::NoParting(parting) => Explained::NoParting(*parting),
         InputError::Memory(_) => Explained::Whole(WholeFault::Memory),
     }
 }

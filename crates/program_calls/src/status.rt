@@ -62,9 +62,7 @@ impl ProgramFault {
             }
             | ProgramFault::Memory(_) => NO_MEMORY,
             ProgramFault::Edid(EdidFault::RuleFails) => RULE_FAILS,
-            ProgramFault::Input(
-                InputError::NoScriptLine | InputError::NoStepsLine | InputError::NoCaptureLine,
-            )
+            ProgramFault::Input(InputError::NoParting(_))
             | ProgramFault::Capture(MonitorFault::Line(_) | MonitorFault::Remarked)
             | ProgramFault::Edid(_)
             | ProgramFault::Emulate(_)

@@ -1,4 +1,5 @@
 //! Why an input is not read, or has not its parts.
+use explain_marks::Parting;
 use std::alloc::AllocError;
 use thiserror::Error;
 
@@ -9,12 +10,8 @@ pub enum InputError {
     Read,
     #[error("input too long")]
     TooLong,
-    #[error("no script line")]
-    NoScriptLine,
-    #[error("no steps line")]
-    NoStepsLine,
-    #[error("no capture line")]
-    NoCaptureLine,
+    #[error("no {0} line")]
+    NoParting(Parting),
     #[error("no memory")]
     Memory(#[from(alloc)] AllocError),
 }

@@ -11,7 +11,8 @@ use Rattle.rules_check.specs.Findings.{rule_findings, timing_findings, edid_find
 use Rattle.rules_check.specs.Laws.{IsAmong, NoneTwice, breaks_at, ListsTheBroken}
 use Rattle.rules_check.specs.declared.rule.Origin.{Origin}
 use Rattle.rules_check.specs.declared.rule.Rule.{Rule}
-use Rattle.rules_check.specs.declared.rule.Rule.TheVariants.{FirstTimingPreferred, PreferredTiming, ProductName, RangeLimits, LimitsAlone, LimitsOrder, Week, Srgb, NoEmptyDescriptor, UnusedStandard, BlockMap, HdmiRevision, OneSerial, Vga, VideoCodeOnce, NativeCount, NativeSize, Underscan, BasicAudio, Speakers, Padding, VideoCapability, RgbRange, TmdsClock, Address, OneHdmi, HdmiVideoCode, ForumAfterHdmi, CtaForm, CtaRevision, ExtensionTag, BlockLength, BlockOnce, OverrideFirst, OverrideCount, BlockTag, AudioFormat, HdrBits, VideoCode, HdmiCode, ForumClock, ForumScdc, ForumRates, MapWithinCodes, FastYcc420, YccRange, LatencyOrder, FormatsWithinLimits, FormatsNearLimits, TextForm, WeekKnown, YearKnown, SrgbGamma, InputKnown}
+use Rattle.rules_check.specs.declared.rule.Rule.TheVariants.{FirstTimingPreferred, PreferredTiming, ProductName, RangeLimits, LimitsAlone, LimitsOrder, Week, Srgb, NoEmptyDescriptor, UnusedStandard, BlockMap, HdmiRevision, OneSerial, Vga, VideoCodeOnce, NativeCount, NativeSize, Underscan, BasicAudio, Speakers, Padding, VideoCapability, RgbRange, TmdsClock, Address, OneHdmi, HdmiVideoCode, ForumAfterHdmi, CtaForm, CtaRevision, ExtensionTag, Block, BlockOnce, OverrideFirst, OverrideCount, MapWithinCodes, FastYcc420, YccRange, FormatsWithinLimits, FormatsNearLimits, TextForm, WeekKnown, YearKnown, SrgbGamma, InputKnown}
+use Rattle.rules_contents.specs.declared.contents.Slip.TheVariants as slip
 use Rattle.rules_check.specs.declared.rule.TimingRule.{TimingRule}
 use Rattle.rules_check.specs.declared.rule.TimingRule.TheVariants.{Clock, Fields, HorizontalBackPorch, VerticalBackPorch, SizeThere, SizeFits, WithinLimits, NearLimits}
 use Rattle.rules_check.specs.declared.rule.Finding.{Finding}
@@ -52,22 +53,22 @@ place_of ForumAfterHdmi = 27
 place_of CtaForm = 28
 place_of CtaRevision = 29
 place_of ExtensionTag = 30
-place_of BlockLength = 31
+place_of (Block slip.Length) = 31
 place_of BlockOnce = 32
 place_of OverrideFirst = 33
 place_of OverrideCount = 34
-place_of BlockTag = 35
-place_of AudioFormat = 36
-place_of HdrBits = 37
-place_of VideoCode = 38
-place_of HdmiCode = 39
-place_of ForumClock = 40
-place_of ForumScdc = 41
-place_of ForumRates = 42
+place_of (Block slip.Tag) = 35
+place_of (Block slip.AudioFormat) = 36
+place_of (Block slip.HdrBits) = 37
+place_of (Block slip.VideoCode) = 38
+place_of (Block slip.HdmiCode) = 39
+place_of (Block slip.ForumClock) = 40
+place_of (Block slip.ForumScdc) = 41
+place_of (Block slip.ForumRates) = 42
 place_of MapWithinCodes = 43
 place_of FastYcc420 = 44
 place_of YccRange = 45
-place_of LatencyOrder = 46
+place_of (Block slip.Latency) = 46
 place_of FormatsWithinLimits = 47
 place_of FormatsNearLimits = 48
 place_of TextForm = 49
@@ -108,22 +109,22 @@ placed ForumAfterHdmi = refl
 placed CtaForm = refl
 placed CtaRevision = refl
 placed ExtensionTag = refl
-placed BlockLength = refl
+placed (Block slip.Length) = refl
 placed BlockOnce = refl
 placed OverrideFirst = refl
 placed OverrideCount = refl
-placed BlockTag = refl
-placed AudioFormat = refl
-placed HdrBits = refl
-placed VideoCode = refl
-placed HdmiCode = refl
-placed ForumClock = refl
-placed ForumScdc = refl
-placed ForumRates = refl
+placed (Block slip.Tag) = refl
+placed (Block slip.AudioFormat) = refl
+placed (Block slip.HdrBits) = refl
+placed (Block slip.VideoCode) = refl
+placed (Block slip.HdmiCode) = refl
+placed (Block slip.ForumClock) = refl
+placed (Block slip.ForumScdc) = refl
+placed (Block slip.ForumRates) = refl
 placed MapWithinCodes = refl
 placed FastYcc420 = refl
 placed YccRange = refl
-placed LatencyOrder = refl
+placed (Block slip.Latency) = refl
 placed FormatsWithinLimits = refl
 placed FormatsNearLimits = refl
 placed TextForm = refl

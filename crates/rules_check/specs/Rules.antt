@@ -19,7 +19,7 @@ use Rattle.rules_rates.specs.Maps.{has_past, has_slow}
 use Rattle.rules_check.specs.declared.rule.Origin.{Origin}
 use Rattle.rules_check.specs.declared.rule.Origin.TheVariants.{Display, Port}
 use Rattle.rules_check.specs.declared.rule.Rule.{Rule}
-use Rattle.rules_check.specs.declared.rule.Rule.TheVariants.{FirstTimingPreferred, PreferredTiming, ProductName, RangeLimits, LimitsAlone, LimitsOrder, Week, Srgb, NoEmptyDescriptor, UnusedStandard, BlockMap, HdmiRevision, OneSerial, Vga, VideoCodeOnce, NativeCount, NativeSize, Underscan, BasicAudio, Speakers, Padding, VideoCapability, RgbRange, TmdsClock, Address, OneHdmi, HdmiVideoCode, ForumAfterHdmi, CtaForm, CtaRevision, ExtensionTag, BlockLength, BlockOnce, OverrideFirst, OverrideCount, BlockTag, AudioFormat, HdrBits, VideoCode, HdmiCode, ForumClock, ForumScdc, ForumRates, MapWithinCodes, FastYcc420, YccRange, LatencyOrder, FormatsWithinLimits, FormatsNearLimits, TextForm, WeekKnown, YearKnown, SrgbGamma, InputKnown}
+use Rattle.rules_check.specs.declared.rule.Rule.TheVariants.{FirstTimingPreferred, PreferredTiming, ProductName, RangeLimits, LimitsAlone, LimitsOrder, Week, Srgb, NoEmptyDescriptor, UnusedStandard, BlockMap, HdmiRevision, OneSerial, Vga, VideoCodeOnce, NativeCount, NativeSize, Underscan, BasicAudio, Speakers, Padding, VideoCapability, RgbRange, TmdsClock, Address, OneHdmi, HdmiVideoCode, ForumAfterHdmi, CtaForm, CtaRevision, ExtensionTag, Block, BlockOnce, OverrideFirst, OverrideCount, MapWithinCodes, FastYcc420, YccRange, FormatsWithinLimits, FormatsNearLimits, TextForm, WeekKnown, YearKnown, SrgbGamma, InputKnown}
 
 -- all rules, in the order in which they are looked at
 abbrev pub rules : List Rule
@@ -28,8 +28,8 @@ rules =
     BlockMap ∷ HdmiRevision ∷ OneSerial ∷ Vga ∷ VideoCodeOnce ∷ NativeCount ∷ NativeSize ∷ Underscan ∷ BasicAudio ∷ Speakers ∷ Padding ∷
     VideoCapability ∷ RgbRange ∷ TmdsClock ∷ Address ∷ OneHdmi ∷ HdmiVideoCode ∷ ForumAfterHdmi ∷
     CtaForm ∷ CtaRevision ∷ ExtensionTag ∷
-    BlockLength ∷ BlockOnce ∷ OverrideFirst ∷ OverrideCount ∷ BlockTag ∷ AudioFormat ∷ HdrBits ∷ VideoCode ∷ HdmiCode ∷ ForumClock ∷ ForumScdc ∷ ForumRates ∷
-    MapWithinCodes ∷ FastYcc420 ∷ YccRange ∷ LatencyOrder ∷ FormatsWithinLimits ∷ FormatsNearLimits ∷ TextForm ∷ WeekKnown ∷ YearKnown ∷ SrgbGamma ∷ InputKnown ∷ []
+    Block slip.Length ∷ BlockOnce ∷ OverrideFirst ∷ OverrideCount ∷ Block slip.Tag ∷ Block slip.AudioFormat ∷ Block slip.HdrBits ∷ Block slip.VideoCode ∷ Block slip.HdmiCode ∷ Block slip.ForumClock ∷ Block slip.ForumScdc ∷ Block slip.ForumRates ∷
+    MapWithinCodes ∷ FastYcc420 ∷ YccRange ∷ Block slip.Latency ∷ FormatsWithinLimits ∷ FormatsNearLimits ∷ TextForm ∷ WeekKnown ∷ YearKnown ∷ SrgbGamma ∷ InputKnown ∷ []
 
 -- an HDMI block has the address of no place in a tree, or in a port's EDID that of the root (HDMI 1.4, section 8.7.3)
 abbrev pub has_ill_address : Origin → List Ext → Bool
@@ -98,38 +98,20 @@ is_broken o CtaForm b xs = list_any overruns xs
 is_broken o CtaRevision b xs = list_any has_other_revision xs
 -- extension tags (E-EDID Release A, section 2.2.1)
 is_broken o ExtensionTag b xs = list_any has_unknown_tag xs
--- three bytes an audio format; the bytes of video capability, colorimetry and HDR (CTA-861-G, sections 7.5.2, 7.5.5, 7.5.6 and 7.5.13)
-is_broken o BlockLength b xs = some_block (has_slip slip.Length) xs
+-- a data block has a slip (each by the clause that its definition in rules_contents names)
+is_broken o (Block s) b xs = some_block (has_slip s) xs
 -- one block of each sort in an extension (CTA-861-G, section 7.5)
 is_broken o BlockOnce b xs = list_any repeats_block xs
 -- it is the first data block of the first extension (HDMI 2.1, section 10.3.7)
 is_broken o OverrideFirst b xs = has_misplaced_override xs
 -- it counts the extensions of byte 126 and more (HDMI 2.1, section 10.3.7)
 is_broken o OverrideCount b xs = has_low_override b xs
--- tag 0 is reserved (CTA-861-G, table 55)
-is_broken o BlockTag b xs = some_block (has_slip slip.Tag) xs
--- format 0 is reserved (CTA-861-G, table 34)
-is_broken o AudioFormat b xs = some_block (has_slip slip.AudioFormat) xs
--- bits of transfer functions and of types of metadata that are reserved (CTA-861-G, section 7.5.13)
-is_broken o HdrBits b xs = some_block (has_slip slip.HdrBits) xs
--- codes above 219 stand for no format (CTA-861-G, table 3)
-is_broken o VideoCode b xs = some_block (has_slip slip.VideoCode) xs
--- HDMI's own codes are 1 to 4 (HDMI 1.4, section 8.2.3)
-is_broken o HdmiCode b xs = some_block (has_slip slip.HdmiCode) xs
--- above 340 MHz, and at most 600 MHz (HDMI 2.1, section 10.3.2)
-is_broken o ForumClock b xs = some_block (has_slip slip.ForumClock) xs
--- a fixed rate link is set up by SCDC (HDMI 2.1, section 10.3.2)
-is_broken o ForumScdc b xs = some_block (has_slip slip.ForumScdc) xs
--- at most 48 Hz, and none or at least 100 Hz (HDMI 2.1, section 10.3.2)
-is_broken o ForumRates b xs = some_block (has_slip slip.ForumRates) xs
 -- bit k is for the video code k (CTA-861-G, section 7.5.11)
 is_broken o MapWithinCodes b xs = some_block (has_past (length (video_codes xs))) xs
 -- 4:2:0 is for pixel clocks of 590 MHz and more (HDMI 2.1, section 7.1)
 is_broken o FastYcc420 b xs = some_block (has_slow (video_codes xs)) xs
 -- the range of YCbCr values can be chosen (CTA-861-G, section 7.5.6)
 is_broken o YccRange b xs = list_any has_fixed_ycc xs
--- audio latency is at most 20 ms above video latency, where no other device shows the pictures (HDMI 1.4, section 8.3.2)
-is_broken o LatencyOrder b xs = some_block (has_slip slip.Latency) xs
 -- a display of 1.3 shows no format outside its limits (E-EDID Release A, section 3.10.3.3)
 is_broken o FormatsWithinLimits b xs = is_three b.revision && has_format_outside b xs
 -- in 1.4 a format that is told of by its name holds whatever the limits are (E-EDID 1.4, section 3.10.3.3)

@@ -3,7 +3,8 @@ use Rattle.std.specs.Prelude.{ℕ, Bool, true, false, List, ◌++◌, codes, fla
 use Rattle.std.specs.Fmt.{decimal}
 use Rattle.std.specs.List.{list_any}
 use Rattle.rules_check.specs.declared.rule.Rule.{Rule}
-use Rattle.rules_check.specs.declared.rule.Rule.TheVariants.{FirstTimingPreferred, PreferredTiming, ProductName, RangeLimits, LimitsAlone, LimitsOrder, Week, Srgb, NoEmptyDescriptor, UnusedStandard, BlockMap, HdmiRevision, OneSerial, Vga, VideoCodeOnce, NativeCount, NativeSize, Underscan, BasicAudio, Speakers, Padding, VideoCapability, RgbRange, TmdsClock, Address, OneHdmi, HdmiVideoCode, ForumAfterHdmi, CtaForm, CtaRevision, ExtensionTag, BlockLength, BlockOnce, OverrideFirst, OverrideCount, BlockTag, AudioFormat, HdrBits, VideoCode, HdmiCode, ForumClock, ForumScdc, ForumRates, MapWithinCodes, FastYcc420, YccRange, LatencyOrder, FormatsWithinLimits, FormatsNearLimits, TextForm, WeekKnown, YearKnown, SrgbGamma, InputKnown}
+use Rattle.rules_check.specs.declared.rule.Rule.TheVariants.{FirstTimingPreferred, PreferredTiming, ProductName, RangeLimits, LimitsAlone, LimitsOrder, Week, Srgb, NoEmptyDescriptor, UnusedStandard, BlockMap, HdmiRevision, OneSerial, Vga, VideoCodeOnce, NativeCount, NativeSize, Underscan, BasicAudio, Speakers, Padding, VideoCapability, RgbRange, TmdsClock, Address, OneHdmi, HdmiVideoCode, ForumAfterHdmi, CtaForm, CtaRevision, ExtensionTag, Block, BlockOnce, OverrideFirst, OverrideCount, MapWithinCodes, FastYcc420, YccRange, FormatsWithinLimits, FormatsNearLimits, TextForm, WeekKnown, YearKnown, SrgbGamma, InputKnown}
+use Rattle.rules_contents.specs.declared.contents.Slip.TheVariants as slip
 use Rattle.rules_check.specs.declared.rule.Severity.{Severity}
 use Rattle.rules_check.specs.declared.rule.Severity.TheVariants.{Fail, Warn}
 use Rattle.rules_check.specs.declared.rule.TimingRule.{TimingRule}
@@ -23,12 +24,12 @@ rule_severity RgbRange = Warn
 rule_severity OneHdmi = Warn
 rule_severity CtaRevision = Warn
 rule_severity ExtensionTag = Warn
-rule_severity BlockTag = Warn
-rule_severity HdrBits = Warn
-rule_severity VideoCode = Warn
+rule_severity (Block slip.Tag) = Warn
+rule_severity (Block slip.HdrBits) = Warn
+rule_severity (Block slip.VideoCode) = Warn
 rule_severity FastYcc420 = Warn
 rule_severity YccRange = Warn
-rule_severity LatencyOrder = Warn
+rule_severity (Block slip.Latency) = Warn
 rule_severity FormatsNearLimits = Warn
 rule_severity YearKnown = Warn
 rule_severity SrgbGamma = Warn
@@ -87,22 +88,22 @@ rule_name ForumAfterHdmi = codes "hdmi-forum-first"
 rule_name CtaForm = codes "cta-overrun"
 rule_name CtaRevision = codes "cta-revision"
 rule_name ExtensionTag = codes "unknown-extension"
-rule_name BlockLength = codes "block-length"
+rule_name (Block slip.Length) = codes "block-length"
 rule_name BlockOnce = codes "block-twice"
 rule_name OverrideFirst = codes "eeodb-place"
 rule_name OverrideCount = codes "eeodb-count"
-rule_name BlockTag = codes "tag-reserved"
-rule_name AudioFormat = codes "audio-reserved"
-rule_name HdrBits = codes "hdr-reserved"
-rule_name VideoCode = codes "vic-reserved"
-rule_name HdmiCode = codes "hdmi-vic-reserved"
-rule_name ForumClock = codes "forum-clock"
-rule_name ForumScdc = codes "forum-scdc"
-rule_name ForumRates = codes "forum-vrr"
+rule_name (Block slip.Tag) = codes "tag-reserved"
+rule_name (Block slip.AudioFormat) = codes "audio-reserved"
+rule_name (Block slip.HdrBits) = codes "hdr-reserved"
+rule_name (Block slip.VideoCode) = codes "vic-reserved"
+rule_name (Block slip.HdmiCode) = codes "hdmi-vic-reserved"
+rule_name (Block slip.ForumClock) = codes "forum-clock"
+rule_name (Block slip.ForumScdc) = codes "forum-scdc"
+rule_name (Block slip.ForumRates) = codes "forum-vrr"
 rule_name MapWithinCodes = codes "map-past-codes"
 rule_name FastYcc420 = codes "ycc420-slow"
 rule_name YccRange = codes "ycc-quantization"
-rule_name LatencyOrder = codes "latency-order"
+rule_name (Block slip.Latency) = codes "latency-order"
 rule_name FormatsWithinLimits = codes "out-of-range"
 rule_name FormatsNearLimits = codes "out-of-range"
 rule_name TextForm = codes "text-form"

@@ -1,4 +1,5 @@
 //! Rules, and what is found.
+use rules_contents::Slip;
 
 /// A rule for an EDID.
 #[derive(Clone, Copy, Debug, PartialEq, Eq)]
@@ -65,38 +66,20 @@ pub enum Rule {
     CtaRevision,
     /// The tag of an extension is a known one.
     ExtensionTag,
-    /// A data block has a length of its kind.
-    BlockLength,
+    /// No data block has this slip.
+    Block(Slip),
     /// A data block of a sort that stands once stands once.
     BlockOnce,
     /// The HDMI Forum's count of extensions stands first.
     OverrideFirst,
     /// The HDMI Forum's count of extensions is not below that of the base block.
     OverrideCount,
-    /// No data block has the reserved tag 0.
-    BlockTag,
-    /// No audio format is the reserved 0.
-    AudioFormat,
-    /// No reserved bit of an HDR block is set.
-    HdrBits,
-    /// Each video code is one of a format.
-    VideoCode,
-    /// Each of HDMI's own codes is one of a format.
-    HdmiCode,
-    /// The HDMI Forum's clock is one that it reports.
-    ForumClock,
-    /// A fixed rate link has SCDC.
-    ForumScdc,
-    /// The rates of variable refresh go together.
-    ForumRates,
     /// A map of 4:2:0 formats marks no place after the last video code.
     MapWithinCodes,
     /// A format in 4:2:0 is fast enough for it.
     FastYcc420,
     /// The range of YCbCr values can be chosen where there is YCbCr.
     YccRange,
-    /// Sound is not late.
-    LatencyOrder,
     /// Video codes, established and standard timings are within the range limits of revision 3.
     FormatsWithinLimits,
     /// Video codes, established and standard timings are within the range limits of revision 4.

@@ -8,6 +8,7 @@ use crate::checking::MAX_FINDINGS;
 use crate::rule::{Finding, Rule, Severity, TimingRule};
 use arrayvec::ArrayVec;
 use edid_base::append;
+use rules_contents::Slip;
 use text_core::{Sink, WriteFault, put_all};
 
 /// The bytes that the longest line has room in.
@@ -27,12 +28,12 @@ fn rule_severity(rule: Rule) -> Severity
         | Rule::OneHdmi
         | Rule::CtaRevision
         | Rule::ExtensionTag
-        | Rule::BlockTag
-        | Rule::HdrBits
-        | Rule::VideoCode
+        | Rule::Block(Slip::Tag)
+        | Rule::Block(Slip::HdrBits)
+        | Rule::Block(Slip::VideoCode)
         | Rule::FastYcc420
         | Rule::YccRange
-        | Rule::LatencyOrder
+        | Rule::Block(Slip::Latency)
         | Rule::FormatsNearLimits
         | Rule::YearKnown
         | Rule::SrgbGamma => Severity::Warn,
@@ -107,22 +108,22 @@ fn rule_name(rule: Rule) -> &'static str
         Rule::CtaForm => "cta-overrun",
         Rule::CtaRevision => "cta-revision",
         Rule::ExtensionTag => "unknown-extension",
-        Rule::BlockLength => "block-length",
+        Rule::Block(Slip::Length) => "block-length",
         Rule::BlockOnce => "block-twice",
         Rule::OverrideFirst => "eeodb-place",
         Rule::OverrideCount => "eeodb-count",
-        Rule::BlockTag => "tag-reserved",
-        Rule::AudioFormat => "audio-reserved",
-        Rule::HdrBits => "hdr-reserved",
-        Rule::VideoCode => "vic-reserved",
-        Rule::HdmiCode => "hdmi-vic-reserved",
-        Rule::ForumClock => "forum-clock",
-        Rule::ForumScdc => "forum-scdc",
-        Rule::ForumRates => "forum-vrr",
+        Rule::Block(Slip::Tag) => "tag-reserved",
+        Rule::Block(Slip::AudioFormat) => "audio-reserved",
+        Rule::Block(Slip::HdrBits) => "hdr-reserved",
+        Rule::Block(Slip::VideoCode) => "vic-reserved",
+        Rule::Block(Slip::HdmiCode) => "hdmi-vic-reserved",
+        Rule::Block(Slip::ForumClock) => "forum-clock",
+        Rule::Block(Slip::ForumScdc) => "forum-scdc",
+        Rule::Block(Slip::ForumRates) => "forum-vrr",
         Rule::MapWithinCodes => "map-past-codes",
         Rule::FastYcc420 => "ycc420-slow",
         Rule::YccRange => "ycc-quantization",
-        Rule::LatencyOrder => "latency-order",
+        Rule::Block(Slip::Latency) => "latency-order",
         Rule::FormatsWithinLimits => "out-of-range",
         Rule::FormatsNearLimits => "out-of-range",
         Rule::TextForm => "text-form",

@@ -1,5 +1,6 @@
 //! What each rule asks, with the clause of the standard that it is from.
 use rules_check::{Finding, Rule, TimingRule};
+use rules_contents::Slip;
 
 /// What a rule for the base block asks.
 fn asked_of_base(rule: Rule) -> Option<&'static str> {
@@ -94,7 +95,7 @@ fn asked_of_extensions(rule: Rule) -> &'static str {
         Rule::ExtensionTag => {
             "the first byte of an extension is 02, 10, 40, 50, 60, 70, f0 or ff (E-EDID A, 2.2.1)"
         }
-        Rule::BlockLength => {
+        Rule::Block(Slip::Length) => {
             "an audio block has three bytes a format; after its tag a video capability block has one at least, a colorimetry and an HDR block two (CTA-861-G, 7.5.2, 7.5.5, 7.5.6, 7.5.13)"
         }
         Rule::BlockOnce => {
@@ -106,24 +107,26 @@ fn asked_of_extensions(rule: Rule) -> &'static str {
         Rule::OverrideCount => {
             "the HDMI Forum's override of the count of extensions is not below byte 126, and not 0 (HDMI 2.1, 10.3.7)"
         }
-        Rule::BlockTag => { "no data block has tag 0, which is reserved (CTA-861-G, table 55)" }
-        Rule::AudioFormat => {
+        Rule::Block(Slip::Tag) => {
+            "no data block has tag 0, which is reserved (CTA-861-G, table 55)"
+        }
+        Rule::Block(Slip::AudioFormat) => {
             "bits 6 to 3 of the first byte of an audio format are above 0 (CTA-861-G, table 34)"
         }
-        Rule::HdrBits => {
+        Rule::Block(Slip::HdrBits) => {
             "bits 7 to 4 of the first byte of an HDR block are clear, and bits 7 to 1 of the second (CTA-861-G, 7.5.13)"
         }
-        Rule::VideoCode => {
+        Rule::Block(Slip::VideoCode) => {
             "a video code is at most 219, the last one of a format (CTA-861-G, table 3)"
         }
-        Rule::HdmiCode => { "a code of HDMI's own is 1, 2, 3 or 4 (HDMI 1.4, 8.2.3)" }
-        Rule::ForumClock => {
+        Rule::Block(Slip::HdmiCode) => { "a code of HDMI's own is 1, 2, 3 or 4 (HDMI 1.4, 8.2.3)" }
+        Rule::Block(Slip::ForumClock) => {
             "the clock in an HDMI Forum block is 0, or above 340 MHz and at most 600 MHz: a byte of 69 to 120 (HDMI 2.1, 10.3.2)"
         }
-        Rule::ForumScdc => {
+        Rule::Block(Slip::ForumScdc) => {
             "a fixed rate link comes with SCDC, bit 7 of byte 2 of an HDMI Forum block (HDMI 2.1, 10.3.2)"
         }
-        Rule::ForumRates => {
+        Rule::Block(Slip::ForumRates) => {
             "the least rate of variable refresh is at most 48 Hz; the greatest is 0, or 100 Hz and more with a least one (HDMI 2.1, 10.3.2)"
         }
         Rule::MapWithinCodes => {
@@ -135,7 +138,7 @@ fn asked_of_extensions(rule: Rule) -> &'static str {
         Rule::YccRange => {
             "bit 7 of a video capability block is set where the flags have YCbCr: the range of its values can be chosen (CTA-861-G, 7.5.6)"
         }
-        Rule::LatencyOrder => {
+        Rule::Block(Slip::Latency) => {
             "the audio latency of an HDMI block is at most 20 ms above the video latency (HDMI 1.4, 8.3.2)"
         }
         Rule::FormatsWithinLimits => {

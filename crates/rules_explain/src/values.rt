@@ -13,7 +13,6 @@ use crate::places::{
 use edid_base::{Base, Descriptor, Timing};
 use edid_cta::{Ext, hdmi_address};
 use rules_check::{Finding, Rule, TimingRule};
-use rules_contents::Slip;
 use rules_native::{Picture, differs, native_pictures};
 use rules_rates::{field_span, line_span};
 use rules_values::{hdmi_count, native_count, timings_of, video_codes};
@@ -140,23 +139,6 @@ fn limits_reported(alloc: Global, base: &Base) -> Result<Option<String>, AllocEr
     Ok(None)
 }
 
-/// What is wrong in a data block where a rule is broken.
-fn slip_of(rule: Rule) -> Option<Slip> {
-    match rule {
-        Rule::BlockLength => Some(Slip::Length),
-        Rule::BlockTag => Some(Slip::Tag),
-        Rule::AudioFormat => Some(Slip::AudioFormat),
-        Rule::HdrBits => Some(Slip::HdrBits),
-        Rule::VideoCode => Some(Slip::VideoCode),
-        Rule::HdmiCode => Some(Slip::HdmiCode),
-        Rule::ForumClock => Some(Slip::ForumClock),
-        Rule::ForumScdc => Some(Slip::ForumScdc),
-        Rule::ForumRates => Some(Slip::ForumRates),
-        Rule::LatencyOrder => Some(Slip::Latency),
-        _ => None,
-    }
-}
-
 /// The values that break a rule for an EDID, where they are few.
 fn reported_of_edid(
     alloc: Global,
@@ -224,10 +206,8 @@ fn reported_of_edid(
             let count = hdmi_count(extensions);
             Ok(Some(format!(in alloc; "{count} HDMI blocks")?))
         }
-        _ => match slip_of(rule) {
-            None => Ok(None),
-            Some(slip) => slip_reported(alloc, slip, extensions),
-        },
+        Rule::Block(slip) => slip_reported(alloc, slip, extensions),
+        _ => Ok(None),
     }
 }
 
