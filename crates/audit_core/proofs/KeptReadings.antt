@@ -33,7 +33,7 @@ use Rattle.audit_remarks.specs.declared.requests.Request.{Request}
 use Rattle.audit_remarks.specs.Messages.{missed_receivers, missing_operands}
 use Rattle.audit_remarks.specs.declared.series.BadStartSeries.{BadStartSeries}
 use Rattle.audit_remarks.specs.declared.sources.Mention.{Mention}
-use Rattle.audit_core.specs.Lines.{answer_text, answered_text, answers_text, claim_text, claims_text, count_text, counts_text, drive_text, drive_word, failure_text, failure_word, head_line, head_text, if_answered, if_given_up, if_late, kind_text, late_text, limit_word, misfit_line, misfit_text, misfits_text, missing_text, moved_text, named_text, receivers_text, request_text, series_text, soon_text, spread_text, timing_text, unfinished_text, widths_text, within_text}
+use Rattle.audit_core.specs.Lines.{answer_text, answered_text, answers_text, claim_text, claims_text, count_text, counts_text, drive_text, drive_word, failure_text, failure_word, head_line, head_text, if_answered, if_given_up, if_late, kind_text, late_text, limit_word, misfit_line, misfit_text, misfits_text, missing_text, moved_text, named_text, opcode_word, receivers_text, request_text, series_text, soon_text, spread_text, timing_text, unfinished_text, widths_text, within_text}
 use Rattle.audit_remarks.specs.Attempts.{failure_of, tries_again}
 use Rattle.audit_remarks.specs.Frames.{delivered_frame, sender}
 use Rattle.audit_remarks.specs.Free.{free_before, too_soon}
@@ -88,19 +88,21 @@ more_remarks {a} {b} x y = record {
 
 -- ---- notes
 
-head_lines : (h : FrameHead) (o : Option ℕ) → AreRemarks (head_line h o)
-head_lines h None =
-    one_remark (head_line h None) (refl, refl, lit (codes "read ") refl (closed_more (nibble_text (h.initiator % 16)) (plain_nibble (h.initiator % 16)) (lit (codes ">") refl (closed_more (nibble_text (h.destination % 16)) (plain_nibble (h.destination % 16)) closed))))
-head_lines h (Some opcode) =
-    one_remark (head_line h (Some opcode)) (
+plain_word : (o : Option ℕ) → IsPlain (opcode_word o)
+plain_word None = tt
+plain_word (Some opcode) = plain_more (codes " ") (opcode_text opcode) (plain_codes (codes " ") refl) (plain_opcode opcode)
+
+head_remark : (h : FrameHead) → AreRemarks (head_line h)
+head_remark h =
+    one_remark (head_line h) (
       refl,
       refl,
-      lit (codes "read ") refl (closed_more (nibble_text (h.initiator % 16)) (plain_nibble (h.initiator % 16)) (lit (codes ">") refl (closed_more (nibble_text (h.destination % 16)) (plain_nibble (h.destination % 16)) (lit (codes " ") refl (closed_more (opcode_text opcode) (plain_opcode opcode) closed))))),
+      lit (codes "read ") refl (closed_more (nibble_text (h.initiator % 16)) (plain_nibble (h.initiator % 16)) (lit (codes ">") refl (closed_more (nibble_text (h.destination % 16)) (plain_nibble (h.destination % 16)) (closed_more (opcode_word h.opcode) (plain_word h.opcode) closed)))),
     )
 
 head_remarks : (o : Option FrameHead) → AreRemarks (head_text o)
 head_remarks None = no_remarks
-head_remarks (Some h) = head_lines h h.opcode
+head_remarks (Some h) = head_remark h
 
 abbrev Shown : List NamedByte → Type 0
 Shown table = list_all (λ w. shown w.text) table ≡ true
@@ -166,18 +168,30 @@ width_part m = kind_text m.kind ++ (decimal m.micros ++ (codes " not " ++ (decim
 width_closed : (m : Misfit) → IsClosed (width_part m)
 width_closed m = closed_more (kind_text m.kind) (plain_kind m.kind) (dec m.micros (lit (codes " not ") refl (dec m.window.least (lit (codes "..") refl (dec m.window.greatest closed)))))
 
-abbrev start_line : Misfit → List ℕ
-start_line m = codes "  start" ++ width_part m
+-- a slot, after the spaces
+abbrev bit_part : ℕ → List ℕ
+bit_part slot = codes " bit " ++ (decimal ((slot - 1) % 10 + 1) ++ [])
 
-abbrev slot_line : Misfit → List ℕ
-slot_line m = codes "  slot " ++ (decimal m.slot ++ (codes " block " ++ (decimal ((m.slot - 1) / 10 + 1) ++ (codes " bit " ++ (decimal ((m.slot - 1) % 10 + 1) ++ width_part m)))))
+abbrev block_part : ℕ → List ℕ
+block_part slot = codes " block " ++ (decimal ((slot - 1) / 10 + 1) ++ bit_part slot)
+
+abbrev slot_part : ℕ → List ℕ
+slot_part slot = codes "slot " ++ (decimal slot ++ block_part slot)
+
+plain_number : (word : List ℕ) (n : ℕ) (rest : List ℕ) → list_all (λ c. not (c == 10)) word ≡ true → IsPlain rest → IsPlain (word ++ (decimal n ++ rest))
+plain_number word n rest h k = plain_more word (decimal n ++ rest) (plain_codes word h) (plain_more (decimal n) rest (plain_decimal n) k)
+
+plain_slot : (slot : ℕ) → IsPlain (slot_part slot)
+plain_slot slot =
+    plain_number (codes "slot ") slot (block_part slot) refl
+    (plain_number (codes " block ") ((slot - 1) / 10 + 1) (bit_part slot) refl (plain_number (codes " bit ") ((slot - 1) % 10 + 1) [] refl tt))
 
 misfit_remark : (m : Misfit) → IsRemark (misfit_line m)
 misfit_remark m = by (m.slot == 0)
   where
-    by : (b : Bool) → IsRemark (if b then start_line m else slot_line m)
+    by : (b : Bool) → IsRemark ((if b then codes "  start" else 32 ∷ 32 ∷ slot_part m.slot) ++ width_part m)
     by true = (refl, refl, lit (codes "start") refl (width_closed m))
-    by false = (refl, refl, lit (codes "slot ") refl (dec m.slot (lit (codes " block ") refl (dec ((m.slot - 1) / 10 + 1) (lit (codes " bit ") refl (dec ((m.slot - 1) % 10 + 1) (width_closed m)))))))
+    by false = (refl, refl, closed_more (slot_part m.slot) (plain_slot m.slot) (width_closed m))
 
 misfit_remarks : (o : Option Misfit) → AreRemarks (misfit_text o)
 misfit_remarks None = no_remarks

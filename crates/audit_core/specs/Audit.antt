@@ -1,11 +1,12 @@
 -- The audit of a capture: below the line of each reading what there is to remark, in order, and at the end the widths of
 -- all readings (own).
-use Rattle.std.specs.Prelude.{ℕ, Bool, nat_lt, ◌&&◌, if◌then◌else◌, List, [], ◌∷◌, ◌++◌, Option, Some, None, codes}
+use Rattle.std.specs.Prelude.{◌≡◌, ℕ, Bool, nat_lt, ◌&&◌, if◌then◌else◌, List, [], ◌∷◌, ◌++◌, Option, Some, None, codes}
 use Rattle.text_core.specs.declared.phys.Phys.{Phys}
 use Rattle.line_wave.specs.declared.Edge.{Edge}
 use Rattle.line_frames.specs.declared.Ending.{Ending}
 use Rattle.line_frames.specs.declared.Ending.TheVariants.{Open}
 use Rattle.line_reading.specs.Readings.{Listed, readings_of}
+use Rattle.line_reading.specs.Reports.{listed_as}
 use Rattle.capture_core.specs.Edges.{Captured, line_of_edges}
 use Rattle.audit_widths.specs.declared.low.Low.{Low}
 use Rattle.audit_widths.specs.declared.spread.Widths.{Widths}
@@ -17,6 +18,7 @@ use Rattle.message_hex.specs.Remark.{remark}
 use Rattle.capture_monitor.specs.Watch.{listed_line, reading_as}
 use Rattle.audit_remarks.specs.declared.attempts.Attempts.{Attempts}
 use Rattle.audit_core.specs.declared.auditor.Auditor.{Auditor}
+use Rattle.audit_core.specs.declared.heard.Heard.{Heard}
 use Rattle.audit_core.specs.declared.whole.WholeAudit.{WholeAudit}
 use Rattle.audit_remarks.specs.declared.counts.FrameCount.{FrameCount}
 use Rattle.audit_remarks.specs.declared.free.Previous.{Previous}
@@ -72,6 +74,11 @@ falls_until _ at = at
 
 abbrev pub lows_of : Listed → List Edge → List Low
 lows_of x edges = lows_before (falls_until x.reported.ending x.reported.at) edges
+
+-- a reading that is heard has its low stretches and the frame that it delivers
+pub record IsHeard (h : Heard) : Type 0 where
+  pub lows : h.lows.items ≡ lows_of (listed_as h.reading.now) h.edges.now
+  pub frame : h.frame.items ≡ delivered_frame (listed_as h.reading.now)
 
 -- the widths that are out of their windows: of bad starts in a row those of the first one
 abbrev pub is_folded : BadStartSeries → Ending → Bool

@@ -1,4 +1,3 @@
-pub mod Written
 pub mod Lines
 pub mod Audit
 pub mod Kept

@@ -33,15 +33,18 @@ abbrev pub named_text : Option (List ℕ) → List ℕ
 named_text None = []
 named_text (Some name) = concat (codes "  # " ∷ name ∷ codes "\n" ∷ [])
 
+-- an opcode, where one was read
+abbrev pub opcode_word : Option ℕ → List ℕ
+opcode_word None = []
+opcode_word (Some opcode) = codes " " ++ opcode_text opcode
+
 -- a reading that ends after whole blocks: `  read 0>8`, `  read 4>0 image-view-on`
-abbrev pub head_line : FrameHead → Option ℕ → List ℕ
-head_line h None = concat (codes "  read " ∷ nibble_text (h.initiator % 16) ∷ codes ">" ∷ nibble_text (h.destination % 16) ∷ codes "\n" ∷ [])
-head_line h (Some opcode) =
-    concat (codes "  read " ∷ nibble_text (h.initiator % 16) ∷ codes ">" ∷ nibble_text (h.destination % 16) ∷ codes " " ∷ opcode_text opcode ∷ codes "\n" ∷ [])
+abbrev pub head_line : FrameHead → List ℕ
+head_line h = concat (codes "  read " ∷ nibble_text (h.initiator % 16) ∷ codes ">" ∷ nibble_text (h.destination % 16) ∷ opcode_word h.opcode ∷ codes "\n" ∷ [])
 
 abbrev pub head_text : Option FrameHead → List ℕ
 head_text None = []
-head_text (Some h) = head_line h h.opcode
+head_text (Some h) = head_line h
 
 -- ---- times and blocks
 
@@ -59,13 +62,15 @@ abbrev pub kind_text : SlotWidth → List ℕ
 kind_text Low = codes " low "
 kind_text Total = codes " total "
 
+-- the start bit, or a slot with its block and its bit there, from 1
+abbrev pub slot_text : ℕ → List ℕ
+slot_text slot =
+    if slot == 0 then codes "  start"
+    else concat (codes "  slot " ∷ decimal slot ∷ codes " block " ∷ decimal ((slot - 1) / 10 + 1) ∷ codes " bit " ∷ decimal ((slot - 1) % 10 + 1) ∷ [])
+
 -- a width that is out of its window: `  start low 3400 not 3500..3900`, `  slot 13 block 2 bit 3 low 870 not 400..800`
 abbrev pub misfit_line : Misfit → List ℕ
-misfit_line m =
-    if m.slot == 0 then concat (codes "  start" ∷ kind_text m.kind ∷ decimal m.micros ∷ codes " not " ∷ decimal m.window.least ∷ codes ".." ∷ decimal m.window.greatest ∷ codes "\n" ∷ [])
-    else concat
-    (codes "  slot " ∷ decimal m.slot ∷ codes " block " ∷ decimal ((m.slot - 1) / 10 + 1) ∷ codes " bit " ∷ decimal ((m.slot - 1) % 10 + 1) ∷ kind_text m.kind ∷ decimal m.micros
-    ∷ codes " not " ∷ decimal m.window.least ∷ codes ".." ∷ decimal m.window.greatest ∷ codes "\n" ∷ [])
+misfit_line m = concat (slot_text m.slot ∷ kind_text m.kind ∷ decimal m.micros ∷ codes " not " ∷ decimal m.window.least ∷ codes ".." ∷ decimal m.window.greatest ∷ codes "\n" ∷ [])
 
 abbrev pub misfit_text : Option Misfit → List ℕ
 misfit_text None = []

@@ -2,8 +2,8 @@
 ghost use Rattle.line_reading.specs.Windows.{AreWindows};
 ghost use Rattle.capture_monitor.specs.Joined.{captured_by};
 ghost use Rattle.audit_core.specs.Audit.{audit_text, audit_text_of};
-ghost use Rattle.audit_core.specs.Written.{WritesText};
 ghost use Rattle.text_core.specs.Adds.{Adds};
+ghost use Rattle.text_core.specs.Cut.{WritesText};
 
 use crate::whole::WholeAudit;
 use capture_core::Capture;

@@ -1,29 +1,26 @@
 //! What is remarked of one reading after another.
-ghost use Rattle.std.specs.Prelude.{◌≡◌, ◌≤◌, [], List, length};
+ghost use Rattle.std.specs.Prelude.{◌≡◌, []};
 ghost use Rattle.std.specs.Option.{option_copied};
-ghost use Rattle.line_wave.specs.declared.Edge.{Edge as EdgeOf};
 ghost use Rattle.line_reading.specs.Reports.{listed_as};
-ghost use Rattle.audit_core.specs.Audit.{drive_of, falls_until, first_tape, frame_text, is_folded, lows_of, named_of, notes_text, tape_after, tape_at, tape_by, reading_misfits, remarks_text, summary_text, times_text, unfinished_of, unless_driven};
-ghost use Rattle.audit_remarks.specs.Frames.{delivered_frame};
+ghost use Rattle.audit_core.specs.Audit.{IsHeard, first_tape, frame_text, is_folded, named_of, notes_text, reading_misfits, remarks_text, summary_text, tape_after, tape_at, times_text};
 ghost use Rattle.audit_core.specs.Lines.{timing_text};
 ghost use Rattle.text_core.specs.Adds.{Adds};
 ghost use Rattle.audit_widths.specs.Spreads.{no_widths, with_slots};
-ghost use Rattle.line_wave.specs.Bounds.{most_sent};
 
+use crate::heard::Heard;
 use crate::lines::{
     add_answers, add_claims, add_counts, add_drive, add_failure, add_head, add_late, add_misfits,
     add_missing, add_moved, add_named, add_receivers, add_series, add_soon, add_unfinished,
     add_widths, add_within,
 };
-use arrayvec::ArrayVec;
 use audit_remarks::{
     Attempts, BadStartSeries, Counts, Places, Previous, Sources, Waiting, after_frame,
-    count_reading, delivered_frame, head_read, is_bad_start, missed_receivers, missing_operands,
-    moved_from, no_counts, no_places, note_report, sender, unfinished,
+    count_reading, head_read, is_bad_start, missed_receivers, missing_operands, moved_from,
+    no_counts, no_places, note_report, sender,
 };
-use audit_widths::{Cursor, Low, Widths, drive_within, first_low, low_drive, lows_before};
+use audit_widths::{Widths, drive_within};
 use line_frames::{Ending, Reading};
-use line_wave::{Edge, MOST_SENT};
+use line_wave::Edge;
 use message_hex::remark;
 use text_core::{Counted, Piece, Sink};
 
@@ -38,51 +35,6 @@ pub struct Auditor {
     sources: Sources,
     counts: Counts,
     widths: Widths,
-}
-
-// The instant before which the slots of a reading fall.
-fn falls_until(ending: Ending, at: u64) -> u64
-    ensures { result ≡ falls_until ending at }
-{
-    match ending {
-        Ending::Open => at.saturating_add(1),
-        Ending::Complete | Ending::Short | Ending::Silent | Ending::BadStart | Ending::Long => at,
-    }
-}
-
-fn lows_of(reading: &Reading, edges: &[Edge]) -> ArrayVec<Low, MOST_SENT>
-    ensures { result.items ≡ lows_of (listed_as reading.now) edges.now }
-{
-    lows_before(edges, falls_until(reading.ending, reading.at))
-}
-
-fn drive_of(reading: &Reading, edges: &[Edge]) -> Option<u64>
-    ensures { result ≡ drive_of (listed_as reading.now) edges.now }
-{
-    let mut end = Cursor::new(edges);
-    end.go_to(reading.at);
-    match first_low(end.edges()) {
-        None => None,
-        Some(low) => low_drive(reading.ending, low),
-    }
-}
-
-fn unless_driven(drive: Option<u64>, block: Option<usize>) -> Option<usize>
-    ensures { result ≡ unless_driven drive block }
-{
-    match drive {
-        None => block,
-        Some(_) => None,
-    }
-}
-
-fn unfinished_of(reading: &Reading, lows: &[Low]) -> Option<usize>
-    ensures { result ≡ unfinished_of (listed_as reading.now) lows.now }
-{
-    unless_driven(
-        drive_within(lows),
-        unfinished(reading.ending, &reading.bits),
-    )
 }
 
 // What the standard calls what the line of a reading leaves as bytes.
@@ -111,46 +63,25 @@ fn is_folded(series: BadStartSeries, ending: Ending) -> bool
 }
 
 #[tactic(auto, using(text_core::proofs::Adding::nothing))]
-fn add_reading_misfits<S: Sink>(
-    out: &mut Counted<'_, S>,
-    series: BadStartSeries,
-    reading: &Reading,
-    lows: &[Low],
-)
-    requires { length lows.now ≤ most_sent }
-    ensures { Adds out.old out.new (reading_misfits series (listed_as reading.now) lows.now) }
+fn add_reading_misfits<S: Sink>(out: &mut Counted<'_, S>, series: BadStartSeries, heard: &Heard)
+    ensures { Adds out.old out.new (reading_misfits series (listed_as heard.now.reading.now) heard.now.lows.items) }
 {
+    let reading = heard.reading;
     if is_folded(series, reading.ending) {
         return;
     }
-    add_misfits(out, reading.ending, &reading.bits, 0, lows);
-}
-
-// The widths of one reading.
-fn widths_of(reading: &Reading, lows: &[Low]) -> Widths
-    requires { length lows.now ≤ most_sent }
-    ensures { result ≡ with_slots reading.now.ending reading.now.bits.items 0 lows.now no_widths }
-{
-    let mut widths = Widths::new();
-    widths.add(reading.ending, &reading.bits, 0, lows);
-    widths
+    add_misfits(out, reading.ending, &reading.bits, 0, &heard.lows);
 }
 
 // The widths of a reading, where they are asked for.
 #[tactic(auto, using(text_core::proofs::Adding::nothing))]
-fn add_reading_widths<S: Sink>(
-    out: &mut Counted<'_, S>,
-    timing: bool,
-    reading: &Reading,
-    lows: &[Low],
-)
-    requires { length lows.now ≤ most_sent }
-    ensures { Adds out.old out.new (timing_text timing (with_slots reading.now.ending reading.now.bits.items 0 lows.now no_widths)) }
+fn add_reading_widths<S: Sink>(out: &mut Counted<'_, S>, timing: bool, heard: &Heard)
+    ensures { Adds out.old out.new (timing_text timing (with_slots heard.now.reading.now.ending heard.now.reading.now.bits.items 0 heard.now.lows.items no_widths)) }
 {
     if !timing {
         return;
     }
-    add_widths(out, widths_of(reading, lows));
+    add_widths(out, heard.widths());
 }
 
 impl Auditor {
@@ -171,28 +102,20 @@ impl Auditor {
     }
 
     // What there is to remark of what was before a reading, of its times and its blocks.
-    fn add_times<S: Sink>(
-        &self,
-        out: &mut Counted<'_, S>,
-        reading: &Reading,
-        edges: &[Edge],
-        lows: &[Low],
-        frame: &[u8],
-    )
-        requires lows { lows.now ≡ lows_of (listed_as reading.now) edges.now }
-        requires few { length lows.now ≤ most_sent }
-        requires frame { frame.now ≡ delivered_frame (listed_as reading.now) }
-        ensures { Adds out.old out.new (times_text (tape_at edges.now self.now) (listed_as reading.now)) }
+    fn add_times<S: Sink>(&self, out: &mut Counted<'_, S>, heard: &Heard)
+        requires { IsHeard heard.now }
+        ensures { Adds out.old out.new (times_text (tape_at heard.now.edges.now self.now) (listed_as heard.now.reading.now)) }
     {
+        let reading = heard.reading;
         let free = self.previous.free_before(reading.begin);
         let again = self.attempts.tries_again(&reading.bits);
         add_series(out, self.series.over(reading.ending));
-        add_answers(out, reading.begin, frame, &self.waiting);
+        add_answers(out, reading.begin, &heard.frame, &self.waiting);
         add_soon(out, self.previous.too_soon(reading, again));
-        add_reading_misfits(out, self.series, reading, lows);
-        add_drive(out, drive_of(reading, edges));
-        add_within(out, drive_within(lows));
-        add_unfinished(out, unfinished_of(reading, lows));
+        add_reading_misfits(out, self.series, heard);
+        add_drive(out, heard.drive());
+        add_within(out, drive_within(&heard.lows));
+        add_unfinished(out, heard.unfinished());
         add_failure(
             out,
             self.attempts.failure_of(reading.begin, free, &reading.bits),
@@ -209,41 +132,32 @@ impl Auditor {
     }
 
     // What there is to remark of a reading.
-    fn add_remarks<S: Sink>(
-        &self,
-        out: &mut Counted<'_, S>,
-        reading: &Reading,
-        edges: &[Edge],
-        lows: &[Low],
-        frame: &[u8],
-        timing: bool,
-    )
-        requires lows { lows.now ≡ lows_of (listed_as reading.now) edges.now }
-        requires few { length lows.now ≤ most_sent }
-        requires frame { frame.now ≡ delivered_frame (listed_as reading.now) }
-        ensures { Adds out.old out.new (remarks_text timing (tape_at edges.now self.now) (listed_as reading.now)) }
+    fn add_remarks<S: Sink>(&self, out: &mut Counted<'_, S>, heard: &Heard, timing: bool)
+        requires { IsHeard heard.now }
+        ensures { Adds out.old out.new (remarks_text timing (tape_at heard.now.edges.now self.now) (listed_as heard.now.reading.now)) }
     {
-        add_notes(out, reading);
-        self.add_times(out, reading, edges, lows, frame);
-        self.add_frame(out, frame);
-        add_reading_widths(out, timing, reading, lows);
+        add_notes(out, heard.reading);
+        self.add_times(out, heard);
+        self.add_frame(out, &heard.frame);
+        add_reading_widths(out, timing, heard);
     }
 
     // A reading is kept.
-    fn note(&mut self, reading: &Reading, lows: &[Low], frame: &[u8])
-        requires few { length lows.now ≤ most_sent }
-        requires frame { frame.now ≡ delivered_frame (listed_as reading.now) }
-        ensures { (edges : List EdgeOf) → tape_at edges self.new ≡ tape_by lows.now (listed_as reading.now) (tape_at edges self.old) }
+    fn note(&mut self, heard: &Heard)
+        requires { IsHeard heard.now }
+        ensures { tape_at heard.now.edges.now self.new ≡ tape_after (listed_as heard.now.reading.now) (tape_at heard.now.edges.now self.old) }
     {
+        let reading = heard.reading;
         let free = self.previous.free_before(reading.begin);
         self.attempts.note(reading, free);
-        self.previous = self.previous.with(reading, lows);
+        self.previous = self.previous.with(reading, &heard.lows);
         self.series = self.series.with(reading.ending, reading.begin);
-        self.waiting = after_frame(reading.begin, reading.at, frame, &self.waiting);
-        note_report(frame, &mut self.places);
-        self.sources.note(frame, reading.at);
+        self.waiting = after_frame(reading.begin, reading.at, &heard.frame, &self.waiting);
+        note_report(&heard.frame, &mut self.places);
+        self.sources.note(&heard.frame, reading.at);
         count_reading(reading.ending, &reading.bits, &mut self.counts);
-        self.widths.add(reading.ending, &reading.bits, 0, lows);
+        self.widths
+            .add(reading.ending, &reading.bits, 0, &heard.lows);
     }
 
     /// Adds what there is to remark of a reading, and keeps it. `edges` are those of the capture from its fall on.
@@ -257,10 +171,9 @@ impl Auditor {
         ensures kept { tape_at edges.now self.new ≡ tape_after (listed_as reading.now) (tape_at edges.now self.old) }
         ensures written { Adds out.old out.new (remarks_text timing (tape_at edges.now self.old) (listed_as reading.now)) }
     {
-        let lows = lows_of(reading, edges);
-        let frame = delivered_frame(reading);
-        self.add_remarks(out, reading, edges, &lows, &frame, timing);
-        self.note(reading, &lows, &frame);
+        let heard = Heard::new(reading, edges);
+        self.add_remarks(out, &heard, timing);
+        self.note(&heard);
     }
 
     /// Adds what there is to say of all readings up to an end.

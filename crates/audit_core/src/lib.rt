@@ -3,6 +3,7 @@
 
 mod audit;
 mod auditor;
+mod heard;
 mod laws;
 mod lines;
 mod whole;

@@ -1,21 +1,27 @@
 //! The lines of remarks.
-ghost use Rattle.std.specs.Prelude.{◌≡◌, ◌+◌, ◌<◌, ◌≤◌, None, Some, length};
+ghost use Rattle.std.specs.Prelude.{◌≡◌, ◌+◌, ◌<◌, ◌≤◌, length};
+ghost use Rattle.std.specs.List.{flat_map};
 ghost use Rattle.std.specs.Option.{option_copied};
-ghost use Rattle.message_table.specs.Table.{name_of};
-ghost use Rattle.audit_core.specs.Lines.{answer_text, answers_text, answered_text, claim_text, claims_text, count_text, counts_text, drive_text, drive_word, failure_text, failure_word, head_line, head_text, if_answered, if_given_up, if_late, kind_text, late_text, limit_word, misfit_line, misfit_text, misfits_text, missing_text, moved_text, named_text, named_text, receivers_text, receivers_word, request_text, series_text, soon_text, spread_text, unfinished_text, unless_reported, widths_text, within_text};
+ghost use Rattle.arrayvec.specs.ArrayVec.{array_vec_len};
+ghost use Rattle.audit_core.specs.Lines.{answer_text, answers_text, answered_text, claim_text, claims_text, count_text, counts_text, drive_text, drive_word, failure_text, failure_word, head_line, head_text, if_answered, if_given_up, if_late, kind_text, late_text, limit_word, misfit_line, misfit_text, misfits_text, missing_text, moved_text, named_text, opcode_word, receivers_text, receivers_word, request_text, series_text, slot_text, soon_text, spread_text, unfinished_text, unless_reported, widths_text, within_text};
 ghost use Rattle.text_core.specs.Adds.{Adds};
+ghost use Rattle.text_core.specs.Piece.{piece_text};
 
+use arrayvec::ArrayVec;
 use audit_remarks::{
     BadStartSeries, Failure, FrameCount, FrameHead, Mention, Missing, Receivers, Request, Sources,
     TooSoon,
 };
 use audit_widths::{DRIVE, Low, Misfit, SlotWidth, Spread, Widths, low_misfit, total_misfit};
 use line_frames::Ending;
-use message_table::name;
+use message_text::opcode_text;
 use text_core::{Counted, Phys, Piece, Sink};
 
 /// The first attempt, and five retransmissions (CEC 7.1).
 const ATTEMPTS: u64 = 6;
+
+/// The most pieces of the line of a misfit: six of its slot, and seven of its width and window.
+const MISFIT_PIECES: usize = 13;
 
 /// Adds what the standard calls what a line leaves as bytes.
 #[tactic(auto, using(text_core::proofs::Adding::nothing))]
@@ -28,64 +34,31 @@ pub(crate) fn add_named<S: Sink>(out: &mut Counted<'_, S>, named: Option<&'stati
     out.add_line(&[Piece::Text("  # "), Piece::Text(text), Piece::Text("\n")]);
 }
 
-fn add_header<S: Sink>(out: &mut Counted<'_, S>, head: FrameHead)
-    ensures { Adds out.old out.new (head_line head None) }
+// An opcode after a space, where one was read.
+fn opcode_word(opcode: Option<u8>) -> ArrayVec<u8, 33>
+    ensures { result.items ≡ opcode_word opcode }
 {
+    let Some(opcode) = opcode else {
+        return ArrayVec::new();
+    };
+    let mut word = ArrayVec::new();
+    word.push(b' ');
+    let _ = word.try_extend_from_slice(&opcode_text(opcode));
+    word
+}
+
+fn add_head_line<S: Sink>(out: &mut Counted<'_, S>, head: FrameHead)
+    ensures { Adds out.old out.new (head_line head) }
+{
+    let opcode = opcode_word(head.opcode);
     out.add_line(&[
         Piece::Text("  read "),
         Piece::Nibble(head.initiator),
         Piece::Text(">"),
         Piece::Nibble(head.destination),
+        Piece::Bytes(&opcode),
         Piece::Text("\n"),
     ]);
-}
-
-fn add_head_of_name<S: Sink>(out: &mut Counted<'_, S>, head: FrameHead, opcode: u8, text: &str)
-    requires { name_of opcode ≡ Some text.now }
-    ensures { Adds out.old out.new (head_line head (Some opcode)) }
-{
-    out.add_line(&[
-        Piece::Text("  read "),
-        Piece::Nibble(head.initiator),
-        Piece::Text(">"),
-        Piece::Nibble(head.destination),
-        Piece::Text(" "),
-        Piece::Text(text),
-        Piece::Text("\n"),
-    ]);
-}
-
-fn add_head_of_byte<S: Sink>(out: &mut Counted<'_, S>, head: FrameHead, opcode: u8)
-    requires { name_of opcode ≡ None }
-    ensures { Adds out.old out.new (head_line head (Some opcode)) }
-{
-    out.add_line(&[
-        Piece::Text("  read "),
-        Piece::Nibble(head.initiator),
-        Piece::Text(">"),
-        Piece::Nibble(head.destination),
-        Piece::Text(" op-"),
-        Piece::HexByte(opcode),
-        Piece::Text("\n"),
-    ]);
-}
-
-fn add_head_line<S: Sink>(out: &mut Counted<'_, S>, head: FrameHead, opcode: u8)
-    ensures { Adds out.old out.new (head_line head (Some opcode)) }
-{
-    match name(opcode) {
-        None => add_head_of_byte(out, head, opcode),
-        Some(text) => add_head_of_name(out, head, opcode, text),
-    }
-}
-
-fn add_head_by<S: Sink>(out: &mut Counted<'_, S>, head: FrameHead, opcode: Option<u8>)
-    ensures { Adds out.old out.new (head_line head opcode) }
-{
-    match opcode {
-        None => add_header(out, head),
-        Some(opcode) => add_head_line(out, head, opcode),
-    }
 }
 
 /// Adds the header and the opcode of a reading that ends after whole blocks.
@@ -96,7 +69,7 @@ pub(crate) fn add_head<S: Sink>(out: &mut Counted<'_, S>, head: Option<FrameHead
     let Some(head) = head else {
         return;
     };
-    add_head_by(out, head, head.opcode);
+    add_head_line(out, head);
 }
 
 #[tactic(auto, using(text_core::proofs::Adding::nothing))]
@@ -140,38 +113,38 @@ fn kind_word(kind: SlotWidth) -> &'static str
     }
 }
 
+// The start bit, or a slot with its block and its bit there, and room for the rest of the line.
+fn slot_pieces(slot: u64) -> ArrayVec<Piece<'static>, MISFIT_PIECES>
+    ensures text { flat_map piece_text result.items ≡ slot_text slot }
+    ensures few { array_vec_len result ≤ 6 }
+{
+    let mut pieces = ArrayVec::new();
+    if slot == 0 {
+        pieces.push(Piece::Text("  start"));
+        return pieces;
+    }
+    let before = slot - 1;
+    pieces.push(Piece::Text("  slot "));
+    pieces.push(Piece::Decimal(slot));
+    pieces.push(Piece::Text(" block "));
+    pieces.push(Piece::Decimal(before / 10 + 1));
+    pieces.push(Piece::Text(" bit "));
+    pieces.push(Piece::Decimal(before % 10 + 1));
+    pieces
+}
+
 fn add_misfit_line<S: Sink>(out: &mut Counted<'_, S>, misfit: Misfit)
     ensures { Adds out.old out.new (misfit_line misfit) }
 {
-    if misfit.slot == 0 {
-        out.add_line(&[
-            Piece::Text("  start"),
-            Piece::Text(kind_word(misfit.kind)),
-            Piece::Decimal(misfit.micros),
-            Piece::Text(" not "),
-            Piece::Decimal(misfit.window.least),
-            Piece::Text(".."),
-            Piece::Decimal(misfit.window.greatest),
-            Piece::Text("\n"),
-        ]);
-        return;
-    }
-    let before = misfit.slot - 1;
-    out.add_line(&[
-        Piece::Text("  slot "),
-        Piece::Decimal(misfit.slot),
-        Piece::Text(" block "),
-        Piece::Decimal(before / 10 + 1),
-        Piece::Text(" bit "),
-        Piece::Decimal(before % 10 + 1),
-        Piece::Text(kind_word(misfit.kind)),
-        Piece::Decimal(misfit.micros),
-        Piece::Text(" not "),
-        Piece::Decimal(misfit.window.least),
-        Piece::Text(".."),
-        Piece::Decimal(misfit.window.greatest),
-        Piece::Text("\n"),
-    ]);
+    let mut pieces = slot_pieces(misfit.slot);
+    pieces.push(Piece::Text(kind_word(misfit.kind)));
+    pieces.push(Piece::Decimal(misfit.micros));
+    pieces.push(Piece::Text(" not "));
+    pieces.push(Piece::Decimal(misfit.window.least));
+    pieces.push(Piece::Text(".."));
+    pieces.push(Piece::Decimal(misfit.window.greatest));
+    pieces.push(Piece::Text("\n"));
+    out.add_line(&pieces);
 }
 
 #[tactic(auto, using(text_core::proofs::Adding::nothing))]

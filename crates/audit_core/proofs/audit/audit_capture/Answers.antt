@@ -1,7 +1,7 @@
 use Rattle.std.proofs.Common.{ℕ, List, ap, subst}
 use Rattle.capture_core.specs.Edges.{line_of_edges}
 use Rattle.audit_core.specs.Audit.{audit_text_of}
-use Rattle.audit_core.specs.Written.{WritesText}
+use Rattle.text_core.specs.Cut.{WritesText}
 use Rattle.capture_monitor.proofs.ReadBy.{standard_readings}
 use Rattle.audit_core.proofs.audit.audit_capture.Goals as goal
 

@@ -6,7 +6,8 @@ use Rattle.audit_core.proofs.auditor.add_reading_widths.Goals as goal
 
 pub returns : goal.returns
 returns g c =
+    let heard = c.args.heard.now in
     adds_as c.args.out.now c.add_widths.new.out _ _
-    (ap widths_text c.widths_of.ensures
-    ∙ ap (λ (b : Bool). timing_text b (with_slots c.args.reading.now.ending c.args.reading.now.bits.items 0 c.args.lows.now no_widths)) (sym c.if-not-timing.false))
+    (ap widths_text c.widths.ensures
+    ∙ ap (λ (b : Bool). timing_text b (with_slots heard.reading.now.ending heard.reading.now.bits.items 0 heard.lows.items no_widths)) (sym c.if-not-timing.false))
     c.add_widths.ensures

@@ -1,10 +1,16 @@
-use Rattle.std.proofs.Common.{List, ap, ◌∙◌}
-use Rattle.audit_widths.specs.declared.low.Low.{Low}
+use Rattle.std.proofs.Common.{◌≡◌, List, subst₂}
+use Rattle.line_wave.specs.declared.Edge.{Edge}
+use Rattle.line_frames.specs.declared.Reading.{Reading}
 use Rattle.line_reading.specs.Reports.{listed_as}
-use Rattle.audit_core.specs.Audit.{tape_at, tape_by}
+use Rattle.text_core.specs.Adds.{Adds}
+use Rattle.audit_core.specs.Audit.{remarks_text, tape_after, tape_at}
 use Rattle.audit_core.proofs.auditor.Auditor.remark.Goals as goal
 
 pub returns-clause-kept : goal.returns-clause-kept
 returns-clause-kept g c =
-    c.note.ensures c.args.edges.now
-    ∙ ap (λ (lows : List Low). tape_by lows (listed_as c.args.reading.now) (tape_at c.args.edges.now c.args.self.now)) (c.deref-3.ensures.0 ∙ c.lows_of-lows.ensures)
+    subst₂ (λ (edges : List Edge) (reading : Reading). tape_at edges c.note.new.self ≡ tape_after (listed_as reading) (tape_at edges c.args.self.now)) c.new-heard.ensures.edges c.new-heard.ensures.reading c.note.ensures
+
+pub returns-clause-written : goal.returns-clause-written
+returns-clause-written g c =
+    subst₂ (λ (edges : List Edge) (reading : Reading). Adds c.args.out.now c.add_remarks.new.out (remarks_text c.args.timing (tape_at edges c.args.self.now) (listed_as reading)))
+    c.new-heard.ensures.edges c.new-heard.ensures.reading c.add_remarks.ensures

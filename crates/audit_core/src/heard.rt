@@ -1,0 +1,91 @@
+//! A reading, with what the line did while it was heard.
+ghost use Rattle.std.specs.Prelude.{◌≡◌};
+ghost use Rattle.line_reading.specs.Reports.{listed_as};
+ghost use Rattle.audit_core.specs.Audit.{IsHeard, drive_of, falls_until, lows_of, unfinished_of, unless_driven};
+ghost use Rattle.audit_widths.specs.Spreads.{no_widths, with_slots};
+
+use arrayvec::ArrayVec;
+use audit_remarks::{delivered_frame, unfinished};
+use audit_widths::{Cursor, Low, Widths, drive_within, first_low, low_drive, lows_before};
+use line_frames::{Ending, Reading};
+use line_wave::{Edge, MOST_SENT};
+
+/// A reading and the edges of its capture from its fall on, with its low stretches and the frame that it delivers.
+#[derive(Drop)]
+pub(crate) struct Heard<'r, 'e> {
+    pub(crate) reading: &'r Reading,
+    pub(crate) edges: &'e [Edge],
+    pub(crate) lows: ArrayVec<Low, MOST_SENT>,
+    pub(crate) frame: ArrayVec<u8, 16>,
+}
+
+// The instant before which the slots of a reading fall.
+fn falls_until(ending: Ending, at: u64) -> u64
+    ensures { result ≡ falls_until ending at }
+{
+    match ending {
+        Ending::Open => at.saturating_add(1),
+        Ending::Complete | Ending::Short | Ending::Silent | Ending::BadStart | Ending::Long => at,
+    }
+}
+
+fn lows_of(reading: &Reading, edges: &[Edge]) -> ArrayVec<Low, MOST_SENT>
+    ensures { result.items ≡ lows_of (listed_as reading.now) edges.now }
+{
+    lows_before(edges, falls_until(reading.ending, reading.at))
+}
+
+fn unless_driven(drive: Option<u64>, block: Option<usize>) -> Option<usize>
+    ensures { result ≡ unless_driven drive block }
+{
+    match drive {
+        None => block,
+        Some(_) => None,
+    }
+}
+
+impl<'r, 'e> Heard<'r, 'e> {
+    pub(crate) fn new(reading: &'r Reading, edges: &'e [Edge]) -> Self
+        ensures reading { result.reading.now ≡ reading.now }
+        ensures edges { result.edges.now ≡ edges.now }
+        ensures heard { IsHeard result }
+    {
+        Heard {
+            reading,
+            edges,
+            lows: lows_of(reading, edges),
+            frame: delivered_frame(reading),
+        }
+    }
+
+    /// The low drive that follows it.
+    pub(crate) fn drive(&self) -> Option<u64>
+        ensures { result ≡ drive_of (listed_as self.now.reading.now) self.now.edges.now }
+    {
+        let mut end = Cursor::new(self.edges);
+        end.go_to(self.reading.at);
+        match first_low(end.edges()) {
+            None => None,
+            Some(low) => low_drive(self.reading.ending, low),
+        }
+    }
+
+    /// The block after which it breaks off, where no low drive breaks it.
+    pub(crate) fn unfinished(&self) -> Option<usize>
+        ensures { result ≡ unfinished_of (listed_as self.now.reading.now) self.now.lows.items }
+    {
+        unless_driven(
+            drive_within(&self.lows),
+            unfinished(self.reading.ending, &self.reading.bits),
+        )
+    }
+
+    /// Its widths alone.
+    pub(crate) fn widths(&self) -> Widths
+        ensures { result ≡ with_slots self.now.reading.now.ending self.now.reading.now.bits.items 0 self.now.lows.items no_widths }
+    {
+        let mut widths = Widths::new();
+        widths.add(self.reading.ending, &self.reading.bits, 0, &self.lows);
+        widths
+    }
+}
