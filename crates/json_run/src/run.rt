@@ -26,33 +26,24 @@ pub struct Ran<'a, S: Sink> {
     pub text: Counted<'a, S>,
 }
 
-/// Runs a network to `end`, at most 1,000,000,000,000 microseconds, and adds the objects of the lines of its trace. The EDID that
-/// ports pass on, where it is given, has an HDMI block. The events stand in the order of their times, all before `end`, and name
-/// devices of the tree. After a fault of the text the run stops. The lines of a turn are held in `held`, which is empty.
-#[tactic(auto, using(room_run::proofs::Addressed::each_address))]
+/// Runs a network to `end`, at most 1,000,000,000,000 microseconds, and adds the objects of the lines of its trace. The events stand
+/// in the order of their times, all before `end`, and name devices of the tree. After a fault of the text the run stops. No line is
+/// held at first.
+#[tactic(auto, using(room_run::proofs::Addressed::has_address))]
 pub fn add_run<'a, S: Sink, L: LineObjects + Drop, W: Wire>(
-    text: Counted<'a, S>,
-    lines: L,
-    held: Held,
+    mut objects: ObjectsText<'a, '_, S, L>,
     net: &mut Net<W>,
-    edid: &Option<Edid>,
     events: &[TimedEvent],
     end: u64,
 ) -> Ran<'a, S>
-    requires addressed { HasAddress edid.now }
     requires early { end ≤ latest_event }
     requires fresh { (net.old.close ≤ latest_event) × (net.old.rest ≤ latest_event) }
     requires schedule { IsSchedule (length net.old.tree) end 0 events.now }
-    requires empty { held_bytes held ≡ [] }
-    ensures { IfSome result.totals (λ totals. AreShown (L.is lines) (IsRunText (Trace edid.now) end (start net.old events.now)) text.entry result.text totals) }
+    requires empty { held_bytes objects.held ≡ [] }
+    ensures { IfSome result.totals (λ totals. AreShown (L.is objects.entry.lines) (IsRunText (Trace objects.entry.passed.edid.now) end (start net.old events.now))
+        objects.entry.text result.text totals) }
 {
-    let mut objects = ObjectsText {
-        text,
-        lines,
-        held,
-        passed: Passed { edid },
-    };
-    let _ = write_ports(&mut objects.held, 0, edid, net.tree(), &[]);
+    let _ = write_ports(&mut objects.held, 0, objects.passed.edid, net.tree(), &[]);
     objects.pass();
     let totals = run_turns(net, events, end, &mut objects);
     let _ = write_last_lines(&mut objects.held, net.devices(), end);
@@ -72,11 +63,13 @@ pub fn add_run<'a, S: Sink, L: LineObjects + Drop, W: Wire>(
     }
 }
 
-/// Runs a network as [`add_run`] does, and writes what stands first, and then the objects. `None`: memory ran out.
+/// Runs a network as [`add_run`] does, and writes what stands first, and then the objects. The EDID that ports pass on, where it is
+/// given, has an HDMI block. The lines of a turn are held in `held`, which is empty. `None`: memory ran out.
 ///
 /// # Errors
 ///
 /// A `put` took none. Its count, which stays at its greatest value, says how much of the text was written.
+#[tactic(auto, using(room_run::proofs::Addressed::each_address))]
 pub fn write_run<S: Sink, L: LineObjects + Drop, W: Wire>(
     out: &mut S,
     lines: L,
@@ -95,7 +88,13 @@ pub fn write_run<S: Sink, L: LineObjects + Drop, W: Wire>(
 {
     let mut text = Counted::new(out);
     lines.add_head(&mut text);
-    let Ran { totals, text } = add_run(text, lines, held, net, edid, events, end);
+    let objects = ObjectsText {
+        text,
+        lines,
+        held,
+        passed: Passed { edid },
+    };
+    let Ran { totals, text } = add_run(objects, net, events, end);
     let written = text.written();
     // No effect at run time. The proof reads what `out` holds from the sink that comes back.
     let _below = text.into_sink();

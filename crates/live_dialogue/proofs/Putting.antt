@@ -1,5 +1,5 @@
 -- What is put, and how it is handed on.
-use Rattle.std.proofs.Common.{◌≡◌, ◌↔◌, ℕ, Bool, true, false, List, [], length, take, Option, Some, None, Result, Ok, Err, IsErr, IsTrue, IfErr, OnOk, refl, sym, subst, ◌∙◌, arith}
+use Rattle.std.proofs.Common.{◌≡◌, ℕ, Bool, true, false, List, [], length, take, Option, Some, None, Result, Ok, Err, IsErr, IfErr, refl, sym, subst, ◌∙◌, arith}
 use Rattle.std.specs.Io.KnownBytes.{Appends, Keeps}
 use Rattle.std.proofs.Math.Seq.{take_all}
 use Rattle.std.proofs.lemmas.Bool.{false≢true}
@@ -9,7 +9,7 @@ use Rattle.text_core.specs.Buffered.{handed_count, pending}
 use Rattle.text_core.specs.Cut.{CutOff}
 use Rattle.live_dialogue.specs.declared.error.SessionError.{SessionError}
 use Rattle.live_dialogue.specs.declared.error.SessionError.TheVariants.{Read, TooLong, NoScriptLine, Topology, Edid, Script, Write, Memory}
-use Rattle.live_dialogue.specs.Dialogue.{AreHanded, IsCutShort, is_write}
+use Rattle.live_dialogue.specs.Dialogue.{AreHanded, IsCutShort, IsFlushed, is_write}
 
 abbrev pub is_stuck : {S : Type 0} → Buffered S → Bool
 is_stuck b = b.stuck
@@ -42,17 +42,12 @@ handed_same stuck b (Err Memory) quiet = record { write = λ e. e; handed = λ e
 pub handed_on : {S : Type 0} (stuck : Buffered S → Bool) (old mid new : Buffered S) (result : Result Unit SessionError) → AreHanded stuck old mid (Ok tt) → AreHanded stuck mid new result → AreHanded stuck old new result
 handed_on stuck old mid new result a b = record { write = λ e. b.write (a.write e); handed = λ e. b.handed (a.handed e) }
 
--- what a flush gives
-pub flushed : {S : Type 0} (stuck : Buffered S → Bool) (old new : Buffered S) (result : Result Unit SessionError) → (IsErr result ↔ IsTrue (stuck new)) → OnOk result (pending new ≡ [])
-    → IfErr result (λ error. error ≡ Write (handed_count new)) → AreHanded stuck old new result
-flushed stuck old new (Ok done) fault empty count = record { write = λ e. free (stuck new) fault.1; handed = λ e. empty }
-  where
-    free : (b : Bool) → (b ≡ true → false ≡ true) → b ≡ false
-    free true f = absurd (false≢true (f refl))
-    free false f = refl
-flushed stuck old new (Err error) fault empty count =
-    subst (λ (error : SessionError). AreHanded stuck old new (Err error)) (sym count) (record { write = λ e. fault.0 refl; handed = λ e. refl })
-
 -- a flush of a sink that is stuck fails
-pub fails : {S : Type 0} (stuck : Buffered S → Bool) (mid new : Buffered S) (result : Result Unit SessionError) → (IsErr result ↔ IsTrue (stuck new)) → (IsTrue (stuck mid) → new ≡ mid) → stuck mid ≡ true → IsErr result
-fails stuck mid new result fault kept e = fault.1 (subst (λ b. IsTrue (stuck b)) (sym (kept e)) e)
+pub fails : {S : Type 0} (stuck : Buffered S → Bool) (mid new : Buffered S) (result : Result Unit SessionError) → IsFlushed stuck mid new result → stuck mid ≡ true → IsErr result
+fails stuck mid new (Ok done) flush e = absurd (false≢true (sym flush.2 ∙ e))
+fails stuck mid new (Err error) flush e = refl
+
+-- where it fails, it says how much was handed on
+pub reports : {S : Type 0} (stuck : Buffered S → Bool) (mid new : Buffered S) (result : Result Unit SessionError) → IsFlushed stuck mid new result → IfErr result (λ error. error ≡ Write (handed_count new))
+reports stuck mid new (Ok done) flush = tt
+reports stuck mid new (Err error) flush = flush.0

@@ -1,6 +1,5 @@
 -- A whole session, from its parts.
-use Rattle.std.proofs.Common.{◌≡◌, ℕ, true, false, List, ◌++◌, Option, Some, Result, Ok, Err, inl, inr, length, ◌≤◌, refl, sym, subst}
-use Rattle.std.proofs.lemmas.Bool.{false≢true}
+use Rattle.std.proofs.Common.{◌≡◌, ℕ, false, List, ◌++◌, Option, Some, Result, Ok, Err, inl, inr, length, ◌≤◌, refl, sym, subst}
 use Rattle.room_net.specs.State.{first_net}
 use Rattle.live_incoming.specs.Incoming.{text_of_lines}
 use Rattle.room_run.specs.declared.run.Reporting.TheVariants.{Trace}
@@ -12,24 +11,8 @@ use Rattle.live_session.proofs.Wholly.{sessions_report_traces}
 use Rattle.live_session.proofs.Kept.{sessions_report_traces_of}
 use Rattle.live_dialogue.specs.declared.error.SessionError.{SessionError}
 use Rattle.live_dialogue.specs.declared.error.SessionError.TheVariants.{Read, TooLong, NoScriptLine, Topology, Edid, Script, Write, Memory}
-use Rattle.live_dialogue.specs.Dialogue.{HasBegun, HasRoom, HasRun, HaveAnswers, IsAnswering, IsFirstPut, IsInLimits, IsOpened, IsOpening, IsSession, IsTalk, IsTopologyFault, first_reported, is_write}
+use Rattle.live_dialogue.specs.Dialogue.{HasBegun, HasRoom, HasRun, HaveAnswers, IsAnswering, IsFirstPut, IsInLimits, IsOpened, IsOpening, IsSession, IsTopologyFault, first_reported, is_write}
 use Rattle.line_wave.specs.Bounds.{most_pulses}
-
--- ---- what stands first, and the answers
-
-pub talked_on : (before after : Option (List ℕ)) (s : Session) (old put new : Option (List ℕ)) (result : Result Unit SessionError) → IsFirstPut s old put (Ok tt) → IsAnswering before after s put new result
-    → IsTalk before after s old new result
-talked_on before after s old put new result first answered = inl (put, first, answered)
-
-pub talked_cut : (before after : Option (List ℕ)) (s : Session) (old new : Option (List ℕ)) (error : SessionError) → IsFirstPut s old new (Err error) → IsTalk before after s old new (Err error)
-talked_cut before after s old new (Write count) first = inr (refl, first)
-talked_cut before after s old new Read first = absurd first
-talked_cut before after s old new TooLong first = absurd first
-talked_cut before after s old new NoScriptLine first = absurd first
-talked_cut before after s old new (Topology line cause word) first = absurd first
-talked_cut before after s old new (Edid cause) first = absurd first
-talked_cut before after s old new (Script line cause) first = absurd first
-talked_cut before after s old new Memory first = absurd first
 
 -- ---- the trace
 
@@ -49,16 +32,6 @@ run_of topology s b t end before after old new a ended =
 
 -- ---- the session
 
-quiet_cut : (error : SessionError) → (let r : Result Unit SessionError = Err error in is_write r) ≡ true → (P : SessionError → Type 0) → ((count : ℕ) → P (Write count)) → P error
-quiet_cut (Write count) e P f = f count
-quiet_cut Read e P f = absurd (false≢true e)
-quiet_cut TooLong e P f = absurd (false≢true e)
-quiet_cut NoScriptLine e P f = absurd (false≢true e)
-quiet_cut (Topology line cause word) e P f = absurd (false≢true e)
-quiet_cut (Edid cause) e P f = absurd (false≢true e)
-quiet_cut (Script line cause) e P f = absurd (false≢true e)
-quiet_cut Memory e P f = absurd (false≢true e)
-
 answered_is : (before mid after : Option (List ℕ)) (s : Session) (old put new : Option (List ℕ)) (topology : List ℕ) (result : Result Unit SessionError) → (run : HasRun before after old new)
     → IsAnswering run.mid after run.first run.so_far new result → IsSession before after old new result
 answered_is before mid after s old put new topology (Ok done) run a = record {
@@ -76,13 +49,22 @@ answered_is before mid after s old put new topology (Err NoScriptLine) run a = a
 answered_is before mid after s old put new topology (Err (Topology line cause word)) run a = absurd a
 answered_is before mid after s old put new topology (Err (Edid cause)) run a = absurd a
 
-pub session_is : (before mid after : Option (List ℕ)) (s : Session) (old new : Option (List ℕ)) (topology : List ℕ) (result : Result Unit SessionError) → IsOpened before mid topology → HasBegun topology s
-    → IsTalk mid after s old new result → IsSession before after old new result
-session_is before mid after s old new topology result ready begins (inl (put, first, answered)) =
-    answered_is before mid after s old put new topology result (record { topology = topology; first = s; mid = mid; so_far = put; opened = ready; begins = begins; put = first }) answered
-session_is before mid after s old new topology (Ok done) opened begins (inr (failed, cut)) = absurd (false≢true failed)
-session_is before mid after s old new topology (Err error) opened begins (inr (failed, cut)) =
-    quiet_cut error failed (λ error. IsSession before after old new (Err error)) (λ count. inr (topology, s, mid, opened, begins, cut))
+pub session_is : (before mid after : Option (List ℕ)) (s : Session) (old put new : Option (List ℕ)) (topology : List ℕ) (result : Result Unit SessionError) → IsOpened before mid topology → HasBegun topology s
+    → IsFirstPut s old put (Ok tt) → IsAnswering mid after s put new result → IsSession before after old new result
+session_is before mid after s old put new topology result opened begins first answered =
+    answered_is before mid after s old put new topology result (record { topology = topology; first = s; mid = mid; so_far = put; opened = opened; begins = begins; put = first }) answered
+
+-- what stands first is cut short
+pub unput_is : (before mid after : Option (List ℕ)) (s : Session) (old new : Option (List ℕ)) (topology : List ℕ) (error : SessionError) → IsOpened before mid topology → HasBegun topology s
+    → IsFirstPut s old new (Err error) → IsSession before after old new (Err error)
+unput_is before mid after s old new topology (Write count) opened begins first = inr (topology, s, mid, opened, begins, first)
+unput_is before mid after s old new topology Read opened begins first = absurd first
+unput_is before mid after s old new topology TooLong opened begins first = absurd first
+unput_is before mid after s old new topology NoScriptLine opened begins first = absurd first
+unput_is before mid after s old new topology (Topology line cause word) opened begins first = absurd first
+unput_is before mid after s old new topology (Edid cause) opened begins first = absurd first
+unput_is before mid after s old new topology (Script line cause) opened begins first = absurd first
+unput_is before mid after s old new topology Memory opened begins first = absurd first
 
 -- the topology is refused
 pub refused_is : (before mid after old : Option (List ℕ)) (topology : List ℕ) (error : SessionError) → IsOpened before mid topology → IsTopologyFault topology error → IsSession before after old old (Err error)
@@ -137,13 +119,3 @@ unopened_limits before mid (Topology line cause word) none = absurd none
 unopened_limits before mid (Edid cause) none = absurd none
 unopened_limits before mid (Script line cause) none = absurd none
 unopened_limits before mid (Write count) none = absurd none
-
-pub unopened_quiet : (before mid : Option (List ℕ)) (error : SessionError) → IsOpening before mid (Err error) → (let r : Result Unit SessionError = Err error in is_write r) ≡ false
-unopened_quiet before mid NoScriptLine none = refl
-unopened_quiet before mid Read none = refl
-unopened_quiet before mid TooLong none = refl
-unopened_quiet before mid Memory none = refl
-unopened_quiet before mid (Topology line cause word) none = absurd none
-unopened_quiet before mid (Edid cause) none = absurd none
-unopened_quiet before mid (Script line cause) none = absurd none
-unopened_quiet before mid (Write count) none = absurd none

@@ -36,6 +36,11 @@ IsShort line = length line ≤ longest_line
 
 -- ---- the input
 
+-- what is still to come of an input, where that is known, and the line that came last
+pub record InputState : Type 0 where
+  pub rest : Option (List ℕ)
+  pub line : List ℕ
+
 -- these lines came, one after another
 abbrev pub Come : Option (List ℕ) → Option (List ℕ) → List (List ℕ) → Type 0
 Come None after lines = Unit {0}
@@ -274,12 +279,6 @@ is_write (Err (Edid cause)) = false
 is_write (Err (Script line cause)) = false
 is_write (Err Memory) = false
 
--- what stands first is put, and then lines are answered; or it is cut short
-abbrev pub IsTalk : Option (List ℕ) → Option (List ℕ) → Session → Option (List ℕ) → Option (List ℕ) → Result Unit SessionError → Type 0
-IsTalk before after s old new result =
-    ((so_far : Option (List ℕ)) × Appends old so_far (first_reported s) × IsAnswering before after s so_far new result)
-    ⊎ ((is_write result ≡ true) × IsCutShort (first_reported s) old new)
-
 -- ---- a whole session
 
 -- Before the line `script` stands a topology that is accepted, what stands first is put, and then lines are answered.
@@ -363,6 +362,11 @@ IsHandedOn b (Err (Topology line cause word)) = pending b ≡ []
 IsHandedOn b (Err (Edid cause)) = pending b ≡ []
 IsHandedOn b (Err (Script line cause)) = pending b ≡ []
 IsHandedOn b (Err Memory) = pending b ≡ []
+
+-- what was put is handed on, all of it or up to a write fault; a sink that was stuck stays as it is
+abbrev pub IsFlushed : {S : Type 0} → (Buffered S → Bool) → Buffered S → Buffered S → Result Unit SessionError → Type 0
+IsFlushed stuck old new (Ok done) = (pending new ≡ []) × (stuck new ≡ false) × (stuck old ≡ false)
+IsFlushed stuck old new (Err error) = (error ≡ Write (handed_count new)) × (stuck new ≡ true) × (stuck old ≡ true → new ≡ old)
 
 -- a write fault comes where the sink was found stuck, and there alone
 pub record AreHanded {S : Type 0} (stuck : Buffered S → Bool) (old new : Buffered S) (result : Result Unit SessionError) : Type 0 where

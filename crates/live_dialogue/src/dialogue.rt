@@ -1,18 +1,15 @@
 //! Lines that are answered as they come.
-ghost use Rattle.std.specs.Prelude.{◌≡◌, ◌↔◌, ℕ, [], List, Option, None, OnOk, IfErr, IsErr, IsTrue};
+ghost use Rattle.std.specs.Prelude.{◌≡◌, ℕ, List, Option, None};
 ghost use Rattle.std.specs.Io.KnownBytes.{Keeps};
-ghost use Rattle.text_core.specs.Buffered.{handed_count, pending};
-ghost use Rattle.live_incoming.specs.Incoming.{to_come};
-ghost use Rattle.live_dialogue.specs.Dialogue.{AreHanded, IsAnswering, IsFirstPut, IsInLimits, IsLineAnswered, IsScriptLine, IsSession, IsTalk};
-ghost use Rattle.live_dialogue.specs.declared.error.SessionError.TheVariants.{Write};
+ghost use Rattle.live_dialogue.specs.Dialogue.{AreHanded, IsAnswering, IsFirstPut, IsFlushed, IsInLimits, IsLineAnswered, IsScriptLine, IsSession};
 
 use crate::error::{ScriptEnd, SessionError};
-use crate::hearing::{RefusalHearer, SilentRefusals};
-use crate::limits::{LONGEST_LINE, MOST_LINES};
+use crate::hearing::{RefusalHearer, Refusals, SilentRefusals};
+use crate::incoming::Incoming;
+use crate::limits::MOST_LINES;
 use crate::opening::{begin, topology_text};
-use arrayvec::ArrayVec;
-use live_incoming::{IncomingFault, Lines};
-use live_session::{Live, LiveError, Step};
+use live_incoming::IncomingFault;
+use live_session::{Live, LiveError};
 use std::alloc::Global;
 use std::io::Read;
 use text_core::{Buffered, Sink};
@@ -20,10 +17,7 @@ use text_core::{Buffered, Sink};
 // Hands on what was put.
 fn hand_on<S: Sink>(out: &mut Buffered<S>) -> Result<(), SessionError>
     ensures bytes { Keeps (⟦<Buffered<S> as Sink>⟧.contents out.old) (⟦<Buffered<S> as Sink>⟧.contents out.new) }
-    ensures done { OnOk result (pending out.new ≡ []) }
-    ensures fault { IsErr result ↔ IsTrue (⟦<Buffered<S> as Sink>⟧.is_stuck out.new) }
-    ensures count { IfErr result (λ error. error ≡ Write (handed_count out.new)) }
-    ensures kept { IsTrue (⟦<Buffered<S> as Sink>⟧.is_stuck out.old) → out.new ≡ out.old }
+    ensures flushed { IsFlushed ⟦<Buffered<S> as Sink>⟧.is_stuck out.old out.new result }
 {
     match out.flush() {
         Ok(()) => Ok(()),
@@ -42,15 +36,10 @@ fn put_first<S: Sink>(live: &Live, out: &mut Buffered<S>) -> Result<(), SessionE
 }
 
 // Reads the next line of the script, the one of this number.
-fn next_line<R: Read>(
-    lines: &mut Lines,
-    input: &mut R,
-    line: &mut ArrayVec<u8, LONGEST_LINE>,
-    number: u64,
-) -> Result<(), SessionError>
-    ensures { IsScriptLine (to_come lines.old (R.remaining input.old)) (to_come lines.new (R.remaining input.new)) line.new.items number result }
+fn next_line<R: Read>(incoming: &mut Incoming<'_, R>, number: u64) -> Result<(), SessionError>
+    ensures { IsScriptLine incoming.old.rest incoming.new.rest incoming.new.line number result }
 {
-    match lines.next(input, line) {
+    match incoming.next() {
         Ok(more) => {
             if more {
                 Ok(())
@@ -69,21 +58,13 @@ fn next_line<R: Read>(
     }
 }
 
-// Has a refused line heard of.
-fn tell<H: RefusalHearer>(step: Step, topology: &[u8], number: u64, line: &[u8], hearer: &mut H) {
-    if let Step::Refuse(refusal) = step {
-        hearer.hear(topology, number, line, refusal);
-    }
-}
-
 // Answers a line, the one of this number, and hands the answer on; then a refusal is heard of.
 fn answer_line<S: Sink, H: RefusalHearer>(
     live: &mut Live,
-    topology: &[u8],
     number: u64,
     line: &[u8],
     out: &mut Buffered<S>,
-    hearer: &mut H,
+    refusals: &mut Refusals<'_, '_, H>,
 ) -> Result<(), SessionError>
     requires going { live.old.notes.end ≡ None }
     ensures answered { IsLineAnswered live.old line.now live.new (⟦<Buffered<S> as Sink>⟧.contents out.old) (⟦<Buffered<S> as Sink>⟧.contents out.new) result }
@@ -92,7 +73,7 @@ fn answer_line<S: Sink, H: RefusalHearer>(
     match live.line(line, out) {
         Ok(answered) => {
             let handed = hand_on(out);
-            tell(answered.step, topology, number, line, hearer);
+            refusals.tell(answered.step, number, line);
             handed
         }
         Err(error) => match error {
@@ -105,59 +86,22 @@ fn answer_line<S: Sink, H: RefusalHearer>(
 // Answers line after line, up to the end of the script, to which it has not come.
 fn answer<R: Read, S: Sink, H: RefusalHearer>(
     live: &mut Live,
-    topology: &[u8],
-    lines: &mut Lines,
-    input: &mut R,
-    line: &mut ArrayVec<u8, LONGEST_LINE>,
+    incoming: &mut Incoming<'_, R>,
     out: &mut Buffered<S>,
-    hearer: &mut H,
+    refusals: &mut Refusals<'_, '_, H>,
 ) -> Result<(), SessionError>
     requires going { live.old.notes.end ≡ None }
-    ensures answered { IsAnswering (to_come lines.old (R.remaining input.old)) (to_come lines.new (R.remaining input.new)) live.old
-        (⟦<Buffered<S> as Sink>⟧.contents out.old) (⟦<Buffered<S> as Sink>⟧.contents out.new) result }
+    ensures answered { IsAnswering incoming.old.rest incoming.new.rest live.old (⟦<Buffered<S> as Sink>⟧.contents out.old) (⟦<Buffered<S> as Sink>⟧.contents out.new) result }
     ensures handed { AreHanded ⟦<Buffered<S> as Sink>⟧.is_stuck out.old out.new result }
 {
     for answered in 0..MOST_LINES {
-        match next_line(lines, input, line, answered + 1) {
-            Err(error) => return Err(error),
-            Ok(()) => match answer_line(
-                live,
-                topology,
-                answered + 1,
-                line.as_slice(),
-                out,
-                hearer,
-            ) {
-                Err(error) => return Err(error),
-                Ok(()) => {}
-            },
-        }
+        next_line(incoming, answered + 1)?;
+        answer_line(live, answered + 1, incoming.last(), out, refusals)?;
         if live.is_over() {
             return Ok(());
         }
     }
     Err(SessionError::TooLong)
-}
-
-// Writes what stands first, and answers line after line.
-fn talk<R: Read, S: Sink, H: RefusalHearer>(
-    live: &mut Live,
-    topology: &[u8],
-    lines: &mut Lines,
-    input: &mut R,
-    line: &mut ArrayVec<u8, LONGEST_LINE>,
-    out: &mut Buffered<S>,
-    hearer: &mut H,
-) -> Result<(), SessionError>
-    requires going { live.old.notes.end ≡ None }
-    ensures talked { IsTalk (to_come lines.old (R.remaining input.old)) (to_come lines.new (R.remaining input.new)) live.old
-        (⟦<Buffered<S> as Sink>⟧.contents out.old) (⟦<Buffered<S> as Sink>⟧.contents out.new) result }
-    ensures handed { AreHanded ⟦<Buffered<S> as Sink>⟧.is_stuck out.old out.new result }
-{
-    match put_first(live, out) {
-        Err(error) => Err(error),
-        Ok(()) => answer(live, topology, lines, input, line, out, hearer),
-    }
 }
 
 /// Runs a session: reads a topology and a line `script`, and answers each line after it before it reads on, up to a line
@@ -195,21 +139,13 @@ pub fn session_heard<R: Read, S: Sink, H: RefusalHearer>(
     ensures session { (after : Option (List ℕ)) × IsSession (R.remaining input.old) after (⟦<Buffered<S> as Sink>⟧.contents out.old) (⟦<Buffered<S> as Sink>⟧.contents out.new) result }
     ensures handed { AreHanded ⟦<Buffered<S> as Sink>⟧.is_stuck out.old out.new result }
 {
-    let mut lines = Lines::new();
-    let mut line = ArrayVec::new();
-    match topology_text(alloc, &mut lines, input, &mut line) {
-        Err(error) => Err(error),
-        Ok(text) => match begin(alloc, text.as_slice()) {
-            Err(error) => Err(error),
-            Ok(mut live) => talk(
-                &mut live,
-                text.as_slice(),
-                &mut lines,
-                input,
-                &mut line,
-                out,
-                hearer,
-            ),
-        },
-    }
+    let mut incoming = Incoming::new(input);
+    let topology = topology_text(alloc, &mut incoming)?;
+    let mut live = begin(alloc, topology.as_slice())?;
+    put_first(&live, out)?;
+    let mut refusals = Refusals {
+        topology: topology.as_slice(),
+        hearer,
+    };
+    answer(&mut live, &mut incoming, out, &mut refusals)
 }

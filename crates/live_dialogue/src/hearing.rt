@@ -1,5 +1,5 @@
 //! What hears of refused lines.
-use live_session::Refusal;
+use live_session::{Refusal, Step};
 
 /// Hears of the lines of a session that are refused.
 pub trait RefusalHearer {
@@ -13,4 +13,20 @@ pub struct SilentRefusals;
 
 impl RefusalHearer for SilentRefusals {
     fn hear(&mut self, _topology: &[u8], _number: u64, _line: &[u8], _refusal: Refusal) {}
+}
+
+/// Who hears of the refused lines of a session with this topology.
+#[derive(Drop)]
+pub(crate) struct Refusals<'t, 'h, H> {
+    pub topology: &'t [u8],
+    pub hearer: &'h mut H,
+}
+
+impl<H: RefusalHearer> Refusals<'_, '_, H> {
+    /// Has a refused line heard of, the one of this number.
+    pub(crate) fn tell(&mut self, step: Step, number: u64, line: &[u8]) {
+        if let Step::Refuse(refusal) = step {
+            self.hearer.hear(self.topology, number, line, refusal);
+        }
+    }
 }

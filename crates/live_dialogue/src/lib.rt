@@ -4,6 +4,7 @@
 mod dialogue;
 mod error;
 mod hearing;
+mod incoming;
 mod limits;
 mod opening;
 

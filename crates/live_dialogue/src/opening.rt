@@ -2,14 +2,13 @@
 ghost use Rattle.std.specs.Prelude.{◌≡◌, [], ◌∷◌, ◌++◌, OnOk, codes};
 ghost use Rattle.std.specs.Str.{bytes_eq};
 ghost use Rattle.std.specs.Result.{result_map_both};
-ghost use Rattle.live_incoming.specs.Incoming.{to_come};
 ghost use Rattle.live_dialogue.specs.Dialogue.{IsBegun, IsOpening, IsTopologyLine};
 
 use crate::error::SessionError;
-use crate::limits::{LONGEST_LINE, LONGEST_TOPOLOGY};
-use arrayvec::ArrayVec;
+use crate::incoming::Incoming;
+use crate::limits::LONGEST_TOPOLOGY;
 use edid_core::{RootError, root_on_heap};
-use live_incoming::{IncomingFault, Lines};
+use live_incoming::IncomingFault;
 use live_session::Live;
 use room_script::{TopologyError, parse_topology};
 use std::alloc::{AllocError, Global};
@@ -31,14 +30,10 @@ fn add_line(text: &mut Vec<u8>, line: &[u8]) -> Result<(), AllocError>
 }
 
 // Reads the next line before the line `script`.
-fn next_line<R: Read>(
-    lines: &mut Lines,
-    input: &mut R,
-    line: &mut ArrayVec<u8, LONGEST_LINE>,
-) -> Result<(), SessionError>
-    ensures { IsTopologyLine (to_come lines.old (R.remaining input.old)) (to_come lines.new (R.remaining input.new)) line.new.items result }
+fn next_line<R: Read>(incoming: &mut Incoming<'_, R>) -> Result<(), SessionError>
+    ensures { IsTopologyLine incoming.old.rest incoming.new.rest incoming.new.line result }
 {
-    match lines.next(input, line) {
+    match incoming.next() {
         Ok(more) => {
             if more {
                 Ok(())
@@ -54,18 +49,16 @@ fn next_line<R: Read>(
 /// Reads the text before the first line `script`, and that line.
 pub(crate) fn topology_text<R: Read>(
     alloc: Global,
-    lines: &mut Lines,
-    input: &mut R,
-    line: &mut ArrayVec<u8, LONGEST_LINE>,
+    incoming: &mut Incoming<'_, R>,
 ) -> Result<Vec<u8>, SessionError>
-    ensures { IsOpening (to_come lines.old (R.remaining input.old)) (to_come lines.new (R.remaining input.new)) (result_map_both (λ text. text.items) (λ error. error) result) }
+    ensures { IsOpening incoming.old.rest incoming.new.rest (result_map_both (λ text. text.items) (λ error. error) result) }
 {
     let mut text = Vec::new(alloc);
     'lines: while text.len() <= LONGEST_TOPOLOGY {
-        match next_line(lines, input, line) {
+        match next_line(incoming) {
             Err(error) => return Err(error),
             Ok(()) => {
-                let bytes = line.as_slice();
+                let bytes = incoming.last();
                 if is_script(bytes) {
                     return Ok(text);
                 }

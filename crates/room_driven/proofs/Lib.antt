@@ -1,5 +1,4 @@
 pub mod Counts
-pub mod Written
 pub mod Turns
 pub mod Running
 pub mod HasDrives

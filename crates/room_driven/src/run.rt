@@ -1,10 +1,7 @@
 //! A run of the network, of which the line and who drives it are written.
-ghost use Rattle.std.specs.Prelude.{◌≡◌, ℕ, ◌≤◌, List, length, true, IfOk, IfErr, OnOk, OnErr};
-ghost use Rattle.std.specs.Io.KnownBytes.{Appends};
+ghost use Rattle.std.specs.Prelude.{◌≤◌, length};
 ghost use Rattle.line_wave.specs.Bounds.{latest_event};
 ghost use Rattle.room_script.specs.Script.{IsSchedule};
-ghost use Rattle.text_core.specs.Cut.{CutOff};
-ghost use Rattle.room_run.specs.declared.run.Totals.{Totals as TotalsRecord};
 ghost use Rattle.room_run.specs.Run.{start};
 ghost use Rattle.room_run.specs.Heard.{IsRunWritten};
 ghost use Rattle.room_driven.specs.Named.{IsDump};
@@ -19,8 +16,13 @@ use room_run::{Totals, run_turns, told};
 use room_script::TimedEvent;
 use text_core::{Counted, Sink, WriteFault};
 
-// Runs a network to `end`, and writes the dump.
-fn write_drives<S: Sink, W: Wire>(
+/// Runs a network to `end`, at most 1,000,000,000,000 microseconds, and writes the dump of its line and of who drives it, with
+/// these wires. The events stand in the order of their times, all before `end`, and name devices of the tree.
+///
+/// # Errors
+///
+/// A `put` took none. Its count, which stays at its greatest value, says how much of the text was written.
+pub fn run<S: Sink, W: Wire>(
     out: &mut S,
     wires: Wires,
     net: &mut Net<W>,
@@ -46,32 +48,4 @@ fn write_drives<S: Sink, W: Wire>(
     // No effect at run time. The proof reads what `out` holds from the sink that comes back.
     let _below = text.into_sink();
     told(written, totals)
-}
-
-/// Runs a network from its start to `end`, at most 1,000,000,000,000 microseconds, and writes the dump of its line and of who
-/// drives it, with these wires. The events stand in
-/// the order of their times, all before `end`, and name devices of the tree.
-///
-/// # Errors
-///
-/// A `put` took none. Its count, which stays at its greatest value, says how much of the text was written.
-#[tactic(auto, using(crate::proofs::Written::written_ok, crate::proofs::Written::written_same, crate::proofs::Written::written_stuck))]
-pub fn run<S: Sink, W: Wire>(
-    out: &mut S,
-    wires: Wires,
-    net: &mut Net<W>,
-    events: &[TimedEvent],
-    end: u64,
-) -> Result<Totals, WriteFault>
-    requires early { end ≤ latest_event }
-    requires fresh { (net.old.close ≡ 0) × (net.old.rest ≡ 0) }
-    requires few { length net.old.devices ≤ 15 }
-    requires schedule { IsSchedule (length net.old.tree) end 0 events.now }
-    ensures ok { IfOk result (λ totals. (text : List ℕ) × IsDump wires end (start net.old events.now) text totals × Appends (S.contents out.old) (S.contents out.new) text) }
-    ensures same { OnOk result (S.is_stuck out.new ≡ S.is_stuck out.old) }
-    ensures cut { IfErr result (λ fault. (text : List ℕ) (totals : TotalsRecord) → IsDump wires end (start net.old events.now) text totals
-        → CutOff (S.contents out.old) (S.contents out.new) text fault) }
-    ensures stuck { OnErr result (S.is_stuck out.new ≡ true) }
-{
-    write_drives(out, wires, net, events, end)
 }

@@ -3,7 +3,7 @@ use Rattle.text_core.specs.Buffered.{handed_count}
 use Rattle.live_dialogue.specs.declared.error.SessionError.TheVariants.{Memory}
 use Rattle.live_dialogue.specs.Dialogue.{AreHanded, held}
 use Rattle.live_dialogue.proofs.Answered.{cut_from, memory_from, of_memory, whole_from}
-use Rattle.live_dialogue.proofs.Putting.{fails, flushed, handed_same, is_stuck}
+use Rattle.live_dialogue.proofs.Putting.{fails, handed_same, is_stuck, reports}
 use Rattle.live_dialogue.proofs.dialogue.answer_line.Goals as goal
 
 pub line-requires : goal.line-requires
@@ -15,11 +15,7 @@ returns-in-Ok-clause-answered g c =
     let mid = c.line.new.out in
     let new = c.hand_on-handed.new.out in
     whole_from c.args.live.now c.line.new.self c.args.line.now _ (handed_count new) (is_stuck old) (is_stuck mid) (held g.S.Sink.contents old) (held g.S.Sink.contents mid) (held g.S.Sink.contents new)
-    c.line.result c.hand_on-handed.result c.in-Ok.is c.requires.going c.line.ensures.taken c.hand_on-handed.ensures.bytes c.hand_on-handed.ensures.count
-
-pub returns-in-Ok-clause-handed : goal.returns-in-Ok-clause-handed
-returns-in-Ok-clause-handed g c =
-    flushed is_stuck c.args.out.now c.hand_on-handed.new.out c.hand_on-handed.result c.hand_on-handed.ensures.fault c.hand_on-handed.ensures.done c.hand_on-handed.ensures.count
+    c.line.result c.hand_on-handed.result c.in-Ok.is c.requires.going c.line.ensures.taken c.hand_on-handed.ensures.bytes (reports is_stuck mid new c.hand_on-handed.result c.hand_on-handed.ensures.flushed)
 
 pub returns-in-Write-clause-answered : goal.returns-in-Write-clause-answered
 returns-in-Write-clause-answered g c =
@@ -28,12 +24,7 @@ returns-in-Write-clause-answered g c =
     let flush = c.hand_on in
     let new = flush.new.out in
     cut_from c.args.live.now c.line.new.self c.args.line.now _ (handed_count new) (is_stuck old) (is_stuck mid) (held g.S.Sink.contents old) (held g.S.Sink.contents mid) (held g.S.Sink.contents new)
-    c.line.result c.in-Err.error flush.result c.in-Err.is c.in-Write.is c.line.ensures.taken flush.ensures.bytes (fails is_stuck mid new flush.result flush.ensures.fault flush.ensures.kept) flush.ensures.count
-
-pub returns-in-Write-clause-handed : goal.returns-in-Write-clause-handed
-returns-in-Write-clause-handed g c =
-    let flush = c.hand_on in
-    flushed is_stuck c.args.out.now flush.new.out flush.result flush.ensures.fault flush.ensures.done flush.ensures.count
+    c.line.result c.in-Err.error flush.result c.in-Err.is c.in-Write.is c.line.ensures.taken flush.ensures.bytes (fails is_stuck mid new flush.result flush.ensures.flushed) (reports is_stuck mid new flush.result flush.ensures.flushed)
 
 pub returns-in-Memory-clause-answered : goal.returns-in-Memory-clause-answered
 returns-in-Memory-clause-answered g c =

@@ -28,7 +28,7 @@ returns-clause-cut g c =
     let plan : topology_of c.args.topology.now ≡ Ok (plan_of c.in_ok-topology.topology) = search rules in
     let course : IsScriptRead c.in_ok-topology.topology.tree c.args.script.now (Ok (course_of c.in_ok-script.script)) = c.in_ok-script.ensures.gives in
     let due = runs_have_dumps c.args.wires c.in_ok-topology.topology.tree (course_of c.in_ok-script.script).pulses (course_of c.in_ok-script.script).events (course_of c.in_ok-script.script).end c.in_ok-script.ensures.script.timely.order in
-    let front = c.in-Err.ensures.cut due.0 due.1 (rw (c.deref_mut.ensures.value, c.in-Ok.ensures, c.deref-2.ensures.value, c.deref.ensures.value) due.2) in (
+    let front = c.in-Err.ensures.0 due.0 due.1 (rw (c.deref_mut.ensures.value, c.in-Ok.ensures, c.deref-2.ensures.value, c.deref.ensures.value) due.2) in (
       due.0,
       due.1,
       dump_of_texts c.args.wires c.args.topology.now c.args.script.now due.0 due.1 (plan_of c.in_ok-topology.topology) (course_of c.in_ok-script.script) (option_map (λ b. b.value) c.in_ok-_edid._edid)
@@ -43,7 +43,7 @@ pub returns-in-Ok-run-clause-ok : goal.returns-in-Ok-run-clause-ok
 returns-in-Ok-run-clause-ok g c =
     let plan : topology_of c.args.topology.now ≡ Ok (plan_of c.in_ok-topology.topology) = search rules in
     let course : IsScriptRead c.in_ok-topology.topology.tree c.args.script.now (Ok (course_of c.in_ok-script.script)) = c.in_ok-script.ensures.gives in
-    let ran = c.in-Ok-run.ensures.ok in
+    let ran = c.in-Ok-run.ensures in
     let dump : IsDump c.args.wires (course_of c.in_ok-script.script).end (start (first_net c.in_ok-topology.topology.tree (course_of c.in_ok-script.script).pulses) (course_of c.in_ok-script.script).events) ran.0 c.in-Ok-run.totals =
     rw (← c.deref.ensures.value, ← c.deref-2.ensures.value, ← c.in-Ok.ensures, ← c.deref_mut.ensures.value) ran.1 in (
       ran.0,
