@@ -1,5 +1,5 @@
 -- What is written of a capture as its lines come.
-use Rattle.std.proofs.Common.{◌≡◌, ℕ, ◌+◌, ◌≤◌, Bool, true, false, List, [], ◌∷◌, ◌++◌, length, Option, Ok, Err, IfErr, OnOk, Result, refl, sym, ap, subst, ◌∙◌, append_assoc, append-nil, arith}
+use Rattle.std.proofs.Common.{◌≡◌, ℕ, ◌+◌, ◌≤◌, Bool, true, List, [], ◌∷◌, ◌++◌, length, Option, Ok, Err, IfErr, OnOk, Result, refl, sym, ap, subst, ◌∙◌, append_assoc, append-nil, arith}
 use Rattle.std.specs.Option.{option_to_list}
 use Rattle.std.proofs.KnownBytes.{Appends-nil}
 use Rattle.line_wave.specs.declared.Edge.{Edge}
@@ -11,39 +11,37 @@ use Rattle.capture_core.specs.Edges.{Captured, line_of_edges}
 use Rattle.capture_core.specs.Reading.{with_edges}
 use Rattle.capture_core.specs.declared.fault.Cause.{Cause}
 use Rattle.capture_monitor.specs.EdgeFile.{EdgeLinesGoOn}
-use Rattle.capture_monitor.specs.Monitor.{HeardBeforeBy}
 use Rattle.capture_monitor.specs.ReadBy.{readings_by}
 use Rattle.capture_csv.specs.Sampling.{CsvLinesGoOn}
 use Rattle.capture_pin.specs.Sampling.{PinLinesGoOn}
 use Rattle.audit_core.specs.Audit.{audit_text_of}
-use Rattle.follow_core.specs.Follow.{NoneBefore}
 use Rattle.follow_core.specs.Lines.{EndsLines, IsEarly, TakesLine, from_of, lines_captured, lines_left}
+use Rattle.follow_core.specs.Teller.{IsTold, IsUntold, NoneBefore, TellsCalm, TellsEdge, TellsEnd}
 use Rattle.follow_core.specs.declared.lines.Last.{Last}
 use Rattle.follow_core.specs.declared.lines.LineForm.{LineForm}
+use Rattle.follow_core.specs.declared.teller.Teller.{Teller}
 pub use Rattle.live_incoming.proofs.Coming.{lines_again}
-pub use Rattle.follow_core.proofs.Telling.{both, captured_turn, end_same, goes_on as none_before, split_read, with_none}
+pub use Rattle.follow_core.proofs.Followed.{both, captured_turn, end_same, goes_on as none_before, split_read, with_none}
+use Rattle.follow_core.proofs.Told.{told_front}
 use Rattle.follow_audit.specs.Follow.{Ends, EndsTwo, Goes, GoesCut, GoesEnd, GoesLast, GoesOn, GoesTo, HasCut, HasHeard, HasStopped, HasTwo, HasWritten, Hears, HearsTwo, IsAt, IsFollowed, IsFront, IsFrontOfAll, IsOfEnding, IsOfGoing, IsPrompt, LeavesAlone, text_of}
 use Rattle.follow_audit.specs.Listener.{AreTwo, Finishes, IsAudited, IsOfListening, IsOfWriting, Puts, PutsAll, PutsFront, SaysAllKnown, TakesEdge}
-use Rattle.follow_audit.specs.Teller.{IsTold, TellsCalm, TellsEdge, TellsEnd}
 use Rattle.follow_audit.specs.declared.error.FollowAuditError.{FollowAuditError}
 use Rattle.follow_audit.specs.declared.error.FollowAuditError.TheVariants.{Capture, Memory, Read, TooLong, Waiting, Write}
 use Rattle.follow_audit.specs.declared.follower.AuditFollower.{AuditFollower}
 use Rattle.follow_audit.specs.declared.listener.Listener.{Listener}
-use Rattle.follow_audit.specs.declared.teller.Teller.{Teller}
 use Rattle.follow_audit.proofs.Audited.{audited_front, two_ended}
-use Rattle.follow_audit.proofs.Told.{told_first, told_front}
 
 -- ---- the begin
 
 pub followed_first : (file : EdgeLinesGoOn) (pin : PinLinesGoOn) (csv : CsvLinesGoOn) (form : LineForm) (signal : List ℕ) (win : Windows) (timing : Bool) (f : AuditFollower) → ((lines : List (List ℕ)) → lines_left signal f.lines 1 lines ≡ lines_captured form signal lines)
-    → ((low : Line) → HeardBeforeBy win f.teller.monitor low 0) → f.teller.known ≡ 0 → ((edges : List Edge) → IsAudited edges f.listener edges [] []) → f.listener.timing ≡ timing → IsFollowed form signal win timing [] 1 f []
-followed_first file pin csv form signal win timing f first heard known audited timed = record {
+    → IsUntold win f.teller → ((edges : List Edge) → IsAudited edges f.listener edges [] []) → f.listener.timing ≡ timing → IsFollowed form signal win timing [] 1 f []
+followed_first file pin csv form signal win timing f first untold audited timed = record {
   edges = [];
   timed = timed;
   read = λ rest. sym (first rest) ∙ with_none (lines_left signal f.lines 1 rest);
   told = λ rest c h.
       let t = captured_turn file pin csv form signal rest c (sym (first rest) ∙ h) in
-      ([], told_first win f.teller c.edges c.end heard known t.0 t.1, audited c.edges);
+      ([], untold c.edges c.end t.0 t.1, audited c.edges);
 }
 
 -- ---- what goes on

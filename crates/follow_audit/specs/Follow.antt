@@ -14,14 +14,13 @@ use Rattle.capture_core.specs.declared.fault.Cause.{Cause}
 use Rattle.capture_monitor.specs.Joined.{captured_by}
 use Rattle.audit_core.specs.Audit.{audit_text_of}
 use Rattle.capture_forms.specs.Captures.{capture_in}
-use Rattle.follow_core.specs.Follow.{AreLeft, NoneBefore, StopsAtFault, StopsAtLength, StopsAtRead}
+use Rattle.follow_core.specs.Follow.{AreLeft, StopsAtFault, StopsAtLength, StopsAtRead}
 use Rattle.live_incoming.specs.declared.incoming.IncomingFault.{IncomingFault}
 use Rattle.live_incoming.specs.declared.incoming.IncomingFault.TheVariants as line_fault
 use Rattle.follow_core.specs.Lines.{IsEarly, form_as, from_of, lines_captured, lines_left}
+use Rattle.follow_core.specs.Teller.{IsTold, IsToldEarly, NoneBefore}
 use Rattle.follow_core.specs.declared.lines.LineForm.{LineForm}
 use Rattle.follow_audit.specs.Listener.{IsAudited, SaysAllKnown}
-use Rattle.follow_audit.specs.Teller.{IsTold}
-use Rattle.follow_audit.specs.Teller.{IsEarly as IsEarlyTold}
 use Rattle.follow_audit.specs.declared.error.FollowAuditError.{FollowAuditError}
 use Rattle.follow_audit.specs.declared.error.FollowAuditError.TheVariants.{Capture, Memory, Read, TooLong, Waiting, Write}
 use Rattle.follow_audit.specs.declared.follower.AuditFollower.{AuditFollower}
@@ -50,7 +49,7 @@ abbrev pub IsPrompt : AuditFollower → Type 0
 IsPrompt f = (from_of f.lines ≤ f.teller.known) × SaysAllKnown f.listener
 
 abbrev pub IsReady : AuditFollower → Type 0
-IsReady f = IsEarly f.lines × IsEarlyTold f.teller
+IsReady f = IsEarly f.lines × IsToldEarly f.teller
 
 -- ---- what goes on after an edge
 

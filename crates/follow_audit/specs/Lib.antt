@@ -1,4 +1,3 @@
 pub mod Settled
 pub mod Listener
-pub mod Teller
 pub mod Follow

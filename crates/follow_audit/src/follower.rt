@@ -5,11 +5,10 @@ ghost use Rattle.line_reading.specs.Windows.{AreWindows};
 
 use crate::error::FollowAuditError;
 use crate::listener::Listener;
-use crate::teller::Teller;
 use capture_csv::csv_lines_go_on;
 use capture_monitor::edge_lines_go_on;
 use capture_pin::pin_lines_go_on;
-use follow_core::{CaptureLines, LineForm};
+use follow_core::{CaptureLines, LineForm, Teller};
 use line_reading::Windows;
 use line_wave::Edge;
 use std::alloc::Global;

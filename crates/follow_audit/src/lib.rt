@@ -7,7 +7,6 @@ mod follower;
 mod following;
 mod listener;
 mod settled;
-mod teller;
 
 pub use error::FollowAuditError;
 pub use following::follow_audit;

@@ -1,4 +1,5 @@
 pub mod Left
-pub mod Telling
+pub mod Told
+pub mod Followed
 pub mod Written
 pub mod Long

@@ -21,7 +21,7 @@ use Rattle.follow_core.specs.declared.follower.Follower.{Follower}
 use Rattle.follow_core.specs.declared.follower.EndedReadings.{EndedReadings}
 use Rattle.follow_core.specs.declared.lines.LineForm.{LineForm}
 use Rattle.follow_core.specs.declared.lines.LineForm.TheVariants as forms
-use Rattle.follow_core.proofs.Telling.{followed_front, lines_again}
+use Rattle.follow_core.proofs.Followed.{followed_front, lines_again}
 
 -- ---- what is put
 

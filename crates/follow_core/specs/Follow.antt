@@ -4,16 +4,12 @@ use Rattle.std.specs.Io.KnownBytes.{Appends}
 use Rattle.text_core.specs.Lines.{lines_of}
 use Rattle.text_core.specs.declared.at.At.{At}
 use Rattle.line_wave.specs.declared.Edge.{Edge}
-use Rattle.line_wave.specs.Line.{Line, was_low}
 use Rattle.line_reading.specs.declared.times.Windows.{Windows}
-use Rattle.capture_core.specs.Edges.{AreInTurn, Captured, EndBy, level_at, line_of_edges}
+use Rattle.capture_core.specs.Edges.{Captured, line_of_edges}
 use Rattle.capture_core.specs.Reading.{with_edges}
 use Rattle.capture_core.specs.declared.fault.Cause.{Cause}
 use Rattle.capture_monitor.specs.Joined.{captured_by}
-use Rattle.capture_monitor.specs.Monitor.{HeardBeforeBy}
-use Rattle.capture_monitor.specs.ReadBy.{ended_before_by}
 use Rattle.capture_monitor.specs.Watch.{readings_text, reported_text}
-use Rattle.capture_monitor.specs.declared.monitor.Monitor.{Monitor as Watcher}
 use Rattle.capture_forms.specs.Captures.{capture_in}
 use Rattle.live_incoming.specs.Incoming.{IsNext, longest_line}
 use Rattle.live_incoming.specs.declared.incoming.IncomingFault.{IncomingFault}
@@ -21,13 +17,13 @@ use Rattle.live_incoming.specs.declared.incoming.IncomingFault.TheVariants as li
 use Rattle.line_reading.specs.Readings.{Listed}
 use Rattle.line_reading.specs.Reports.{listed_as}
 use Rattle.follow_core.specs.Lines.{IsEarly, form_as, from_of, lines_captured, lines_left}
+use Rattle.follow_core.specs.Teller.{IsTold, IsToldEarly}
 use Rattle.follow_core.specs.declared.lines.LineForm.{LineForm}
 use Rattle.follow_core.specs.declared.follower.Follower.{Follower}
 use Rattle.follow_core.specs.declared.follower.EndedReadings.{EndedReadings}
 use Rattle.follow_core.specs.declared.error.FollowError.{FollowError}
 use Rattle.follow_core.specs.declared.error.FollowError.TheVariants.{Capture, Read, TooLong, Write}
-use Rattle.std.specs.Option.{option_map, option_to_list}
-use Rattle.line_wave.specs.Bounds.{latest_instant}
+use Rattle.std.specs.Option.{option_map}
 
 -- the text of a whole capture
 abbrev pub text_of : Windows → Captured → List ℕ
@@ -35,53 +31,23 @@ text_of windows c = readings_text (captured_by windows c)
 
 -- ---- a follower
 
--- Before microsecond `known` a monitor was told a line, of which these edges are still to come, up to an end; the readings that
--- have ended are reported.
-pub record HasTold (windows : Windows) (m : Watcher) (known : ℕ) (low : Line) (edges : List Edge) (end : ℕ) (text : List ℕ) : Type 0 where
-  pub is_low : Bool
-  pub level : (u : ℕ) → known ≤ u → low u ≡ level_at is_low edges u
-  pub before : was_low low known ≡ is_low
-  pub turn : AreInTurn is_low known edges
-  pub ends : EndBy end edges
-  pub reach : known ≤ end + 1
-  pub heard : HeardBeforeBy windows m low known
-  pub reported : text ≡ readings_text (ended_before_by windows low known)
-
 -- Of a capture these lines came, before the one of this number, and this text was reported: whatever comes later, these are the
 -- readings that have ended.
 pub record IsFollowed (form : LineForm) (signal : List ℕ) (windows : Windows) (past : List (List ℕ)) (number : ℕ) (f : Follower) (text : List ℕ) : Type 0 where
   pub edges : List Edge
   pub read : (rest : List (List ℕ)) → lines_captured form signal (past ++ rest) ≡ with_edges edges (lines_left signal f.lines number rest)
-  pub told : (rest : List (List ℕ)) (c : Captured) → lines_left signal f.lines number rest ≡ Ok c → HasTold windows f.monitor f.known (line_of_edges (edges ++ c.edges)) c.edges c.end text
+  pub told : (rest : List (List ℕ)) (c : Captured) → lines_left signal f.lines number rest ≡ Ok c
+      → (ended : List Listed) × IsTold windows f.teller (line_of_edges (edges ++ c.edges)) c.edges c.end ended × (text ≡ readings_text ended)
 
 -- all is known that the lines say: a reading that is over by them is reported
 abbrev pub IsPrompt : Follower → Type 0
-IsPrompt f = from_of f.lines ≤ f.known
+IsPrompt f = from_of f.lines ≤ f.teller.known
 
 abbrev pub IsReady : Follower → Type 0
-IsReady f = IsEarly f.lines × (f.known ≤ latest_instant + 1)
+IsReady f = IsEarly f.lines × IsToldEarly f.teller
 
 abbrev pub heard_text : EndedReadings → List ℕ
 heard_text h = reported_text (option_map listed_as h.first) ++ reported_text (option_map listed_as h.second)
-
--- an edge is told, if there is one
-pub record TellsEdge (old : Follower) (edge : Option Edge) (reported : Option Listed) (new : Follower) : Type 0 where
-  pub lines : new.lines ≡ old.lines
-  pub early : new.known ≤ latest_instant + 1
-  pub told : (windows : Windows) (low : Line) (edges : List Edge) (end : ℕ) (text : List ℕ) → HasTold windows old.monitor old.known low (option_to_list edge ++ edges) end text
-      → HasTold windows new.monitor new.known low edges end (text ++ reported_text reported)
-
--- no edge of these comes before an instant
-abbrev pub NoneBefore : ℕ → List Edge → Type 0
-NoneBefore from edges = (is_low : Bool) × AreInTurn is_low from edges
-
--- it is told that none comes before an instant
-pub record TellsCalm (old : Follower) (from : ℕ) (reported : Option Listed) (new : Follower) : Type 0 where
-  pub lines : new.lines ≡ old.lines
-  pub early : new.known ≤ latest_instant + 1
-  pub prompt : from ≤ new.known
-  pub told : (windows : Windows) (low : Line) (edges : List Edge) (end : ℕ) (text : List ℕ) → HasTold windows old.monitor old.known low edges end text → NoneBefore from edges → from ≤ end + 1
-      → HasTold windows new.monitor new.known low edges end (text ++ reported_text reported)
 
 -- a line has come
 abbrev pub HearsLine : List ℕ → ℕ → List ℕ → Follower → Result EndedReadings (At Cause) → Follower → Type 0

@@ -1,18 +1,16 @@
 //! A capture that is followed line by line.
-ghost use Rattle.std.specs.Prelude.{◌≡◌, ◌≤◌, ◌+◌, ◌⊎◌, [], ℕ, List, IfErr, IfSome, OnOk, option_map};
-ghost use Rattle.line_wave.specs.Bounds.{latest_instant};
-ghost use Rattle.line_reading.specs.Reports.{listed_as};
+ghost use Rattle.std.specs.Prelude.{◌≡◌, [], ℕ, List, IfErr, OnOk};
 ghost use Rattle.line_reading.specs.Windows.{AreWindows};
-ghost use Rattle.follow_core.specs.Follow.{HearsEnd, HearsLine, IsFollowed, IsPrompt, IsReady, TellsCalm, TellsEdge};
+ghost use Rattle.follow_core.specs.Follow.{HearsEnd, HearsLine, IsFollowed, IsPrompt, IsReady};
 
 use crate::lines::{CaptureLines, LineForm};
+use crate::teller::Teller;
 use capture_core::Cause;
 use capture_csv::csv_lines_go_on;
-use capture_monitor::{Monitor, edge_lines_go_on};
+use capture_monitor::edge_lines_go_on;
 use capture_pin::pin_lines_go_on;
 use line_frames::Reading;
 use line_reading::Windows;
-use line_wave::Edge;
 use text_core::At;
 
 /// What has ended by a line: two readings at most.
@@ -26,16 +24,7 @@ pub struct EndedReadings {
 #[derive(Debug, Drop)]
 pub struct Follower {
     lines: CaptureLines,
-    monitor: Monitor,
-    /// The instant before which the line of the bus is known.
-    known: u64,
-}
-
-fn later(one: u64, other: u64) -> u64
-    ensures after { (one ≤ result) × (other ≤ result) }
-    ensures either { (result ≡ one) ⊎ (result ≡ other) }
-{
-    if one < other { other } else { one }
+    teller: Teller,
 }
 
 impl Follower {
@@ -52,35 +41,8 @@ impl Follower {
         csv_lines_go_on();
         Follower {
             lines: CaptureLines::new(form),
-            monitor: Monitor::with_windows(windows),
-            known: 0,
+            teller: Teller::new(windows),
         }
-    }
-
-    // Tells the monitor an edge, if there is one.
-    fn edge(&mut self, edge: Option<Edge>) -> Option<Reading>
-        requires known { self.old.known ≤ latest_instant + 1 }
-        requires early { IfSome edge (λ e. e.at ≤ latest_instant) }
-        ensures { TellsEdge self.old edge (option_map listed_as result) self.new }
-    {
-        match edge {
-            None => None,
-            Some(edge) => {
-                self.known = edge.at + 1;
-                self.monitor.edge(edge)
-            }
-        }
-    }
-
-    // Tells the monitor that no edge comes before an instant.
-    fn calm(&mut self, from: u64) -> Option<Reading>
-        requires known { self.old.known ≤ latest_instant + 1 }
-        requires early { from ≤ latest_instant + 1 }
-        ensures { TellsCalm self.old from (option_map listed_as result) self.new }
-    {
-        let until = later(self.known, from);
-        self.known = until;
-        self.monitor.calm(until)
     }
 
     /// Takes the line of this number, and answers what has ended by it on the wire of this name; an empty one stands for the first.
@@ -105,9 +67,9 @@ impl Follower {
         pin_lines_go_on();
         csv_lines_go_on();
         let edge = self.lines.take(signal, number, line)?;
-        let first = self.edge(edge);
+        let first = self.teller.edge(edge);
         let lines = self.lines;
-        let second = self.calm(lines.from());
+        let second = self.teller.calm(lines.from());
         Ok(EndedReadings { first, second })
     }
 
@@ -122,12 +84,12 @@ impl Follower {
         ensures hears { HearsEnd number self result }
         ensures place { IfErr result (λ fault. fault.line ≡ number) }
     {
-        let mut follower = self;
-        match follower.lines.end(number) {
+        let mut teller = self.teller;
+        match self.lines.end(number) {
             Err(fault) => Err(fault),
             Ok(last) => {
-                let first = follower.edge(last.edge);
-                let second = follower.monitor.finish(last.end);
+                let first = teller.edge(last.edge);
+                let second = teller.end(last.end);
                 Ok(EndedReadings { first, second })
             }
         }

@@ -8,8 +8,9 @@ ghost use Rattle.capture_core.specs.declared.fault.Cause.{Cause};
 ghost use Rattle.capture_csv.specs.Sampling.{CsvLinesGoOn};
 ghost use Rattle.capture_monitor.specs.EdgeFile.{EdgeLinesGoOn};
 ghost use Rattle.capture_pin.specs.Sampling.{PinLinesGoOn};
-ghost use Rattle.follow_core.specs.Follow.{LongLinesAreTooMuch, NoneBefore};
+ghost use Rattle.follow_core.specs.Follow.{LongLinesAreTooMuch};
 ghost use Rattle.follow_core.specs.Lines.{IsEarly, from_of, lines_captured, lines_left};
+ghost use Rattle.follow_core.specs.Teller.{NoneBefore, ToldComeFirst};
 ghost use Rattle.follow_core.specs.declared.lines.CaptureLines.{CaptureLines};
 ghost use Rattle.follow_core.specs.declared.lines.LineForm.{LineForm};
 
@@ -40,4 +41,9 @@ pub fn lines_leave_a_capture_in_turn()
 /// Where more bytes of a line have come than it may have, the line after those that came before is too long.
 pub fn long_lines_are_too_much()
     ensures { LongLinesAreTooMuch }
+{}
+
+/// The readings that have ended of a line that is told as it comes are the first of those of the line.
+pub fn told_readings_come_first()
+    ensures { ToldComeFirst }
 {}

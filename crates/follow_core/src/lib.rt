@@ -7,11 +7,14 @@ mod follower;
 mod following;
 mod laws;
 mod lines;
+mod teller;
 
 pub use error::FollowError;
 pub use follower::{EndedReadings, Follower};
 pub use following::follow;
 pub use laws::{
     edges_come_before_what_is_left, lines_leave_a_capture_in_turn, long_lines_are_too_much,
+    told_readings_come_first,
 };
 pub use lines::{CaptureLines, Last, LineForm};
+pub use teller::Teller;

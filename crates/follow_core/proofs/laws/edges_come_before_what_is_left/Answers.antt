@@ -1,4 +1,4 @@
-use Rattle.follow_core.proofs.Telling.{both, split_read, with_none}
+use Rattle.follow_core.proofs.Followed.{both, split_read, with_none}
 use Rattle.follow_core.proofs.laws.edges_come_before_what_is_left.Goals as goal
 
 pub returns-clause-none : goal.returns-clause-none

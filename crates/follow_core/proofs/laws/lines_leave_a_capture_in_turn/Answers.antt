@@ -1,4 +1,4 @@
-use Rattle.follow_core.proofs.Telling.{captured_turn, end_same, goes_on}
+use Rattle.follow_core.proofs.Followed.{captured_turn, end_same, goes_on}
 use Rattle.follow_core.proofs.laws.lines_leave_a_capture_in_turn.Goals as goal
 
 pub returns-clause-turn : goal.returns-clause-turn

@@ -1,6 +1,6 @@
 use Rattle.std.proofs.Common.{ℕ, ◌≤◌, option_map, refl, subst}
 use Rattle.line_reading.specs.Reports.{listed_as}
-use Rattle.follow_audit.specs.Teller.{TellsCalm}
+use Rattle.follow_core.specs.Teller.{TellsCalm}
 use Rattle.follow_audit.proofs.Followed.{goes, goes_not, told_prompt}
 use Rattle.follow_audit.proofs.follower.AuditFollower.go_on.Goals as goal
 

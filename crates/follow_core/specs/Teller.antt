@@ -1,16 +1,15 @@
 -- A monitor that is told a captured line, edge by edge and up to where no edge comes: the readings that have ended (own).
-use Rattle.std.specs.Prelude.{◌≡◌, ℕ, ◌+◌, ◌≤◌, Bool, List, [], ◌++◌, Option}
+use Rattle.std.specs.Prelude.{◌≡◌, ℕ, ◌+◌, ◌≤◌, Bool, false, List, [], ◌++◌, Option}
 use Rattle.std.specs.Option.{option_to_list}
 use Rattle.line_wave.specs.declared.Edge.{Edge}
 use Rattle.line_wave.specs.Line.{Line, was_low}
 use Rattle.line_wave.specs.Bounds.{latest_instant}
 use Rattle.line_reading.specs.declared.times.Windows.{Windows}
 use Rattle.line_reading.specs.Readings.{Listed}
-use Rattle.capture_core.specs.Edges.{AreInTurn, EndBy, level_at}
+use Rattle.capture_core.specs.Edges.{AreInTurn, EndBy, level_at, line_of_edges}
 use Rattle.capture_monitor.specs.Monitor.{HeardBeforeBy}
 use Rattle.capture_monitor.specs.ReadBy.{ended_before_by, readings_by}
-use Rattle.follow_core.specs.Follow.{NoneBefore}
-use Rattle.follow_audit.specs.declared.teller.Teller.{Teller}
+use Rattle.follow_core.specs.declared.teller.Teller.{Teller}
 
 -- Before microsecond `known` it was told a line, of which these edges are still to come, up to an end; these readings have ended.
 pub record IsTold (windows : Windows) (t : Teller) (low : Line) (edges : List Edge) (end : ℕ) (ended : List Listed) : Type 0 where
@@ -23,18 +22,32 @@ pub record IsTold (windows : Windows) (t : Teller) (low : Line) (edges : List Ed
   pub heard : HeardBeforeBy windows t.monitor low t.known
   pub listed : ended ≡ ended_before_by windows low t.known
 
-abbrev pub IsEarly : Teller → Type 0
-IsEarly t = t.known ≤ latest_instant + 1
+-- they are the first of those of the line
+abbrev pub ToldComeFirst : Type 0
+ToldComeFirst = (windows : Windows) (t : Teller) (low : Line) (edges : List Edge) (end : ℕ) (ended : List Listed) → IsTold windows t low edges end ended
+    → (more : List Listed) × (readings_by windows low end ≡ ended ++ more)
+
+-- it was told nothing: all edges of a capture are still to come
+abbrev pub IsUntold : Windows → Teller → Type 0
+IsUntold windows t = (edges : List Edge) (end : ℕ) → AreInTurn false 0 edges → EndBy end edges → IsTold windows t (line_of_edges edges) edges end []
+
+-- within the limit of a capture
+abbrev pub IsToldEarly : Teller → Type 0
+IsToldEarly t = t.known ≤ latest_instant + 1
 
 -- an edge is told, if there is one
 pub record TellsEdge (old : Teller) (edge : Option Edge) (reported : Option Listed) (new : Teller) : Type 0 where
-  pub early : IsEarly new
+  pub early : IsToldEarly new
   pub told : (windows : Windows) (low : Line) (edges : List Edge) (end : ℕ) (ended : List Listed) → IsTold windows old low (option_to_list edge ++ edges) end ended
       → IsTold windows new low edges end (ended ++ option_to_list reported)
 
+-- no edge of these comes before an instant
+abbrev pub NoneBefore : ℕ → List Edge → Type 0
+NoneBefore from edges = (is_low : Bool) × AreInTurn is_low from edges
+
 -- it is told that none comes before an instant
 pub record TellsCalm (old : Teller) (from : ℕ) (reported : Option Listed) (new : Teller) : Type 0 where
-  pub early : IsEarly new
+  pub early : IsToldEarly new
   pub prompt : from ≤ new.known
   pub told : (windows : Windows) (low : Line) (edges : List Edge) (end : ℕ) (ended : List Listed) → IsTold windows old low edges end ended → NoneBefore from edges → from ≤ end + 1
       → IsTold windows new low edges end (ended ++ option_to_list reported)

@@ -3,7 +3,6 @@ ghost use Rattle.std.specs.Prelude.{◌≡◌, ◌≤◌, ◌+◌, IfSome, optio
 ghost use Rattle.line_wave.specs.Bounds.{latest_instant};
 ghost use Rattle.line_reading.specs.Reports.{listed_as};
 
-use crate::settled::later;
 use capture_monitor::Monitor;
 use line_frames::Reading;
 use line_reading::Windows;
@@ -11,22 +10,20 @@ use line_wave::Edge;
 
 /// A monitor, and how far it was told the line.
 #[derive(Debug, Drop)]
-pub(crate) struct Teller {
+pub struct Teller {
     monitor: Monitor,
     /// The instant before which the line of the bus is known.
     known: u64,
 }
 
 impl Teller {
-    ghost use Rattle.line_wave.specs.Line.{Line};
     ghost use Rattle.line_reading.specs.Windows.{AreWindows};
-    ghost use Rattle.capture_monitor.specs.Monitor.{HeardBeforeBy};
-    ghost use Rattle.follow_audit.specs.Teller.{IsEarly, TellsCalm, TellsEdge, TellsEnd};
+    ghost use Rattle.follow_core.specs.Teller.{IsToldEarly, IsUntold, TellsCalm, TellsEdge, TellsEnd};
 
     /// A monitor by these windows, which was told nothing.
-    pub(crate) fn new(windows: Windows) -> Self
+    pub fn new(windows: Windows) -> Self
         requires { AreWindows windows }
-        ensures heard { (low : Line) → HeardBeforeBy windows result.monitor low 0 }
+        ensures untold { IsUntold windows result }
         ensures known { result.known ≡ 0 }
     {
         Teller {
@@ -36,8 +33,8 @@ impl Teller {
     }
 
     /// Tells it an edge, if there is one, and returns the reading that has ended by it.
-    pub(crate) fn edge(&mut self, edge: Option<Edge>) -> Option<Reading>
-        requires known { IsEarly self.old }
+    pub fn edge(&mut self, edge: Option<Edge>) -> Option<Reading>
+        requires known { IsToldEarly self.old }
         requires early { IfSome edge (λ e. e.at ≤ latest_instant) }
         ensures { TellsEdge self.old edge (option_map listed_as result) self.new }
     {
@@ -51,18 +48,18 @@ impl Teller {
     }
 
     /// Tells it that no edge comes before an instant, and returns the reading that has ended.
-    pub(crate) fn calm(&mut self, from: u64) -> Option<Reading>
-        requires known { IsEarly self.old }
+    pub fn calm(&mut self, from: u64) -> Option<Reading>
+        requires known { IsToldEarly self.old }
         requires early { from ≤ latest_instant + 1 }
         ensures { TellsCalm self.old from (option_map listed_as result) self.new }
     {
-        let until = later(self.known, from);
+        let until = self.known.max(from);
         self.known = until;
         self.monitor.calm(until)
     }
 
     /// Tells it the end, and returns the last reading.
-    pub(crate) fn end(self, end: u64) -> Option<Reading>
+    pub fn end(self, end: u64) -> Option<Reading>
         requires early { end ≤ latest_instant }
         ensures { TellsEnd self end (option_map listed_as result) }
     {

@@ -1,30 +1,28 @@
 -- What a monitor that follows a capture was told of its line, and the readings that have ended.
-use Rattle.std.proofs.Common.{◌≡◌, ℕ, zero, suc, ◌+◌, ◌-◌, ◌<◌, ◌≤◌, ◌&&◌, ◌⊎◌, inl, inr, Bool, true, false, nat_lt, if◌then◌else◌, List, [], ◌∷◌, ◌++◌, Option, Some, None, refl, sym, ap, subst, ◌∙◌, append_assoc, append-nil, arith}
+use Rattle.std.proofs.Common.{◌≡◌, ℕ, suc, max, ◌+◌, ◌-◌, ◌<◌, ◌≤◌, ◌&&◌, ◌⊎◌, inl, inr, Bool, true, false, nat_lt, if◌then◌else◌, List, [], ◌∷◌, ◌++◌, Option, Some, None, refl, sym, ap, subst, ◌∙◌, append-nil, arith}
 use Rattle.std.specs.Option.{option_to_list}
+use Rattle.std.proofs.Math.Nat.{le-max_left, le-max_right, max-eq_left, max-eq_right}
 use Rattle.std.proofs.lemmas.Bool.Decides.{nat_tests}
 use Rattle.line_wave.specs.declared.Edge.{Edge}
 use Rattle.line_wave.specs.Bounds.{latest_instant}
 use Rattle.line_wave.specs.Line.{Line, was_low}
 use Rattle.line_reading.specs.declared.times.Windows.{Windows}
-use Rattle.line_reading.specs.Kept.{kept_with_before}
 use Rattle.line_reading.specs.Readings.{Listed}
-use Rattle.line_reading.specs.Reports.{running_by}
-use Rattle.capture_core.specs.Edges.{AreInTurn, EndBy, level_at, line_of_edges}
+use Rattle.capture_core.specs.Edges.{AreInTurn, level_at, line_of_edges}
 use Rattle.capture_monitor.specs.Monitor.{FollowsCalmBy, FollowsEdgeBy, FollowsEndBy, HeardBeforeBy}
-use Rattle.capture_monitor.specs.ReadBy.{ended_at, ended_before_by, readings_by}
-use Rattle.follow_core.specs.Follow.{NoneBefore}
-use Rattle.follow_audit.specs.Teller.{IsEarly, IsTold, TellsCalm, TellsEdge, TellsEnd}
-use Rattle.follow_audit.specs.declared.teller.Teller.{Teller}
+use Rattle.capture_monitor.specs.ReadBy.{ended_before_by, readings_by}
+use Rattle.capture_monitor.proofs.ReadBy.{ended_first}
+use Rattle.follow_core.specs.Teller.{IsTold, IsToldEarly, IsUntold, NoneBefore, TellsCalm, TellsEdge, TellsEnd, ToldComeFirst}
+use Rattle.follow_core.specs.declared.teller.Teller.{Teller}
 
 grown : (xs ys ended : List Listed) (o : Option Listed) → ended ≡ xs → ys ≡ xs ++ option_to_list o → ended ++ option_to_list o ≡ ys
 grown xs ys ended o is more = ap (λ (t : List Listed). t ++ option_to_list o) is ∙ sym more
 
 -- ---- the begin
 
-pub told_first : (win : Windows) (t : Teller) (edges : List Edge) (end : ℕ) → ((low : Line) → HeardBeforeBy win t.monitor low 0) → t.known ≡ 0 → AreInTurn false 0 edges → EndBy end edges
-    → IsTold win t (line_of_edges edges) edges end []
+pub told_first : (win : Windows) (t : Teller) → ((low : Line) → HeardBeforeBy win t.monitor low 0) → t.known ≡ 0 → IsUntold win t
 unfolding ended_before_by
-told_first win t edges end heard known turn ends = record {
+told_first win t heard known edges end turn ends = record {
   is_low = false;
   level = λ u l. refl;
   before = ap (was_low (line_of_edges edges)) known ∙ (let x : nat_lt 0 0 ≡ false = grind (arith, nat_tests) in ap (λ b. b && line_of_edges edges (0 - 1)) x);
@@ -83,7 +81,7 @@ tells_edge old new edge e reported is early known follows = record {
       told_edge win old new low e edges end ended reported known (subst (λ (o : Option Edge). IsTold win old low (option_to_list o ++ edges) end ended) is w) (follows win);
 }
 
-pub tells_none : (t : Teller) (edge : Option Edge) → edge ≡ None → IsEarly t → TellsEdge t edge None t
+pub tells_none : (t : Teller) (edge : Option Edge) → edge ≡ None → IsToldEarly t → TellsEdge t edge None t
 tells_none t edge is early = record {
   early = early;
   told = λ win low edges end ended w.
@@ -125,22 +123,36 @@ told_calm win old new low edges end ended reported w l reach none follows = reco
     d : HeardBeforeBy win new.monitor low new.known × (ended_before_by win low new.known ≡ ended_before_by win low old.known ++ option_to_list reported)
     d = follows low old.known w.heard l (λ u k s. quiet u k s ∙ sym w.before ∙ sym w.heard.stood.level)
 
--- the later of two instants
-pub tells_calm : (old new : Teller) (from : ℕ) (reported : Option Listed) → IsEarly old → from ≤ latest_instant + 1
+-- up to one of two instants that is not before the other
+tells_until : (old new : Teller) (from : ℕ) (reported : Option Listed) → IsToldEarly old → from ≤ latest_instant + 1
     → (old.known ≤ new.known) × (from ≤ new.known) → (new.known ≡ old.known) ⊎ (new.known ≡ from) → ((win : Windows) → FollowsCalmBy win old.monitor new.known reported new.monitor) → TellsCalm old from reported new
-tells_calm old new from reported first second after (inl same) follows = record {
+tells_until old new from reported first second after (inl same) follows = record {
   early = omega (arith, same, first);
   prompt = after.1;
   told = λ win low edges end ended w none reach.
       told_calm win old new low edges end ended reported w after.0 (let r = w.reach in omega (arith, same, r))
       (w.is_low, subst (λ n. AreInTurn w.is_low n edges) (sym same) w.turn) (follows win);
 }
-tells_calm old new from reported first second after (inr same) follows = record {
+tells_until old new from reported first second after (inr same) follows = record {
   early = omega (arith, same, second);
   prompt = after.1;
   told = λ win low edges end ended w none reach.
       told_calm win old new low edges end ended reported w after.0 (omega (arith, same, reach)) (none.0, subst (λ n. AreInTurn none.0 n edges) (sym same) none.1) (follows win);
 }
+
+later_is : (a b : ℕ) → (max a b ≡ a) ⊎ (max a b ≡ b)
+later_is a b = by (nat_lt a b) refl
+  where
+    by : (c : Bool) → nat_lt a b ≡ c → (max a b ≡ a) ⊎ (max a b ≡ b)
+    by true h = inr (max-eq_right (let x : a ≤ b = grind (arith, nat_tests) in x))
+    by false h = inl (max-eq_left (let x : b ≤ a = grind (arith, nat_tests) in x))
+
+pub tells_calm : (old new : Teller) (from : ℕ) (reported : Option Listed) → IsToldEarly old → from ≤ latest_instant + 1
+    → new.known ≡ max old.known from → ((win : Windows) → FollowsCalmBy win old.monitor new.known reported new.monitor) → TellsCalm old from reported new
+tells_calm old new from reported first second later follows =
+    tells_until old new from reported first second
+    (subst (λ n. (old.known ≤ n) × (from ≤ n)) (sym later) (le-max_left old.known from, le-max_right old.known from))
+    (subst (λ n. (n ≡ old.known) ⊎ (n ≡ from)) (sym later) (later_is old.known from)) follows
 
 -- ---- the end
 
@@ -148,24 +160,8 @@ pub tells_end : (t : Teller) (end : ℕ) (reported : Option Listed) → ((win : 
 tells_end t end reported follows win low ended w =
     sym (grown (ended_before_by win low t.known) (readings_by win low end) ended reported w.listed (follows win low t.known w.heard w.reach (λ u k s. w.level u k ∙ sym w.before ∙ sym w.heard.stood.level)))
 
-ended_on : (win : Windows) (low : Line) (n m : ℕ) → (zs : List Listed) × (ended_before_by win low (n + m) ≡ ended_before_by win low n ++ zs)
-unfolding ended_before_by
-ended_on win low n zero = ([], ap (ended_before_by win low) (let x : n + zero ≡ n = omega arith in x) ∙ sym (append-nil (ended_before_by win low n)))
-ended_on win low n (suc m) =
-    let before = ended_on win low n m in
-    let reported : List Listed = option_to_list (ended_at win low (n + m)) in (
-      before.0 ++ reported,
-      ap (ended_before_by win low) (let x : n + suc m ≡ suc (n + m) = omega arith in x) ∙ ap (λ (xs : List Listed). xs ++ reported) before.1
-          ∙ append_assoc (ended_before_by win low n) before.0 reported,
-    )
-
 -- the readings that have ended are the first of those of the line
-pub told_front : (win : Windows) (t : Teller) (low : Line) (edges : List Edge) (end : ℕ) (ended : List Listed) → IsTold win t low edges end ended → (more : List Listed) × (readings_by win low end ≡ ended ++ more)
+pub told_front : ToldComeFirst
 told_front win t low edges end ended w =
-    let reach = w.reach in
-    let on = ended_on win low t.known (end + 1 - t.known) in
-    let last : List Listed = option_to_list (running_by (kept_with_before win low (suc end)) end) in (
-      on.0 ++ last,
-      ap (λ (xs : List Listed). xs ++ last) (ap (ended_before_by win low) (let x : suc end ≡ t.known + (end + 1 - t.known) = omega (arith, reach) in x) ∙ on.1)
-          ∙ append_assoc (ended_before_by win low t.known) on.0 last ∙ ap (λ (xs : List Listed). xs ++ (on.0 ++ last)) (sym w.listed),
-    )
+    let more = ended_first win low t.known end w.reach in
+    (more.0, more.1 ∙ ap (λ (xs : List Listed). xs ++ more.0) (sym w.listed))

@@ -1,7 +1,0 @@
-use Rattle.std.proofs.Common.{option_map}
-use Rattle.line_reading.specs.Reports.{listed_as}
-use Rattle.follow_audit.proofs.Told.{tells_calm}
-use Rattle.follow_audit.proofs.teller.Teller.calm.Goals as goal
-
-pub returns : goal.returns
-returns c = tells_calm c.args.self.now _ c.args.from (option_map listed_as c.calm.result) c.requires.known c.requires.early c.later-until.ensures.after c.later-until.ensures.either c.calm.ensures
