@@ -10,7 +10,9 @@ use Rattle.edid_spelling.specs.declared.hdmi.Flag.TheVariants.{Ai, Deep30, Deep3
 use Rattle.edid_spelling.specs.declared.hdmi.HdmiRow.{HdmiRow as CodeRow}
 use Rattle.edid_spelling.specs.declared.hdmi.Said.{Said}
 use Rattle.edid_spelling.specs.declared.hdmi.HdmiWord.{HdmiWord}
-use Rattle.edid_spelling.specs.declared.hdmi.HdmiWord.TheVariants.{Flag, Clock, Latency, InterlacedLatency}
+use Rattle.edid_spelling.specs.declared.hdmi.HdmiWord.TheVariants.{Flag, Clock, Latency}
+use Rattle.edid_spelling.specs.declared.hdmi.Scan.{Scan}
+use Rattle.edid_spelling.specs.declared.hdmi.Scan.TheVariants.{Progressive, Interlaced}
 
 -- ---- the words
 
@@ -40,8 +42,8 @@ hdmi_rows =
     hdmi_row (codes "photo-content") (Flag Photo) ∷
     hdmi_row (codes "cinema-content") (Flag Cinema) ∷
     hdmi_row (codes "game-content") (Flag Game) ∷
-    hdmi_row (codes "latency") Latency ∷
-    hdmi_row (codes "interlaced-latency") InterlacedLatency ∷
+    hdmi_row (codes "latency") (Latency Progressive) ∷
+    hdmi_row (codes "interlaced-latency") (Latency Interlaced) ∷
     hdmi_row (codes "3d-present") (Flag Stereo) ∷
     hdmi_row (codes "vic-1") (Flag Format1) ∷
     hdmi_row (codes "vic-2") (Flag Format2) ∷
@@ -116,6 +118,11 @@ delays_by (Some video) (Some audio) = Ok (record { video = video; audio = audio 
 abbrev pub delays_of : List ℕ → List ℕ → Result Delays ℕ
 delays_of video audio = delays_by (delay_of video) (delay_of audio)
 
+-- the latencies of this video
+abbrev pub with_delays : Scan → Delays → Said → Said
+with_delays Progressive delays s = record s { latencies = Some delays }
+with_delays Interlaced delays s = record s { interlaced_latencies = Some delays }
+
 -- ---- all words
 
 abbrev pub after_clock : ℕ → Option ℕ → (ℕ → Result Said ℕ) → Result Said ℕ
@@ -131,10 +138,8 @@ abbrev pub said_by_row : HdmiWord → Said → ℕ → List (List ℕ) → (Said
 said_by_row (Flag flag) s number words on = on (with_flag flag s) (number + 1) words
 said_by_row Clock s number words on =
     after_clock number (clock_of (number_of (first_of words))) (λ clock. on (record s { max_clock = clock }) (number + 2) (others_of words))
-said_by_row Latency s number words on =
-    after_delays number (delays_of (first_of words) (first_of (others_of words))) (λ d. on (record s { latencies = Some d }) (number + 3) (others_of (others_of words)))
-said_by_row InterlacedLatency s number words on =
-    after_delays number (delays_of (first_of words) (first_of (others_of words))) (λ d. on (record s { interlaced_latencies = Some d }) (number + 3) (others_of (others_of words)))
+said_by_row (Latency scan) s number words on =
+    after_delays number (delays_of (first_of words) (first_of (others_of words))) (λ d. on (with_delays scan d s) (number + 3) (others_of (others_of words)))
 
 -- What these words say beside what is said, in the order of the rows, or the number of the word at fault; the first has this number.
 abbrev pub said_from : List HdmiRow → Said → ℕ → List (List ℕ) → Result Said ℕ

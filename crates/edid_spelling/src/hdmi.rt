@@ -3,7 +3,7 @@ ghost use Rattle.std.specs.Prelude.{◌≡◌, ◌+◌, ◌*◌, ◌<◌, ◌≤
 ghost use Rattle.arrayvec.specs.ArrayVec.{array_vec_len};
 ghost use Rattle.std.specs.Option.{option_copied};
 ghost use Rattle.text_core.specs.Words.{words_after};
-ghost use Rattle.edid_spelling.specs.Hdmi.{capabilities, clock_of, contents, delay_bytes, delay_of, delays_of, format_bytes, format_count, formats_of, has_video, hdmi_bytes, hdmi_of, hdmi_row_in_code, hdmi_rows, head_bytes, nothing, presence, said_from, time_byte, video_bytes, weight, with_flag};
+ghost use Rattle.edid_spelling.specs.Hdmi.{capabilities, clock_of, contents, delay_bytes, delay_of, delays_of, format_bytes, format_count, formats_of, has_video, hdmi_bytes, hdmi_of, hdmi_row_in_code, hdmi_rows, head_bytes, nothing, presence, said_from, time_byte, video_bytes, weight, with_delays, with_flag};
 
 use crate::rows::next_word;
 use arrayvec::ArrayVec;
@@ -42,16 +42,23 @@ pub enum Flag {
     Format4,
 }
 
+/// Which video two latencies are of.
+#[derive(Clone, Copy)]
+pub enum Scan {
+    /// Video_Latency and Audio_Latency: of interlaced video too, where it has none of its own.
+    Progressive,
+    /// Interlaced_Video_Latency and Interlaced_Audio_Latency.
+    Interlaced,
+}
+
 /// What a word says, and the values after it.
 #[derive(Clone, Copy)]
 pub enum HdmiWord {
     Flag(Flag),
     /// Max_TMDS_Clock, in MHz.
     Clock,
-    /// Video_Latency and Audio_Latency, in ms.
-    Latency,
-    /// Interlaced_Video_Latency and Interlaced_Audio_Latency, in ms.
-    InterlacedLatency,
+    /// The latencies of video and of its sound, in ms.
+    Latency(Scan),
 }
 
 /// A word of the table.
@@ -121,8 +128,8 @@ const WORDS: &[HdmiRow] = hdmi_rows! {
     "photo-content" HdmiWord::Flag(Flag::Photo);
     "cinema-content" HdmiWord::Flag(Flag::Cinema);
     "game-content" HdmiWord::Flag(Flag::Game);
-    "latency" HdmiWord::Latency;
-    "interlaced-latency" HdmiWord::InterlacedLatency;
+    "latency" HdmiWord::Latency(Scan::Progressive);
+    "interlaced-latency" HdmiWord::Latency(Scan::Interlaced);
     "3d-present" HdmiWord::Flag(Flag::Stereo);
     "vic-1" HdmiWord::Flag(Flag::Format1);
     "vic-2" HdmiWord::Flag(Flag::Format2);
@@ -226,21 +233,18 @@ fn with_clock(clock: u8, said: Said) -> Said
     }
 }
 
-fn with_latencies(delays: Delays, said: Said) -> Said
-    ensures { result ≡ record said { latencies = Some delays } }
+fn with_delays(scan: Scan, delays: Delays, said: Said) -> Said
+    ensures { result ≡ with_delays scan delays said }
 {
-    Said {
-        latencies: Some(delays),
-        ..said
-    }
-}
-
-fn with_interlaced(delays: Delays, said: Said) -> Said
-    ensures { result ≡ record said { interlaced_latencies = Some delays } }
-{
-    Said {
-        interlaced_latencies: Some(delays),
-        ..said
+    match scan {
+        Scan::Progressive => Said {
+            latencies: Some(delays),
+            ..said
+        },
+        Scan::Interlaced => Said {
+            interlaced_latencies: Some(delays),
+            ..said
+        },
     }
 }
 
@@ -324,7 +328,7 @@ fn said_from(
                             };
                             said_from(others, with_clock(clock, said), number + 2, more)
                         }
-                        HdmiWord::Latency => {
+                        HdmiWord::Latency(scan) => {
                             let (video, more) = next_word(more);
                             let (audio, more) = next_word(more);
                             match delays_of(video, audio) {
@@ -332,22 +336,7 @@ fn said_from(
                                 Ok(delays) => {
                                     said_from(
                                         others,
-                                        with_latencies(delays, said),
-                                        number + 3,
-                                        more,
-                                    )
-                                }
-                            }
-                        }
-                        HdmiWord::InterlacedLatency => {
-                            let (video, more) = next_word(more);
-                            let (audio, more) = next_word(more);
-                            match delays_of(video, audio) {
-                                Err(word) => Err(number + 1 + word),
-                                Ok(delays) => {
-                                    said_from(
-                                        others,
-                                        with_interlaced(delays, said),
+                                        with_delays(scan, delays, said),
                                         number + 3,
                                         more,
                                     )
