@@ -14,7 +14,7 @@ use Rattle.room_run.specs.Certain.{with_pulses}
 use Rattle.live_session.specs.declared.answer.RefusalCause.TheVariants.{Past}
 use Rattle.live_session.specs.declared.live.Step.TheVariants.{Go, Finish}
 use Rattle.live_session.specs.Note.{IsSettled}
-use Rattle.live_session.specs.Session.{Session, Standing, AreFit, IsReady, refuse, standing, with_standing, standing_with, step_by, is_late, is_past, refuses_pulse, horizon_by, new_events, new_pulses}
+use Rattle.live_session.specs.Session.{Session, Standing, IsReady, refuse, standing, with_standing, standing_with, step_by, is_late, is_past, refuses_pulse, horizon_by, new_events, new_pulses}
 use Rattle.live_session.proofs.Extends.{line_extends, front_all}
 
 -- ---- what becomes of a line
@@ -88,12 +88,6 @@ only_one p (q ∷ others) few = absurd (omega (arith, few))
 
 -- ---- a session stays ready
 
-sound_of : (count : ℕ) (notes : Notes) → AreFit count notes → AreSound count notes
-sound_of count notes f = record { schedule = f.schedule; framed = f.framed; order = f.order; wide = f.wide; early = f.early; ended = f.ended; held = f.held; let_go = f.let_go }
-
-fit_of : (count : ℕ) (notes : Notes) → AreSound count notes → AreFit count notes
-fit_of count notes f = record { schedule = f.schedule; framed = f.framed; order = f.order; wide = f.wide; early = f.early; ended = f.ended; held = f.held; let_go = f.let_go }
-
 noted_cases : (s : Standing) (new : Notes) (late : Bool) → is_late s new ≡ late → (standing_with s (Ok new) ≡ s) ⊎ (standing_with s (Ok new) ≡ taken s new)
 noted_cases s new true e = inl (ap (λ b. if b then s else taken s new) e)
 noted_cases s new false e = inr (ap (λ b. if b then s else taken s new) e)
@@ -129,7 +123,7 @@ kept_same s applied left few r =
       left = sym left ∙ sym none;
     }
 
-horizon_early : (count horizon : ℕ) (notes : Notes) (end : Option ℕ) → notes.end ≡ end → AreFit count notes → horizon ≤ latest_event → horizon_by horizon end ≤ latest_event
+horizon_early : (count horizon : ℕ) (notes : Notes) (end : Option ℕ) → notes.end ≡ end → AreSound count notes → horizon ≤ latest_event → horizon_by horizon end ≤ latest_event
 horizon_early count horizon notes None e f early = early
 horizon_early count horizon notes (Some end) e f early = (f.ended end e).1
 
@@ -138,7 +132,7 @@ kept_taken : (s : Session) (new : Notes) (line : List ℕ) (applied : ℕ) → s
 kept_taken s new line applied left few r read =
     let e = line_extends s.tree s.notes (length s.place.net.pulses) s.lines line new read in
     let added : new_events s.notes new ≡ e.events = front_rest new.events s.notes.events e.events e.events_are in
-    let fit = fit_of (length s.tree) new (line-keeps s.tree s.notes (length s.place.net.pulses) s.lines line new (sound_of (length s.tree) s.notes r.fit) read) in
+    let fit = line-keeps s.tree s.notes (length s.place.net.pulses) s.lines line new r.fit read in
     let long : length new.events ≡ length s.notes.events + length e.events = ap length e.events_are ∙ length-append s.notes.events e.events in
     let place : length (s.place.events ++ new_events s.notes new) ≡ length s.place.events + length e.events =
     ap (λ (es : List TimedEvent). length (s.place.events ++ es)) added ∙ length-append s.place.events e.events in

@@ -1,5 +1,5 @@
 -- A session: a run whose script comes line by line, what each line does, and what is due after it (this profile's own).
-use Rattle.std.specs.Prelude.{◌≡◌, ℕ, ◌+◌, ◌<◌, ◌≤◌, min, max, ◌||◌, Bool, true, false, nat_lt, if◌then◌else◌, codes, List, [], ◌∷◌, ◌++◌, length, drop, slice_get, Option, Some, None, is_some, Result, Ok, Err, All}
+use Rattle.std.specs.Prelude.{◌≡◌, ℕ, ◌+◌, ◌<◌, ◌≤◌, min, max, ◌||◌, Bool, true, false, nat_lt, if◌then◌else◌, codes, List, [], ◌∷◌, ◌++◌, length, drop, slice_get, Option, Some, None, is_some, Result, Ok, Err}
 use Rattle.std.specs.List.{list_any}
 use Rattle.std.specs.Fmt.{decimal}
 use Rattle.line_wave.specs.declared.Stretch.{Stretch}
@@ -12,7 +12,8 @@ use Rattle.device_core.specs.State.{State}
 use Rattle.room_net.specs.State.{NetState, first_net}
 use Rattle.room_net.specs.Step.{IsNextRound}
 use Rattle.room_net.specs.Added.{pulse_fault}
-use Rattle.room_script.specs.Script.{IsNoWider, Notes, no_notes, last_time, script_cause, IsLineRead, IsSchedule, AreFramedEvents, MayFall}
+use Rattle.room_script.specs.Script.{Notes, no_notes, script_cause, IsLineRead}
+use Rattle.room_script.specs.Lines.{AreSound}
 use Rattle.room_script.specs.declared.script.TimedEvent.{TimedEvent}
 use Rattle.text_core.specs.declared.at.AtWord.{AtWord}
 use Rattle.room_script.specs.declared.script.ScriptCause.{ScriptCause}
@@ -274,20 +275,9 @@ StepsHaveOneText = (step : Step) (s t u : Session) (text other : List ℕ) → I
 
 -- ---- what holds of every session
 
--- of what its lines say
-pub record AreFit (count : ℕ) (notes : Notes) : Type 0 where
-  pub schedule : IsSchedule count (last_time notes.events + 1) 0 notes.events
-  pub framed : AreFramedEvents notes.events
-  pub order : IsWave notes.pulses
-  pub wide : All IsNoWider notes.pulses
-  pub early : All (λ pulse. pulse.from ≤ latest_event) notes.pulses
-  pub ended : (time : ℕ) → notes.end ≡ Some time → IsSchedule count time 0 notes.events × (time ≤ latest_event)
-  pub held : (from : ℕ) → notes.pin ≡ Some from → MayFall notes.pulses from
-  pub let_go : (time : ℕ) → notes.end ≡ Some time → notes.pin ≡ None
-
 pub record IsReady (s : Session) : Type 0 where
   pub addressed : HasAddress s.edid
-  pub fit : AreFit (length s.tree) s.notes
+  pub fit : AreSound (length s.tree) s.notes
   pub matched : length s.place.net.tree ≡ length s.tree
   pub early : s.horizon ≤ latest_event
   pub within : IsWithin s.place
