@@ -77,7 +77,7 @@ lows_of x edges = lows_before (falls_until x.reported.ending x.reported.at) edge
 
 -- a reading that is heard has its low stretches and the frame that it delivers
 pub record IsHeard (h : Heard) : Type 0 where
-  pub lows : h.lows.items ≡ lows_of (listed_as h.reading.now) h.edges.now
+  pub lows : h.lows.now.items ≡ lows_of (listed_as h.reading.now) h.edges.now
   pub frame : h.frame.items ≡ delivered_frame (listed_as h.reading.now)
 
 -- the widths that are out of their windows: of bad starts in a row those of the first one

@@ -7,7 +7,7 @@ ghost use Rattle.audit_core.specs.Lines.{timing_text};
 ghost use Rattle.text_core.specs.Adds.{Adds};
 ghost use Rattle.audit_widths.specs.Spreads.{no_widths, with_slots};
 
-use crate::heard::Heard;
+use crate::heard::{Heard, lows_of};
 use crate::lines::{
     add_answers, add_claims, add_counts, add_drive, add_failure, add_head, add_late, add_misfits,
     add_missing, add_moved, add_named, add_receivers, add_series, add_soon, add_unfinished,
@@ -64,19 +64,19 @@ fn is_folded(series: BadStartSeries, ending: Ending) -> bool
 
 #[tactic(auto, using(text_core::proofs::Adding::nothing))]
 fn add_reading_misfits<S: Sink>(out: &mut Counted<'_, S>, series: BadStartSeries, heard: &Heard)
-    ensures { Adds out.old out.new (reading_misfits series (listed_as heard.now.reading.now) heard.now.lows.items) }
+    ensures { Adds out.old out.new (reading_misfits series (listed_as heard.now.reading.now) heard.now.lows.now.items) }
 {
     let reading = heard.reading;
     if is_folded(series, reading.ending) {
         return;
     }
-    add_misfits(out, reading.ending, &reading.bits, 0, &heard.lows);
+    add_misfits(out, reading.ending, &reading.bits, 0, heard.lows.as_slice());
 }
 
 // The widths of a reading, where they are asked for.
 #[tactic(auto, using(text_core::proofs::Adding::nothing))]
 fn add_reading_widths<S: Sink>(out: &mut Counted<'_, S>, timing: bool, heard: &Heard)
-    ensures { Adds out.old out.new (timing_text timing (with_slots heard.now.reading.now.ending heard.now.reading.now.bits.items 0 heard.now.lows.items no_widths)) }
+    ensures { Adds out.old out.new (timing_text timing (with_slots heard.now.reading.now.ending heard.now.reading.now.bits.items 0 heard.now.lows.now.items no_widths)) }
 {
     if !timing {
         return;
@@ -114,7 +114,7 @@ impl Auditor {
         add_soon(out, self.previous.too_soon(reading, again));
         add_reading_misfits(out, self.series, heard);
         add_drive(out, heard.drive());
-        add_within(out, drive_within(&heard.lows));
+        add_within(out, drive_within(heard.lows.as_slice()));
         add_unfinished(out, heard.unfinished());
         add_failure(
             out,
@@ -148,16 +148,16 @@ impl Auditor {
         ensures { tape_at heard.now.edges.now self.new ≡ tape_after (listed_as heard.now.reading.now) (tape_at heard.now.edges.now self.old) }
     {
         let reading = heard.reading;
+        let lows = heard.lows.as_slice();
         let free = self.previous.free_before(reading.begin);
         self.attempts.note(reading, free);
-        self.previous = self.previous.with(reading, &heard.lows);
+        self.previous = self.previous.with(reading, lows);
         self.series = self.series.with(reading.ending, reading.begin);
         self.waiting = after_frame(reading.begin, reading.at, &heard.frame, &self.waiting);
         note_report(&heard.frame, &mut self.places);
         self.sources.note(&heard.frame, reading.at);
         count_reading(reading.ending, &reading.bits, &mut self.counts);
-        self.widths
-            .add(reading.ending, &reading.bits, 0, &heard.lows);
+        self.widths.add(reading.ending, &reading.bits, 0, lows);
     }
 
     /// Adds what there is to remark of a reading, and keeps it. `edges` are those of the capture from its fall on.
@@ -171,7 +171,8 @@ impl Auditor {
         ensures kept { tape_at edges.now self.new ≡ tape_after (listed_as reading.now) (tape_at edges.now self.old) }
         ensures written { Adds out.old out.new (remarks_text timing (tape_at edges.now self.old) (listed_as reading.now)) }
     {
-        let heard = Heard::new(reading, edges);
+        let lows = lows_of(reading, edges);
+        let heard = Heard::new(reading, edges, &lows);
         self.add_remarks(out, &heard, timing);
         self.note(&heard);
     }

@@ -10,12 +10,13 @@ use audit_widths::{Cursor, Low, Widths, drive_within, first_low, low_drive, lows
 use line_frames::{Ending, Reading};
 use line_wave::{Edge, MOST_SENT};
 
-/// A reading and the edges of its capture from its fall on, with its low stretches and the frame that it delivers.
+/// A reading and the edges of its capture from its fall on, with its low stretches and the frame that it delivers. The low
+/// stretches are the caller's, since they take 6 KB.
 #[derive(Drop)]
-pub(crate) struct Heard<'r, 'e> {
-    pub(crate) reading: &'r Reading,
-    pub(crate) edges: &'e [Edge],
-    pub(crate) lows: ArrayVec<Low, MOST_SENT>,
+pub(crate) struct Heard<'a> {
+    pub(crate) reading: &'a Reading,
+    pub(crate) edges: &'a [Edge],
+    pub(crate) lows: &'a ArrayVec<Low, MOST_SENT>,
     pub(crate) frame: ArrayVec<u8, 16>,
 }
 
@@ -29,7 +30,8 @@ fn falls_until(ending: Ending, at: u64) -> u64
     }
 }
 
-fn lows_of(reading: &Reading, edges: &[Edge]) -> ArrayVec<Low, MOST_SENT>
+/// The low stretches of a reading.
+pub(crate) fn lows_of(reading: &Reading, edges: &[Edge]) -> ArrayVec<Low, MOST_SENT>
     ensures { result.items ≡ lows_of (listed_as reading.now) edges.now }
 {
     lows_before(edges, falls_until(reading.ending, reading.at))
@@ -44,8 +46,13 @@ fn unless_driven(drive: Option<u64>, block: Option<usize>) -> Option<usize>
     }
 }
 
-impl<'r, 'e> Heard<'r, 'e> {
-    pub(crate) fn new(reading: &'r Reading, edges: &'e [Edge]) -> Self
+impl<'a> Heard<'a> {
+    pub(crate) fn new(
+        reading: &'a Reading,
+        edges: &'a [Edge],
+        lows: &'a ArrayVec<Low, MOST_SENT>,
+    ) -> Self
+        requires { lows.now.items ≡ lows_of (listed_as reading.now) edges.now }
         ensures reading { result.reading.now ≡ reading.now }
         ensures edges { result.edges.now ≡ edges.now }
         ensures heard { IsHeard result }
@@ -53,7 +60,7 @@ impl<'r, 'e> Heard<'r, 'e> {
         Heard {
             reading,
             edges,
-            lows: lows_of(reading, edges),
+            lows,
             frame: delivered_frame(reading),
         }
     }
@@ -72,20 +79,25 @@ impl<'r, 'e> Heard<'r, 'e> {
 
     /// The block after which it breaks off, where no low drive breaks it.
     pub(crate) fn unfinished(&self) -> Option<usize>
-        ensures { result ≡ unfinished_of (listed_as self.now.reading.now) self.now.lows.items }
+        ensures { result ≡ unfinished_of (listed_as self.now.reading.now) self.now.lows.now.items }
     {
         unless_driven(
-            drive_within(&self.lows),
+            drive_within(self.lows.as_slice()),
             unfinished(self.reading.ending, &self.reading.bits),
         )
     }
 
     /// Its widths alone.
     pub(crate) fn widths(&self) -> Widths
-        ensures { result ≡ with_slots self.now.reading.now.ending self.now.reading.now.bits.items 0 self.now.lows.items no_widths }
+        ensures { result ≡ with_slots self.now.reading.now.ending self.now.reading.now.bits.items 0 self.now.lows.now.items no_widths }
     {
         let mut widths = Widths::new();
-        widths.add(self.reading.ending, &self.reading.bits, 0, &self.lows);
+        widths.add(
+            self.reading.ending,
+            &self.reading.bits,
+            0,
+            self.lows.as_slice(),
+        );
         widths
     }
 }

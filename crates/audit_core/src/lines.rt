@@ -3,7 +3,7 @@ ghost use Rattle.std.specs.Prelude.{◌≡◌, ◌+◌, ◌<◌, ◌≤◌, leng
 ghost use Rattle.std.specs.List.{flat_map};
 ghost use Rattle.std.specs.Option.{option_copied};
 ghost use Rattle.arrayvec.specs.ArrayVec.{array_vec_len};
-ghost use Rattle.audit_core.specs.Lines.{answer_text, answers_text, answered_text, claim_text, claims_text, count_text, counts_text, drive_text, drive_word, failure_text, failure_word, head_line, head_text, if_answered, if_given_up, if_late, kind_text, late_text, limit_word, misfit_line, misfit_text, misfits_text, missing_text, moved_text, named_text, opcode_word, receivers_text, receivers_word, request_text, series_text, slot_text, soon_text, spread_text, unfinished_text, unless_reported, widths_text, within_text};
+ghost use Rattle.audit_core.specs.Lines.{answer_text, answers_text, answered_text, claims_text, count_text, counts_text, drive_text, drive_word, failure_text, failure_word, head_line, head_text, if_answered, if_given_up, if_late, kind_text, late_text, limit_word, misfit_line, misfit_text, misfits_text, missing_text, moved_text, named_text, opcode_word, receivers_text, receivers_word, request_text, series_text, slot_text, soon_text, spread_text, unfinished_text, unless_reported, widths_text, within_text};
 ghost use Rattle.text_core.specs.Adds.{Adds};
 ghost use Rattle.text_core.specs.Piece.{piece_text};
 

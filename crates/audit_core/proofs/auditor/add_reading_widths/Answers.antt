@@ -9,5 +9,5 @@ returns g c =
     let heard = c.args.heard.now in
     adds_as c.args.out.now c.add_widths.new.out _ _
     (ap widths_text c.widths.ensures
-    ∙ ap (λ (b : Bool). timing_text b (with_slots heard.reading.now.ending heard.reading.now.bits.items 0 heard.lows.items no_widths)) (sym c.if-not-timing.false))
+    ∙ ap (λ (b : Bool). timing_text b (with_slots heard.reading.now.ending heard.reading.now.bits.items 0 heard.lows.now.items no_widths)) (sym c.if-not-timing.false))
     c.add_widths.ensures
