@@ -1,7 +1,8 @@
 -- What is written of the readings of a capture as they end.
-use Rattle.std.proofs.Common.{◌≡◌, ℕ, ◌+◌, ◌≤◌, Bool, true, false, List, [], ◌∷◌, ◌++◌, Option, Some, None, Result, Ok, Err, take, drop, refl, sym, ap, ap₂, subst, ◌∙◌, append_assoc, append-nil, take-append-drop, length, length-append, option_map, arith}
+use Rattle.std.proofs.Common.{◌≡◌, ℕ, Bool, true, false, List, [], ◌∷◌, ◌++◌, Option, Some, None, Result, Ok, Err, take, drop, refl, sym, ap, ap₂, subst, ◌∙◌, append_assoc, append-nil, take-append-drop, length, option_map, arith}
 use Rattle.std.specs.Option.{option_to_list}
 use Rattle.std.specs.Io.KnownBytes.{Appends}
+use Rattle.std.proofs.lemmas.List.{append_cancel_right}
 use Rattle.text_core.specs.declared.sink.WriteFault.{WriteFault}
 use Rattle.text_core.specs.Cut.{WrittenText}
 use Rattle.line_wave.specs.declared.Edge.{Edge}
@@ -22,8 +23,8 @@ use Rattle.audit_core.specs.Lines.{answers_text, drive_text, failure_text, serie
 use Rattle.text_core.specs.Adds.{Adds, Tally}
 use Rattle.text_core.proofs.Adding.{nothing, then}
 use Rattle.audit_core.specs.declared.auditor.Auditor.{Auditor}
-use Rattle.follow_audit.specs.Listener.{AreTwo, HearsAll, IsAudited, IsFrontOf, PutsAll, PutsCut, PutsFront, PutsLast, Remarks, Says, SaysAllKnown, SaysLast, SaysSome, TakesEdge, WaitsForNothing, line_of, remarked, settled_by, waiting_count, waits}
-use Rattle.follow_audit.specs.Settled.{IsKnown, is_settled, later}
+use Rattle.follow_audit.specs.Listener.{HearsAll, IsAudited, IsFrontOf, PutsAll, PutsCut, PutsFront, PutsLast, Remarks, Says, SaysAllKnown, SaysLast, SaysSome, TakesEdge, TellsTwo, WaitsForNothing, line_of, remarked, settled_by, waiting_count, waits}
+use Rattle.follow_audit.specs.Settled.{IsKnown, TwoWait, edges_of, is_settled, later}
 use Rattle.follow_audit.specs.declared.listener.Listener.{Listener}
 use Rattle.follow_audit.proofs.Known.{all_known, gone_before, gone_none, gone_twice, settled_known}
 
@@ -66,16 +67,26 @@ audited_first a edges none from waiting first = record {
   kept = ap₂ (λ (n : ℕ) (w : List Edge). tape_at (gone_to n (w ++ edges)) a.auditor) from none
       ∙ ap (λ (es : List Edge). tape_at es a.auditor) (gone_none edges) ∙ ap (λ (t : Tape). record t { place = edges }) first;
   said = ap (λ (o : Option Reading). line_of (option_map listed_as o)) (sym waiting);
+  come = [];
+  all = refl;
+  stands = λ es. sym (ap (λ (n : ℕ). gone_to n es) from ∙ gone_none es);
+  window = λ more. ap (λ (w : List Edge). gone_to a.from (w ++ more)) (sym none);
 }
 
--- the same parts, but for the edges
-moved : (edges : List Edge) (old new : Listener) (left rest : List Edge) (ended : List Listed) (text : List ℕ) → new.timing ≡ old.timing → new.waiting ≡ old.waiting → new.auditor ≡ old.auditor
-    → gone_to new.from (new.window.items ++ rest) ≡ gone_to old.from (old.window.items ++ left) → IsAudited edges old left ended text → IsAudited edges new rest ended text
-moved edges old new left rest ended text timing waiting auditor place w = record {
+-- the same parts, but for the edges: some of those that were left are kept
+moved : (edges : List Edge) (old new : Listener) (taken left : List Edge) (ended : List Listed) (text : List ℕ) → new.timing ≡ old.timing → new.waiting ≡ old.waiting → new.auditor ≡ old.auditor → new.from ≡ old.from
+    → ((more : List Edge) → gone_to old.from (new.window.items ++ more) ≡ gone_to old.from (old.window.items ++ (taken ++ more))) → IsAudited edges old (taken ++ left) ended text → IsAudited edges new left ended text
+moved edges old new taken left ended text timing waiting auditor from place w = record {
   done = w.done;
   parts = w.parts ∙ ap (λ (o : Option Reading). w.done ++ option_to_list (option_map listed_as o)) (sym waiting);
-  kept = ap₂ (λ (es : List Edge) (a : Auditor). tape_at es a) place auditor ∙ w.kept;
+  kept = ap₂ (λ (n : ℕ) (a : Auditor). tape_at (gone_to n (new.window.items ++ left)) a) from auditor ∙ ap (λ (es : List Edge). tape_at es old.auditor) (place left) ∙ w.kept;
   said = w.said ∙ ap₂ (λ (b : Bool) (o : Option Reading). reported_all b (first_tape edges) w.done ++ line_of (option_map listed_as o)) (sym timing) (sym waiting);
+  come = w.come ++ taken;
+  all = w.all ∙ sym (append_assoc w.come taken left);
+  stands = λ es. w.stands es ∙ ap (λ (n : ℕ). gone_to n es) (sym from);
+  window = λ more.
+      subst (λ (n : ℕ). gone_to n ((w.come ++ taken) ++ more) ≡ gone_to n (new.window.items ++ more)) (sym from)
+      (ap (gone_to old.from) (append_assoc w.come taken more) ∙ w.window (taken ++ more) ∙ sym (place more));
 }
 
 pub takes_none : (a : Listener) (edge : Option Edge) → edge ≡ None → TakesEdge a edge a
@@ -87,8 +98,8 @@ takes_less old new timing waiting auditor from window = (
   timing,
   waiting,
   λ edges left ended text w.
-      moved edges old new left left ended text timing waiting auditor
-      (ap₂ (λ (n : ℕ) (es : List Edge). gone_to n (es ++ left)) from window ∙ gone_before old.from old.window.items left) w,
+      moved edges old new [] left ended text timing waiting auditor from
+      (λ more. ap (λ (es : List Edge). gone_to old.from (es ++ more)) window ∙ gone_before old.from old.window.items more) w,
 )
 
 takes_one : (old new : Listener) (edge : Option Edge) (e : Edge) → edge ≡ Some e → new.timing ≡ old.timing → new.waiting ≡ old.waiting → new.auditor ≡ old.auditor → new.from ≡ old.from → new.window.items ≡ old.window.items ++ e ∷ []
@@ -97,8 +108,8 @@ takes_one old new edge e is timing waiting auditor from window = (
   timing,
   waiting,
   λ edges left ended text w.
-      moved edges old new (e ∷ left) left ended text timing waiting auditor
-      (ap₂ (λ (n : ℕ) (es : List Edge). gone_to n (es ++ left)) from window ∙ ap (gone_to old.from) (append_assoc old.window.items (e ∷ []) left))
+      moved edges old new (e ∷ []) left ended text timing waiting auditor from
+      (λ more. ap (λ (es : List Edge). gone_to old.from (es ++ more)) window ∙ ap (gone_to old.from) (append_assoc old.window.items (e ∷ []) more))
       (subst (λ (o : Option Edge). IsAudited edges old (option_to_list o ++ left) ended text) is w),
 )
 
@@ -128,7 +139,8 @@ remarks_all old new r waiting none timing window from kept = record {
   audited = λ edges left ended text known w.
       all edges left ended text (subst (λ (o : Option Reading). WaitsForNothing (record old { waiting = o }) left) waiting known)
       w.done (w.parts ∙ ap (λ (o : Option Reading). w.done ++ option_to_list (option_map listed_as o)) waiting) w.kept
-      (w.said ∙ ap (λ (o : Option Reading). reported_all old.timing (first_tape edges) w.done ++ line_of (option_map listed_as o)) waiting);
+      (w.said ∙ ap (λ (o : Option Reading). reported_all old.timing (first_tape edges) w.done ++ line_of (option_map listed_as o)) waiting)
+      w.come w.all w.stands w.window;
 }
   where
     x : Listed
@@ -142,8 +154,9 @@ remarks_all old new r waiting none timing window from kept = record {
 
     all : (edges left : List Edge) (ended : List Listed) (text : List ℕ) → IsKnown old.from old.window.items left (listed_as r) → (done : List Listed) → ended ≡ done ++ listed_as r ∷ []
         → tape_at (gone_to old.from (old.window.items ++ left)) old.auditor ≡ after_all (first_tape edges) done → text ≡ reported_all old.timing (first_tape edges) done ++ listed_line (listed_as r)
-        → IsAudited edges new left ended (text ++ remarked old)
-    all edges left ended text known done parts place front = record {
+        → (come : List Edge) → edges ≡ come ++ left → ((es : List Edge) → (after_all (first_tape es) done).place ≡ gone_to old.from es)
+        → ((more : List Edge) → gone_to old.from (come ++ more) ≡ gone_to old.from (old.window.items ++ more)) → IsAudited edges new left ended (text ++ remarked old)
+    all edges left ended text known done parts place front came split stands windows = record {
       done = done ++ x ∷ [];
       parts = parts ∙ sym (append-nil (done ++ x ∷ [])) ∙ ap (λ (o : Option Reading). (done ++ x ∷ []) ++ option_to_list (option_map listed_as o)) (sym none);
       kept = ap₂ (λ (n : ℕ) (es : List Edge). tape_at (gone_to n (es ++ left)) new.auditor) from (ap (λ w. w.items) window) ∙ ap (λ (es : List Edge). tape_at es new.auditor) known.place
@@ -154,6 +167,14 @@ remarks_all old new r waiting none timing window from kept = record {
           ∙ sym (reported_more old.timing (first_tape edges) done (x ∷ []))
           ∙ sym (append-nil (reported_all old.timing (first_tape edges) (done ++ x ∷ [])))
           ∙ ap₂ (λ (b : Bool) (o : Option Reading). reported_all b (first_tape edges) (done ++ x ∷ []) ++ line_of (option_map listed_as o)) (sym timing) (sym none);
+      come = came;
+      all = split;
+      stands = λ es.
+          ap (λ (t : Tape). t.place) (after_more (first_tape es) done (x ∷ [])) ∙ ap (gone_to r.begin) (stands es) ∙ gone_twice old.from r.begin es
+          ∙ ap (λ (n : ℕ). gone_to n es) (sym from);
+      window = λ more.
+          ap (λ (n : ℕ). gone_to n (came ++ more)) from ∙ sym (gone_twice old.from r.begin (came ++ more)) ∙ ap (gone_to r.begin) (windows more) ∙ gone_twice old.from r.begin (old.window.items ++ more)
+          ∙ ap₂ (λ (n : ℕ) (es : List Edge). gone_to n (es ++ more)) (sym from) (sym (ap (λ w. w.items) window));
     }
       where
         t : Tape
@@ -188,20 +209,12 @@ known_settled a r is settled left =
 no_more : (edges : List Edge) (a : Listener) (left : List Edge) (ended : List Listed) (text : List ℕ) → IsAudited edges a left ended text → IsAudited edges a left (ended ++ []) text
 no_more edges a left ended text w = subst (λ (xs : List Listed). IsAudited edges a left xs text) (sym (append-nil ended)) w
 
--- how many wait
-none_waits : (a : Listener) → a.waiting ≡ None → waiting_count a ≡ 0
-none_waits a none = ap (λ (o : Option Reading). length (option_to_list (option_map listed_as o))) none
-
-pub one_waits : (a : Listener) (r : Reading) → a.waiting ≡ Some r → waiting_count a ≡ 1
-one_waits a r is = ap (λ (o : Option Reading). length (option_to_list (option_map listed_as o))) is
-
 -- nothing
 pub says_none : (a : Listener) (mid : Tally) → Says a [] a mid mid
 says_none a mid = record {
   text = [];
   put = nothing mid;
   timing = refl;
-  few = omega arith;
   audited = λ edges left ended so_far w. no_more edges a left ended (so_far ++ []) (subst (λ (t : List ℕ). IsAudited edges a left ended t) (sym (append-nil so_far)) w);
 }
 
@@ -210,7 +223,6 @@ says_remarked old new mid out known r put = record {
   text = remarked old;
   put = put;
   timing = r.timing;
-  few = let none = none_waits new r.none in omega (arith, none);
   audited = λ edges left ended so_far w. no_more edges new left ended (so_far ++ remarked old) (r.audited edges left ended so_far (known left) w);
 }
 
@@ -221,7 +233,6 @@ says_line old new r mid out none waiting timing auditor from window put = record
   text = listed_line (listed_as r);
   put = put;
   timing = timing;
-  few = let one = one_waits new r waiting in omega (arith, one);
   audited = λ edges left ended so_far w.
       let said = w.said ∙ ap (λ (o : Option Reading). reported_all old.timing (first_tape edges) w.done ++ line_of (option_map listed_as o)) none ∙ append-nil (reported_all old.timing (first_tape edges) w.done) in
       record {
@@ -231,6 +242,11 @@ says_line old new r mid out none waiting timing auditor from window put = record
         kept = ap₂ (λ (es : List Edge) (a : Auditor). tape_at es a) (ap₂ (λ (n : ℕ) (es : List Edge). gone_to n (es ++ left)) from (ap (λ w. w.items) window)) auditor ∙ w.kept;
         said = ap (λ (l : List ℕ). l ++ listed_line (listed_as r)) said
             ∙ ap₂ (λ (b : Bool) (o : Option Reading). reported_all b (first_tape edges) w.done ++ line_of (option_map listed_as o)) (sym timing) (sym waiting);
+        come = w.come;
+        all = w.all;
+        stands = λ es. w.stands es ∙ ap (λ (n : ℕ). gone_to n es) (sym from);
+        window = λ more.
+            ap (λ (n : ℕ). gone_to n (w.come ++ more)) from ∙ w.window more ∙ ap₂ (λ (n : ℕ) (es : List Edge). gone_to n (es ++ more)) (sym from) (sym (ap (λ w. w.items) window));
       };
 }
 
@@ -240,7 +256,6 @@ says_two {old} {mid} {new} {xs} {ys} {a} {b} {c} one two = record {
   text = one.text ++ two.text;
   put = then a b c one.text two.text one.put two.put;
   timing = two.timing ∙ one.timing;
-  few = let first = one.few in let second = two.few in omega (arith, first, second, length-append xs ys);
   audited = λ edges left ended so_far w.
       subst (λ (zs : List Listed). IsAudited edges new left zs (so_far ++ (one.text ++ two.text))) (append_assoc ended xs ys)
       (subst (λ (z : List ℕ). IsAudited edges new left ((ended ++ xs) ++ ys) z) (append_assoc so_far one.text two.text)
@@ -252,7 +267,7 @@ says_more {old} {mid} {new} {xs} {a} {b} {c} one two = subst (λ (zs : List List
 
 -- a reading before which something waits is not heard
 pub hears_none : (a : Listener) (x : Listed) (mid : Tally) → waiting_count a ≡ 1 → SaysSome a (x ∷ []) a mid mid
-hears_none a x mid one = record { two = omega (arith, one); heard = []; rest = x ∷ []; parts = refl; says = says_none a mid }
+hears_none a x mid one = record { heard = []; next = x; rest = []; parts = refl; one = one; says = says_none a mid }
 
 either : {P : Type 0} → true ≡ false → P
 either h = cc
@@ -269,19 +284,21 @@ heard_some old new more false a b is h = h
 -- readings before which others were heard, or after which others are not heard
 pub some_then : (old mid new : Listener) (xs ys : List Listed) (a b c : Tally) → Says old xs mid a b → SaysSome mid ys new b c → SaysSome old (xs ++ ys) new a c
 some_then old mid new xs ys a b c one some = record {
-  two = let few = one.few in let two = some.two in omega (arith, few, two, length-append xs ys);
   heard = xs ++ some.heard;
+  next = some.next;
   rest = some.rest;
-  parts = ap (λ (zs : List Listed). xs ++ zs) some.parts ∙ sym (append_assoc xs some.heard some.rest);
+  parts = ap (λ (zs : List Listed). xs ++ zs) some.parts ∙ sym (append_assoc xs some.heard (some.next ∷ some.rest));
+  one = some.one;
   says = says_two one some.says;
 }
 
 pub some_first : (old new : Listener) (xs ys : List Listed) (a b : Tally) → SaysSome old xs new a b → SaysSome old (xs ++ ys) new a b
 some_first old new xs ys a b some = record {
-  two = let two = some.two in omega (arith, two, length-append xs ys);
   heard = some.heard;
+  next = some.next;
   rest = some.rest ++ ys;
-  parts = ap (λ (zs : List Listed). zs ++ ys) some.parts ∙ append_assoc some.heard some.rest ys;
+  parts = ap (λ (zs : List Listed). zs ++ ys) some.parts ∙ append_assoc some.heard (some.next ∷ some.rest) ys;
+  one = some.one;
   says = some.says;
 }
 
@@ -373,11 +390,51 @@ audited_front edges a left ended text w end more = by (waits a) w.parts w.said
               ∙ sym (append_assoc (reported_all a.timing (first_tape edges) w.done) (listed_line x) ((remarks ++ rest) ++ summary)) ∙ ap (λ (l : List ℕ). l ++ ((remarks ++ rest) ++ summary)) (sym said),
         )
 
+-- ---- two that wait
+
+one_waits : (o : Option Listed) → length (option_to_list o) ≡ 1 → (x : Listed) × (o ≡ Some x)
+one_waits None h = absurd (omega (arith, h))
+one_waits (Some x) h = (x, refl)
+
+-- by the edges that have come, it is not known what there is to remark of what waits
+unknown_by : (a : Listener) (come left : List Edge) (ended : List Listed) (text : List ℕ) (x : Listed) → (w : IsAudited (come ++ left) a left ended text) → waits a ≡ Some x → SaysAllKnown a
+    → is_settled x (edges_of come w.done x) ≡ false
+unknown_by a come left ended text x w waits known =
+    ap (is_settled x) (ap (gone_to x.begin) (w.stands come ∙ window) ∙ gone_twice a.from x.begin a.window.items) ∙ sym (ap (settled_by a) waits) ∙ known
+  where
+    same : come ≡ w.come
+    same = append_cancel_right come w.come left w.all
+
+    window : gone_to a.from come ≡ gone_to a.from a.window.items
+    window = ap (gone_to a.from) (same ∙ sym (append-nil w.come)) ∙ w.window [] ∙ ap (gone_to a.from) (append-nil a.window.items)
+
+pub two_told : (old new : Listener) (more : List Listed) (mid out : Tally) → SaysSome old more new mid out → SaysAllKnown new → TellsTwo old more
+two_told old new more mid out some known = record {
+  first = one.0;
+  second = some.next;
+  wait = λ come left ended so_far w.
+      let n = some.says.audited (come ++ left) left ended so_far w in
+      record {
+        done = n.done;
+        rest = some.rest;
+        parts = ap (λ (xs : List Listed). ended ++ xs) some.parts ∙ sym (append_assoc ended some.heard (some.next ∷ some.rest))
+            ∙ ap (λ (xs : List Listed). xs ++ (some.next ∷ some.rest)) (n.parts ∙ ap (λ (o : Option Listed). n.done ++ option_to_list o) one.1)
+            ∙ append_assoc n.done (one.0 ∷ []) (some.next ∷ some.rest);
+        unknown = unknown_by new come left (ended ++ some.heard) (so_far ++ some.says.text) one.0 n one.1 known;
+      };
+}
+  where
+    one : (x : Listed) × (waits new ≡ Some x)
+    one = one_waits (waits new) some.one
+
 -- two of the readings that have ended are two of all
-pub two_ended : (edges : List Edge) (a : Listener) (left : List Edge) (ended more rest : List Listed) (text : List ℕ) → IsAudited edges a left ended text → AreTwo a more → 2 ≤ length ((ended ++ more) ++ rest)
-two_ended edges a left ended more rest text w two =
-    let parts : length ended ≡ length w.done + waiting_count a = ap length w.parts ∙ length-append w.done (option_to_list (waits a)) in
-    omega (arith, two, parts, length-append ended more, length-append (ended ++ more) rest)
+pub two_of_more : (come : List Edge) (first second : Listed) (xs ys : List Listed) → TwoWait come first second xs → TwoWait come first second (xs ++ ys)
+two_of_more come first second xs ys w = record {
+  done = w.done;
+  rest = w.rest ++ ys;
+  parts = ap (λ (zs : List Listed). zs ++ ys) w.parts ∙ append_assoc w.done (first ∷ second ∷ w.rest) ys;
+  unknown = w.unknown;
+}
 
 -- ---- what is put
 
@@ -419,7 +476,7 @@ puts_front {old} {new} {xs} {a} {b} before after was is written ys says w =
 pub puts_some : {old new : Listener} {more : List Listed} {a b : Tally} (before after : Option (List ℕ)) (was is : Bool) (written : Result ℕ WriteFault) → (some : SaysSome old more new a b)
     → WrittenText before after was is some.says.text written → PutsFront old more before after
 puts_some {old} {new} {more} {a} {b} before after was is written some w =
-    subst (λ (zs : List Listed). PutsFront old zs before after) (sym some.parts) (puts_front before after was is written some.rest some.says w)
+    subst (λ (zs : List Listed). PutsFront old zs before after) (sym some.parts) (puts_front before after was is written (some.next ∷ some.rest) some.says w)
 
 pub puts_cut : {old new : Listener} {xs : List Listed} {a b : Tally} (before after : Option (List ℕ)) (was is : Bool) (written : Result ℕ WriteFault) → (says : Says old xs new a b)
     → WrittenText before after was is says.text written → PutsFront old xs before after

@@ -1,5 +1,5 @@
 -- What is written of a capture as its lines come.
-use Rattle.std.proofs.Common.{◌≡◌, ℕ, ◌+◌, ◌≤◌, Bool, true, List, [], ◌∷◌, ◌++◌, length, Option, Ok, Err, IfErr, OnOk, Result, refl, sym, ap, subst, ◌∙◌, append_assoc, append-nil, arith}
+use Rattle.std.proofs.Common.{◌≡◌, ℕ, ◌+◌, ◌≤◌, Bool, true, List, [], ◌∷◌, ◌++◌, Option, Ok, Err, IfErr, OnOk, Result, refl, sym, ap, subst, ◌∙◌, append_assoc, append-nil, arith}
 use Rattle.std.specs.Option.{option_to_list}
 use Rattle.std.proofs.KnownBytes.{Appends-nil}
 use Rattle.line_wave.specs.declared.Edge.{Edge}
@@ -11,6 +11,7 @@ use Rattle.capture_core.specs.Edges.{Captured, line_of_edges}
 use Rattle.capture_core.specs.Reading.{with_edges}
 use Rattle.capture_core.specs.declared.fault.Cause.{Cause}
 use Rattle.capture_monitor.specs.EdgeFile.{EdgeLinesGoOn}
+use Rattle.capture_monitor.specs.Joined.{captured_by}
 use Rattle.capture_monitor.specs.ReadBy.{readings_by}
 use Rattle.capture_csv.specs.Sampling.{CsvLinesGoOn}
 use Rattle.capture_pin.specs.Sampling.{PinLinesGoOn}
@@ -23,13 +24,14 @@ use Rattle.follow_core.specs.declared.teller.Teller.{Teller}
 pub use Rattle.live_incoming.proofs.Coming.{lines_again}
 pub use Rattle.follow_core.proofs.Followed.{both, captured_turn, end_same, goes_on as none_before, split_read, with_none}
 use Rattle.follow_core.proofs.Told.{told_front}
-use Rattle.follow_audit.specs.Follow.{Ends, EndsTwo, Goes, GoesCut, GoesEnd, GoesLast, GoesOn, GoesTo, HasCut, HasHeard, HasStopped, HasTwo, HasWritten, Hears, HearsTwo, IsAt, IsFollowed, IsFront, IsFrontOfAll, IsOfEnding, IsOfGoing, IsPrompt, LeavesAlone, text_of}
-use Rattle.follow_audit.specs.Listener.{AreTwo, Finishes, IsAudited, IsOfListening, IsOfWriting, Puts, PutsAll, PutsFront, SaysAllKnown, TakesEdge}
+use Rattle.follow_audit.specs.Follow.{Ends, EndsTwo, Goes, GoesCut, GoesEnd, GoesLast, GoesOn, GoesTo, HasCut, HasHeard, HasStopped, HasWritten, Hears, HearsTwo, IsAt, IsFollowed, IsFront, IsFrontOfAll, IsOfEnding, IsOfGoing, IsPrompt, LeavesAlone, text_of}
+use Rattle.follow_audit.specs.Listener.{Finishes, IsAudited, IsOfListening, IsOfWriting, Puts, PutsAll, PutsFront, SaysAllKnown, TakesEdge, TellsTwo}
+use Rattle.follow_audit.specs.Settled.{TwoWait}
 use Rattle.follow_audit.specs.declared.error.FollowAuditError.{FollowAuditError}
 use Rattle.follow_audit.specs.declared.error.FollowAuditError.TheVariants.{Capture, Memory, Read, TooLong, Waiting, Write}
 use Rattle.follow_audit.specs.declared.follower.AuditFollower.{AuditFollower}
 use Rattle.follow_audit.specs.declared.listener.Listener.{Listener}
-use Rattle.follow_audit.proofs.Audited.{audited_front, two_ended}
+use Rattle.follow_audit.proofs.Audited.{audited_front, two_of_more}
 
 -- ---- the begin
 
@@ -50,7 +52,7 @@ followed_first file pin csv form signal win timing f first untold audited timed 
 nothing_more : (text : List ℕ) (rest whole : List ℕ) → whole ≡ text ++ rest → whole ≡ (text ++ []) ++ rest
 nothing_more text rest whole h = h ∙ ap (λ t. t ++ rest) (sym (append-nil text))
 
-going_errs : (old : AuditFollower) (edge : Option Edge) (listener : Listener) (more : List Listed) (error : FollowAuditError) → (AreTwo listener more → EndsTwo old edge) → IsOfListening listener more error → IsOfGoing old edge error
+going_errs : (old : AuditFollower) (edge : Option Edge) (listener : Listener) (more : List Listed) (error : FollowAuditError) → (TellsTwo listener more → EndsTwo old edge) → IsOfListening listener more error → IsOfGoing old edge error
 going_errs old edge listener more (Write count) two h = tt
 going_errs old edge listener more Waiting two h = two h
 going_errs old edge listener more TooLong two h = h
@@ -117,14 +119,19 @@ goes_to old new listener mid edge one two before after take first second puts = 
       (f.0, ap (audit_text_of old.listener.timing whole) more.1 ∙ ap (λ (b : Bool). audit_text_of b whole ((w.ended ++ (option_to_list one ++ option_to_list two)) ++ more.0)) (sym take.0) ∙ f.1);
 }
 
--- two readings that were told are two of the capture
+-- two readings that wait are two of the capture
 goes_two : (old new : AuditFollower) (listener : Listener) (mid : Teller) (edge : Option Edge) (one two : Option Listed) → TakesEdge old.listener edge listener → TellsEdge old.teller edge one mid
-    → TellsCalm mid (from_of old.lines) two new.teller → AreTwo listener (option_to_list one ++ option_to_list two) → EndsTwo old edge
-goes_two old new listener mid edge one two take first second are win all left end so_far none reach w =
-    let more : List Listed = option_to_list one ++ option_to_list two in
-    let told = told_both old mid new.teller edge one two first second win (line_of_edges all) left end w.ended none reach w.told in
-    let rest = told_front win new.teller (line_of_edges all) left end (w.ended ++ more) told in
-    subst (λ (xs : List Listed). 2 ≤ length xs) (sym rest.1) (two_ended all listener left w.ended more rest.0 so_far (take.2 all left w.ended so_far w.audited) are)
+    → TellsCalm mid (from_of old.lines) two new.teller → TellsTwo listener (option_to_list one ++ option_to_list two) → EndsTwo old edge
+goes_two old new listener mid edge one two take first second tells = record {
+  first = tells.first;
+  second = tells.second;
+  wait = λ win come left end so_far none reach w.
+      let all : List Edge = come ++ left in
+      let ended : List Listed = w.ended ++ (option_to_list one ++ option_to_list two) in
+      let rest = told_front win new.teller (line_of_edges all) left end ended (told_both old mid new.teller edge one two first second win (line_of_edges all) left end w.ended none reach w.told) in
+      subst (λ (xs : List Listed). TwoWait come tells.first tells.second xs) (sym rest.1)
+      (two_of_more come tells.first tells.second ended rest.0 (tells.wait come left w.ended so_far (take.2 all left w.ended so_far w.audited)));
+}
 
 pub goes : (old new : AuditFollower) (listener : Listener) (mid : Teller) (edge : Option Edge) (one two : Option Listed) (before after : Option (List ℕ)) (result : Result (Unit {0}) FollowAuditError) → TakesEdge old.listener edge listener
     → TellsEdge old.teller edge one mid → TellsCalm mid (from_of old.lines) two new.teller → new.lines ≡ old.lines → Puts listener (option_to_list one ++ option_to_list two) new.listener before after result
@@ -248,11 +255,19 @@ line_stopped signal number line old taken edge before after teller listener take
 
 line_two : (signal : List ℕ) (number : ℕ) (line : List ℕ) (old taken : AuditFollower) (edge : Option Edge) → taken.teller ≡ old.teller → taken.listener ≡ old.listener
     → TakesLine signal old.lines number line (Ok edge) taken.lines → LinesGoOn signal taken (number + 1) → EndsTwo taken edge → HearsTwo signal number line old
-line_two signal number line old taken edge teller listener takes on two form win timing past so_far w rest c h =
-    let d = split_read (w.edges ++ option_to_list edge) (lines_left signal taken.lines (number + 1) rest) c (sym (read_line form signal win timing past number line old taken edge so_far w takes rest) ∙ h) in
-    let go = on rest d.0 d.1 in
-    let all = (w.edges ++ option_to_list edge) ++ d.0.edges in
-    subst (λ (x : Captured). HasTwo win x) (sym d.2) (two win all d.0.edges d.0.end so_far go.0 go.1 (at_line form signal win timing past number line old taken edge so_far w teller listener takes rest d.0 d.1))
+line_two signal number line old taken edge teller listener takes on two form win timing past so_far w = record {
+  come = w.edges ++ option_to_list edge;
+  lines = taken.lines;
+  read = λ rest. read_line form signal win timing past number line old taken edge so_far w takes rest;
+  first = two.first;
+  second = two.second;
+  wait = λ rest c h.
+      let come : List Edge = w.edges ++ option_to_list edge in
+      let d = split_read come (lines_left signal taken.lines (number + 1) rest) c (sym (read_line form signal win timing past number line old taken edge so_far w takes rest) ∙ h) in
+      let go = on rest d.0 d.1 in
+      subst (λ (x : Captured). TwoWait come two.first two.second (captured_by win x)) (sym d.2)
+      (two.wait win come d.0.edges d.0.end so_far go.0 go.1 (at_line form signal win timing past number line old taken edge so_far w teller listener takes rest d.0 d.1));
+}
 
 pub line_heard_so : (signal : List ℕ) (number : ℕ) (line : List ℕ) (old taken new : AuditFollower) (edge : Option Edge) (before after : Option (List ℕ)) (result : Result (Unit {0}) FollowAuditError) → taken.teller ≡ old.teller
     → taken.listener ≡ old.listener → TakesLine signal old.lines number line (Ok edge) taken.lines → LinesGoOn signal taken (number + 1) → Goes taken edge new before after result → OnOk result (IsPrompt new)

@@ -17,7 +17,7 @@ use Rattle.follow_core.specs.Follow.{AreFirst, AreLeft, Come, HaveCome, LongLine
 use Rattle.follow_core.specs.Lines.{form_as, lines_captured}
 use Rattle.follow_core.specs.declared.lines.LineForm.{LineForm}
 use Rattle.follow_core.specs.declared.lines.LineForm.TheVariants as forms
-use Rattle.follow_audit.specs.Follow.{Ends, Follows, HasBegun, HasCut, HasHeard, HasStopped, Hears, HoldsNothing, IsFollowed, IsHandedOn, IsPrompt, IsReady, IsUpToDate, LeavesAlone, kind_of, line_error, text_of}
+use Rattle.follow_audit.specs.Follow.{BeginsWithTwo, Ends, Follows, HasBegun, HasCut, HasHeard, HasStopped, Hears, HoldsNothing, IsFollowed, IsHandedOn, IsPrompt, IsReady, IsUpToDate, LeavesAlone, kind_of, line_error, text_of}
 use Rattle.follow_audit.specs.declared.error.FollowAuditError.{FollowAuditError}
 use Rattle.follow_audit.specs.declared.error.FollowAuditError.TheVariants.{Capture, Memory, Read, TooLong, Waiting, Write}
 use Rattle.follow_audit.specs.declared.follower.AuditFollower.{AuditFollower}
@@ -200,11 +200,16 @@ come_more (Some xs) None next past line a b = absurd a
 come_more (Some xs) (Some ys) None past line a b = absurd b
 come_more (Some xs) (Some ys) (Some zs) past line a b = a ∙ ap (λ ls. past ++ ls) b ∙ sym (append_assoc past (line ∷ []) (lines_of zs))
 
+count_more : (past : List (List ℕ)) (line : List ℕ) (number : ℕ) → number ≡ length past + 1 → number + 1 ≡ length (past ++ line ∷ []) + 1
+count_more past line number count =
+    let more : length (past ++ line ∷ []) ≡ length past + 1 = length-append past (line ∷ []) in
+    omega (arith, more, count)
+
 pub going_more : (form : LineForm) (signal : List ℕ) (win : Windows) (timing : Bool) (known now next before mid after : Option (List ℕ)) (old new : AuditFollower) (number : ℕ) (line : List ℕ) → Going form signal win timing known now before mid old number → IsWhole line
     → Leads now next line → HasHeard signal number line old new mid after → IsReady new → Going form signal win timing known next before after new (number + 1)
 going_more form signal win timing known now next before mid after old new number line g whole leads h ready = record {
   past = g.past ++ line ∷ [];
-  count = let more : length (g.past ++ line ∷ []) ≡ length g.past + 1 = length-append g.past (line ∷ []) in let count = g.count in omega (arith, more, count);
+  count = count_more g.past line number g.count;
   text = g.text ++ h.text;
   come = come_more known now next g.past line g.come leads;
   whole = All-append IsWhole g.past (line ∷ []) g.whole (All-cons IsWhole line [] whole (All-nil IsWhole));
@@ -298,7 +303,10 @@ line_stops form signal win timing known now next before mid after old new number
 }
 line_stops form signal win timing known now next before mid after old new number line (Write count) g leads h = line_begun form signal win timing known now next before mid after old number line g leads h
 line_stops form signal win timing known now next before mid after old new number line Waiting g leads h =
-    record { begun = line_begun form signal win timing known now next before mid after old number line g leads h.0; two = h.1 form win timing g.past g.text g.followed }
+    record {
+      begun = line_begun form signal win timing known now next before mid after old number line g leads h.0;
+      two = let two = h.1 form win timing g.past g.text g.followed in subst (λ n. BeginsWithTwo form signal win (g.past ++ line ∷ []) n) (count_more g.past line number g.count) two;
+    }
 line_stops form signal win timing known now next before mid after old new number line Memory g leads h = line_begun form signal win timing known now next before mid after old number line g leads h
 line_stops form signal win timing known now next before mid after old new number line Read g leads h = absurd h
 line_stops form signal win timing known now next before mid after old new number line TooLong g leads h = absurd h

@@ -19,8 +19,10 @@ use Rattle.live_incoming.specs.declared.incoming.IncomingFault.{IncomingFault}
 use Rattle.live_incoming.specs.declared.incoming.IncomingFault.TheVariants as line_fault
 use Rattle.follow_core.specs.Lines.{IsEarly, form_as, from_of, lines_captured, lines_left}
 use Rattle.follow_core.specs.Teller.{IsTold, IsToldEarly, NoneBefore}
+use Rattle.follow_core.specs.declared.lines.CaptureLines.{CaptureLines}
 use Rattle.follow_core.specs.declared.lines.LineForm.{LineForm}
 use Rattle.follow_audit.specs.Listener.{IsAudited, SaysAllKnown}
+use Rattle.follow_audit.specs.Settled.{TwoWait}
 use Rattle.follow_audit.specs.declared.error.FollowAuditError.{FollowAuditError}
 use Rattle.follow_audit.specs.declared.error.FollowAuditError.TheVariants.{Capture, Memory, Read, TooLong, Waiting, Write}
 use Rattle.follow_audit.specs.declared.follower.AuditFollower.{AuditFollower}
@@ -28,10 +30,6 @@ use Rattle.follow_audit.specs.declared.follower.AuditFollower.{AuditFollower}
 -- the audit of a whole capture
 abbrev pub text_of : Bool → Windows → Captured → List ℕ
 text_of timing windows c = audit_text_of timing c (captured_by windows c)
-
--- a capture has two readings
-abbrev pub HasTwo : Windows → Captured → Type 0
-HasTwo windows c = 2 ≤ length (captured_by windows c)
 
 -- ---- a follower
 
@@ -77,10 +75,12 @@ pub record GoesTo (old : AuditFollower) (edge : Option Edge) (before after : Opt
   pub front : (windows : Windows) (all left : List Edge) (end : ℕ) (so_far : List ℕ) → NoneBefore (from_of old.lines) left → from_of old.lines ≤ end + 1
       → IsAt windows old all (option_to_list edge ++ left) end so_far → IsFrontOfAll windows old.listener.timing all end (so_far ++ text)
 
--- two readings have ended by this edge, whatever comes later
-abbrev pub EndsTwo : AuditFollower → Option Edge → Type 0
-EndsTwo old edge = (windows : Windows) (all left : List Edge) (end : ℕ) (so_far : List ℕ) → NoneBefore (from_of old.lines) left → from_of old.lines ≤ end + 1
-    → IsAt windows old all (option_to_list edge ++ left) end so_far → HasTwo windows (record { edges = all; end = end })
+-- by this edge two readings wait, whatever comes later
+pub record EndsTwo (old : AuditFollower) (edge : Option Edge) : Type 0 where
+  pub first : Listed
+  pub second : Listed
+  pub wait : (windows : Windows) (come left : List Edge) (end : ℕ) (so_far : List ℕ) → NoneBefore (from_of old.lines) left → from_of old.lines ≤ end + 1
+      → IsAt windows old (come ++ left) (option_to_list edge ++ left) end so_far → TwoWait come first second (captured_by windows (record { edges = come ++ left; end = end }))
 
 -- neither a fault of a line nor of a reader, nor that more came than is followed
 abbrev pub IsOfGoing : AuditFollower → Option Edge → FollowAuditError → Type 0
@@ -127,9 +127,14 @@ abbrev pub IsFront : Bool → LineForm → List ℕ → Windows → Bool → Lis
 IsFront more form signal windows timing past text = (rest : List (List ℕ)) (c : Captured) → AreLeft more rest → lines_captured form signal (past ++ rest) ≡ Ok c
     → (left : List ℕ) × (text_of timing windows c ≡ text ++ left)
 
--- Each capture that begins with these lines has two readings.
-abbrev pub BeginsWithTwo : LineForm → List ℕ → Windows → List (List ℕ) → Type 0
-BeginsWithTwo form signal windows past = (rest : List (List ℕ)) (c : Captured) → lines_captured form signal (past ++ rest) ≡ Ok c → HasTwo windows c
+-- By the edges that these lines say, before the one of this number, two readings wait: both are of each capture that begins so.
+pub record BeginsWithTwo (form : LineForm) (signal : List ℕ) (windows : Windows) (past : List (List ℕ)) (number : ℕ) : Type 0 where
+  pub come : List Edge
+  pub lines : CaptureLines
+  pub read : (rest : List (List ℕ)) → lines_captured form signal (past ++ rest) ≡ with_edges come (lines_left signal lines number rest)
+  pub first : Listed
+  pub second : Listed
+  pub wait : (rest : List (List ℕ)) (c : Captured) → lines_captured form signal (past ++ rest) ≡ Ok c → TwoWait come first second (captured_by windows c)
 
 -- a line has come, and what there is to say by it is written
 pub record HasHeard (signal : List ℕ) (number : ℕ) (line : List ℕ) (old new : AuditFollower) (before after : Option (List ℕ)) : Type 0 where
@@ -153,10 +158,10 @@ pub record HasStopped (signal : List ℕ) (number : ℕ) (line : List ℕ) (old 
   pub front : (form : LineForm) (windows : Windows) (timing : Bool) (past : List (List ℕ)) (so_far : List ℕ) → IsFollowed form signal windows timing past number old so_far
       → IsFront true form signal windows timing (past ++ line ∷ []) (so_far ++ text)
 
--- by this line there are two readings
+-- by this line two readings wait
 abbrev pub HearsTwo : List ℕ → ℕ → List ℕ → AuditFollower → Type 0
 HearsTwo signal number line old = (form : LineForm) (windows : Windows) (timing : Bool) (past : List (List ℕ)) (so_far : List ℕ) → IsFollowed form signal windows timing past number old so_far
-    → BeginsWithTwo form signal windows (past ++ line ∷ [])
+    → BeginsWithTwo form signal windows (past ++ line ∷ []) (number + 1)
 
 abbrev pub Hears : List ℕ → ℕ → List ℕ → AuditFollower → AuditFollower → Option (List ℕ) → Option (List ℕ) → Result (Unit {0}) FollowAuditError → Type 0
 Hears signal number line old new before after (Ok done) = HasHeard signal number line old new before after
@@ -233,7 +238,7 @@ pub record HasBegun (form : LineForm) (signal : List ℕ) (windows : Windows) (t
 -- the same where two readings wait
 pub record StopsAtTwo (form : LineForm) (signal : List ℕ) (windows : Windows) (timing : Bool) (known old new : Option (List ℕ)) : Type 0 where
   pub begun : HasBegun form signal windows timing known old new
-  pub two : BeginsWithTwo form signal windows begun.past
+  pub two : BeginsWithTwo form signal windows begun.past (length begun.past + 1)
 
 abbrev pub Follows : LineForm → List ℕ → Windows → Bool → Option (List ℕ) → Option (List ℕ) → Option (List ℕ) → Result (Unit {0}) FollowAuditError → Type 0
 Follows form signal windows timing known old new (Ok done) = HasFollowed form signal windows timing known old new

@@ -1,5 +1,5 @@
 -- What is written of the readings of a capture as they end: the front of its audit (own).
-use Rattle.std.specs.Prelude.{◌≡◌, ℕ, ◌+◌, ◌≤◌, Bool, true, false, List, [], ◌++◌, length, Option, Some, None, Result, Ok, Err, option_map}
+use Rattle.std.specs.Prelude.{◌≡◌, ℕ, Bool, true, false, List, [], ◌∷◌, ◌++◌, length, Option, Some, None, Result, Ok, Err, option_map}
 use Rattle.std.specs.Option.{option_to_list}
 use Rattle.std.specs.Io.KnownBytes.{Appends}
 use Rattle.text_core.specs.Adds.{Adds, Tally}
@@ -9,7 +9,7 @@ use Rattle.line_reading.specs.Reports.{listed_as}
 use Rattle.audit_widths.specs.Lows.{gone_to}
 use Rattle.capture_monitor.specs.Watch.{listed_line}
 use Rattle.audit_core.specs.Audit.{after_all, audit_text_of, first_tape, remarks_text, reported_all, tape_at}
-use Rattle.follow_audit.specs.Settled.{IsKnown, is_settled, later}
+use Rattle.follow_audit.specs.Settled.{IsKnown, TwoWait, is_settled, later}
 use Rattle.follow_audit.specs.declared.error.FollowAuditError.{FollowAuditError}
 use Rattle.follow_audit.specs.declared.error.FollowAuditError.TheVariants.{Capture, Memory, Read, TooLong, Waiting, Write}
 use Rattle.follow_audit.specs.declared.listener.Listener.{Listener}
@@ -26,17 +26,17 @@ waits a = option_map listed_as a.waiting
 abbrev pub waiting_count : Listener → ℕ
 waiting_count a = length (option_to_list (waits a))
 
--- there are two readings, of what waits and of these
-abbrev pub AreTwo : Listener → List Listed → Type 0
-AreTwo a more = 2 ≤ waiting_count a + length more
-
 -- Of a capture of these edges, some of which are left, these readings have ended: all of them is written, but for what there is to
--- remark of the last one, where that waits.
+-- remark of the last one, where that waits. Of the edges that have come, those are kept from where the audit stands on.
 pub record IsAudited (edges : List Edge) (a : Listener) (left : List Edge) (ended : List Listed) (text : List ℕ) : Type 0 where
   pub done : List Listed
   pub parts : ended ≡ done ++ option_to_list (waits a)
   pub kept : tape_at (gone_to a.from (a.window.items ++ left)) a.auditor ≡ after_all (first_tape edges) done
   pub said : text ≡ reported_all a.timing (first_tape edges) done ++ line_of (waits a)
+  pub come : List Edge
+  pub all : edges ≡ come ++ left
+  pub stands : (es : List Edge) → (after_all (first_tape es) done).place ≡ gone_to a.from es
+  pub window : (more : List Edge) → gone_to a.from (come ++ more) ≡ gone_to a.from (a.window.items ++ more)
 
 -- an edge is kept, if there is one
 abbrev pub TakesEdge : Listener → Option Edge → Listener → Type 0
@@ -78,15 +78,15 @@ pub record Says (old : Listener) (more : List Listed) (new : Listener) (mid out 
   pub text : List ℕ
   pub put : Adds mid out text
   pub timing : new.timing ≡ old.timing
-  pub few : waiting_count new ≤ waiting_count old + length more
   pub audited : (edges left : List Edge) (ended : List Listed) (so_far : List ℕ) → IsAudited edges old left ended so_far → IsAudited edges new left (ended ++ more) (so_far ++ text)
 
--- or only of the first of them: one would wait beside another
+-- or only of the first of them: one waits, and the next would wait beside it
 pub record SaysSome (old : Listener) (more : List Listed) (new : Listener) (mid out : Tally) : Type 0 where
-  pub two : AreTwo old more
   pub heard : List Listed
+  pub next : Listed
   pub rest : List Listed
-  pub parts : more ≡ heard ++ rest
+  pub parts : more ≡ heard ++ next ∷ rest
+  pub one : waiting_count new ≡ 1
   pub says : Says old heard new mid out
 
 -- where readings are heard, by whether nothing waited before each
@@ -106,11 +106,17 @@ pub record SaysLast (old : Listener) (more : List Listed) (new : Listener) (mid 
 abbrev pub IsFrontOf : Bool → List Edge → List Listed → List ℕ → Type 0
 IsFrontOf timing edges ended text = (end : ℕ) (more : List Listed) → (rest : List ℕ) × (audit_text_of timing (record { edges = edges; end = end }) (ended ++ more) ≡ text ++ rest)
 
+-- with these further readings two wait
+pub record TellsTwo (old : Listener) (more : List Listed) : Type 0 where
+  pub first : Listed
+  pub second : Listed
+  pub wait : (come left : List Edge) (ended : List Listed) (so_far : List ℕ) → IsAudited (come ++ left) old left ended so_far → TwoWait come first second (ended ++ more)
+
 -- readings that have ended are told one after another: what goes on with the audit is put, or a front of it, where two wait or a
 -- `put` took none
 abbrev pub IsOfListening : Listener → List Listed → FollowAuditError → Type 0
 IsOfListening old more (Write count) = Unit {0}
-IsOfListening old more Waiting = AreTwo old more
+IsOfListening old more Waiting = TellsTwo old more
 IsOfListening old more TooLong = ⊥
 IsOfListening old more (Capture fault) = ⊥
 IsOfListening old more Read = ⊥

@@ -5,7 +5,7 @@ use Rattle.line_frames.specs.declared.Ending.{Ending}
 use Rattle.line_frames.specs.declared.Ending.TheVariants.{Short}
 use Rattle.line_reading.specs.Readings.{Listed}
 use Rattle.audit_widths.specs.Lows.{gone_to}
-use Rattle.audit_core.specs.Audit.{drive_of, falls_until, lows_of}
+use Rattle.audit_core.specs.Audit.{after_all, come_to, drive_of, falls_until, first_tape, lows_of}
 
 abbrev pub later : ℕ → ℕ → ℕ
 later a b = if nat_lt a b then b else a
@@ -35,3 +35,14 @@ pub record IsKnown (from : ℕ) (window left : List Edge) (x : Listed) : Type 0 
   pub place : gone_to (later from x.begin) (window ++ left) ≡ gone_to (later from x.begin) window ++ left
   pub lows : lows_of x (gone_to (later from x.begin) window ++ left) ≡ lows_of x (gone_to (later from x.begin) window)
   pub drive : drive_of x (gone_to (later from x.begin) window ++ left) ≡ drive_of x (gone_to (later from x.begin) window)
+
+-- of edges that have come, those from the fall of a reading on, after the readings before it
+abbrev pub edges_of : List Edge → List Listed → Listed → List Edge
+edges_of come done x = (come_to x (after_all (first_tape come) done)).place
+
+-- Of these readings two come one after the other, and what there is to remark of the first is not known by the edges that have come.
+pub record TwoWait (come : List Edge) (first second : Listed) (readings : List Listed) : Type 0 where
+  pub done : List Listed
+  pub rest : List Listed
+  pub parts : readings ≡ done ++ first ∷ second ∷ rest
+  pub unknown : is_settled first (edges_of come done first) ≡ false

@@ -145,7 +145,7 @@ impl Listener {
 
     // Hears a reading that has ended, if there is one, and returns whether nothing waited.
     fn hear<S: Sink>(&mut self, out: &mut Counted<'_, S>, reading: Option<Reading>) -> bool
-        ensures waits { result ≡ true → SaysAllKnown self.old → SaysAllKnown self.new }
+        ensures waits { SaysAllKnown self.old → SaysAllKnown self.new }
         ensures says { HearsAll self.old (option_to_list (option_map listed_as reading)) result self.new out.old out.new }
     {
         match reading {
@@ -168,7 +168,7 @@ impl Listener {
         first: Option<Reading>,
         second: Option<Reading>,
     ) -> bool
-        ensures waits { result ≡ true → SaysAllKnown self.new }
+        ensures waits { SaysAllKnown self.new }
         ensures says { HearsAll self.old (option_to_list (option_map listed_as first) ++ option_to_list (option_map listed_as second)) result self.new out.old out.new }
     {
         self.settle(out);

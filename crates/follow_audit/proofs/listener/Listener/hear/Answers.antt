@@ -20,10 +20,10 @@ returns-else-waits-clause-says g c =
     subst (λ (o : Option Reading). Says c.args.self.now (option_to_list (option_map listed_as o)) c.settle.new.self c.args.out.now c.settle.new.out) (sym c.in-Some.is) (says_more c.add_line.ensures c.settle.ensures.says)
 
 pub returns-in-None-clause-waits : goal.returns-in-None-clause-waits
-returns-in-None-clause-waits g c = λ heard known. known
+returns-in-None-clause-waits g c = λ known. known
 
 pub returns-then-waits-clause-waits : goal.returns-then-waits-clause-waits
-returns-then-waits-clause-waits g c = λ heard known. known
+returns-then-waits-clause-waits g c = λ known. known
 
 pub returns-else-waits-clause-waits : goal.returns-else-waits-clause-waits
-returns-else-waits-clause-waits g c = λ heard known. c.settle.ensures.waits
+returns-else-waits-clause-waits g c = λ known. c.settle.ensures.waits

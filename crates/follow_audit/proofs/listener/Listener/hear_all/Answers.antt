@@ -18,4 +18,7 @@ returns-clause-says g c =
     (says_two c.settle.ensures.says (heard_all c.settle.new.self c.hear.new.self first c.hear.result c.settle.new.out c.hear.new.out c.if-not-hear.false c.hear.ensures.says)) c.hear-2.ensures.says
 
 pub returns-clause-waits : goal.returns-clause-waits
-returns-clause-waits g c = λ heard. c.hear-2.ensures.waits heard (c.hear.ensures.waits c.if-not-hear.false c.settle.ensures.waits)
+returns-clause-waits g c = c.hear-2.ensures.waits (c.hear.ensures.waits c.settle.ensures.waits)
+
+pub returns-then-not-hear-clause-waits : goal.returns-then-not-hear-clause-waits
+returns-then-not-hear-clause-waits g c = c.hear.ensures.waits c.settle.ensures.waits

@@ -2,7 +2,7 @@ use Rattle.std.proofs.Common.{◌++◌, option_map, rules}
 use Rattle.std.specs.Option.{option_to_list}
 use Rattle.line_reading.specs.Reports.{listed_as}
 use Rattle.text_core.proofs.Adding.{text_ended}
-use Rattle.follow_audit.proofs.Audited.{heard_all, heard_some, puts_all, puts_cut, puts_some}
+use Rattle.follow_audit.proofs.Audited.{heard_all, heard_some, puts_all, puts_cut, puts_some, two_told}
 use Rattle.follow_audit.proofs.listener.Listener.tell.Goals as goal
 
 pub returns-then-not-heard-clause-puts : goal.returns-then-not-heard-clause-puts
@@ -13,7 +13,7 @@ returns-then-not-heard-clause-puts g c =
           (text_ended g.S.Sink.contents g.S.Sink.is_stuck c.args.out.now _ c.into_sink-below.result.now _ c.into_sink-below.result.ghost_name c.new-audit.result c.hear_all-heard.new.out some.says.text c.written-written.result
           c.new-audit.ensures some.says.put c.written-written.ensures.text
           c.into_sink-below.ensures.loan c.into_sink-below.ensures.known c.into_sink-below.ensures.stuck (search rules)),
-      some.two,
+      two_told _ _ more _ _ some c.hear_all-heard.ensures.waits,
     )
 
 pub returns-in-Ok-clause-puts : goal.returns-in-Ok-clause-puts
@@ -37,4 +37,4 @@ returns-in-Err-clause-puts g c =
     )
 
 pub returns-in-Ok-clause-waits : goal.returns-in-Ok-clause-waits
-returns-in-Ok-clause-waits g c = c.hear_all-heard.ensures.waits c.if-not-heard.false
+returns-in-Ok-clause-waits g c = c.hear_all-heard.ensures.waits
