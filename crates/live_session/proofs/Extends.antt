@@ -3,14 +3,12 @@ use Rattle.std.proofs.Common.{◌≡◌, ℕ, ◌≤◌, List, [], ◌∷◌, �
 use Rattle.std.proofs.lemmas.List.Prefix.{front_rest}
 use Rattle.edid_tree.specs.Node.{Node}
 use Rattle.room_script.specs.Script.{Notes, IsLineRead}
+use Rattle.room_script.specs.Lines.{Extends}
 use Rattle.room_script.proofs.Adding.{line_adds}
-use Rattle.live_session.specs.Note.{Extends}
 
 -- a line that is taken
 pub line_extends : (tree : List Node) (notes : Notes) (waiting line : ℕ) (text : List ℕ) (next : Notes) → IsLineRead tree notes waiting line text (Ok next) → Extends notes next
-line_extends tree notes waiting line text next h =
-    let more = line_adds waiting tree notes line text next h in
-    record { events = more.events; pulses = more.pulses; events_are = more.events_are; pulses_are = more.pulses_are; few_events = more.few_events; few_pulses = more.few_pulses }
+line_extends tree notes waiting line text next h = (line_adds waiting tree notes line text next h).added
 
 -- ---- lists with more at their end
 

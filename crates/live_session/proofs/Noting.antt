@@ -6,14 +6,14 @@ use Rattle.line_wave.specs.Bounds.{latest_event}
 use Rattle.room_net.specs.State.{NetState}
 use Rattle.room_script.specs.Script.{Notes, IsLineRead}
 use Rattle.room_script.specs.declared.script.TimedEvent.{TimedEvent}
-use Rattle.room_script.specs.Lines.{AreSound}
+use Rattle.room_script.specs.Lines.{AreSound, Extends}
 use Rattle.room_script.proofs.Sound.{line-keeps}
 use Rattle.text_core.specs.declared.at.AtWord.{AtWord}
 use Rattle.room_script.specs.declared.script.ScriptCause.{ScriptCause}
 use Rattle.room_run.specs.Certain.{with_pulses}
 use Rattle.live_session.specs.declared.answer.RefusalCause.TheVariants.{Past}
 use Rattle.live_session.specs.declared.live.Step.TheVariants.{Go, Finish}
-use Rattle.live_session.specs.Note.{Extends, IsSettled}
+use Rattle.live_session.specs.Note.{IsSettled}
 use Rattle.live_session.specs.Session.{Session, Standing, AreFit, IsReady, refuse, standing, with_standing, standing_with, step_by, is_late, is_past, refuses_pulse, horizon_by, new_events, new_pulses}
 use Rattle.live_session.proofs.Extends.{line_extends, front_all}
 

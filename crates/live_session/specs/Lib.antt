@@ -2,6 +2,7 @@ pub mod Command
 pub mod Edges
 pub mod Turns
 pub mod Session
+pub mod Live
 pub mod Note
 pub mod Taken
 pub mod Whole

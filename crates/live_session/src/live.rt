@@ -81,34 +81,16 @@ pub struct Live {
 }
 
 impl Model for Live {
-    ghost use Rattle.std.specs.Prelude.{◌≤◌, drop, length};
-    ghost use Rattle.room_script.specs.Script.{notes_of};
+    ghost use Rattle.std.specs.Prelude.{◌≤◌, length};
     ghost use Rattle.live_session.specs.Session.{IsReady, Session};
 
     ghost Value = { Session };
 
-    ghost view = { λ l. record {
-      edid = l.edid.value;
-      tree = l.tree;
-      notes = notes_of l.draft;
-      horizon = l.horizon;
-      lines = l.lines;
-      place = record { net = l.net; events = drop l.applied l.draft.events.items; totals = l.totals };
-      edges = l.edges;
-      since = l.since;
-    } };
+    ghost use Rattle.live_session.specs.Live.{session_of};
 
-    ghost invariant = { λ l. IsReady (record {
-      edid = l.edid.value;
-      tree = l.tree;
-      notes = notes_of l.draft;
-      horizon = l.horizon;
-      lines = l.lines;
-      place = record { net = l.net; events = drop l.applied l.draft.events.items; totals = l.totals };
-      edges = l.edges;
-      since = l.since;
-    })
-        × (l.applied ≤ length l.draft.events.items) };
+    ghost view = { session_of };
+
+    ghost invariant = { λ l. IsReady (session_of l) × (l.applied ≤ length l.draft.events.items) };
 }
 
 // A line is refused, with this word at fault.

@@ -2,10 +2,11 @@
 ghost use Rattle.std.specs.Prelude.{◌≡◌, ◌||◌, ◌≤◌, [], drop, take, length, nat_lt, if◌then◌else◌, None, Result, Ok, MatchOption};
 ghost use Rattle.std.specs.List.{list_any};
 ghost use Rattle.room_script.specs.Script.{IsLineRead, Notes, notes_of};
+ghost use Rattle.room_script.specs.Lines.{Extends};
 ghost use Rattle.room_script.specs.declared.script.ScriptCause.{ScriptCause as CauseValue};
 ghost use Rattle.text_core.specs.declared.at.AtWord.{AtWord as AtWordValue};
 ghost use Rattle.room_run.specs.Certain.{with_pulses};
-ghost use Rattle.live_session.specs.Note.{Extends, IsSettled, refused_by};
+ghost use Rattle.live_session.specs.Note.{IsSettled, refused_by};
 ghost use Rattle.live_session.specs.Session.{is_given_before, refuse, refuses_pulse, rises_before};
 ghost use Rattle.live_session.specs.Turns.{certain_until};
 ghost use Rattle.live_session.specs.declared.answer.RefusalCause.TheVariants.{Past};

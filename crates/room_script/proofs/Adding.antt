@@ -39,69 +39,81 @@ none_held (Some from) h = cc
 
 with_none : (waiting : ℕ) (notes : Notes) → IsMore waiting notes notes
 with_none waiting notes = record {
-  events = [];
-  pulses = [];
-  events_are = sym (append-nil notes.events);
-  pulses_are = sym (append-nil notes.pulses);
-  few_events = omega arith;
-  few_pulses = omega arith;
+  added = record {
+    events = [];
+    pulses = [];
+    events_are = sym (append-nil notes.events);
+    pulses_are = sym (append-nil notes.pulses);
+    few_events = omega arith;
+    few_pulses = omega arith;
+  };
   room = omega arith;
 }
 
 with_event : (waiting : ℕ) (notes : Notes) (event : TimedEvent) → IsMore waiting notes (record notes { events = notes.events ++ event ∷ [] })
 with_event waiting notes event = record {
-  events = event ∷ [];
-  pulses = [];
-  events_are = refl;
-  pulses_are = sym (append-nil notes.pulses);
-  few_events = omega arith;
-  few_pulses = omega arith;
+  added = record {
+    events = event ∷ [];
+    pulses = [];
+    events_are = refl;
+    pulses_are = sym (append-nil notes.pulses);
+    few_events = omega arith;
+    few_pulses = omega arith;
+  };
   room = omega arith;
 }
 
 with_pulse : (waiting : ℕ) (notes : Notes) (pulse : Stretch) → is_some notes.pin ≡ false → waiting < most_pulls → IsMore waiting notes (record notes { pulses = notes.pulses ++ pulse ∷ [] })
 with_pulse waiting notes pulse high few = record {
-  events = [];
-  pulses = pulse ∷ [];
-  events_are = sym (append-nil notes.events);
-  pulses_are = refl;
-  few_events = omega arith;
-  few_pulses = omega arith;
+  added = record {
+    events = [];
+    pulses = pulse ∷ [];
+    events_are = sym (append-nil notes.events);
+    pulses_are = refl;
+    few_events = omega arith;
+    few_pulses = omega arith;
+  };
   room = (let none = none_held notes.pin high in omega (arith, few, none));
 }
 
 -- a pin that is high and falls
 with_fall : (waiting : ℕ) (notes : Notes) (from : ℕ) → waiting < most_pulls → IsMore waiting notes (record notes { pin = Some from })
 with_fall waiting notes from few = record {
-  events = [];
-  pulses = [];
-  events_are = sym (append-nil notes.events);
-  pulses_are = sym (append-nil notes.pulses);
-  few_events = omega arith;
-  few_pulses = omega arith;
+  added = record {
+    events = [];
+    pulses = [];
+    events_are = sym (append-nil notes.events);
+    pulses_are = sym (append-nil notes.pulses);
+    few_events = omega arith;
+    few_pulses = omega arith;
+  };
   room = omega (arith, few);
 }
 
 -- one that was low and rises
 with_rise : (waiting : ℕ) (notes : Notes) (pull : Stretch) (end : Option ℕ) → pulls_held notes.pin ≡ 1 → IsMore waiting notes (record notes { pulses = notes.pulses ++ pull ∷ []; end = end; pin = None })
 with_rise waiting notes pull end low = record {
-  events = [];
-  pulses = pull ∷ [];
-  events_are = sym (append-nil notes.events);
-  pulses_are = refl;
-  few_events = omega arith;
-  few_pulses = omega arith;
+  added = record {
+    events = [];
+    pulses = pull ∷ [];
+    events_are = sym (append-nil notes.events);
+    pulses_are = refl;
+    few_events = omega arith;
+    few_pulses = omega arith;
+  };
   room = omega (arith, low);
 }
 
 with_end : (waiting : ℕ) (notes : Notes) (time : ℕ) → IsMore waiting notes (record notes { end = Some time; pin = None })
 with_end waiting notes time = record {
-  events = [];
-  pulses = [];
-  events_are = sym (append-nil notes.events);
-  pulses_are = sym (append-nil notes.pulses);
-  few_events = omega arith;
-  few_pulses = omega arith;
+  added = record {
+    events = [];
+    pulses = [];
+    events_are = sym (append-nil notes.events);
+    pulses_are = sym (append-nil notes.pulses);
+    few_events = omega arith;
+    few_pulses = omega arith;
+  };
   room = omega arith;
 }
 
@@ -343,7 +355,7 @@ line_adds waiting tree notes line text next h =
 pub few_pulses : LinesKeepFew
 few_pulses tree notes line text next read few =
     let more = line_adds (length notes.pulses) tree notes line text next read in
-    let long : length next.pulses ≡ length notes.pulses + length more.pulses = ap length more.pulses_are ∙ length-append notes.pulses more.pulses in
+    let long : length next.pulses ≡ length notes.pulses + length more.added.pulses = ap length more.added.pulses_are ∙ length-append notes.pulses more.added.pulses in
     let room = more.room in omega (arith, long, room, few)
 
 -- ---- with fewer pulses and pulls that wait

@@ -50,15 +50,19 @@ abbrev pub pulls_held : Option ℕ → ℕ
 pulls_held None = 0
 pulls_held (Some from) = 1
 
--- one event and one pulse or pull more at most, and that where there is room
-pub record IsMore (waiting : ℕ) (old new : Notes) : Type 0 where
+-- one event and one pulse or pull more at most,
+pub record Extends (old new : Notes) : Type 0 where
   pub events : List TimedEvent
   pub pulses : List Stretch
   pub events_are : new.events ≡ old.events ++ events
   pub pulses_are : new.pulses ≡ old.pulses ++ pulses
   pub few_events : length events ≤ 1
   pub few_pulses : length pulses ≤ 1
-  pub room : waiting + length pulses + pulls_held new.pin ≤ max (waiting + pulls_held old.pin) most_pulls
+
+-- and that where there is room
+pub record IsMore (waiting : ℕ) (old new : Notes) : Type 0 where
+  pub added : Extends old new
+  pub room : waiting + length added.pulses + pulls_held new.pin ≤ max (waiting + pulls_held old.pin) most_pulls
 
 -- what a script pulls low is few, with the pull of a pin that is low
 abbrev pub AreFew : Notes → Type 0

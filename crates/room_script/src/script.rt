@@ -205,6 +205,17 @@ pub(crate) fn last_end(pulses: &[Stretch]) -> Option<u64>
     }
 }
 
+/// What a line of an event says beside the verb.
+#[derive(Clone, Copy)]
+struct EventWords<'t> {
+    /// The line's number.
+    line: u64,
+    /// The word of its time.
+    time: &'t [u8],
+    /// What stands after the verb.
+    rest: Option<&'t [u8]>,
+}
+
 fn schedule(
     draft: &mut ScriptDraft,
     line: u64,
@@ -232,17 +243,15 @@ fn schedule(
 fn take_plug(
     tree: &Tree<15>,
     draft: &mut ScriptDraft,
-    line: u64,
-    time: &[u8],
-    rest: Option<&[u8]>,
+    words: EventWords<'_>,
 ) -> Result<(), ScriptLineError>
-    ensures gives { GivesNotes (notes_of draft.new) result (plug_words tree.now (notes_of draft.old) line time.now (length (words_after (option_copied rest.entry))) (three_of (words_after (option_copied rest.entry)))) }
+    ensures gives { GivesNotes (notes_of draft.new) result (plug_words tree.now (notes_of draft.old) words.entry.line words.entry.time.now (length (words_after (option_copied words.entry.rest))) (three_of (words_after (option_copied words.entry.rest)))) }
     ensures kept { OnErr result (notes_of draft.new ≡ notes_of draft.old) }
 {
-    let Some((child, parent, port)) = three_words(rest) else {
-        return Err(ScriptLineError::Fault(misfit(3, rest, 3)));
+    let Some((child, parent, port)) = three_words(words.rest) else {
+        return Err(ScriptLineError::Fault(misfit(3, words.rest, 3)));
     };
-    let Some(time) = time_in(time) else {
+    let Some(time) = time_in(words.time) else {
         return Err(ScriptLineError::Fault(at_word(1, ScriptCause::Number)));
     };
     let Some(port) = number_in(port) else {
@@ -257,7 +266,7 @@ fn take_plug(
     let port = port.min(255) as u8;
     schedule(
         draft,
-        line,
+        words.line,
         time,
         Event::Plug {
             child,
@@ -271,38 +280,34 @@ fn take_plug(
 fn take_unplug(
     tree: &Tree<15>,
     draft: &mut ScriptDraft,
-    line: u64,
-    time: &[u8],
-    rest: Option<&[u8]>,
+    words: EventWords<'_>,
 ) -> Result<(), ScriptLineError>
-    ensures gives { GivesNotes (notes_of draft.new) result (unplug_words tree.now (notes_of draft.old) line time.now (length (words_after (option_copied rest.entry))) (one_of (words_after (option_copied rest.entry)))) }
+    ensures gives { GivesNotes (notes_of draft.new) result (unplug_words tree.now (notes_of draft.old) words.entry.line words.entry.time.now (length (words_after (option_copied words.entry.rest))) (one_of (words_after (option_copied words.entry.rest)))) }
     ensures kept { OnErr result (notes_of draft.new ≡ notes_of draft.old) }
 {
-    let Some(child) = one_word(rest) else {
-        return Err(ScriptLineError::Fault(misfit(3, rest, 1)));
+    let Some(child) = one_word(words.rest) else {
+        return Err(ScriptLineError::Fault(misfit(3, words.rest, 1)));
     };
-    let Some(time) = time_in(time) else {
+    let Some(time) = time_in(words.time) else {
         return Err(ScriptLineError::Fault(at_word(1, ScriptCause::Number)));
     };
     let Some(child) = tree.device_named(child) else {
         return Err(ScriptLineError::Fault(at_word(3, ScriptCause::Name)));
     };
-    schedule(draft, line, time, Event::Unplug { child })
+    schedule(draft, words.line, time, Event::Unplug { child })
 }
 
 /// Takes the words after `at T press` or `at T release`.
 fn take_key(
     tree: &Tree<15>,
     draft: &mut ScriptDraft,
-    line: u64,
     press: bool,
-    time: &[u8],
-    rest: Option<&[u8]>,
+    words: EventWords<'_>,
 ) -> Result<(), ScriptLineError>
-    ensures gives { GivesNotes (notes_of draft.new) result (key_words tree.now (notes_of draft.old) line press time.now (words_after (option_copied rest.entry))) }
+    ensures gives { GivesNotes (notes_of draft.new) result (key_words tree.now (notes_of draft.old) words.entry.line press words.entry.time.now (words_after (option_copied words.entry.rest))) }
     ensures kept { OnErr result (notes_of draft.new ≡ notes_of draft.old) }
 {
-    let Some(rest) = rest else {
+    let Some(rest) = words.rest else {
         return Err(ScriptLineError::Fault(at_word(3, ScriptCause::Word)));
     };
     let (device, rest) = first_word(rest);
@@ -310,13 +315,13 @@ fn take_key(
         Ok(key) => key,
         Err(fault) => return Err(ScriptLineError::Fault(fault)),
     };
-    let Some(time) = time_in(time) else {
+    let Some(time) = time_in(words.time) else {
         return Err(ScriptLineError::Fault(at_word(1, ScriptCause::Number)));
     };
     let Some(device) = tree.device_named(device) else {
         return Err(ScriptLineError::Fault(at_word(3, ScriptCause::Name)));
     };
-    schedule(draft, line, time, Event::Key { device, key, press })
+    schedule(draft, words.line, time, Event::Key { device, key, press })
 }
 
 fn schedule_act(
@@ -345,36 +350,34 @@ fn schedule_act(
 fn take_hold(
     tree: &Tree<15>,
     draft: &mut ScriptDraft,
-    line: u64,
-    time: &[u8],
-    rest: Option<&[u8]>,
+    words: EventWords<'_>,
 ) -> Result<(), ScriptLineError>
-    ensures gives { GivesNotes (notes_of draft.new) result (hold_words tree.now (notes_of draft.old) line time.now (length (words_after (option_copied rest.entry))) (two_of (words_after (option_copied rest.entry)))) }
+    ensures gives { GivesNotes (notes_of draft.new) result (hold_words tree.now (notes_of draft.old) words.entry.line words.entry.time.now (length (words_after (option_copied words.entry.rest))) (two_of (words_after (option_copied words.entry.rest)))) }
     ensures kept { OnErr result (notes_of draft.new ≡ notes_of draft.old) }
 {
-    let Some((device, addresses)) = two_words(rest) else {
-        return Err(ScriptLineError::Fault(misfit(3, rest, 2)));
+    let Some((device, addresses)) = two_words(words.rest) else {
+        return Err(ScriptLineError::Fault(misfit(3, words.rest, 2)));
     };
     let act = hold_in(addresses);
-    schedule_act(draft, line, act, time_in(time), tree.device_named(device))
+    let time = time_in(words.time);
+    schedule_act(draft, words.line, act, time, tree.device_named(device))
 }
 
 /// Takes the word after `at T drop`.
 fn take_drop(
     tree: &Tree<15>,
     draft: &mut ScriptDraft,
-    line: u64,
-    time: &[u8],
-    rest: Option<&[u8]>,
+    words: EventWords<'_>,
 ) -> Result<(), ScriptLineError>
-    ensures gives { GivesNotes (notes_of draft.new) result (drop_words tree.now (notes_of draft.old) line time.now (length (words_after (option_copied rest.entry))) (one_of (words_after (option_copied rest.entry)))) }
+    ensures gives { GivesNotes (notes_of draft.new) result (drop_words tree.now (notes_of draft.old) words.entry.line words.entry.time.now (length (words_after (option_copied words.entry.rest))) (one_of (words_after (option_copied words.entry.rest)))) }
     ensures kept { OnErr result (notes_of draft.new ≡ notes_of draft.old) }
 {
-    let Some(device) = one_word(rest) else {
-        return Err(ScriptLineError::Fault(misfit(3, rest, 1)));
+    let Some(device) = one_word(words.rest) else {
+        return Err(ScriptLineError::Fault(misfit(3, words.rest, 1)));
     };
     let act = Some(Act::Empty);
-    schedule_act(draft, line, act, time_in(time), tree.device_named(device))
+    let time = time_in(words.time);
+    schedule_act(draft, words.line, act, time, tree.device_named(device))
 }
 
 /// The frame of a text, or why it is none's.
@@ -449,14 +452,12 @@ fn schedule_frame(
 fn take_send(
     tree: &Tree<15>,
     draft: &mut ScriptDraft,
-    line: u64,
-    time: &[u8],
-    rest: Option<&[u8]>,
+    words: EventWords<'_>,
 ) -> Result<(), ScriptLineError>
-    ensures gives { Gives (notes_of draft.new) result (IsSendRead tree.now (notes_of draft.old) line time.now (words_after (option_copied rest.entry))) }
+    ensures gives { Gives (notes_of draft.new) result (IsSendRead tree.now (notes_of draft.old) words.entry.line words.entry.time.now (words_after (option_copied words.entry.rest))) }
     ensures kept { OnErr result (notes_of draft.new ≡ notes_of draft.old) }
 {
-    let Some(rest) = rest else {
+    let Some(rest) = words.rest else {
         return Err(ScriptLineError::Fault(at_word(3, ScriptCause::Word)));
     };
     let (name, frame) = first_word(rest);
@@ -467,8 +468,8 @@ fn take_send(
     let read = frame_in(draft.alloc, frame)?;
     schedule_frame(
         draft,
-        line,
-        time_in(time),
+        words.line,
+        time_in(words.time),
         tree.device_named(name),
         header_names(tree, header),
         read,
@@ -632,26 +633,24 @@ fn take_end(draft: &mut ScriptDraft, rest: Option<&[u8]>) -> Result<(), ScriptLi
 fn take_words(
     tree: &Tree<15>,
     draft: &mut ScriptDraft,
-    line: u64,
-    time: &[u8],
     verb: &[u8],
-    rest: Option<&[u8]>,
+    words: EventWords<'_>,
 ) -> Result<(), ScriptLineError>
-    ensures gives { GivesNotes (notes_of draft.new) result (event_words tree.now (notes_of draft.old) line time.now verb.now (words_after (option_copied rest.entry))) }
+    ensures gives { GivesNotes (notes_of draft.new) result (event_words tree.now (notes_of draft.old) words.entry.line words.entry.time.now verb.now (words_after (option_copied words.entry.rest))) }
     ensures kept { OnErr result (notes_of draft.new ≡ notes_of draft.old) }
 {
     if verb == b"plug".as_slice() {
-        take_plug(tree, draft, line, time, rest)
+        take_plug(tree, draft, words)
     } else if verb == b"unplug".as_slice() {
-        take_unplug(tree, draft, line, time, rest)
+        take_unplug(tree, draft, words)
     } else if verb == b"press".as_slice() {
-        take_key(tree, draft, line, true, time, rest)
+        take_key(tree, draft, true, words)
     } else if verb == b"release".as_slice() {
-        take_key(tree, draft, line, false, time, rest)
+        take_key(tree, draft, false, words)
     } else if verb == b"hold".as_slice() {
-        take_hold(tree, draft, line, time, rest)
+        take_hold(tree, draft, words)
     } else if verb == b"drop".as_slice() {
-        take_drop(tree, draft, line, time, rest)
+        take_drop(tree, draft, words)
     } else {
         Err(ScriptLineError::Fault(at_word(2, ScriptCause::Word)))
     }
@@ -675,10 +674,11 @@ fn take_event(
         return Err(ScriptLineError::Fault(at_word(2, ScriptCause::Word)));
     };
     let (verb, rest) = first_word(rest);
+    let words = EventWords { line, time, rest };
     if verb == b"send".as_slice() {
-        take_send(tree, draft, line, time, rest)
+        take_send(tree, draft, words)
     } else {
-        take_words(tree, draft, line, time, verb, rest)
+        take_words(tree, draft, verb, words)
     }
 }
 

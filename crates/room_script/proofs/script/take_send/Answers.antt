@@ -10,7 +10,7 @@ returns-clause-gives c =
     let name = c.first_word.result.0.now in
     let frame = c.in-Some-frame.frame.now in
     let words = rw c.in-Some-frame.is at c.first_word.ensures in
-    let after : words_after (option_copied c.args.rest) ≡ name ∷ words_of frame = rw c.in-Some.is words in
-    gives_send c.args.tree.now (notes_of c.args.draft.now) (notes_of c.schedule_frame.new.draft) c.args.line c.args.time.now name frame c.first_word-2.result.0.now (words_after (option_copied c.first_word-2.result.1)) _
+    let after : words_after (option_copied c.args.words.rest) ≡ name ∷ words_of frame = rw c.in-Some.is words in
+    gives_send c.args.tree.now (notes_of c.args.draft.now) (notes_of c.schedule_frame.new.draft) c.args.words.line c.args.words.time.now name frame c.first_word-2.result.0.now (words_after (option_copied c.first_word-2.result.1)) _
     c.schedule_frame.result c.time_in.result c.device_named.result c.header_names.result c.in_ok-read.read after c.first_word-2.ensures c.time_in.ensures c.device_named.ensures.value c.header_names.ensures c.in_ok-read.ensures
     c.schedule_frame.ensures.gives

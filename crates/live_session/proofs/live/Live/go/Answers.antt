@@ -1,9 +1,10 @@
 use Rattle.std.proofs.Common.{◌≡◌, ◌∙◌, ◌+◌, ℕ, List, length, drop, ap, sym, subst}
 use Rattle.text_core.specs.Adds.{Adds, Tally}
-use Rattle.room_script.specs.Script.{IsSchedule, last_time, notes_of}
+use Rattle.room_script.specs.Script.{IsSchedule, last_time}
 use Rattle.room_script.specs.declared.script.TimedEvent.{TimedEvent}
 use Rattle.room_run.specs.Run.{Config}
 use Rattle.live_session.specs.Session.{Session, span_of}
+use Rattle.live_session.specs.Live.{session_of}
 use Rattle.live_session.specs.Taken.{IsGone}
 use Rattle.live_session.proofs.Going.{Added, all_added, drop_schedule, drop_drop, gone_is, told_from, told_text}
 use Rattle.live_session.proofs.HasText.{has_text}
@@ -24,16 +25,7 @@ pub returns : goal.returns
 returns g c =
     let here = c.self.inside in
     let turns = c.take_turns-on in
-    let s : Session = record {
-      edid = here.edid.value;
-      tree = here.tree;
-      notes = notes_of here.draft;
-      horizon = here.horizon;
-      lines = here.lines;
-      place = record { net = here.net; events = c.events_after.result.now; totals = here.totals };
-      edges = here.edges;
-      since = here.since;
-    } in
+    let s : Session = record (session_of here) { place = record { net = here.net; events = c.events_after.result.now; totals = here.totals } } in
     let from : s ≡ c.args.self.now =
     ap (λ (es : List TimedEvent). let u : Session = record s { place = record { net = here.net; events = es; totals = here.totals } } in u) c.events_after.ensures ∙ c.self.view_is in
     let events : drop (here.applied + turns.new.applied) here.draft.events.items ≡ drop turns.new.applied c.events_after.result.now =
