@@ -43,7 +43,8 @@ pub fn add_run<'a, S: Sink, L: LineObjects + Drop, W: Wire>(
     ensures { IfSome result.totals (λ totals. AreShown (L.is objects.entry.lines) (IsRunText (Trace objects.entry.passed.edid.now) end (start net.old events.now))
         objects.entry.text result.text totals) }
 {
-    let _ = write_ports(&mut objects.held, 0, objects.passed.edid, net.tree(), &[]);
+    let edid = objects.passed.edid;
+    let _ = write_ports(&mut objects.held, 0, edid, net.tree(), &[]);
     objects.pass();
     let totals = run_turns(net, events, end, &mut objects);
     let _ = write_last_lines(&mut objects.held, net.devices(), end);

@@ -1,11 +1,11 @@
 -- What is put, and how it is handed on.
-use Rattle.std.proofs.Common.{◌≡◌, ℕ, Bool, true, false, List, [], length, take, Option, Some, None, Result, Ok, Err, IsErr, IfErr, refl, sym, subst, ◌∙◌, arith}
+use Rattle.std.proofs.Common.{◌≡◌, ℕ, Bool, true, false, List, length, take, Option, Some, None, Result, Ok, Err, IsErr, IfErr, refl, sym, subst, ◌∙◌, arith}
 use Rattle.std.specs.Io.KnownBytes.{Appends, Keeps}
 use Rattle.std.proofs.Math.Seq.{take_all}
 use Rattle.std.proofs.lemmas.Bool.{false≢true}
 use Rattle.text_core.specs.declared.buffered.Buffered.{Buffered}
 use Rattle.text_core.specs.declared.sink.WriteFault.{WriteFault}
-use Rattle.text_core.specs.Buffered.{handed_count, pending}
+use Rattle.text_core.specs.Buffered.{handed_count}
 use Rattle.text_core.specs.Cut.{CutOff}
 use Rattle.live_dialogue.specs.declared.error.SessionError.{SessionError}
 use Rattle.live_dialogue.specs.declared.error.SessionError.TheVariants.{Read, TooLong, NoScriptLine, Topology, Edid, Script, Write, Memory}

@@ -1,4 +1,4 @@
-use Rattle.std.proofs.Common.{rules, ◌≡◌, ◌∙◌, ℕ, List, max, refl, ap, subst}
+use Rattle.std.proofs.Common.{rules, ◌≡◌, ◌∙◌, ℕ, List, max, ap, subst}
 use Rattle.std.specs.List.{flat_map}
 use Rattle.text_core.specs.Adds.{Adds}
 use Rattle.device_core.specs.State.{State}
