@@ -4,8 +4,9 @@ use Rattle.std.proofs.lemmas.Bool.{leb-true}
 use borrow.Author.Tests.{tests}
 use Rattle.edid_text_lines.specs.Text.{word_text, fields_text, line_text}
 use Rattle.edid_text_lines.specs.declared.line.Line.{Line}
+use Rattle.edid_cta.specs.declared.block.BlockKind.TheVariants.{Tag0, Audio, Video, Vendor, Speakers, Tag5, Tag6, Extended}
 use Rattle.edid_text_lines.specs.declared.line.Keyword.{Keyword}
-use Rattle.edid_text_lines.specs.declared.line.Keyword.TheVariants.{Edid, Maker, Product, Serial, Made, Input, Size, Gamma, Features, Chroma, Established, Standard, Timing, Name, Text, SerialText, Range, Dummy, Raw, Cta, CtaNone, Tag0, Audio, Video, Vendor, Speakers, Tag5, Tag6, Extended, Hdmi, Tail, Ext}
+use Rattle.edid_text_lines.specs.declared.line.Keyword.TheVariants.{Edid, Maker, Product, Serial, Made, Input, Size, Gamma, Features, Chroma, Established, Standard, Timing, Name, Text, SerialText, Range, Dummy, Raw, Cta, CtaNone, Block, Hdmi, Tail, Ext}
 use Rattle.edid_core.specs.declared.edid.Edid.{Edid as WholeEdid}
 use Rattle.edid_texts.specs.Cut.{lines_with_feeds, has_no_feed, AreLines}
 use Rattle.edid_texts.specs.Lines.{edid_lines, edid_text}
@@ -73,14 +74,14 @@ word_plain Dummy rest = refl
 word_plain Raw rest = refl
 word_plain Cta rest = refl
 word_plain CtaNone rest = refl
-word_plain Tag0 rest = refl
-word_plain Audio rest = refl
-word_plain Video rest = refl
-word_plain Vendor rest = refl
-word_plain Speakers rest = refl
-word_plain Tag5 rest = refl
-word_plain Tag6 rest = refl
-word_plain Extended rest = refl
+word_plain (Block Tag0) rest = refl
+word_plain (Block Audio) rest = refl
+word_plain (Block Video) rest = refl
+word_plain (Block Vendor) rest = refl
+word_plain (Block Speakers) rest = refl
+word_plain (Block Tag5) rest = refl
+word_plain (Block Tag6) rest = refl
+word_plain (Block Extended) rest = refl
 word_plain Hdmi rest = refl
 word_plain Tail rest = refl
 word_plain Ext rest = refl

@@ -1,11 +1,13 @@
 -- An EDID's text, and below each line what it means (own: the texts; what they report of is in the crates of the meanings).
 use Rattle.std.specs.Prelude.{ℕ, ◌==◌, if◌then◌else◌, Bool, not, List, [], ◌∷◌, ◌++◌, filter, slice_index, flat_map}
 use Rattle.edid_base.specs.declared.base.Base.{Base}
+use Rattle.edid_cta.specs.declared.block.BlockKind.{BlockKind}
+use Rattle.edid_cta.specs.declared.block.BlockKind.TheVariants.{Audio, Video, Speakers, Vendor, Extended}
 use Rattle.edid_cta.specs.declared.raw.Ext.{Ext as Extension}
 use Rattle.edid_text_lines.specs.Text.{line_text}
 use Rattle.edid_text_lines.specs.declared.line.Line.{Line}
 use Rattle.edid_text_lines.specs.declared.line.Keyword.{Keyword}
-use Rattle.edid_text_lines.specs.declared.line.Keyword.TheVariants.{Input, Features, Established, Range, Raw, Cta, CtaNone, Audio, Video, Speakers, Vendor, Extended, Ext, Made, Size, Gamma, Chroma, Standard}
+use Rattle.edid_text_lines.specs.declared.line.Keyword.TheVariants.{Input, Features, Established, Range, Raw, Cta, CtaNone, Block, Ext, Made, Size, Gamma, Chroma, Standard}
 use Rattle.edid_text_lines.specs.declared.line.Fields.{Fields}
 use Rattle.edid_text_lines.specs.declared.line.Fields.TheVariants.{Numbers, Timed, Bytes, Address}
 use Rattle.edid_texts.specs.Cut.{lines_with_feeds}
@@ -40,6 +42,15 @@ section_meanings bytes = if slice_index bytes 0 == 0x70 then displayid_lines byt
 abbrev pub ext_lines : List ℕ → List (List ℕ)
 ext_lines bytes = ext_meanings bytes ++ section_meanings bytes
 
+-- of a data block of this kind
+abbrev pub block_meanings : List ℕ → BlockKind → List ℕ → List (List ℕ)
+block_meanings svds Audio bytes = audio_meanings bytes
+block_meanings svds Video bytes = video_meanings bytes
+block_meanings svds Speakers bytes = speaker_meanings bytes
+block_meanings svds Vendor bytes = vendor_meanings bytes
+block_meanings svds Extended bytes = extended_meanings svds bytes
+block_meanings svds kind bytes = []
+
 -- of bytes after a word
 abbrev pub bytes_meanings : Base → List ℕ → Keyword → List ℕ → List (List ℕ)
 bytes_meanings b svds Input bytes = input_meanings b.revision bytes
@@ -49,11 +60,7 @@ bytes_meanings b svds Range bytes = range_meanings b.revision b.features bytes
 bytes_meanings b svds Raw bytes = raw_lines bytes
 bytes_meanings b svds Cta bytes = flag_meanings bytes
 bytes_meanings b svds CtaNone bytes = flag_meanings bytes
-bytes_meanings b svds Audio bytes = audio_meanings bytes
-bytes_meanings b svds Video bytes = video_meanings bytes
-bytes_meanings b svds Speakers bytes = speaker_meanings bytes
-bytes_meanings b svds Vendor bytes = vendor_meanings bytes
-bytes_meanings b svds Extended bytes = extended_meanings svds bytes
+bytes_meanings b svds (Block kind) bytes = block_meanings svds kind bytes
 bytes_meanings b svds Ext bytes = ext_lines bytes
 bytes_meanings b svds word bytes = []
 

@@ -1,11 +1,12 @@
 //! What stands below a line. meaning_words says how the meaning of one more kind of line is added; here it is an arm of
-//! `append_bytes`, and the same arm of `bytes_meanings`.
+//! `append_bytes`, and the same arm of `bytes_meanings`; of a kind of data block, of `append_block` and `block_meanings`.
 ghost use Rattle.std.specs.Prelude.{◌≡◌, ◌≤◌, ◌++◌, length, flat_map};
 ghost use Rattle.arrayvec.specs.ArrayVec.{array_vec_len};
 ghost use Rattle.meaning_words.specs.Notes.{own_line};
-ghost use Rattle.conversion_notes.specs.Meanings.{bytes_meanings, numbers_meanings, fields_meanings, line_with_meaning, ext_lines, raw_lines, section_meanings};
+ghost use Rattle.conversion_notes.specs.Meanings.{block_meanings, bytes_meanings, numbers_meanings, fields_meanings, line_with_meaning, ext_lines, raw_lines, section_meanings};
 
 use edid_base::{Base, append};
+use edid_cta::BlockKind;
 use edid_text_lines::{Fields, Keyword, Line};
 use meaning_base::{
     append_chroma, append_established, append_ext, append_features, append_gamma, append_input,
@@ -50,6 +51,22 @@ fn append_section(page: &mut Page, bytes: &[u8])
     }
 }
 
+/// Appends what a data block means.
+fn append_block(page: &mut Page, codes: &[u8], kind: BlockKind, bytes: &[u8])
+    requires few { length bytes.now ≤ 128 }
+    requires room { array_vec_len page.old ≤ 300 }
+    ensures { page.new.items ≡ page.old.items ++ flat_map own_line (block_meanings codes.now kind bytes.now) }
+{
+    match kind {
+        BlockKind::Audio => append_audio(page, bytes),
+        BlockKind::Video => append_video(page, bytes),
+        BlockKind::Speakers => append_speakers(page, bytes),
+        BlockKind::Vendor => append_vendor(page, bytes),
+        BlockKind::Extended => append_extended(page, codes, bytes),
+        _ => {}
+    }
+}
+
 /// Appends what bytes after a word mean.
 fn append_bytes(page: &mut Page, base: &Base, codes: &[u8], word: Keyword, bytes: &[u8])
     requires few { length bytes.now ≤ 128 }
@@ -63,11 +80,7 @@ fn append_bytes(page: &mut Page, base: &Base, codes: &[u8], word: Keyword, bytes
         Keyword::Range => append_range(page, base.revision, base.features, bytes),
         Keyword::Raw => append_raw_lines(page, bytes),
         Keyword::Cta | Keyword::CtaNone => append_flags(page, bytes),
-        Keyword::Audio => append_audio(page, bytes),
-        Keyword::Video => append_video(page, bytes),
-        Keyword::Speakers => append_speakers(page, bytes),
-        Keyword::Vendor => append_vendor(page, bytes),
-        Keyword::Extended => append_extended(page, codes, bytes),
+        Keyword::Block(kind) => append_block(page, codes, kind, bytes),
         Keyword::Ext => append_ext_lines(page, bytes),
         _ => {}
     }

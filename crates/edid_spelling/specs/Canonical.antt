@@ -6,10 +6,11 @@ use Rattle.text_core.specs.Lines.{lines_of}
 use Rattle.text_core.specs.Phys.{is_hex_digit, phys_of}
 use Rattle.text_core.specs.Words.{words_of}
 use Rattle.text_core.specs.declared.phys.Phys.{Phys}
+use Rattle.edid_cta.specs.declared.block.BlockKind.{BlockKind}
+use Rattle.edid_cta.specs.declared.block.BlockKind.TheVariants.{Audio, Speakers, Video}
 use Rattle.edid_text_lines.specs.Text.{line_text}
 use Rattle.edid_text_lines.specs.declared.line.Fields.TheVariants.{Address, Bytes, Timed as OfTiming}
-use Rattle.edid_text_lines.specs.declared.line.Keyword.{Keyword}
-use Rattle.edid_text_lines.specs.declared.line.Keyword.TheVariants.{Audio, Hdmi, Speakers, Timing, Video}
+use Rattle.edid_text_lines.specs.declared.line.Keyword.TheVariants.{Block, Hdmi, Timing}
 use Rattle.edid_text_lines.specs.declared.line.Line.{Line}
 use Rattle.edid_spelling.specs.Audio.{descriptors_of}
 use Rattle.edid_spelling.specs.Hdmi.{hdmi_of}
@@ -24,10 +25,10 @@ is_hex [] = true
 is_hex (word ∷ []) = bytes_eq word (codes "-") || ((length word % 2 == 0) && list_all is_hex_digit word)
 is_hex (word ∷ next ∷ words) = false
 
--- the line with these bytes in hex
-abbrev pub with_bytes : Keyword → Result (List ℕ) ℕ → Result Line ℕ
-with_bytes word (Ok payload) = Ok (record { word = word; fields = Bytes (record { items = payload }) })
-with_bytes word (Err number) = Err number
+-- the line of a data block with these bytes in hex
+abbrev pub with_bytes : BlockKind → Result (List ℕ) ℕ → Result Line ℕ
+with_bytes kind (Ok payload) = Ok (record { word = Block kind; fields = Bytes (record { items = payload }) })
+with_bytes kind (Err number) = Err number
 
 -- the physical address, and hex or words: of hex the line stays as it is
 abbrev pub addressed : Option Phys → Result (List ℕ) ℕ → Result Line ℕ

@@ -5,7 +5,7 @@ ghost use Rattle.std.specs.Option.{option_copied};
 ghost use Rattle.text_core.specs.Phys.{is_hex_digit, phys_of};
 ghost use Rattle.text_core.specs.Words.{words_after};
 ghost use Rattle.edid_spelling.specs.Canonical.{addressed, canonical_line, canonical_text, doubts, hdmi_line, in_words, is_hex, refused_line, said_after, timing_line, with_bytes, with_timing};
-ghost use Rattle.edid_text_lines.specs.declared.line.Keyword.{Keyword as WordValue};
+ghost use Rattle.edid_cta.specs.declared.block.BlockKind.{BlockKind as KindValue};
 ghost use Rattle.edid_spelling.specs.Audio.{descriptors_of};
 ghost use Rattle.edid_spelling.specs.Hdmi.{hdmi_of};
 ghost use Rattle.edid_spelling.specs.Speakers.{speakers_of};
@@ -19,6 +19,7 @@ use crate::speakers::speakers_in;
 use crate::timing::timing_in;
 use crate::video::codes_in;
 use arrayvec::ArrayVec;
+use edid_cta::BlockKind;
 use edid_text_lines::{Fields, Keyword, Line};
 use std::alloc::{AllocError, Global};
 use text_core::{Phys, before, first_line, first_word, is_hex_digit, len_before};
@@ -48,11 +49,11 @@ fn is_hex(rest: Option<&[u8]>) -> bool
 
 // The line of a video block.
 fn video_line(rest: Option<&[u8]>) -> Result<Line, usize>
-    ensures { result ≡ with_bytes WordValue.Video (codes_of (words_after (option_copied rest.entry))) }
+    ensures { result ≡ with_bytes KindValue.Video (codes_of (words_after (option_copied rest.entry))) }
 {
     match codes_in(rest) {
         Ok(bytes) => Ok(Line {
-            word: Keyword::Video,
+            word: Keyword::Block(BlockKind::Video),
             fields: Fields::Bytes(bytes),
         }),
         Err(number) => Err(number),
@@ -61,11 +62,11 @@ fn video_line(rest: Option<&[u8]>) -> Result<Line, usize>
 
 // The line of an audio block.
 fn audio_line(rest: Option<&[u8]>) -> Result<Line, usize>
-    ensures { result ≡ with_bytes WordValue.Audio (descriptors_of (words_after (option_copied rest.entry))) }
+    ensures { result ≡ with_bytes KindValue.Audio (descriptors_of (words_after (option_copied rest.entry))) }
 {
     match descriptors_in(rest) {
         Ok(bytes) => Ok(Line {
-            word: Keyword::Audio,
+            word: Keyword::Block(BlockKind::Audio),
             fields: Fields::Bytes(bytes),
         }),
         Err(number) => Err(number),
@@ -125,11 +126,11 @@ fn timing_line(rest: Option<&[u8]>) -> Result<Line, usize>
 
 // The line of a speaker block.
 fn speaker_line(rest: Option<&[u8]>) -> Result<Line, usize>
-    ensures { result ≡ with_bytes WordValue.Speakers (speakers_of (words_after (option_copied rest.entry))) }
+    ensures { result ≡ with_bytes KindValue.Speakers (speakers_of (words_after (option_copied rest.entry))) }
 {
     match speakers_in(rest) {
         Ok(bytes) => Ok(Line {
-            word: Keyword::Speakers,
+            word: Keyword::Block(BlockKind::Speakers),
             fields: Fields::Bytes(bytes),
         }),
         Err(number) => Err(number),

@@ -2,6 +2,7 @@
 use Rattle.std.proofs.Common.{Option, Some, ◌≡◌, ℕ, ◌<◌, true, cond, List, [], ◌∷◌, ◌++◌, ◌-◌, length, take, get_or, ap, arith, refl, sym, ◌∙◌, codes, flat_map, length-append, eq-eqb, append_assoc}
 use Rattle.std.specs.Str.{bytes_eq}
 use Rattle.hex.specs.Hex.{encode_lower}
+use Rattle.edid_cta.specs.declared.block.BlockKind.TheVariants.{Tag0, Audio, Video, Vendor, Speakers, Tag5, Tag6, Extended}
 use Rattle.edid_text_lines.specs.Text.{word_text, fields_text, number_text}
 use Rattle.edid_text_lines.specs.Formed.{is_spaceless, BeginsSpaced}
 use Rattle.edid_text_lines.specs.declared.line.TheConstants.{WORDS}
@@ -9,7 +10,7 @@ use Rattle.edid_text_lines.specs.declared.line.Fields.{Fields}
 use Rattle.edid_text_lines.specs.declared.line.Fields.TheVariants.{Nothing, Letters, Numbers, Timed, Bytes, Address, Quoted}
 use Rattle.edid_text_lines.specs.declared.line.Line.{Line}
 use Rattle.edid_text_lines.specs.declared.line.Keyword.{Keyword}
-use Rattle.edid_text_lines.specs.declared.line.Keyword.TheVariants.{Edid, Maker, Product, Serial, Made, Input, Size, Gamma, Features, Chroma, Established, Standard, Timing, Name, Text, SerialText, Range, Dummy, Raw, Cta, CtaNone, Tag0, Audio, Video, Vendor, Speakers, Tag5, Tag6, Extended, Hdmi, Tail, Ext}
+use Rattle.edid_text_lines.specs.declared.line.Keyword.TheVariants.{Edid, Maker, Product, Serial, Made, Input, Size, Gamma, Features, Chroma, Established, Standard, Timing, Name, Text, SerialText, Range, Dummy, Raw, Cta, CtaNone, Block, Hdmi, Tail, Ext}
 use Rattle.edid_text_lines.proofs.Words.{take_front}
 
 abbrev word_at : List ℕ → Keyword
@@ -35,14 +36,14 @@ word_at w =
     cond (bytes_eq w (codes "raw")) Raw (
     cond (bytes_eq w (codes "cta")) Cta (
     cond (bytes_eq w (codes "cta-none")) CtaNone (
-    cond (bytes_eq w (codes "tag0")) Tag0 (
-    cond (bytes_eq w (codes "audio")) Audio (
-    cond (bytes_eq w (codes "video")) Video (
-    cond (bytes_eq w (codes "vendor")) Vendor (
-    cond (bytes_eq w (codes "speakers")) Speakers (
-    cond (bytes_eq w (codes "tag5")) Tag5 (
-    cond (bytes_eq w (codes "tag6")) Tag6 (
-    cond (bytes_eq w (codes "extended")) Extended (
+    cond (bytes_eq w (codes "tag0")) (Block Tag0) (
+    cond (bytes_eq w (codes "audio")) (Block Audio) (
+    cond (bytes_eq w (codes "video")) (Block Video) (
+    cond (bytes_eq w (codes "vendor")) (Block Vendor) (
+    cond (bytes_eq w (codes "speakers")) (Block Speakers) (
+    cond (bytes_eq w (codes "tag5")) (Block Tag5) (
+    cond (bytes_eq w (codes "tag6")) (Block Tag6) (
+    cond (bytes_eq w (codes "extended")) (Block Extended) (
     cond (bytes_eq w (codes "hdmi")) Hdmi (
     cond (bytes_eq w (codes "tail")) Tail Ext))))))))))))))))))))))))))))))
 
@@ -68,14 +69,14 @@ word_again Dummy = refl
 word_again Raw = refl
 word_again Cta = refl
 word_again CtaNone = refl
-word_again Tag0 = refl
-word_again Audio = refl
-word_again Video = refl
-word_again Vendor = refl
-word_again Speakers = refl
-word_again Tag5 = refl
-word_again Tag6 = refl
-word_again Extended = refl
+word_again (Block Tag0) = refl
+word_again (Block Audio) = refl
+word_again (Block Video) = refl
+word_again (Block Vendor) = refl
+word_again (Block Speakers) = refl
+word_again (Block Tag5) = refl
+word_again (Block Tag6) = refl
+word_again (Block Extended) = refl
 word_again Hdmi = refl
 word_again Tail = refl
 word_again Ext = refl
@@ -105,14 +106,14 @@ number_of Dummy = 17
 number_of Raw = 18
 number_of Cta = 19
 number_of CtaNone = 20
-number_of Tag0 = 21
-number_of Audio = 22
-number_of Video = 23
-number_of Vendor = 24
-number_of Speakers = 25
-number_of Tag5 = 26
-number_of Tag6 = 27
-number_of Extended = 28
+number_of (Block Tag0) = 21
+number_of (Block Audio) = 22
+number_of (Block Video) = 23
+number_of (Block Vendor) = 24
+number_of (Block Speakers) = 25
+number_of (Block Tag5) = 26
+number_of (Block Tag6) = 27
+number_of (Block Extended) = 28
 number_of Hdmi = 29
 number_of Tail = 30
 number_of Ext = 31
@@ -139,14 +140,14 @@ listed Dummy = (omega arith, refl)
 listed Raw = (omega arith, refl)
 listed Cta = (omega arith, refl)
 listed CtaNone = (omega arith, refl)
-listed Tag0 = (omega arith, refl)
-listed Audio = (omega arith, refl)
-listed Video = (omega arith, refl)
-listed Vendor = (omega arith, refl)
-listed Speakers = (omega arith, refl)
-listed Tag5 = (omega arith, refl)
-listed Tag6 = (omega arith, refl)
-listed Extended = (omega arith, refl)
+listed (Block Tag0) = (omega arith, refl)
+listed (Block Audio) = (omega arith, refl)
+listed (Block Video) = (omega arith, refl)
+listed (Block Vendor) = (omega arith, refl)
+listed (Block Speakers) = (omega arith, refl)
+listed (Block Tag5) = (omega arith, refl)
+listed (Block Tag6) = (omega arith, refl)
+listed (Block Extended) = (omega arith, refl)
 listed Hdmi = (omega arith, refl)
 listed Tail = (omega arith, refl)
 listed Ext = (omega arith, refl)
@@ -173,14 +174,14 @@ solid Dummy = refl
 solid Raw = refl
 solid Cta = refl
 solid CtaNone = refl
-solid Tag0 = refl
-solid Audio = refl
-solid Video = refl
-solid Vendor = refl
-solid Speakers = refl
-solid Tag5 = refl
-solid Tag6 = refl
-solid Extended = refl
+solid (Block Tag0) = refl
+solid (Block Audio) = refl
+solid (Block Video) = refl
+solid (Block Vendor) = refl
+solid (Block Speakers) = refl
+solid (Block Tag5) = refl
+solid (Block Tag6) = refl
+solid (Block Extended) = refl
 solid Hdmi = refl
 solid Tail = refl
 solid Ext = refl

@@ -3,7 +3,7 @@ use Rattle.std.specs.Prelude.{◌≡◌, ℕ, ◌<◌, ◌≤◌, ◌^◌, ◌==
 use Rattle.std.specs.List.{list_all}
 use Rattle.edid_base.specs.Bytes.{are_bytes}
 use Rattle.edid_text_lines.specs.declared.line.Keyword.{Keyword}
-use Rattle.edid_text_lines.specs.declared.line.Keyword.TheVariants.{Edid, Maker, Product, Serial, Made, Input, Size, Gamma, Features, Chroma, Established, Standard, Timing, Name, Text, SerialText, Range, Dummy, Raw, Cta, CtaNone, Tag0, Audio, Video, Vendor, Speakers, Tag5, Tag6, Extended, Hdmi, Tail, Ext}
+use Rattle.edid_text_lines.specs.declared.line.Keyword.TheVariants.{Edid, Maker, Product, Serial, Made, Input, Size, Gamma, Features, Chroma, Established, Standard, Timing, Name, Text, SerialText, Range, Dummy, Raw, Cta, CtaNone, Block, Hdmi, Tail, Ext}
 use Rattle.edid_text_lines.specs.declared.line.Fields.{Fields}
 use Rattle.edid_text_lines.specs.declared.line.Fields.TheVariants.{Nothing, Letters, Numbers, Timed, Bytes, Address, Quoted}
 use Rattle.edid_text_lines.specs.declared.line.LineContent.{LineContent}
@@ -45,14 +45,7 @@ form_of Dummy = Empty
 form_of Raw = Hex
 form_of Cta = Hex
 form_of CtaNone = Hex
-form_of Tag0 = Hex
-form_of Audio = Hex
-form_of Video = Hex
-form_of Vendor = Hex
-form_of Speakers = Hex
-form_of Tag5 = Hex
-form_of Tag6 = Hex
-form_of Extended = Hex
+form_of (Block kind) = Hex
 form_of Hdmi = OfAddress
 form_of Tail = Hex
 form_of Ext = Hex

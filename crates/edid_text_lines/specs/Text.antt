@@ -3,11 +3,24 @@ use Rattle.std.specs.Prelude.{ℕ, List, [], ◌∷◌, ◌++◌, codes, flat_ma
 use Rattle.std.specs.Fmt.{decimal}
 use Rattle.hex.specs.Hex.{encode_lower}
 use Rattle.text_core.specs.Piece.{phys_text}
+use Rattle.edid_cta.specs.declared.block.BlockKind.{BlockKind}
+use Rattle.edid_cta.specs.declared.block.BlockKind.TheVariants.{Tag0, Audio, Video, Vendor, Speakers, Tag5, Tag6, Extended}
 use Rattle.edid_text_lines.specs.declared.line.Keyword.{Keyword}
-use Rattle.edid_text_lines.specs.declared.line.Keyword.TheVariants.{Edid, Maker, Product, Serial, Made, Input, Size, Gamma, Features, Chroma, Established, Standard, Timing, Name, Text, SerialText, Range, Dummy, Raw, Cta, CtaNone, Tag0, Audio, Video, Vendor, Speakers, Tag5, Tag6, Extended, Hdmi, Tail, Ext}
+use Rattle.edid_text_lines.specs.declared.line.Keyword.TheVariants.{Edid, Maker, Product, Serial, Made, Input, Size, Gamma, Features, Chroma, Established, Standard, Timing, Name, Text, SerialText, Range, Dummy, Raw, Cta, CtaNone, Block, Hdmi, Tail, Ext}
 use Rattle.edid_text_lines.specs.declared.line.Fields.{Fields}
 use Rattle.edid_text_lines.specs.declared.line.Fields.TheVariants.{Nothing, Letters, Numbers, Timed, Bytes, Address, Quoted}
 use Rattle.edid_text_lines.specs.declared.line.Line.{Line}
+
+-- the word of a kind of data block
+abbrev pub kind_text : BlockKind → List ℕ
+kind_text Tag0 = codes "tag0"
+kind_text Audio = codes "audio"
+kind_text Video = codes "video"
+kind_text Vendor = codes "vendor"
+kind_text Speakers = codes "speakers"
+kind_text Tag5 = codes "tag5"
+kind_text Tag6 = codes "tag6"
+kind_text Extended = codes "extended"
 
 abbrev pub word_text : Keyword → List ℕ
 word_text Edid = codes "edid"
@@ -31,14 +44,7 @@ word_text Dummy = codes "dummy"
 word_text Raw = codes "raw"
 word_text Cta = codes "cta"
 word_text CtaNone = codes "cta-none"
-word_text Tag0 = codes "tag0"
-word_text Audio = codes "audio"
-word_text Video = codes "video"
-word_text Vendor = codes "vendor"
-word_text Speakers = codes "speakers"
-word_text Tag5 = codes "tag5"
-word_text Tag6 = codes "tag6"
-word_text Extended = codes "extended"
+word_text (Block kind) = kind_text kind
 word_text Hdmi = codes "hdmi"
 word_text Tail = codes "tail"
 word_text Ext = codes "ext"

@@ -1,9 +1,10 @@
 //! A line of an EDID's text: its first word, and the fields after it.
-ghost use Rattle.std.specs.Prelude.{◌≡◌, ◌≤◌, length};
+ghost use Rattle.std.specs.Prelude.{◌≡◌, ◌↔◌, ◌≤◌, length, IsTrue};
 ghost use Rattle.edid_text_lines.specs.Formed.{form_of};
 ghost use Rattle.edid_text_lines.specs.Text.{word_text};
 
 use arrayvec::ArrayVec;
+use edid_cta::BlockKind;
 use text_core::Phys;
 
 /// The first word of a line.
@@ -30,14 +31,8 @@ pub enum Keyword {
     Raw,
     Cta,
     CtaNone,
-    Tag0,
-    Audio,
-    Video,
-    Vendor,
-    Speakers,
-    Tag5,
-    Tag6,
-    Extended,
+    /// A data block of this kind.
+    Block(BlockKind),
     Hdmi,
     Tail,
     Ext,
@@ -111,14 +106,14 @@ macro_rules! words {
             Raw "raw" Hex;
             Cta "cta" Hex;
             CtaNone "cta-none" Hex;
-            Tag0 "tag0" Hex;
-            Audio "audio" Hex;
-            Video "video" Hex;
-            Vendor "vendor" Hex;
-            Speakers "speakers" Hex;
-            Tag5 "tag5" Hex;
-            Tag6 "tag6" Hex;
-            Extended "extended" Hex;
+            Block(Tag0) "tag0" Hex;
+            Block(Audio) "audio" Hex;
+            Block(Video) "video" Hex;
+            Block(Vendor) "vendor" Hex;
+            Block(Speakers) "speakers" Hex;
+            Block(Tag5) "tag5" Hex;
+            Block(Tag6) "tag6" Hex;
+            Block(Extended) "extended" Hex;
             Hdmi "hdmi" Address;
             Tail "tail" Hex;
             Ext "ext" Hex;
@@ -127,29 +122,29 @@ macro_rules! words {
 }
 
 macro_rules! listed {
-    ($unused:expr, $($word:ident $text:literal $form:ident;)*) => {
-        [$(Keyword::$word,)*]
+    ($unused:expr, $($word:ident $(($kind:ident))? $text:literal $form:ident;)*) => {
+        [$(Keyword::$word $((BlockKind::$kind))?,)*]
     };
 }
 
 macro_rules! spelled {
-    ($unused:expr, $($word:ident $text:literal $form:ident;)*) => {
+    ($unused:expr, $($word:ident $(($kind:ident))? $text:literal $form:ident;)*) => {
         &[$($text,)*]
     };
 }
 
 macro_rules! form_match {
-    ($at:expr, $($word:ident $text:literal $form:ident;)*) => {
+    ($at:expr, $($word:ident $(($kind:ident))? $text:literal $form:ident;)*) => {
         match $at {
-            $(Keyword::$word => LineContent::$form,)*
+            $(Keyword::$word $((BlockKind::$kind))? => LineContent::$form,)*
         }
     };
 }
 
 macro_rules! text_match {
-    ($at:expr, $($word:ident $text:literal $form:ident;)*) => {
+    ($at:expr, $($word:ident $(($kind:ident))? $text:literal $form:ident;)*) => {
         match $at {
-            $(Keyword::$word => $text,)*
+            $(Keyword::$word $((BlockKind::$kind))? => $text,)*
         }
     };
 }
@@ -174,5 +169,20 @@ impl Keyword {
         ensures short { length result.now ≤ 11 }
     {
         words!(text_match, self)
+    }
+}
+
+fn is_same(left: &[u8], right: &[u8]) -> bool
+    ensures { IsTrue result ↔ (left.now ≡ right.now) }
+{
+    left == right
+}
+
+impl Line {
+    /// Whether this is its first word: no two have the same text.
+    pub fn begins_with(&self, word: Keyword) -> bool
+        ensures { IsTrue result ↔ (self.now.word ≡ word) }
+    {
+        is_same(self.word.text().as_bytes(), word.text().as_bytes())
     }
 }

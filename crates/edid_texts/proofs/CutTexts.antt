@@ -16,8 +16,9 @@ use Rattle.edid_text_lines.specs.declared.line.Fields.TheVariants.{Nothing, Lett
 use Rattle.edid_text_lines.specs.declared.line.LineContent.{LineContent}
 use Rattle.edid_text_lines.specs.declared.line.LineContent.TheVariants.{Empty, Three, One, Two, Eight, Unused, Timing as OfTiming, Hex, Address as OfAddress, Quoted as OfQuoted}
 use Rattle.edid_text_lines.specs.declared.line.Line.{Line}
+use Rattle.edid_cta.specs.declared.block.BlockKind.TheVariants.{Tag0, Audio, Video, Vendor, Speakers, Tag5, Tag6, Extended}
 use Rattle.edid_text_lines.specs.declared.line.Keyword.{Keyword}
-use Rattle.edid_text_lines.specs.declared.line.Keyword.TheVariants.{Edid, Maker, Product, Serial, Made, Input, Size, Gamma, Features, Chroma, Established, Standard, Timing, Name, Text, SerialText, Range, Dummy, Raw, Cta, CtaNone, Tag0, Audio, Video, Vendor, Speakers, Tag5, Tag6, Extended, Hdmi, Tail, Ext}
+use Rattle.edid_text_lines.specs.declared.line.Keyword.TheVariants.{Edid, Maker, Product, Serial, Made, Input, Size, Gamma, Features, Chroma, Established, Standard, Timing, Name, Text, SerialText, Range, Dummy, Raw, Cta, CtaNone, Block, Hdmi, Tail, Ext}
 use Rattle.edid_texts.proofs.Good.{is_clean, are_clean, PlainFields, Good, EachGood, and, clean-cons, edid_good}
 
 -- a line of all the characters of some lines
@@ -134,14 +135,14 @@ word_clean Dummy = refl
 word_clean Raw = refl
 word_clean Cta = refl
 word_clean CtaNone = refl
-word_clean Tag0 = refl
-word_clean Audio = refl
-word_clean Video = refl
-word_clean Vendor = refl
-word_clean Speakers = refl
-word_clean Tag5 = refl
-word_clean Tag6 = refl
-word_clean Extended = refl
+word_clean (Block Tag0) = refl
+word_clean (Block Audio) = refl
+word_clean (Block Video) = refl
+word_clean (Block Vendor) = refl
+word_clean (Block Speakers) = refl
+word_clean (Block Tag5) = refl
+word_clean (Block Tag6) = refl
+word_clean (Block Extended) = refl
 word_clean Hdmi = refl
 word_clean Tail = refl
 word_clean Ext = refl

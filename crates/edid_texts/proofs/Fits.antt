@@ -16,7 +16,7 @@ use Rattle.edid_base.specs.declared.timing.Timing.{Timing as DetailedTiming}
 use Rattle.edid_cta.specs.Hdmi.{has_identifier}
 use Rattle.edid_cta.specs.declared.block.DataBlock.{DataBlock}
 use Rattle.edid_cta.specs.declared.block.BlockKind.{BlockKind}
-use Rattle.edid_cta.specs.declared.block.BlockKind.TheVariants.{Tag0 as OfTag0, Audio as OfAudio, Video as OfVideo, Vendor as OfVendor, Speakers as OfSpeakers, Tag5 as OfTag5, Tag6 as OfTag6, Extended as OfExtended}
+use Rattle.edid_cta.specs.declared.block.BlockKind.TheVariants.{Vendor}
 use Rattle.edid_cta.specs.declared.raw.Ext.{Ext as AnyExt}
 use Rattle.edid_cta.specs.declared.raw.Ext.TheVariants.{Cta as OfCta, Bare as OfBare, Raw as OfRawExt}
 use Rattle.edid_core.specs.declared.edid.Edid.{Edid as WholeEdid}
@@ -28,7 +28,7 @@ use Rattle.edid_text_lines.specs.declared.line.LineContent.{LineContent}
 use Rattle.edid_text_lines.specs.declared.line.LineContent.TheVariants.{One, Two, Eight, Unused, Timing as OfTimed}
 use Rattle.edid_text_lines.specs.declared.line.Line.{Line}
 use Rattle.edid_text_lines.specs.declared.line.Keyword.{Keyword}
-use Rattle.edid_text_lines.specs.declared.line.Keyword.TheVariants.{Chroma, Vendor, Hdmi}
+use Rattle.edid_text_lines.specs.declared.line.Keyword.TheVariants.{Block, Chroma, Hdmi}
 use Rattle.edid_texts.specs.Lines.{bytes_line, standard_line, timing_line, descriptor_line, head_lines, base_lines, address_line, payload_line, block_line, tail_line, ext_lines, edid_lines}
 use Rattle.edid_texts.specs.Words.{number_fits, FitsAt}
 use Rattle.edid_texts.proofs.BaseNexts.{byte_fits}
@@ -168,19 +168,13 @@ base_fit b =
 block_fit : (b : DataBlock) → Fit (block_line b)
 block_fit b = at b.kind b.payload.items
   where
-    vendor : (v : Bool) (p : List ℕ) → Fit (cond v (address_line p) (bytes_line Vendor p))
+    vendor : (v : Bool) (p : List ℕ) → Fit (cond v (address_line p) (bytes_line (Block Vendor) p))
     vendor true p = tt
     vendor false p = tt
 
     at : (kind : BlockKind) (p : List ℕ) → Fit (payload_line kind p)
-    at OfTag0 p = tt
-    at OfAudio p = tt
-    at OfVideo p = tt
-    at OfVendor p = vendor (has_identifier p) p
-    at OfSpeakers p = tt
-    at OfTag5 p = tt
-    at OfTag6 p = tt
-    at OfExtended p = tt
+    at Vendor p = vendor (has_identifier p) p
+    at kind p = tt
 
 ext_fit : (x : AnyExt) → EachFit (ext_lines x)
 ext_fit (OfCta c) = (

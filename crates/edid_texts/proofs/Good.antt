@@ -19,7 +19,7 @@ use Rattle.edid_base.specs.declared.text.Text.{Text as AnyText}
 use Rattle.edid_base.specs.declared.timing.Timing.{Timing as DetailedTiming}
 use Rattle.edid_cta.specs.declared.block.DataBlock.{DataBlock}
 use Rattle.edid_cta.specs.declared.block.BlockKind.{BlockKind}
-use Rattle.edid_cta.specs.declared.block.BlockKind.TheVariants.{Tag0 as OfTag0, Audio as OfAudio, Video as OfVideo, Vendor as OfVendor, Speakers as OfSpeakers, Tag5 as OfTag5, Tag6 as OfTag6, Extended as OfExtended}
+use Rattle.edid_cta.specs.declared.block.BlockKind.TheVariants.{Vendor}
 use Rattle.edid_cta.specs.declared.raw.Ext.{Ext as Extension}
 use Rattle.edid_cta.specs.declared.raw.Ext.TheVariants.{Cta as OfCta, Bare as OfBare, Raw as OfRawExt}
 use Rattle.edid_text_lines.specs.Formed.{Formed, are_numbers}
@@ -32,7 +32,7 @@ use Rattle.edid_core.specs.declared.edid.Edid.{Edid as WholeEdid}
 use Rattle.edid_text_lines.specs.declared.line.Fields.{Fields}
 use Rattle.edid_text_lines.specs.declared.line.Fields.TheVariants.{Letters, Quoted}
 use Rattle.edid_text_lines.specs.declared.line.Line.{Line}
-use Rattle.edid_text_lines.specs.declared.line.Keyword.TheVariants.{Vendor}
+use Rattle.edid_text_lines.specs.declared.line.Keyword.TheVariants.{Block}
 use Rattle.edid_texts.proofs.BaseNexts.{byte_fits}
 use Rattle.edid_texts.proofs.Sorts.{long_hdmi}
 use Rattle.edid_texts.proofs.TailLemmas.{trimmed_le}
@@ -250,21 +250,15 @@ base_good b =
 block_good : (b : DataBlock) → Good (block_line b)
 block_good b = at b.kind b.payload.items b.short b.bytes_fit
   where
-    vendor : (v : Bool) (p : List ℕ) → has_identifier p ≡ v → length p < 32 → are_bytes p ≡ true → Good (cond v (address_line p) (bytes_line Vendor p))
+    vendor : (v : Bool) (p : List ℕ) → has_identifier p ≡ v → length p < 32 → are_bytes p ≡ true → Good (cond v (address_line p) (bytes_line (Block Vendor) p))
     vendor true p e h k =
         let long = long_hdmi p e in
         ((are_bytes-at p 3 k, are_bytes-at p 4 k, omega (arith, long, h, length-drop 5 p), are_bytes-drop 5 p k), tt)
     vendor false p e h k = ((omega (arith, h), k), tt)
 
     at : (kind : BlockKind) (p : List ℕ) → length p < 32 → are_bytes p ≡ true → Good (payload_line kind p)
-    at OfTag0 p h k = ((omega (arith, h), k), tt)
-    at OfAudio p h k = ((omega (arith, h), k), tt)
-    at OfVideo p h k = ((omega (arith, h), k), tt)
-    at OfVendor p h k = vendor (has_identifier p) p refl h k
-    at OfSpeakers p h k = ((omega (arith, h), k), tt)
-    at OfTag5 p h k = ((omega (arith, h), k), tt)
-    at OfTag6 p h k = ((omega (arith, h), k), tt)
-    at OfExtended p h k = ((omega (arith, h), k), tt)
+    at Vendor p h k = vendor (has_identifier p) p refl h k
+    at kind p h k = ((omega (arith, h), k), tt)
 
 trimmed_bytes : (xs : List ℕ) → are_bytes xs ≡ true → are_bytes (bytes_without_zeros xs) ≡ true
 trimmed_bytes [] h = refl

@@ -25,7 +25,7 @@ use Rattle.edid_cta.specs.Block.{kind_number, block_bytes}
 use Rattle.edid_cta.specs.Ext.{ext_bytes}
 use Rattle.edid_cta.specs.declared.block.DataBlock.{DataBlock}
 use Rattle.edid_cta.specs.declared.block.BlockKind.{BlockKind}
-use Rattle.edid_cta.specs.declared.block.BlockKind.TheVariants.{Tag0 as OfTag0, Audio as OfAudio, Video as OfVideo, Vendor as OfVendor, Speakers as OfSpeakers, Tag5 as OfTag5, Tag6 as OfTag6, Extended as OfExtended}
+use Rattle.edid_cta.specs.declared.block.BlockKind.TheVariants.{Vendor}
 use Rattle.edid_cta.specs.declared.cta.Cta.{Cta as CtaBlock}
 use Rattle.edid_cta.specs.declared.raw.Ext.{Ext as AnyExt}
 use Rattle.edid_cta.specs.declared.raw.Ext.TheVariants.{Cta as OfCta, Bare as OfBare, Raw as OfRawExt}
@@ -36,7 +36,7 @@ use Rattle.edid_text_lines.specs.declared.line.Fields.{Fields}
 use Rattle.edid_text_lines.specs.declared.line.Fields.TheVariants.{Letters, Numbers, Timed, Bytes, Address, Quoted}
 use Rattle.edid_text_lines.specs.declared.line.Line.{Line}
 use Rattle.edid_text_lines.specs.declared.line.Keyword.{Keyword}
-use Rattle.edid_text_lines.specs.declared.line.Keyword.TheVariants.{Name, Text, Range, Tag0, Audio, Video, Vendor, Speakers, Tag5, Tag6}
+use Rattle.edid_text_lines.specs.declared.line.Keyword.TheVariants.{Block, Name, Range, Text}
 use Rattle.edid_texts.proofs.Fronts.{body_lines, parted, some_line}
 use Rattle.edid_texts.proofs.Gets.{append_same, base_count}
 use Rattle.edid_core.proofs.OneEdid.{one_edid}
@@ -104,14 +104,8 @@ descriptor_reported word (Bytes bytes) = hex_reported word bytes.items
 descriptor_reported word fields = tagged_bytes 0x10 (replicate 14 0)
 
 abbrev number_of : Keyword → ℕ
-number_of Tag0 = 0
-number_of Audio = 1
-number_of Video = 2
-number_of Vendor = 3
-number_of Speakers = 4
-number_of Tag5 = 5
-number_of Tag6 = 6
-number_of word = 7
+number_of (Block kind) = kind_number kind
+number_of word = 0
 
 abbrev block_reported : Keyword → Fields → List ℕ
 block_reported word (Bytes bytes) = (number_of word * 32 + length bytes.items) ∷ bytes.items
@@ -155,19 +149,13 @@ hdmi_is p h = at p (long_hdmi p h) (and_parts _ _ h)
 block_is : (b : DataBlock) → block_bytes b ≡ block_reported (block_line b).word (block_line b).fields
 block_is b = at b.kind b.payload.items
   where
-    vendor : (v : Bool) (p : List ℕ) → has_identifier p ≡ v → (96 + length p) ∷ p ≡ block_reported (cond v (address_line p) (bytes_line Vendor p)).word (cond v (address_line p) (bytes_line Vendor p)).fields
+    vendor : (v : Bool) (p : List ℕ) → has_identifier p ≡ v → (96 + length p) ∷ p ≡ block_reported (cond v (address_line p) (bytes_line (Block Vendor) p)).word (cond v (address_line p) (bytes_line (Block Vendor) p)).fields
     vendor true p e = let same = hdmi_is p e in let len = ap length same in ap (λ n. n ∷ p) (omega (arith, len)) ∙ ap (λ t. (96 + (5 + length (drop 5 p))) ∷ t) (sym same)
     vendor false p e = refl
 
     at : (k : BlockKind) (p : List ℕ) → (kind_number k * 32 + length p) ∷ p ≡ block_reported (payload_line k p).word (payload_line k p).fields
-    at OfTag0 p = refl
-    at OfAudio p = refl
-    at OfVideo p = refl
-    at OfVendor p = vendor (has_identifier p) p refl
-    at OfSpeakers p = refl
-    at OfTag5 p = refl
-    at OfTag6 p = refl
-    at OfExtended p = refl
+    at Vendor p = vendor (has_identifier p) p refl
+    at kind p = refl
 
 -- what is reported by a list's lines
 reported : {X : Type 0} (f : X → Line) (g : X → List ℕ) (t : Keyword → Fields → List ℕ) → ((x : X) → g x ≡ t (f x).word (f x).fields) → (xs ys : List X) → map f xs ≡ map f ys → flat_map g xs ≡ flat_map g ys

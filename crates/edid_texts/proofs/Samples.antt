@@ -14,7 +14,7 @@ use Rattle.edid_base.specs.declared.timing.Timing.{Timing as DetailedTiming}
 use Rattle.edid_cta.specs.Block.{block_bytes}
 use Rattle.edid_cta.specs.declared.block.DataBlock.{DataBlock}
 use Rattle.edid_cta.specs.declared.block.BlockKind.{BlockKind}
-use Rattle.edid_cta.specs.declared.block.BlockKind.TheVariants.{Tag0 as OfTag0, Audio as OfAudio, Video as OfVideo, Vendor as OfVendor, Speakers as OfSpeakers, Tag5 as OfTag5, Tag6 as OfTag6, Extended as OfExtended}
+use Rattle.edid_cta.specs.declared.block.BlockKind.TheVariants.{Vendor}
 use Rattle.edid_cta.specs.declared.raw.Ext.TheVariants.{Raw as OfRawExt}
 use Rattle.edid_cta.specs.declared.raw.RawExt.{RawExt}
 use Rattle.edid_texts.specs.Drafts.{whole_lines, draft_lines, opened_lines, Follows}
@@ -26,7 +26,7 @@ use Rattle.edid_text_lines.specs.declared.line.Fields.{Fields}
 use Rattle.edid_text_lines.specs.declared.line.Fields.TheVariants.{Nothing, Letters, Numbers, Timed, Bytes, Address, Quoted}
 use Rattle.edid_text_lines.specs.declared.line.Line.{Line}
 use Rattle.edid_text_lines.specs.declared.line.Keyword.{Keyword}
-use Rattle.edid_text_lines.specs.declared.line.Keyword.TheVariants.{Edid, Maker, Product, Serial, Made, Input, Size, Gamma, Features, Chroma, Established, Standard, Timing, Name, Text, SerialText, Range, Dummy, Raw, Cta, CtaNone, Tag0, Audio, Video, Vendor, Speakers, Tag5, Tag6, Extended, Hdmi, Tail, Ext}
+use Rattle.edid_text_lines.specs.declared.line.Keyword.TheVariants.{Edid, Maker, Product, Serial, Made, Input, Size, Gamma, Features, Chroma, Established, Standard, Timing, Name, Text, SerialText, Range, Dummy, Raw, Cta, CtaNone, Block, Hdmi, Tail, Ext}
 use Rattle.edid_texts.specs.declared.place.NextLine.TheVariants.{AtExt, AtEnd, InBlocks, InTimings}
 use Rattle.edid_texts.proofs.BaseNexts.{set_line, set_descriptor}
 use Rattle.edid_texts.proofs.Live.{alone, alone_lines, with_ext, with_ext_lines, zeros_after, zeros_alone}
@@ -252,7 +252,7 @@ an_empty_block : BlockKind → DataBlock
 an_empty_block k = record { kind = k; payload = record { items = [] }; short = omega arith; bytes_fit = refl }
 
 an_hdmi_block : DataBlock
-an_hdmi_block = record { kind = OfVendor; payload = record { items = 3 ∷ 12 ∷ 0 ∷ 0 ∷ 0 ∷ [] }; short = omega arith; bytes_fit = refl }
+an_hdmi_block = record { kind = Vendor; payload = record { items = 3 ∷ 12 ∷ 0 ∷ 0 ∷ 0 ∷ [] }; short = omega arith; bytes_fit = refl }
 
 -- one more timing
 pub more_timing : (o : Opened) (t : DetailedTiming) → 18 ≤ o.left → Follows (draft_lines (OfOpened o)) (timing_line t)
@@ -290,14 +290,8 @@ a_block_line o m w b none at size is two count =
 
 block_sample : (o : Opened) (m : ℕ) (w : Keyword) → o.timings.items ≡ [] → in_blocks o.left w ≡ true → has_words (form_of w) m ≡ true → Sample (draft_lines (OfOpened o)) w m
 unfolding an_empty_block an_hdmi_block
-block_sample o m Tag0 none at count = a_block_line o m Tag0 (an_empty_block OfTag0) none at refl refl refl count
-block_sample o m Audio none at count = a_block_line o m Audio (an_empty_block OfAudio) none at refl refl refl count
-block_sample o m Video none at count = a_block_line o m Video (an_empty_block OfVideo) none at refl refl refl count
-block_sample o m Vendor none at count = a_block_line o m Vendor (an_empty_block OfVendor) none at refl refl refl count
-block_sample o m Speakers none at count = a_block_line o m Speakers (an_empty_block OfSpeakers) none at refl refl refl count
-block_sample o m Tag5 none at count = a_block_line o m Tag5 (an_empty_block OfTag5) none at refl refl refl count
-block_sample o m Tag6 none at count = a_block_line o m Tag6 (an_empty_block OfTag6) none at refl refl refl count
-block_sample o m Extended none at count = a_block_line o m Extended (an_empty_block OfExtended) none at refl refl refl count
+block_sample o m (Block Vendor) none at count = a_block_line o m (Block Vendor) (an_empty_block Vendor) none at refl refl refl count
+block_sample o m (Block kind) none at count = a_block_line o m (Block kind) (an_empty_block kind) none at refl refl refl count
 block_sample o m Hdmi none at count =
     let three : m ≡ 3 = eqb-true _ _ count in
     let six = leb-true _ _ at in

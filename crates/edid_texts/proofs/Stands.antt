@@ -8,7 +8,7 @@ use Rattle.edid_base.specs.declared.standard.StandardTiming.{StandardTiming}
 use Rattle.edid_cta.specs.Block.{block_bytes}
 use Rattle.edid_cta.specs.declared.block.DataBlock.{DataBlock}
 use Rattle.edid_cta.specs.declared.block.BlockKind.{BlockKind}
-use Rattle.edid_cta.specs.declared.block.BlockKind.TheVariants.{Tag0 as OfTag0, Audio as OfAudio, Video as OfVideo, Vendor as OfVendor, Speakers as OfSpeakers, Tag5 as OfTag5, Tag6 as OfTag6, Extended as OfExtended}
+use Rattle.edid_cta.specs.declared.block.BlockKind.TheVariants.{Vendor}
 use Rattle.edid_cta.specs.declared.raw.Ext.{Ext as AnyExt}
 use Rattle.edid_cta.specs.declared.raw.Ext.TheVariants.{Cta as OfCta, Bare as OfBareExt, Raw as OfRawExt}
 use Rattle.edid_texts.specs.Drafts.{draft_lines, Follows, BlockFits, TimingFits, TailFits}
@@ -17,7 +17,7 @@ use Rattle.edid_cta.specs.Hdmi.{has_identifier}
 use Rattle.edid_texts.specs.Words.{place_of, in_base, at_ext, in_timings, in_blocks, may_begin}
 use Rattle.edid_texts.specs.Draft.{Draft, OfBegun as Begun, OfWhole, OfOpened, OfBare, Opened}
 use Rattle.edid_text_lines.specs.declared.line.Line.{Line}
-use Rattle.edid_text_lines.specs.declared.line.Keyword.TheVariants.{Standard, Vendor}
+use Rattle.edid_text_lines.specs.declared.line.Keyword.TheVariants.{Block, Standard}
 use Rattle.edid_texts.specs.declared.place.NextLine.TheVariants.{AtExt, AtEnd, InBlocks, InTimings}
 use Rattle.edid_texts.proofs.Fronts.{begun_next, ext_of, opened_next, bare_next}
 use Rattle.edid_texts.proofs.Good.{and}
@@ -83,19 +83,13 @@ block_stands b left h =
     let t : nat_le 1 left ≡ true = grind (arith, tests) in
     at b.kind b.payload.items t h
   where
-    vendor : (v : Bool) (p : List ℕ) → has_identifier p ≡ v → nat_le 1 left ≡ true → suc (length p) ≤ left → in_blocks left (cond v (address_line p) (bytes_line Vendor p)).word ≡ true
+    vendor : (v : Bool) (p : List ℕ) → has_identifier p ≡ v → nat_le 1 left ≡ true → suc (length p) ≤ left → in_blocks left (cond v (address_line p) (bytes_line (Block Vendor) p)).word ≡ true
     vendor true p e t k = let long = long_hdmi p e in let six : 6 ≤ left = omega (arith, long, k) in grind (arith, tests)
     vendor false p e t k = t
 
     at : (k : BlockKind) (p : List ℕ) → nat_le 1 left ≡ true → suc (length p) ≤ left → in_blocks left (payload_line k p).word ≡ true
-    at OfTag0 p t k = t
-    at OfAudio p t k = t
-    at OfVideo p t k = t
-    at OfVendor p t k = vendor (has_identifier p) p refl t k
-    at OfSpeakers p t k = t
-    at OfTag5 p t k = t
-    at OfTag6 p t k = t
-    at OfExtended p t k = t
+    at Vendor p t k = vendor (has_identifier p) p refl t k
+    at kind p t k = t
 
 timing_stands : (left : ℕ) (l : Line) → TimingFits left l ⊎ TailFits left l → (in_timings left l.word ≡ true) × (in_blocks left l.word ≡ true)
 timing_stands left l (inl f) =

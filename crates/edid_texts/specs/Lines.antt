@@ -14,7 +14,7 @@ use Rattle.edid_base.specs.declared.standard.StandardTiming.{StandardTiming}
 use Rattle.edid_base.specs.declared.timing.Timing.{Timing as DetailedTiming}
 use Rattle.edid_cta.specs.declared.block.DataBlock.{DataBlock}
 use Rattle.edid_cta.specs.declared.block.BlockKind.{BlockKind}
-use Rattle.edid_cta.specs.declared.block.BlockKind.TheVariants.{Tag0 as OfTag0, Audio as OfAudio, Video as OfVideo, Vendor as OfVendor, Speakers as OfSpeakers, Tag5 as OfTag5, Tag6 as OfTag6, Extended as OfExtended}
+use Rattle.edid_cta.specs.declared.block.BlockKind.TheVariants.{Vendor}
 use Rattle.edid_cta.specs.declared.cta.Cta.{Cta as CtaBlock}
 use Rattle.edid_cta.specs.declared.cta.Bare.{Bare as BareBlock}
 use Rattle.edid_cta.specs.declared.raw.Ext.{Ext as Extension}
@@ -22,7 +22,7 @@ use Rattle.edid_cta.specs.declared.raw.Ext.TheVariants.{Cta as OfCta, Bare as Of
 use Rattle.edid_text_lines.specs.Text.{line_text}
 use Rattle.edid_core.specs.declared.edid.Edid.{Edid as WholeEdid}
 use Rattle.edid_text_lines.specs.declared.line.Keyword.{Keyword}
-use Rattle.edid_text_lines.specs.declared.line.Keyword.TheVariants.{Edid, Maker, Product, Serial, Made, Input, Size, Gamma, Features, Chroma, Established, Standard, Timing, Name, Text, SerialText, Range, Dummy, Raw, Cta, CtaNone, Tag0, Audio, Video, Vendor, Speakers, Tag5, Tag6, Extended, Hdmi, Tail, Ext}
+use Rattle.edid_text_lines.specs.declared.line.Keyword.TheVariants.{Edid, Maker, Product, Serial, Made, Input, Size, Gamma, Features, Chroma, Established, Standard, Timing, Name, Text, SerialText, Range, Dummy, Raw, Cta, CtaNone, Block, Hdmi, Tail, Ext}
 use Rattle.edid_text_lines.specs.declared.line.Fields.TheVariants.{Nothing, Letters, Numbers, Timed, Bytes, Address, Quoted}
 use Rattle.edid_text_lines.specs.declared.line.Line.{Line}
 
@@ -77,25 +77,15 @@ head_lines b =
 abbrev pub base_lines : Base → List Line
 base_lines b = head_lines b ++ (map standard_line b.standard ++ map descriptor_line b.descriptors)
 
-abbrev pub kind_word : BlockKind → Keyword
-kind_word OfTag0 = Tag0
-kind_word OfAudio = Audio
-kind_word OfVideo = Video
-kind_word OfVendor = Vendor
-kind_word OfSpeakers = Speakers
-kind_word OfTag5 = Tag5
-kind_word OfTag6 = Tag6
-kind_word OfExtended = Extended
-
 abbrev pub address_line : List ℕ → Line
 address_line p = record { word = Hdmi; fields = Address (record { high = slice_index p 3; low = slice_index p 4 }) (record { items = drop 5 p }) }
 
 abbrev pub vendor_line : List ℕ → Line
-vendor_line p = if has_identifier p then address_line p else bytes_line Vendor p
+vendor_line p = if has_identifier p then address_line p else bytes_line (Block Vendor) p
 
 abbrev pub payload_line : BlockKind → List ℕ → Line
-payload_line OfVendor p = vendor_line p
-payload_line kind p = bytes_line (kind_word kind) p
+payload_line Vendor p = vendor_line p
+payload_line kind p = bytes_line (Block kind) p
 
 abbrev pub block_line : DataBlock → Line
 block_line b = payload_line b.kind b.payload.items

@@ -7,7 +7,7 @@ use Rattle.edid_texts.specs.Draft.{Draft, OfBegun, OfWhole, OfOpened, OfBare}
 use Rattle.edid_text_lines.specs.declared.line.LineContent.{LineContent}
 use Rattle.edid_text_lines.specs.declared.line.LineContent.TheVariants.{Empty, Three, One, Two, Eight, Unused, Timing as OfTiming, Hex, Address, Quoted}
 use Rattle.edid_text_lines.specs.declared.line.Keyword.{Keyword}
-use Rattle.edid_text_lines.specs.declared.line.Keyword.TheVariants.{Edid, Maker, Product, Serial, Made, Input, Size, Gamma, Features, Chroma, Established, Standard, Timing, Name, Text, SerialText, Range, Dummy, Raw, Cta, CtaNone, Tag0, Audio, Video, Vendor, Speakers, Tag5, Tag6, Extended, Hdmi, Tail, Ext}
+use Rattle.edid_text_lines.specs.declared.line.Keyword.TheVariants.{Edid, Maker, Product, Serial, Made, Input, Size, Gamma, Features, Chroma, Established, Standard, Timing, Name, Text, SerialText, Range, Dummy, Raw, Cta, CtaNone, Block, Hdmi, Tail, Ext}
 use Rattle.edid_texts.specs.declared.place.NextLine.{NextLine}
 use Rattle.edid_texts.specs.declared.place.NextLine.TheVariants.{InBase, AtExt, InBlocks, InTimings, AtTail, AtEnd}
 
@@ -56,14 +56,7 @@ in_timings left Timing = nat_le 18 left
 in_timings left word = is_tail_word word
 
 abbrev pub in_blocks : ℕ → Keyword → Bool
-in_blocks left Tag0 = nat_le 1 left
-in_blocks left Audio = nat_le 1 left
-in_blocks left Video = nat_le 1 left
-in_blocks left Vendor = nat_le 1 left
-in_blocks left Speakers = nat_le 1 left
-in_blocks left Tag5 = nat_le 1 left
-in_blocks left Tag6 = nat_le 1 left
-in_blocks left Extended = nat_le 1 left
+in_blocks left (Block kind) = nat_le 1 left
 in_blocks left Hdmi = nat_le 6 left
 in_blocks left word = in_timings left word
 

@@ -3,7 +3,7 @@ ghost use Rattle.std.specs.Prelude.{◌≡◌, ◌≤◌, ℕ, List, length, Mat
 ghost use Rattle.edid_cta.specs.declared.block.DataBlock.{DataBlock as BlockValue};
 ghost use Rattle.edid_texts.specs.Lines.{address_line, block_line};
 
-use crate::line_to_value::{bytes_of, kind_of};
+use crate::line_to_value::bytes_of;
 use arrayvec::ArrayVec;
 use edid_cta::{BlockKind, DataBlock, has_identifier};
 use edid_text_lines::{Fields, Keyword, Line};
@@ -54,7 +54,7 @@ pub fn block_of(line: &Line) -> Option<DataBlock>
     if let Some(block) = hdmi_of(line) {
         return Some(block);
     }
-    let Some(kind) = kind_of(line.word) else {
+    let Keyword::Block(kind) = line.word else {
         return None;
     };
     let Some(bytes) = bytes_of(line, line.word) else {

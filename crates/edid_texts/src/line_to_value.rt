@@ -12,20 +12,18 @@ ghost use Rattle.edid_base.specs.declared.maker.Maker.{Maker as MakerValue};
 ghost use Rattle.edid_base.specs.declared.standard.StandardTiming.{StandardTiming as StandardValue};
 ghost use Rattle.edid_base.specs.declared.text.Text.{Text as TextValue};
 ghost use Rattle.edid_base.specs.declared.timing.Timing.{Timing as TimingValue};
-ghost use Rattle.edid_cta.specs.declared.block.BlockKind.{BlockKind as KindValue};
-ghost use Rattle.edid_texts.specs.Lines.{letters_line, numbers_line, bytes_line, quoted_line, revision_letters, standard_line, timing_line, descriptor_line, kind_word};
+ghost use Rattle.edid_texts.specs.Lines.{letters_line, numbers_line, bytes_line, quoted_line, revision_letters, standard_line, timing_line, descriptor_line};
 
 use edid_base::{
     Chroma, Descriptor, Maker, RangeLimits, RawDescriptor, Revision, StandardTiming, Text, Timing,
 };
-use edid_cta::BlockKind;
 use edid_text_lines::{Fields, Keyword, Line};
 
 /// The letters after a word.
 fn letters_of(line: &Line, word: Keyword) -> Option<&[u8]>
     ensures { MatchOption result ((xs : List ℕ) → letters_line word xs ≡ line.now → ⊥) (λ xs. letters_line word xs.now ≡ line.now) }
 {
-    if line.word != word {
+    if !line.begins_with(word) {
         return None;
     }
     match &line.fields {
@@ -38,7 +36,7 @@ fn letters_of(line: &Line, word: Keyword) -> Option<&[u8]>
 fn numbers_of(line: &Line, word: Keyword) -> Option<&[u32]>
     ensures { MatchOption result ((ns : List ℕ) → numbers_line word ns ≡ line.now → ⊥) (λ ns. numbers_line word ns.now ≡ line.now) }
 {
-    if line.word != word {
+    if !line.begins_with(word) {
         return None;
     }
     match &line.fields {
@@ -51,7 +49,7 @@ fn numbers_of(line: &Line, word: Keyword) -> Option<&[u32]>
 pub fn bytes_of(line: &Line, word: Keyword) -> Option<&[u8]>
     ensures { MatchOption result ((bs : List ℕ) → bytes_line word bs ≡ line.now → ⊥) (λ bs. bytes_line word bs.now ≡ line.now) }
 {
-    if line.word != word {
+    if !line.begins_with(word) {
         return None;
     }
     match &line.fields {
@@ -64,7 +62,7 @@ pub fn bytes_of(line: &Line, word: Keyword) -> Option<&[u8]>
 fn quoted_of(line: &Line, word: Keyword) -> Option<&[u8]>
     ensures { MatchOption result ((xs : List ℕ) → quoted_line word xs ≡ line.now → ⊥) (λ xs. quoted_line word xs.now ≡ line.now) }
 {
-    if line.word != word {
+    if !line.begins_with(word) {
         return None;
     }
     match &line.fields {
@@ -288,22 +286,5 @@ pub fn descriptor_of(line: &Line) -> Option<Descriptor>
     match raw_of(line) {
         None => None,
         Some(raw) => Some(Descriptor::Raw(raw)),
-    }
-}
-
-/// The kind of data block that a word names.
-pub fn kind_of(word: Keyword) -> Option<BlockKind>
-    ensures { MatchOption result ((k : KindValue) → kind_word k ≡ word → ⊥) (λ k. kind_word k ≡ word) }
-{
-    match word {
-        Keyword::Tag0 => Some(BlockKind::Tag0),
-        Keyword::Audio => Some(BlockKind::Audio),
-        Keyword::Video => Some(BlockKind::Video),
-        Keyword::Vendor => Some(BlockKind::Vendor),
-        Keyword::Speakers => Some(BlockKind::Speakers),
-        Keyword::Tag5 => Some(BlockKind::Tag5),
-        Keyword::Tag6 => Some(BlockKind::Tag6),
-        Keyword::Extended => Some(BlockKind::Extended),
-        _ => None,
     }
 }

@@ -77,14 +77,7 @@ fn in_blocks(left: usize, word: Keyword) -> bool
     ensures { result ≡ in_blocks left word }
 {
     match word {
-        Keyword::Tag0 => 1 <= left,
-        Keyword::Audio => 1 <= left,
-        Keyword::Video => 1 <= left,
-        Keyword::Vendor => 1 <= left,
-        Keyword::Speakers => 1 <= left,
-        Keyword::Tag5 => 1 <= left,
-        Keyword::Tag6 => 1 <= left,
-        Keyword::Extended => 1 <= left,
+        Keyword::Block(_) => 1 <= left,
         Keyword::Hdmi => 6 <= left,
         _ => in_timings(left, word),
     }

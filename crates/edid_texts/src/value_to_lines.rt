@@ -1,6 +1,6 @@
 //! The lines of an EDID's text.
 ghost use Rattle.std.specs.Prelude.{◌≡◌, ◌≤◌, ◌<◌, ◌+◌, Option, Some, None, length, take, slice_get, flat_map};
-ghost use Rattle.edid_texts.specs.Lines.{letters_line, numbers_line, bytes_line, quoted_line, revision_letters, standard_line, timing_line, descriptor_line, head_lines, base_lines, kind_word, block_line, bytes_without_zeros, tail_line, cta_lines, bare_lines, ext_lines, part_lines};
+ghost use Rattle.edid_texts.specs.Lines.{letters_line, numbers_line, bytes_line, quoted_line, revision_letters, standard_line, timing_line, descriptor_line, head_lines, base_lines, block_line, bytes_without_zeros, tail_line, cta_lines, bare_lines, ext_lines, part_lines};
 
 use arrayvec::ArrayVec;
 use edid_base::{Base, Descriptor, Revision, StandardTiming, Text, Timing};
@@ -141,27 +141,12 @@ fn base_line(base: &Base, number: usize) -> Line
     }
 }
 
-fn kind_word(kind: BlockKind) -> Keyword
-    ensures { result ≡ kind_word kind }
-{
-    match kind {
-        BlockKind::Tag0 => Keyword::Tag0,
-        BlockKind::Audio => Keyword::Audio,
-        BlockKind::Video => Keyword::Video,
-        BlockKind::Vendor => Keyword::Vendor,
-        BlockKind::Speakers => Keyword::Speakers,
-        BlockKind::Tag5 => Keyword::Tag5,
-        BlockKind::Tag6 => Keyword::Tag6,
-        BlockKind::Extended => Keyword::Extended,
-    }
-}
-
 fn block_line(block: &DataBlock) -> Line
     ensures { result ≡ block_line block.now }
 {
     let payload = block.payload.as_slice();
     if block.kind != BlockKind::Vendor || !has_identifier(payload) {
-        return bytes_line(kind_word(block.kind), payload);
+        return bytes_line(Keyword::Block(block.kind), payload);
     }
     let mut field = ArrayVec::new();
     let _ = field.try_extend_from_slice(&payload[5..]);
