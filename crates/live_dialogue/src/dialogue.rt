@@ -141,7 +141,11 @@ pub fn session_heard<R: Read, S: Sink, H: RefusalHearer>(
 {
     let mut incoming = Incoming::new(input);
     let topology = topology_text(alloc, &mut incoming)?;
-    let mut live = begin(alloc, topology.as_slice())?;
+    // The run is large, and `?` would move it once more.
+    let mut live = match begin(alloc, topology.as_slice()) {
+        Ok(live) => live,
+        Err(error) => return Err(error),
+    };
     put_first(&live, out)?;
     let mut refusals = Refusals {
         topology: topology.as_slice(),

@@ -33,24 +33,21 @@ returns-in_err-topology-clause-session g c =
 
 -- ---- one that is refused
 
-pub returns-in_err-live-clause-limits : goal.returns-in_err-live-clause-limits
-returns-in_err-live-clause-limits g c =
+pub returns-in-Err-clause-limits : goal.returns-in-Err-clause-limits
+returns-in-Err-clause-limits g c =
     let known = g.R.Read.remaining c.args.input.now in
-    let p = err_from_is_err_and c.from_residual-in_err-live.result c.from_residual-in_err-live.ensures.1 in
-    rw (p.1, p.2) (in_limits known (Err c.in_err-live.field-0.0) (subst (λ (before : Option (List ℕ)). HasRoom before) c.new-incoming.ensures c.in_ok-topology.ensures.1))
+    in_limits known (Err c.in-Err.error) (subst (λ (before : Option (List ℕ)). HasRoom before) c.new-incoming.ensures c.in_ok-topology.ensures.1)
 
-pub returns-in_err-live-clause-session : goal.returns-in_err-live-clause-session
-returns-in_err-live-clause-session g c =
+pub returns-in-Err-clause-session : goal.returns-in-Err-clause-session
+returns-in-Err-clause-session g c =
     let known = g.R.Read.remaining c.args.input.now in
     let after = c.topology_text.new.incoming.rest in
     let opened = opened_from known c.new-incoming.result.rest after c.in_ok-topology.topology.items c.as_slice.result.now c.new-incoming.ensures c.as_slice.ensures.value c.in_ok-topology.ensures in
-    let p = err_from_is_err_and c.from_residual-in_err-live.result c.from_residual-in_err-live.ensures.1 in
-    rw (p.1, p.2) (after, refused_is known after after (held g.S.Sink.contents c.args.out.now) c.as_slice.result.now c.in_err-live.field-0.0 opened c.in_err-live.ensures)
+    (after, refused_is known after after (held g.S.Sink.contents c.args.out.now) c.as_slice.result.now c.in-Err.error opened c.in-Err.ensures)
 
-pub returns-in_err-live-clause-handed : goal.returns-in_err-live-clause-handed
-returns-in_err-live-clause-handed g c =
-    let p = err_from_is_err_and c.from_residual-in_err-live.result c.from_residual-in_err-live.ensures.1 in
-    rw (p.1, p.2) (handed_same is_stuck c.args.out.now (Err c.in_err-live.field-0.0) (refused_quiet c.as_slice.result.now c.in_err-live.field-0.0 c.in_err-live.ensures))
+pub returns-in-Err-clause-handed : goal.returns-in-Err-clause-handed
+returns-in-Err-clause-handed g c =
+    handed_same is_stuck c.args.out.now (Err c.in-Err.error) (refused_quiet c.as_slice.result.now c.in-Err.error c.in-Err.ensures)
 
 -- ---- what stands first is cut short
 
@@ -68,14 +65,14 @@ returns-in_err-put_first-clause-session g c =
     let p = err_from_is_err_and c.from_residual-in_err-put_first.result c.from_residual-in_err-put_first.ensures.1 in
     rw (p.1, p.2) (
       after,
-      unput_is known after after c.in_ok-live.live (held g.S.Sink.contents c.args.out.now) (held g.S.Sink.contents c.put_first.new.out) c.as_slice.result.now c.in_err-put_first.field-0.0 opened c.in_ok-live.ensures
+      unput_is known after after c.in-Ok.live (held g.S.Sink.contents c.args.out.now) (held g.S.Sink.contents c.put_first.new.out) c.as_slice.result.now c.in_err-put_first.field-0.0 opened c.in-Ok.ensures
           c.in_err-put_first.ensures.first,
     )
 
 -- ---- lines are answered
 
 pub answer-requires : goal.answer-requires
-answer-requires g c = record { going = ap (λ (s : Session). s.notes.end) c.in_ok-live.ensures.is }
+answer-requires g c = record { going = ap (λ (s : Session). s.notes.end) c.in-Ok.ensures.is }
 
 pub returns-clause-limits : goal.returns-clause-limits
 returns-clause-limits g c =
@@ -89,6 +86,6 @@ returns-clause-session g c =
     let after = c.answer.new.incoming.rest in
     let opened = opened_from known c.new-incoming.result.rest mid c.in_ok-topology.topology.items c.as_slice.result.now c.new-incoming.ensures c.as_slice.ensures.value c.in_ok-topology.ensures in (
       after,
-      session_is known mid after c.in_ok-live.live (held g.S.Sink.contents c.args.out.now) (held g.S.Sink.contents c.put_first.new.out) (held g.S.Sink.contents c.answer.new.out) c.as_slice.result.now c.answer.result
-          opened c.in_ok-live.ensures c.in_ok-put_first.ensures.first c.answer.ensures.answered,
+      session_is known mid after c.in-Ok.live (held g.S.Sink.contents c.args.out.now) (held g.S.Sink.contents c.put_first.new.out) (held g.S.Sink.contents c.answer.new.out) c.as_slice.result.now c.answer.result
+          opened c.in-Ok.ensures c.in_ok-put_first.ensures.first c.answer.ensures.answered,
     )
