@@ -2,23 +2,24 @@
 use Rattle.std.specs.Prelude.{ℕ, ◌+◌, ◌*◌, ◌/◌, ◌%◌, ◌==◌, ◌&&◌, nat_lt, if◌then◌else◌, List, [], ◌∷◌, ◌++◌, codes}
 use Rattle.std.specs.Fmt.{decimal}
 use Rattle.meaning_words.specs.Notes.{when, hundredths, thousandths, is_set}
-use Rattle.meaning_words.specs.Rates.{field, clock, line_pixels, half_lines, picture_lines, field_rate, line_rate}
+use Rattle.meaning_words.specs.Rates.{of_line, line_pixels, half_lines, picture_lines, field_rate, line_rate}
+use Rattle.meaning_words.specs.declared.rates.TimingNumbers.{TimingNumbers}
 
 -- "i" of a picture of two fields
 abbrev pub interlace_mark : ℕ → List ℕ
 interlace_mark flags = if nat_lt flags 128 then [] else codes "i"
 
-abbrev pub picture_text : List ℕ → ℕ → List ℕ
-picture_text n flags = decimal (field n 1) ++ (codes "x" ++ (decimal (picture_lines n flags) ++ interlace_mark flags))
+abbrev pub picture_text : TimingNumbers → List ℕ
+picture_text t = decimal t.horizontal_active ++ (codes "x" ++ (decimal (picture_lines t) ++ interlace_mark t.flags))
 
 -- field rate and line rate, where it has pixels
-abbrev pub rates_text : List ℕ → ℕ → List ℕ
-rates_text n flags =
-    if line_pixels n * half_lines n flags == 0 then codes ", no rate"
-    else codes " at " ++ (thousandths (field_rate n flags) ++ (codes " Hz, " ++ (thousandths (line_rate n) ++ codes " kHz")))
+abbrev pub rates_text : TimingNumbers → List ℕ
+rates_text t =
+    if line_pixels t * half_lines t == 0 then codes ", no rate"
+    else codes " at " ++ (thousandths (field_rate t) ++ (codes " Hz, " ++ (thousandths (line_rate t) ++ codes " kHz")))
 
-abbrev pub clock_text : List ℕ → List ℕ
-clock_text n = codes ", " ++ (hundredths (clock n) ++ codes " MHz")
+abbrev pub clock_text : TimingNumbers → List ℕ
+clock_text t = codes ", " ++ (hundredths t.clock ++ codes " MHz")
 
 -- ---- sync: bits 4 to 1 of the flags
 
@@ -52,16 +53,16 @@ sync_text flags =
 
 -- ---- size, borders and stereo
 
-abbrev pub size_text : List ℕ → List ℕ
-size_text n =
-    if (field n 9 == 0) && (field n 10 == 0) then []
-    else codes ", " ++ (decimal (field n 9) ++ (codes " x " ++ (decimal (field n 10) ++ codes " mm")))
+abbrev pub size_text : TimingNumbers → List ℕ
+size_text t =
+    if (t.width == 0) && (t.height == 0) then []
+    else codes ", " ++ (decimal t.width ++ (codes " x " ++ (decimal t.height ++ codes " mm")))
 
 -- pixels left and right, lines above and below
-abbrev pub border_text : List ℕ → List ℕ
-border_text n =
-    if (field n 11 == 0) && (field n 12 == 0) then []
-    else codes ", borders of " ++ (decimal (field n 11) ++ (codes " pixels and " ++ (decimal (field n 12) ++ codes " lines")))
+abbrev pub border_text : TimingNumbers → List ℕ
+border_text t =
+    if (t.horizontal_border == 0) && (t.vertical_border == 0) then []
+    else codes ", borders of " ++ (decimal t.horizontal_border ++ (codes " pixels and " ++ (decimal t.vertical_border ++ codes " lines")))
 
 -- bits 6, 5 and 0 of the flags
 abbrev pub stereo_code : ℕ → ℕ
@@ -79,9 +80,10 @@ stereo_text code =
 
 -- ---- all of it
 
-abbrev pub timing_text : List ℕ → ℕ → List ℕ
-timing_text n flags =
-    picture_text n flags ++ (rates_text n flags ++ (clock_text n ++ (sync_text flags ++ (size_text n ++ (border_text n ++ stereo_text (stereo_code flags))))))
+abbrev pub timing_text : TimingNumbers → List ℕ
+timing_text t =
+    picture_text t ++ (rates_text t ++ (clock_text t ++ (sync_text t.flags ++ (size_text t ++ (border_text t ++ stereo_text (stereo_code t.flags))))))
 
+-- of the numbers and the flags of a timing's line
 unfoldable pub timing_meanings : List ℕ → ℕ → List (List ℕ)
-timing_meanings n flags = timing_text n flags ∷ []
+timing_meanings n flags = timing_text (of_line n flags) ∷ []

@@ -2,6 +2,7 @@
 ghost use Rattle.std.specs.Prelude.{◌≡◌, ◌≤◌, ◌+◌, ◌++◌, length, flat_map};
 ghost use Rattle.arrayvec.specs.ArrayVec.{array_vec_len};
 ghost use Rattle.meaning_words.specs.Notes.{own_line};
+ghost use Rattle.meaning_words.specs.Rates.{of_line};
 ghost use Rattle.meaning_words.specs.Timings.{picture_text, rates_text, clock_text, serrations, analog_lines, horizontal_sign, vertical_sign, separate_text, composite_text, analog_text, sync_text, size_text, border_text, stereo_text, timing_text, timing_meanings};
 
 use crate::bits::is_set;
@@ -9,7 +10,7 @@ use crate::notes::{
     NOTE, Note, PAGE, Page, append_decimal, append_hundredths, append_line, append_thousandths,
     append_word,
 };
-use crate::rates::{field, field_rate, half_lines, line_pixels, line_rate, picture_lines};
+use crate::rates::{TimingNumbers, field_rate, half_lines, line_pixels, line_rate, picture_lines};
 use arrayvec::ArrayVec;
 use edid_base::append;
 
@@ -20,42 +21,42 @@ const SERRATED: u32 = 4;
 /// The bit of the flags that indicates sync on three lines, or of a positive horizontal sync.
 const POSITIVE: u32 = 2;
 
-fn append_picture(note: &mut Note, numbers: &[u32], flags: u8)
+fn append_picture(note: &mut Note, timing: &TimingNumbers)
     requires { array_vec_len note.old + 42 ≤ NOTE }
-    ensures items { note.new.items ≡ note.old.items ++ picture_text numbers.now flags }
+    ensures items { note.new.items ≡ note.old.items ++ picture_text timing.now }
     ensures len { array_vec_len note.new ≤ array_vec_len note.old + 42 }
 {
-    append_decimal(note, field(numbers, 1));
+    append_decimal(note, u64::from(timing.horizontal_active));
     append(note, b"x");
-    append_decimal(note, picture_lines(numbers, flags));
-    if INTERLACED <= flags {
+    append_decimal(note, picture_lines(timing));
+    if INTERLACED <= timing.flags {
         append(note, b"i");
     }
 }
 
-fn append_rates(note: &mut Note, numbers: &[u32], flags: u8)
+fn append_rates(note: &mut Note, timing: &TimingNumbers)
     requires { array_vec_len note.old + 61 ≤ NOTE }
-    ensures items { note.new.items ≡ note.old.items ++ rates_text numbers.now flags }
+    ensures items { note.new.items ≡ note.old.items ++ rates_text timing.now }
     ensures len { array_vec_len note.new ≤ array_vec_len note.old + 61 }
 {
-    if line_pixels(numbers) * half_lines(numbers, flags) == 0 {
+    if line_pixels(timing) * half_lines(timing) == 0 {
         append(note, b", no rate");
         return;
     }
     append(note, b" at ");
-    append_thousandths(note, field_rate(numbers, flags));
+    append_thousandths(note, field_rate(timing));
     append(note, b" Hz, ");
-    append_thousandths(note, line_rate(numbers));
+    append_thousandths(note, line_rate(timing));
     append(note, b" kHz");
 }
 
-fn append_clock(note: &mut Note, numbers: &[u32])
+fn append_clock(note: &mut Note, timing: &TimingNumbers)
     requires { array_vec_len note.old + 29 ≤ NOTE }
-    ensures items { note.new.items ≡ note.old.items ++ clock_text numbers.now }
+    ensures items { note.new.items ≡ note.old.items ++ clock_text timing.now }
     ensures len { array_vec_len note.new ≤ array_vec_len note.old + 29 }
 {
     append(note, b", ");
-    append_hundredths(note, field(numbers, 0));
+    append_hundredths(note, u64::from(timing.clock));
     append(note, b" MHz");
 }
 
@@ -147,12 +148,12 @@ fn append_sync(note: &mut Note, flags: u8)
     }
 }
 
-fn append_size(note: &mut Note, numbers: &[u32])
+fn append_size(note: &mut Note, timing: &TimingNumbers)
     requires { array_vec_len note.old + 48 ≤ NOTE }
-    ensures items { note.new.items ≡ note.old.items ++ size_text numbers.now }
+    ensures items { note.new.items ≡ note.old.items ++ size_text timing.now }
     ensures len { array_vec_len note.new ≤ array_vec_len note.old + 48 }
 {
-    let (width, height) = (field(numbers, 9), field(numbers, 10));
+    let (width, height) = (u64::from(timing.width), u64::from(timing.height));
     if width == 0 && height == 0 {
         return;
     }
@@ -163,12 +164,15 @@ fn append_size(note: &mut Note, numbers: &[u32])
     append(note, b" mm");
 }
 
-fn append_borders(note: &mut Note, numbers: &[u32])
+fn append_borders(note: &mut Note, timing: &TimingNumbers)
     requires { array_vec_len note.old + 71 ≤ NOTE }
-    ensures items { note.new.items ≡ note.old.items ++ border_text numbers.now }
+    ensures items { note.new.items ≡ note.old.items ++ border_text timing.now }
     ensures len { array_vec_len note.new ≤ array_vec_len note.old + 71 }
 {
-    let (horizontal, vertical) = (field(numbers, 11), field(numbers, 12));
+    let (horizontal, vertical) = (
+        u64::from(timing.horizontal_border),
+        u64::from(timing.vertical_border),
+    );
     if horizontal == 0 && vertical == 0 {
         return;
     }
@@ -194,22 +198,30 @@ fn stereo_text(code: u8) -> &'static str
     }
 }
 
-fn timing_note(numbers: &[u32], flags: u8) -> Note
-    ensures value { result.items ≡ timing_text numbers.now flags }
+fn timing_note(timing: &TimingNumbers) -> Note
+    ensures value { result.items ≡ timing_text timing.now }
     ensures len { array_vec_len result ≤ 400 }
 {
+    let flags = timing.flags;
     let mut note = ArrayVec::new();
-    append_picture(&mut note, numbers, flags);
-    append_rates(&mut note, numbers, flags);
-    append_clock(&mut note, numbers);
+    append_picture(&mut note, timing);
+    append_rates(&mut note, timing);
+    append_clock(&mut note, timing);
     append_sync(&mut note, flags);
-    append_size(&mut note, numbers);
-    append_borders(&mut note, numbers);
+    append_size(&mut note, timing);
+    append_borders(&mut note, timing);
     append(
         &mut note,
         stereo_text(flags / 32 % 4 * 2 + flags % 2).as_bytes(),
     );
     note
+}
+
+fn line_note(numbers: &[u32], flags: u8) -> Note
+    ensures value { result.items ≡ timing_text (of_line numbers.now flags) }
+    ensures len { array_vec_len result ≤ 400 }
+{
+    timing_note(&TimingNumbers::of_line(numbers, flags))
 }
 
 /// Appends what a detailed timing means: its picture and rates, the nearest Hz and thousandths of a Hz, its pixel clock, its
@@ -222,5 +234,5 @@ pub fn append_timing(page: &mut Page, numbers: &[u32], flags: u8)
     requires { array_vec_len page.old + 403 ≤ PAGE }
     ensures { page.new.items ≡ page.old.items ++ flat_map own_line (timing_meanings numbers.now flags) }
 {
-    append_line(page, timing_note(numbers, flags).as_slice());
+    append_line(page, line_note(numbers, flags).as_slice());
 }
