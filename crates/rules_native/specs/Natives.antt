@@ -4,13 +4,11 @@ use Rattle.std.specs.Prelude.{ℕ, ◌-◌, ◌*◌, ◌==◌, Bool, true, false
 use Rattle.std.specs.List.{list_any}
 use Rattle.edid_base.specs.declared.base.Base.{Base}
 use Rattle.edid_base.specs.declared.timing.Timing.{Timing}
-use Rattle.edid_cta.specs.Hdmi.{blocks_of}
-use Rattle.edid_cta.specs.declared.block.DataBlock.{DataBlock}
 use Rattle.edid_cta.specs.declared.raw.Ext.{Ext}
 use Rattle.meaning_words.specs.Formats.{format_of}
 use Rattle.meaning_words.specs.declared.formats.VideoFormat.{VideoFormat}
-use Rattle.rules_values.specs.BlockParts.{is_video_kind}
 use Rattle.rules_values.specs.ExtParts.{native_count, timings_of}
+use Rattle.rules_values.specs.VideoCodes.{svds_of}
 use Rattle.rules_native.specs.declared.picture.Picture.{Picture}
 
 -- bit 7 of the flags: two fields, each with half of the lines
@@ -27,14 +25,8 @@ format_pictures (Some f) = record { width = f.width; height = f.height; interlac
 abbrev pub marked_pictures : ℕ → List Picture
 marked_pictures svd = if nat_lt 128 svd && nat_lt svd 193 then format_pictures (format_of (svd - 128)) else []
 
-abbrev pub block_pictures : DataBlock → List Picture
-block_pictures b = if is_video_kind b.kind then flat_map marked_pictures b.payload.items else []
-
-abbrev pub ext_pictures : Ext → List Picture
-ext_pictures x = flat_map block_pictures (blocks_of x)
-
 abbrev pub native_pictures : ℕ → List Timing → List Ext → List Picture
-native_pictures count timings xs = map timing_picture (take count timings) ++ flat_map ext_pictures xs
+native_pictures count timings xs = map timing_picture (take count timings) ++ flat_map marked_pictures (svds_of xs)
 
 abbrev pub is_same_scan : Bool → Bool → Bool
 is_same_scan true scan = scan

@@ -2,16 +2,15 @@
 ghost use Rattle.std.specs.Prelude.{◌≡◌, ◌≤◌, ◌+◌, ◌*◌, ◌++◌, length, flat_map, map, take};
 ghost use Rattle.std.specs.List.{list_any};
 ghost use Rattle.arrayvec.specs.ArrayVec.{array_vec_len};
-ghost use Rattle.edid_cta.specs.Block.{block_bytes};
 ghost use Rattle.rules_values.specs.ExtParts.{native_count};
-ghost use Rattle.rules_native.specs.Natives.{timing_picture, format_pictures, marked_pictures, block_pictures, ext_pictures, native_pictures, is_same_scan, differs, are_mixed, has_mixed_natives};
+ghost use Rattle.rules_native.specs.Natives.{timing_picture, format_pictures, marked_pictures, native_pictures, is_same_scan, differs, are_mixed, has_mixed_natives};
 
 use crate::picture::Picture;
 use arrayvec::ArrayVec;
 use edid_base::{Base, Timing};
-use edid_cta::{BlockKind, DataBlock, Ext};
+use edid_cta::Ext;
 use meaning_words::{VideoFormat, format_of};
-use rules_values::{native_count, timings_of};
+use rules_values::{native_count, svds, timings_of};
 
 /// The most native pictures: 15 timings, as far as four bits count, and the codes that three extensions have room for.
 pub const MAX_PICTURES: usize = 384;
@@ -62,6 +61,7 @@ fn append_marked(pictures: &mut ArrayVec<Picture, MAX_PICTURES>, svd: u8)
     }
 }
 
+/// Appends the pictures of bytes of video data blocks.
 fn append_codes(pictures: &mut ArrayVec<Picture, MAX_PICTURES>, svds: &[u8])
     requires { array_vec_len pictures.old + length svds.now ≤ MAX_PICTURES }
     ensures items { pictures.new.items ≡ pictures.old.items ++ flat_map marked_pictures svds.now }
@@ -70,49 +70,6 @@ fn append_codes(pictures: &mut ArrayVec<Picture, MAX_PICTURES>, svds: &[u8])
     if let [svd, rest @ ..] = svds {
         append_marked(pictures, *svd);
         append_codes(pictures, rest);
-    }
-}
-
-/// Appends the pictures of a data block, of which there are no more than bytes in it.
-fn append_block(pictures: &mut ArrayVec<Picture, MAX_PICTURES>, block: &DataBlock)
-    requires { array_vec_len pictures.old + length block.now.payload.items ≤ MAX_PICTURES }
-    ensures items { pictures.new.items ≡ pictures.old.items ++ block_pictures block.now }
-    ensures len { array_vec_len pictures.new ≤ array_vec_len pictures.old + length block.now.payload.items }
-{
-    if matches!(block.kind, BlockKind::Video) {
-        append_codes(pictures, block.payload.as_slice());
-    }
-}
-
-fn append_blocks(pictures: &mut ArrayVec<Picture, MAX_PICTURES>, blocks: &[DataBlock])
-    requires { array_vec_len pictures.old + length (flat_map block_bytes blocks.now) ≤ MAX_PICTURES }
-    ensures items { pictures.new.items ≡ pictures.old.items ++ flat_map block_pictures blocks.now }
-    ensures len { array_vec_len pictures.new ≤ array_vec_len pictures.old + length (flat_map block_bytes blocks.now) }
-{
-    if let [block, rest @ ..] = blocks {
-        append_block(pictures, block);
-        append_blocks(pictures, rest);
-    }
-}
-
-/// Appends the pictures of an extension.
-fn append_ext(pictures: &mut ArrayVec<Picture, MAX_PICTURES>, ext: &Ext)
-    requires { array_vec_len pictures.old + 123 ≤ MAX_PICTURES }
-    ensures items { pictures.new.items ≡ pictures.old.items ++ ext_pictures ext.now }
-    ensures len { array_vec_len pictures.new ≤ array_vec_len pictures.old + 123 }
-{
-    if let Ext::Cta(cta) = ext {
-        append_blocks(pictures, cta.blocks.as_slice());
-    }
-}
-
-fn append_extensions(pictures: &mut ArrayVec<Picture, MAX_PICTURES>, extensions: &[Ext])
-    requires few { length extensions.now ≤ 3 }
-    requires room { array_vec_len pictures.old ≤ 15 }
-    ensures items { pictures.new.items ≡ pictures.old.items ++ flat_map ext_pictures extensions.now }
-{
-    for ext in extensions {
-        append_ext(pictures, ext);
     }
 }
 
@@ -151,7 +108,7 @@ pub fn native_pictures(
 {
     let mut pictures = ArrayVec::new();
     append_timings(&mut pictures, front(timings, count));
-    append_extensions(&mut pictures, extensions);
+    append_codes(&mut pictures, svds(extensions).as_slice());
     pictures
 }
 

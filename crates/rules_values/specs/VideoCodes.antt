@@ -11,15 +11,20 @@ use Rattle.rules_values.specs.BlockParts.{is_video_kind, hdmi_codes}
 abbrev pub code_of : ℕ → ℕ
 code_of svd = if nat_lt 128 svd && nat_lt svd 193 then svd - 128 else svd
 
-abbrev pub block_codes : DataBlock → List ℕ
-block_codes b = if is_video_kind b.kind then map code_of b.payload.items else []
+-- the bytes of a video data block: short video descriptors
+abbrev pub block_svds : DataBlock → List ℕ
+block_svds b = if is_video_kind b.kind then b.payload.items else []
 
-abbrev pub ext_codes : Ext → List ℕ
-ext_codes x = flat_map block_codes (blocks_of x)
+abbrev pub ext_svds : Ext → List ℕ
+ext_svds x = flat_map block_svds (blocks_of x)
+
+-- the bytes of all video data blocks
+abbrev pub svds_of : List Ext → List ℕ
+svds_of xs = flat_map ext_svds xs
 
 -- the codes of all video data blocks
 abbrev pub video_codes : List Ext → List ℕ
-video_codes xs = flat_map ext_codes xs
+video_codes xs = map code_of (svds_of xs)
 
 abbrev pub has_code : List ℕ → ℕ → Bool
 has_code codes code = list_any (λ c. c == code) codes

@@ -4,7 +4,7 @@ ghost use Rattle.std.specs.List.{list_any};
 ghost use Rattle.arrayvec.specs.ArrayVec.{array_vec_len};
 ghost use Rattle.edid_cta.specs.Block.{block_bytes};
 ghost use Rattle.edid_cta.specs.Hdmi.{blocks_of};
-ghost use Rattle.rules_values.specs.VideoCodes.{code_of, block_codes, ext_codes, video_codes, has_code, repeats, is_lone, has_lone_code};
+ghost use Rattle.rules_values.specs.VideoCodes.{code_of, block_svds, ext_svds, svds_of, video_codes, has_code, repeats, is_lone, has_lone_code};
 
 use crate::block_parts::hdmi_codes;
 use crate::ext_parts::blocks_of;
@@ -25,6 +25,61 @@ pub fn code_of(svd: u8) -> u8
     }
 }
 
+/// Appends bytes for which there is room.
+fn append_bytes(svds: &mut ArrayVec<u8, MAX_CODES>, bytes: &[u8])
+    requires { array_vec_len svds.old + length bytes.now ≤ MAX_CODES }
+    ensures items { svds.new.items ≡ svds.old.items ++ bytes.now }
+    ensures len { array_vec_len svds.new ≡ array_vec_len svds.old + length bytes.now }
+{
+    let _ = svds.try_extend_from_slice(bytes);
+}
+
+/// Appends the bytes of a video data block.
+fn append_block(svds: &mut ArrayVec<u8, MAX_CODES>, block: &DataBlock)
+    requires { array_vec_len svds.old + length block.now.payload.items ≤ MAX_CODES }
+    ensures items { svds.new.items ≡ svds.old.items ++ block_svds block.now }
+    ensures len { array_vec_len svds.new ≤ array_vec_len svds.old + length block.now.payload.items }
+{
+    if matches!(block.kind, BlockKind::Video) {
+        append_bytes(svds, block.payload.as_slice());
+    }
+}
+
+/// Appends the bytes of the video data blocks among these.
+fn append_blocks(svds: &mut ArrayVec<u8, MAX_CODES>, blocks: &[DataBlock])
+    requires { array_vec_len svds.old + length (flat_map block_bytes blocks.now) ≤ MAX_CODES }
+    ensures items { svds.new.items ≡ svds.old.items ++ flat_map block_svds blocks.now }
+    ensures len { array_vec_len svds.new ≤ array_vec_len svds.old + length (flat_map block_bytes blocks.now) }
+{
+    if let [block, rest @ ..] = blocks {
+        append_block(svds, block);
+        append_blocks(svds, rest);
+    }
+}
+
+/// Appends the bytes of an extension's video data blocks.
+fn append_ext(svds: &mut ArrayVec<u8, MAX_CODES>, ext: &Ext)
+    requires { array_vec_len svds.old + 123 ≤ MAX_CODES }
+    ensures items { svds.new.items ≡ svds.old.items ++ ext_svds ext.now }
+    ensures len { array_vec_len svds.new ≤ array_vec_len svds.old + 123 }
+{
+    if let Ext::Cta(cta) = ext {
+        append_blocks(svds, cta.blocks.as_slice());
+    }
+}
+
+/// The bytes of all video data blocks: short video descriptors (CTA-861-D, section 7.5.1).
+pub fn svds(extensions: &[Ext]) -> ArrayVec<u8, MAX_CODES>
+    requires { length extensions.now ≤ 3 }
+    ensures { result.items ≡ svds_of extensions.now }
+{
+    let mut svds = ArrayVec::new();
+    for ext in extensions {
+        append_ext(&mut svds, ext);
+    }
+    svds
+}
+
 /// Appends the codes of some bytes.
 fn append_codes(codes: &mut ArrayVec<u8, MAX_CODES>, bytes: &[u8])
     requires { array_vec_len codes.old + length bytes.now ≤ MAX_CODES }
@@ -36,49 +91,13 @@ fn append_codes(codes: &mut ArrayVec<u8, MAX_CODES>, bytes: &[u8])
     }
 }
 
-/// Appends the codes of a data block, of which there are no more than bytes in it.
-fn append_block(codes: &mut ArrayVec<u8, MAX_CODES>, block: &DataBlock)
-    requires { array_vec_len codes.old + length block.now.payload.items ≤ MAX_CODES }
-    ensures items { codes.new.items ≡ codes.old.items ++ block_codes block.now }
-    ensures len { array_vec_len codes.new ≤ array_vec_len codes.old + length block.now.payload.items }
-{
-    if matches!(block.kind, BlockKind::Video) {
-        append_codes(codes, block.payload.as_slice());
-    }
-}
-
-/// Appends the codes of data blocks.
-fn append_blocks(codes: &mut ArrayVec<u8, MAX_CODES>, blocks: &[DataBlock])
-    requires { array_vec_len codes.old + length (flat_map block_bytes blocks.now) ≤ MAX_CODES }
-    ensures items { codes.new.items ≡ codes.old.items ++ flat_map block_codes blocks.now }
-    ensures len { array_vec_len codes.new ≤ array_vec_len codes.old + length (flat_map block_bytes blocks.now) }
-{
-    if let [block, rest @ ..] = blocks {
-        append_block(codes, block);
-        append_blocks(codes, rest);
-    }
-}
-
-/// Appends the codes of an extension.
-fn append_ext(codes: &mut ArrayVec<u8, MAX_CODES>, ext: &Ext)
-    requires { array_vec_len codes.old + 123 ≤ MAX_CODES }
-    ensures items { codes.new.items ≡ codes.old.items ++ ext_codes ext.now }
-    ensures len { array_vec_len codes.new ≤ array_vec_len codes.old + 123 }
-{
-    if let Ext::Cta(cta) = ext {
-        append_blocks(codes, cta.blocks.as_slice());
-    }
-}
-
 /// The codes of all video data blocks.
 pub fn video_codes(extensions: &[Ext]) -> ArrayVec<u8, MAX_CODES>
     requires { length extensions.now ≤ 3 }
     ensures { result.items ≡ video_codes extensions.now }
 {
     let mut codes = ArrayVec::new();
-    for ext in extensions {
-        append_ext(&mut codes, ext);
-    }
+    append_codes(&mut codes, svds(extensions).as_slice());
     codes
 }
 

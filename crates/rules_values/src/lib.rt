@@ -13,7 +13,7 @@ pub use base_parts::{
     some_tagged,
 };
 pub use block_parts::{Sought, hdmi_codes, hdmi_of, is_forum, is_speakers};
-pub use codes::{MAX_CODES, code_of, repeats, some_lone_code, video_codes};
+pub use codes::{MAX_CODES, code_of, repeats, some_lone_code, svds, video_codes};
 pub use ext_parts::{
     begins_with_map, blocks_of, hdmi_count, native_count, some_block, some_cta, some_forum_first,
     some_hidden_sound, some_ill_padding, some_native, some_overscan,

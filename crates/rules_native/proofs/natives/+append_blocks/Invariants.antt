@@ -1,5 +1,0 @@
-use Rattle.std.proofs.Common.{length}
-use Rattle.rules_native.proofs.natives.+append_blocks.Given as goal
-
-abbrev pub decreases-append_blocks : goal.decreases-append_blocks
-decreases-append_blocks l = length l.blocks.now
