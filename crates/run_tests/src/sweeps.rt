@@ -11,8 +11,6 @@ use text_core::Kind;
 /// How wide the pulses are, in microseconds.
 const POLL_WIDTHS: &[u64] = &[1, 400, 3_000, 3_700, 10_000];
 
-const FRAME_WIDTHS: &[u64] = &[1, 400, 3_000];
-
 /// A poll of the television begins at 12,000 and is complete at 39,150.
 const POLL_BEGIN: u64 = 12_000;
 
@@ -92,11 +90,24 @@ fn sends_once_under(rt: &impl Abort, from: u64, width: u64) {
     assert!(rt; net.device(1).queue_len() == 0);
 }
 
-#[test]
-fn a_frame_under_each_pulse(rt: HostRuntime) {
-    for width in FRAME_WIDTHS {
-        for from in FRAME_BEGIN..FRAME_COMPLETE + 1 {
-            sends_once_under(&rt, from, *width);
-        }
+// A pulse of this width at each microsecond of the frame.
+fn sends_once_under_each(rt: &impl Abort, width: u64) {
+    for from in FRAME_BEGIN..FRAME_COMPLETE + 1 {
+        sends_once_under(rt, from, width);
     }
+}
+
+#[test]
+fn a_frame_under_each_pulse_of_a_microsecond(rt: HostRuntime) {
+    sends_once_under_each(&rt, 1);
+}
+
+#[test]
+fn a_frame_under_each_pulse_of_400_microseconds(rt: HostRuntime) {
+    sends_once_under_each(&rt, 400);
+}
+
+#[test]
+fn a_frame_under_each_pulse_of_3_milliseconds(rt: HostRuntime) {
+    sends_once_under_each(&rt, 3_000);
 }
