@@ -1,6 +1,6 @@
 -- The first remarks of an audit, and tests where none is spoken of.
 use Rattle.std.proofs.Common.{◌≡◌, ℕ, zero, suc, ◌+◌, ◌-◌, ◌||◌, Bool, true, false, if◌then◌else◌, is_some, filter, take, List, [], ◌∷◌, ◌++◌, Option, Some, None, refl, sym, ap, ◌∙◌, append_assoc, arith}
-use Rattle.std.specs.List.{flat_map, list_any}
+use Rattle.std.specs.List.{flat_map}
 use Rattle.audit_lines.specs.Kinds.{is_remark, kind_of}
 use Rattle.expect_run.specs.Report.{Report, shown_line}
 use Rattle.audit_expect.specs.Wanted.{WantedRemarks, is_any_wanted, wanted_of, with_wanted, with_wanted_lines}

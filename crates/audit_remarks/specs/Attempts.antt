@@ -1,10 +1,11 @@
 -- Retransmission: attempts at a frame (CEC 7.1: a frame that was not acknowledged is sent again, five times at most, each time
 -- after a signal free time of three bit periods, CEC 9.1). An attempt is a reading with a header. It repeats the frame before
--- it of the same initiator where that was not taken, where both have the same bits, and where the line was never free for
--- five bit periods from that one on, since then others may begin (own: five, which an initiator that repeats has not waited).
+-- it of the same initiator where that was not taken, where both have the same bits, and where the line was never free for a
+-- new initiator's time from that one on, since then others may begin (own: an initiator that repeats has not waited as long).
 use Rattle.std.specs.Prelude.{ℕ, ◌+◌, ◌%◌, ◌==◌, Bool, true, false, not, nat_le, nat_lt, ◌&&◌, ◌||◌, if◌then◌else◌, List, [], ◌∷◌, length, replicate, slice_index_or, slice_set, Option, Some, None}
 use mathlib.Core.Bool.{beq}
-use Rattle.line_frames.specs.declared.Ending.{Ending}
+use Rattle.line_frames.specs.FreeTime.{free_time_of}
+use Rattle.line_frames.specs.declared.free_time.FreeTime.TheVariants.{NewInitiator}
 use Rattle.line_reading.specs.Readings.{Listed}
 use Rattle.audit_widths.specs.Spreads.{sum_of}
 use Rattle.audit_remarks.specs.declared.attempts.Attempts.{Attempts}
@@ -31,9 +32,10 @@ repeats earlier bits = not (is_poll earlier || is_poll bits) && same_from 0 earl
 abbrev pub no_attempts : Attempts
 no_attempts = record { since = 0; last = replicate 16 None }
 
--- where the frames began between which the line was never free for five bit periods, with one that begins after this time
+-- where the frames began between which the line was never free for a new initiator's time, with one that begins after this
+-- time
 abbrev pub since_with : Attempts → ℕ → ℕ → ℕ
-since_with a begin free = if nat_lt free 12000 then a.since else begin
+since_with a begin free = if nat_lt free (free_time_of NewInitiator) then a.since else begin
 
 -- which attempt a reading of these bits is, from 1
 abbrev pub attempt_after : ℕ → List Bool → Option LastFrame → ℕ

@@ -1,7 +1,8 @@
--- The signal free time before a frame (CEC 9.1): the time since the start of the final bit of the frame before. It is three
--- nominal bit periods of 2,400 at least before an initiator whose frame was not taken tries again, five before a new
--- initiator sends, and seven before one sends again after a frame that was taken.
+-- The signal free time before a frame (CEC 9.1): the time since the start of the final bit of the frame before.
 use Rattle.std.specs.Prelude.{ℕ, ◌-◌, ◌==◌, Bool, true, false, not, nat_lt, nat_le, ◌&&◌, ◌||◌, if◌then◌else◌, List, [], ◌∷◌, length, Option, Some, None}
+use Rattle.line_frames.specs.FreeTime.{free_time_of}
+use Rattle.line_frames.specs.declared.free_time.FreeTime.{FreeTime}
+use Rattle.line_frames.specs.declared.free_time.FreeTime.TheVariants.{Retry, NewInitiator, PresentInitiator}
 use Rattle.line_frames.specs.declared.Ending.{Ending}
 use Rattle.line_frames.specs.declared.Ending.TheVariants.{BadStart, Short}
 use Rattle.line_reading.specs.Readings.{Listed}
@@ -51,17 +52,19 @@ previous_with p x lows =
 abbrev pub free_before : Previous → ℕ → ℕ
 free_before p begin = begin - p.final_bit
 
--- What is due before a frame of another initiator is five periods, but three for one whose own last frame was not taken. So
--- it is for one of a greater address: it may have lost the line to the frame before (CEC 7.2), of which the line shows nothing,
--- and then its attempt has failed (own). Where one of the two senders is not known, it is three (own).
-abbrev pub due_after : ℕ → Bool → ℕ → Bool → ℕ
+-- What is due before a frame of the same initiator is a present initiator's where the one before was taken, and a retry's
+-- where it was not. Before one of another initiator it is a new one's, but a retry's where its own last frame was not taken.
+-- So it is for one of a greater address: it may have lost the line to the frame before (CEC 7.2), of which the line shows
+-- nothing, and then its attempt has failed (own). Where one of the two senders is not known, it is a retry's (own).
+abbrev pub due_after : ℕ → Bool → ℕ → Bool → FreeTime
 due_after initiator taken next again =
-    if initiator == next then (if taken then 16800 else 7200) else if again || nat_lt initiator next then 7200 else 12000
+    if initiator == next then (if taken then PresentInitiator else Retry) else if again || nat_lt initiator next then Retry else NewInitiator
 
 abbrev pub free_due : EarlierSender → List Bool → Bool → ℕ
 free_due Nothing bits again = 0
-free_due Somebody bits again = 7200
-free_due (Frame initiator taken) bits again = if is_known bits then due_after initiator taken (initiator_of bits) again else 7200
+free_due Somebody bits again = free_time_of Retry
+free_due (Frame initiator taken) bits again =
+    if is_known bits then free_time_of (due_after initiator taken (initiator_of bits) again) else free_time_of Retry
 
 -- A reading comes too soon after less. Of a bad start nothing is said.
 abbrev pub too_soon : Previous → Listed → Bool → Option TooSoon

@@ -1,5 +1,5 @@
 -- How a message comes, and how many operands it has (CEC 13 and 17, the tables of messages).
-use Rattle.std.specs.Prelude.{ℕ, ◌-◌, ◌==◌, Bool, true, false, not, nat_lt, ◌&&◌, ◌||◌, if◌then◌else◌, List, length, Option, Some, None}
+use Rattle.std.specs.Prelude.{ℕ, ◌-◌, ◌==◌, Bool, true, false, nat_lt, ◌&&◌, ◌||◌, if◌then◌else◌, List, length, Option, Some, None}
 use Rattle.message_table.specs.declared.row.Rule.{Rule}
 use Rattle.message_table.specs.Table.{rule_of}
 use Rattle.audit_remarks.specs.declared.messages.Missing.{Missing}

@@ -8,11 +8,7 @@ use crate::header::{
     BLOCK, HEADER, failed_block, initiator_of, is_delivered, is_poll, is_to_all, seeks_address,
 };
 use arrayvec::ArrayVec;
-use line_frames::Reading;
-
-/// Five nominal bit periods, from the start of a frame's last bit on, in microseconds: an initiator that repeats its frame
-/// has not waited for as long (CEC 9.1).
-const LULL: u64 = 12_000;
+use line_frames::{FreeTime, Reading};
 
 /// The last frame of an initiator: where it began, its bits, whether it was taken, and which attempt it was.
 #[derive(Debug, Drop)]
@@ -110,10 +106,15 @@ impl Attempts {
         }
     }
 
+    // Within a new initiator's free time nobody but an initiator that repeats its frame begins.
     fn since_with(&self, begin: u64, free: u64) -> u64
         ensures { result ≡ since_with self.now begin free }
     {
-        if free < LULL { self.since } else { begin }
+        if free < FreeTime::NewInitiator.micros() {
+            self.since
+        } else {
+            begin
+        }
     }
 
     fn attempt_of(&self, begin: u64, free: u64, bits: &[bool]) -> u64

@@ -5,14 +5,7 @@ ghost use Rattle.audit_remarks.specs.Free.{before_of, due_after, final_bit, fina
 
 use crate::header::{HEADER, initiator_of, is_delivered, seeks_address};
 use audit_widths::Low;
-use line_frames::{Addr, Ending, Reading};
-
-/// Three, five and seven nominal bit periods (CEC 9.1), in microseconds.
-const RETRY: u64 = 7_200;
-
-const NEW_INITIATOR: u64 = 12_000;
-
-const PRESENT_INITIATOR: u64 = 16_800;
+use line_frames::{Addr, Ending, FreeTime, Reading};
 
 /// Who sent a frame.
 #[derive(Clone, Copy, Debug, PartialEq, Eq)]
@@ -46,15 +39,19 @@ fn is_known(bits: &[bool]) -> bool
     bits.len() >= HEADER && !seeks_address(bits) && initiator_of(bits) != Addr::BROADCAST
 }
 
-fn due_after(initiator: u8, taken: bool, next: u8, again: bool) -> u64
+fn due_after(initiator: u8, taken: bool, next: u8, again: bool) -> FreeTime
     ensures { result ≡ due_after initiator taken next again }
 {
     if initiator == next {
-        if taken { PRESENT_INITIATOR } else { RETRY }
+        if taken {
+            FreeTime::PresentInitiator
+        } else {
+            FreeTime::Retry
+        }
     } else if again || initiator < next {
-        RETRY
+        FreeTime::Retry
     } else {
-        NEW_INITIATOR
+        FreeTime::NewInitiator
     }
 }
 
@@ -98,12 +95,12 @@ impl EarlierSender {
     {
         match self {
             EarlierSender::Nothing => 0,
-            EarlierSender::Somebody => RETRY,
+            EarlierSender::Somebody => FreeTime::Retry.micros(),
             EarlierSender::Frame(initiator, taken) => {
                 if !is_known(bits) {
-                    return RETRY;
+                    return FreeTime::Retry.micros();
                 }
-                due_after(initiator, taken, initiator_of(bits), again)
+                due_after(initiator, taken, initiator_of(bits), again).micros()
             }
         }
     }

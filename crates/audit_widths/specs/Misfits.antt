@@ -1,6 +1,8 @@
 -- Which widths of a reading are out of their windows (CEC 5.2.1: start bit; 5.2.2: data bits; 7.4: the low drive that
 -- breaks a message, 1.4 to 1.6 nominal bit periods). Widths in microseconds.
 use Rattle.std.specs.Prelude.{ℕ, ◌-◌, ◌==◌, Bool, true, false, not, nat_lt, nat_le, ◌&&◌, if◌then◌else◌, List, [], ◌∷◌, length, slice_index_or, Option, Some, None}
+use Rattle.line_frames.specs.FreeTime.{free_time_of}
+use Rattle.line_frames.specs.declared.free_time.FreeTime.TheVariants.{Retry}
 use Rattle.line_frames.specs.declared.Ending.{Ending}
 use Rattle.line_frames.specs.declared.Ending.TheVariants.{Complete, Short, Long}
 use Rattle.line_reading.specs.declared.times.Span.{Span}
@@ -56,9 +58,9 @@ has_all Long = true
 has_all _ = false
 
 -- The time to the next fall is a bit's, but for the last bit of a whole reading, after which the line is free; and a fall
--- that comes 7,200 or more after it, the shortest signal free time (CEC 9.1), begins something else (own).
+-- that comes the shortest signal free time (CEC 9.1) or more after it begins something else (own).
 abbrev pub is_total : Ending → ℕ → ℕ → ℕ → Bool
-is_total ending last slot total = nat_lt total 7200 && not (has_all ending && (slot == last))
+is_total ending last slot total = nat_lt total (free_time_of Retry) && not (has_all ending && (slot == last))
 
 abbrev pub total_by : Ending → ℕ → ℕ → ℕ → Option ℕ → Option Misfit
 total_by ending last slot fall None = None

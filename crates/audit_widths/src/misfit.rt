@@ -3,7 +3,7 @@ ghost use Rattle.std.specs.Prelude.{◌≡◌, ◌-◌, ◌<◌};
 ghost use Rattle.audit_widths.specs.Misfits.{drive_within, fits, has_all, is_total, last_of, last_slot, long_by, long_low, low_drive, low_misfit, low_window, misfit_of, slot_bit, total_misfit, total_window};
 
 use crate::low::Low;
-use line_frames::Ending;
+use line_frames::{Ending, FreeTime};
 use line_reading::STANDARD;
 
 /// The start bit's low period, and the whole of it (CEC 5.2.1).
@@ -44,9 +44,6 @@ const DRIVE_WITHIN: WidthWindow = WidthWindow {
     least: 3_360,
     greatest: 5_540,
 };
-
-/// The shortest signal free time (CEC 9.1): a fall that comes as late begins something else.
-const FREE: u64 = 7_200;
 
 /// A width's window, its ends too, in microseconds.
 #[derive(Clone, Copy, Debug, PartialEq, Eq)]
@@ -152,7 +149,7 @@ fn has_all(ending: Ending) -> bool
 pub(crate) fn is_total(ending: Ending, last: u64, slot: u64, total: u64) -> bool
     ensures { result ≡ is_total ending last slot total }
 {
-    total < FREE && !(has_all(ending) && slot == last)
+    total < FreeTime::Retry.micros() && !(has_all(ending) && slot == last)
 }
 
 /// Whether the next fall comes too soon or too late after a slot's, of a reading that ended so after these bits. Nothing is

@@ -30,7 +30,7 @@ use Rattle.capture_core.specs.Reading.{at_word, lines_read, with_edges}
 use Rattle.capture_core.specs.declared.fault.Cause.{Cause}
 use Rattle.capture_core.proofs.Passing.{alone}
 use Rattle.capture_csv.specs.Clock.{cut_decimals}
-use Rattle.capture_csv.specs.Csv.{csv_form, edges_in, fields_of, level_by, moved_by, moved_to, nanos_by, nanos_of, named_read, row_by, row_in, row_of, signed_by, since, since_by, time_of, took, took_by, with_row, without_return, word_at_fault}
+use Rattle.capture_csv.specs.Csv.{csv_form, edges_in, fields_of, level_by, moved_by, moved_to, nanos_by, nanos_of, named_read, row_by, row_in, row_of, signed_by, since, since_by, time_of, took, took_by, without_return, word_at_fault}
 use Rattle.capture_csv.specs.Text.{changes, head, row_line, row_text, stretch_text, CsvFilesAreReadBack}
 use Rattle.capture_csv.specs.declared.row.Time.{Time}
 use Rattle.capture_csv.specs.declared.reader.CsvReader.{CsvReader}

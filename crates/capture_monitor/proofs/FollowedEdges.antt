@@ -3,7 +3,6 @@ use Rattle.std.proofs.Common.{◌≡◌, ℕ, suc, ◌+◌, ◌<◌, ◌≤◌, 
 use Rattle.std.proofs.Math.Seq.{drop-cons}
 use Rattle.std.proofs.Math.ListN.{drop_of_length-le}
 use Rattle.std.specs.Option.{option_to_list}
-use Rattle.std.specs.Io.KnownBytes.{Appends}
 use Rattle.std.proofs.lemmas.Bool.Decides.{nat_tests}
 use Rattle.text_core.specs.declared.sink.WriteFault.{WriteFault}
 use Rattle.line_wave.specs.declared.Edge.{Edge}
@@ -11,7 +10,6 @@ use Rattle.line_wave.specs.Line.{Line, was_low}
 use Rattle.line_reading.specs.declared.times.Windows.{Windows}
 use Rattle.line_reading.specs.Windows.{standard}
 use Rattle.line_reading.specs.Readings.{Listed}
-use Rattle.text_core.specs.Cut.{CutOff}
 use Rattle.text_core.specs.Adds.{Adds, Tally}
 use Rattle.text_core.proofs.Adding.{cut_short, nothing, then}
 use Rattle.capture_core.specs.Edges.{AreInTurn, Captured, EndBy, IsCapture, level_at, line_of_edges}

@@ -1,5 +1,5 @@
 -- What is read of a line by windows: instant by instant, up to the next edge or wake, and by the standard's windows.
-use Rattle.std.proofs.Common.{◌≡◌, ℕ, zero, suc, ◌+◌, ◌-◌, ◌<◌, ◌≤◌, Bool, List, [], ◌++◌, append-nil, append_assoc, Option, Some, refl, arith, ap, ◌∙◌, sym}
+use Rattle.std.proofs.Common.{◌≡◌, ℕ, zero, suc, ◌+◌, ◌-◌, ◌<◌, ◌≤◌, Bool, List, [], ◌++◌, append-nil, append_assoc, Some, refl, arith, ap, ◌∙◌, sym}
 use Rattle.std.specs.Option.{option_to_list}
 use Rattle.line_wave.specs.Line.{Line, was_low}
 use Rattle.line_reading.specs.declared.receiver.Told.TheVariants.{Nothing}

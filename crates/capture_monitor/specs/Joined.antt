@@ -5,6 +5,8 @@ use Rattle.std.specs.List.{concat}
 use Rattle.std.specs.Io.KnownBytes.{Appends}
 use Rattle.text_core.specs.declared.sink.WriteFault.{WriteFault}
 use Rattle.line_wave.specs.Line.{Line}
+use Rattle.line_frames.specs.FreeTime.{free_time_of}
+use Rattle.line_frames.specs.declared.free_time.FreeTime.TheVariants.{Retry}
 use Rattle.line_reading.specs.declared.times.Windows.{Windows}
 use Rattle.line_reading.specs.Readings.{Listed, readings_of}
 use Rattle.text_core.specs.Cut.{CutOff}
@@ -14,10 +16,10 @@ use Rattle.capture_monitor.specs.Watch.{listed_line}
 
 -- ---- when the line is idle
 
--- the line was high for three bit periods of 2,400 microseconds before an instant, in the capture
+-- the line was high for the shortest signal free time (CEC 9.1) before an instant, in the capture
 pub record IsIdle (low : Line) (t : ℕ) : Type 0 where
-  pub long : 7200 ≤ t
-  pub high : (u : ℕ) → t ≤ u + 7200 → u < t → low u ≡ false
+  pub long : free_time_of Retry ≤ t
+  pub high : (u : ℕ) → t ≤ u + free_time_of Retry → u < t → low u ≡ false
 
 -- the first such instant of a capture, or its end, where there is none before it
 pub record IsJoined (low : Line) (end t : ℕ) : Type 0 where
@@ -28,7 +30,7 @@ pub record IsJoined (low : Line) (end t : ℕ) : Type 0 where
 -- by the instant since which the line is high, up to another one
 abbrev pub idle_by : Option ℕ → ℕ → Option ℕ
 idle_by None until = None
-idle_by (Some since) until = if nat_le (since + 7200) until then Some (since + 7200) else None
+idle_by (Some since) until = if nat_le (since + free_time_of Retry) until then Some (since + free_time_of Retry) else None
 
 -- ---- what is written
 

@@ -11,21 +11,19 @@ ghost use Rattle.capture_monitor.specs.Watch.{WritesFile, as_file, readings_text
 use crate::monitor::Monitor;
 use crate::watching::add_reported;
 use capture_core::Capture;
-use line_frames::Reading;
+use line_frames::{FreeTime, Reading};
 use line_reading::{STANDARD, Windows};
 use text_core::{Counted, Piece, Sink, WriteFault};
 
-/// Three nominal bit periods of 2,400 microseconds (HDMI 1.4, CEC 5.2.2), for which the line is high before a reading that is
-/// sure to begin with a start bit. No frame has its line high for so long.
-const THREE_PERIODS: u64 = 7_200;
-
-// The instant at which the line has been high long enough, up to another one.
+// The instant, up to another one, at which the line has been high for the shortest signal free time (CEC 9.1). No frame has its
+// line high for so long, so a reading after it is sure to begin with a start bit.
 fn idle_by(high_since: Option<u64>, until: u64) -> Option<u64>
     ensures { result ≡ idle_by high_since until }
 {
     let since = high_since?;
-    if u128::from(since) + u128::from(THREE_PERIODS) <= u128::from(until) {
-        Some(since + THREE_PERIODS)
+    let free = FreeTime::Retry.micros();
+    if u128::from(since) + u128::from(free) <= u128::from(until) {
+        Some(since + free)
     } else {
         None
     }

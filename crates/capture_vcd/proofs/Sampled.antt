@@ -22,7 +22,7 @@ use Rattle.capture_core.specs.declared.fault.Cause.{Cause}
 use Rattle.capture_core.proofs.Passing.{line_onward}
 use Rattle.capture_vcd.specs.Scale.{count_times, counted_word, instant_of, micros, of_unit, unit_of, within}
 use Rattle.capture_vcd.specs.Dump.{State, Stepped, dump_form, end_by, first_state, edges_in, free, in_field, in_section, is_end, is_high, is_mark, is_vector, is_none, is_other_value, no_edge, keyword, end_of_definitions, named_by, parts_of, scalar, scale_begun, scale_made, scale_made_by, after_time, timed_by, took, after_value, vector_value}
-use Rattle.capture_vcd.specs.Wire.{Change, Part, Wire, DumpsAreSampled, IsSampled, change_by, change_of, changes_in, femtoseconds, first_of, id_after, is_alone, is_by, is_scalar, is_some_word, last_tick, level_of, scale_after, scale_by, section_after, tick_after, unit_in, unit_made, wire_by, wire_end, wire_from, wire_in, words_in}
+use Rattle.capture_vcd.specs.Wire.{Change, Part, Wire, DumpsAreSampled, IsSampled, change_by, change_of, changes_in, femtoseconds, first_of, id_after, is_alone, is_by, is_scalar, is_some_word, last_tick, level_of, scale_after, scale_by, section_after, tick_after, unit_in, unit_made, wire_by, wire_end, wire_from, words_in}
 use Rattle.capture_vcd.specs.declared.scale.Count.{Count}
 use Rattle.capture_vcd.specs.declared.scale.Count.TheVariants.{One, Ten, Hundred}
 use Rattle.capture_vcd.specs.declared.reader.DefinitionField.{DefinitionField}

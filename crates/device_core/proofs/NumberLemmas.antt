@@ -11,7 +11,7 @@ use Rattle.device_core.specs.declared.place.Place.{Place}
 use Rattle.device_features.specs.declared.record.Heard.{Heard}
 use Rattle.line_frames.specs.declared.Fate.{Fate}
 use Rattle.line_frames.specs.declared.Fate.TheVariants.{Delivered, Unacked, Lost, Broken}
-use Rattle.device_core.specs.declared.free_time.FreeTime.TheVariants.{Retry}
+use Rattle.line_frames.specs.declared.free_time.FreeTime.TheVariants.{Retry}
 use Rattle.device_features.specs.declared.keys.Key.{Key}
 use Rattle.device_core.specs.declared.keys.KeyError.{KeyError}
 use Rattle.device_core.specs.declared.device.SubmitError.{SubmitError}

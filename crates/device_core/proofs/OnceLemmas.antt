@@ -6,7 +6,7 @@ use Rattle.device_core.specs.declared.place.Place.{Place}
 use Rattle.device_core.specs.declared.place.Place.TheVariants.{Off, Polls, Settled}
 use Rattle.line_frames.specs.declared.Fate.{Fate}
 use Rattle.line_frames.specs.declared.Fate.TheVariants.{Delivered, Unacked, Lost, Broken}
-use Rattle.device_core.specs.declared.free_time.FreeTime.TheVariants.{Retry}
+use Rattle.line_frames.specs.declared.free_time.FreeTime.TheVariants.{Retry}
 use Rattle.device_core.specs.State.{State, addresses_held, holds, is_held, with_queued, speaks, frame_of, one_more}
 use Rattle.device_features.specs.Kinds.{is_switch, second_addresses, type_of}
 use Rattle.device_core.specs.Place.{begins, settles, place_after_fate, list_of, with_reports, reported_by, reported_from, sent_by, polled_at, frame_sent, after_front, after_failure, tries, tries_after, place_after_poll, front_is_poll, class_of_poll}

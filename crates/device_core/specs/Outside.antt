@@ -1,8 +1,8 @@
 -- A device from outside (own): its driver says which addresses it holds, what it sends, and when it drops what it has to send.
 use Rattle.std.specs.Prelude.{◌≡◌, ℕ, Bool, true, false, List, [], if◌then◌else◌, Option, Some, None}
 use Rattle.text_core.specs.declared.phys.Phys.{Phys}
-use Rattle.device_core.specs.declared.free_time.FreeTime.{FreeTime}
-use Rattle.device_core.specs.declared.free_time.FreeTime.TheVariants.{Retry, PresentInitiator}
+use Rattle.line_frames.specs.declared.free_time.FreeTime.{FreeTime}
+use Rattle.line_frames.specs.declared.free_time.FreeTime.TheVariants.{Retry, PresentInitiator}
 use Rattle.device_core.specs.declared.place.Place.TheVariants.{Settled}
 use Rattle.device_core.specs.declared.keys.KeyError.{KeyError}
 use Rattle.device_core.specs.declared.keys.KeyError.TheVariants.{NotForKind, OffWire}

@@ -8,8 +8,8 @@ use Rattle.device_core.specs.declared.place.Place.{Place}
 use Rattle.device_core.specs.declared.place.Place.TheVariants.{Off, Polls, Settled}
 use Rattle.line_frames.specs.declared.Fate.{Fate}
 use Rattle.line_frames.specs.declared.Fate.TheVariants.{Delivered, Unacked, Lost, Broken}
-use Rattle.device_core.specs.declared.free_time.FreeTime.{FreeTime}
-use Rattle.device_core.specs.declared.free_time.FreeTime.TheVariants.{Retry, NewInitiator, PresentInitiator}
+use Rattle.line_frames.specs.declared.free_time.FreeTime.{FreeTime}
+use Rattle.line_frames.specs.declared.free_time.FreeTime.TheVariants.{Retry, NewInitiator, PresentInitiator}
 use Rattle.device_core.specs.declared.device.Queued.{Queued}
 use Rattle.device_core.specs.declared.device.SubmitError.{SubmitError}
 use Rattle.device_core.specs.declared.device.SubmitError.TheVariants.{QueueFull, OwnAddress, NoAddress, OffWire}

@@ -4,7 +4,7 @@ use Rattle.std.specs.Prelude.{ℕ, ◌==◌, ◌*◌, ◌+◌, Bool, false, ◌&
 use Rattle.std.specs.List.{list_any}
 use Rattle.text_core.specs.declared.kind.Kind.{Kind}
 use Rattle.text_core.specs.declared.phys.Phys.{Phys}
-use Rattle.device_core.specs.declared.free_time.FreeTime.{FreeTime}
+use Rattle.line_frames.specs.declared.free_time.FreeTime.{FreeTime}
 use Rattle.device_core.specs.declared.place.Place.{Place}
 use Rattle.device_core.specs.declared.place.Place.TheVariants.{Off, Polls, Settled}
 use Rattle.device_features.specs.declared.record.Record.{Record}

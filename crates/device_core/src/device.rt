@@ -3,11 +3,10 @@ ghost use Rattle.std.specs.Prelude.{◌≡◌, ◌<◌, ◌≤◌, ◌==◌, [],
 ghost use Rattle.device_core.specs.State.{with_queued, speaks, holds, is_held, main_of, source, frame_of};
 ghost use Rattle.device_core.specs.Say.{say, say_all};
 
-use crate::free_time::FreeTime;
 use crate::place::Place;
 use arrayvec::ArrayVec;
 use device_features::{DataBlocks, Heard, Port, Record, Say, is_nowhere};
-use line_frames::{Addr, Frame, FrameError};
+use line_frames::{Addr, Frame, FrameError, FreeTime};
 use message_table::Message;
 use std::marker::Model;
 use text_core::{Kind, Phys};

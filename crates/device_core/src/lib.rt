@@ -3,7 +3,6 @@
 
 mod device;
 mod follow;
-mod free_time;
 mod keys;
 mod laws;
 mod outside;
@@ -12,7 +11,6 @@ mod state;
 
 pub use device::{Device, Queued, SubmitError, frame_of};
 pub use device_features::{HeardReport, Key, Port, Record, Volume, VolumeKey};
-pub use free_time::FreeTime;
 pub use keys::KeyError;
 pub use laws::{
     addresses_are_found, addresses_are_listed, fates_keep_once, joining_holds_nothing, kinds_stay,

@@ -3,11 +3,10 @@ ghost use Rattle.std.specs.Prelude.{◌≡◌, Some, None, MatchResult};
 ghost use Rattle.device_core.specs.Outside.{act_fault, after_act, acted_by, class_after_drop};
 
 use crate::device::Device;
-use crate::free_time::FreeTime;
 use crate::keys::KeyError;
 use crate::place::Place;
 use arrayvec::ArrayVec;
-use line_frames::Addr;
+use line_frames::{Addr, FreeTime};
 
 /// What the driver of a device from outside makes it do.
 #[derive(Clone, Copy)]

@@ -6,12 +6,11 @@ ghost use Rattle.device_features.specs.Kinds.{addresses, second_addresses};
 ghost use Rattle.device_core.specs.Place.{begins, settles, tries, tries_after, list_of, place_after_fate, class_of_poll, unregistered, polled_at, settled_at, start_place, fresh, with_reports, reported_from, after_joining, after_leaving, after_front, after_failure, frame_sent, front_is_poll, after_sending, poll_sent, after_waiting, submit_fault, after_submission, front_of, is_allocating};
 
 use crate::device::{Device, Queued, SubmitError};
-use crate::free_time::FreeTime;
 use arrayvec::ArrayVec;
 use device_features::{
     DataBlocks, NOWHERE, Port, Record, addresses, is_nowhere, report_of, second_addresses,
 };
-use line_frames::{Addr, Fate, Frame};
+use line_frames::{Addr, Fate, Frame, FreeTime};
 use text_core::{Kind, Phys};
 
 /// Where a device stands on the wire. A box has a second unit, which begins once the first one has settled; any

@@ -4,11 +4,10 @@ ghost use Rattle.device_core.specs.State.{addresses_held};
 ghost use Rattle.device_core.specs.Place.{front_of, ready_of, is_allocating, is_on_wire};
 
 use crate::device::{Device, Queued, frame_of};
-use crate::free_time::FreeTime;
 use crate::place::{Place, name_copy};
 use arrayvec::ArrayVec;
 use device_features::Record;
-use line_frames::{Addr, Frame};
+use line_frames::{Addr, Frame, FreeTime};
 use text_core::{Kind, Phys};
 
 impl<const Q: usize> Device<Q> {

@@ -1,8 +1,8 @@
 -- Without the meanings the texts are left.
-use Rattle.std.proofs.Common.{◌≡◌, ℕ, ◌+◌, ◌/◌, ◌%◌, ◌==◌, Bool, true, false, nat_lt, if◌then◌else◌, Option, None, Some, Result, Ok, Err, List, [], ◌∷◌, ◌++◌, append-nil, append_assoc, codes, refl, sym, ap, ◌∙◌, arith}
+use Rattle.std.proofs.Common.{◌≡◌, ℕ, ◌+◌, ◌/◌, ◌%◌, ◌==◌, Bool, true, false, nat_lt, if◌then◌else◌, Option, None, Some, Result, Ok, Err, List, [], ◌∷◌, ◌++◌, append_assoc, codes, refl, ap, ◌∙◌, arith}
 use Rattle.std.specs.List.{flat_map}
 use Rattle.std.proofs.lemmas.Bool.Decides.{nat_tests}
-use Rattle.message_text.specs.FrameText.{frame_text, header_text}
+use Rattle.message_text.specs.FrameText.{frame_text}
 use Rattle.audit_core.specs.Kept.{IsPlain, PlainIf, is_remark, without_remarks}
 use Rattle.audit_core.proofs.KeptLines.{by_line, remark_gone}
 use Rattle.audit_core.proofs.OneLine.{plain_frame}

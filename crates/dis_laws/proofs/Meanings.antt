@@ -8,9 +8,9 @@ use Rattle.audit_core.proofs.OneLine.{named, or_else, plain_frame}
 use Rattle.audit_core.proofs.Plain.{plain_codes, plain_more}
 use Rattle.message_hex.specs.Remark.{remark}
 use Rattle.message_meaning.specs.Addresses.{receiver, sender}
-use Rattle.message_meaning.specs.Meaning.{after_word, clause, closing, is_own_poll, joint_of, meaning_line, message_line, opening, other_poll_line, own_poll_line, plain_tail, poll_line, refused_name, remark_lead, remark_word, some_words, statement, tail, told, unread, word, worded}
+use Rattle.message_meaning.specs.Meaning.{after_word, closing, is_own_poll, joint_of, meaning_line, message_line, opening, other_poll_line, own_poll_line, poll_line, refused_name, remark_lead, remark_word, some_words, statement, tail, told, unread, word}
 use Rattle.message_meaning.specs.Sentences.{Sentence, sentence_for}
-use Rattle.dis_laws.proofs.Words.{IsPlainSentence, PlainSentence, plain_choice, plain_receiver, plain_remark, plain_sender, plain_sentence}
+use Rattle.dis_laws.proofs.Words.{PlainSentence, plain_choice, plain_receiver, plain_remark, plain_sender, plain_sentence}
 
 -- ---- parts of a plain text
 

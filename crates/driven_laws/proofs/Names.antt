@@ -15,13 +15,12 @@ use Rattle.edid_tree.specs.Tree.{add_fault, tree_with_device, device_named, has_
 use Rattle.edid_tree.specs.declared.plug.Plug.{Plug}
 use Rattle.edid_tree.specs.declared.plug.AddError.{AddError}
 use Rattle.edid_tree.specs.declared.plug.PlugError.{PlugError}
-use Rattle.line_wave.specs.declared.Stretch.{Stretch}
 use Rattle.text_core.specs.Lines.{is_skipped, lines_of}
 use Rattle.text_core.specs.Number.{number_of}
 use Rattle.text_core.specs.Words.{one_of, three_of, words_of}
 use Rattle.capture_vcd.specs.Dump.{is_end, is_space}
 use Rattle.text_core.specs.Kind.{kind_named}
-use Rattle.room_script.specs.Topology.{Plan, after_line, bytes_of, device_line, device_read, edid_line, edid_read, line_read, lines_read, plug_line, plug_read, topology_of, unless_add, unless_plug, plan_with_words}
+use Rattle.room_script.specs.Topology.{Plan, after_line, bytes_of, device_line, device_read, edid_line, edid_read, line_read, lines_read, plug_line, plug_read, unless_add, unless_plug, plan_with_words}
 use Rattle.text_core.specs.declared.at.At.{At}
 use Rattle.room_script.specs.declared.topology.TopologyCause.{TopologyCause}
 use Rattle.text_core.specs.At.{at_line, at_word}
@@ -29,7 +28,7 @@ use Rattle.room_script.specs.declared.topology.TopologyCause.TheVariants as caus
 use Rattle.device_core.specs.State.{State, frame_of, addresses_held, holds, one_more, with_queued, speaks}
 use Rattle.device_core.specs.Place.{fresh, is_on_wire, after_joining, reported_by, reported_from, start_place}
 use Rattle.device_features.specs.Kinds.{is_switch, type_of}
-use Rattle.room_net.specs.State.{each_from, loose, after_move, moved_by, first_net}
+use Rattle.room_net.specs.State.{loose, after_move}
 use Rattle.room_driven.specs.Driven.{names_of}
 use Rattle.wires_laws.specs.Dumps.{is_word}
 use Rattle.driven_laws.specs.Dumps.{names_in}

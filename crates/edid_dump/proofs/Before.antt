@@ -5,7 +5,7 @@ use Rattle.text_core.specs.Lines.{lines_of}
 use Rattle.edid_dump.specs.declared.rows.DumpForm.{DumpForm}
 use Rattle.edid_dump.specs.declared.dump.DumpError.{DumpError}
 use Rattle.edid_dump.specs.declared.dump.DumpError.TheVariants.{Cut, Long}
-use Rattle.edid_dump.specs.Rows.{form_of, in_order, is_repeat, next_form, row}
+use Rattle.edid_dump.specs.Rows.{form_of, is_repeat, next_form, row}
 use Rattle.edid_dump.specs.Dump.{dumped_from, bytes_of_rows, gathered_by, left_out, ordered, with_repeats, with_row}
 use Rattle.edid_dump.specs.Printed.{TextBeforeIsPassedOver, text_of}
 use Rattle.edid_dump.proofs.Printing.{IsLine, line_before}

@@ -2,7 +2,7 @@
 use Rattle.std.specs.Prelude.{◌≡◌, List, [], ◌∷◌, map}
 use Rattle.edid_base.specs.declared.base.Base.{Base}
 use Rattle.edid_base.specs.declared.descriptor.Descriptor.{Descriptor}
-use Rattle.edid_base.specs.declared.descriptor.Descriptor.TheVariants.{Timing, Name, Text, SerialText, Range, Dummy, Raw}
+use Rattle.edid_base.specs.declared.descriptor.Descriptor.TheVariants.{Name, Text, SerialText, Dummy}
 use Rattle.edid_merge.specs.declared.table.Whose.{Whose}
 use Rattle.edid_merge.specs.declared.table.Whose.TheVariants.{Keep, Own}
 

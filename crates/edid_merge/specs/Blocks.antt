@@ -1,5 +1,5 @@
 -- The data blocks that a receiver answers with (own), of the display's and of its own, one kind after another.
-use Rattle.std.specs.Prelude.{ℕ, ◌+◌, ◌*◌, List, [], ◌∷◌, ◌++◌, length, Option, Some, None, flat_map, filter, find}
+use Rattle.std.specs.Prelude.{ℕ, ◌+◌, ◌*◌, List, [], ◌∷◌, ◌++◌, length, Option, Some, flat_map, filter, find}
 use Rattle.edid_cta.specs.Block.{block_bytes, kind_number}
 use Rattle.edid_cta.specs.declared.block.DataBlock.{DataBlock}
 use Rattle.edid_merge.specs.Mixing.{mixed, speakers_ways, capability_ways, colours_ways, hdmi_ways, forum_ways}

@@ -1,5 +1,5 @@
 -- What a data block tells of (CTA-861-G, section 7.5; HDMI 1.4, section 8.3.2; HDMI 2.1, section 10.3): each block of one thing.
-use Rattle.std.specs.Prelude.{ℕ, ◌==◌, Bool, ◌&&◌, ◌||◌, nat_le, nat_lt, if◌then◌else◌, List, length, slice_index}
+use Rattle.std.specs.Prelude.{ℕ, ◌==◌, Bool, ◌&&◌, ◌||◌, nat_le, if◌then◌else◌, List, length, slice_index}
 use Rattle.edid_cta.specs.Hdmi.{has_identifier}
 use Rattle.edid_cta.specs.declared.block.DataBlock.{DataBlock}
 use Rattle.edid_cta.specs.declared.block.BlockKind.{BlockKind}

@@ -4,6 +4,7 @@
 use Rattle.std.specs.Prelude.{ℕ, ◌+◌, ◌-◌, ◌^◌, ◌==◌, nat_le, min, ◌&&◌, ◌||◌, Bool, true, false, if◌then◌else◌, codes, filter, List, [], ◌∷◌, Option, Some, None, is_some, Result, Ok, Err}
 use Rattle.std.specs.List.{filter_map, list_all, list_any}
 use Rattle.std.specs.Str.{bytes_eq}
+use Rattle.line_rounds.specs.Bounds.{longest_pulsed_round}
 use Rattle.text_core.specs.Lines.{lines_of}
 use Rattle.text_core.specs.Number.{number_of}
 use Rattle.text_core.specs.Words.{words_of}
@@ -42,9 +43,9 @@ times_from first (line ∷ lines) number = if first == number then labelled_time
 abbrev pub time_at : List ℕ → ℕ → Option ℕ
 time_at script number = times_from 1 (lines_of script) number
 
--- An event in the middle of a round waits for the round's close: at most the length of a round (RoundsAreShort of line_rounds).
+-- an event in the middle of a round waits for the round's close
 abbrev pub longest_wait : ℕ
-longest_wait = 458461
+longest_wait = longest_pulsed_round
 
 -- an event was applied no earlier than at its time, and no later than so long after it
 abbrev pub is_at : ℕ → Option ℕ → Bool

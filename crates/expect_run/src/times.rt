@@ -9,12 +9,13 @@ ghost use Rattle.expect_run.specs.Kept.{is_at, is_timed, labelled_time, time_at,
 
 use expect_judge::EventLine;
 use expect_text::unlabelled;
+use line_rounds::LONGEST_PULSED_ROUND;
 use std::alloc::{AllocError, Global};
 use std::collections::HashMap;
 use text_core::{first_line, first_word, number_in};
 
-/// The longest that an event waits, for the close of a round: no round takes longer (`RoundsAreShort` of line_rounds).
-pub(crate) const LONGEST_WAIT: u64 = 458_461;
+/// The longest that an event waits, for the close of a round, in microseconds.
+pub(crate) const LONGEST_WAIT: u64 = LONGEST_PULSED_ROUND;
 
 /// The times of the lines of a script that have a label and are events.
 #[derive(Drop)]

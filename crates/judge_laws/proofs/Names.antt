@@ -22,7 +22,7 @@ use Rattle.device_features.specs.Effects.{effect_of, heard_of, refuses}
 use Rattle.device_features.specs.Keys.{pressing, releasing}
 use Rattle.device_core.specs.declared.device.SubmitError.{SubmitError}
 use Rattle.device_core.specs.declared.keys.KeyError.{KeyError}
-use Rattle.device_core.specs.declared.free_time.FreeTime.TheVariants.{Retry}
+use Rattle.line_frames.specs.declared.free_time.FreeTime.TheVariants.{Retry}
 use Rattle.device_core.specs.State.{State, addresses_held, with_queued, source}
 use Rattle.device_core.specs.Say.{after_effect, say, say_all}
 use Rattle.device_core.specs.Effects.{by_decoded, after_frame, is_for}

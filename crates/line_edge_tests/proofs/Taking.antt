@@ -4,10 +4,9 @@ use Rattle.std.specs.List.{All}
 use Rattle.std.specs.Option.{option_to_list}
 use Rattle.line_wave.specs.declared.Stretch.{Stretch}
 use Rattle.line_wave.specs.Bounds.{latest_heard}
-use Rattle.line_wave.specs.Line.{IsWave}
 use Rattle.line_wave.specs.Pulses.{AreSparse}
 use Rattle.line_wire.specs.declared.edge_wire.EdgeWire.{EdgeWire}
-use Rattle.line_wire.specs.Wired.{Found, IsBegunWith, IsNext}
+use Rattle.line_wire.specs.Wired.{IsBegunWith, IsNext}
 use Rattle.line_wave.proofs.Kept.{sparse_wave}
 
 pub pulse_next : (past : List Stretch) (t : ℕ) (p : Stretch) → AreSparse (past ++ p ∷ []) → p.to < latest_heard → t ≤ p.from → IsNext past t (Some p)

@@ -6,9 +6,11 @@ ghost use Rattle.std.specs.Prelude.{◌≡◌, ◌+◌, ◌-◌, ◌*◌, ◌/�
 ghost use Rattle.line_frames.specs.Bits.{frame_bits, comes_before, least_among, winners_of};
 
 mod blocks;
+mod free_time;
 mod laws;
 
 use arrayvec::ArrayVec;
+pub use free_time::FreeTime;
 pub use laws::{acknowledge_slots_decide_nothing, frames_are_read, slots_have_their_places};
 use std::marker::Model;
 use thiserror::Error;

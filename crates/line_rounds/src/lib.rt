@@ -17,6 +17,10 @@ pub const ACK_PULL: u64 = LOW_OF_0;
 /// A low drive takes so long from a fall too early (CEC 7.4), in microseconds.
 pub const SHORT_PULL: u64 = 3600;
 
+/// The longest round where the pulls from outside are sparse, from its begin to its rest, in microseconds: a reading of 444,861, a
+/// low drive, and a pulse of 10,000 that begins as that ends (`rounds_are_short`).
+pub const LONGEST_PULSED_ROUND: u64 = 458_461;
+
 /// A place on the line.
 #[derive(Debug, Default, Drop)]
 pub struct Seat {

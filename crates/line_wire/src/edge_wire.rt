@@ -6,6 +6,7 @@ ghost use Rattle.line_wave.specs.Bounds.{latest_begin, latest_heard};
 ghost use Rattle.line_wave.specs.Line.{IsWave};
 ghost use Rattle.line_wave.specs.Sender.{first_slot};
 ghost use Rattle.line_rounds.specs.Machine.{AreSentWell};
+ghost use Rattle.line_rounds.specs.Bounds.{over_by};
 ghost use Rattle.line_rounds.specs.Round.{rest_of};
 ghost use Rattle.line_reading.specs.Hears.{heard_by, hear_in, reported_so};
 ghost use Rattle.line_wire.specs.Pulls.{pull_in};
@@ -549,7 +550,7 @@ impl EdgeWire {
         ensures goes { MatchOption result (is_silent_in self.new ≡ true) (λ edge. self.old.time < self.new.time) }
         ensures at { IfSome result (λ edge. edge.at + 1 ≡ self.new.time) }
         ensures found { (past : List StretchValue) → IsBegunWith past self.old → Follow past coming.now self.old.time → Found past coming.now self.old self.new result }
-        ensures near { (past : List StretchValue) → IsBegunWith past self.old → Follow past coming.now self.old.time → AreSparse (past ++ coming.now) → self.old.time ≤ self.old.begin + 470000 → self.new.time ≤ self.new.begin + 470000 }
+        ensures near { (past : List StretchValue) → IsBegunWith past self.old → Follow past coming.now self.old.time → AreSparse (past ++ coming.now) → self.old.time ≤ self.old.begin + over_by → self.new.time ≤ self.new.begin + over_by }
     {
         let begun = self.begun;
         'wakes: while !self.is_silent() {
@@ -574,7 +575,7 @@ impl EdgeWire {
         ensures goes { MatchOption result (is_silent_in self.new ≡ true) (λ edge. self.old.time < self.new.time) }
         ensures at { IfSome result (λ edge. edge.at + 1 ≡ self.new.time) }
         ensures edge { NextEdges pulls.now self.old result }
-        ensures near { AreSparse pulls.now → self.old.time ≤ self.old.begin + 470000 → self.new.time ≤ self.new.begin + 470000 }
+        ensures near { AreSparse pulls.now → self.old.time ≤ self.old.begin + over_by → self.new.time ≤ self.new.begin + over_by }
     {
         let (_begun, coming) = pulls.split_at(self.begun);
         self.search(coming)
@@ -587,7 +588,7 @@ impl EdgeWire {
         ensures goes { MatchOption result (is_silent_in self.new ≡ true) (λ edge. self.old.time < self.new.time) }
         ensures at { IfSome result (λ edge. edge.at + 1 ≡ self.new.time) }
         ensures found { (past : List StretchValue) → IsBegunWith past self.old → IsNext past self.old.time next → Found past (option_to_list next) self.old self.new result }
-        ensures near { (past : List StretchValue) → IsBegunWith past self.old → IsNext past self.old.time next → AreSparse (past ++ option_to_list next) → self.old.time ≤ self.old.begin + 470000 → self.new.time ≤ self.new.begin + 470000 }
+        ensures near { (past : List StretchValue) → IsBegunWith past self.old → IsNext past self.old.time next → AreSparse (past ++ option_to_list next) → self.old.time ≤ self.old.begin + over_by → self.new.time ≤ self.new.begin + over_by }
     {
         match next {
             None => self.search(&[]),

@@ -29,12 +29,12 @@ use Rattle.device_features.specs.Keys.{pressing, releasing}
 use Rattle.device_features.specs.Kinds.{addresses, is_nowhere, is_outside, is_switch, second_addresses, type_of}
 use Rattle.device_core.specs.declared.device.Queued.{Queued}
 use Rattle.device_core.specs.declared.device.SubmitError.{SubmitError}
-use Rattle.device_core.specs.declared.free_time.FreeTime.TheVariants.{Retry}
+use Rattle.line_frames.specs.declared.free_time.FreeTime.TheVariants.{Retry}
 use Rattle.device_core.specs.declared.keys.KeyError.{KeyError}
 use Rattle.device_core.specs.declared.keys.KeyError.TheVariants.{NotForKind, OffWire}
 use Rattle.device_core.specs.declared.outside.Act.{Act}
 use Rattle.device_core.specs.declared.outside.Act.TheVariants.{Hold, Empty}
-use Rattle.device_core.specs.FreeTime.{free_time_of}
+use Rattle.line_frames.specs.FreeTime.{free_time_of}
 use Rattle.device_core.specs.State.{State, addresses_held, frame_of, holds, one_more, source, speaks, with_queued}
 use Rattle.device_core.specs.Say.{after_effect, say, say_all}
 use Rattle.device_core.specs.Effects.{after_frame, by_decoded, is_for}

@@ -1,8 +1,7 @@
 -- The text of a list at a place.
-use Rattle.std.proofs.Common.{◌≡◌, ℕ, zero, suc, ◌≤◌, Bool, true, false, ◌&&◌, nat_le, IsTrue, List, [], ◌∷◌, length, map, slice_get, Option, Some, None, option_map, ap, refl, sym, ◌∙◌, subst}
+use Rattle.std.proofs.Common.{◌≡◌, ℕ, zero, suc, ◌≤◌, Bool, true, false, ◌&&◌, nat_le, List, [], ◌∷◌, length, map, slice_get, Some, None, option_map, ap, refl, ◌∙◌, subst}
 use Rattle.std.proofs.lemmas.Option.{slice_get-map}
 use Rattle.std.proofs.lemmas.Bool.{leb-true}
-use Rattle.meaning_words.specs.Notes.{text_between}
 use Rattle.meaning_fields.specs.Fields.{are_short, chosen, text_in_code, words}
 use Rattle.meaning_fields.specs.declared.fields.Choice.{Choice}
 

@@ -1,5 +1,5 @@
 -- Bytes of data blocks of one subject, at the front of others.
-use Rattle.std.proofs.Common.{◌≡◌, ◌∙◌, refl, sym, ap, subst, ℕ, suc, ◌+◌, ◌*◌, ◌<◌, ◌==◌, Bool, true, false, cond, arith, tests, List, [], ◌∷◌, ◌++◌, length, get_or, drop, flat_map, filter, append_assoc, Option, Some, None}
+use Rattle.std.proofs.Common.{◌≡◌, ◌∙◌, refl, sym, ap, subst, ℕ, suc, ◌+◌, ◌*◌, ◌<◌, ◌==◌, Bool, true, false, cond, arith, tests, List, [], ◌∷◌, ◌++◌, length, get_or, drop, flat_map, append_assoc, Option, Some, None}
 use Rattle.std.specs.List.{find}
 use Rattle.edid_cta.specs.Block.{block_bytes, kind_number}
 use Rattle.edid_cta.specs.declared.block.BlockKind.{BlockKind}

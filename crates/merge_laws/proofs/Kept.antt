@@ -1,5 +1,5 @@
 -- One block of two tells of what the display's tells of.
-use Rattle.std.proofs.Common.{◌≡◌, ◌∙◌, refl, sym, ap, subst, ℕ, ◌==◌, Bool, true, false, ◌&&◌, ◌||◌, nat_le, cond, arith, tests, List, [], ◌∷◌, length, get_or}
+use Rattle.std.proofs.Common.{◌≡◌, ◌∙◌, refl, sym, ap, ℕ, ◌==◌, Bool, true, false, ◌&&◌, ◌||◌, nat_le, cond, arith, tests, List, [], ◌∷◌, length, get_or}
 use Rattle.edid_cta.specs.Hdmi.{has_identifier}
 use Rattle.edid_cta.specs.declared.block.BlockKind.{BlockKind}
 use Rattle.edid_cta.specs.declared.block.BlockKind.TheVariants as tags

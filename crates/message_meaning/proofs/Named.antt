@@ -1,7 +1,7 @@
 -- Sentences and names are of the same opcodes.
-use Rattle.std.proofs.Common.{◌≡◌, ℕ, ◌==◌, Bool, true, false, List, [], ◌∷◌, map, find, is_some, option_map, Option, None, Some, if◌then◌else◌, refl, ap, sym, ◌∙◌}
-use Rattle.message_table.specs.Table.{Row, name_of, rows}
-use Rattle.message_meaning.specs.Sentences.{Sentence, sentence_in, sentence_of, sentences}
+use Rattle.std.proofs.Common.{◌≡◌, ℕ, ◌==◌, Bool, true, false, List, [], ◌∷◌, map, find, is_some, option_map, Some, if◌then◌else◌, refl, ap, sym, ◌∙◌}
+use Rattle.message_table.specs.Table.{Row, rows}
+use Rattle.message_meaning.specs.Sentences.{Sentence, sentence_in, sentences}
 use Rattle.message_meaning.specs.Named.{NamedOpcodesHaveSentences}
 
 abbrev row_code : Row → ℕ

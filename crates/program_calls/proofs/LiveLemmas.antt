@@ -1,5 +1,5 @@
 -- What a session writes is the text that the program makes of its input.
-use Rattle.std.proofs.Common.{◌≡◌, ◌≢◌, ℕ, ◌==◌, Bool, true, false, not, codes, List, [], ◌∷◌, ◌++◌, length, drop, drop_at, Option, Some, None, Ok, Result, All, refl, sym, ap, subst, ◌∙◌, append-nil, append_assoc}
+use Rattle.std.proofs.Common.{◌≡◌, ◌≢◌, ℕ, ◌==◌, Bool, true, false, not, codes, List, [], ◌∷◌, ◌++◌, length, drop, drop_at, Option, Some, None, Ok, Result, All, refl, sym, ap, subst, ◌∙◌, append-nil}
 use Rattle.std.specs.Io.KnownBytes.{Appends, Keeps, append_known}
 use Rattle.std.proofs.lemmas.Bool.{false≢true}
 use Rattle.std.proofs.lemmas.List.Elements.{All-append, All-cons, All-nil, All-weaker}

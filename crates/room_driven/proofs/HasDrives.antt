@@ -1,13 +1,9 @@
 -- Each run has a text of its drives, as it has one of its line.
 use Rattle.std.proofs.Common.{ℕ, zero, suc, max, List, [], ◌++◌, refl}
-use Rattle.line_wave.specs.declared.Stretch.{Stretch}
-use Rattle.line_wave.specs.Line.{IsWave}
-use Rattle.edid_tree.specs.Node.{Node}
 use Rattle.room_net.specs.State.{first_net}
 use Rattle.room_net.specs.Step.{seats_of}
 use Rattle.capture_vcd.specs.Text.{last}
 use Rattle.capture_wires.specs.Wires.{head}
-use Rattle.room_script.specs.declared.script.TimedEvent.{TimedEvent}
 use Rattle.capture_forms.specs.declared.form.CaptureForm.TheVariants.{Vcd}
 use Rattle.room_run.specs.declared.run.Reporting.TheVariants.{Line}
 use Rattle.room_run.specs.declared.run.Totals.{Totals}

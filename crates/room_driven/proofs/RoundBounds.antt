@@ -1,7 +1,5 @@
 -- A round is early and short, and which pulses are left after it.
-use Rattle.std.proofs.Common.{◌≡◌, ℕ, ◌+◌, ◌≤◌, Bool, max, nat_lt, nat_le, if◌then◌else◌, List, [], ◌∷◌, filter, refl, arith, ap, ap₂}
-use Rattle.std.proofs.lemmas.Bool.Decides.{nat_tests}
-use Rattle.line_wave.specs.declared.Stretch.{Stretch}
+use Rattle.std.proofs.Common.{◌≡◌, ℕ, ◌+◌, ◌≤◌, max, if◌then◌else◌, [], ◌∷◌, refl, arith, ap}
 use Rattle.line_wave.specs.Bounds.{latest_instant, latest_heard}
 use Rattle.line_wave.specs.Line.{line_of}
 use Rattle.line_rounds.specs.declared.Outcome.{Outcome}

@@ -9,7 +9,7 @@ use Rattle.capture_wires.specs.Wires.{head, wires_text}
 use Rattle.room_drives.specs.Stretches.{drives_of}
 use Rattle.device_core.specs.State.{State}
 use Rattle.edid_tree.specs.Node.{Node}
-use Rattle.room_net.specs.State.{NetState, first_net}
+use Rattle.room_net.specs.State.{first_net}
 use Rattle.room_net.specs.Step.{seats_of}
 use Rattle.capture_vcd.specs.Text.{last}
 use Rattle.capture_forms.specs.declared.form.CaptureForm.TheVariants.{Vcd}

@@ -10,7 +10,6 @@ use Rattle.message_table.specs.Table.{decoded_of}
 use Rattle.text_core.specs.declared.phys.Phys.{Phys}
 use Rattle.edid_tree.specs.Node.{Node}
 use Rattle.edid_tree.specs.Path.{address_of}
-use Rattle.line_wave.specs.declared.Stretch.{Stretch}
 use Rattle.line_rounds.specs.declared.Outcome.{Outcome}
 use Rattle.line_rounds.specs.Round.{frames_of, fate_in, close_in}
 use Rattle.line_rounds.specs.Contend.{AreFrames}
@@ -20,7 +19,7 @@ use Rattle.device_features.specs.declared.keys.Key.{Key}
 use Rattle.device_core.specs.declared.keys.KeyError.{KeyError}
 use Rattle.line_frames.specs.declared.Fate.{Fate}
 use Rattle.line_frames.specs.declared.Fate.TheVariants.{Delivered, Unacked, Lost, Broken}
-use Rattle.device_core.specs.declared.free_time.FreeTime.TheVariants.{Retry}
+use Rattle.line_frames.specs.declared.free_time.FreeTime.TheVariants.{Retry}
 use Rattle.device_core.specs.declared.device.Queued.{Queued}
 use Rattle.device_core.specs.declared.device.SubmitError.{SubmitError}
 use Rattle.device_core.specs.State.{State, addresses_held, with_queued, speaks, holds, frame_of, source, one_more}
@@ -42,9 +41,9 @@ use Rattle.room_event.specs.declared.event.Event.TheVariants.{Plug, Unplug, Key 
 use Rattle.room_event.specs.declared.event.EventError.{EventError}
 use Rattle.room_event.specs.declared.event.HeaderNames.{HeaderNames}
 use Rattle.room_net.specs.Start.{contends}
-use Rattle.room_net.specs.State.{NetState, each_from, after_move, moved_by, loose, first_net}
-use Rattle.room_net.specs.Apply.{net_after, applied_unless, event_fault, changed_at, address_for, named_frame, after_sent}
-use Rattle.room_net.specs.Step.{sent_in, seat_of, seats_of, is_among, followed_unless, followed_in, after_fate, device_after, is_sent, after_round}
+use Rattle.room_net.specs.State.{NetState, each_from, after_move, moved_by, loose}
+use Rattle.room_net.specs.Apply.{applied_unless, event_fault, changed_at, address_for, named_frame, after_sent}
+use Rattle.room_net.specs.Step.{sent_in, seat_of, is_among, followed_unless, followed_in, after_fate, device_after, is_sent}
 use Rattle.room_event.specs.Events.{IsFramedEvent}
 use Rattle.room_net.specs.Framed.{HasBlock, IsFramed, AreFramed}
 use Rattle.room_net.specs.Kept.{EventsKeepFramed, FramedSeatsFit, RoundsKeepFramed, StartsAreFramed}

@@ -17,15 +17,16 @@ use Rattle.line_reading.specs.Sending.{sender_pulls}
 use Rattle.line_rounds.specs.Round.{IsRound, IsRoundLine, is_pulled, pulse_pulls, is_acknowledged, is_broken, frames_of, rest_of}
 use Rattle.device_core.specs.State.{State}
 use Rattle.device_core.specs.Place.{front_of, ready_of, is_on_wire, is_allocating}
-use Rattle.device_core.specs.FreeTime.{free_time_of}
-use Rattle.device_core.specs.declared.free_time.FreeTime.{FreeTime}
-use Rattle.device_core.specs.declared.free_time.FreeTime.TheVariants.{Retry, NewInitiator, PresentInitiator}
+use Rattle.line_frames.specs.FreeTime.{free_time_of}
+use Rattle.line_frames.specs.declared.free_time.FreeTime.{FreeTime}
+use Rattle.line_frames.specs.declared.free_time.FreeTime.TheVariants.{Retry, NewInitiator, PresentInitiator}
 use Rattle.room_net.specs.Start.{next_turn, start_from, start_by, start_of, sooner, least_start, first_onset, is_at, contends}
 use Rattle.room_net.specs.State.{NetState, next_start}
 use Rattle.room_net.specs.Step.{sent_in, seat_of, seats_of, after_round}
 use Rattle.room_net.specs.Progress.{ComeLater, IsGoing, IsProgress, RoundsGoOn}
 use Rattle.room_net.proofs.Ahead.{front-ready}
 use Rattle.line_rounds.proofs.Bounds.{rounds_are_short}
+use Rattle.line_rounds.specs.Bounds.{longest_pulsed_round, longest_round}
 use Rattle.room_net.proofs.Each.{refill-all, length-each_from}
 use Rattle.room_net.specs.Step.{devices_after, device_after, is_sent}
 use Rattle.room_net.specs.Sound.{EndsEarly, IsSound}
@@ -242,16 +243,16 @@ going s begin o order later next wave round = by_cause (least_start s.rest s.dev
 
 -- when it closes
 pub closes_by : (seats : List Seat) (begin : ℕ) (pulls : List Stretch) (o : Outcome) (bound : ℕ) → IsWave pulls → IsWave o.wave → IsRound seats begin pulls o
-    → begin + 448500 ≤ bound → All (λ p. p.from ≤ begin + 448500 → p.to ≤ bound) pulls → close_in o ≤ bound
+    → begin + longest_round ≤ bound → All (λ p. p.from ≤ begin + longest_round → p.to ≤ bound) pulls → close_in o ≤ bound
 closes_by seats begin pulls o bound order wave round late all =
     let at = rounds_are_short.ends (line_of o.wave) begin in
     let rest = rounds_are_short.rests seats begin pulls o bound order wave round (omega (arith, late)) (λ k p l e. all k p l (omega (arith, e))) in
     omega (arith, at, rest, round.ends, late)
 
 pub closes_early : (seats : List Seat) (begin : ℕ) (pulls : List Stretch) (o : Outcome) → IsWave pulls → All EndsEarly pulls → IsWave o.wave → IsRound seats begin pulls o
-    → close_in o ≤ max latest_instant (begin + 458500)
+    → close_in o ≤ max latest_instant (begin + longest_pulsed_round)
 closes_early seats begin pulls o order ends wave round =
-    closes_by seats begin pulls o (max latest_instant (begin + 458500)) order wave round (omega arith) (λ k p l e. (let x = ends k p l in omega (arith, x, e)))
+    closes_by seats begin pulls o (max latest_instant (begin + longest_pulsed_round)) order wave round (omega arith) (λ k p l e. (let x = ends k p l in omega (arith, x, e)))
 
 pub progress : (s : NetState) (begin : ℕ) (o : Outcome) → IsWave s.pulses → All EndsEarly s.pulses → ComeLater s.rest s.pulses → next_start s ≡ Some begin
     → IsWave o.wave → IsRound (seats_of s begin) begin s.pulses o → IsProgress s begin (after_round s begin o)
@@ -266,9 +267,9 @@ progress s begin o order ends later next wave round =
       soon = λ bound late all. closes_by (seats_of s begin) begin s.pulses o bound order wave round late all;
     }
 
--- with sparse pulses it closes 458,500 after its begin
-pub closed_soon : (s t : NetState) (begin : ℕ) → IsProgress s begin t → AreSparse s.pulses → t.close ≤ begin + 458500
-closed_soon s t begin p sparse = p.soon (begin + 458500) (omega arith) (λ k q l e. (let n = (sparse.narrow k q l).1 in omega (arith, n, e)))
+-- with sparse pulses it closes so long after its begin
+pub closed_soon : (s t : NetState) (begin : ℕ) → IsProgress s begin t → AreSparse s.pulses → t.close ≤ begin + longest_pulsed_round
+closed_soon s t begin p sparse = p.soon (begin + longest_pulsed_round) (omega arith) (λ k q l e. (let n = (sparse.narrow k q l).1 in omega (arith, n, e)))
 
 -- the same of the values that the round was run with
 pub progress-after : (s t : NetState) (seats : List Seat) (begin : ℕ) (o : Outcome) (ys : List State) (ps pulls : List Stretch) (close : ℕ) → IsSound s → s ≡ t

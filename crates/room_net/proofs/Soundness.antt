@@ -7,15 +7,16 @@ use Rattle.std.proofs.lemmas.List.Elements.{All-cons, All-filter, filter_passes}
 use Rattle.line_wave.specs.declared.Stretch.{Stretch}
 use Rattle.device_core.specs.declared.device.Queued.{Queued}
 use Rattle.line_frames.specs.declared.Fate.{Fate}
-use Rattle.device_core.specs.declared.free_time.FreeTime.{FreeTime}
-use Rattle.device_core.specs.declared.free_time.FreeTime.TheVariants.{Retry, NewInitiator, PresentInitiator}
-use Rattle.device_core.specs.FreeTime.{free_time_of}
+use Rattle.line_frames.specs.declared.free_time.FreeTime.{FreeTime}
+use Rattle.line_frames.specs.declared.free_time.FreeTime.TheVariants.{Retry, NewInitiator, PresentInitiator}
+use Rattle.line_frames.specs.FreeTime.{free_time_of}
 use Rattle.device_core.specs.State.{State}
 use Rattle.device_core.specs.Place.{is_on_wire, is_allocating, ready_of, ready_by, polled_at}
 use Rattle.edid_tree.specs.declared.plug.Plug.{Plug}
 use Rattle.edid_tree.specs.Node.{Node}
 use Rattle.edid_tree.specs.Tree.{with_plug}
 use Rattle.line_frames.specs.Blocks.{frame_in}
+use Rattle.line_rounds.specs.Bounds.{longest_pulsed_round}
 use Rattle.line_rounds.specs.declared.Outcome.{Outcome}
 use Rattle.room_net.specs.Start.{next_turn, start_by, start_of, sooner, least_start, first_onset, contends}
 use Rattle.room_net.specs.State.{NetState, each_from, moved_by, loose, with_tree, next_start}
@@ -249,7 +250,7 @@ ready-device_after b own others o number d le h =
     two_ready b (is_on_wire d) (after_fate own others (fate_in o number) (close_in o) (followed_in o number d)) d
     (ready-informed b own others (fate_in o number) (close_in o) (followed_in o number d) le (ready-followed_unless b (is_among o.survivors.items number) (frame_in o.reading) (close_in o) d le h)) h
 
-pub sound-round : (s : NetState) (begin : ℕ) (o : Outcome) → IsSound s → s.close ≤ latest_instant → begin ≤ 2000000016815 → close_in o ≤ max latest_instant (begin + 458500)
+pub sound-round : (s : NetState) (begin : ℕ) (o : Outcome) → IsSound s → s.close ≤ latest_instant → begin ≤ 2000000016815 → close_in o ≤ max latest_instant (begin + longest_pulsed_round)
     → AreOrderly (devices_after s.rest begin o s.devices) → IsSound (after_round s begin o)
 sound-round s begin o h le soon closes orderly =
     let after = λ (number : ℕ) (d : State). device_after (contends s.rest begin d) (is_sent s.rest begin o s.devices) o number d in

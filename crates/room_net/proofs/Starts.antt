@@ -3,7 +3,7 @@ use Rattle.std.proofs.Common.{◌≡◌, ℕ, ◌+◌, ◌%◌, ◌≤◌, ◌<�
 use Rattle.std.specs.Prelude.{IsSomeAnd, MatchOption}
 use Rattle.device_core.specs.State.{State}
 use Rattle.device_core.specs.Place.{ready_of, is_allocating, is_on_wire}
-use Rattle.device_core.specs.FreeTime.{free_time_of}
+use Rattle.line_frames.specs.FreeTime.{free_time_of}
 use Rattle.room_net.specs.Start.{MayStart, IsStart, StartIsLeast, next_turn, start_by}
 
 turn-aligned : (n t : ℕ) → n < 16 → next_turn n t % 16 ≡ n

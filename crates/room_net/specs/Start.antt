@@ -3,7 +3,7 @@ use Rattle.std.specs.Prelude.{◌≡◌, ℕ, ◌+◌, ◌-◌, ◌%◌, ◌==�
 use Rattle.line_wave.specs.declared.Stretch.{Stretch}
 use Rattle.device_core.specs.State.{State}
 use Rattle.device_core.specs.Place.{ready_of, is_allocating, is_on_wire}
-use Rattle.device_core.specs.FreeTime.{free_time_of}
+use Rattle.line_frames.specs.FreeTime.{free_time_of}
 
 -- Where the line is high since `rest`, a device may start at t: it is on the wire, what it has to send is
 -- ready, the line has been high for its signal free time, and a poll by which it looks for an address starts

@@ -1,8 +1,6 @@
 -- What accepted texts have.
 use Rattle.std.proofs.Common.{◌≡◌, ℕ, ◌+◌, ◌<◌, ◌≤◌, Bool, true, false, if◌then◌else◌, List, [], ◌∷◌, length, get_or, Option, Some, None, Result, Ok, Err, ap, ◌∙◌, sym, refl, subst, arith}
-use Rattle.std.specs.List.{All}
-use Rattle.line_wave.specs.Bounds.{latest_event, latest_instant}
-use Rattle.line_wave.specs.declared.Stretch.{Stretch}
+use Rattle.line_wave.specs.Bounds.{latest_event}
 use Rattle.edid_tree.specs.Node.{Node}
 use Rattle.edid_tree.specs.Tree.{has_root}
 use Rattle.text_core.specs.Lines.{lines_of}
@@ -11,10 +9,9 @@ use Rattle.text_core.specs.declared.at.At.{At}
 use Rattle.room_script.specs.declared.topology.TopologyCause.{TopologyCause}
 use Rattle.text_core.specs.At.{at_line, at_word}
 use Rattle.room_script.specs.declared.topology.TopologyCause.TheVariants.{NoRoot}
-use Rattle.room_script.specs.Script.{Course, IsNoWider, IsScriptRead}
+use Rattle.room_script.specs.Script.{Course, IsScriptRead}
 use Rattle.room_script.specs.declared.script.ScriptCause.{ScriptCause}
 use Rattle.room_script.proofs.OneReading.{one_script}
-use Rattle.room_net.specs.Sound.{EndsEarly}
 use Rattle.room_net.specs.State.{first_net}
 use Rattle.room_run.specs.declared.run.Totals.{Totals}
 use Rattle.edid_core.specs.declared.edid.Edid.{Edid}
@@ -25,7 +22,7 @@ use Rattle.capture_forms.specs.declared.form.CaptureForm.{CaptureForm}
 use Rattle.room_run.specs.declared.run.Reporting.TheVariants.{Trace, Line}
 use Rattle.room_run.specs.Accepted.{ScriptsBeginEarly, ScriptsEndEarly, TextsAreOfOneRun, TopologiesHaveDevices}
 use Rattle.room_run.specs.Run.{start, IsTrace, IsRunText}
-use Rattle.room_run.specs.Emulate.{IsAccepted, IsTraceOf, IsLineOf, TextsHaveOneTrace, TextsHaveOneLine}
+use Rattle.room_run.specs.Emulate.{IsAccepted, IsLineOf, TextsHaveOneTrace, TextsHaveOneLine}
 use Rattle.room_run.proofs.Turns.{one_trace, one_run_text}
 
 -- a tree with a television has a device

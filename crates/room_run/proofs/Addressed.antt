@@ -1,9 +1,6 @@
 -- The EDID that ports pass on has an address.
-use Rattle.std.proofs.Common.{Option, None, Some, IsSome, subst, refl}
-use Rattle.std.specs.Option.{ForSome}
-use Rattle.edid_core.specs.Address.{edid_address}
+use Rattle.std.proofs.Common.{None, Some, subst, refl}
 use Rattle.edid_core.specs.Root.{HasAddress}
-use Rattle.edid_core.specs.declared.edid.Edid.{Edid}
 use Rattle.room_run.specs.Accepted.{AddressedEach, AddressesAreThere}
 
 pub each_address : AddressesAreThere

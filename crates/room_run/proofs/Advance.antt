@@ -7,7 +7,6 @@ use Rattle.line_wave.specs.Bounds.{latest_event, latest_instant}
 use Rattle.line_wave.proofs.Kept.{wave_filter}
 use Rattle.line_rounds.specs.declared.Outcome.{Outcome}
 use Rattle.line_rounds.specs.Round.{close_in}
-use Rattle.room_script.specs.declared.script.TimedEvent.{TimedEvent}
 use Rattle.room_script.specs.Script.{IsSchedule}
 use Rattle.room_event.specs.declared.event.EventError.{EventError}
 use Rattle.room_net.specs.State.{NetState, next_start}

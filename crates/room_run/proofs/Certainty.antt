@@ -1,5 +1,5 @@
 -- Why turns that are over before an instant stand, whatever comes for that instant or later.
-use Rattle.std.proofs.Common.{◌≡◌, ℕ, zero, suc, ◌+◌, ◌-◌, ◌<◌, ◌≤◌, Bool, true, false, ◌&&◌, ◌||◌, nat_lt, nat_le, if◌then◌else◌, max, min, List, [], ◌∷◌, ◌++◌, filter, slice_index_or, take, drop, inl, inr, Option, Some, None, refl, sym, ap, ap₂, ◌∙◌, subst, arith, append_assoc}
+use Rattle.std.proofs.Common.{◌≡◌, ℕ, zero, suc, ◌+◌, ◌-◌, ◌<◌, ◌≤◌, Bool, true, false, ◌&&◌, ◌||◌, nat_lt, nat_le, if◌then◌else◌, max, min, List, [], ◌∷◌, ◌++◌, filter, slice_index_or, inl, inr, Option, Some, None, refl, sym, ap, ap₂, ◌∙◌, subst, arith, append_assoc}
 use Rattle.std.specs.List.{All, list_any}
 use Rattle.std.proofs.lemmas.Bool.Decides.{nat_tests}
 use Rattle.std.proofs.lemmas.Bool.{cases_lt}
@@ -10,7 +10,6 @@ use Rattle.line_wave.specs.Line.{Line as WaveLine, IsWave, line_of, covers, was_
 use Rattle.line_wave.proofs.Kept.{wave_filter}
 use Rattle.line_reading.specs.Reading.{known_at, reading_of}
 use Rattle.line_reading.proofs.Ends.{until_by}
-use Rattle.line_rounds.specs.declared.Seat.{Seat}
 use Rattle.line_rounds.specs.declared.Outcome.{Outcome}
 use Rattle.line_rounds.specs.Round.{IsRound, is_within, pulse_pulls, is_pulled, close_in}
 use Rattle.line_rounds.proofs.Alone.{rounds_are_lone}

@@ -7,9 +7,7 @@ use Rattle.text_core.specs.Adds.{Adds, Tally, begun}
 use Rattle.text_core.specs.Cut.{WrittenText}
 use Rattle.text_core.specs.declared.sink.WriteFault.{WriteFault}
 use Rattle.text_core.proofs.Adding.{not_yet, text_ended, then}
-use Rattle.edid_core.specs.declared.edid.Edid.{Edid}
 use Rattle.room_trace.specs.TraceText.{comma_list}
-use Rattle.room_run.specs.Happening.{Happening}
 use Rattle.room_run.specs.declared.run.Totals.{Totals}
 
 -- what stands first, what was heard of, and what stands last

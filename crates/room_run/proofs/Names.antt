@@ -25,7 +25,7 @@ use Rattle.device_features.specs.declared.say.Say.{Say}
 use Rattle.device_features.specs.declared.say.Say.TheVariants.{Reply, Cast, Report, Refuse}
 use Rattle.device_features.specs.Effect.{Effect}
 use Rattle.device_features.specs.Effects.{effect_of, heard_of, refuses}
-use Rattle.device_core.specs.declared.free_time.FreeTime.TheVariants.{Retry}
+use Rattle.line_frames.specs.declared.free_time.FreeTime.TheVariants.{Retry}
 use Rattle.device_core.specs.Say.{after_effect, say, say_all}
 use Rattle.device_core.specs.Effects.{by_decoded, after_frame, is_for}
 use Rattle.room_net.specs.Start.{contends}

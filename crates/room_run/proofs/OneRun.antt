@@ -6,7 +6,7 @@ use Rattle.std.proofs.lemmas.List.Elements.{All-filter}
 use Rattle.edid_core.specs.declared.edid.Edid.{Edid}
 use Rattle.room_trace.specs.TraceText.{round_line}
 use Rattle.line_wave.specs.declared.Stretch.{Stretch}
-use Rattle.line_wave.specs.Line.{line_of, IsWave}
+use Rattle.line_wave.specs.Line.{line_of}
 use Rattle.line_rounds.specs.declared.Outcome.{Outcome}
 use Rattle.line_rounds.specs.Round.{close_in}
 use Rattle.line_rounds.proofs.Bounds.{rounds_are_short}

@@ -1,7 +1,6 @@
 -- Port lines: ports and devices by their numbers.
 use Rattle.std.proofs.Common.{◌≡◌, ℕ, zero, suc, ◌+◌, ◌<◌, Bool, List, ◌++◌, length, get_or, false, Option, None, Some, ap, ap₂, ◌∙◌, sym, refl, arith}
 use Rattle.std.specs.List.{flat_map, range_with_len}
-use Rattle.room_script.specs.declared.script.TimedEvent.{TimedEvent}
 use Rattle.room_net.specs.State.{NetState}
 use Rattle.room_net.specs.Apply.{net_after}
 use Rattle.edid_core.specs.declared.edid.Edid.{Edid}

@@ -1,20 +1,11 @@
 -- A run on its way: what happened so far, and what was heard of it.
 use Rattle.std.proofs.Common.{◌≡◌, ℕ, ◌<◌, List, [], ◌∷◌, ◌++◌, refl, sym, subst}
-use Rattle.line_wave.specs.Line.{IsWave}
-use Rattle.line_rounds.specs.declared.Outcome.{Outcome}
 use Rattle.capture_forms.specs.declared.form.CaptureForm.TheVariants.{Edges}
-use Rattle.room_script.specs.declared.script.TimedEvent.{TimedEvent}
-use Rattle.room_net.specs.State.{NetState}
 use Rattle.room_net.specs.Apply.{net_after, event_fault}
-use Rattle.room_net.specs.Step.{IsNextRound}
-use Rattle.room_net.specs.Progress.{IsProgress}
-use Rattle.message_text.specs.ReadingText.{is_complete}
-use Rattle.room_run.specs.declared.run.Totals.{Totals}
-use Rattle.room_run.specs.declared.run.Reporting.{Reporting}
 use Rattle.room_run.specs.declared.run.Reporting.TheVariants.{Line}
-use Rattle.room_run.specs.declared.run.Turn.TheVariants.{Apply, Round}
+use Rattle.room_run.specs.declared.run.Turn.TheVariants.{Round}
 use Rattle.room_run.specs.Turns.{EventTurns, EventsHappen, RoundTurns, RoundsBringOn, RoundsHappen}
-use Rattle.room_run.specs.Run.{Config, turn_of, first_time, counted_event, counted_round, event_reported, round_reported, IsRoundTurn, IsTurn, IsTurnBy}
+use Rattle.room_run.specs.Run.{Config, counted_event, event_reported, round_reported, IsTurn, IsTurnBy}
 use Rattle.room_run.proofs.Advance.{round_brings}
 use Rattle.room_run.specs.Happening.{Happening, OfEvent, OfRound, Happens, HappensBy, Goes}
 use Rattle.room_run.specs.Heard.{Hears}

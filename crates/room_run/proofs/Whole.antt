@@ -21,8 +21,8 @@ use Rattle.room_run.specs.declared.run.Reporting.TheVariants.{Line, Trace}
 use Rattle.room_run.specs.declared.run.Turn.{Turn}
 use Rattle.room_run.specs.declared.run.Turn.TheVariants.{Stop, Apply, Round}
 use Rattle.room_run.specs.Turns.{IsTold, RunsAreTold, SaysOf, TracesSay}
-use Rattle.room_run.specs.Run.{Config, turn_at, start_reported, end_reported, event_text, IsEventTurn, IsRunText, IsTurnBy, Leads}
-use Rattle.room_run.specs.Happening.{Happening, HappensBy, Goes, IsApplied, line_of_turn, text_of}
+use Rattle.room_run.specs.Run.{Config, turn_at, start_reported, end_reported, event_text, IsEventTurn, Leads}
+use Rattle.room_run.specs.Happening.{Happening, Goes, IsApplied, line_of_turn, text_of}
 use Rattle.room_run.specs.Heard.{AddsEach, Hears, IsRunWritten}
 use Rattle.room_run.proofs.Names.{line_before}
 use Rattle.room_run.proofs.Ports.{event_ports}

@@ -3,6 +3,7 @@ use Rattle.std.specs.Prelude.{◌≡◌, ℕ, ◌+◌, ◌≤◌, All, List, [],
 use Rattle.std.specs.List.{concat, flat_map}
 use Rattle.line_wave.specs.declared.Stretch.{Stretch}
 use Rattle.line_wave.specs.Line.{IsWave}
+use Rattle.line_rounds.specs.Bounds.{longest_round}
 use Rattle.line_rounds.specs.declared.Outcome.{Outcome}
 use Rattle.edid_tree.specs.Node.{Node}
 use Rattle.room_script.specs.declared.script.TimedEvent.{TimedEvent}
@@ -85,10 +86,10 @@ TracesHaveParts = (edid : Option Edid) (end : ℕ) (c : Config) (text : List ℕ
 -- these are in order, and those that begin while the last reading can go on are over by an instant
 pub record AreOverBy (bound end : ℕ) (pulls : List Stretch) : Type 0 where
   pub order : IsWave pulls
-  pub ends : All (λ p. p.from ≤ end + 448461 → p.to ≤ bound) pulls
+  pub ends : All (λ p. p.from ≤ end + longest_round → p.to ≤ bound) pulls
 
--- The last round closes by any instant that is 448,461 microseconds after the script's end at least, as long as a reading and a
--- follower's pull can last, and by which the pulls that begin until then are over.
+-- The last round closes by any instant that is the longest round after the script's end at least, and by which the pulls that
+-- begin until then are over.
 abbrev pub RunsCloseSoon : Type 0
 RunsCloseSoon = (reporting : Reporting) (tree : List Node) (pulses : List Stretch) (events : List TimedEvent) (bound end turns : ℕ) (text : List ℕ) (d : Config)
-    → end + 448461 ≤ bound → AreOverBy bound end pulses → Leads reporting end turns (start (first_net tree pulses) events) text d → d.net.close ≤ bound
+    → end + longest_round ≤ bound → AreOverBy bound end pulses → Leads reporting end turns (start (first_net tree pulses) events) text d → d.net.close ≤ bound

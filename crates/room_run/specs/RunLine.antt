@@ -2,6 +2,8 @@
 use Rattle.std.specs.Prelude.{◌≡◌, ℕ, zero, suc, ◌+◌, ◌/◌, ◌≤◌, max, false, List, [], ◌∷◌, ◌++◌, length, map}
 use Rattle.line_wave.specs.declared.Stretch.{Stretch}
 use Rattle.line_wave.specs.Line.{line_of, IsWave}
+use Rattle.line_frames.specs.FreeTime.{free_time_of}
+use Rattle.line_frames.specs.declared.free_time.FreeTime.TheVariants.{Retry}
 use Rattle.line_reading.specs.Readings.{readings_of}
 use Rattle.line_rounds.specs.declared.Outcome.{Outcome}
 use Rattle.line_rounds.specs.Alone.{outcome_listed}
@@ -66,8 +68,8 @@ EdgesAreTheLine = (tree : List Node) (pulses : List Stretch) (events : List Time
     → IsWave pulses → AreFramedEvents events → (reported : IsRunText (Line Edges) end (start (first_net tree pulses) events) text totals)
     → IsEdgeText (rounds_in (Line Edges) end reported.run.turns (start (first_net tree pulses) events) reported.run.body reported.run.last reported.run.leads) (max end reported.run.last.net.close) text
 
--- A run ends: it has at most one round for each 7,200 microseconds (CEC 9.1, the shortest signal free time) before its end,
--- and one more for each pulse and pull.
+-- A run ends: it has at most one round for each shortest signal free time (CEC 9.1) before its end, and one more for each pulse
+-- and pull.
 abbrev pub RunsAreShort : Type 0
 RunsAreShort = (reporting : Reporting) (tree : List Node) (pulses : List Stretch) (events : List TimedEvent) (end : ℕ) (text : List ℕ) (totals : Totals)
-    → IsWave pulses → AreFramedEvents events → IsRunText reporting end (start (first_net tree pulses) events) text totals → totals.rounds ≤ end / 7200 + length pulses
+    → IsWave pulses → AreFramedEvents events → IsRunText reporting end (start (first_net tree pulses) events) text totals → totals.rounds ≤ end / free_time_of Retry + length pulses

@@ -3,6 +3,7 @@ use Rattle.std.specs.Prelude.{◌≡◌, ℕ, ◌+◌, ◌<◌, ◌≤◌, Bool,
 use Rattle.std.specs.List.{flat_map}
 use Rattle.line_wave.specs.Bounds.{latest_instant}
 use Rattle.line_wave.specs.Line.{IsWave}
+use Rattle.line_rounds.specs.Bounds.{longest_pulsed_round}
 use Rattle.line_rounds.specs.declared.Outcome.{Outcome}
 use Rattle.line_rounds.specs.OneOutcome.{SameOutcome}
 use Rattle.edid_core.specs.declared.edid.Edid.{Edid}
@@ -35,8 +36,8 @@ RoundTurnsBegin = (end : ℕ) (s : NetState) (time : Option ℕ) (x : ℕ) → t
 pub record Brought (end : ℕ) (s t : NetState) : Type 0 where
   pub sooner : s.rest < t.rest
   pub before : s.rest < end
-  pub close : t.close ≤ max latest_instant (end + 458500)
-  pub rest : t.rest ≤ max latest_instant (end + 458500)
+  pub close : t.close ≤ max latest_instant (end + longest_pulsed_round)
+  pub rest : t.rest ≤ max latest_instant (end + longest_pulsed_round)
   pub tree : t.tree ≡ s.tree
 
 abbrev pub RoundsBringOn : Type 0

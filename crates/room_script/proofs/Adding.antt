@@ -27,8 +27,8 @@ use Rattle.text_core.specs.At.{at_word}
 use Rattle.text_core.specs.declared.at.AtWord.{AtWord}
 use Rattle.room_script.specs.declared.script.ScriptCause.{ScriptCause}
 use Rattle.room_script.specs.declared.script.ScriptCause.TheVariants.{Word, Width, Order, TooMany, End}
-use Rattle.room_script.specs.Script.{Notes, time_of, last_time, last_end, notes_with_event, plug_read, plug_words, unplug_read, unplug_words, key_read, key_words, act_read, hold_words, drop_words, send_read, frame_event, event_words, unless_fault, pulse_refusal, span_read, pulse_read, pulse_words, touches, notes_with_pull, pull_read, pull_words, is_before, level_of, pin_falls, pin_rises, pin_stays_high, pin_stays_low, notes_with_level, pin_read, pin_words, pulses_ended, end_read, end_words, other_words, IsSendRead, IsEventRead, IsWordsRead, IsLineRead}
-use Rattle.room_script.specs.Lines.{AreFew, IsMore, LinesAdd, LinesAreOfScripts, LinesKeepFew, pulls_held}
+use Rattle.room_script.specs.Script.{Notes, time_of, last_time, last_end, notes_with_event, plug_read, plug_words, unplug_read, unplug_words, key_read, key_words, act_read, hold_words, drop_words, send_read, frame_event, event_words, unless_fault, pulse_refusal, span_read, pulse_read, pulse_words, touches, notes_with_pull, pull_read, pull_words, is_before, level_of, pin_falls, pin_rises, pin_stays_high, pin_stays_low, notes_with_level, pin_read, pin_words, pulses_ended, end_read, end_words, other_words, IsSendRead, IsEventRead, IsWordsRead}
+use Rattle.room_script.specs.Lines.{IsMore, LinesAdd, LinesAreOfScripts, LinesKeepFew, pulls_held}
 use Rattle.line_wave.specs.Bounds.{latest_event, most_pulses, most_pulls, widest_pull}
 
 -- ---- what a line adds

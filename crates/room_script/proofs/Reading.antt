@@ -1,5 +1,5 @@
 -- How a line is read, part by part.
-use Rattle.std.proofs.Common.{◌≡◌, ℕ, ◌+◌, ◌<◌, true, false, if◌then◌else◌, List, [], ◌∷◌, ◌++◌, length, Option, Some, Result, Ok, Err, refl, sym, ap, subst, ◌∙◌, append_assoc, arith}
+use Rattle.std.proofs.Common.{◌≡◌, ℕ, ◌+◌, ◌<◌, true, false, if◌then◌else◌, List, [], ◌∷◌, ◌++◌, length, Option, Result, Ok, Err, refl, sym, ap, subst, ◌∙◌, append_assoc, arith}
 use Rattle.std.proofs.lemmas.List.Splits.{join_with_byte-slice_split}
 use Rattle.edid_tree.specs.Node.{Node}
 use Rattle.edid_tree.specs.Tree.{device_named}
@@ -13,7 +13,7 @@ use Rattle.room_event.specs.declared.event.HeaderNames.{HeaderNames}
 use Rattle.text_core.proofs.PartedLemmas.{words_of-some}
 use Rattle.room_script.specs.Header.{has_names, digits_of, with_digits, digits_text, header_names}
 use Rattle.room_script.specs.Lines.{LinesEnd, LinesFollow}
-use Rattle.room_script.specs.Script.{Course, Notes, time_of, send_read, course_at_end, IsFrameOf, IsSendRead, IsLineRead, AreLinesRead, GivesNotes, Gives}
+use Rattle.room_script.specs.Script.{Notes, time_of, send_read, course_at_end, IsFrameOf, IsSendRead, AreLinesRead, GivesNotes, Gives}
 use Rattle.text_core.specs.declared.at.At.{At}
 
 pub text_of-words_of : (text : List ℕ) → text_of (words_of text) ≡ text

@@ -10,7 +10,7 @@ use Rattle.line_wave.specs.declared.Stretch.{Stretch}
 use Rattle.line_wave.specs.declared.PulsesError.TheVariants as faults
 use Rattle.line_wave.specs.Pulses.{stretch_fault, gap_fault}
 use Rattle.line_wave.specs.Line.{IsWave, IsWaveFrom}
-use Rattle.line_wave.specs.Pulls.{AreTimely, are_timely}
+use Rattle.line_wave.specs.Pulls.{AreTimely}
 use Rattle.line_wave.proofs.Kept.{timely_tested}
 use Rattle.edid_tree.specs.Node.{Node}
 use Rattle.edid_tree.specs.Tree.{device_named}

@@ -2,8 +2,6 @@
 use Rattle.std.specs.Prelude.{ℕ, ◌+◌, ◌-◌, ◌/◌, ◌%◌, ◌==◌, Bool, false, ◌&&◌, ◌||◌, nat_lt, if◌then◌else◌, List, [], ◌∷◌, length, slice_index, drop, Option, Some, None}
 use Rattle.std.specs.List.{list_any}
 use Rattle.edid_cta.specs.declared.block.DataBlock.{DataBlock}
-use Rattle.edid_cta.specs.declared.raw.Ext.{Ext}
-use Rattle.rules_values.specs.ExtParts.{some_block}
 use Rattle.rules_values.specs.VideoCodes.{code_of}
 use Rattle.rules_contents.specs.Contents.{has_extended_tag}
 use Rattle.rules_rates.specs.Paces.{pace_of}

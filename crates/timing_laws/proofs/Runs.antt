@@ -1,6 +1,6 @@
 -- Runs without pulses, round by round.
 use Rattle.std.proofs.Common.{◌≡◌, ◌≢◌, ℕ, zero, suc, ◌+◌, ◌-◌, ◌*◌, ◌<◌, ◌≤◌, Bool, true, false, not, ◌&&◌, ◌||◌, nat_le, nat_lt, if◌then◌else◌, List, [], ◌∷◌, ◌++◌, length, slice_index_or, map, take, ◌⊎◌, inl, inr, Option, Some, None, is_some, refl, arith, ap, ◌∙◌, sym, subst}
-use Rattle.std.specs.List.{filter, list_any, cons_option}
+use Rattle.std.specs.List.{filter, list_any}
 use Rattle.std.proofs.lemmas.Bool.{cases_lt, false≢true}
 use Rattle.std.proofs.lemmas.Bool.Decides.{nat_tests}
 use Rattle.line_wave.specs.declared.Edge.{Edge}
@@ -25,7 +25,7 @@ use Rattle.audit_core.specs.Audit.{Tape, after, come_to, drive_by, falls_until, 
 use Rattle.audit_core.specs.Lines.{misfits_text}
 use Rattle.line_rounds.specs.declared.Seat.{Seat}
 use Rattle.line_rounds.specs.declared.Outcome.{Outcome}
-use Rattle.line_rounds.specs.Round.{IsRound, frames_of}
+use Rattle.line_rounds.specs.Round.{IsRound}
 use Rattle.line_rounds.specs.Alone.{outcome_listed, part_of}
 use Rattle.line_rounds.specs.Lasting.{is_begun}
 use Rattle.line_rounds.proofs.Alone.{rounds_are_lone}

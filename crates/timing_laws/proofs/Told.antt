@@ -38,7 +38,7 @@ use Rattle.capture_forms.specs.declared.form.CaptureForm.{CaptureForm}
 use Rattle.line_wave.specs.Bounds.{latest_event}
 use Rattle.line_wave.specs.declared.Edge.{Edge}
 use Rattle.timing_laws.specs.Attempts.{AreOfSix, RunsGiveUp}
-use Rattle.timing_laws.specs.Times.{AreFree, AreInTime, KeepsTimes, RunsKeepTheirTimes}
+use Rattle.timing_laws.specs.Times.{AreFree, AreInTime, RunsKeepTheirTimes}
 use Rattle.timing_laws.proofs.Runs.{AreTimed, first_in_time, runs_are_timed}
 use Rattle.timing_laws.proofs.Tries.{first_of_six}
 use Rattle.timing_laws.proofs.Waits.{kept-started}

@@ -26,7 +26,7 @@ use Rattle.line_rounds.specs.declared.Outcome.{Outcome}
 use Rattle.line_rounds.specs.Alone.{outcome_listed}
 use Rattle.line_rounds.specs.Round.{IsRound, frames_of}
 use Rattle.device_core.specs.declared.device.Queued.{Queued}
-use Rattle.device_core.specs.declared.free_time.FreeTime.TheVariants.{Retry}
+use Rattle.line_frames.specs.declared.free_time.FreeTime.TheVariants.{Retry}
 use Rattle.device_core.specs.Place.{front_by, front_of, polled_at}
 use Rattle.device_core.specs.State.{State}
 use Rattle.room_net.specs.Apply.{net_after}

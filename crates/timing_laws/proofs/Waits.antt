@@ -25,8 +25,8 @@ use Rattle.device_features.specs.Kinds.{is_nowhere, is_outside, is_switch, type_
 use Rattle.device_features.specs.declared.keys.Key.{Key}
 use Rattle.device_core.specs.declared.device.Queued.{Queued}
 use Rattle.device_core.specs.declared.device.SubmitError.{SubmitError}
-use Rattle.device_core.specs.declared.free_time.FreeTime.{FreeTime}
-use Rattle.device_core.specs.declared.free_time.FreeTime.TheVariants.{Retry, NewInitiator, PresentInitiator}
+use Rattle.line_frames.specs.declared.free_time.FreeTime.{FreeTime}
+use Rattle.line_frames.specs.declared.free_time.FreeTime.TheVariants.{Retry, NewInitiator, PresentInitiator}
 use Rattle.device_core.specs.declared.keys.KeyError.{KeyError}
 use Rattle.device_core.specs.declared.keys.KeyError.TheVariants.{NotForKind, OffWire}
 use Rattle.device_core.specs.declared.outside.Act.{Act}
@@ -34,7 +34,7 @@ use Rattle.device_core.specs.declared.outside.Act.TheVariants.{Hold, Empty}
 use Rattle.device_core.specs.declared.place.Place.{Place}
 use Rattle.device_core.specs.declared.place.Place.TheVariants.{Off, Polls, Settled}
 use Rattle.device_core.specs.Effects.{after_frame, by_decoded, is_for}
-use Rattle.device_core.specs.FreeTime.{free_time_of}
+use Rattle.line_frames.specs.FreeTime.{free_time_of}
 use Rattle.device_core.specs.Keys.{after_key, key_fault, keyed_by, own_doing}
 use Rattle.device_core.specs.Outside.{act_fault, acted_by, after_act, class_after_drop}
 use Rattle.device_core.specs.Place.{after_failure, after_front, after_joining, after_submission, class_after_waiting, class_of_poll, fresh, frame_sent, front_is_poll, is_allocating, is_off, is_on_wire, place_after_fate, place_after_poll, polled_at, ready_by, ready_of, reported_by, reported_from, sent_by, start_place, submit_fault, submitted_by, with_reports}

@@ -3,6 +3,8 @@
 use Rattle.std.specs.Prelude.{◌≡◌, ℕ, ◌<◌, ◌≤◌, List, [], ◌∷◌, Option, Some, None}
 use Rattle.line_wave.specs.Bounds.{latest_event}
 use Rattle.edid_tree.specs.Node.{Node}
+use Rattle.line_frames.specs.FreeTime.{free_time_of}
+use Rattle.line_frames.specs.declared.free_time.FreeTime.TheVariants.{Retry}
 use Rattle.line_reading.specs.Readings.{Listed, readings_of}
 use Rattle.capture_core.specs.Edges.{Captured, line_of_edges}
 use Rattle.audit_widths.specs.Misfits.{drive_within}
@@ -24,10 +26,10 @@ abbrev pub AreInTime : Tape → List Listed → Type 0
 AreInTime t [] = Unit {0}
 AreInTime t (x ∷ xs) = (reading_misfits (come_to x t).series x (lows_of x (come_to x t).place) ≡ []) × (drive_of x (come_to x t).place ≡ None) × (drive_within (lows_of x (come_to x t).place) ≡ None) × AreInTime (after x t) xs
 
--- what it remarks of the free time before a frame asks for more than three bit periods
+-- what it remarks of the free time before a frame asks for more than the shortest, three bit periods
 abbrev pub AsksForMore : Option TooSoon → Type 0
 AsksForMore None = Unit {0}
-AsksForMore (Some s) = 7200 < s.due
+AsksForMore (Some s) = free_time_of Retry < s.due
 
 abbrev pub AreFree : Tape → List Listed → Type 0
 AreFree t [] = Unit {0}

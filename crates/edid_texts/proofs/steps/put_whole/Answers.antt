@@ -1,8 +1,8 @@
-use Rattle.std.proofs.Common.{◌≡◌, ◌++◌, ◌∷◌, [], length, arith, ap, ◌∙◌}
-use Rattle.edid_texts.specs.Drafts.{lines_so_far, whole_lines, Follows}
+use Rattle.std.proofs.Common.{◌≡◌, ◌++◌, ◌∷◌, [], length, arith, ◌∙◌}
+use Rattle.edid_texts.specs.Drafts.{lines_so_far, whole_lines}
 use Rattle.edid_texts.specs.declared.stage.Stage.TheVariants.{Whole as AtWhole}
 use Rattle.edid_texts.proofs.Fronts.{full_next, whole_next}
-use Rattle.edid_texts.proofs.Places.{fits_at, follows, lines_are, whole_at}
+use Rattle.edid_texts.proofs.Places.{follows, lines_are, whole_at}
 use Rattle.edid_texts.proofs.steps.put_whole.Goals as goal
 
 pub returns-then-len-eq3 : goal.returns-then-len-eq3

@@ -1,6 +1,6 @@
 use Rattle.std.proofs.Common.{◌≡◌, length}
 use Rattle.std.specs.Option.{option_copied}
-use Rattle.text_core.specs.Words.{words_after, words_of}
+use Rattle.text_core.specs.Words.{words_after}
 use Rattle.expect_judge.specs.Judged.{lacks_words}
 use Rattle.expect_judge.proofs.judge.lacks_words.Given as goal
 

@@ -1,4 +1,4 @@
-use Rattle.std.proofs.Common.{◌≡◌, ℕ, List, IfOk, subst, sym}
+use Rattle.std.proofs.Common.{◌≡◌, IfOk, subst, sym}
 use Rattle.edid_core.specs.Bytes.{edid_bytes}
 use Rattle.edid_core.specs.declared.edid.Edid.{Edid}
 use Rattle.conversion_calls.specs.Passing.{IsPassedOn}

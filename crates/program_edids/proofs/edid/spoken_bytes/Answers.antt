@@ -1,9 +1,4 @@
-use Rattle.std.proofs.Common.{◌≡◌, ◌∙◌, ℕ, List, subst, sym}
-use Rattle.edid_core.specs.Bytes.{edid_bytes}
-use Rattle.edid_core.specs.declared.edid.Edid.{Edid}
-use Rattle.conversion_calls.specs.Passing.{IsPassedOn}
-use Rattle.conversion_calls.specs.declared.passing.Passing.{Passing}
-use Rattle.edid_merge.specs.Speakers.{IsSpoken}
+use Rattle.std.proofs.Common.{◌≡◌, ◌∙◌}
 use Rattle.program_edids.proofs.SoundLemmas.{spoken_made}
 use Rattle.program_edids.proofs.edid.spoken_bytes.Goals as goal
 

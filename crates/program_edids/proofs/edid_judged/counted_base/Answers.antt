@@ -1,4 +1,4 @@
-use Rattle.std.proofs.Common.{◌≡◌, ◌∙◌, ℕ, ◌≤◌, List, length, ap, arith}
+use Rattle.std.proofs.Common.{◌≡◌, ◌∙◌, ◌≤◌, length, ap, arith}
 use Rattle.edid_as_source.specs.Count.{with_count}
 use Rattle.program_edids.proofs.SoundLemmas.{counted_long}
 use Rattle.program_edids.proofs.edid_judged.counted_base.Goals as goal

@@ -1,7 +1,4 @@
 use Rattle.std.proofs.Common.{◌≡◌, rules, append_assoc}
-use Rattle.std.specs.List.{flat_map}
-use Rattle.text_core.specs.Piece.{piece_text}
-use Rattle.room_trace.specs.TraceText.{round_line_of}
 use Rattle.room_trace.proofs.round_text.round_pieces.Goals as goal
 
 pub returns : goal.returns

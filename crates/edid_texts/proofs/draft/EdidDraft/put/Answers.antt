@@ -1,5 +1,4 @@
-use Rattle.std.proofs.Common.{◌≡◌, ◌++◌, ◌∷◌, [], MatchBool, sym, ◌∙◌, ap}
-use Rattle.edid_texts.specs.Drafts.{draft_lines, draft_of, lines_so_far, Follows}
+use Rattle.std.proofs.Common.{◌≡◌, ◌++◌, ◌∷◌, [], ◌∙◌}
 use Rattle.edid_texts.proofs.Places.{put_as}
 use Rattle.edid_texts.proofs.draft.EdidDraft.put.Goals as goal
 

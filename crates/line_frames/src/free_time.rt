@@ -1,11 +1,11 @@
-//! How long a device waits before it sends: the signal free time (CEC 9.1).
+//! How long the line is free before a frame: the signal free time (CEC 9.1).
 ghost use Rattle.std.specs.Prelude.{◌≡◌};
-ghost use Rattle.device_core.specs.FreeTime.{free_time_of};
+ghost use Rattle.line_frames.specs.FreeTime.{free_time_of};
 
-/// Signal free time: how long the line has to have been free before a device starts (CEC 9.1).
-#[derive(Clone, Copy, PartialEq, Eq)]
+/// Signal free time: how long the line has to have been free before a device sends (CEC 9.1).
+#[derive(Clone, Copy, Debug, PartialEq, Eq)]
 pub enum FreeTime {
-    /// Three bit periods: it sends a frame again.
+    /// Three nominal bit periods, the shortest: it sends a frame again.
     Retry,
     /// Five: another device sent last.
     NewInitiator,
