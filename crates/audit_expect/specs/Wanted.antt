@@ -1,6 +1,6 @@
 -- Expectations of the remarks that an audit of a capture has (own): `expect no-remark`, that it has none, and `expect remark
 -- PATTERN`, that it has one that meets the pattern. No label stands before them.
-use Rattle.std.specs.Prelude.{ℕ, ◌+◌, ◌==◌, ◌&&◌, ◌||◌, not, Bool, if◌then◌else◌, codes, length, take, drop, filter, is_some, List, [], ◌∷◌, ◌++◌, Option, Some, None}
+use Rattle.std.specs.Prelude.{ℕ, ◌+◌, ◌==◌, ◌&&◌, ◌||◌, not, Bool, true, false, if◌then◌else◌, codes, length, take, drop, filter, is_some, List, [], ◌∷◌, ◌++◌, Option, Some, None}
 use Rattle.std.specs.Str.{bytes_eq}
 use Rattle.std.specs.List.{flat_map, list_any}
 use Rattle.text_core.specs.Lines.{lines_of}

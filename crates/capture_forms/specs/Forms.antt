@@ -6,7 +6,7 @@ use Rattle.std.specs.Str.{bytes_eq}
 use Rattle.text_core.specs.Lines.{lines_of}
 use Rattle.text_core.specs.Number.{number_of}
 use Rattle.capture_forms.specs.declared.form.CaptureForm.{CaptureForm}
-use Rattle.capture_forms.specs.declared.form.CaptureForm.TheVariants.{Edges, Vcd, Csv}
+use Rattle.capture_forms.specs.declared.form.CaptureForm.TheVariants.{Edges, Vcd, Csv, Pin}
 
 -- whether there is a comma, and before it no number; a remark has no names
 abbrev pub comma_in : List ℕ → ℕ

@@ -1,4 +1,4 @@
-use Rattle.std.proofs.Common.{◌≡◌, ◌∙◌, ℕ, List, Option, Some, Result, ap, subst, sym}
+use Rattle.std.proofs.Common.{◌≡◌, ◌∙◌, ℕ, List, Option, None, Some, Ok, Result, ap, subst, sym}
 use Rattle.text_core.specs.Buffered.{below}
 use Rattle.live_dialogue.specs.Dialogue.{IsHandedOn}
 use Rattle.live_dialogue.specs.declared.error.SessionError.{SessionError}
