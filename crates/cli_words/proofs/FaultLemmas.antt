@@ -3,7 +3,7 @@ use Rattle.std.proofs.Common.{◌≡◌, ℕ, Bool, true, false, if◌then◌els
 use Rattle.std.specs.Option.{option_or}
 use Rattle.std.specs.Str.{bytes_eq}
 use Rattle.std.proofs.lemmas.Slice.Eq.{bytes_eq-Decides}
-use Rattle.cli_words.specs.AtFault.{FlagForm, by_flags, capture_flag, check_form, edid_flag, edid_form, fault_among, fault_as, fault_of, fault_with, mon_form, run_form, value_after, value_at_fault}
+use Rattle.cli_words.specs.AtFault.{FlagForm, by_flags, capture_flag, check_form, edid_flag, edid_form, fault_among, fault_as, fault_of, fault_with, mon_form, run_form, value_after, value_at_fault, value_by}
 use Rattle.cli_words.specs.CheckFlags.{check_asked, check_flags, with_check_word}
 use Rattle.cli_words.specs.EdidFlags.{edid_asked, edid_flags, with_edid_word}
 use Rattle.cli_words.specs.Line.{asked_after, asked_as, asked_by, asked_of, asked_with, before_end, explained, no_check_flags, no_edid_flags, no_mon_flags, no_run_flags, subcommand_of}

@@ -1,5 +1,5 @@
 -- The flags of `edid` (own).
-use Rattle.std.specs.Prelude.{ℕ, List, [], ◌∷◌, Bool, Option, Some, None, if◌then◌else◌, true, false, codes, ◌&&◌, ◌||◌, nat_le, is_some, unwrap_or, option_and_then}
+use Rattle.std.specs.Prelude.{ℕ, List, [], ◌∷◌, Bool, Option, Some, None, if◌then◌else◌, true, false, codes, ◌&&◌, ◌||◌, nat_le, is_some, unwrap_or, option_and_then, is_none, not}
 use Rattle.std.specs.Option.{option_map}
 use Rattle.std.specs.Str.{bytes_eq}
 use Rattle.text_core.specs.Number.{number_of}

@@ -1,6 +1,6 @@
 -- The flags of `mon` (own).
-use Rattle.std.specs.Prelude.{ℕ, nat_le, List, [], ◌∷◌, Bool, Option, Some, None, if◌then◌else◌, true, false, codes, not, ◌&&◌, ◌||◌, is_some, unwrap_or, option_and_then, take}
-use Rattle.std.specs.Option.{option_map}
+use Rattle.std.specs.Prelude.{ℕ, nat_le, List, [], ◌∷◌, Bool, Option, Some, None, if◌then◌else◌, true, false, codes, not, ◌&&◌, ◌||◌, is_some, unwrap_or, option_and_then, take, drop, is_none}
+use Rattle.std.specs.Option.{option_map, option_or}
 use Rattle.std.specs.Str.{bytes_eq}
 use Rattle.text_core.specs.Number.{number_of}
 use Rattle.cli_words.specs.Joined.{joined}
