@@ -2,6 +2,7 @@
 refusals, a sender and a receiver, and with PROGRAM that each example's trace and edges are the program's."""
 
 import glob
+import inspect
 import os
 import random
 import re
@@ -171,9 +172,91 @@ not ok 2 - line 3: expect none within 200000 of film 4>f active-source
             assert (ran.stdout, ran.returncode) == (report.text.encode("latin-1"), min(report.failed, 1)), name
 
 
+# Of each number of each call: the call as it is right, and the most of the number. The least is 0.
+INSTANT = 18446744073709551615
+EDID, SENT = read("living-room.edid"), (b"\x40\x44\x41", 1000)
+READING = hdminet.Reading(1000, 90000, "complete", (0,) * 160)
+NUMBERS = [
+    ("edid_port", hdminet.edid_port, {"edid": EDID, "address": 0x1200}, {"address": 65535}),
+    ("edid_read", hdminet.edid_read, {"edid": EDID, "segment": 0, "offset": 126, "count": 2}, {"segment": 255, "offset": 255, "count": sys.maxsize}),
+    ("Receiver.hear", hdminet.Receiver().hear, {"t": 5, "is_low": True}, {"t": INSTANT}),
+    ("Receiver.until", hdminet.Receiver().until, {"t": 5}, {"t": INSTANT}),
+    ("Receiver.edge", hdminet.Receiver().edge, {"t": 5, "is_low": True}, {"t": INSTANT}),
+    ("Receiver.running", hdminet.Receiver().running, {"t": 5}, {"t": INSTANT}),
+    ("Sender", hdminet.Sender, {"frame": SENT[0], "begin": 7}, {"begin": INSTANT}),
+    ("Sender.hear", hdminet.Sender(*SENT).hear, {"heard": hdminet.Receiver().heard, "t": 5}, {"t": INSTANT}),
+    ("Sender.pulls", hdminet.Sender(*SENT).pulls, {"t": 5}, {"t": INSTANT}),
+    ("Sender.next_change", hdminet.Sender(*SENT).next_change, {"t": 5}, {"t": INSTANT}),
+    ("Reading.frame", lambda **parts: READING._replace(**parts).frame(), {}, {"begin": INSTANT, "at": INSTANT}),
+    ("Reading.acknowledged", lambda **parts: READING._replace(**parts).acknowledged(), {}, {"begin": INSTANT, "at": INSTANT}),
+    ("Sender.fate", lambda **parts: hdminet.Sender(*SENT).fate(READING._replace(**parts)), {}, {"begin": INSTANT, "at": INSTANT}),
+]
+# The calls that take bytes, and those that take a text, by the parameter.
+OF_BYTES = [
+    ("frame_text", hdminet.frame_text, {"frame": b"\x44"}, "frame"),
+    ("Sender", hdminet.Sender, {"frame": b"\x44", "begin": 7}, "frame"),
+    ("edid_fault", hdminet.edid_fault, {"edid": EDID}, "edid"),
+    ("edid_text", hdminet.edid_text, {"edid": EDID}, "edid"),
+    ("edid_port", hdminet.edid_port, {"edid": EDID, "address": "1.0.0.0"}, "edid"),
+    ("edid_read", hdminet.edid_read, {"edid": EDID, "segment": 0, "offset": 0, "count": 1}, "edid"),
+    ("edid_check", hdminet.edid_check, {"edid": EDID}, "edid"),
+    ("edid_meaning", hdminet.edid_meaning, {"edid": EDID}, "edid"),
+    ("frame_bytes", hdminet.frame_bytes, {"text": "4>4"}, "text"),
+    ("edid_bytes", hdminet.edid_bytes, {"text": "edid 1.3"}, "text"),
+    ("emulate", hdminet.emulate, {"topology": "", "script": ""}, "topology"),
+    ("emulate", hdminet.emulate, {"topology": "", "script": ""}, "script"),
+    ("emulate_edges", hdminet.emulate_edges, {"topology": "", "script": ""}, "topology"),
+    ("emulate_edges", hdminet.emulate_edges, {"topology": "", "script": ""}, "script"),
+    ("check", hdminet.check, {"topology": "", "script": ""}, "topology"),
+    ("check", hdminet.check, {"topology": "", "script": ""}, "script"),
+    ("watch", hdminet.watch, {"edges": ""}, "edges"),
+]
+# What is neither: flags, and what a receiver gave. The parts of a reading are asked of the calls that take it.
+NEITHER = {"self", "is_low", "from_amplifier", "heard", "reading"}
+
+
+def outcome(call, arguments, name, value):
+    """What a call does with another value of one argument: 'taken', also where the library itself refuses it, or the class of the refusal."""
+    try:
+        call(**{**arguments, name: value})
+    except (hdminet.Error, MemoryError):
+        return "taken"
+    except (ValueError, TypeError) as error:
+        assert str(error).startswith((name + " ", "a bit of " + name, "the number of " + name)), error
+        return type(error).__name__
+    return "taken"
+
+
+def ranges():
+    """Each number of each call is taken from 0 to its most, and refused by its name past them; so is each byte."""
+    for called, call, arguments, numbers in NUMBERS:
+        for name, most in numbers.items():
+            got = [outcome(call, arguments, name, value) for value in (0, most, True, -1, most + 1, most + 8, 2 ** 64 + 7, 1.5, None)]
+            assert got == ["taken"] * 3 + ["ValueError"] * 4 + ["TypeError"] * 2, (called, name, got)
+    for called, call, arguments, name in OF_BYTES:
+        got = [outcome(call, arguments, name, value) for value in ([0, 255], bytearray(2), [-1], [256], 3, 2 ** 64 + 7, True, 1.5, None, ["a"])]
+        assert got == ["taken"] * 2 + ["ValueError"] * 2 + ["TypeError"] * 6, (called, name, got)
+    for called, call, arguments, _ in NUMBERS[-3:]:
+        got = [outcome(call, arguments, "bits", bits) for bits in ((0, 1) * 80, (), (0, 1) * 80 + (0,), (2,), (-1,), (0.0,))]
+        assert got == ["taken"] * 2 + ["ValueError"] * 3 + ["TypeError"], (called, got)
+    for address in ("f.f.f.f", "0.0.0.0"):
+        assert outcome(hdminet.edid_port, {"edid": EDID}, "address", address) == "taken"
+    for address in ("10.0.0.0", "-1.0.0.0", "1.2.0", "1.2.0.0.0", "1.2.0.g", ""):
+        assert outcome(hdminet.edid_port, {"edid": EDID}, "address", address) == "ValueError", address
+    # No number and no bytes of a call are left out above.
+    calls = {name: getattr(hdminet, name) for name in hdminet.__all__ if name not in ("Error", "Findings", "Report", "Reading", "Sender", "Receiver")}
+    calls.update({"%s.%s" % (kind.__name__, name): method for kind in (hdminet.Receiver, hdminet.Sender, hdminet.Reading)
+                  for name, method in vars(kind).items() if inspect.isfunction(method) and not name.startswith("_")})
+    calls["Sender"] = hdminet.Sender
+    tried = {(called, name) for called, _, _, numbers in NUMBERS for name in numbers} | {(called, name) for called, _, _, name in OF_BYTES}
+    left = {(called, name) for called, call in calls.items() for name in inspect.signature(call).parameters if name not in NEITHER} - tried
+    assert not left, left
+
+
 frames()
 edids()
 lines()
+ranges()
 if hasattr(hdminet._library, "hdminet_emulate"):
     judged_edids()
     runs()
