@@ -8,6 +8,7 @@ import select
 import signal
 import subprocess
 import sys
+import tempfile
 
 TOP = os.path.dirname(os.path.dirname(os.path.realpath(__file__)))
 PROGRAM = os.path.realpath(sys.argv[1]) if len(sys.argv) > 1 else os.path.join(TOP, 'crates/hdminet/out/hdminet')
@@ -322,12 +323,49 @@ def shell():
     return ran.returncode == 0 and ''.join(line + '\n' for line in told) == want and any(line.startswith('= state tv ') for line in lines)
 
 
+# The drivers of examples/, with the words after the program's name and with what stands on standard input.
+DRIVERS = [('live/active-source.py', [], ''), ('live/claims.py', [], ''), ('live/dut.py', [], ''), ('live/pin.py', ['300'], ''), ('live/room.sh', [], ''),
+           ('live/television.py', [], ''), ('suite/emulated.py', [], 'start 0 player\naddress 0 2.0.0.0\nsent 40000 4>4 44 nack\npress 500000 play\n')]
+
+
+def stops(path, words, given, fault):
+    """A driver ends by itself, with status 2 and one line by its name, which says this."""
+    try:
+        ran = subprocess.run([os.path.join(TOP, 'examples', path), *words], input=given, capture_output=True, text=True, timeout=30)
+    except subprocess.TimeoutExpired:
+        print('live: %s %s does not end' % (path, ' '.join(words)))
+        return False
+    said = [line for line in ran.stderr.splitlines() if not line.startswith('hdminet: ')]
+    right = ran.returncode == 2 and len(said) == 1 and said[0].startswith(os.path.basename(path) + ': ' + fault)
+    if not right:
+        print('live: %s %s: status %d: %s' % (path, ' '.join(words), ran.returncode, ran.stderr))
+    return right
+
+
+def drivers_stop():
+    """Where there is no session, or it ends before its driver, the driver says so and ends."""
+    right = True
+    with tempfile.TemporaryDirectory() as room:
+        # A session that takes so many lines, and a program that is right otherwise.
+        cut = []
+        for count in (3, 6, 7, 9):
+            cut.append(os.path.join(room, 'cut%d' % count))
+            with open(cut[-1], 'w') as file:
+                file.write('#!/bin/sh\n[ "$1" = live ] || exec "%s" "$@"\nsed -u %dq | "%s" live\n' % (PROGRAM, count, PROGRAM))
+            os.chmod(cut[-1], 0o755)
+        for path, words, given in DRIVERS:
+            right = stops(path, [], given, 'usage: ') and stops(path, [PROGRAM, *words, 'player', 'more'], given, 'usage: ') and right
+            for program in ['/bin/false', '/bin/true'] + cut:
+                right = stops(path, [program, *words], given, 'the session is over') and right
+    return stops('live/pin.py', [PROGRAM, 'soon'], '', 'LATENCY is a number') and right
+
+
 def main():
     if not os.access(PROGRAM, os.X_OK):
         sys.exit('live: no program at %s: start ./hdminet once' % PROGRAM)
     signal.alarm(600)
     passed = failed = 0
-    for test in [answers_at_once, ends_early, has_faults, closed, objects, objects_closed, examples_cut, pulses_let_go, edge_by_edge, held_at_random, pin_by_levels, driver, device_under_test, television_under_test, claimed_twice, sent_together, shell]:
+    for test in [answers_at_once, ends_early, has_faults, closed, objects, objects_closed, examples_cut, pulses_let_go, edge_by_edge, held_at_random, pin_by_levels, driver, device_under_test, television_under_test, claimed_twice, sent_together, shell, drivers_stop]:
         if test():
             passed += 1
         else:

@@ -72,7 +72,7 @@ static int line_of(const char *chip, unsigned line) {
 }
 
 int main(int count, char **words) {
-    if (count != 3) return 2;
+    if (count != 3) return fputs("usage: gpio CHIP LINE\n", stderr), 2;
     struct pollfd line = {.fd = line_of(words[1], (unsigned)atoi(words[2])), .events = POLLIN};
     struct gpio_v2_line_event event;
     uint32_t seen = 0;

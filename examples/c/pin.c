@@ -143,7 +143,7 @@ static void begin(const char *place) {
 int main(int count, char **words) {
     char line[128], verb[16], rest[40];
     latency = count == 2 ? strtoull(words[1], NULL, 10) : 0;
-    if (latency == 0) return 2;
+    if (latency == 0) return fputs("usage: pin LATENCY\n", stderr), 2;
     while (fgets(line, sizeof line, stdin)) {
         *rest = 0;
         if (sscanf(line, "%15s %" SCNu64 " %39s", verb, &now, rest) < 2) return 2;

@@ -5,9 +5,7 @@
 
 prints the trace. Its status is 0 where `hdminet run` writes the same trace of the lines that were sent."""
 
-import sys
-
-from room import Room, rounds
+from room import Room, drive, rounds
 
 TOPOLOGY = """\
 device tv tv 2
@@ -30,14 +28,14 @@ def react(room):
                 room.ask("at %d send tv 0>%s give-osd-name" % (horizon, heard.text[0]))
 
 
-def main():
-    room = Room(sys.argv[1], TOPOLOGY)
+def main(program):
+    room = Room(program, TOPOLOGY)
     room.ask("at 1000000 press p1 play")
     react(room)
     room.ask("at 2500000 press p2 play")
     room.ask("end %d" % (react(room) + 100000))
     print("".join(room.trace), end="")
-    sys.exit(not room.is_of_run())
+    return room.is_of_run()
 
 
-main()
+drive(main, "PROGRAM")

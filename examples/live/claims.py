@@ -5,13 +5,11 @@
 
 prints the trace. Its status is 0 where the room did so, and `hdminet run` writes the same trace of the lines that were sent."""
 
-import sys
-
-from room import WITH_SEAT, Room, rounds
+from room import WITH_SEAT, Room, drive, rounds
 
 
-def main():
-    room = Room(sys.argv[1], WITH_SEAT)
+def main(program):
+    room = Room(program, WITH_SEAT)
     # The player has looked for its address by now, and holds 4. The device under test acknowledges what goes to 4 too.
     room.ask("run to 400000")
     room.ask("at 500000 hold dut 4")
@@ -26,7 +24,7 @@ def main():
     answers = [r for r in heard if r.text.startswith("4>0 set-osd-name ")]
     polls = [(r.text, r.verdict) for r in heard if r.begin > 1000000 and r.text in ("4>4", "8>8")]
     right = len(answers) == 1 and answers[0].senders == ["p1"] and polls == [("4>4", "ack"), ("8>8", "nack")]
-    sys.exit(not (right and room.is_of_run()))
+    return right and room.is_of_run()
 
 
-main()
+drive(main, "PROGRAM")

@@ -7,9 +7,7 @@ the question for its name within a second.
 prints the trace. Its status is 0 where the answer came in time, and `hdminet run` writes the same trace of the lines that were
 sent."""
 
-import sys
-
-from room import WITH_SEAT, Room, rounds
+from room import WITH_SEAT, Room, Stopped, drive, rounds
 
 # The logical addresses of a playback device, in the order in which it looks for one (CEC 10.2.1).
 PLAYBACK = "48b"
@@ -42,9 +40,10 @@ class DeviceUnderTest:
         for address in addresses:
             poll = "%s>%s" % (address, address)
             self.send(poll)
-            heard = self.next_round()
-            while heard.text != poll or "dut" not in heard.senders:
-                heard = self.next_round()
+            while (heard := self.next_round()) is not None and (heard.text != poll or "dut" not in heard.senders):
+                pass
+            if heard is None:
+                raise Stopped("the poll %s did not go out" % poll)
             if heard.verdict == "nack":
                 self.room.ask("at %d drop dut" % self.now)
                 self.room.ask("at %d hold dut %s" % (self.now, address))
@@ -58,8 +57,8 @@ class DeviceUnderTest:
             self.send("%s>0 set-osd-name \"DUT\"" % self.address)
 
 
-def main():
-    room = Room(sys.argv[1], WITH_SEAT)
+def main(program):
+    room = Room(program, WITH_SEAT)
     dut = DeviceUnderTest(room)
     dut.now = 400000
     dut.claim(PLAYBACK)
@@ -75,8 +74,8 @@ def main():
     room.ask("end %d" % (dut.now + 100000))
     print("".join(room.trace), end="")
     in_time = asked is not None and answered is not None and answered - asked <= ALLOWED
-    sys.exit(not (in_time and room.is_of_run()))
+    return in_time and room.is_of_run()
 
 
 if __name__ == "__main__":
-    main()
+    drive(main, "PROGRAM")

@@ -9,9 +9,8 @@ prints the line of the frame's round. The number is how late interrupts come, in
 writes the same trace of the lines that were sent."""
 
 import heapq
-import sys
 
-from room import WITH_SEAT, Room
+from room import WITH_SEAT, Room, Stopped, drive
 
 ADDRESS = 8
 FRAME = "4>8 give-osd-name"
@@ -74,9 +73,11 @@ class Follower:
             self.bits = None  # the end of the message
 
 
-def main():
-    latency = int(sys.argv[2])
-    room = Room(sys.argv[1], WITH_SEAT)
+def main(program, late):
+    if not late.isdecimal():
+        raise Stopped("LATENCY is a number of microseconds, and not %s" % late)
+    latency = int(late)
+    room = Room(program, WITH_SEAT)
     timers = Timers()
     follower = Follower(timers, lambda now, level: room.ask("pin %d %d" % (now, level)))
     room.ask("at %d send p1 %s" % (BEGIN, FRAME))
@@ -93,7 +94,7 @@ def main():
                 print(line, end="")
         timers.run_to(now)
     room.ask("end %d" % END)
-    sys.exit(not room.is_of_run())
+    return room.is_of_run()
 
 
-main()
+drive(main, "PROGRAM", "LATENCY")

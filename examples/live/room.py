@@ -1,6 +1,8 @@
 """A room that a program drives: `hdminet live` as a co-process, and the rounds of its trace."""
 
+import os
 import subprocess
+import sys
 
 # A television, a player, and a seat for a device under test.
 WITH_SEAT = """\
@@ -12,6 +14,23 @@ plug dut tv 2
 """
 
 
+class Stopped(Exception):
+    """A driver can't go on: its message says why."""
+
+
+def drive(main, *words):
+    """Runs a driver, `main`, over the words of its command line, the last of which may be left away where it stands in brackets. The status is
+    0 where `main` returns that all is right, else 1; and 2, after a message, where there are other words, or the driver can't go on."""
+    given = sys.argv[1:]
+    try:
+        if not len(words) - words[-1].startswith("[") <= len(given) <= len(words):
+            raise Stopped("usage: %s %s" % (sys.argv[0], " ".join(words)))
+        sys.exit(not main(*given))
+    except (Stopped, OSError) as fault:
+        print("%s: %s" % (os.path.basename(sys.argv[0]), fault), file=sys.stderr)
+        sys.exit(2)
+
+
 class Room:
     """An emulated room that is driven line by line."""
 
@@ -21,17 +40,32 @@ class Room:
         self.script = []
         self.trace = []
         self.live = subprocess.Popen([program, "live"], stdin=subprocess.PIPE, stdout=subprocess.PIPE)
-        self.live.stdin.write((topology + "script\n").encode())
+        self.send(topology + "script\n")
+
+    def send(self, text):
+        try:
+            self.live.stdin.write(text.encode())
+            self.live.stdin.flush()
+        except OSError:
+            raise self.over() from None
+
+    def over(self):
+        """The fault of a session that ended before its driver."""
+        try:
+            self.live.stdin.close()
+        except OSError:
+            # What was not taken is given up.
+            pass
+        return Stopped("the session is over: %s ended with status %d" % (self.program, self.live.wait()))
 
     def ask(self, line):
         """Sends a line. Returns the lines of the trace that came for it, with the edges among them, and the answer."""
-        self.live.stdin.write((line + "\n").encode())
-        self.live.stdin.flush()
+        self.send(line + "\n")
         told = []
         while True:
             got = self.live.stdout.readline().decode()
             if not got:
-                raise EOFError("the session is over")
+                raise self.over()
             if got[0] in "=!":
                 break
             told.append(got)

@@ -8,10 +8,9 @@ prints the trace. Its status is 0 where all of that came about, and `hdminet run
 sent."""
 
 import os
-import sys
 
 from dut import DeviceUnderTest
-from room import Room
+from room import Room, drive
 
 EDID = os.path.join(os.path.dirname(os.path.realpath(__file__)), "..", "living-room.edid")
 
@@ -65,9 +64,9 @@ class Television(DeviceUnderTest):
         return said
 
 
-def main():
+def main(program):
     with open(EDID, "rb") as file:
-        room = Room(sys.argv[1], TOPOLOGY % file.read().hex())
+        room = Room(program, TOPOLOGY % file.read().hex())
     tv = Television(room)
     tv.now = 500000
     tv.claim(TELEVISION)
@@ -88,7 +87,7 @@ def main():
         and (tv.address, tv.is_on, tv.shown, tv.names) == ("0", True, "1.0.0.0", {"4": '"p1"'})
         and asleep == ["standby", "standby"]
     )
-    sys.exit(not (is_right and room.is_of_run()))
+    return is_right and room.is_of_run()
 
 
-main()
+drive(main, "PROGRAM")

@@ -16,7 +16,7 @@ import sys
 
 sys.path.append(os.path.join(os.path.dirname(os.path.realpath(__file__)), "../live"))
 from dut import Dut  # noqa: E402
-from room import Room  # noqa: E402
+from room import Room, Stopped, drive  # noqa: E402
 
 BROADCAST, TELEVISION = 15, 0
 PLAYER_AND_AMPLIFIER = "4+5"
@@ -31,7 +31,9 @@ class Emulated(Dut):
     def spell(self, word, line):
         """The bytes of a frame's text, by `asm`, or the text of bytes, by `dis`."""
         if (word, line) not in self.spelled:
-            ran = subprocess.run([self.program, word], input=line + "\n", capture_output=True, text=True, check=True)
+            ran = subprocess.run([self.program, word], input=line + "\n", capture_output=True, text=True)
+            if ran.returncode != 0:
+                raise Stopped("%s %s ended with status %d" % (self.program, word, ran.returncode))
             got = ran.stdout.rstrip("\n")
             quoted = got.rfind('"') + 1
             self.spelled[word, line] = got[:quoted] + got[quoted:].split(" # ")[0]
@@ -139,7 +141,12 @@ class Emulated(Dut):
         self.use("release own " + key)
 
 
-if __name__ == "__main__":
-    device = Emulated(*sys.argv[1:])
+def main(program, emulated=None):
+    device = Emulated(program, emulated)
     device.serve()
     device.close()
+    return True
+
+
+if __name__ == "__main__":
+    drive(main, "PROGRAM", "[KIND]")
