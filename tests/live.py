@@ -362,7 +362,7 @@ def drivers_stop():
 
 def main():
     if not os.access(PROGRAM, os.X_OK):
-        sys.exit('live: no program at %s: start ./hdminet once' % PROGRAM)
+        sys.exit('live: no program at %s: ./hdminet --prove builds it' % PROGRAM)
     signal.alarm(600)
     passed = failed = 0
     for test in [answers_at_once, ends_early, has_faults, closed, objects, objects_closed, examples_cut, pulses_let_go, edge_by_edge, held_at_random, pin_by_levels, driver, device_under_test, television_under_test, claimed_twice, sent_together, shell, drivers_stop]:

@@ -129,6 +129,12 @@ start() {
   status=$?
 }
 
+# Refused with one line, which says that the sources changed, and with no call of rt.
+changed() {
+  refused "hdminet: the sources changed since the program was built: ./hdminet --prove proves and builds them" && lines_of_err 1 &&
+    [ "$(calls)" = "${1-}" ]
+}
+
 calls() { grep -c . "$CALLS" 2> /dev/null || true; }
 
 # A new checkout with a release of its program, and nothing that was built in it.
@@ -165,6 +171,12 @@ refused_by_rt() {
     [ "$(grep -vc '^hdminet: ' "$room/err")" = 0 ]
 }
 
+# A path with what the script needs, and no rt.
+without_rt=$(mktemp -d "$room/path.XXXX")
+for tool in bash sh dirname readlink find awk nproc mkdir rm mv cat grep sleep tail flock sort xargs sha256sum; do
+  ln -s "$(command -v $tool)" "$without_rt/$tool"
+done
+
 checkout
 start "$room/checkout/hdminet" run x
 check "the first start builds and starts" wrote "one run x"
@@ -188,26 +200,39 @@ if command -v script > /dev/null; then
 fi
 
 source_is two
+start "$room/checkout/hdminet" run x
+check "after a change of a source nothing starts, and nothing is built" changed 1
+start env PATH="$without_rt" "$room/checkout/hdminet" run x
+check "nor without rt" changed 1
+start "$room/checkout/hdminet" --prove
+check "--prove builds the changed source" says "hdminet: built"
+rm "$CALLS"
 start "$room/checkout/hdminet"
-check "a changed source is built" wrote "two"
+check "which starts then" wrote "two"
 rm "$room/checkout/crates/low/src/lib.rt"
 echo law > "$room/checkout/crates/low/src/other.rt"
 start "$room/checkout/hdminet"
-check "so is one under another name" [ "$(calls)" = 3 ]
+check "a source under another name is a change" changed
+start "$room/checkout/hdminet" --prove
+check "--prove builds it too" says "hdminet: built"
+rm "$CALLS"
 
 sleep 0.02
 echo broken > "$room/checkout/crates/low_tests/src/lib.rt"
 start "$room/checkout/hdminet" x
 check "a changed test is none of the program's sources" wrote "two x"
-check "and builds nothing" [ "$(calls)" = 3 ]
+check "and builds nothing" [ "$(calls)" = "" ]
 
 source_is "broken"
-start "$room/checkout/hdminet"
+start "$room/checkout/hdminet" x
+check "a broken source is a change" changed
+check "and the old program stays" [ -e "$room/checkout/crates/hdminet/out/hdminet" ]
+start "$room/checkout/hdminet" --prove
 check "a broken source is refused" refused "error: the sources of hdminet are broken"
 check "and it says which crate failed" says "hdminet: not built, since the crate hdminet failed."
+check "the old program is gone" [ ! -e "$room/checkout/crates/hdminet/out/hdminet" ]
 start "$room/checkout/hdminet"
 check "a broken source is refused again" refused "error: the sources of hdminet are broken"
-check "the old program is gone" [ ! -e "$room/checkout/crates/hdminet/out/hdminet" ]
 echo unreadable > "$room/checkout/crates/low/src/other.rt"
 start "$room/checkout/hdminet"
 check "what fails before any proof is refused" refused "rt: nothing can be read"
@@ -215,7 +240,7 @@ check "and it says that nothing was built" says "hdminet: not built. The log end
 echo law > "$room/checkout/crates/low/src/other.rt"
 source_is three
 start "$room/checkout/hdminet"
-check "a mended source is built" wrote "three"
+check "a mended source is built, where nothing is" wrote "three"
 
 checkout
 mkdir -p "$room/checkout/crates/low/out/incremental"
@@ -223,6 +248,9 @@ start "$room/checkout/hdminet" x
 check "where a developer's checks have left work it is built over that" wrote "one x"
 check "by one call" [ "$(cat "$CALLS")" = "all test --jobs $(cut -d' ' -f4 "$CALLS")" ]
 source_is "broken"
+start "$room/checkout/hdminet" x
+check "there a change builds nothing" changed 1
+rm "$room/checkout/crates/hdminet/out/hdminet"
 start "$room/checkout/hdminet"
 check "there a broken source is refused" refused "error: the sources of hdminet are broken"
 check "and it says which crate failed" says "hdminet: not built, since the crate hdminet failed."
@@ -253,10 +281,6 @@ check "another folder starts it" wrote "one z"
 cd "$top" || exit 1
 
 checkout
-without_rt=$(mktemp -d "$room/path.XXXX")
-for tool in bash sh dirname readlink find awk nproc mkdir rm mv cat grep sleep tail flock sort xargs sha256sum; do
-  ln -s "$(command -v $tool)" "$without_rt/$tool"
-done
 start env PATH="$without_rt" "$room/checkout/hdminet"
 check "no rt is refused" refused "hdminet: not built yet, and there is no rt to build it: rt is the command of Rattle"
 check "in one line" lines_of_err 1
@@ -321,14 +345,24 @@ start "$room/checkout/hdminet" --prove x
 check "--prove with another word is the program's" wrote "one --prove x"
 
 source_is two
-start env PATH="$without_rt" "$room/checkout/hdminet"
-check "a released program of other sources is not started" refused "hdminet: the released program is not started: it was built of other sources"
-check "without rt" says "hdminet: not built yet, and there is no rt to build it"
+start env PATH="$without_rt" "$room/checkout/hdminet" x
+check "a released program of other sources is not started" changed
+start "$room/checkout/hdminet" run x
+check "and nothing is built in its place" changed
+mkdir -p "$room/checkout/crates/low/out/incremental"
+start "$room/checkout/hdminet" run x
+check "nor over a developer's checks" changed
+rm -r "$room/checkout/crates/low/out" "$room/checkout/crates/hdminet/out"
+echo > "$room/checkout/crates/hdminet/out"
+start "$room/checkout/hdminet" run x
+check "which it says where nothing can be written too" changed
+rm "$room/checkout/crates/hdminet/out"
+start "$room/checkout/hdminet" --prove
+check "--prove builds it" says "hdminet: the released program was built of other sources"
+rm "$CALLS"
 start "$room/checkout/hdminet" x
-check "what is built in its place is" wrote "two x"
-check "and it says why" says "hdminet: the released program is not started: it was built of other sources"
-start "$room/checkout/hdminet" x
-check "and builds once" [ "$(calls)" = 1 ]
+check "what it built is started" wrote "two x"
+check "without a build" [ "$(calls)" = "" ]
 check "and says nothing then" lines_of_err 0
 source_is one
 rm -rf "$room/checkout/crates/hdminet/out"
@@ -337,26 +371,37 @@ check "the sources as they were start it again" wrote "one x"
 source_is two
 touch -d 2001-01-01 "$room/checkout/crates/hdminet/src/main.rt"
 start env PATH="$without_rt" "$room/checkout/hdminet" x
-check "a changed source with an old time is seen after that" refused "hdminet: the released program is not started: it was built of other sources"
+check "a changed source with an old time is seen after that" changed
 source_is one
 start "$room/checkout/hdminet" x
 check "and the source as it was too" wrote "one x"
-check "without a build" [ "$(calls)" = 1 ]
+check "without a build" [ "$(calls)" = "" ]
 for change in "crates/low/src/new.rt" "crates/low/specs/Lib.antt" "crates/hdminet/proofs/f/Proof.antt"; do
   released
   mkdir -p "$(dirname "$room/checkout/$change")"
   echo more > "$room/checkout/$change"
   start "$room/checkout/hdminet" x
-  check "a new file $change is built" [ "$(calls)" = 1 ]
+  check "a new file $change is a change" changed
 done
 released
 mv "$room/checkout/crates/low/src/lib.rt" "$room/checkout/crates/low/src/other.rt"
 start "$room/checkout/hdminet" x
-check "so is a file under another name" [ "$(calls)" = 1 ]
+check "so is a file under another name" changed
 released
 sed -i 's/^low: arrayvec/low: arrayvec hex/' "$room/checkout/crates.txt"
 start "$room/checkout/hdminet" x
-check "and another line of a crate" [ "$(calls)" = 1 ]
+check "and another line of a crate" changed
+
+released
+source_is two
+echo 2 > "$SLOW"
+"$room/checkout/hdminet" --prove > "$room/first" 2> "$room/first.err" &
+first=$!
+until [ -s "$CALLS" ]; do sleep 0.1; done
+start "$room/checkout/hdminet" x
+check "a start beside --prove waits" says "hdminet: another start builds it; waiting for that"
+check "and starts what that built" wrote "two x"
+wait $first
 
 released
 start "$room/checkout/hdminet" x

@@ -5,7 +5,7 @@
 set -u
 top=$(cd "$(dirname "${BASH_SOURCE[0]}")/.." && pwd)
 program=$(readlink -f "${1:-$top/crates/hdminet/out/hdminet}")
-[ -x "$program" ] || { echo "suite: no program at $program: start ./hdminet once" >&2; exit 2; }
+[ -x "$program" ] || { echo "suite: no program at $program: ./hdminet --prove builds it" >&2; exit 2; }
 room=$(mktemp -d)
 trap 'rm -rf "$room"' EXIT
 passed=0
