@@ -526,7 +526,8 @@ over. With --margin the windows of a start bit and of a bit's period are so many
 either side, for devices that are nearly right; an audit still names each width that is out of the
 standard's. With --invert a level that is captured as low is high, and the other way round. Events that
 a pin file has lost are named on standard error, and so is what may have to be asked for otherwise:
-another wire, --glitch, --margin or --invert.
+another wire, --glitch, --margin or --invert; of an edge file that is read with no flag with --explain
+alone.
 
 With --audit indented lines below each reading say what the standard would have otherwise, and at the end
 stands a summary; with --timing the widths of each reading's parts too:

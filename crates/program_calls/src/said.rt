@@ -5,6 +5,7 @@ use crate::explained::{explained, form_in, input_of};
 use crate::fault::ProgramFault;
 use crate::status::write_fault;
 use crate::told::Recap;
+use capture_forms::CaptureForm;
 use cli_words::{Asked, CommandChoice, MonChoice, Objects, View};
 use expect_run::Tally;
 use explain_core::{counts, explain};
@@ -199,8 +200,29 @@ fn hint<E: Sink>(alloc: Global, choice: CommandChoice, signs: Signs, input: &[u8
     }
 }
 
+// Whether a capture is read with no flag that says how.
+fn has_no_flag(mon: MonChoice) -> bool {
+    mon.form.is_none()
+        && mon.report.is_none()
+        && mon.glitch == 0
+        && mon.margin == 0
+        && !mon.inverted
+        && !mon.folded
+}
+
+// Whether a capture is an edge file that `mon` reads with no flag.
+fn is_plain(choice: CommandChoice, input: &[u8]) -> bool {
+    match choice {
+        CommandChoice::Mon(mon) => {
+            has_no_flag(mon) && matches!(form_in(choice, input), CaptureForm::Edges)
+        }
+        _ => false,
+    }
+}
+
 /// Writes what there is to say besides of what was done: events that a capture lost, what may have to be asked for otherwise of
-/// it, and with `--explain` the counts of a run and what the rules ask that an EDID breaks.
+/// it, and with `--explain` the counts of a run and what the rules ask that an EDID breaks. Of an edge file that `mon` reads with no
+/// flag it says nothing.
 pub fn remark<E: Sink>(alloc: Global, asked: Asked, told: Recap, input: &[u8], err: &mut E) {
     name_lost_of(alloc, asked.choice, input, err);
     name_read(alloc, asked.choice, input, err);
@@ -210,7 +232,11 @@ pub fn remark<E: Sink>(alloc: Global, asked: Asked, told: Recap, input: &[u8], e
                 add_help(counts_of(alloc, &totals), err);
             }
         }
-        Recap::Capture(signs) => hint(alloc, asked.choice, signs, input, err),
+        Recap::Capture(signs) => {
+            if asked.explains || !is_plain(asked.choice, input) {
+                hint(alloc, asked.choice, signs, input, err);
+            }
+        }
         Recap::Nothing => {
             if asked.explains {
                 add_help(rules_of(alloc, asked.choice, input), err);

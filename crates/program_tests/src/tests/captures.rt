@@ -184,15 +184,26 @@ mon => Time[s], SCL, CEC;0, 1, 1;0.021, 1, 0;0.0247, 1, 1; => hdminet: the first
 mon => Time,CEC;0,0;0.021,1;0.0247,0;0.04,0; => hdminet: the line is low most of the time, --invert reads it the other way round;
 mon --invert => Time,CEC;0,1;0.021,0;0.0247,1;0.04,1; => hdminet: with --invert the line is low most of the time;
 mon --invert => Time,CEC;0,0;0.021,1;0.0247,0;0.04,0; => 
-mon => 1000 0;1099 1;1198 0;1297 1;1396 0;1495 1;1594 0;1693 1;1792 0;20000 1;40000 end; => hdminet: 8 pulses and gaps are shorter than 100 microseconds, --glitch 100 passes over them;
-mon => 1000 0;1099 1;1198 0;1297 1;1396 0;1495 1;1594 0;1693 1;1793 0;20000 1;40000 end; => 
+mon --from edges => 1000 0;1099 1;1198 0;1297 1;1396 0;1495 1;1594 0;1693 1;1792 0;20000 1;40000 end; => hdminet: 8 pulses and gaps are shorter than 100 microseconds, --glitch 100 passes over them;
+mon --from edges => 1000 0;1099 1;1198 0;1297 1;1396 0;1495 1;1594 0;1693 1;1793 0;20000 1;40000 end; => 
+mon --from-start => 1000 0;1099 1;1198 0;1297 1;1396 0;1495 1;1594 0;1693 1;1792 0;20000 1;40000 end; => hdminet: 8 pulses and gaps are shorter than 100 microseconds, --glitch 100 passes over them;
+mon --fold => 1000 0;1099 1;1198 0;1297 1;1396 0;1495 1;1594 0;1693 1;1792 0;20000 1;40000 end; => hdminet: 8 pulses and gaps are shorter than 100 microseconds, --glitch 100 passes over them;
+mon --margin 10 => 1000 0;1099 1;1198 0;1297 1;1396 0;1495 1;1594 0;1693 1;1792 0;20000 1;40000 end; => hdminet: 8 pulses and gaps are shorter than 100 microseconds, --glitch 100 passes over them;
+mon --json => 1000 0;1099 1;1198 0;1297 1;1396 0;1495 1;1594 0;1693 1;1792 0;20000 1;40000 end; => hdminet: 8 pulses and gaps are shorter than 100 microseconds, --glitch 100 passes over them;
+mon --explain => 1000 0;1099 1;1198 0;1297 1;1396 0;1495 1;1594 0;1693 1;1792 0;20000 1;40000 end; => hdminet: 8 pulses and gaps are shorter than 100 microseconds, --glitch 100 passes over them;
+--explain mon => 1000 0;39000 1;40000 end; => hdminet: the line is low most of the time, --invert reads it the other way round;
+mon --invert => 1000 0;39000 1;40000 end; => 
+mon --invert => 1000 0;2000 1;40000 end; => hdminet: with --invert the line is low most of the time;
+mon => 1000 0;1099 1;1198 0;1297 1;1396 0;1495 1;1594 0;1693 1;1792 0;20000 1;40000 end; => 
+mon => 1000 0;39000 1;40000 end; => 
+mon => 1000 0;4700 1;5500 0;7000 1;7540 0;8140 1;9580 0;11080 1;11620 0;13120 1;13660 0;15160 1;15700 0;17200 1;17740 0;19240 1;19780 0;21280 1;21820 0;22420 1;23860 0;25360 1;40000 end; => 
 mon --glitch 100 => 1000 0;1099 1;1198 0;1297 1;1396 0;1495 1;1594 0;1693 1;1792 0;20000 1;40000 end; => 
 mon --audit => 1000 0;4700 1;5500 0;7000 1;7540 0;8140 1;9580 0;11080 1;11620 0;13120 1;13660 0;15160 1;15700 0;17200 1;17740 0;19240 1;19780 0;21280 1;21820 0;22420 1;23860 0;25360 1;40000 end; => hdminet: --margin 200 reads 1 frame more;
 mon --margin 10 => 1000 0;4700 1;5500 0;7000 1;7540 0;8140 1;9580 0;11080 1;11620 0;13120 1;13660 0;15160 1;15700 0;17200 1;17740 0;19240 1;19780 0;21280 1;21820 0;22420 1;23860 0;25360 1;40000 end; => 
 ";
 
 /// What may have to be asked for otherwise is said on standard error, and the status is 0. A capture that is right, or read as it is
-/// asked for, has no such line.
+/// asked for, has no such line, nor has an edge file that is read with no flag.
 #[test]
 fn says_what_to_ask_for_otherwise(rt: HostRuntime) {
     for case in HINTS.lines() {
