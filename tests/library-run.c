@@ -237,6 +237,7 @@ static void edids(void) {
     fails = true;
     HOLDS(refused(hdminet_edid_bytes(NULL, 0, room, sizeof room), HDMINET_EDID_TEXT_SYNTAX, 1));
     HOLDS(refused(hdminet_edid_bytes(TEXT("edid 1.3\nfrob 1\n"), room, sizeof room), HDMINET_EDID_TEXT_SYNTAX, 2));
+    HOLDS(refused(hdminet_edid_bytes(TEXT(" edid 1.3\n"), room, sizeof room), HDMINET_EDID_TEXT_SYNTAX, 1));
     HOLDS(refused(hdminet_edid_bytes(TEXT("edid 1.5\n"), room, sizeof room), HDMINET_EDID_TEXT_FIELD, 1));
     HOLDS(refused(hdminet_edid_bytes(TEXT("edid 1.3\nmaker sam\n"), room, sizeof room), HDMINET_EDID_TEXT_FIELD, 2));
     HOLDS(refused(hdminet_edid_check(edid.bytes, 127, room, sizeof room, &fails), HDMINET_EDID_LENGTH, 0) && fails);

@@ -85,6 +85,7 @@ def judged_edids():
         assert hdminet.edid_meaning(edid) == read(name + ".meaning").decode("latin-1")
     refused(40, 1, hdminet.edid_bytes, "")
     refused(41, 2, hdminet.edid_bytes, "edid 1.3\nmaker sam\n")
+    refused(40, 2, hdminet.edid_bytes, "edid 1.3\n  what it means\nmaker SAM\n")
     refused(30, 0, hdminet.edid_check, edid[:-1])
     refused(36, 0, hdminet.edid_meaning, edid[:130] + bytes([edid[130] ^ 1]) + edid[131:])
 

@@ -489,7 +489,7 @@ def recounted(e, count):
 
 def override(e):
     """the count of extensions by the HDMI Forum's override where the first one begins with it, else byte 126"""
-    if e[126] and len(e) > 134 and e[128] == 2 and e[129] >= 3 and e[130] >= 7 and e[132:134] == b'\xe2\x78':
+    if e[126] and len(e) >= 256 and e[128] == 2 and e[129] >= 3 and e[130] >= 7 and e[132:134] == b'\xe2\x78' and e[134]:
         return e[134]
     return e[126]
 

@@ -429,19 +429,10 @@ class TextParser:
         return e
 
 
-def among_all(lines, number):
-    """the number of a line among all lines, by its number among those that do not begin with a space"""
-    plain = [at for at, line in enumerate(lines, 1) if not line.startswith(b' ')]
-    return plain[number - 1] if number <= len(plain) else len(lines) + number - len(plain)
-
-
 def text_cmd(data):
-    """lines that begin with a space say what those above them mean, and are passed over"""
-    lines = data.split(b'\n')
-    plain = b'\n'.join(line for line in lines if not line.startswith(b' '))
     try:
-        e = TextParser(plain).parse()
+        e = TextParser(data).parse()
     except EdidRefused as r:
-        return 1, b'', 'text: %s %d' % (r.args[0], among_all(lines, r.args[1]))
-    assert edid_text(e) == plain
+        return 1, b'', 'text: %s %d' % (r.args[0], r.args[1])
+    assert edid_text(e) == data
     return 0, e.hex().encode() + b'\n', ''

@@ -650,7 +650,7 @@ pub const EDID_HELP: &str = "\
 The input is an EDID of 128, 256, 384 or 512 bytes: a base block of E-EDID 1.3 or 1.4, and up to
 three extension blocks. The output is its text, a line for each part. With --text it is the other
 way round. Each EDID has one text, and nothing of a block is lost: a part that fits no form is kept
-in hex, after `raw` or `ext`. Lines that begin with a space, as --meaning prints them, are passed over.
+in hex, after `raw` or `ext`.
 
 An example of a text. There are always eight `standard` lines, and four lines for the descriptors:
   edid 1.3
@@ -689,7 +689,8 @@ With --words it is a text in which these lines may have words in place of hex or
                                        latency and interlaced-latency of video and sound in ms,
                                        3d-present vic-1 vic-2 vic-3 vic-4
   timing vic 16 520 290                a video code, and perhaps the image's sides in mm
-One word of hex digits, two for each byte, is hex: `video 16` is code 22. The same text, in hex:
+One word of hex digits, two for each byte, is hex: `video 16` is code 22. Lines that begin with a space, as
+--meaning prints them, are passed over. The same text, in hex:
   ./hdminet edid --words --raw < tv.txt | ./hdminet edid
 
 With --hex the input is a hex dump: plain digits, or as `xxd`, `hexdump`, `od`, `i2cdump` and `edid-decode`
@@ -745,7 +746,8 @@ is that of all blocks, and bytes that are written keep byte 126; those of a text
 With --as-source what Linux does not ask of an EDID is mended, and what it passes over is left out, with a
 line on standard error for each: two wrong bytes of the header, a revision of version 1 that is not 3 or 4,
 letters of the maker, bytes after the last extension that is counted, an extension with a wrong checksum
-(mended where it is of CTA-861, else left out), and extensions after the third. The override counts too:
+(mended where it is of CTA-861, else left out), and extensions after the third. The override counts too, where
+it is not 0 and its block is there whole; in what is written it counts the extensions that are left:
   ./hdminet edid --as-source --raw < old.edid > mended.edid
 
 With --ddc the output is what a reading over DDC gives: for each segment a line `segment N` and sixteen

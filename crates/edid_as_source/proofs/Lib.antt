@@ -1,5 +1,8 @@
 mod Accepting
+mod Fronts
+mod Made
 mod Noting
+mod Staying
 mod Strict
 mod Taken
 mod Taking

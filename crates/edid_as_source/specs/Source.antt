@@ -6,7 +6,7 @@ use Rattle.edid_base.specs.declared.base.BaseError.TheVariants.{Header, Checksum
 use Rattle.edid_core.specs.declared.bytes.EdidError.{EdidError}
 use Rattle.edid_core.specs.declared.bytes.EdidError.TheVariants.{Length, Count, Base}
 use Rattle.edid_as_source.specs.Count.{extension_count}
-use Rattle.edid_as_source.specs.Extensions.{blocks_taken}
+use Rattle.edid_as_source.specs.Extensions.{blocks_taken, overridden}
 use Rattle.edid_as_source.specs.Front.{mended_block, right_places}
 
 -- the first reason why no source takes a base block: three bytes or more of its header are wrong; with the header mended its
@@ -30,9 +30,9 @@ refusal_after bytes None = count_refusal bytes
 abbrev pub refusal : List ℕ → Option EdidError
 refusal bytes = if nat_lt (length bytes) 128 then Some Length else refusal_after bytes (base_refusal bytes)
 
--- the extensions that are counted and taken, three at most, and the base block that counts them
+-- the extensions that are counted and taken, three at most, and the base block and the override that count them
 abbrev pub with_extensions : List ℕ → List ℕ → List ℕ
-with_extensions bytes taken = mended_block bytes (length taken / 128) ++ taken
+with_extensions bytes taken = mended_block bytes (length taken / 128) ++ overridden (length taken / 128) taken
 
 abbrev pub source_bytes : List ℕ → List ℕ
 source_bytes bytes = with_extensions bytes (blocks_taken 3 (extension_count bytes) (drop 128 bytes))

@@ -2,12 +2,12 @@
 //! 10.3.7).
 ghost use Rattle.std.specs.Prelude.{◌≡◌, ◌≤◌, IfOk, IfErr, Ok, Err, length};
 ghost use Rattle.edid_core.specs.Bytes.{has_length};
-ghost use Rattle.edid_as_source.specs.Count.{balance, counted, extension_count, first_count, has_override, with_count};
+ghost use Rattle.edid_as_source.specs.Count.{balance, begins_with_override, counted, extension_count, first_count, has_override, with_count};
 
 use arrayvec::ArrayVec;
 use edid_base::append;
 use edid_core::EdidError;
-use text_core::byte_at;
+use text_core::{after, byte_at};
 
 /// The place of the count in the base block. Its checksum is the next byte.
 const COUNT: usize = 126;
@@ -28,16 +28,27 @@ const HEADER: u8 = 0xe2;
 
 const OVERRIDE_TAG: u8 = 0x78;
 
+/// The bytes of a block.
+const BLOCK: usize = 128;
+
+/// Whether blocks begin with a whole extension that begins with an override. One that counts no extension is none.
+pub fn begins_with_override(blocks: &[u8]) -> bool
+    ensures { result ≡ begins_with_override blocks.now }
+{
+    blocks.len() >= BLOCK
+        && byte_at(blocks, 0) == CTA_TAG
+        && byte_at(blocks, 1) >= CTA_REVISION
+        && byte_at(blocks, 2) >= LEAST_END
+        && byte_at(blocks, 4) == HEADER
+        && byte_at(blocks, 5) == OVERRIDE_TAG
+        && byte_at(blocks, 6) >= 1
+}
+
 // Whether the first extension begins with the override.
 fn has_override(bytes: &[u8]) -> bool
     ensures { result ≡ has_override bytes.now }
 {
-    byte_at(bytes, COUNT) >= 1
-        && byte_at(bytes, EXTENSION) == CTA_TAG
-        && byte_at(bytes, EXTENSION + 1) >= CTA_REVISION
-        && byte_at(bytes, EXTENSION + 2) >= LEAST_END
-        && byte_at(bytes, EXTENSION + 4) == HEADER
-        && byte_at(bytes, EXTENSION + 5) == OVERRIDE_TAG
+    byte_at(bytes, COUNT) >= 1 && begins_with_override(after(bytes, EXTENSION))
 }
 
 /// How many extensions an EDID with these bytes has: as many as the override has it where the first extension begins with one,

@@ -1,10 +1,11 @@
 //! The extensions that a source takes.
 ghost use Rattle.std.specs.Prelude.{◌≡◌, ◌≤◌, ◌+◌, ◌*◌, ◌++◌, length};
 ghost use Rattle.arrayvec.specs.ArrayVec.{array_vec_len};
-ghost use Rattle.edid_as_source.specs.Extensions.{blocks_taken, is_taken, mended_extension};
+ghost use Rattle.edid_as_source.specs.Extensions.{blocks_taken, is_taken, mended_extension, overridden, with_override};
 
+use crate::count::begins_with_override;
 use arrayvec::ArrayVec;
-use edid_base::{Block, append, is_summed};
+use edid_base::{Block, append, is_summed, part};
 use text_core::byte_at;
 
 /// The tag of an extension of CTA-861.
@@ -43,5 +44,31 @@ pub fn push_blocks(room: u8, count: u8, rest: &[u8], taken: &mut ArrayVec<u8, 38
         push_blocks(room - 1, count - 1, after, taken);
     } else {
         push_blocks(room, count - 1, after, taken);
+    }
+}
+
+// An extension that begins with an override, which counts so many, with its right checksum.
+fn with_override(count: u8, block: &[u8]) -> [u8; 128]
+    requires { 128 ≤ length block.now }
+    ensures { result ≡ with_override count block.now }
+{
+    let mut front: ArrayVec<u8, 127> = ArrayVec::new();
+    append(&mut front, &part::<6>(block, 0));
+    front.push(count);
+    append(&mut front, &part::<120>(block, 7));
+    Block::ending(front.as_slice()).bytes
+}
+
+/// Adds extensions, of which an override counts so many where they begin with one.
+pub fn push_overridden(count: u8, blocks: &[u8], mended: &mut ArrayVec<u8, 512>)
+    requires { array_vec_len mended.old + length blocks.now ≤ 512 }
+    ensures { mended.new.items ≡ mended.old.items ++ overridden count blocks.now }
+{
+    if begins_with_override(blocks) {
+        let (_first, others) = blocks.split_at(128);
+        append(mended, &with_override(count, blocks));
+        append(mended, others);
+    } else {
+        append(mended, blocks);
     }
 }

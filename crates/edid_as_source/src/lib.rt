@@ -10,6 +10,6 @@ mod notes;
 mod source;
 
 pub use count::{counted, extension_count, first_count, with_count};
-pub use laws::mended_bytes_are_taken;
+pub use laws::{mended_bytes_are_taken, mended_bytes_stay};
 pub use notes::write_notes;
 pub use source::as_source;

@@ -4,7 +4,7 @@ ghost use Rattle.edid_base.specs.Header.{header};
 ghost use Rattle.edid_as_source.specs.Source.{as_source, base_refusal, count_refusal, refusal, source_bytes};
 
 use crate::count::extension_count;
-use crate::extensions::push_blocks;
+use crate::extensions::{push_blocks, push_overridden};
 use crate::front::{HEADER, mended_block, right_places};
 use arrayvec::ArrayVec;
 use edid_base::{BaseError, append, is_summed, part};
@@ -79,19 +79,18 @@ fn source_bytes(bytes: &[u8]) -> ArrayVec<u8, 512>
     let mut taken: ArrayVec<u8, 384> = ArrayVec::new();
     let (_base, extensions) = bytes.split_at(BLOCK);
     push_blocks(3, extension_count(bytes), extensions, &mut taken);
+    let count = (taken.len() / BLOCK) as u8;
     let mut mended: ArrayVec<u8, 512> = ArrayVec::new();
-    append(
-        &mut mended,
-        &mended_block(bytes, (taken.len() / BLOCK) as u8),
-    );
-    append(&mut mended, taken.as_slice());
+    append(&mut mended, &mended_block(bytes, count));
+    push_overridden(count, taken.as_slice(), &mut mended);
     mended
 }
 
 /// The bytes of the EDID that a source takes of these, which the strict reader takes: what Linux (drm_edid) does not ask of an
 /// EDID is mended, and what it passes over is left out. Two bytes of the header may be wrong; version 1 may have any revision, and
 /// the maker any bytes; blocks after those that are counted are left out, and so are an extension whose checksum is wrong, unless
-/// it is one of CTA-861, and extensions after the third.
+/// it is one of CTA-861, and extensions after the third. Byte 126 counts those that are left, and so does an override that the first
+/// of them begins with.
 ///
 /// # Errors
 ///

@@ -162,11 +162,12 @@ display_half input = if nat_lt (128 * slice_index input 126 + 128) (length input
 abbrev pub own_half : List ℕ → List ℕ
 own_half input = if nat_lt (128 * slice_index input 126 + 128) (length input) then drop (128 * slice_index input 126 + 128) input else []
 
--- the bytes that an input gives
+-- The bytes that an input gives: those of the EDID whose one text it is; in words that text once the payloads are in hex, without the
+-- lines that begin with a space, which say what those above them mean.
 abbrev pub IsRead : Source → List ℕ → List ℕ → Type 0
 IsRead sources.Bytes input given = given ≡ input
 IsRead (sources.Dump nth) input given = nth_in_dump nth input ≡ Ok given
-IsRead sources.Text input given = (e : Edid) × (edid_text e ≡ plain_text input) × (given ≡ edid_bytes e)
+IsRead sources.Text input given = (e : Edid) × (edid_text e ≡ input) × (given ≡ edid_bytes e)
 IsRead sources.Words input given = (e : Edid) × (edid_text e ≡ canonical_text (plain_text input)) × (given ≡ edid_bytes e)
 IsRead (sources.Pair true table) input given =
     (display : List ℕ) × (own : List ℕ) × (nth_in_dump 1 input ≡ Ok display) × (nth_in_dump 2 input ≡ Ok own) × IsAnswer table display own given

@@ -63,23 +63,15 @@ fn given_of_dump(alloc: Global, nth: u64, text: &[u8]) -> Result<Vec<u8>, EdidFa
     }
 }
 
-// The bytes of the EDID of a text's plain lines.
-fn bytes_of_plain(alloc: Global, text: &[u8], plain: &[u8]) -> Result<Vec<u8>, EdidFault>
-    ensures { IfOk result (λ given. (e : EdidValue) × (edid_text e ≡ plain.now) × (given.items ≡ edid_bytes e)) }
-{
-    match &parse_text(alloc, plain) {
-        Ok(edid) => Ok(edid_to_bytes(edid).as_slice().to_vec(alloc)?),
-        Err(error) => Err(EdidFault::from(among_all(text, *error))),
-    }
-}
-
-// The bytes of the EDID of a text, in which lines that begin with a space say what those above them mean.
+// The bytes of the EDID of a text. Each EDID has one text: a line more is at fault.
 #[inline(never)]
 fn given_of_text(alloc: Global, text: &[u8]) -> Result<Vec<u8>, EdidFault>
     ensures { IfOk result (λ given. IsRead Source.Text text.now given.items) }
 {
-    let plain = plain_text(alloc, text)?;
-    bytes_of_plain(alloc, text, plain.as_slice())
+    match &parse_text(alloc, text) {
+        Ok(edid) => Ok(edid_to_bytes(edid).as_slice().to_vec(alloc)?),
+        Err(error) => Err(EdidFault::from(*error)),
+    }
 }
 
 // The word at fault of a line that is in words.
@@ -128,7 +120,8 @@ fn bytes_of_words(
     }
 }
 
-// The bytes of the EDID of a text in which payloads may stand in words.
+// The bytes of the EDID of a text in which payloads may stand in words, and in which lines that begin with a space say what those
+// above them mean.
 #[inline(never)]
 fn given_of_words(alloc: Global, text: &[u8]) -> Result<Vec<u8>, EdidFault>
     ensures { IfOk result (λ given. IsRead Source.Words text.now given.items) }

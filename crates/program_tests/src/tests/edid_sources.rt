@@ -194,25 +194,39 @@ fn said(rt: &(impl Abort + AllocGlobal), notes: &str) -> String {
     lines
 }
 
+/// These bytes are written, and nothing is said.
+fn is_written(rt: &(impl Abort + AllocGlobal), line: &str, input: &[u8], wanted: &[u8], row: &str) {
+    let reported = reported_of(rt, line, input, None);
+    ends(rt, reported, 0, wanted, b"", line, row);
+}
+
+/// A row of what is mended, over these bytes. What is written is read as it stands, by the override too.
+fn is_mended(rt: &(impl Abort + AllocGlobal), good: &[u8], row: &str) {
+    let line = "edid --as-source --raw";
+    let (input, rest) = two_parts(rt, row);
+    let (output, notes) = rest.split_once(" =>").expect(rt, "notes");
+    let given = with_edits(rt, good, input);
+    let wanted = with_edits(rt, good, output);
+    let notes = said(rt, notes.trim_ascii());
+    let reported = reported_of(rt, line, given.as_slice(), None);
+    ends(
+        rt,
+        reported,
+        0,
+        &wanted,
+        notes.as_str().as_bytes(),
+        line,
+        row,
+    );
+    is_written(rt, line, &wanted, &wanted, row);
+    is_written(rt, "edid --eeodb --raw", &wanted, &wanted, row);
+}
+
 #[test]
 fn mends_what_sources_mend(rt: HostRuntime) {
     let good = bytes_of(&rt, blocks(&rt, EXTENSION, "e8").as_str());
     for row in MENDED.lines() {
-        let (input, rest) = two_parts(&rt, row);
-        let (output, notes) = rest.split_once(" =>").expect(&rt, "notes");
-        let given = with_edits(&rt, &good, input);
-        let wanted = with_edits(&rt, &good, output);
-        let notes = said(&rt, notes.trim_ascii());
-        let reported = reported_of(&rt, "edid --as-source --raw", given.as_slice(), None);
-        ends(
-            &rt,
-            reported,
-            0,
-            &wanted,
-            notes.as_str().as_bytes(),
-            "edid --as-source --raw",
-            row,
-        );
+        is_mended(&rt, &good, row);
     }
 }
 
@@ -239,6 +253,69 @@ fn refuses_what_sources_refuse(rt: HostRuntime) {
             cause,
         );
     }
+}
+
+/// The same over five blocks whose override counts three extensions, and byte 126 one.
+const FOLLOWED: &str = "\
+256 134=00 255=8b => 256 134=00 255=8b =>
+512 => 512 126=03 127=4f => counted ext 3
+512 255=00 => 512 126=03 127=4f => counted ext 3;mended ext 1 checksum
+512 256=70 => 384 126=02 127=50 134=02 255=89 => counted ext 3;passed over ext 2 checksum
+512 256=70 384=70 => 256 134=01 255=8a => counted ext 3;passed over ext 2 checksum;passed over ext 3 checksum
+134=04 255=87 => 512 126=03 127=4f => counted ext 4;passed over ext 4
+512 126=03 127=4f 134=01 255=8a => 256 134=01 255=8a => counted ext 1;passed over 256 bytes at the end
+512 126=03 127=4f 134=00 255=8b => 512 126=03 127=4f 134=00 255=8b =>
+512 126=03 127=4f 134=00 255=8b 256=70 => 384 126=02 127=50 134=00 255=8b => passed over ext 2 checksum
+";
+
+/// What no source takes of them: the override is not there whole.
+const CUT: &str = "\
+135 => edid: count
+135 134=00 255=8b => edid: count
+255 134=00 => edid: count
+256 => edid: count
+";
+
+#[test]
+fn the_override_follows_what_is_left(rt: HostRuntime) {
+    let four = four_blocks(&rt, OVERRIDE, "88");
+    let five = format!(in rt.alloc(); "{}{EMPTY:0<254}f7", four.as_str()).expect(
+        &rt,
+        "five blocks",
+    );
+    let five = bytes_of(&rt, five.as_str());
+    for row in FOLLOWED.lines() {
+        is_mended(&rt, &five, row);
+    }
+    for row in CUT.lines() {
+        let (edits, cause) = two_parts(&rt, row);
+        let given = with_edits(&rt, &five, edits);
+        refuses(&rt, "edid --as-source", row, &given, cause);
+    }
+}
+
+#[test]
+fn an_override_comes_to_its_place(rt: HostRuntime) {
+    let empty = blocks(&rt, EMPTY, "f7");
+    let three = format!(in rt.alloc(); "{}{OVERRIDE:0<254}88", empty.as_str()).expect(
+        &rt, "blocks",
+    );
+    let given = with_edits(&rt, &bytes_of(&rt, three.as_str()), "126=02 127=50 128=70");
+    let front = "020319f1e2780143900403230907078301000065030c000000";
+    let wanted = bytes_of(&rt, blocks(&rt, front, "8a").as_str());
+    let line = "edid --as-source --raw";
+    let reported = reported_of(&rt, line, given.as_slice(), None);
+    let notes = b"hdminet: passed over ext 1 checksum\n";
+    ends(
+        &rt,
+        reported,
+        0,
+        &wanted,
+        notes,
+        line,
+        "the first is left out",
+    );
+    is_written(&rt, line, &wanted, &wanted, "again");
 }
 
 #[test]
@@ -334,7 +411,7 @@ fn reads_a_text_with_meanings(rt: HostRuntime) {
     let text = written(&rt, "edid --meaning", &bytes_of(&rt, digits.as_str()));
     gives(
         &rt,
-        "edid --text",
+        "edid --words",
         "with meanings",
         text.as_str().as_bytes(),
         line.as_str(),
@@ -342,18 +419,19 @@ fn reads_a_text_with_meanings(rt: HostRuntime) {
     let front = b"edid 1.3\n  what it means\nmaker SAM\n  and more\nproduct x\n";
     refuses(
         &rt,
-        "edid --text",
+        "edid --words",
         "counts all lines",
         front,
         "text: field 5",
     );
     refuses(
         &rt,
-        "edid --text",
+        "edid --words",
         "ends too early",
         b"edid 1.3\n  what it means\n",
         "text: syntax 3",
     );
+    refuses(&rt, "edid --text", "has one text", front, "text: syntax 2");
 }
 
 #[test]

@@ -250,6 +250,10 @@ tail -; => tail - => syntax 29
 tail -; =>  => syntax 29
 tail -; => tail -;; => syntax 30
 edid 1.3 => # an EDID;edid 1.3 => syntax 1
+edid 1.3 =>  edid 1.3 => syntax 1
+made 10 2011; => made 10 2011;  in week 10; => syntax 6
+tail -; => tail -; ; => syntax 30
+tail -; => tail -;  no bytes => syntax 30
 name \"LOUNGE TV 001\" => raw 000000fc004c4f554e474520545620303031 => field 21
 ";
 
@@ -265,6 +269,8 @@ timing 14850 1920 280 1080 45 88 44 4 5 520 290 0 0 1e => timing vic 60 => field
 made 10 2011 => made 10 2300 => field 5
 cta f1 => video 16* x => syntax 24
 tail -; =>  => syntax 29
+tail -; =>  tail -; => syntax 30
+made 10 2011; => made 10 2011;  in week 10; of 2011;made 10 2011; => syntax 8
 ";
 
 /// The text of both blocks with this change is refused so.
