@@ -8,7 +8,7 @@ returns-in-Err g c = ([], inr ((Display c.in-Err.field-0, c.in-Err.ensures.refus
 
 pub returns-in-Err-one_edid : goal.returns-in-Err-one_edid
 returns-in-Err-one_edid g c =
-    ([], inr ((Receiver c.in-Err-one_edid.field-0, (c.in-Ok.shown, c.in-Ok.ensures.found), c.in-Err-one_edid.ensures.refused), refl), nothing c.args.out.now)
+    ([], inr ((Receiver c.in-Err-one_edid.field-0, ((c.in-Ok.shown, c.in-Ok.ensures.found), c.in-Err-one_edid.ensures.refused)), refl), nothing c.args.out.now)
 
 pub returns-in-Ok-one_edid : goal.returns-in-Ok-one_edid
 returns-in-Ok-one_edid g c =
