@@ -1,5 +1,5 @@
 -- A block of two that are the same is that block.
-use Rattle.std.proofs.Common.{◌≡◌, ◌∙◌, refl, sym, ap, ap₂, ℕ, ◌+◌, ◌*◌, ◌/◌, ◌%◌, ◌≤◌, ◌==◌, Bool, true, false, cond, arith, tests, min, List, [], ◌∷◌, ◌++◌, length, flat_map, filter, Option, Some, None}
+use Rattle.std.proofs.Common.{◌≡◌, ◌∙◌, refl, sym, ap, ap₂, ℕ, ◌+◌, ◌*◌, ◌/◌, ◌%◌, ◌≤◌, ◌==◌, Bool, true, false, cond, arith, tests, min, List, [], ◌∷◌, ◌++◌, length, flat_map, filter, Some}
 use Rattle.std.proofs.lemmas.List.{append-nil}
 use Rattle.std.specs.Int.Bits.{and_self, bit_and}
 use Rattle.std.specs.List.{find}

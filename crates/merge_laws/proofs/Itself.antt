@@ -1,13 +1,14 @@
 -- What a receiver answers with to a display that has its own EDID.
-use Rattle.std.proofs.Common.{◌≡◌, ◌∙◌, refl, sym, ap, ap₂, subst, ℕ, suc, ◌+◌, ◌-◌, ◌*◌, ◌/◌, ◌%◌, ◌<◌, ◌≤◌, ◌==◌, Bool, true, false, nat_lt, cond, arith, nat_tests, tests, List, [], ◌∷◌, ◌++◌, length, length-append, drop, flat_map, filter}
+use Rattle.std.proofs.Common.{◌≡◌, ◌∙◌, refl, sym, ap, ap₂, ℕ, suc, ◌+◌, ◌-◌, ◌<◌, ◌≤◌, ◌==◌, Bool, false, nat_lt, cond, arith, tests, List, [], ◌∷◌, ◌++◌, length, length-append, flat_map, filter}
 use Rattle.std.proofs.lemmas.Grind.{flat_map-append}
 use Rattle.std.proofs.lemmas.List.{append-nil}
 use Rattle.std.proofs.lemmas.List.Concat.{length-flat_map}
 use Rattle.std.proofs.lemmas.List.Sorted.{sum_by-IsPermutation}
 use Rattle.std.specs.List.Sorted.{IsPermutation}
 use Rattle.edid_base.proofs.OneBase.{one_base}
-use Rattle.edid_base.specs.Base.{base_bytes, display_bytes, product_bytes}
+use Rattle.edid_base.specs.Base.{display_bytes, product_bytes}
 use Rattle.edid_base.specs.Check.{block_with_checksum}
+use Rattle.edid_base.specs.Header.{header}
 use Rattle.edid_base.specs.Timing.{timing_bytes}
 use Rattle.edid_base.specs.declared.base.Base.{Base}
 use Rattle.edid_base.specs.declared.descriptor.Descriptor.{Descriptor}
@@ -31,7 +32,7 @@ use Rattle.edid_merge.specs.declared.subject.Subject.TheVariants.{Video, Audio, 
 use Rattle.edid_merge.specs.declared.table.Table.{Table}
 use Rattle.edid_merge.specs.declared.table.Whose.{Whose}
 use Rattle.edid_merge.specs.declared.table.Whose.TheVariants as whose
-use Rattle.merge_laws.specs.Itself.{IsItself, IsSingle, MergesToItself, by_kinds, kinds, plain_cta}
+use Rattle.merge_laws.specs.Itself.{IsSingle, MergesToItself, by_kinds, kinds, plain_cta}
 use Rattle.merge_laws.specs.Rows.{by_row}
 use Rattle.merge_laws.proofs.Again.{bits_again, numbers_again, whose_again}
 use Rattle.merge_laws.proofs.Sorting.{same_blocks}
@@ -43,10 +44,10 @@ abbrev from : Seat → Descriptor → List Descriptor → List Descriptor → Li
 from s d ds ns ss = seated s ns ss d ∷ placed (names_after s ns) (serials_after s ss) ds
 
 some_left : (n : ℕ) → (suc n == 0) ≡ false
-some_left n = grind (arith, nat_tests)
+some_left n = grind (arith, tests)
 
 not_less : (n : ℕ) → nat_lt n n ≡ false
-not_less n = grind (arith, nat_tests)
+not_less n = grind (arith, tests)
 
 placed_again : (ds : List Descriptor) → placed (labelled labels.Name ds) (labelled labels.Serial ds) ds ≡ ds
 placed_again [] = refl
@@ -80,7 +81,7 @@ display_again b m r =
 
 base_again : (w : Whose) (b m : Base) → IsMergedBase w b b m → m ≡ b
 base_again whose.Keep b m e = e
-base_again whose.Own b m r = one_base m b (rw (product_again b m r, display_again b m r) refl)
+base_again whose.Own b m r = one_base m b (ap₂ (λ (p d : List ℕ). block_with_checksum (header ++ (p ++ d))) (product_again b m r) (display_again b m r))
 
 -- ---- the data blocks
 
@@ -165,9 +166,11 @@ has_room t xs h =
     omega (arith, long, all, room_in xs)
 
 pub to_itself : MergesToItself
-to_itself t e h =
-    (has_room t e.extensions.items h, λ m r. record {
-      base = base_again t.product e.base m.base r.base;
-      blocks = same_blocks (cta_blocks e.extensions.items) h.counted;
-      extensions = r.extensions ∙ ap (λ (k : List ℕ). with_cta k e.extensions.items) (cta_again t e.extensions.items h);
-    })
+to_itself t e h = (
+  has_room t e.extensions.items h,
+  λ m r. record {
+    base = base_again t.product e.base m.base r.base;
+    blocks = same_blocks (cta_blocks e.extensions.items) h.counted;
+    extensions = r.extensions ∙ ap (λ (k : List ℕ). with_cta k e.extensions.items) (cta_again t e.extensions.items h);
+  },
+)

@@ -1,5 +1,5 @@
 -- The receiver's own blocks of a kind.
-use Rattle.std.proofs.Common.{◌≡◌, ◌∙◌, refl, ap, ap₂, ℕ, ◌+◌, ◌*◌, Bool, true, false, arith, List, [], ◌∷◌, ◌++◌, length, get_or, drop, filter, flat_map, map}
+use Rattle.std.proofs.Common.{◌≡◌, ◌∙◌, refl, ap, ap₂, ℕ, ◌+◌, ◌*◌, true, false, arith, List, [], ◌∷◌, length, get_or, filter, flat_map, map}
 use Rattle.edid_cta.specs.Block.{block_bytes, kind_number}
 use Rattle.edid_cta.specs.declared.block.DataBlock.{DataBlock}
 use Rattle.edid_merge.specs.Blocks.{blocks_of, by_bits, by_numbers, by_whose}

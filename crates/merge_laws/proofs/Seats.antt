@@ -1,5 +1,6 @@
 -- What a place says of the names and serial numbers that are left.
-use Rattle.std.proofs.Common.{◌≡◌, refl, sym, ℕ, zero, suc, ◌+◌, ◌<◌, ◌≤◌, ◌==◌, Bool, true, false, nat_lt, cond, arith, tests, List, [], ◌∷◌, length, ⊤, tt}
+use Rattle.std.proofs.Common.{◌≡◌, refl, ℕ, ◌+◌, ◌<◌, ◌≤◌, ◌==◌, Bool, true, false, nat_lt, cond, arith, tests, List, [], ◌∷◌, length}
+use Rattle.std.specs.Prelude.{⊤}
 use Rattle.edid_base.specs.declared.descriptor.Descriptor.{Descriptor}
 use Rattle.edid_base.specs.declared.descriptor.Descriptor.TheVariants.{Timing, Name, Text, SerialText, Range, Dummy, Raw}
 use Rattle.edid_merge.specs.Labels.{free_seat, is_labelled, is_name, is_serial, labelled, seat_of}

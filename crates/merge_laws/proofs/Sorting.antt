@@ -1,5 +1,5 @@
 -- Data blocks kind by kind are the same blocks.
-use Rattle.std.proofs.Common.{◌≡◌, ◌∙◌, refl, sym, ap, subst, ℕ, zero, suc, ◌==◌, Bool, true, false, cond, arith, List, [], ◌∷◌, ◌++◌, length, flat_map, filter}
+use Rattle.std.proofs.Common.{◌≡◌, refl, sym, ap, subst, ℕ, suc, ◌==◌, Bool, true, false, cond, arith, List, [], ◌∷◌, ◌++◌, length, filter}
 use Rattle.std.specs.List.Sorted.{IsPermutation}
 use Rattle.std.proofs.lemmas.List.Sorted.{IsPermutation-append_right, IsPermutation-cons, IsPermutation-middle, IsPermutation-refl, IsPermutation-sym, IsPermutation-trans}
 use Rattle.edid_cta.specs.declared.block.DataBlock.{DataBlock}

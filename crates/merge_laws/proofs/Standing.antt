@@ -1,10 +1,9 @@
 -- Names and serial numbers among the places of a display.
-use Rattle.std.proofs.Common.{◌≡◌, ◌∙◌, refl, sym, ap, ap₂, subst, ℕ, zero, suc, ◌+◌, ◌<◌, ◌≤◌, Bool, true, false, arith, List, [], ◌∷◌, ◌++◌, length, length-append, drop, map}
+use Rattle.std.proofs.Common.{◌≡◌, ◌∙◌, refl, sym, ap, subst, ◌<◌, ◌≤◌, true, false, arith, List, [], ◌∷◌, ◌++◌, length, length-append, drop, map}
 use Rattle.std.specs.List.{list_any}
 use Rattle.edid_base.specs.declared.descriptor.Descriptor.{Descriptor}
 use Rattle.edid_base.specs.declared.descriptor.Descriptor.TheVariants.{Dummy}
 use Rattle.edid_merge.specs.Labels.{is_name, is_serial, labelled, names_after, placed, seat_for, seated, serials_after, unplaced}
-use Rattle.edid_merge.specs.declared.labels.Label.{Label}
 use Rattle.edid_merge.specs.declared.labels.Label.TheVariants as labels
 use Rattle.edid_merge.specs.declared.labels.Seat.{Seat}
 use Rattle.edid_merge.specs.declared.labels.Seat.TheVariants as seats
