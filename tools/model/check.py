@@ -499,13 +499,19 @@ def value_of(args, flag):
 
 
 def edid_way(args, data):
-    """(status, output, fault) of `edid` with --merge, --rows R, --eeodb, --check, --address A, --port N, --below amp, --speakers own,
-    --only-address or --raw"""
+    """(status, output, lines of standard error) of `edid` with --merge, --rows R and what else given_way has"""
+    if '--merge' not in args:
+        return given_way(args, data)
+    data, cause, notes = merge.merge(*merge.halves(data), merge.rows_of(value_of(args, '--rows')))
+    if cause:
+        return 1, b'', 'merge: ' + cause
+    status, output, fault = given_way(args, data)
+    return status, output, '\n'.join(notes + [fault] * bool(fault))
+
+
+def given_way(args, data):
+    """(status, output, fault) of `edid` with --eeodb, --check, --address A, --port N, --below amp, --speakers own, --only-address or --raw"""
     port, address = value_of(args, '--port'), value_of(args, '--address')
-    if '--merge' in args:
-        data, cause = merge.merge(*merge.halves(data), merge.rows_of(value_of(args, '--rows')))
-        if cause:
-            return 1, b'', 'merge: ' + cause
     kept = None
     if '--eeodb' in args and len(data) in (128, 256, 384, 512):
         kept = data[126]

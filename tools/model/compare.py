@@ -16,8 +16,8 @@ def prog(program, args, data):
         p = subprocess.run([program] + args, input=data, capture_output=True, timeout=120)
     except subprocess.TimeoutExpired:
         return 'timeout', b'', ''
-    e = p.stderr.decode('latin1').split('\n')[0]
-    f = e[9:] if e.startswith('hdminet: ') else ('?' + e if e else '')
+    said = p.stderr.decode('latin1').split('\n')[:-1] if '--merge' in args else p.stderr.decode('latin1').split('\n')[:1]
+    f = '\n'.join(e[9:] if e.startswith('hdminet: ') else ('?' + e if e else '') for e in said)
     if args[0] == 'mon' and p.returncode == 0: f = ''      # what may have to be asked for otherwise is not in the model
     out = p.stdout
     if '--audit' in args or '--timing' in args:     # what the standard calls what is left as bytes is not in the model
@@ -832,7 +832,7 @@ def gen_sink(r):
     b = bytearray(EXAMPLE if r.random() < .5 else gen_edid(r, 1))
     body = b''
     some = [(1, b''.join(bytes([r.choice([9, 15, 0x3d, 0x57]), r.randrange(128), r.randrange(256)]) for _ in range(r.randint(1, 4)))),
-            (2, bytes(r.choice([1, 3, 4, 16, 31, 0x90, 97]) for _ in range(r.randint(1, 8)))), (4, bytes(r.randrange(256) for _ in range(3))),
+            (2, bytes(r.choice([1, 3, 4, 16, 31, 0x90, 97]) for _ in range(r.randint(1, 8)))), (4, bytes(r.randrange(256) for _ in range(r.choice([3, 3, 4, 7])))),
             (3, bytes([3, 12, 0, r.randrange(256), r.randrange(256)] + [r.randrange(256) for _ in range(r.randint(0, 9))])),
             (3, bytes([0xd8, 0x5d, 0xc4] + [r.randrange(256) if r.random() < .7 else 0 for _ in range(r.randint(0, 12))])),
             (7, bytes([r.choice([0, 5, 6, 1, 7, 14, 15, 17, 18, 20, 0x78, 32])] + [r.randrange(256) for _ in range(r.randint(0, 6))])),
@@ -841,7 +841,10 @@ def gen_sink(r):
         if len(body) + 1 + len(data) <= 123: body += bytes([tag << 5 | len(data)]) + data
     tail = bytes(b[54:72]) * r.choice([0, 0, 1, 2]) + (b'\1' if r.random() < .1 else b'')
     b[126] = 1
-    if r.random() < .5: b[72:90] = b'\0\0\0' + bytes([r.choice([0xfc, 0xff])]) + b'\0NAME' + bytes([48 + r.randrange(10)]) + b'\n' + b' ' * 7
+    for at in (72, 90, 108):
+        if r.random() < .6:
+            text = b'NAME' + bytes([48 + r.randrange(10)]) + b'\n' + b' ' * 7
+            b[at:at + 18] = r.choice([b'\0\0\0\xfc\0' + text, b'\0\0\0\xfc\0' + text, b'\0\0\0\xff\0' + text, b'\0\0\0\xfe\0' + text, b'\0\0\0\x10' + bytes(14)])
     ext = (bytes([2, 3, 4 + len(body), r.randrange(256)]) + body + tail)[:127].ljust(127, b'\0') + b'\0'
     return edid.mend(bytes(b[:128])) + edid.mend(ext)
 

@@ -41,7 +41,7 @@ def one_of_two(kind, d, o):
             elif i == 6: d[i] = min(d[i] >> 4, o[i] >> 4) << 4 | d[i] & o[i] & 15
             elif 8 <= i <= 12 and o[i] == 0: d[i] = 0
     else:
-        flags = {'speakers': (0, 1, 2), 'capability': (1,)}.get(kind, (1, 2))
+        flags = {'speakers': range(31), 'capability': (1,)}.get(kind, (1, 2))
         for i in flags:
             if i < len(d): d[i] &= o[i]
     return bytes(d)
@@ -57,14 +57,33 @@ def merged_blocks(rows, display, own):
     return out
 
 
+def word_of(d):
+    """what a descriptor is, as the first word of its line"""
+    return 'timing' if d[0] or d[1] else edid.descriptor_text(d).split()[0]
+
+
+def places(base):
+    return [base[i:i + 18] for i in range(54, 126, 18)]
+
+
 def descriptors(display, own):
-    for i in range(54, 126, 18):
-        d = display[i:i + 18]
-        tag = edid.descriptor_text(d).split()[0] if not (d[0] or d[1]) else 'timing'
-        if tag in ('name', 'serial-text'):
-            there = [own[k:k + 18] for k in range(54, 126, 18) if edid.descriptor_text(own[k:k + 18]).split()[0] == tag]
-            d = there[0] if there else bytes([0, 0, 0, 0x10]) + bytes(14)
-        yield d
+    """the answer's descriptors, and those of the receiver's that have no place: first each kind takes the places of its own kind, then the
+    names and then the serial numbers that are over take the places that are free"""
+    kinds = ('name', 'serial-text')
+    shown = places(display)
+    seats = [word_of(d) for d in shown]
+    there = {kind: [d for d in places(own) if word_of(d) == kind] for kind in kinds}
+    over = []
+    for kind in kinds:
+        mine = [i for i, seat in enumerate(seats) if seat == kind]
+        for i in mine[len(there[kind]):]: seats[i] = 'dummy'
+        over += [kind] * max(0, len(there[kind]) - len(mine))
+    for i, seat in enumerate(seats):
+        if seat == 'dummy' and over: seats[i] = over.pop(0)
+    out = []
+    for d, seat in zip(shown, seats):
+        out.append(there[seat].pop(0) if seat in kinds else bytes([0, 0, 0, 0x10]) + bytes(14) if seat == 'dummy' else d)
+    return b''.join(out), there['name'] + there['serial-text']
 
 
 def one_cta(e):
@@ -74,25 +93,27 @@ def one_cta(e):
 
 
 def merge(display, own, rows):
-    """(the bytes, the cause) of which one is None"""
+    """(the bytes, the cause, what is passed over), the bytes or the cause None"""
     for name, e in (('display', display), ('receiver', own)):
         fault = check_edid(e)
-        if fault: return None, '%s: %s' % (name, ' '.join(str(x) for x in fault))
-        if one_cta(e) is None: return None, name + ': one-cta'
+        if fault: return None, '%s: %s' % (name, ' '.join(str(x) for x in fault)), []
+        if one_cta(e) is None: return None, name + ': one-cta', []
     place, there = one_cta(display), one_cta(own)
     d, o = read_ext(display[place:place + 128]), read_ext(own[there:there + 128])
     blocks = merged_blocks(rows, d, o)
-    if len(blocks) > 123: return None, 'long'
+    if len(blocks) > 123: return None, 'long', []
     body = blocks
     for timing in d['timings']:
         if len(body) + 18 > 123: break
         body += timing
     flags = d['flags'] if rows['audio'] == 'keep' else d['flags'] & 0xbf | o['flags'] & 0x40
     ext = mend(bytes([2, 3, len(blocks) + 4, flags]) + body.ljust(123, b'\0') + b'\0')
-    base = display[:128]
+    base, notes = display[:128], []
     if rows['product'] == 'own':
-        base = mend(base[:8] + own[8:18] + base[18:54] + b''.join(descriptors(display, own)) + base[126:128])
-    return base + display[128:place] + ext + display[place + 128:], None
+        there, unplaced = descriptors(display, own)
+        base = mend(base[:8] + own[8:18] + base[18:54] + there + base[126:128])
+        notes = ['passed over ' + edid.descriptor_text(d) for d in unplaced]
+    return base + display[128:place] + ext + display[place + 128:], None, notes
 
 
 def rows_of(text):

@@ -1,28 +1,9 @@
 -- The base block that a receiver answers with (E-EDID Release A, sections 3.4 and 3.10.3; which of it is its own: own).
-use Rattle.std.specs.Prelude.{◌≡◌, List, [], ◌∷◌, map}
+use Rattle.std.specs.Prelude.{◌≡◌}
 use Rattle.edid_base.specs.declared.base.Base.{Base}
-use Rattle.edid_base.specs.declared.descriptor.Descriptor.{Descriptor}
-use Rattle.edid_base.specs.declared.descriptor.Descriptor.TheVariants.{Name, Text, SerialText, Dummy}
+use Rattle.edid_merge.specs.Labels.{merged_descriptors}
 use Rattle.edid_merge.specs.declared.table.Whose.{Whose}
 use Rattle.edid_merge.specs.declared.table.Whose.TheVariants.{Keep, Own}
-
--- the first descriptor with a name, or an unused one
-abbrev pub first_name : List Descriptor → Descriptor
-first_name [] = Dummy
-first_name (Name text ∷ ds) = Name text
-first_name (d ∷ ds) = first_name ds
-
--- the first descriptor with a serial number, or an unused one
-abbrev pub first_serial : List Descriptor → Descriptor
-first_serial [] = Dummy
-first_serial (SerialText text ∷ ds) = SerialText text
-first_serial (d ∷ ds) = first_serial ds
-
--- a name and a serial number are the receiver's
-abbrev pub merged_descriptor : List Descriptor → Descriptor → Descriptor
-merged_descriptor own (Name text) = first_name own
-merged_descriptor own (SerialText text) = first_serial own
-merged_descriptor own d = d
 
 -- the receiver's product: its maker, its code, its serial number and its date
 pub record HasProduct (own merged : Base) : Type 0 where
@@ -48,7 +29,7 @@ pub record HasPicture (display merged : Base) : Type 0 where
 pub record IsRenamed (display own merged : Base) : Type 0 where
   pub product : HasProduct own merged
   pub picture : HasPicture display merged
-  pub descriptors : merged.descriptors ≡ map (merged_descriptor own.descriptors) display.descriptors
+  pub descriptors : merged.descriptors ≡ merged_descriptors own.descriptors display.descriptors
 
 abbrev pub IsMergedBase : Whose → Base → Base → Base → Type 0
 IsMergedBase Keep display own merged = merged ≡ display

@@ -1,7 +1,9 @@
 pub mod Subjects
 pub mod Mixing
 pub mod Blocks
+pub mod Labels
 pub mod Bases
 pub mod Merge
+pub mod Notes
 pub mod Tables
 pub mod Speakers

@@ -1,6 +1,6 @@
 -- One block of two, byte by byte: which bytes are flags and which are numbers is of CTA-861-G, section 7.5, of HDMI 1.4, section
 -- 8.3.2, and of HDMI 2.1, section 10.3.2. What a receiver passes on of them is this profile's own.
-use Rattle.std.specs.Prelude.{ℕ, ◌+◌, ◌*◌, ◌/◌, ◌%◌, ◌==◌, if◌then◌else◌, List, [], ◌∷◌, drop, min, slice_index}
+use Rattle.std.specs.Prelude.{ℕ, ◌+◌, ◌*◌, ◌/◌, ◌%◌, ◌==◌, if◌then◌else◌, List, [], ◌∷◌, drop, min, replicate, slice_index}
 use Rattle.std.specs.Int.Bits.{bit_and}
 use Rattle.edid_merge.specs.declared.mixing.Way.{Way}
 use Rattle.edid_merge.specs.declared.mixing.Way.TheVariants.{Display, Receiver, Both, Lesser, Passed, Flags, Rates}
@@ -22,9 +22,9 @@ mixed [] display own = display
 mixed (way ∷ ways) [] own = []
 mixed (way ∷ ways) (byte ∷ display) own = mixed_byte way byte (slice_index own 0) ∷ mixed ways display (drop 1 own)
 
--- three bytes of flags
+-- flags, as many bytes as a data block has at most
 abbrev pub speakers_ways : List Way
-speakers_ways = Both ∷ Both ∷ Both ∷ []
+speakers_ways = replicate 31 Both
 
 -- a tag, and flags
 abbrev pub capability_ways : List Way

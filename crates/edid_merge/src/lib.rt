@@ -4,13 +4,16 @@
 mod base;
 mod blocks;
 mod extension;
+mod labels;
 mod mixing;
+mod notes;
 mod repeater;
 mod speakers;
 mod subject;
 mod table;
 
 pub use mixing::Way;
+pub use notes::write_merge_notes;
 pub use repeater::{MergeError, TooLong, Unfit, merge, merge_bytes};
 pub use speakers::{SpeakersError, with_speakers};
 pub use subject::{Subject, subject_of};

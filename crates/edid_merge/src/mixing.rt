@@ -26,8 +26,8 @@ pub enum Way {
     Rates,
 }
 
-/// Three bytes of flags.
-pub const SPEAKERS: &[Way] = &[Way::Both, Way::Both, Way::Both];
+/// Flags, as many bytes as a data block has at most.
+pub const SPEAKERS: &[Way] = &[Way::Both; 31];
 
 /// A tag, and flags.
 pub const CAPABILITY: &[Way] = &[Way::Display, Way::Both];

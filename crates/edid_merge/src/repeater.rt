@@ -88,8 +88,8 @@ pub fn merge(table: &Table, display: &Edid, own: &Edid) -> Result<Edid, TooLong>
     Ok(Edid { base, extensions })
 }
 
-// The EDID that bytes spell, where its data blocks stand in one extension.
-fn one_edid(bytes: &[u8]) -> Result<Edid, Unfit>
+/// The EDID that bytes spell, where its data blocks stand in one extension.
+pub fn one_edid(bytes: &[u8]) -> Result<Edid, Unfit>
     ensures found { IfOk result (λ e. IsOne bytes.now e) }
     ensures refused { IfErr result (λ cause. IsUnfit bytes.now cause) }
 {

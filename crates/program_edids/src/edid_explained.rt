@@ -1,12 +1,12 @@
 //! What is said of EDIDs on standard error, beside what is written of them.
 use crate::edid::{given_to, origin_of};
 use crate::edid_fault::EdidFault;
-use crate::edid_given::{given_of, kept_count};
+use crate::edid_given::{given_of, halves, kept_count};
 use arrayvec::ArrayString;
 use cli_words::{CommandChoice, EdidReading, Recipient, Source};
 use edid_as_source::{as_source, counted, write_notes};
-use edid_dumps::dump_count;
-use edid_merge::{MergeError, Unfit};
+use edid_dumps::{dump_count, nth_dump_bytes};
+use edid_merge::{MergeError, Table, Unfit, write_merge_notes};
 use rules_explain::{explain_counted, explain_findings, explain_no_hdmi};
 use std::alloc::{AllocError, Global};
 use std::fmt::Write;
@@ -124,6 +124,28 @@ fn name_two<E: Sink>(input: &[u8], err: &mut E) {
     }
 }
 
+// What of a receiver's product has no place in what it answers with.
+#[inline(never)]
+fn name_unplaced<E: Sink>(table: &Table, display: &[u8], own: &[u8], err: &mut E) {
+    let _ = write_merge_notes(table, display, own, err);
+}
+
+// Of a text with the dumps of two EDIDs or more, which are read, and what of the receiver's product has no place.
+fn name_dumps<E: Sink>(table: &Table, input: &[u8], err: &mut E) {
+    name_two(input, err);
+    if let Ok(display) = nth_dump_bytes(input, 1) {
+        if let Ok(own) = nth_dump_bytes(input, 2) {
+            name_unplaced(table, display.as_slice(), own.as_slice(), err);
+        }
+    }
+}
+
+// Of two EDIDs one after the other, what of the receiver's product has no place.
+fn name_halves<E: Sink>(table: &Table, input: &[u8], err: &mut E) {
+    let (display, own) = halves(input);
+    name_unplaced(table, display, own, err);
+}
+
 // What a source mends and passes over of an input.
 fn name_mended<E: Sink>(alloc: Global, source: Source, input: &[u8], err: &mut E) {
     if let Ok(given) = given_of(alloc, source, input) {
@@ -131,7 +153,8 @@ fn name_mended<E: Sink>(alloc: Global, source: Source, input: &[u8], err: &mut E
     }
 }
 
-/// Writes which of several EDIDs of a dump is read, and what a source mends and passes over.
+/// Writes which of several EDIDs of a dump is read, what of a receiver's product has no place in what it answers with, and what a
+/// source mends and passes over.
 pub fn name_read<E: Sink>(alloc: Global, choice: CommandChoice, input: &[u8], err: &mut E) {
     let CommandChoice::Edid {
         source,
@@ -143,8 +166,9 @@ pub fn name_read<E: Sink>(alloc: Global, choice: CommandChoice, input: &[u8], er
     };
     match source {
         Source::Dump { nth } => name_one(nth, input, err),
-        Source::Pair { dumps: true, .. } => name_two(input, err),
-        Source::Bytes | Source::Text | Source::Words | Source::Pair { .. } => {}
+        Source::Pair { dumps: true, table } => name_dumps(&table, input, err),
+        Source::Pair { dumps: false, table } => name_halves(&table, input, err),
+        Source::Bytes | Source::Text | Source::Words => {}
     }
     if let EdidReading::AsSource = reading {
         name_mended(alloc, source, input, err);

@@ -155,8 +155,8 @@ fn merged_dumps(alloc: Global, table: Table, text: &[u8]) -> Result<Vec<u8>, Edi
     }
 }
 
-// The bytes of a display's EDID, by its count of extensions, and those after it.
-fn halves(input: &[u8]) -> (&[u8], &[u8])
+/// The bytes of a display's EDID, by its count of extensions, and those after it.
+pub fn halves(input: &[u8]) -> (&[u8], &[u8])
     ensures display { result.0.now ≡ display_half input.now }
     ensures own { result.1.now ≡ own_half input.now }
 {

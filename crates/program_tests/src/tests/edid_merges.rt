@@ -114,6 +114,117 @@ fn goes_by_the_rows(rt: HostRuntime) {
     }
 }
 
+/// Flags, the last three descriptors of a display's EDID and of a receiver's, those of the answer, and what is said to have no place.
+const PLACES: &str = "\
+--merge => name 'TV'/dummy/dummy => name 'AVR'/serial-text '7'/dummy => name 'AVR'/serial-text '7'/dummy => -
+--merge => name 'TV'/dummy/dummy => text 'T'/serial-text '7'/name 'AVR' => name 'AVR'/serial-text '7'/dummy => -
+--merge => text 'T'/dummy/dummy => name 'AVR'/serial-text '7'/dummy => text 'T'/name 'AVR'/serial-text '7' => -
+--merge => text 'T'/dummy/text 'U' => serial-text '7'/name 'AVR'/dummy => text 'T'/name 'AVR'/text 'U' => serial-text '7'
+--merge => text 'T'/text 'U'/text 'V' => serial-text '7'/name 'AVR'/name 'II' => text 'T'/text 'U'/text 'V' => name 'AVR'/name 'II'/serial-text '7'
+--merge => name 'TV'/name '55'/dummy => name 'AVR'/dummy/dummy => name 'AVR'/dummy/dummy => -
+--merge => name 'TV'/name '55'/text 'T' => name 'AVR'/serial-text '7'/dummy => name 'AVR'/serial-text '7'/text 'T' => -
+--merge => name 'TV'/text 'T'/text 'U' => name 'AVR'/name 'II'/dummy => name 'AVR'/text 'T'/text 'U' => name 'II'
+--merge => dummy/name 'TV'/text 'T' => name 'AVR'/name 'II'/dummy => name 'AVR'/name 'II'/text 'T' => -
+--merge => serial-text '1'/name 'TV'/dummy => name 'AVR'/serial-text '7'/dummy => serial-text '7'/name 'AVR'/dummy => -
+--merge => serial-text '1'/text 'T'/text 'U' => name 'AVR'/serial-text '7'/dummy => serial-text '7'/text 'T'/text 'U' => name 'AVR'
+--merge => serial-text '1'/text 'T'/text 'U' => name 'AVR'/dummy/dummy => name 'AVR'/text 'T'/text 'U' => -
+--merge => name 'TV'/serial-text '1'/dummy => text 'T'/dummy/dummy => dummy/dummy/dummy => -
+--merge --rows product=keep => text 'T'/name 'TV'/text 'U' => name 'AVR'/serial-text '7'/dummy => text 'T'/name 'TV'/text 'U' => -
+";
+
+/// The text of an EDID with these last descriptors and blocks, in which a stroke ends a line.
+fn text_with(rt: &(impl Abort + AllocGlobal), descriptors: &str, blocks: &str) -> String {
+    let lines = format!(in rt.alloc(); "{descriptors}/|cta f1/{blocks}/tail -/")
+        .expect(rt, "lines")
+        .as_str()
+        .replace(rt.alloc(), '/', "\n")
+        .expect(rt, "lines")
+        .as_str()
+        .replace(rt.alloc(), '\'', "\"")
+        .expect(rt, "quotes");
+    let (last, extension) = lines.as_str().split_once('|').expect(rt, "two parts");
+    let whole = after_base(rt, extension);
+    let (front, _) = whole.as_str().split_once("name ").expect(rt, "a name");
+    format!(in rt.alloc(); "{front}{last}{extension}").expect(rt, "a text")
+}
+
+/// The bytes of two EDIDs with these texts, in hex, as two dumps.
+fn dumps_of(rt: &(impl Abort + AllocGlobal), display: &str, own: &str) -> String {
+    let first = written(rt, "edid --text", display.as_bytes());
+    let second = written(rt, "edid --text", own.as_bytes());
+    format!(in rt.alloc(); "{first}receiver\n{second}").expect(rt, "two dumps")
+}
+
+/// What is said of descriptors that have no place.
+fn passed_over(rt: &(impl Abort + AllocGlobal), descriptors: &str) -> String {
+    let mut notes = String::new(rt.alloc());
+    if descriptors != "-" {
+        for line in descriptors.split('/') {
+            let quoted = line.replace(rt.alloc(), '\'', "\"").expect(rt, "quotes");
+            let note = format!(in rt.alloc(); "hdminet: passed over {quoted}\n").expect(rt, "a note");
+            notes.push_str(note.as_str()).expect(rt, "notes");
+        }
+    }
+    notes
+}
+
+/// Each name and serial number of the receiver's stands once where it has a place, and else on standard error.
+#[test]
+fn places_names_and_serial_numbers(rt: HostRuntime) {
+    for case in PLACES.lines() {
+        let (flags, display, rest) = three_parts(&rt, case);
+        let (own, want, unplaced) = three_parts(&rt, rest);
+        let line = format!(in rt.alloc(); "edid --hex {flags}").expect(&rt, "a line");
+        let shown = text_with(&rt, display, "video 900403");
+        let known = text_with(&rt, own, "video 900403");
+        let pair = dumps_of(&rt, shown.as_str(), known.as_str());
+        let reported = reported_of(&rt, line.as_str(), pair.as_str().as_bytes(), None);
+        let answer = text_with(&rt, want, "video 900403");
+        let notes = passed_over(&rt, unplaced);
+        ends(
+            &rt,
+            reported,
+            0,
+            answer.as_str().as_bytes(),
+            notes.as_str().as_bytes(),
+            line.as_str(),
+            case,
+        );
+    }
+}
+
+/// The bytes of a display's speakers, of a receiver's, and those that both have.
+const SPEAKERS: &str = "\
+ffffff => 4f0100 => 4f0100
+4f010077ff => ff00000f8001 => 4f00000780
+4f0100ff => 4f0100 => 4f010000
+4f => 0f0102 => 0f
+";
+
+/// The text of an EDID with these speakers.
+fn spoken_text(rt: &(impl Abort + AllocGlobal), bytes: &str) -> String {
+    let block = format!(in rt.alloc(); "speakers {bytes}").expect(rt, "a block");
+    text_with(rt, "name 'AVR'/dummy/dummy", block.as_str())
+}
+
+#[test]
+fn has_the_speakers_of_both(rt: HostRuntime) {
+    for case in SPEAKERS.lines() {
+        let (display, own, want) = three_parts(&rt, case);
+        let shown = spoken_text(&rt, display);
+        let known = spoken_text(&rt, own);
+        let answer = spoken_text(&rt, want);
+        let pair = dumps_of(&rt, shown.as_str(), known.as_str());
+        gives(
+            &rt,
+            "edid --hex --merge --rows speakers=and",
+            case,
+            pair.as_str().as_bytes(),
+            answer.as_str(),
+        );
+    }
+}
+
 /// Three vendor blocks of 31 bytes, and one of ten formats of audio, each up to its zeros.
 const LONG: &str =
     "020364f17f0000ff000000000000000000000000000000000000000000000000000000007f0000ff000000000000000000000000000000000000000000000000000000007f0000ff00000000000000000000000000000000000000000000000000000000";
