@@ -242,13 +242,13 @@ level low (suc n) t = by (low n) refl (level low n t)
 all_of : (low : Line) (n t : ℕ) → (low t ≡ true → t < n) → line_of (low_before low n) t ≡ low t
 all_of low n t over = level low n t ∙ by (low t) refl
   where
-    by : (b : Bool) → low t ≡ b → (nat_lt t n && low t) ≡ low t
-    by true e = let l = over e in let soon : nat_lt t n ≡ true = grind (arith, nat_tests) in ap (λ x. x && low t) soon
-    by false e = ap (λ x. nat_lt t n && x) e ∙ none (nat_lt t n) ∙ sym e
-
     none : (b : Bool) → (b && false) ≡ false
     none true = refl
     none false = refl
+
+    by : (b : Bool) → low t ≡ b → (nat_lt t n && low t) ≡ low t
+    by true e = let l = over e in let soon : nat_lt t n ≡ true = grind (arith, nat_tests) in ap (λ x. x && low t) soon
+    by false e = ap (λ x. nat_lt t n && x) e ∙ none (nat_lt t n) ∙ sym e
 
 -- stretches are high from their end on
 ends : (ss : List Stretch) (t : ℕ) → line_of ss t ≡ true → t < end_of ss
