@@ -6,7 +6,7 @@ use line_frames::{Addr, Frame};
 use line_rounds::{Outcome, Seat, Wire};
 use line_wave::{Pulls, Stretch};
 use line_wire::EdgeWire;
-use room_drives::{begun_within, seat_drive};
+use room_drives::{begun_within, put_drives};
 use std::alloc::Global;
 use std::process::Abort;
 
@@ -116,16 +116,16 @@ fn drives_text(
     start: u64,
     pulses: &Pulls,
     outcome: &Outcome,
-) -> String {
+) -> String
+    requires few { length seats.now ≤ 15 }
+{
     assert!(rt; start <= 2_000_000_000_000 && outcome.reading.at <= 3_000_000_000_000);
     assert!(rt; outcome.rest <= 3_000_000_000_000);
     let mut text = String::new(rt.alloc());
-    for (number, seat) in seats.iter().enumerate() {
-        put_drive(
-            rt.alloc(),
-            &mut text,
-            seat_drive(outcome, number, seat, start).as_slice(),
-        );
+    let mut drives = ArrayVec::new();
+    put_drives(&mut drives, seats, start, outcome);
+    for drive in &drives {
+        put_drive(rt.alloc(), &mut text, drive.as_slice());
         let _ = text.push_str(" ");
     }
     put_drive(

@@ -18,7 +18,7 @@ use Rattle.capture_vcd.specs.Dump.{edges_in}
 use Rattle.capture_vcd.specs.Text.{last}
 use Rattle.capture_vcd.specs.Wire.{wire_line}
 use Rattle.capture_wires.specs.Wires.{head, id_of}
-use Rattle.room_drives.specs.Stretches.{drives_from}
+use Rattle.room_drives.specs.Drives.{end_of, low_before, seat_line}
 use Rattle.capture_forms.specs.Format.{line_text}
 use Rattle.capture_forms.specs.declared.form.CaptureForm.TheVariants.{Vcd}
 use Rattle.room_run.specs.declared.run.Reporting.TheVariants.{Line}
@@ -218,9 +218,9 @@ by_declared number (name ∷ names) f g h = ap₂ (λ a b. a || b) (h number) (b
 
 -- ---- a round has a drive for each device, and one for the pulses
 
-length-from : (begin number : ℕ) (o : Outcome) (seats : List Seat) → length (drives_from begin o number seats) ≡ length seats
-length-from begin number o [] = refl
-length-from begin number o (seat ∷ seats) = ap suc (length-from begin (number + 1) o seats)
+length-each : {X Y : Type 0} (f : X → Y) (xs : List X) → length (map f xs) ≡ length xs
+length-each f [] = refl
+length-each f (x ∷ xs) = ap suc (length-each f xs)
 
 length-append : {X : Type 0} (xs ys : List X) → length (xs ++ ys) ≡ length xs + length ys
 length-append [] ys = omega arith
@@ -232,8 +232,9 @@ length-names (node ∷ tree) = ap suc (length-names tree)
 
 few_drives : (tree : List Node) (r : Laid) → length r.seats ≡ length tree → length (drives r) ≤ length (names_in tree ++ codes "pulses" ∷ [])
 few_drives tree r h =
-    let a : length (drives r) ≡ length (drives_from r.begin r.outcome 0 r.seats) + 1 = length-append (drives_from r.begin r.outcome 0 r.seats) _ in
-    let b = length-from r.begin 0 r.outcome r.seats in
+    let each : Seat → List Stretch = λ seat. low_before (seat_line r.begin (line_of r.outcome.wave) seat) (end_of r.outcome.wave) in
+    let a : length (drives r) ≡ length (map each r.seats) + 1 = length-append (map each r.seats) _ in
+    let b = length-each each r.seats in
     let c : length (names_in tree ++ codes "pulses" ∷ []) ≡ length (names_in tree) + 1 = length-append (names_in tree) (codes "pulses" ∷ []) in
     let d = length-names tree in
     omega (arith, a, b, c, d, h)

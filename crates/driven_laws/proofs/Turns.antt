@@ -12,7 +12,7 @@ use Rattle.line_rounds.specs.Alone.{part_of}
 use Rattle.line_rounds.specs.Round.{close_in}
 use Rattle.line_rounds.proofs.Alone.{rounds_are_lone}
 use Rattle.line_rounds.proofs.Lasting.{rounds_last}
-use Rattle.drive_laws.proofs.Whole.{drives_are_ruled, drives_are_the_line}
+use Rattle.room_drives.proofs.Whole.{drives_are_ruled, drives_are_the_line}
 use Rattle.wires_laws.specs.Dumps.{AreSpans, IsWithin, Span, spans_text, wire_at}
 use Rattle.room_net.specs.Start.{first_onset, least_start, sooner}
 use Rattle.room_net.specs.State.{NetState, next_start}
@@ -131,11 +131,11 @@ none_low u place (wire ∷ wires) h = by (line_of wire u) refl h place (λ rest 
     by false e k (suc place) more = more k place
 
 pub driven_line : (r : Laid) → IsRuled r → (u : ℕ) → line_of r.outcome.wave u ≡ list_any (λ ss. line_of ss u) (drives r)
-driven_line r h u = drives_are_the_line r.seats r.begin r.pulses r.outcome h.order h.wave h.round h.begun u
+driven_line r h u = drives_are_the_line r.seats r.begin r.pulses r.outcome h.wave h.round u
 
 -- each of its drives is low exactly where its seat, or a pulse, pulls
 pub pulled : (r : Laid) → IsRuled r → (u : ℕ) → map (λ ss. line_of ss u) (drives r) ≡ pulls r u
-pulled r h u = drives_are_ruled r.seats r.begin r.pulses r.outcome h.order h.wave h.round h.begun u
+pulled r h u = drives_are_ruled r.seats r.begin r.pulses r.outcome h.wave h.round u
 
 pub begins_low : (r : Laid) → IsRuled r → r.begin < r.outcome.rest
 begins_low r h = (rounds_last r.seats r.begin r.pulses r.outcome h.order h.wave h.round h.begun).0

@@ -7,8 +7,7 @@ use Rattle.line_rounds.specs.declared.Outcome.{Outcome}
 use Rattle.line_rounds.specs.Contend.{AreFrames}
 use Rattle.line_rounds.specs.Lasting.{is_begun}
 use Rattle.line_rounds.specs.Round.{IsRound}
-use Rattle.room_drives.specs.Drives.{pulse_line, seat_line}
-use Rattle.room_drives.specs.Stretches.{drives_of}
+use Rattle.room_drives.specs.Drives.{drives_of, pulse_line, seat_line}
 use Rattle.room_net.specs.State.{first_net}
 use Rattle.room_net.specs.Step.{seats_of}
 use Rattle.room_run.specs.declared.run.Totals.{Totals}
@@ -50,7 +49,7 @@ abbrev pub rounds_of : (topology script text : List ℕ) (totals : Totals) → I
 rounds_of topology script text totals p =
     rounds_in p.course.end p.driven.run.turns (start (first_net p.plan.tree p.course.pulses) p.course.events) p.driven.run.line p.driven.run.body p.driven.run.at_end p.driven.run.drives
 
--- it is one of which `drives_are_the_line` of drive_laws speaks: its seats send frames, its pulses and its line are in order, this is
+-- it is one of which `drives_are_the_line` of room_drives speaks: its seats send frames, its pulses and its line are in order, this is
 -- that of a round, and somebody pulls at once
 pub record IsRuled (r : Laid) : Type 0 where
   pub frames : AreFrames r.seats

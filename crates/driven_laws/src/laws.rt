@@ -3,7 +3,7 @@ ghost use Rattle.driven_laws.specs.Rounds.{RoundsAreRuled, RoundsAreTheTraces};
 ghost use Rattle.driven_laws.specs.Dumps.{DumpsAreReadAsLines, DumpsReportDrives, TextsHaveDrives};
 ghost use Rattle.driven_laws.specs.Names.{MovesKeepNames, NamesAreWords, NamesStart, QueueingKeepsNames, ReportsKeepNames};
 
-/// Each round of a run is one of which [`drives_are_the_line`](drive_laws::drives_are_the_line) speaks.
+/// Each round of a run is one of which [`drives_are_the_line`](room_drives::drives_are_the_line) speaks.
 pub fn rounds_are_ruled()
     ensures { RoundsAreRuled }
 {}

@@ -5,3 +5,4 @@ pub mod HasDrives
 pub mod Named
 pub mod HasDump
 pub mod RoundBounds
+pub mod SameLines

@@ -6,7 +6,7 @@ use Rattle.line_wave.specs.Line.{IsWave}
 use Rattle.line_rounds.specs.declared.Seat.{Seat}
 use Rattle.line_rounds.specs.declared.Outcome.{Outcome}
 use Rattle.capture_wires.specs.Wires.{head, wires_text}
-use Rattle.room_drives.specs.Stretches.{drives_of}
+use Rattle.room_drives.specs.Drives.{drives_of}
 use Rattle.device_core.specs.State.{State}
 use Rattle.edid_tree.specs.Node.{Node}
 use Rattle.room_net.specs.State.{first_net}

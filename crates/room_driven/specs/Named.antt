@@ -5,7 +5,7 @@ use Rattle.std.specs.List.{flat_map}
 use Rattle.line_wave.specs.declared.Stretch.{Stretch}
 use Rattle.line_rounds.specs.declared.Outcome.{Outcome}
 use Rattle.capture_wires.specs.Wires.{closing, closing_with, opening, variables, wires_text}
-use Rattle.room_drives.specs.Stretches.{drives_of}
+use Rattle.room_drives.specs.Drives.{drives_of}
 use Rattle.room_named.specs.Names.{named_opening, named_round, named_values}
 use Rattle.room_net.specs.Step.{seats_of}
 use Rattle.capture_vcd.specs.Text.{last}

@@ -1,12 +1,13 @@
 //! One round, and who drives its line.
-ghost use Rattle.std.specs.Prelude.{◌≡◌, [], ◌+◌, ◌∷◌, ◌++◌, ◌≤◌, length};
+ghost use Rattle.std.specs.Prelude.{◌≡◌, [], ◌+◌, ◌∷◌, ◌++◌, ◌≤◌, length, Some};
 ghost use Rattle.line_wave.specs.Bounds.{latest_heard, latest_instant};
 ghost use Rattle.line_wave.specs.Line.{IsWave};
 ghost use Rattle.line_rounds.specs.Round.{IsRound};
 ghost use Rattle.room_net.specs.Progress.{IsProgress};
+ghost use Rattle.room_net.specs.State.{next_start};
 ghost use Rattle.room_net.specs.Step.{after_round, seats_of};
 ghost use Rattle.text_core.specs.Adds.{Adds};
-ghost use Rattle.room_drives.specs.Stretches.{drives_of};
+ghost use Rattle.room_drives.specs.Drives.{IsBegunRound, drives_of};
 ghost use Rattle.room_driven.specs.Named.{round_of};
 
 use crate::wires::Wires;
@@ -58,6 +59,7 @@ fn add_round<S: Sink>(
     requires begin { begin ≤ latest_instant }
     requires early { outcome.now.reading.at ≤ latest_heard }
     requires rest { (begin ≤ outcome.now.rest) × (outcome.now.rest ≤ latest_heard) }
+    requires round { IsBegunRound seats.now begin pulses.now outcome.now }
     ensures { Adds out.old out.new (round_of wires (drives_of seats.now begin pulses.now outcome.now) begin outcome.now) }
 {
     let mut drives = ArrayVec::new();
@@ -76,12 +78,13 @@ pub fn add_drives<S: Sink, W>(
     net: &Net<W>,
 )
     requires soon { begin ≤ latest_instant }
+    requires begins { next_start net.now ≡ Some begin }
     requires round { IsRound (seats_of net.now begin) begin net.now.pulses outcome.now }
     requires progress { IsProgress net.now begin (after_round net.now begin outcome.now) }
     ensures { Adds out.old out.new (round_of wires (drives_of (seats_of net.now begin) begin net.now.pulses outcome.now) begin outcome.now) }
 {
     let seats = net.seats(begin);
-    // No effect at run time. The proof reads from it how many there are at most.
+    // No effect at run time. The proof reads from it how many there are at most, and that they are in order.
     let _stretches = outcome.wave.as_slice();
     add_round(out, wires, &seats, begin, net.pulls(), outcome);
 }

@@ -1,6 +1,6 @@
--- Who drives the line of a round, as low stretches: what a sender pulls until it is out, 1,500 of each block that a follower
--- acknowledges (the acknowledge bit, CEC 6.1), and 3,600 of a follower after a fall too early (the low drive, CEC 7.4; its
--- length own). Each goes by what an outcome says.
+-- How the drive of a seat is put together from what an outcome says (own): what a sender pulls until it is out, 1,500 of each
+-- block that a follower acknowledges, and 3,600 of a follower after a fall too early. No public clause names these: that they
+-- are the lines of the rule (Drives) is proved.
 use Rattle.std.specs.Prelude.{ℕ, ◌+◌, ◌-◌, ◌*◌, Bool, true, false, not, nat_lt, nat_le, ◌&&◌, if◌then◌else◌, min, List, [], ◌∷◌, ◌++◌, length, slice_get, Option, Some, None}
 use Rattle.std.specs.List.{flat_map, range_with_len}
 use Rattle.line_wave.specs.declared.Stretch.{Stretch}
@@ -14,7 +14,6 @@ use Rattle.line_reading.specs.Sending.{destination}
 use Rattle.line_rounds.specs.declared.Seat.{Seat}
 use Rattle.line_rounds.specs.declared.Outcome.{Outcome}
 use Rattle.line_rounds.specs.Round.{ack_pull, short_pull, is_held, is_not_before, out_in}
-use Rattle.line_rounds.specs.Bounds.{begun_within}
 
 -- low from one instant up to another
 abbrev pub stretch : ℕ → ℕ → Stretch
@@ -104,7 +103,3 @@ seat_stretches begin o number seat = seat_stretches_by begin o seat (out_in o.lo
 abbrev pub drives_from : ℕ → Outcome → ℕ → List Seat → List (List Stretch)
 drives_from begin o number [] = []
 drives_from begin o number (seat ∷ seats) = seat_stretches begin o number seat ∷ drives_from begin o (number + 1) seats
-
--- each seat's, and after them those of the pulses that begin in the round
-abbrev pub drives_of : List Seat → ℕ → List Stretch → Outcome → List (List Stretch)
-drives_of seats begin pulses o = drives_from begin o 0 seats ++ begun_within begin o.rest pulses ∷ []

@@ -3,6 +3,7 @@ ghost use Rattle.std.specs.Prelude.{◌≡◌, ◌+◌, ◌≤◌, ◌++◌, [],
 ghost use Rattle.line_wave.specs.Bounds.{latest_instant, latest_heard};
 ghost use Rattle.line_wave.specs.Line.{IsWave};
 ghost use Rattle.line_rounds.specs.Bounds.{begun_within};
+ghost use Rattle.room_drives.specs.Drives.{AreOfPulses, AreOfSeats};
 ghost use Rattle.room_drives.specs.Stretches.{drives_from};
 
 use crate::seat::seat_drive;
@@ -32,12 +33,14 @@ fn begun_since(pulses: &[Stretch], instant: u64) -> &[Stretch]
     left
 }
 
-/// Those of pulses in order that begin in a round, as many as there are: from its begin to its rest.
+/// Those of pulses in order that begin in a round, as many as there are: from its begin to its rest. They pull its line low
+/// exactly where a pulse does by the rule of a round.
 pub fn begun_within(pulses: &[Stretch], begin: u64, rest: u64) -> &[Stretch]
     requires order { IsWave pulses.now }
     requires rest { rest ≤ latest_heard }
     ensures order { IsWave result.now }
     ensures begun { result.now ≡ begun_within begin rest pulses.now }
+    ensures ruled { AreOfPulses begin pulses.now rest result.now }
 {
     let begun = begun_since(pulses, begin);
     let later = begun_since(begun, rest + 1);
@@ -67,8 +70,8 @@ fn push_drives(
     push_drives(drives, outcome, number + 1, others, begin);
 }
 
-/// Where each seat pulls the line of a round that begins at `begin` and gave this outcome. They are put into an empty list of
-/// the caller's, since they are large.
+/// Where each seat pulls the line of a round that begins at `begin` and gave this outcome: exactly where it does by the rule of
+/// a round. They are put into an empty list of the caller's, since they are large.
 #[inline(never)]
 pub fn put_drives(
     drives: &mut ArrayVec<Drive, MOST_DRIVES>,
@@ -80,7 +83,7 @@ pub fn put_drives(
     requires seats { length seats.now ≤ 15 }
     requires begin { begin ≤ latest_instant }
     requires early { outcome.now.reading.at ≤ latest_heard }
-    ensures { drives.new.items ≡ drives_from begin outcome.now 0 seats.now }
+    ensures { AreOfSeats seats.now begin outcome.now drives.new.items }
 {
     push_drives(drives, outcome, 0, seats, begin);
 }

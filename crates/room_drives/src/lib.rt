@@ -6,5 +6,4 @@ mod laws;
 mod seat;
 
 pub use drives::{MOST_DRIVES, begun_within, put_drives};
-pub use laws::lines_are_driven;
-pub use seat::seat_drive;
+pub use laws::{drives_are_ruled, drives_are_the_line, lines_are_driven};

@@ -247,7 +247,7 @@ fn drive_by(outcome: &Outcome, seat: &Seat, begin: u64, out: Option<usize>) -> D
 /// Where the seat of this number pulls in a round that begins at `begin`, by what the round's outcome says: as a sender
 /// until it is out, 1,500 microseconds of each block that it acknowledges (CEC 6.1), and a low drive of 3,600 after a fall
 /// too early (CEC 7.4; its length own). A pull that answers a fall begins a microsecond after it.
-pub fn seat_drive(outcome: &Outcome, number: usize, seat: &Seat, begin: u64) -> Drive
+pub(crate) fn seat_drive(outcome: &Outcome, number: usize, seat: &Seat, begin: u64) -> Drive
     requires begin { begin ≤ latest_instant }
     requires early { outcome.now.reading.at ≤ latest_heard }
     ensures { result ≡ seat_stretches begin outcome.now number seat.now }

@@ -17,8 +17,8 @@ use Rattle.line_rounds.specs.declared.Outcome.{Outcome}
 use Rattle.line_rounds.specs.Round.{all_known, is_broken, is_within, out_of, sends_in}
 use Rattle.line_rounds.proofs.Spans.{reading_spans}
 use Rattle.room_drives.specs.Stretches.{break_stretches, breaks_off, cut_after, goes_to, is_short, last_pull, sample_by, sent_stretches, slot_fall, stretch}
-use Rattle.drive_laws.proofs.Sent.{all_bits, known_after, last_by, out_by_then, out_slot_of, stops}
-use Rattle.drive_laws.proofs.Slots.{falls_at}
+use Rattle.room_drives.proofs.Sent.{all_bits, known_after, last_by, out_by_then, out_slot_of, stops}
+use Rattle.room_drives.proofs.Slots.{falls_at}
 
 -- what an outcome reports of its reading
 pub record Reports (low : Line) (begin : ℕ) (o : Outcome) : Type 0 where

@@ -19,9 +19,9 @@ use Rattle.line_rounds.specs.Slots.{AreSpaced}
 use Rattle.line_rounds.proofs.Early.{destination_more, leaves_more}
 use Rattle.line_rounds.proofs.Spans.{bits_more, reading_spans}
 use Rattle.room_drives.specs.Stretches.{ack_by, ack_in, ack_stretches, acknowledges_in, goes_to, slot_fall, stretch}
-use Rattle.drive_laws.proofs.Sent.{FrontReported, all_bits, bits_at, found_before, front_reported, known_after, one_known, spaced_get}
-use Rattle.drive_laws.proofs.Slots.{falls_at}
-use Rattle.drive_laws.proofs.Seats.{Reports}
+use Rattle.room_drives.proofs.Sent.{FrontReported, all_bits, bits_at, found_before, front_reported, known_after, one_known, spaced_get}
+use Rattle.room_drives.proofs.Slots.{falls_at}
+use Rattle.room_drives.proofs.Seats.{Reports}
 
 -- ---- at most 160 slots
 

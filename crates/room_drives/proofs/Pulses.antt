@@ -16,8 +16,8 @@ use Rattle.line_rounds.proofs.Bounds.{rounds_are_short}
 use Rattle.line_rounds.proofs.Lasting.{rest_past, rest_rises}
 use Rattle.line_rounds.proofs.Lows.{wave_wide}
 use Rattle.room_drives.specs.Drives.{pulse_line}
-use Rattle.drive_laws.proofs.Acks.{both_ways}
-use Rattle.drive_laws.proofs.Lists.{all_in, any_in}
+use Rattle.room_drives.proofs.Acks.{both_ways}
+use Rattle.room_drives.proofs.Lists.{all_in, any_in}
 
 -- a stretch is low in itself
 pub covers_own : (s : Stretch) (t : ℕ) → s.from ≤ t → t < s.to → covers s t ≡ true

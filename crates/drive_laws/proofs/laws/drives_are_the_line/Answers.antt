@@ -1,5 +1,0 @@
-use Rattle.drive_laws.proofs.Whole as lemmas
-use Rattle.drive_laws.proofs.laws.drives_are_the_line.Goals as goal
-
-pub returns : goal.returns
-returns c = lemmas.drives_are_the_line

@@ -1,0 +1,5 @@
+use Rattle.edge_laws.proofs.Stays as lemmas
+use Rattle.edge_laws.proofs.laws.edges_come_soon.Goals as goal
+
+pub returns : goal.returns
+returns c = lemmas.edges_come_soon

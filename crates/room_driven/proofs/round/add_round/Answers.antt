@@ -1,0 +1,11 @@
+use Rattle.std.proofs.Common.{◌++◌, ◌∷◌, [], List, ℕ, subst}
+use Rattle.text_core.specs.Adds.{Adds}
+use Rattle.room_driven.proofs.SameLines.{drives_told}
+use Rattle.room_driven.proofs.round.add_round.Goals as goal
+
+pub returns : goal.returns
+returns g c =
+    subst (λ (text : List ℕ). Adds c.args.out.now c.add_round_wires.new.out text)
+    (drives_told c.args.wires c.args.seats.now c.args.begin c.args.pulses.now c.args.outcome.now c.put_drives.new.drives.items c.begun_within.result.now
+    c.put_drives.ensures c.begun_within.ensures.ruled c.requires.round)
+    c.add_round_wires.ensures

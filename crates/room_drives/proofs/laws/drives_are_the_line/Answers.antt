@@ -1,0 +1,5 @@
+use Rattle.room_drives.proofs.Whole as lemmas
+use Rattle.room_drives.proofs.laws.drives_are_the_line.Goals as goal
+
+pub returns : goal.returns
+returns c = lemmas.drives_are_the_line
