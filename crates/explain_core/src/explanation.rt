@@ -1,6 +1,6 @@
 //! What follows the line of a fault.
 use crate::edids::{add_lack, add_length};
-use crate::hints::{is_shown, of_edid, of_edid_text, of_line, of_text};
+use crate::hints::{is_shown, of_edid, of_edid_text, of_line, of_text, without_return};
 use crate::right::right;
 use edid_core::{EdidCause, EdidError};
 use edid_dump::looks_like_dump;
@@ -17,10 +17,10 @@ use std::alloc::{AllocError, Global};
 /// A line is shown up to so many columns.
 const COLUMNS: usize = 160;
 
-// A line as it is shown: `.` for what is not printable, and cut after so many columns.
-fn shown(alloc: Global, line: &[u8]) -> Result<String, AllocError> {
+// A line without a carriage return at its end, `.` for each byte that is not printable, and cut after so many columns.
+fn text_of(alloc: Global, line: &[u8]) -> Result<String, AllocError> {
     let mut draft = Draft::new(alloc);
-    for byte in line.iter().take(COLUMNS) {
+    for byte in without_return(line).iter().take(COLUMNS) {
         draft.add_character(if is_shown(*byte) {
             char::from(*byte)
         } else {
@@ -28,6 +28,17 @@ fn shown(alloc: Global, line: &[u8]) -> Result<String, AllocError> {
         });
     }
     draft.finish()
+}
+
+// The same as it is shown: nothing is seen of a carriage return, which is named below the line.
+fn add_text(draft: &mut Draft, line: &[u8]) {
+    for byte in without_return(line).iter().take(COLUMNS) {
+        draft.add_character(match *byte {
+            b'\r' => ' ',
+            byte if is_shown(byte) => char::from(byte),
+            _ => '.',
+        });
+    }
 }
 
 // The columns of a line that are shown.
@@ -67,12 +78,9 @@ fn add_head(draft: &mut Draft, place: InputLine<'_>) -> usize {
 // The number and the text of a line, and the mark below its words.
 fn add_shown(draft: &mut Draft, at: FaultyLine<'_>, gaps: Gaps, mark: Option<Mark>) {
     let before = add_head(draft, at.place);
-    let end = if at.place.line.len() > COLUMNS {
-        " ..\n"
-    } else {
-        "\n"
-    };
-    draft.add_all(&[at.text, end]);
+    add_text(draft, at.place.line);
+    let is_cut = without_return(at.place.line).len() > COLUMNS;
+    draft.add(if is_cut { " ..\n" } else { "\n" });
     if let Some(mark) = mark {
         add_mark(draft, before, at.place.line, gaps, mark);
     }
@@ -89,7 +97,7 @@ fn add_word(draft: &mut Draft, at: FaultyLine<'_>, mark: Mark) {
     } else {
         at.text
     };
-    let own = FaultyLine { text, ..at };
+    let own = FaultyLine { text, labels, ..at };
     add_meant(draft, own, mark.first.saturating_sub(labels));
     if gaps_of(at.fault) != Gaps::Spaces {
         return;
@@ -114,6 +122,8 @@ fn add_marked(draft: &mut Draft, at: FaultyLine<'_>) -> bool {
     let is_said = add_right_forms(draft, at);
     match (mark, slip) {
         (Some(_), Some(found)) if found.slip == WordSlip::NoName => {}
+        // What stands between two carriage returns was a line.
+        (Some(_), _) if without_return(at.place.line).contains(&b'\r') => {}
         (Some(mark), _) => add_word(draft, at, mark),
         (None, _) => {}
     }
@@ -148,13 +158,14 @@ fn add_line(draft: &mut Draft, at: FaultyLine<'_>) -> bool {
 
 // The line of a fault. Returns whether what would be right in place of any such fault is of no use.
 fn add_place(draft: &mut Draft, what: Input, place: InputLine<'_>, fault: InputFault) -> bool {
-    match shown(draft.alloc(), place.line) {
+    match text_of(draft.alloc(), place.line) {
         Ok(line) => {
             let at = FaultyLine {
                 what,
                 place,
                 fault,
                 text: line.as_str(),
+                labels: 0,
             };
             add_line(draft, at)
         }
@@ -183,11 +194,19 @@ fn is_of_program(fault: InputFault) -> bool {
     )
 }
 
+// Whether a fault stands above the lines of a session.
+fn is_of_topology(fault: InputFault) -> bool {
+    matches!(
+        fault,
+        InputFault::Topology(_) | InputFault::Edid(_) | InputFault::NoParting(Parting::Script)
+    )
+}
+
 // What is odd about the input.
 fn add_input_hints(draft: &mut Draft, what: Input, fault: InputFault, input: &[u8]) {
     match what {
         _ if is_of_program(fault) => {}
-        Input::Session => {}
+        Input::Session if !is_of_topology(fault) => {}
         Input::EdidBytes => add_edid_hints(draft, fault, input),
         Input::EdidText | Input::EdidWords => {
             add_hints(draft, of_text(input).as_slice());

@@ -16,7 +16,7 @@ pub fn is_shown(byte: u8) -> bool {
     byte == b' ' || byte.is_ascii_graphic()
 }
 
-// Whether a byte is a tab or the CR of a line's end, of which there are hints of their own.
+// Whether a byte is a tab or a carriage return, of which there are hints of their own.
 fn is_blank(byte: u8) -> bool {
     byte == b'\t' || byte == b'\r'
 }
@@ -30,11 +30,20 @@ fn is_no_text(line: &[u8]) -> bool {
     line.iter().any(is_odd)
 }
 
+/// A line without the carriage return that some editors leave at its end.
+pub fn without_return(line: &[u8]) -> &[u8] {
+    line.strip_suffix(b"\r").unwrap_or(line)
+}
+
 /// What is odd about a line: its bytes, and the text that is shown of it.
-pub fn of_line(line: &[u8], shown: &str) -> [Option<&'static str>; 6] {
+pub fn of_line(line: &[u8], shown: &str) -> [Option<&'static str>; 7] {
     [
-        line.ends_with(b"\r")
-            .then_some("lines end with LF; this one has a CR before it"),
+        line.ends_with(b"\r").then_some(
+            "this line ends with a carriage return before its line feed; lines end with a line feed alone",
+        ),
+        without_return(line).contains(&b'\r').then_some(
+            "a carriage return stands within this line; lines end with a line feed",
+        ),
         line.contains(&b'\t')
             .then_some("this line has a tab; words stand one space apart"),
         line.ends_with(b" ")

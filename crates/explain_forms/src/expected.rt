@@ -1,31 +1,20 @@
 //! What the words of an expectation may have been meant for.
+use crate::labels::add_label;
 use crate::names::add_header_name_meant;
+use crate::patterns::add_pattern_meant;
+use crate::ranges::{add_range, add_window};
 use crate::wanted::add_nearest_of;
 use expect_text::ExpectCause;
-use explain_lists::{Draft, word_at, word_count};
+use explain_again::{Spot, is_taken};
+use explain_lists::{Draft, word_count};
 use explain_marks::{
-    EXPECTATIONS, InputLine, REFUSALS, REMARKS, is_line_end, is_word, labelled_by, wanted_at,
+    InputLine, REFUSALS, REMARKS, forms_of, is_line_end, is_word, labelled_by, wanted_at,
     without_label,
 };
 use explain_near::{
-    add_header_meant, add_near, add_nearest, add_nearest_opcode, add_nearest_operand, add_number,
-    add_other, add_suggestion, add_text, is_near,
+    add_enclosed, add_near, add_nearest, add_number, add_other, add_suggestion, is_near,
 };
-
-/// Words of a round's line that stand for themselves.
-const ROUND_WORDS: &[&str] = &[
-    "short",
-    "silent",
-    "bad-start",
-    "long",
-    "open",
-    "ack",
-    "nack",
-    "ok",
-    "refused",
-    "by",
-    "out",
-];
+use std::alloc::AllocError;
 
 /// Words of expectations that are written otherwise.
 const OTHER_EXPECTED: &[(&str, &str)] = &[
@@ -34,6 +23,11 @@ const OTHER_EXPECTED: &[(&str, &str)] = &[
     ("not", "none"),
     ("zero", "none"),
     ("exactly", "once"),
+    ("exactly-one", "once"),
+    ("exactly-once", "once"),
+    ("just-one", "once"),
+    ("just-once", "once"),
+    ("only-once", "once"),
     ("one", "once"),
     ("single", "once"),
     ("during", "within"),
@@ -53,48 +47,13 @@ const STATE_KEYS: &[&str] = &[
 /// The words of a state line that have no key.
 const STATE_WORDS: &[&str] = &["on", "standby"];
 
-// The verdict that a frame to all has in place of one to a single device, or the other way round. Returns whether it is one.
-fn add_verdict(draft: &mut Draft, line: &str, word: &str) -> bool {
-    let to_all = line
-        .split(' ')
-        .any(|other| matches!(other.as_bytes(), [_, b'>', b'f']));
-    let meant = match (to_all, word) {
-        (true, "ack") => "ok",
-        (true, "nack") => "refused",
-        (false, "ok") => "ack",
-        (false, "refused") => "nack",
-        _ => return false,
-    };
-    add_suggestion(draft, meant, word);
-    true
-}
-
-// The word `complete`, which no pattern has. Returns whether it is that.
-fn add_complete(draft: &mut Draft, word: &str) -> bool {
-    let is_so = word == "complete";
-    if is_so {
-        draft.add_line("`complete` stands in the trace, and not in PATTERN");
-    }
-    is_so
-}
-
-// What a word of a pattern that no round's line meets may have been meant for.
-fn add_nearest_of_round(draft: &mut Draft, line: &str, word: &str) {
-    let _ = add_complete(draft, word)
-        || add_verdict(draft, line, word)
-        || add_header_meant(draft, word)
-        || add_nearest_opcode(draft, word)
-        || add_nearest(draft, ROUND_WORDS, word)
-        || add_nearest_operand(draft, word)
-        || add_text(draft, word);
-}
-
 // The first label that a word may have been meant for. Returns whether there is one.
-fn add_nearest_label(draft: &mut Draft, place: InputLine<'_>, word: &str) -> bool {
+fn add_nearest_label(draft: &mut Draft, spot: Spot<'_>, word: &str) -> bool {
+    let place = spot.at.place;
     let above = place.number.saturating_sub(1);
     for line in place.input.split(is_line_end).take(above) {
         if let Some(name) = labelled_by(line) {
-            if add_near(draft, name, word) {
+            if add_near(draft, spot, name, word) {
                 return true;
             }
         }
@@ -144,34 +103,28 @@ fn add_labels(draft: &mut Draft, place: InputLine<'_>) -> bool {
 
 // The word with which an event is refused that the word of `expect refused WORD` may have been meant for, below no event. Returns
 // whether there is one.
-fn add_nearest_refusal(draft: &mut Draft, line: &str, word: &str) -> bool {
-    let own = without_label(line).line;
-    own.starts_with("expect refused ") && word_count(own) == 3 && add_nearest(draft, REFUSALS, word)
+fn add_nearest_refusal(draft: &mut Draft, spot: Spot<'_>, word: &str) -> bool {
+    let own = without_label(spot.at.text).line;
+    own.starts_with("expect refused ")
+        && word_count(own) == 3
+        && add_nearest(draft, spot, REFUSALS, word)
 }
 
 // What a label may have been meant for.
-fn of_label(draft: &mut Draft, place: InputLine<'_>, line: &str, word: &str) {
+fn of_label(draft: &mut Draft, spot: Spot<'_>, word: &str) {
+    let place = spot.at.place;
     let _ = add_labelled(draft, place, word)
-        || add_nearest_label(draft, place, word)
-        || add_nearest_refusal(draft, line, word)
+        || add_nearest_label(draft, spot, word)
+        || add_nearest_refusal(draft, spot, word)
         || add_labels(draft, place);
 }
 
 // A key of a state line that another one is near, with the value that stands after it. Returns whether there is one.
-fn add_nearest_key_of_state(draft: &mut Draft, key: &str, value: &str) -> bool {
+fn add_nearest_key_of_state(draft: &mut Draft, spot: Spot<'_>, key: &str, value: &str) -> bool {
+    let word = spot.text();
     for known in STATE_KEYS {
         if let Some(near) = known.strip_suffix("=") {
-            if is_near(draft, near, key) {
-                draft.add_all(&[
-                    "  `",
-                    key,
-                    "=",
-                    value,
-                    "`: did you mean `",
-                    known,
-                    value,
-                    "`?\n",
-                ]);
+            if is_near(draft, near, key) && add_enclosed(draft, spot, known, value, "", word) {
                 return true;
             }
         }
@@ -179,74 +132,116 @@ fn add_nearest_key_of_state(draft: &mut Draft, key: &str, value: &str) -> bool {
     false
 }
 
+// The number of a key without the zeros before it. Returns whether it has some.
+fn add_without_zeros(draft: &mut Draft, spot: Spot<'_>, key: &str, value: &str) -> bool {
+    let digits = value.trim_start_matches('0');
+    if digits.len() == value.len() {
+        return false;
+    }
+    let number = if digits.is_empty() { "0" } else { digits };
+    match format!(in draft.alloc(); "{key}={number}") {
+        Ok(text) => text.as_str() != spot.text()
+            && add_suggestion(draft, spot, text.as_str(), spot.text()),
+        Err(AllocError) => {
+            draft.fail();
+            false
+        }
+    }
+}
+
 // The word that a state line has for `power=VALUE`. Returns whether there is one.
-fn add_power(draft: &mut Draft, value: &str, word: &str) -> bool {
+fn add_power(draft: &mut Draft, spot: Spot<'_>, value: &str, word: &str) -> bool {
     for known in STATE_WORDS {
         if *known == value || is_near(draft, known, value) {
-            add_suggestion(draft, known, word);
-            return true;
+            return add_suggestion(draft, spot, known, word);
         }
     }
     false
 }
 
 // What a word of a state that no state line has may have been meant for.
-fn of_state_word(draft: &mut Draft, line: &str, word: &str, number: usize) {
-    if is_word(line, number.saturating_add(1), "=") {
+fn of_state_word(draft: &mut Draft, spot: Spot<'_>, word: &str) {
+    if is_word(spot.at.text, spot.word.saturating_add(1), "=") {
         return draft.add_line("KEY=VALUE is one word: no spaces stand around `=`");
     }
     let is_said = match word.split_once("=") {
-        Some(("power", value)) => add_power(draft, value, word),
-        Some((key, value)) => add_nearest_key_of_state(draft, key, value),
-        None => add_nearest(draft, STATE_WORDS, word),
+        Some(("power", value)) => add_power(draft, spot, value, word),
+        Some((key, value)) => {
+            add_nearest_key_of_state(draft, spot, key, value)
+                || add_without_zeros(draft, spot, key, value)
+        }
+        None => add_nearest(draft, spot, STATE_WORDS, word),
     };
     if !is_said {
         draft.add_all(&["  no state line has the word `", word, "`\n"]);
     }
 }
 
-// What a word may have been meant for that nothing meets, in the line of an expectation.
-fn of_unmet(draft: &mut Draft, line: &str, word: &str, number: usize) {
-    let own = without_label(line).line;
-    if own.starts_with("expect state ") {
-        of_state_word(draft, line, word, number);
-    } else if own.starts_with("expect refused ") {
-        let _ = add_nearest(draft, REFUSALS, word);
-    } else if own.starts_with("expect remark ") {
-        let _ = add_nearest(draft, REMARKS, word);
+// The number of the word with which the pattern of a line without its label begins.
+fn pattern_start(own: &str) -> usize {
+    if is_word(own, 1, "none") || is_word(own, 1, "once") {
+        6
     } else {
-        add_nearest_of_round(draft, own, word);
+        5
+    }
+}
+
+// What a word may have been meant for that nothing meets.
+fn of_unmet(draft: &mut Draft, spot: Spot<'_>, word: &str) {
+    let own = without_label(spot.at.text);
+    if own.line.starts_with("expect state ") {
+        of_state_word(draft, spot, word);
+    } else if own.line.starts_with("expect refused ") {
+        let _ = add_nearest(draft, spot, REFUSALS, word);
+    } else if own.line.starts_with("expect remark ") {
+        let _ = add_nearest(draft, spot, REMARKS, word);
+    } else {
+        let first = pattern_start(own.line).saturating_add(own.words);
+        add_pattern_meant(draft, spot, first);
+    }
+}
+
+// The word that is missing before one, where a line has it there and is then read on.
+fn add_wanted(draft: &mut Draft, spot: Spot<'_>) {
+    let own = without_label(spot.at.text);
+    let place = spot.word.saturating_sub(own.words);
+    let Some(wanted) = wanted_at(forms_of(spot.at.what), own.line, place) else {
+        return;
+    };
+    match format!(in draft.alloc(); "{wanted} ") {
+        Ok(text) => {
+            if is_taken(draft, spot, "", text.as_str()) {
+                draft.add_all(&["  `", wanted, "` is missing before this word\n"]);
+            }
+        }
+        Err(AllocError) => draft.fail(),
     }
 }
 
 // What a word that may not stand there may have been meant for, or the word that is missing before it.
-fn of_word(draft: &mut Draft, line: &str, word: &str, number: usize) {
-    if add_nearest_of(draft, EXPECTATIONS, word) || add_other(draft, OTHER_EXPECTED, word) {
-        return;
-    }
-    let own = without_label(line);
-    if let Some(wanted) = wanted_at(EXPECTATIONS, own.line, number.saturating_sub(own.words)) {
-        draft.add_all(&["  `", wanted, "` is missing before this word\n"]);
+fn of_word(draft: &mut Draft, spot: Spot<'_>, word: &str) {
+    let is_said = spot.word == 0 && add_label(draft, spot, word)
+        || add_window(draft, spot)
+        || add_nearest_of(draft, spot, forms_of(spot.at.what), word)
+        || add_other(draft, spot, OTHER_EXPECTED, word);
+    if !is_said {
+        add_wanted(draft, spot);
     }
 }
 
-/// What a word of an expectation, by its number in the line, may have been meant for.
-pub fn add_expected_meant(
-    draft: &mut Draft,
-    place: InputLine<'_>,
-    cause: ExpectCause,
-    line: &str,
-    number: usize,
-) {
-    let Some(word) = word_at(line, number) else {
-        return;
-    };
+/// What a word of an expectation may have been meant for.
+pub fn add_expected_meant(draft: &mut Draft, cause: ExpectCause, spot: Spot<'_>) {
+    let word = spot.text();
     match cause {
-        ExpectCause::Label => of_label(draft, place, line, word),
-        ExpectCause::Name => add_header_name_meant(draft, place, word),
-        ExpectCause::Number => add_number(draft, word),
-        ExpectCause::Unmet => of_unmet(draft, line, word, number),
-        ExpectCause::Word => of_word(draft, line, word, number),
+        ExpectCause::Label => of_label(draft, spot, word),
+        ExpectCause::Name => add_header_name_meant(draft, spot, word),
+        ExpectCause::Number => {
+            if !add_range(draft, spot, word, true) {
+                add_number(draft, spot, word);
+            }
+        }
+        ExpectCause::Unmet => of_unmet(draft, spot, word),
+        ExpectCause::Word => of_word(draft, spot, word),
         ExpectCause::Pattern | ExpectCause::Order => {}
     }
 }

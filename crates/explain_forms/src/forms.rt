@@ -5,11 +5,12 @@ use crate::keys::{add_key, is_of_key};
 use crate::order::add_order;
 use crate::room::{add_field_count, add_lack_of_room, is_hex_alone};
 use expect_text::ExpectCause;
+use explain_again::Spot;
 use explain_lists::{Draft, word_at, word_count};
 use explain_marks::{
     FaultyLine, Input, InputFault, InputLine, LAID, REFUSALS, REMARKS, SCRIPT, SESSION, STEPS,
-    TEST, TOPOLOGY, as_form, fitting, forms_of, frame_start, is_word, missing, most_fitting, plain,
-    slip_of, without_label,
+    TEST, TOPOLOGY, as_form, fitting, forms_of, frame_start, is_word, label_words, missing,
+    most_fitting, plain, slip_of, without_label,
 };
 use message_lay::LayCause;
 use room_script::{ScriptCause, TopologyCause};
@@ -122,7 +123,7 @@ fn add_script(draft: &mut Draft, at: FaultyLine<'_>, cause: ScriptCause, word: u
     match cause {
         ScriptCause::Word => return add_script_line(draft, at, word),
         ScriptCause::Order => add_order(draft, at.place),
-        ScriptCause::Frame(cause) => add_frame(draft, cause, at.text, 4),
+        ScriptCause::Frame(cause) => add_frame(draft, cause, Spot { at, word: 4 }),
         ScriptCause::Number
         | ScriptCause::Name
         | ScriptCause::Width
@@ -216,10 +217,13 @@ fn fields_in(what: Input, word: &str, line: &str) -> Option<&'static str> {
 }
 
 // What a line with a frame to lay would be that is refused for a cause, by the number of its word at fault.
-fn add_laid(draft: &mut Draft, cause: LayCause, line: &str, word: usize) {
+fn add_laid(draft: &mut Draft, at: FaultyLine<'_>, cause: LayCause, word: usize) {
     match cause {
-        LayCause::Frame(cause) => add_frame(draft, cause, line, frame_start(cause, word)),
-        LayCause::Word | LayCause::Number => add_forms(draft, LAID, line),
+        LayCause::Frame(cause) => {
+            let word = frame_start(cause, word);
+            add_frame(draft, cause, Spot { at, word });
+        }
+        LayCause::Word | LayCause::Number => add_forms(draft, LAID, at.text),
         LayCause::Blocks | LayCause::Width | LayCause::Slot | LayCause::Order | LayCause::Late => {}
     }
 }
@@ -246,12 +250,14 @@ pub fn add_right_forms(draft: &mut Draft, at: FaultyLine<'_>) -> bool {
         InputFault::Topology(fault) => add_topology(draft, fault.cause, line),
         InputFault::Script(fault) => {
             let text = plain(at.what, line);
-            return add_script(draft, FaultyLine { text, ..at }, fault.cause, fault.word);
+            let labels = label_words(at.what, line);
+            let own = FaultyLine { text, labels, ..at };
+            return add_script(draft, own, fault.cause, fault.word);
         }
         InputFault::Expectation(fault) => return add_expectation(draft, at, fault.cause),
         InputFault::Steps { .. } => add_forms(draft, STEPS, line),
-        InputFault::Frame { cause, .. } => add_frame(draft, cause, line, 0),
-        InputFault::Lay { cause, word, .. } => add_laid(draft, cause, line, word),
+        InputFault::Frame { cause, .. } => add_frame(draft, cause, Spot { at, word: 0 }),
+        InputFault::Lay { cause, word, .. } => add_laid(draft, at, cause, word),
         InputFault::TextField { .. } => return add_fields(draft, at),
         InputFault::TextSyntax { .. } => return add_field_count(draft, line),
         InputFault::Past { .. }

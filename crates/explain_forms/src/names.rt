@@ -1,10 +1,12 @@
 //! The devices that a name at fault could be.
+use explain_again::{Spot, is_taken};
 use explain_lists::Draft;
 use explain_marks::{InputLine, declared_by, is_line_end};
-use explain_near::add_near;
+use explain_near::{add_near, add_suggestion, is_near};
+use std::alloc::AllocError;
 
-// Whether a line above declares a device of this name.
-fn is_declared(place: InputLine<'_>, word: &str) -> bool {
+/// Whether a line above declares a device of this name.
+pub fn is_declared(place: InputLine<'_>, word: &str) -> bool {
     let above = place.number.saturating_sub(1);
     for line in place.input.split(is_line_end).take(above) {
         if declared_by(line) == Some(word) {
@@ -46,12 +48,13 @@ pub fn add_taken(draft: &mut Draft, place: InputLine<'_>, word: &str) {
     }
 }
 
-// The first name of a device that a word may have been meant for. Returns whether there is one.
-fn add_nearest_name(draft: &mut Draft, place: InputLine<'_>, word: &str) -> bool {
+/// The first name of a device that a word may have been meant for. Returns whether there is one.
+pub fn add_nearest_name(draft: &mut Draft, spot: Spot<'_>, word: &str) -> bool {
+    let place = spot.at.place;
     let above = place.number.saturating_sub(1);
     for line in place.input.split(is_line_end).take(above) {
         if let Some(name) = declared_by(line) {
-            if add_near(draft, name, word) {
+            if add_near(draft, spot, name, word) {
                 return true;
             }
         }
@@ -60,9 +63,9 @@ fn add_nearest_name(draft: &mut Draft, place: InputLine<'_>, word: &str) -> bool
 }
 
 /// The name of a device that a word may have been meant for, or else all of them.
-pub fn add_name_meant(draft: &mut Draft, place: InputLine<'_>, word: &str) {
-    if !add_nearest_name(draft, place, word) {
-        add_declared(draft, place);
+pub fn add_name_meant(draft: &mut Draft, spot: Spot<'_>, word: &str) {
+    if !add_nearest_name(draft, spot, word) {
+        add_declared(draft, spot.at.place);
     }
 }
 
@@ -78,14 +81,55 @@ fn undeclared_in<'a>(place: InputLine<'_>, header: &'a str) -> Option<&'a str> {
     None
 }
 
-/// What a name may have been meant for, or the first in a header that no line above declares.
-pub fn add_header_name_meant(draft: &mut Draft, place: InputLine<'_>, word: &str) {
-    add_name_meant(draft, place, undeclared_in(place, word).unwrap_or(word));
+// Whether a header is taken with a name in the place of another one, which stands after an `@`.
+fn is_named_so(draft: &mut Draft, spot: Spot<'_>, header: &str, word: &str, name: &str) -> bool {
+    let alloc = draft.alloc();
+    let Ok(from) = format!(in alloc; "@{word}") else {
+        draft.fail();
+        return false;
+    };
+    let Some((before, after)) = header.rsplit_once(from.as_str()) else {
+        return false;
+    };
+    match format!(in alloc; "{before}@{name}{after}") {
+        Ok(text) => is_taken(draft, spot, header, text.as_str()),
+        Err(AllocError) => {
+            draft.fail();
+            false
+        }
+    }
 }
 
-// A part of a header as it is to stand there, and what is missing before it: a hex digit, or the name of a device after an `@`.
+// The first name of a device that a name in a header may have been meant for. Returns whether there is one.
+fn add_nearest_in_header(draft: &mut Draft, spot: Spot<'_>, header: &str, word: &str) -> bool {
+    let place = spot.at.place;
+    let above = place.number.saturating_sub(1);
+    for line in place.input.split(is_line_end).take(above) {
+        if let Some(name) = declared_by(line) {
+            if is_near(draft, name, word) && is_named_so(draft, spot, header, word, name) {
+                draft.add_all(&["  `", word, "`: did you mean `", name, "`?\n"]);
+                return true;
+            }
+        }
+    }
+    false
+}
+
+/// What a name may have been meant for, or the first in a header that no line above declares.
+pub fn add_header_name_meant(draft: &mut Draft, spot: Spot<'_>, word: &str) {
+    match undeclared_in(spot.at.place, word) {
+        Some(name) => {
+            if !add_nearest_in_header(draft, spot, word, name) {
+                add_declared(draft, spot.at.place);
+            }
+        }
+        None => add_name_meant(draft, spot, word),
+    }
+}
+
+// A part of a header as it is to stand there, and what is missing before it: a hex digit, `*` or the name of a device after an `@`.
 fn part_meant<'a>(place: InputLine<'_>, part: &'a str) -> Option<(&'static str, &'a str)> {
-    if matches!(part.as_bytes(), [b'0'..=b'9' | b'a'..=b'f']) {
+    if matches!(part.as_bytes(), [b'0'..=b'9' | b'a'..=b'f' | b'*']) {
         return Some(("", part));
     }
     let name = part.strip_prefix("@").unwrap_or(part);
@@ -97,7 +141,8 @@ fn part_meant<'a>(place: InputLine<'_>, part: &'a str) -> Option<(&'static str, 
 }
 
 /// A header whose names have no `@`. Returns whether it is one.
-pub fn add_named_header(draft: &mut Draft, place: InputLine<'_>, word: &str) -> bool {
+pub fn add_named_header(draft: &mut Draft, spot: Spot<'_>, word: &str) -> bool {
+    let place = spot.at.place;
     let Some((from, to)) = word.split_once('>') else {
         return false;
     };
@@ -107,9 +152,11 @@ pub fn add_named_header(draft: &mut Draft, place: InputLine<'_>, word: &str) -> 
     let Some((before_to, to)) = part_meant(place, to) else {
         return false;
     };
-    writeln!(
-        draft,
-        "  `{word}`: did you mean `{before_from}{from}>{before_to}{to}`?"
-    );
-    true
+    match format!(in draft.alloc(); "{before_from}{from}>{before_to}{to}") {
+        Ok(header) => header.as_str() != word && add_suggestion(draft, spot, header.as_str(), word),
+        Err(AllocError) => {
+            draft.fail();
+            false
+        }
+    }
 }

@@ -1,5 +1,6 @@
 //! What the words of a topology's line may have been meant for, and what stands in their way.
 use crate::names::{add_name_meant, add_taken};
+use explain_again::Spot;
 use explain_lists::{Draft, word_at};
 use explain_marks::{InputLine, is_line_end, kind_of, ports_of};
 use explain_near::{add_near, add_nearest, add_number, add_other, add_suggestion};
@@ -58,9 +59,10 @@ const OTHER_VERBS: &[(&str, &str)] = &[
 const EVENTS: &[&str] = &["press", "release", "unplug", "send", "hold", "drop"];
 
 // What a name of a topology's line may have been meant for, by its line.
-fn of_topology_name(draft: &mut Draft, place: InputLine<'_>, word: &str) {
+fn of_topology_name(draft: &mut Draft, spot: Spot<'_>, word: &str) {
+    let place = spot.at.place;
     if place.line.starts_with(b"plug ") {
-        add_name_meant(draft, place, word);
+        add_name_meant(draft, spot, word);
     } else {
         add_taken(draft, place, word);
         add_spelling(draft, word);
@@ -88,17 +90,17 @@ fn is_of_name(byte: u8) -> bool {
 }
 
 // The kind that a word may have been meant for: one that is near, or one that is called so elsewhere.
-fn add_nearest_kind(draft: &mut Draft, word: &str) {
+fn add_nearest_kind(draft: &mut Draft, spot: Spot<'_>, word: &str) {
     for kind in Kind::ALL {
-        if add_near(draft, kind.word(), word) {
+        if add_near(draft, spot, kind.word(), word) {
             return;
         }
     }
-    let _ = add_other(draft, OTHER_KINDS, word);
+    let _ = add_other(draft, spot, OTHER_KINDS, word);
 }
 
 // What the first word of a topology's line may have been meant for: one with which such a line begins, or a line of the script.
-fn of_topology_verb(draft: &mut Draft, word: &str) {
+fn of_topology_verb(draft: &mut Draft, spot: Spot<'_>, word: &str) {
     if SCRIPT_VERBS.contains(&word) {
         draft.add_line("this line is one of a script, which stands below the line `script`");
     } else if EVENTS.contains(&word) {
@@ -109,15 +111,16 @@ fn of_topology_verb(draft: &mut Draft, word: &str) {
     } else if Kind::named(word.as_bytes()).is_some() {
         draft.add_line("`device` and NAME stand before KIND, as `device tv tv 4`");
     } else {
-        let _ = add_nearest(draft, TOPOLOGY_VERBS, word) || add_other(draft, OTHER_VERBS, word);
+        let _ = add_nearest(draft, spot, TOPOLOGY_VERBS, word)
+            || add_other(draft, spot, OTHER_VERBS, word);
     }
 }
 
 // What a word of a topology that may not stand there may have been meant for, by its number in the line.
-fn of_topology_word(draft: &mut Draft, word: &str, number: usize) {
-    match number {
-        0 => of_topology_verb(draft, word),
-        2 => add_nearest_kind(draft, word),
+fn of_topology_word(draft: &mut Draft, spot: Spot<'_>, word: &str) {
+    match spot.word {
+        0 => of_topology_verb(draft, spot, word),
+        2 => add_nearest_kind(draft, spot, word),
         _ => {}
     }
 }
@@ -194,32 +197,24 @@ fn of_plug(draft: &mut Draft, place: InputLine<'_>, cause: TopologyCause, line: 
 }
 
 // A port that is named by letters and a number.
-fn add_port_number(draft: &mut Draft, word: &str) {
+fn add_port_number(draft: &mut Draft, spot: Spot<'_>, word: &str) {
     let digits = word.trim_start_matches(|c: char| c.is_ascii_alphabetic());
     if digits.len() < word.len() && !digits.is_empty() {
-        add_suggestion(draft, digits, word);
+        let _ = add_suggestion(draft, spot, digits, word);
     } else {
-        add_number(draft, word);
+        add_number(draft, spot, word);
     }
 }
 
-/// What a word of a topology may have been meant for, by its number in the line.
-pub fn add_topology_meant(
-    draft: &mut Draft,
-    place: InputLine<'_>,
-    cause: TopologyCause,
-    line: &str,
-    number: usize,
-) {
-    let Some(word) = word_at(line, number) else {
-        return;
-    };
+/// What a word of a topology may have been meant for.
+pub fn add_topology_meant(draft: &mut Draft, cause: TopologyCause, spot: Spot<'_>) {
+    let word = spot.text();
     match cause {
-        TopologyCause::Name => of_topology_name(draft, place, word),
-        TopologyCause::Number => add_port_number(draft, word),
-        TopologyCause::Word => of_topology_word(draft, word, number),
+        TopologyCause::Name => of_topology_name(draft, spot, word),
+        TopologyCause::Number => add_port_number(draft, spot, word),
+        TopologyCause::Word => of_topology_word(draft, spot, word),
         TopologyCause::PortRange | TopologyCause::PortTaken | TopologyCause::NotLoose => {
-            of_plug(draft, place, cause, line);
+            of_plug(draft, spot.at.place, cause, spot.at.text);
         }
         TopologyCause::Hex => add_digits(draft, word),
         TopologyCause::Full

@@ -1,12 +1,13 @@
 //! The words of the forms of lines.
+use explain_again::Spot;
 use explain_lists::Draft;
 use explain_marks::is_value;
 use explain_near::add_near;
 
 // The first word of a form that stands for itself and that a word may have been meant for. Returns whether there is one.
-fn add_nearest_of_form(draft: &mut Draft, form: &str, word: &str) -> bool {
+fn add_nearest_of_form(draft: &mut Draft, spot: Spot<'_>, form: &str, word: &str) -> bool {
     for near in form.split(' ') {
-        if !is_value(near) && add_near(draft, near, word) {
+        if !is_value(near) && add_near(draft, spot, near, word) {
             return true;
         }
     }
@@ -14,10 +15,10 @@ fn add_nearest_of_form(draft: &mut Draft, form: &str, word: &str) -> bool {
 }
 
 /// The first word of some forms that stands for itself and that a word may have been meant for. Returns whether there is one.
-pub fn add_nearest_of(draft: &mut Draft, forms: &[&[&str]], word: &str) -> bool {
+pub fn add_nearest_of(draft: &mut Draft, spot: Spot<'_>, forms: &[&[&str]], word: &str) -> bool {
     for some in forms {
         for form in *some {
-            if add_nearest_of_form(draft, form, word) {
+            if add_nearest_of_form(draft, spot, form, word) {
                 return true;
             }
         }

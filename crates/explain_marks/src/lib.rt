@@ -19,6 +19,7 @@ pub use grammar::{
 };
 pub use marks::{Mark, frame_start, gaps_of, is_number, is_word, marked};
 pub use place::{
-    FaultyLine, InputLine, declared_by, is_line_end, kind_of, place_in_session, place_of, ports_of,
+    FaultyLine, InputLine, before_script, declared_by, is_line_end, kind_of, length_of_lines,
+    place_in_session, place_of, ports_of,
 };
 pub use slips::{WordSlip, slip_of};

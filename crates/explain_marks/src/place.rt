@@ -20,13 +20,24 @@ pub struct FaultyLine<'a> {
     pub what: Input,
     pub place: InputLine<'a>,
     pub fault: InputFault,
-    /// The line's text, as it is shown, or without the label that it has in a test.
+    /// The line's text, or without the label that it has in a test. `.` stands for each byte that is not printable.
     pub text: &'a str,
+    /// How many words stand before it in the line: those of the label.
+    pub labels: usize,
 }
 
 /// Whether a byte ends a line, or parts it from the next one.
 pub fn is_line_end(byte: &u8) -> bool {
     *byte == b'\n'
+}
+
+/// How many bytes so many lines of a text have, each with its end.
+pub fn length_of_lines(text: &[u8], count: usize) -> usize {
+    let mut length = 0usize;
+    for line in text.split(is_line_end).take(count) {
+        length = length.saturating_add(line.len()).saturating_add(1);
+    }
+    length.min(text.len())
 }
 
 // The line of this number, from 1, after some others.
@@ -158,11 +169,8 @@ pub fn place_in_session<'a>(topology: &'a [u8], number: u64, line: &'a [u8]) -> 
     }
 }
 
-/// Where a fault stands in a whole input.
-pub fn place_of(input: &[u8], what: Input, fault: InputFault) -> Option<InputLine<'_>> {
-    if what == Input::Session {
-        return None;
-    }
+// Where a fault stands in a whole input.
+fn place_in_whole(input: &[u8], what: Input, fault: InputFault) -> Option<InputLine<'_>> {
     match fault {
         InputFault::Topology(
             At {
@@ -185,6 +193,18 @@ pub fn place_of(input: &[u8], what: Input, fault: InputFault) -> Option<InputLin
         InputFault::Edid(_) => edid_line(what, input),
         InputFault::NoParting(parting) => parting_line(input, parting),
         InputFault::NoPort | InputFault::Whole(_) => None,
+    }
+}
+
+/// Where a fault stands in a whole input, or in what a session has read before its first answer: the topology.
+pub fn place_of(input: &[u8], what: Input, fault: InputFault) -> Option<InputLine<'_>> {
+    match (what, fault) {
+        (
+            Input::Session,
+            InputFault::Topology(_) | InputFault::Edid(_) | InputFault::NoParting(Parting::Script),
+        ) => place_in_whole(input, Input::Network, fault),
+        (Input::Session, _) => None,
+        _ => place_in_whole(input, what, fault),
     }
 }
 

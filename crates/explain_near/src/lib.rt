@@ -9,8 +9,14 @@ mod numbers;
 mod operands;
 
 pub use frames::{
-    add_address_meant, add_header_meant, add_nearest_opcode, add_opcode_meant, add_text,
+    add_address_meant, add_header_meant, add_nearest_opcode, add_opcode_alone, add_opcode_meant,
+    add_other_opcode, add_parted, add_parts, add_text, add_unparted,
 };
-pub use near::{add_near, add_nearest, add_other, add_suggestion, is_near};
+pub use near::{
+    add_enclosed, add_exchanged, add_near, add_nearest, add_other, add_suggestion, is_near,
+};
 pub use numbers::add_number;
-pub use operands::{add_count_meant, add_nearest_operand, add_operands_meant, add_set_meant};
+pub use operands::{
+    add_code, add_count_meant, add_nearest_operand, add_operands_meant, add_pattern_operands_meant,
+    add_quotes, add_set_meant,
+};

@@ -1,4 +1,5 @@
-//! Words that stand near one.
+//! Words that stand near one, and what is suggested in their place.
+use explain_again::{Spot, is_taken};
 use explain_lists::Draft;
 use std::alloc::AllocError;
 use strsim::osa_distance;
@@ -43,37 +44,70 @@ pub fn is_near(draft: &mut Draft, known: &str, word: &str) -> bool {
     known.len() > 2 && word.len() < 64 && is_one_edit(draft, known, word)
 }
 
-/// Suggests a word.
-pub fn add_suggestion(draft: &mut Draft, near: &str, word: &str) {
-    draft.add_all(&["  `", word, "`: did you mean `", near, "`?\n"]);
+/// Suggests a text in the place of words of a line, where it is taken there. Returns whether it is.
+pub fn add_suggestion(draft: &mut Draft, spot: Spot<'_>, text: &str, words: &str) -> bool {
+    let is_right = is_taken(draft, spot, words, text);
+    if is_right {
+        draft.add_all(&["  `", words, "`: did you mean `", text, "`?\n"]);
+    }
+    is_right
 }
 
-/// A known word, if another may have been meant for it. Returns whether it may.
-pub fn add_near(draft: &mut Draft, near: &str, word: &str) -> bool {
-    let is_meant = is_near(draft, near, word);
-    if is_meant {
-        add_suggestion(draft, near, word);
+/// Suggests a text between two others in the place of words. Returns whether it is taken.
+pub fn add_enclosed(
+    draft: &mut Draft,
+    spot: Spot<'_>,
+    before: &str,
+    text: &str,
+    after: &str,
+    words: &str,
+) -> bool {
+    match format!(in draft.alloc(); "{before}{text}{after}") {
+        Ok(enclosed) => add_suggestion(draft, spot, enclosed.as_str(), words),
+        Err(AllocError) => {
+            draft.fail();
+            false
+        }
     }
-    is_meant
+}
+
+/// A known word, if another may have been meant for it. Returns whether it is suggested.
+pub fn add_near(draft: &mut Draft, spot: Spot<'_>, near: &str, word: &str) -> bool {
+    is_near(draft, near, word) && add_suggestion(draft, spot, near, word)
 }
 
 /// The first of some known words that a word may have been meant for. Returns whether there is one.
-pub fn add_nearest(draft: &mut Draft, known: &[&str], word: &str) -> bool {
+pub fn add_nearest(draft: &mut Draft, spot: Spot<'_>, known: &[&str], word: &str) -> bool {
     for near in known {
-        if add_near(draft, near, word) {
+        if add_near(draft, spot, near, word) {
             return true;
         }
     }
     false
 }
 
-/// The word that another one stands for in such a list. Returns whether there is one.
-pub fn add_other(draft: &mut Draft, others: &[(&str, &str)], word: &str) -> bool {
+/// The first word that another one stands for in such a list, and that is taken in its place. Returns whether there is one.
+pub fn add_other(draft: &mut Draft, spot: Spot<'_>, others: &[(&str, &str)], word: &str) -> bool {
     for (other, meant) in others {
-        if word.eq_ignore_ascii_case(other) {
-            add_suggestion(draft, meant, word);
+        if word.eq_ignore_ascii_case(other) && add_suggestion(draft, spot, meant, word) {
             return true;
         }
     }
     false
+}
+
+/// A word and the one after it in the other order. Returns whether that is suggested.
+pub fn add_exchanged(draft: &mut Draft, spot: Spot<'_>) -> bool {
+    let (first, second) = (spot.text(), spot.after(1).text());
+    let alloc = draft.alloc();
+    let (Ok(words), Ok(text)) = (
+        format!(in alloc; "{first} {second}"),
+        format!(in alloc; "{second} {first}"),
+    ) else {
+        draft.fail();
+        return false;
+    };
+    !second.is_empty()
+        && first != second
+        && add_suggestion(draft, spot, text.as_str(), words.as_str())
 }

@@ -1,6 +1,8 @@
 //! Numbers that are written otherwise.
 use crate::near::add_other;
+use explain_again::{Spot, is_taken};
 use explain_lists::Draft;
+use std::alloc::AllocError;
 
 /// Numbers in words.
 const IN_WORDS: &[(&str, &str)] = &[
@@ -44,14 +46,26 @@ fn is_digit(byte: u8) -> bool {
     byte.is_ascii_digit()
 }
 
+// What is wrong with a word that stands for a number, and the number, where it is taken in its place.
+fn add_spelled(draft: &mut Draft, spot: Spot<'_>, word: &str, wrong: &str, number: u64) {
+    match format!(in draft.alloc(); "{number}") {
+        Ok(text) => {
+            if is_taken(draft, spot, word, text.as_str()) {
+                draft.add_all(&["  `", word, "`: ", wrong, ": `", text.as_str(), "`\n"]);
+            } else {
+                draft.add_all(&["  `", word, "`: ", wrong, "\n"]);
+            }
+        }
+        Err(AllocError) => draft.fail(),
+    }
+}
+
 // A number with marks between its digits, or zeros before them.
-fn add_digits(draft: &mut Draft, word: &str) {
+fn add_digits(draft: &mut Draft, spot: Spot<'_>, word: &str) {
     if !word.is_empty() {
         if let Some(number) = digits_of(word) {
-            writeln!(
-                draft,
-                "  `{word}`: a number has digits alone, and no zero before them: `{number}`"
-            );
+            let wrong = "a number has digits alone, and no zero before them";
+            add_spelled(draft, spot, word, wrong, number);
         }
     }
 }
@@ -99,30 +113,28 @@ fn add_tail(draft: &mut Draft, word: &str) {
 }
 
 // A number with a sign or a point, or with something after it.
-fn add_odd(draft: &mut Draft, word: &str) {
-    if !add_mark(draft, word) && !add_other(draft, IN_WORDS, word) {
+fn add_odd(draft: &mut Draft, spot: Spot<'_>, word: &str) {
+    if !add_mark(draft, word) && !add_other(draft, spot, IN_WORDS, word) {
         add_tail(draft, word);
     }
 }
 
 // A word that is no number for its spelling.
-fn add_spelling(draft: &mut Draft, word: &str) {
+fn add_spelling(draft: &mut Draft, spot: Spot<'_>, word: &str) {
     match digits_of(word) {
-        Some(_) => add_digits(draft, word),
-        None => add_odd(draft, word),
+        Some(_) => add_digits(draft, spot, word),
+        None => add_odd(draft, spot, word),
     }
 }
 
 // A number with a unit. Returns whether it has one.
-fn add_without_unit(draft: &mut Draft, word: &str) -> bool {
+fn add_without_unit(draft: &mut Draft, spot: Spot<'_>, word: &str) -> bool {
     for (unit, microseconds) in UNITS {
         if let Some(digits) = word.strip_suffix(*unit) {
             if let (false, Some(number)) = (digits.is_empty(), digits_of(digits)) {
                 let time = number.saturating_mul(*microseconds);
-                writeln!(
-                    draft,
-                    "  `{word}`: times are microseconds, and no unit follows them: `{time}`"
-                );
+                let wrong = "times are microseconds, and no unit follows them";
+                add_spelled(draft, spot, word, wrong, time);
                 return true;
             }
         }
@@ -132,10 +144,10 @@ fn add_without_unit(draft: &mut Draft, word: &str) -> bool {
 
 /// What is wrong with a word that is no number of its place: it is too large, or has a unit, a sign, a point, or marks between its
 /// digits.
-pub fn add_number(draft: &mut Draft, word: &str) {
+pub fn add_number(draft: &mut Draft, spot: Spot<'_>, word: &str) {
     if is_spelled_right(word) {
         draft.add_all(&["  `", word, "` is too large\n"]);
-    } else if !add_without_unit(draft, word) {
-        add_spelling(draft, word);
+    } else if !add_without_unit(draft, spot, word) {
+        add_spelling(draft, spot, word);
     }
 }

@@ -1,10 +1,12 @@
 //! What the operands of a frame's text may have been meant for.
-use crate::frames::{front_of, is_joined, tail_from};
-use crate::near::{add_near, add_suggestion};
+use crate::frames::{front_of, is_joined};
+use crate::near::{add_enclosed, add_near, add_suggestion};
+use explain_again::{Spot, is_taken};
 use explain_lists::{Draft, OPERAND_WORDS, word_at, word_count};
 use line_frames::Frame;
 use message_table::{Operand, Operands, WordSet, code_named, operands_of};
 use message_text::frame_text;
+use std::alloc::AllocError;
 
 /// Words that stand for an operand elsewhere, each with one here.
 const OTHER_WORDS: &[(&str, &str)] = &[
@@ -43,9 +45,9 @@ const OTHER_WORDS: &[(&str, &str)] = &[
 ];
 
 /// The first word of an operand that a word may have been meant for. Returns whether there is one.
-pub fn add_nearest_operand(draft: &mut Draft, word: &str) -> bool {
+pub fn add_nearest_operand(draft: &mut Draft, spot: Spot<'_>, word: &str) -> bool {
     for set in OPERAND_WORDS {
-        if add_nearest_of_set(draft, *set, word) {
+        if add_nearest_of_set(draft, spot, *set, word) {
             return true;
         }
     }
@@ -53,9 +55,9 @@ pub fn add_nearest_operand(draft: &mut Draft, word: &str) -> bool {
 }
 
 // The first word of a set that a word may have been meant for. Returns whether there is one.
-fn add_nearest_of_set(draft: &mut Draft, set: WordSet, word: &str) -> bool {
+fn add_nearest_of_set(draft: &mut Draft, spot: Spot<'_>, set: WordSet, word: &str) -> bool {
     for operand in set.words() {
-        if add_near(draft, operand.text, word) {
+        if add_near(draft, spot, operand.text, word) {
             return true;
         }
     }
@@ -63,10 +65,12 @@ fn add_nearest_of_set(draft: &mut Draft, set: WordSet, word: &str) -> bool {
 }
 
 // The word of a set that stands for one that is used elsewhere. Returns whether there is one.
-fn add_other_of_set(draft: &mut Draft, set: WordSet, word: &str) -> bool {
+fn add_other_of_set(draft: &mut Draft, spot: Spot<'_>, set: WordSet, word: &str) -> bool {
     for (other, meant) in OTHER_WORDS {
-        if word.eq_ignore_ascii_case(other) && set.byte(meant.as_bytes()).is_some() {
-            add_suggestion(draft, meant, word);
+        if word.eq_ignore_ascii_case(other)
+            && set.byte(meant.as_bytes()).is_some()
+            && add_suggestion(draft, spot, meant, word)
+        {
             return true;
         }
     }
@@ -74,8 +78,8 @@ fn add_other_of_set(draft: &mut Draft, set: WordSet, word: &str) -> bool {
 }
 
 /// The word of a set that a word may have been meant for. Returns whether there is one.
-pub fn add_set_meant(draft: &mut Draft, set: WordSet, word: &str) -> bool {
-    add_other_of_set(draft, set, word) || add_nearest_of_set(draft, set, word)
+pub fn add_set_meant(draft: &mut Draft, spot: Spot<'_>, set: WordSet, word: &str) -> bool {
+    add_other_of_set(draft, spot, set, word) || add_nearest_of_set(draft, spot, set, word)
 }
 
 // ---- the words of an opcode
@@ -98,10 +102,11 @@ fn sets_of(operands: Operands) -> [Option<WordSet>; 2] {
 }
 
 // What a word may have been meant for, among those of an opcode. Returns whether there is something.
-fn add_word_meant(draft: &mut Draft, operands: Operands, word: &str) -> bool {
+fn add_word_meant(draft: &mut Draft, spot: Spot<'_>, operands: Operands) -> bool {
+    let word = spot.text();
     for set in sets_of(operands) {
         if let Some(set) = set {
-            if set.byte(word.as_bytes()).is_none() && add_set_meant(draft, set, word) {
+            if set.byte(word.as_bytes()).is_none() && add_set_meant(draft, spot, set, word) {
                 return true;
             }
         }
@@ -110,12 +115,10 @@ fn add_word_meant(draft: &mut Draft, operands: Operands, word: &str) -> bool {
 }
 
 // What the first of the words from one on may have been meant for that is meant for another one. Returns whether there is one.
-fn add_words_meant(draft: &mut Draft, operands: Operands, line: &str, first: usize) -> bool {
-    for number in first..word_count(line) {
-        if let Some(word) = word_at(line, number) {
-            if add_word_meant(draft, operands, word) {
-                return true;
-            }
+fn add_words_meant(draft: &mut Draft, spot: Spot<'_>, operands: Operands) -> bool {
+    for number in spot.word..word_count(spot.at.text) {
+        if add_word_meant(draft, spot.moved_to(number), operands) {
+            return true;
         }
     }
     false
@@ -128,8 +131,20 @@ fn is_hex(text: &str) -> bool {
     !text.is_empty() && text.len() % 2 == 0 && text.bytes().all(|byte| byte.is_ascii_hexdigit())
 }
 
+/// Suggests the digits of an opcode in the place of a word. Returns whether they are taken.
+pub fn add_code(draft: &mut Draft, spot: Spot<'_>, code: u8) -> bool {
+    match format!(in draft.alloc(); "{code:02x}") {
+        Ok(digits) => add_suggestion(draft, spot, digits.as_str(), spot.text()),
+        Err(AllocError) => {
+            draft.fail();
+            false
+        }
+    }
+}
+
 // The byte that a word stands for by the name of an opcode, or after `0x`. Returns whether there is one.
-fn add_byte_meant(draft: &mut Draft, operands: Operands, word: &str) -> bool {
+fn add_byte_meant(draft: &mut Draft, spot: Spot<'_>, operands: Operands) -> bool {
+    let word = spot.text();
     if !matches!(
         operands,
         Operands::Two(Operand::Byte, _) | Operands::One(Operand::Byte)
@@ -137,25 +152,18 @@ fn add_byte_meant(draft: &mut Draft, operands: Operands, word: &str) -> bool {
         return false;
     }
     if let Some(code) = code_named(word.as_bytes()) {
-        writeln!(draft, "  `{word}`: did you mean `{code:02x}`?");
-        return true;
+        return add_code(draft, spot, code);
     }
     match word.strip_prefix("0x") {
-        Some(digits) if is_hex(digits) => {
-            add_suggestion(draft, digits, word);
-            true
-        }
+        Some(digits) if is_hex(digits) => add_suggestion(draft, spot, digits, word),
         _ => false,
     }
 }
 
 // Digits without the mark before them. Returns whether they are some.
-fn add_mark_meant(draft: &mut Draft, operands: Operands, word: &str) -> bool {
-    if operands == Operands::Raw && is_hex(word) {
-        writeln!(draft, "  `{word}`: did you mean `:{word}`?");
-        return true;
-    }
-    false
+fn add_mark_meant(draft: &mut Draft, spot: Spot<'_>, operands: Operands) -> bool {
+    let word = spot.text();
+    operands == Operands::Raw && is_hex(word) && add_enclosed(draft, spot, ":", word, "", word)
 }
 
 // A text as it stands between other quotes, or without any.
@@ -166,28 +174,47 @@ fn unquoted(text: &str) -> &str {
     }
 }
 
-// A text without double quotes. Returns whether it is one.
-fn add_quotes(draft: &mut Draft, operands: Operands, tail: &str) -> bool {
-    if operands != Operands::Text || tail.is_empty() || tail.contains("\"") {
-        return false;
+// Whether a text has one double quote alone.
+fn has_one_quote(text: &str) -> bool {
+    text.bytes().filter(|byte| *byte == b'"').count() == 1
+}
+
+/// A text without a double quote at its end, or without any. Returns whether it is one.
+pub fn add_quotes(draft: &mut Draft, spot: Spot<'_>, words: &str) -> bool {
+    if has_one_quote(words) {
+        return add_enclosed(draft, spot, "", words, "\"", words);
     }
-    let text = unquoted(tail);
-    writeln!(draft, "  `{tail}`: did you mean `\"{text}\"`?");
-    true
+    !words.is_empty()
+        && !words.contains("\"")
+        && add_enclosed(draft, spot, "\"", unquoted(words), "\"", words)
+}
+
+// The same of the operands of an opcode that takes a text.
+fn add_quoted(draft: &mut Draft, spot: Spot<'_>, operands: Operands) -> bool {
+    let tail = spot.tail();
+    match operands {
+        Operands::Text => add_quotes(draft, spot, tail),
+        Operands::WordAndText(_) => has_one_quote(tail) && add_quotes(draft, spot, tail),
+        _ => false,
+    }
+}
+
+// The byte of a frame's header, of two digits.
+fn header_byte(header: &str) -> Option<u8> {
+    match header.as_bytes() {
+        [from, b'>', to] => {
+            let from = char::from(*from).to_digit(16)?;
+            let to = char::from(*to).to_digit(16)?;
+            u8::try_from(from.saturating_mul(16).saturating_add(to)).ok()
+        }
+        _ => None,
+    }
 }
 
 // The bytes of a frame's header and opcode.
 fn first_bytes(line: &str, first: usize, code: u8) -> Option<[u8; 2]> {
     let header = word_at(line, first.checked_sub(2)?)?;
-    match header.as_bytes() {
-        [from, b'>', to] => {
-            let from = char::from(*from).to_digit(16)?;
-            let to = char::from(*to).to_digit(16)?;
-            let byte = u8::try_from(from.saturating_mul(16).saturating_add(to)).ok()?;
-            Some([byte, code])
-        }
-        _ => None,
-    }
+    Some([header_byte(header)?, code])
 }
 
 // A frame whose operands are digits.
@@ -210,12 +237,13 @@ fn frame_of(start: [u8; 2], digits: &str) -> Option<Frame> {
 }
 
 // The text of a frame whose operands stand as digits though words say them. Returns whether there is one.
-fn add_text_of(draft: &mut Draft, line: &str, first: usize, code: u8, word: &str) -> bool {
+fn add_text_of(draft: &mut Draft, spot: Spot<'_>, code: u8) -> bool {
+    let word = spot.text();
     let digits = word.strip_prefix(":").unwrap_or(word);
     if !is_hex(digits) || digits.len() > 28 {
         return false;
     }
-    let Some(start) = first_bytes(line, first, code) else {
+    let Some(start) = first_bytes(spot.at.text, spot.word, code) else {
         return false;
     };
     let Some(frame) = frame_of(start, digits) else {
@@ -223,20 +251,52 @@ fn add_text_of(draft: &mut Draft, line: &str, first: usize, code: u8, word: &str
     };
     let text = frame_text(&frame);
     let text = str::from_utf8(&text).unwrap_or("");
-    if text.contains(":") {
+    // What stands after the header is taken in the place of the words from the opcode on.
+    let Some((_, worded)) = text.split_once(' ') else {
+        return false;
+    };
+    let name = spot.moved_to(spot.word.saturating_sub(1));
+    if text.contains(":") || !is_taken(draft, name, words_to(name, spot), worded) {
         return false;
     }
     draft.add_all(&["  the frame with these bytes is `", text, "`\n"]);
     true
 }
 
+// The text of a line from one word up to the end of another one.
+fn words_to<'a>(first: Spot<'a>, last: Spot<'a>) -> &'a str {
+    let tail = first.tail();
+    let rest = last.tail().len().saturating_sub(last.text().len());
+    tail.get(..tail.len().saturating_sub(rest)).unwrap_or(tail)
+}
+
+// What stands in words for the operands of a pattern's frame that stand in hex, with the opcode before them. Returns whether it
+// is taken.
+fn add_words_of_hex(draft: &mut Draft, spot: Spot<'_>) -> bool {
+    let name = spot.moved_to(spot.word.saturating_sub(1));
+    let Some(code) = code_named(name.text().as_bytes()) else {
+        return false;
+    };
+    let digits = spot.text().strip_prefix(":").unwrap_or("");
+    if !is_hex(digits) {
+        return false;
+    }
+    let Some(frame) = frame_of([0, code], digits) else {
+        return false;
+    };
+    let text = frame_text(&frame);
+    match str::from_utf8(&text).unwrap_or("").split_once(' ') {
+        Some((_, worded)) => add_suggestion(draft, name, worded, words_to(name, spot)),
+        None => false,
+    }
+}
+
 // The word of a set whose parts stand as words of their own. Returns whether there is one.
-fn add_parts_of_set(draft: &mut Draft, set: WordSet, tail: &str) -> bool {
+fn add_parts_of_set(draft: &mut Draft, spot: Spot<'_>, set: WordSet) -> bool {
     for operand in set.words() {
-        if let Some(front) = front_of(tail, operand.text) {
+        if let Some(front) = front_of(spot.tail(), operand.text) {
             if front.contains(" ") && is_joined(front, operand.text) {
-                add_suggestion(draft, operand.text, front);
-                return true;
+                return add_suggestion(draft, spot, operand.text, front);
             }
         }
     }
@@ -244,35 +304,55 @@ fn add_parts_of_set(draft: &mut Draft, set: WordSet, tail: &str) -> bool {
 }
 
 /// What too many operands of a line's frame, from this word on, may have been meant for: one word in parts.
-pub fn add_count_meant(draft: &mut Draft, line: &str, first: usize) {
-    let Some(name) = word_at(line, first.saturating_sub(1)) else {
+pub fn add_count_meant(draft: &mut Draft, spot: Spot<'_>) {
+    let Some(operands) = operands_at(spot) else {
         return;
     };
-    let Some(code) = code_named(name.as_bytes()) else {
-        return;
-    };
-    for set in sets_of(operands_of(code)) {
+    let _ = add_quoted(draft, spot, operands) || add_parts_meant(draft, spot, operands);
+}
+
+// A word of an opcode in parts. Returns whether there is one.
+fn add_parts_meant(draft: &mut Draft, spot: Spot<'_>, operands: Operands) -> bool {
+    for set in sets_of(operands) {
         if let Some(set) = set {
-            if add_parts_of_set(draft, set, tail_from(line, first)) {
-                return;
+            if add_parts_of_set(draft, spot, set) {
+                return true;
             }
         }
     }
+    false
+}
+
+// What the opcode takes that stands before a word.
+fn operands_at(spot: Spot<'_>) -> Option<Operands> {
+    let name = spot.moved_to(spot.word.checked_sub(1)?);
+    Some(operands_of(code_named(name.text().as_bytes())?))
 }
 
 /// What the operands of a line's frame, from this word on, may have been meant for.
-pub fn add_operands_meant(draft: &mut Draft, line: &str, first: usize) {
-    let (Some(name), Some(word)) = (word_at(line, first.saturating_sub(1)), word_at(line, first))
-    else {
-        return;
-    };
-    let Some(code) = code_named(name.as_bytes()) else {
+pub fn add_operands_meant(draft: &mut Draft, spot: Spot<'_>) {
+    let name = spot.moved_to(spot.word.saturating_sub(1));
+    let Some(code) = code_named(name.text().as_bytes()) else {
         return;
     };
     let operands = operands_of(code);
-    let _ = add_byte_meant(draft, operands, word)
-        || add_mark_meant(draft, operands, word)
-        || add_quotes(draft, operands, tail_from(line, first))
-        || add_words_meant(draft, operands, line, first)
-        || add_text_of(draft, line, first, code, word);
+    let _ = add_byte_meant(draft, spot, operands)
+        || add_mark_meant(draft, spot, operands)
+        || add_quoted(draft, spot, operands)
+        || add_words_meant(draft, spot, operands)
+        || add_text_of(draft, spot, code);
+}
+
+/// What the operands of a pattern's frame, from this word on, may have been meant for. Returns whether something is suggested.
+pub fn add_pattern_operands_meant(draft: &mut Draft, spot: Spot<'_>) -> bool {
+    let Some(operands) = operands_at(spot) else {
+        return false;
+    };
+    let takes_text = operands == Operands::Text;
+    add_byte_meant(draft, spot, operands)
+        || add_words_of_hex(draft, spot)
+        || add_mark_meant(draft, spot, operands)
+        || takes_text && add_quotes(draft, spot, spot.text())
+        || add_parts_meant(draft, spot, operands)
+        || add_words_meant(draft, spot, operands)
 }

@@ -10,6 +10,7 @@ mod meant;
 mod numbers;
 mod rows;
 mod slips;
+mod suggested;
 
 /// What a run of the program answers and writes.
 #[derive(Drop)]

@@ -124,7 +124,7 @@ pub fn session<R: Read, S: Sink>(
     session_heard(alloc, input, out, &mut SilentRefusals)
 }
 
-/// [`session`], of which each refused line is heard of once its answer is handed on.
+/// [`session`], of which each line of the topology is heard of as it is read, and each refused line once its answer is handed on.
 ///
 /// # Errors
 ///
@@ -140,7 +140,7 @@ pub fn session_heard<R: Read, S: Sink, H: RefusalHearer>(
     ensures handed { AreHanded ⟦<Buffered<S> as Sink>⟧.is_stuck out.old out.new result }
 {
     let mut incoming = Incoming::new(input);
-    let topology = topology_text(alloc, &mut incoming)?;
+    let topology = topology_text(alloc, &mut incoming, hearer)?;
     // The run is large, and `?` would move it once more.
     let mut live = match begin(alloc, topology.as_slice()) {
         Ok(live) => live,

@@ -1,8 +1,11 @@
-//! What hears of refused lines.
+//! What hears of the lines of a topology, and of refused lines.
 use live_session::{Refusal, Step};
 
-/// Hears of the lines of a session that are refused.
+/// Hears of the lines of a session's topology, and of the lines after it that are refused.
 pub trait RefusalHearer {
+    /// A line was read, the next one of the topology.
+    fn note(&mut self, line: &[u8]);
+
     /// A line was refused: the one of this number after the line `script`, of a session with this topology.
     fn hear(&mut self, topology: &[u8], number: u64, line: &[u8], refusal: Refusal);
 }
@@ -12,6 +15,8 @@ pub trait RefusalHearer {
 pub struct SilentRefusals;
 
 impl RefusalHearer for SilentRefusals {
+    fn note(&mut self, _line: &[u8]) {}
+
     fn hear(&mut self, _topology: &[u8], _number: u64, _line: &[u8], _refusal: Refusal) {}
 }
 

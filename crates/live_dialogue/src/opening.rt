@@ -5,6 +5,7 @@ ghost use Rattle.std.specs.Result.{result_map_both};
 ghost use Rattle.live_dialogue.specs.Dialogue.{IsBegun, IsOpening, IsTopologyLine};
 
 use crate::error::SessionError;
+use crate::hearing::RefusalHearer;
 use crate::incoming::Incoming;
 use crate::limits::LONGEST_TOPOLOGY;
 use edid_core::{RootError, root_on_heap};
@@ -46,10 +47,11 @@ fn next_line<R: Read>(incoming: &mut Incoming<'_, R>) -> Result<(), SessionError
     }
 }
 
-/// Reads the text before the first line `script`, and that line.
-pub(crate) fn topology_text<R: Read>(
+/// Reads the text before the first line `script`, and that line. Each line of the text is heard of.
+pub(crate) fn topology_text<R: Read, H: RefusalHearer>(
     alloc: Global,
     incoming: &mut Incoming<'_, R>,
+    hearer: &mut H,
 ) -> Result<Vec<u8>, SessionError>
     ensures { IsOpening incoming.old.rest incoming.new.rest (result_map_both (λ text. text.items) (λ error. error) result) }
 {
@@ -62,6 +64,7 @@ pub(crate) fn topology_text<R: Read>(
                 if is_script(bytes) {
                     return Ok(text);
                 }
+                hearer.note(bytes);
                 match add_line(&mut text, bytes) {
                     Ok(()) => {}
                     Err(_) => return Err(SessionError::Memory),

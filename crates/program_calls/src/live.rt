@@ -13,12 +13,33 @@ use std::alloc::{AllocError, Global};
 use std::io::Read;
 use text_core::{At, Buffered, Sink, put_all};
 
-/// Explains refused lines, where that is asked for.
+/// Explains refused lines, where that is asked for, and keeps the topology, of which a fault may have to be explained.
 #[derive(Drop)]
-struct Explainer<'e, E: Sink> {
+pub(crate) struct Explainer<'e, E: Sink> {
     alloc: Global,
     explains: bool,
-    err: &'e mut E,
+    /// What came of the topology, or nothing where memory ran out.
+    pub topology: Vec<u8>,
+    pub err: &'e mut E,
+}
+
+impl<'e, E: Sink> Explainer<'e, E> {
+    /// Nothing has come yet.
+    pub(crate) fn new(alloc: Global, explains: bool, err: &'e mut E) -> Self {
+        Explainer {
+            alloc,
+            explains,
+            topology: Vec::new(alloc),
+            err,
+        }
+    }
+}
+
+// Adds a line with its end to a text.
+fn add_line(text: &mut Vec<u8>, line: &[u8]) -> Result<(), AllocError> {
+    text.extend_from_slice(line)?;
+    text.push(b'\n')?;
+    Ok(())
 }
 
 fn fault_of(line: u64, refusal: Refusal) -> InputFault {
@@ -49,6 +70,12 @@ fn explained(
 }
 
 impl<E: Sink> RefusalHearer for Explainer<'_, E> {
+    fn note(&mut self, line: &[u8]) {
+        if self.explains && add_line(&mut self.topology, line).is_err() {
+            self.topology.clear();
+        }
+    }
+
     fn hear(&mut self, topology: &[u8], number: u64, line: &[u8], refusal: Refusal) {
         if !self.explains {
             return;
@@ -65,20 +92,14 @@ impl<E: Sink> RefusalHearer for Explainer<'_, E> {
 #[inline(never)]
 pub(crate) fn live<R: Read, W: Sink, E: Sink>(
     alloc: Global,
-    explains: bool,
     input: &mut R,
     out: &mut Buffered<W>,
-    err: &mut E,
+    explainer: &mut Explainer<'_, E>,
 ) -> Result<(), ProgramFault>
     ensures { OnOk result (Lives (R.remaining input.old) (⟦<Buffered<W> as Sink>⟧.contents out.old) (W.contents (below out.new))) }
 {
     out.flush()?;
-    let mut explainer = Explainer {
-        alloc,
-        explains,
-        err,
-    };
-    session_heard(alloc, input, out, &mut explainer)?;
+    session_heard(alloc, input, out, explainer)?;
     Ok(())
 }
 
@@ -94,20 +115,14 @@ pub(crate) struct LiveEnded<W: Sink> {
 #[inline(never)]
 pub(crate) fn live_in_objects<R: Read, W: Sink, E: Sink>(
     alloc: Global,
-    explains: bool,
     input: &mut R,
     out: W,
-    err: &mut E,
+    explainer: &mut Explainer<'_, E>,
 ) -> LiveEnded<W>
     ensures { result.done ≡ Ok tt → result.halted ≡ None → LivesInObjects (R.remaining input.old) (W.contents out) (W.contents (below result.out)) }
 {
     let mut lines = Buffered::new(LiveObjects::new(alloc, out));
-    let mut explainer = Explainer {
-        alloc,
-        explains,
-        err,
-    };
-    let done = session_heard(alloc, input, &mut lines, &mut explainer);
+    let done = session_heard(alloc, input, &mut lines, explainer);
     let Finished { halted, out } = lines.into_below().finish();
     LiveEnded { done, halted, out }
 }

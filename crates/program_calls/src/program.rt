@@ -9,7 +9,7 @@ ghost use Rattle.program_calls.specs.Live.{Lives, LivesAs, LivesInObjects};
 ghost use Rattle.cli_words.specs.MonFlags.{signal_in};
 
 use crate::fault::ProgramFault;
-use crate::live::{LiveEnded, live, live_in_objects};
+use crate::live::{Explainer, LiveEnded, live, live_in_objects};
 use crate::perform::perform;
 use crate::progress::ProgressLines;
 use crate::said::{remark, report};
@@ -118,6 +118,14 @@ impl Call<'_> {
         report(self.alloc, self.asked, fault, b"", err)
     }
 
+    // Says why a session failed, which may be a fault of its topology. Answers the exit status.
+    fn fail_session<E: Sink>(self, fault: &ProgramFault, explainer: Explainer<'_, E>) -> u8
+        ensures { 0 < result }
+    {
+        let Explainer { topology, err, .. } = explainer;
+        report(self.alloc, self.asked, fault, &topology, err)
+    }
+
     // Does what is asked for with an input, and says how it went. Answers the exit status.
     fn answer<W: Sink, E: Sink>(
         self,
@@ -150,9 +158,10 @@ impl Call<'_> {
     ) -> u8
         ensures { result ≡ 0 → Lives (R.remaining input.old) (⟦<Buffered<W> as Sink>⟧.contents out.old) (W.contents (below out.new)) }
     {
-        match live(self.alloc, self.asked.explains, input, out, err) {
+        let mut explainer = Explainer::new(self.alloc, self.asked.explains, err);
+        match live(self.alloc, input, out, &mut explainer) {
             Ok(()) => 0,
-            Err(fault) => self.fail(&fault, err),
+            Err(fault) => self.fail_session(&fault, explainer),
         }
     }
 
@@ -161,16 +170,18 @@ impl Call<'_> {
         self,
         done: Result<(), SessionError>,
         halted: Option<Halt>,
-        err: &mut E,
+        explainer: Explainer<'_, E>,
     ) -> u8
         ensures { result ≡ 0 → (done ≡ Ok tt) × (halted ≡ None) }
     {
         match halted {
-            Some(Halt::Write(count)) => self.fail(&ProgramFault::Write(WriteFault { count }), err),
-            Some(Halt::Memory) => self.fail(&ProgramFault::Memory(AllocError), err),
+            Some(Halt::Write(count)) => {
+                self.fail(&ProgramFault::Write(WriteFault { count }), explainer.err)
+            }
+            Some(Halt::Memory) => self.fail(&ProgramFault::Memory(AllocError), explainer.err),
             None => match done {
                 Ok(()) => 0,
-                Err(fault) => self.fail(&ProgramFault::from(fault), err),
+                Err(fault) => self.fail_session(&ProgramFault::from(fault), explainer),
             },
         }
     }
@@ -201,14 +212,14 @@ impl Call<'_> {
     ) -> ProgramEnd<W>
         ensures { result.status ≡ 0 → LivesInObjects (R.remaining input.old) (W.contents out) (W.contents result.out) }
     {
+        let mut explainer = Explainer::new(self.alloc, self.asked.explains, err);
         let LiveEnded { done, halted, out } = live_in_objects(
             self.alloc,
-            self.asked.explains,
             input,
             out,
-            err,
+            &mut explainer,
         );
-        let status = self.report_objects(done, halted, err);
+        let status = self.report_objects(done, halted, explainer);
         ProgramEnd {
             status,
             out: out.into_below(),

@@ -5,7 +5,7 @@ use std::process::Abort;
 /// The words of a command line, an input with `;` for each line feed, and what follows the line of its fault.
 const CASES: &str = "\
 run => device tv tv 4;script;at 5 press tv plya;end 9; =>   line 3 of the input: at 5 press tv plya
-run => device tv tv 4\r;script\r;end 9\r; =>   line 2: script.
+run => device tv tv 4\r;script\r;end 9\r; =>   line 2: script
 run => DEVICE tv tv 4;script;end 9; =>   line 1: DEVICE tv tv 4
 run => device tv tv 4;script;end 9 ; =>   line 3 of the input: end 9 
 run => device tv\ttv 4;script;end 9; =>   line 1: device tv.tv 4
@@ -21,7 +21,7 @@ check --capture => expect from 0 to 9 short;capture;20 0;10 end; =>   line 4 of 
 check --capture => expect from 0 to 9 short;Capture; =>   line 2: Capture
 run --json => device tv tv 4;script;at 5 press tv plya;end 9; =>   line 3 of the input: at 5 press tv plya
 asm => 4>0 pley forward; =>   line 1: 4>0 pley forward
-asm => 4>4\r; =>   line 1: 4>4.
+asm => 4>4\r; =>   line 1: 4>4
 asm => 4>0\tplay forward; =>   line 1: 4>0.play forward
 asm => 4>4 ; =>   line 1: 4>4 
 edid =>  =>   an EDID has 128, 256, 384 or 512 bytes: a base block and up to three extensions of 128 bytes each
@@ -35,13 +35,13 @@ asm => 4>F play; =>   line 1: 4>F play
 asm => 4f 82 10 00; =>   line 1: 4f 82 10 00
 asm => a\u{80}\u{1}; =>   line 1: a...
 edid --text => \u{feff}edid 1.3; =>   line 1: ...edid 1.3
-edid --text => edid 1.3\r; =>   line 1: edid 1.3.
+edid --text => edid 1.3\r; =>   line 1: edid 1.3
 edid --text => edid\t1.3; =>   line 1: edid.1.3
 edid --text => EDID 1.3; =>   line 1: EDID 1.3
 edid --text => edid 1.3 ; =>   line 1: edid 1.3 
 edid --text => 00ffffff; =>   line 1: 00ffffff
 mon => \u{feff}1000 0; =>   line 1: ...1000 0
-mon => 1000 0\r;4700 1;9000 end; =>   line 1: 1000 0.
+mon => 1000 0\r;4700 1;9000 end; =>   line 1: 1000 0
 mon => 1000\t0;4700 1;9000 end; =>   line 1: 1000.0
 mon => 1000 0;4700 1;9000 END; =>   line 3: 9000 END
 mon => 1000 0 ;9000 end; =>   line 1: 1000 0 
@@ -49,7 +49,7 @@ mon => 00ff; =>   line 1: 00ff
 mon => a\u{80}\u{1}; =>   line 1: a...
 mon =>  =>   line 1: 
 step => \u{feff}device tv tv 4;script;end 9;steps; =>   line 1: ...device tv tv 4
-step => device tv tv 4;script;end 9;steps;round\r; =>   line 5 of the input: round.
+step => device tv tv 4;script;end 9;steps;round\r; =>   line 5 of the input: round
 step => device tv tv 4;script;end 9;steps;edge;until\tbreak; =>   line 6 of the input: until.break
 step => device tv tv 4;script;end 9;steps;ROUND; =>   line 5 of the input: ROUND
 step => device tv tv 4;script;end 9;steps;round ; =>   line 5 of the input: round 

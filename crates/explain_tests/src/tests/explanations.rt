@@ -47,8 +47,8 @@ device tv tv 4\r
 script\r
 end 5\r
 => no script line
-  line 2: script.
-  lines end with LF; this one has a CR before it
+  line 2: script
+  this line ends with a carriage return before its line feed; lines end with a line feed alone
   a line `script`, and nothing else on it, parts the topology from the script
 --
 run --explain
@@ -600,9 +600,9 @@ asm --explain
 asm --explain
 4>4\r
 => line 1: address
-  line 1: 4>4.
+  line 1: 4>4
           ^^^^
-  lines end with LF; this one has a CR before it
+  this line ends with a carriage return before its line feed; lines end with a line feed alone
   a line begins with `I>D`, the hex digits of initiator and destination in lower case, as `4>0`
 --
 asm --explain

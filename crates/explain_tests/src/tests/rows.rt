@@ -4,7 +4,7 @@ use super::*;
 // A row has a line, the words of it that are marked, and a line of the explanation, parted by `|`.
 
 /// What stands above the lines of a topology.
-const ROOM: &str = "device tv tv 4
+pub(super) const ROOM: &str = "device tv tv 4
 device avr amp 3
 device p1 player 0
 device dut outside 0
@@ -12,7 +12,7 @@ plug avr tv 1
 ";
 
 /// Lines of a topology.
-const TOPOLOGY: &str = "\
+pub(super) const TOPOLOGY: &str = "\
 device x1 3 amp|3 amp|KIND stands before PORTS, as `device tv tv 4`
 amp x1 3|amp|`device` and NAME stand before KIND, as `device tv tv 4`
 device my_avr amp 3|my_avr|a name has letters in lower case, digits and `-` alone
@@ -67,7 +67,7 @@ p1>f active-source 1.0.0.0|p1>f|`p1>f`: did you mean `@p1>f`?
 p2>tv image-view-on|p2>tv|a line begins with `I>D`, the hex digits of initiator and destination in lower case, as `4>0`
 @p1>@tv image-vew-on|image-vew-on|`image-vew-on`: did you mean `image-view-on`?
 4>0 image view on|image|`image view on`: did you mean `image-view-on`?
-4>0 op-4|op-4|`op-4`: an opcode has two digits, as `op-04`
+4>0 op-4|op-4|the opcode 04 has a name, `image-view-on`, which stands in place of `op-4`
 4>f active-source 1.0|1.0|PA is a physical address, as 1.0.0.0
 4>f active-source :1000|:1000|the frame with these bytes is `4>f active-source 1.0.0.0`
 4>0 set-osd-name Foo|Foo|`Foo`: did you mean `\"Foo\"`?
@@ -92,7 +92,7 @@ expect within 60000 film 4>0 standby|film|`of` is missing before this word
 expect within of film 4>0|of|D is missing before this word
 expect from 0 2000000 4>0|2000000|`to` is missing before this word
 expect from 0 until 5 4>0|until|`until`: did you mean `to`?
-expect within 60000 of film 4>f active-source ack|ack|`ack`: did you mean `ok`?
+expect within 60000 of film 4>f active-source ack|ack|`ack`: did you mean `* ok`?
 expect within 60000 of film 4>0 image-view-on ok|ok|`ok`: did you mean `ack`?
 expect within 60000 of film complete 4>0|complete|`complete` stands in the trace, and not in PATTERN
 expect within 60000 of film 4->0 standby|4->0|`4->0`: did you mean `4>0`?
@@ -128,13 +128,13 @@ at 5 send p1 4>f active-sourc 1.0.0.0|active-sourc|`active-sourc`: did you mean 
 
 /// A row's line, the words of it that are marked, and what is said of them.
 #[derive(Clone, Copy)]
-struct Row<'a> {
-    line: &'a str,
-    marked: &'a str,
-    said: &'a str,
+pub(super) struct Row<'a> {
+    pub line: &'a str,
+    pub marked: &'a str,
+    pub said: &'a str,
 }
 
-fn row_of<'a>(rt: &impl Abort, row: &'a str) -> Row<'a> {
+pub(super) fn row_of<'a>(rt: &impl Abort, row: &'a str) -> Row<'a> {
     let (line, rest) = row.split_once('|').expect(rt, "a line");
     let (marked, said) = rest.split_once('|').expect(rt, "marked words");
     Row { line, marked, said }
@@ -161,8 +161,8 @@ fn says(text: &str, row: Row<'_>) -> bool {
     is_said && is_marked
 }
 
-// Runs the program on lines with a row's line between them.
-fn tells(
+/// Runs the program on lines with a row's line between them.
+pub(super) fn tells(
     rt: &(impl Abort + AllocGlobal),
     command: &str,
     above: &[&str],
