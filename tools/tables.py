@@ -36,9 +36,14 @@ def unescaped(text):
     return re.sub(r'\\(.)', lambda m: ESCAPES.get(m[1], m[1]), text)
 
 
+def bare(line):
+    """a line without the marks around it, and without the program's name that notes begin with"""
+    return line.strip(MARKS).removeprefix('hdminet: ')
+
+
 def core(text):
-    """of a text its longest line, without the marks around it"""
-    return max((line.strip(MARKS) for line in text.split('\n')), key=len)
+    """of a text its longest line"""
+    return max(map(bare, text.split('\n')), key=len)
 
 
 def is_text(form, token):
@@ -68,11 +73,13 @@ class Piece:
     """a part of a line; of a list where one of its items follows"""
     def __init__(self, codes=(), is_item=False):
         self.texts, self.numbers, self.codes, self.is_item = [], [], list(codes), is_item
+        self.has_items = False
 
     def take(self, other):
         self.texts += other.texts
         self.numbers += other.numbers
         self.codes += other.codes
+        self.has_items |= other.has_items
 
     def take_number(self, digits):
         number = int(digits, 16) if digits.startswith('0x') else int(digits)
@@ -98,6 +105,7 @@ def pieces(line):
                 open_pieces.pop()
                 if top.is_item:
                     done.append(top)
+                    open_pieces[-1].has_items = True
                 else:
                     open_pieces[-1].take(top)
         elif mark == ',' and len(open_pieces) > 1:
@@ -110,10 +118,10 @@ def pieces(line):
     return done + open_pieces
 
 
-def is_row(row, line):
-    """whether a part of a line is a row of texts, or one of three numbers or more that no sum is worked out of"""
-    return bool(row.cores) or (not row.texts and len(row.numbers) > 2
-                               and bool(re.search(r'∷|^\s*[\(\[{]', line)) and not re.search(r' [-+*/%<=]+ ', line))
+def is_row_of_numbers(piece, line):
+    """whether a part of a line is a row of a table of numbers: of three or more, beside no list of texts, in no sum or statement"""
+    return (not piece.texts and len(piece.numbers) > 2 and not piece.has_items
+            and bool(re.search(r'∷|^\s*[\(\[{]', line)) and not re.search(r' [-+*/%<=≡]+ ', line))
 
 
 def rows_of(place, lines, first=1):
@@ -121,8 +129,9 @@ def rows_of(place, lines, first=1):
     for at, line in enumerate(lines, first):
         if not re.match(r'\s*(use|import)\b|\s*(--|//)', line):
             for piece in pieces(line):
-                row = Row('%s:%d' % (place, at), piece.texts, [] if piece.texts else piece.numbers, piece.codes)
-                if is_row(row, line):
+                is_numbers = is_row_of_numbers(piece, line)
+                row = Row('%s:%d' % (place, at), piece.texts, piece.numbers if is_numbers else [], piece.codes)
+                if row.cores or is_numbers:
                     yield row
 
 
