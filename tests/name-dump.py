@@ -78,7 +78,7 @@ def name_of(slot, level):
     if slot == 0:
         return 'start'
     place = (slot - 1) % SLOTS
-    return '%d' % level if place < 8 else 'EOM=%d' % level if place == 8 else 'ACK=%d' % level
+    return {8: 'EOM=%d', 9: 'ACK=%d'}.get(place, '%d') % level
 
 
 def bits_of(edges, begin, close, count):

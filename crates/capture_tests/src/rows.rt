@@ -9,6 +9,8 @@ pub(crate) const ROWS: &str = "\
 vcd: HEAD|#0|1!|#12000|0!|#15700|1!|#20000 => 12000f 15700r end 20000
 vcd: HEAD|#0|x!|#5|0!|#9|z!|#12|0!|#15|X!|#18|0!|#20|Z!|#30 => 5f 9r 12f 15r 18f 20r end 30
 vcd: HEAD|#0|0!|#7|1!|#9 => 0f 7r end 9
+# Words are parted by ends of lines, too.
+vcd: $timescale|1|us|$end|$var|wire 1|! CEC|$end|$enddefinitions|$end|#0|1!|#3|0!|#9|1!|#12 => 3f 9r end 12
 # Vectors, real numbers and strings, in either case; what other keywords tell among changes is passed over.
 vcd: HEAD|#0|sLOW !|#2|S0 $|#5|B0 !|#6|R1.5 !|#7|B1 !|#9 => 5f 7r end 9
 vcd: HEAD|#0|$dumpall|1!|$end|#5|$dumpon|0!|$end|#6|$comment 1! $end|#9 => 5f end 9

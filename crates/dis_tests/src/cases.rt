@@ -1,5 +1,5 @@
 //! Each row through the call that the program makes.
-use crate::rows::{MEANINGS, REFUSED, REMARKS, SPELLINGS, USER_CONTROLS};
+use crate::rows::{ADDRESSES, MEANINGS, REFUSED, REMARKS, SENTENCES, SPELLINGS, USER_CONTROLS};
 use message_hex::{DisError, dis_lines};
 use message_meaning::dis_with_meaning;
 use std::io::{self, ErrorKind, Write};
@@ -44,14 +44,25 @@ fn meant(rt: &(impl Abort + AllocGlobal), text: &str) -> String {
     }
 }
 
+/// Each frame means what stands after its arrow.
+fn are_meant(rt: &(impl Abort + AllocGlobal), lines: &str) {
+    for line in lines.lines() {
+        let (input, want) = line.split_once(" => ").expect(rt, line);
+        let text = reported(rt, input);
+        let whole = format!(in rt.alloc(); "{text}  {want}\n").expect(rt, line);
+        holds(rt, meant(rt, input) == whole, line);
+    }
+}
+
 #[test]
 fn frames_mean_what_they_say(rt: HostRuntime) {
-    for line in MEANINGS.lines() {
-        let (input, want) = line.split_once(" => ").expect(&rt, line);
-        let text = reported(&rt, input);
-        let whole = format!(in rt.alloc(); "{text}  {want}\n").expect(&rt, line);
-        holds(&rt, meant(&rt, input) == whole, line);
-    }
+    are_meant(&rt, MEANINGS);
+}
+
+#[test]
+fn each_message_has_its_sentence(rt: HostRuntime) {
+    are_meant(&rt, SENTENCES);
+    are_meant(&rt, ADDRESSES);
 }
 
 #[test]

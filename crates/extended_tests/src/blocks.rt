@@ -218,6 +218,104 @@ displayid 70121c090029001000112233445566778899aabbccddeeff7f0001aa0000000000|  v
 displayid 70121a000000000344454c0700010126000101810002200103000201020300|  version 1.2, 26 bytes of data, an extension/  product, then in hex 44454c/  timings by codes of DMT, then in hex 01/  interface features, then in hex 01/  data blocks of CTA-861, then in hex 2001/  then in hex 0102/  then in hex 0300/
 displayid 701214000012000d6a3221c57f076f08010000000001000101|  version 1.2, 20 bytes of data, an extension/  tiles, with bezels, reserved bits 20, some alone at their place, one alone scaled, 4 across, 3 down, column 3, row 2, high bits c5, 1920x2160 pixels, then in hex 0100000000/  data block 01, then in hex 01/";
 
+/// Each code and each bit of a section of DisplayID alone: what it is, its parameters, tiles, interfaces and timings (DisplayID 1.3,
+/// sections 3 and 4; of version 2.0 its primary use cases).
+const SECTION_BITS: &str = "\
+displayid 7012000000|  version 1.2, 0 bytes of data, an extension/
+displayid 7012000100|  version 1.2, 0 bytes of data, a test structure/
+displayid 7012000200|  version 1.2, 0 bytes of data, a panel/
+displayid 7012000300|  version 1.2, 0 bytes of data, a stand-alone display/
+displayid 7012000400|  version 1.2, 0 bytes of data, a television receiver/
+displayid 7012000500|  version 1.2, 0 bytes of data, a repeater/
+displayid 7012000600|  version 1.2, 0 bytes of data, a direct drive monitor/
+displayid 7012000700|  version 1.2, 0 bytes of data, product type 7 (reserved)/
+displayid 7013000403|  version 1.3, 0 bytes of data, a television receiver, 3 further sections/
+displayid 7020000000|  version 2.0, 0 bytes of data, an extension/
+displayid 7020000100|  version 2.0, 0 bytes of data, a test structure/
+displayid 7020000200|  version 2.0, 0 bytes of data, a generic display/
+displayid 7020000300|  version 2.0, 0 bytes of data, a television/
+displayid 7020000400|  version 2.0, 0 bytes of data, for desktop work/
+displayid 7020000500|  version 2.0, 0 bytes of data, for desktop games/
+displayid 7020000600|  version 2.0, 0 bytes of data, for presentations/
+displayid 7020000700|  version 2.0, 0 bytes of data, for virtual reality/
+displayid 7020000800|  version 2.0, 0 bytes of data, for augmented reality/
+displayid 7020000900|  version 2.0, 0 bytes of data, use 9 (reserved)/
+displayid 7020000302|  version 2.0, 0 bytes of data, a television, 2 further sections/
+displayid 70120403007f0201aa|  version 1.2, 4 bytes of data, a stand-alone display/  data block 7f, revision and flags 02/  data block 7f, then in hex aa/
+displayid 70120f030001000ce803c201000f700880784e79|  version 1.2, 15 bytes of data, a stand-alone display/  parameters, 1000 x 450 in tenths of 1 mm, 3840x2160 pixels, audio, gamma code 120, aspect 1.7800, native 10 bits a colour, overall 8 bits a colour/
+displayid 70120f030001000ce803c201000f700840784e79|  version 1.2, 15 bytes of data, a stand-alone display/  parameters, 1000 x 450 in tenths of 1 mm, 3840x2160 pixels, separate audio, gamma code 120, aspect 1.7800, native 10 bits a colour, overall 8 bits a colour/
+displayid 70120f030001000ce803c201000f700820784e79|  version 1.2, 15 bytes of data, a stand-alone display/  parameters, 1000 x 450 in tenths of 1 mm, 3840x2160 pixels, audio override, gamma code 120, aspect 1.7800, native 10 bits a colour, overall 8 bits a colour/
+displayid 70120f030001000ce803c201000f700810784e79|  version 1.2, 15 bytes of data, a stand-alone display/  parameters, 1000 x 450 in tenths of 1 mm, 3840x2160 pixels, power management, gamma code 120, aspect 1.7800, native 10 bits a colour, overall 8 bits a colour/
+displayid 70120f030001000ce803c201000f700808784e79|  version 1.2, 15 bytes of data, a stand-alone display/  parameters, 1000 x 450 in tenths of 1 mm, 3840x2160 pixels, fixed timing, gamma code 120, aspect 1.7800, native 10 bits a colour, overall 8 bits a colour/
+displayid 70120f030001000ce803c201000f700804784e79|  version 1.2, 15 bytes of data, a stand-alone display/  parameters, 1000 x 450 in tenths of 1 mm, 3840x2160 pixels, fixed format, gamma code 120, aspect 1.7800, native 10 bits a colour, overall 8 bits a colour/
+displayid 70120f030001000ce803c201000f700802784e79|  version 1.2, 15 bytes of data, a stand-alone display/  parameters, 1000 x 450 in tenths of 1 mm, 3840x2160 pixels, AI, gamma code 120, aspect 1.7800, native 10 bits a colour, overall 8 bits a colour/
+displayid 70120f030001000ce803c201000f700801784e79|  version 1.2, 15 bytes of data, a stand-alone display/  parameters, 1000 x 450 in tenths of 1 mm, 3840x2160 pixels, deinterlacing, gamma code 120, aspect 1.7800, native 10 bits a colour, overall 8 bits a colour/
+displayid 701210000012000d802010007f076f080102030405|  version 1.2, 16 bytes of data, an extension/  tiles, in one enclosure, 3 across, 1 down, column 2, row 1, 1920x2160 pixels, then in hex 0102030405/
+displayid 701210000012000d402010007f076f080102030405|  version 1.2, 16 bytes of data, an extension/  tiles, with bezels, 3 across, 1 down, column 2, row 1, 1920x2160 pixels, then in hex 0102030405/
+displayid 701210000012000d202010007f076f080102030405|  version 1.2, 16 bytes of data, an extension/  tiles, reserved bits 20, 3 across, 1 down, column 2, row 1, 1920x2160 pixels, then in hex 0102030405/
+displayid 701210000012000d082010007f076f080102030405|  version 1.2, 16 bytes of data, an extension/  tiles, some alone at their place, 3 across, 1 down, column 2, row 1, 1920x2160 pixels, then in hex 0102030405/
+displayid 701210000012000d102010007f076f080102030405|  version 1.2, 16 bytes of data, an extension/  tiles, some alone 2 (reserved), 3 across, 1 down, column 2, row 1, 1920x2160 pixels, then in hex 0102030405/
+displayid 701210000012000d182010007f076f080102030405|  version 1.2, 16 bytes of data, an extension/  tiles, some alone 3 (reserved), 3 across, 1 down, column 2, row 1, 1920x2160 pixels, then in hex 0102030405/
+displayid 701210000012000d012010007f076f080102030405|  version 1.2, 16 bytes of data, an extension/  tiles, one alone at its place, 3 across, 1 down, column 2, row 1, 1920x2160 pixels, then in hex 0102030405/
+displayid 701210000012000d022010007f076f080102030405|  version 1.2, 16 bytes of data, an extension/  tiles, one alone scaled, 3 across, 1 down, column 2, row 1, 1920x2160 pixels, then in hex 0102030405/
+displayid 701210000012000d032010007f076f080102030405|  version 1.2, 16 bytes of data, an extension/  tiles, one alone cloned, 3 across, 1 down, column 2, row 1, 1920x2160 pixels, then in hex 0102030405/
+displayid 701210000012000d042010007f076f080102030405|  version 1.2, 16 bytes of data, an extension/  tiles, one alone 4 (reserved), 3 across, 1 down, column 2, row 1, 1920x2160 pixels, then in hex 0102030405/
+displayid 70120603000f0003021401|  version 1.2, 6 bytes of data, a stand-alone display/  display interface, analog, links 2, version 1.4, then in hex 01/
+displayid 70120603000f0003121401|  version 1.2, 6 bytes of data, a stand-alone display/  display interface, LVDS, links 2, version 1.4, then in hex 01/
+displayid 70120603000f0003221401|  version 1.2, 6 bytes of data, a stand-alone display/  display interface, TMDS, links 2, version 1.4, then in hex 01/
+displayid 70120603000f0003321401|  version 1.2, 6 bytes of data, a stand-alone display/  display interface, RSDS, links 2, version 1.4, then in hex 01/
+displayid 70120603000f0003421401|  version 1.2, 6 bytes of data, a stand-alone display/  display interface, DVI-D, links 2, version 1.4, then in hex 01/
+displayid 70120603000f0003521401|  version 1.2, 6 bytes of data, a stand-alone display/  display interface, DVI-I analog, links 2, version 1.4, then in hex 01/
+displayid 70120603000f0003621401|  version 1.2, 6 bytes of data, a stand-alone display/  display interface, DVI-I digital, links 2, version 1.4, then in hex 01/
+displayid 70120603000f0003721401|  version 1.2, 6 bytes of data, a stand-alone display/  display interface, HDMI-A, links 2, version 1.4, then in hex 01/
+displayid 70120603000f0003821401|  version 1.2, 6 bytes of data, a stand-alone display/  display interface, HDMI-B, links 2, version 1.4, then in hex 01/
+displayid 70120603000f0003921401|  version 1.2, 6 bytes of data, a stand-alone display/  display interface, MDDI, links 2, version 1.4, then in hex 01/
+displayid 70120603000f0003a21401|  version 1.2, 6 bytes of data, a stand-alone display/  display interface, DisplayPort, links 2, version 1.4, then in hex 01/
+displayid 70120603000f0003b21401|  version 1.2, 6 bytes of data, a stand-alone display/  display interface, a proprietary interface, links 2, version 1.4, then in hex 01/
+displayid 70120603000f0003c21401|  version 1.2, 6 bytes of data, a stand-alone display/  display interface, interface 12 (reserved), links 2, version 1.4, then in hex 01/
+displayid 70120603000f0003d21401|  version 1.2, 6 bytes of data, a stand-alone display/  display interface, interface 13 (reserved), links 2, version 1.4, then in hex 01/
+displayid 70120603000f0003e21401|  version 1.2, 6 bytes of data, a stand-alone display/  display interface, interface 14 (reserved), links 2, version 1.4, then in hex 01/
+displayid 70120603000f0003f21401|  version 1.2, 6 bytes of data, a stand-alone display/  display interface, interface 15 (reserved), links 2, version 1.4, then in hex 01/
+displayid 70121700000300144cd00080ff0e9f002f801f006f083d0002000400|  version 1.2, 23 bytes of data, an extension/  3840x2160 at 59.997 Hz, 533.250 MHz, h blanking 160, offset 48, width 32, +h, v blanking 62, offset 3, width 5, -v, preferred, 1:1/
+displayid 70121700000300144cd00020ff0e9f002f801f006f083d0002000400|  version 1.2, 23 bytes of data, an extension/  3840x2160 at 59.997 Hz, 533.250 MHz, h blanking 160, offset 48, width 32, +h, v blanking 62, offset 3, width 5, -v, stereo, 1:1/
+displayid 70121700000300144cd00040ff0e9f002f801f006f083d0002000400|  version 1.2, 23 bytes of data, an extension/  3840x2160 at 59.997 Hz, 533.250 MHz, h blanking 160, offset 48, width 32, +h, v blanking 62, offset 3, width 5, -v, stereo by the user, 1:1/
+displayid 70121700000300144cd00060ff0e9f002f801f006f083d0002000400|  version 1.2, 23 bytes of data, an extension/  3840x2160 at 59.997 Hz, 533.250 MHz, h blanking 160, offset 48, width 32, +h, v blanking 62, offset 3, width 5, -v, stereo 3 (reserved), 1:1/
+displayid 70121700000300144cd00010ff0e9f002f801f006f083d0002000400|  version 1.2, 23 bytes of data, an extension/  3840x2160 at 59.997 Hz, 533.250 MHz, h blanking 160, offset 48, width 32, +h, v blanking 62, offset 3, width 5, -v, interlaced, 1:1/
+displayid 70121700000300144cd00001ff0e9f002f801f006f083d0002000400|  version 1.2, 23 bytes of data, an extension/  3840x2160 at 59.997 Hz, 533.250 MHz, h blanking 160, offset 48, width 32, +h, v blanking 62, offset 3, width 5, -v, 5:4/
+displayid 70121700000300144cd00002ff0e9f002f801f006f083d0002000400|  version 1.2, 23 bytes of data, an extension/  3840x2160 at 59.997 Hz, 533.250 MHz, h blanking 160, offset 48, width 32, +h, v blanking 62, offset 3, width 5, -v, 4:3/
+displayid 70121700000300144cd00003ff0e9f002f801f006f083d0002000400|  version 1.2, 23 bytes of data, an extension/  3840x2160 at 59.997 Hz, 533.250 MHz, h blanking 160, offset 48, width 32, +h, v blanking 62, offset 3, width 5, -v, 15:9/
+displayid 70121700000300144cd00004ff0e9f002f801f006f083d0002000400|  version 1.2, 23 bytes of data, an extension/  3840x2160 at 59.997 Hz, 533.250 MHz, h blanking 160, offset 48, width 32, +h, v blanking 62, offset 3, width 5, -v, 16:9/
+displayid 70121700000300144cd00005ff0e9f002f801f006f083d0002000400|  version 1.2, 23 bytes of data, an extension/  3840x2160 at 59.997 Hz, 533.250 MHz, h blanking 160, offset 48, width 32, +h, v blanking 62, offset 3, width 5, -v, 16:10/
+displayid 70121700000300144cd00006ff0e9f002f801f006f083d0002000400|  version 1.2, 23 bytes of data, an extension/  3840x2160 at 59.997 Hz, 533.250 MHz, h blanking 160, offset 48, width 32, +h, v blanking 62, offset 3, width 5, -v, 64:27/
+displayid 70121700000300144cd00007ff0e9f002f801f006f083d0002000400|  version 1.2, 23 bytes of data, an extension/  3840x2160 at 59.997 Hz, 533.250 MHz, h blanking 160, offset 48, width 32, +h, v blanking 62, offset 3, width 5, -v, 256:135/
+displayid 70121700000300144cd00009ff0e9f002f801f006f083d0002000400|  version 1.2, 23 bytes of data, an extension/  3840x2160 at 59.997 Hz, 533.250 MHz, h blanking 160, offset 48, width 32, +h, v blanking 62, offset 3, width 5, -v, aspect 9 (reserved)/";
+
+/// Each bit of Dolby's video block alone, of versions 1 and 2, as `edid-decode` reads it.
+const DOLBY_BITS: &str = "\
+extended 0146d00040000000000101|  Dolby Vision version 2, display management 2.x, backlight from 25 cd/m2 on, least PQ code 0, greatest PQ code 2055, low latency/  red 0.6250 0.2500, green 0.0000 0.5000, blue 0.1289 0.0352/
+extended 0146d00044000000000101|  Dolby Vision version 2, display management 3.x, backlight from 25 cd/m2 on, least PQ code 0, greatest PQ code 2055, low latency/  red 0.6250 0.2500, green 0.0000 0.5000, blue 0.1289 0.0352/
+extended 0146d00041000000000101|  Dolby Vision version 2, display management 2.x, YCbCr 4:2:2 at 12 bits, backlight from 25 cd/m2 on, least PQ code 0, greatest PQ code 2055, low latency/  red 0.6250 0.2500, green 0.0000 0.5000, blue 0.1289 0.0352/
+extended 0146d00042000000000101|  Dolby Vision version 2, display management 2.x, backlight control, backlight from 25 cd/m2 on, least PQ code 0, greatest PQ code 2055, low latency/  red 0.6250 0.2500, green 0.0000 0.5000, blue 0.1289 0.0352/
+extended 0146d00040010000000101|  Dolby Vision version 2, display management 2.x, backlight from 50 cd/m2 on, least PQ code 0, greatest PQ code 2055, low latency/  red 0.6250 0.2500, green 0.0000 0.5000, blue 0.1289 0.0352/
+extended 0146d00040030000000101|  Dolby Vision version 2, display management 2.x, backlight from 100 cd/m2 on, least PQ code 0, greatest PQ code 2055, low latency/  red 0.6250 0.2500, green 0.0000 0.5000, blue 0.1289 0.0352/
+extended 0146d00040040000000101|  Dolby Vision version 2, display management 2.x, backlight from 25 cd/m2 on, global dimming, least PQ code 0, greatest PQ code 2055, low latency/  red 0.6250 0.2500, green 0.0000 0.5000, blue 0.1289 0.0352/
+extended 0146d00040080000000101|  Dolby Vision version 2, display management 2.x, backlight from 25 cd/m2 on, least PQ code 20, greatest PQ code 2055, low latency/  red 0.6250 0.2500, green 0.0000 0.5000, blue 0.1289 0.0352/
+extended 0146d00040000800000101|  Dolby Vision version 2, display management 2.x, backlight from 25 cd/m2 on, least PQ code 0, greatest PQ code 2120, low latency/  red 0.6250 0.2500, green 0.0000 0.5000, blue 0.1289 0.0352/
+extended 0146d00040000100000101|  Dolby Vision version 2, display management 2.x, backlight from 25 cd/m2 on, least PQ code 0, greatest PQ code 2055, low latency, also over HDMI/  red 0.6250 0.2500, green 0.0000 0.5000, blue 0.1289 0.0352/
+extended 0146d00040000200000101|  Dolby Vision version 2, display management 2.x, backlight from 25 cd/m2 on, least PQ code 0, greatest PQ code 2055, standard and low latency/  red 0.6250 0.2500, green 0.0000 0.5000, blue 0.1289 0.0352/
+extended 0146d00040000300000101|  Dolby Vision version 2, display management 2.x, backlight from 25 cd/m2 on, least PQ code 0, greatest PQ code 2055, standard and low latency, also over HDMI/  red 0.6250 0.2500, green 0.0000 0.5000, blue 0.1289 0.0352/
+extended 0146d00040000400000101|  Dolby Vision version 2, display management 2.x, backlight from 25 cd/m2 on, least PQ code 0, greatest PQ code 2055, low latency, reserved bits 04/  red 0.6250 0.2500, green 0.0000 0.5000, blue 0.1289 0.0352/
+extended 0146d00040000001000101|  Dolby Vision version 2, display management 2.x, backlight from 25 cd/m2 on, least PQ code 0, greatest PQ code 2055, low latency, 4:4:4 at 12 bits/  red 0.6250 0.2500, green 0.0000 0.5000, blue 0.1289 0.0352/
+extended 0146d00040000000010101|  Dolby Vision version 2, display management 2.x, backlight from 25 cd/m2 on, least PQ code 0, greatest PQ code 2055, low latency, 4:4:4 at 10 bits/  red 0.6250 0.2500, green 0.0000 0.5000, blue 0.1289 0.0352/
+extended 0146d000268001684cfe98|  Dolby Vision version 1, display management 3.x, 2160p60, up to 3300 cd/m2, down to (0/127)^2 cd/m2, near P3-D65/  standard latency, blue 0.1367 0.0391, green 0.1484 0.9961, red 0.6992 0.2500/
+extended 0146d000268001694cfe98|  Dolby Vision version 1, display management 3.x, 2160p60, up to 3300 cd/m2, down to (0/127)^2 cd/m2, near P3-D65/  standard and low latency, blue 0.1367 0.0391, green 0.1484 0.9961, red 0.6992 0.2500/
+extended 0146d0002680016b4cfe98|  Dolby Vision version 1, display management 3.x, 2160p60, up to 3300 cd/m2, down to (0/127)^2 cd/m2, near P3-D65/  latency 3 (reserved), blue 0.1367 0.0391, green 0.1484 0.9961, red 0.6992 0.2500/
+extended 0146d000200000|  Dolby Vision version 1, display management 2.x, up to 100 cd/m2, down to (0/127)^2 cd/m2, near BT.709/
+extended 0146d000210000|  Dolby Vision version 1, display management 2.x, YCbCr 4:2:2 at 12 bits, up to 100 cd/m2, down to (0/127)^2 cd/m2, near BT.709/
+extended 0146d000220000|  Dolby Vision version 1, display management 2.x, 2160p60, up to 100 cd/m2, down to (0/127)^2 cd/m2, near BT.709/
+extended 0146d000200100|  Dolby Vision version 1, display management 2.x, global dimming, up to 100 cd/m2, down to (0/127)^2 cd/m2, near BT.709/
+extended 0146d000200200|  Dolby Vision version 1, display management 2.x, up to 150 cd/m2, down to (0/127)^2 cd/m2, near BT.709/";
+
 fn are_reported(rt: &(impl Abort + AllocGlobal), rows: &str) {
     for row in rows.lines() {
         let (block, want) = row.split_once('|').expect(rt, "a row");
@@ -240,6 +338,8 @@ fn sections_are_reported(rt: HostRuntime) {
 fn each_bit_is_reported(rt: HostRuntime) {
     are_reported(&rt, EXTENDED_BITS);
     are_reported(&rt, FORUM_BITS);
+    are_reported(&rt, SECTION_BITS);
+    are_reported(&rt, DOLBY_BITS);
 }
 
 /// Codes and their luminances, as `edid-decode` prints them, to the whole number.

@@ -163,6 +163,7 @@ form 000000f80001572821000000000000000000 = revision 1 | 1920x1200, preferred at
 form 000000f800010c20447f1c787f1402000000 = revision 1 | 1400x1050, preferred at 75 Hz, 75 Hz | 1280x768, preferred at 85 Hz, 50 Hz, 60 Hz | 1360x768, preferred at 50 Hz, 85 Hz
 form 000000f80201000000000000ff0300fff0ff = byte 5 is 02, revision 1 | 680x512, preferred at 50 Hz, reserved bits 03 | 10920x8192, preferred at 85 Hz, 50 Hz, 60 Hz, 75 Hz, 85 Hz, 60 Hz with reduced blanking, reserved bits 80
 form 000000f90003102720271027f41be8035802 = revision 3, red a3 10000 hundredths, red a2 10016 hundredths, green a3 10000 hundredths, green a2 7156 hundredths, blue a3 1000 hundredths, blue a2 600 hundredths
+form 000000f90203102720271027f41be8035802 = byte 5 is 02, revision 3, red a3 10000 hundredths, red a2 10016 hundredths, green a3 10000 hundredths, green a2 7156 hundredths, blue a3 1000 hundredths, blue a2 600 hundredths
 raw 000000fd0000000000000000000000000000 = range limits
 raw 000000110000000000000000000000000000 = reserved
 raw 0000000f0000000000000000000000000000 = of the maker's own
