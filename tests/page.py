@@ -159,11 +159,11 @@ def verdicts_are_drawn(t, b):
            [[{"from": "tv", "to": "rec"}], ["amp"], ["p1", "sw"], ["tv", "rec"]])
     t.same("ok: what it says", [ok["cls"], ok["colour"], ok["verdict"]], ["ok", as_rgb["ok"], "ok"])
     refused = drawn(b, "0>f request-active-source refused")
-    t.same("refused", [refused["cls"], refused["colour"], refused["verdict"], refused["crosses"]],
-           ["refused", as_rgb["refused"], "refused", 1])
+    t.same("refused, which is remarked", [refused["cls"], refused["colour"], refused["verdict"], refused["crosses"]],
+           ["refused", as_rgb["refused"], "refused⚠ 1", 1])
     short = drawn(b, " short 0")
     t.same("short", [short["cls"], short["colour"], short["verdict"], short["label"], short["isDashed"], short["senders"]],
-           ["broken", as_rgb["broken"], "short", "short after 0", True, ["p1"]])
+           ["broken", as_rgb["broken"], "short⚠ 2", "short after 0", True, ["p1"]])
     free = drawn(b, "0>0 nack by tv")
     t.same("a poll that nobody took", [free["cls"], free["verdict"], free["claims"]], ["poll", "free", "0"])
     t.same("its loser in the arbitration", [free["losers"], free["outs"]], [["sw"], ["out @1"]])
@@ -176,7 +176,7 @@ def verdicts_are_drawn(t, b):
     t.same("nack: nobody holds the address", [nack["cls"], nack["colour"], nack["senders"], nack["crosses"], nack["circles"]],
            ["nack", as_rgb["nack"], ["tv"], 1, 1])
     bad = drawn(b, " bad-start ")
-    t.same("a bad start begins at the border", [bad["cls"], bad["verdict"], bad["senders"]], ["broken", "bad-start", ["open"]])
+    t.same("a bad start begins at the border", [bad["cls"], bad["verdict"], bad["senders"]], ["broken", "bad-start⚠ 1", ["open"]])
 
 
 def colours_differ(t, b):
@@ -295,9 +295,12 @@ def capture_is_drawn(t, b):
     t.same("open", [still["cls"], still["verdict"], still["senders"]], ["broken", "open", ["4"]])
     t.same("long", [long["cls"], long["verdict"]], ["broken", "long"])
     # What an audit notes is no remark
-    load(b, reading(10, "silent", "0000100001"), "10 9010 silent 0000100001\n  free 1 of 2\n  read 0>8\n  all readings\n")
-    noted = b.js("(row => [row.remarks, row.notes])(testing.app.model.rows.find(row => row.remarks && row.remarks.length > 0))")
-    t.same("a note of an audit is no remark", noted, [["free 1 of 2"], ["read 0>8"]])
+    remark = {"line": "  free 1 of 2", "type": "remark", "remark": "free", "section": "9.1", "width": 1, "due": 2}
+    note = {"line": "  read 0>8", "type": "note", "note": "read", "section": None, "initiator": "0"}
+    load(b, "\n".join([reading(10, "silent", "0000100001"), json.dumps(remark), json.dumps(note)]))
+    noted = b.js("(row => [row.remarks, row.notes].map(list => list.map(one => `${one.text} ${one.section}`)))"
+                 "(testing.app.model.rows.find(row => row.remarks && row.remarks.length > 0))")
+    t.same("a note of an audit is no remark", noted, [["free 1 of 2 9.1"], ["read 0>8 "]])
     # Chatter and slow bits: the run's line, each 40th rise late by 300, and spikes of 18 that --glitch leaves out
     edges = [line.split() for line in program(RETRIES, "run", "--edges").splitlines()]
     lines = ["$timescale 1 us $end", "$var wire 1 ! CEC $end", "$enddefinitions $end", "#0", "1!"]
@@ -313,7 +316,7 @@ def capture_is_drawn(t, b):
     t.holds("remarks of widths", b.js("testing.app.model.rows.filter(row => (row.remarks || []).length > 0).length") > 5)
     t.same("bits of all readings", b.js(
         "testing.app.model.rounds.filter(o => o.ending === 'complete' && !hdminet.slotsOf(testing.app.model, o)).length"), 0)
-    out = "testing.app.model.rounds.find(o => o.row.remarks.some(text => / low \\d+ not /.test(text)))"
+    out = "testing.app.model.rounds.find(o => o.row.remarks.some(one => / low \\d+ not /.test(one.text)))"
     b.js(f"testing.app.select({out}.row)")
     marked = b.js("[...document.querySelectorAll('#panel td .bad')].map(one => one.textContent)")
     t.holds("a width out of its window is marked", "out" in marked, marked)
@@ -619,12 +622,95 @@ def sentences_are_the_programs(t, b):
            [line.split(" ", 2)[2] for line in room.splitlines() if line.startswith("at ")])
 
 
+def slower(rows, percent):
+    """A capture that is so much slower, of lines of an edge file."""
+    return "".join(f"{int(at) * (100 + percent) // 100} {level}\n" for at, level in rows)
+
+
+def as_dump(rows, *, other=False, inverted=False, chatter=False):
+    """A Value Change Dump of the lines of an edge file, with another wire before it, upside down, or with spikes."""
+    names = ["$var wire 1 s SDA $end"] if other else []
+    lines = ["$timescale 1 us $end", *names, "$var wire 1 ! CEC $end", "$enddefinitions $end", "#0", "0!" if inverted else "1!"]
+    for number, (at, level) in enumerate(rows):
+        lines.append(f"#{at}")
+        if level == "end":
+            continue
+        lines.append(f"{1 - int(level) if inverted else level}!")
+        if chatter and level == "1" and number % 20 == 1:
+            lines += [f"#{int(at) + 12}", "0!", f"#{int(at) + 30}", "1!"]
+    return "\n".join(lines) + "\n"
+
+
+def advice_is_shown(t, b):
+    """What the program advises on standard error stands above the run, which opens as it is read best; a button reads it
+    otherwise. The readings are those of the program with these flags."""
+    rows = [line.split() for line in program(RETRIES, "run", "--edges").splitlines()]
+    frames = program("".join(f"{at} {level}\n" for at, level in rows), "mon").count(" complete ")
+    for name, text, flags, says in [
+            ("inverted.vcd", as_dump(rows, inverted=True), ["--invert"], "the line is low most of the time"),
+            ("chatter.vcd", as_dump(rows, chatter=True), ["--glitch", "100"], "pulses and gaps are shorter than 100 microseconds"),
+            ("other.vcd", as_dump(rows, other=True), ["--signal", "CEC"], "--signal takes one of SDA, CEC"),
+            ("slow.edges", slower(rows, 6), ["--margin", "200"], f"--margin 200 reads {frames} frames more")]:
+        show(b, written(name, text))
+        banner = b.js("document.getElementById('banner').textContent")
+        t.holds(f"{name}: the banner", banner.startswith(f"Read with {' '.join(flags)}. The program says: ") and says in banner, banner)
+        t.same(f"{name}: the way back", b.js("[...document.querySelectorAll('#banner button')].map(one => one.textContent)")[0],
+               f"Read as it is: {frames} frames fewer")
+        read = [line for line in program(text, "mon", "--audit", *flags).splitlines() if not line.startswith(" ")]
+        t.same(f"{name}: the readings", b.js("testing.app.model.rounds.map(o => o.line)"), read)
+        t.same(f"{name}: its wave is that line", b.js(
+            "testing.app.model.rounds.filter(o => o.ending === 'complete' && !hdminet.slotsOf(testing.app.model, o)).length"), 0)
+        b.js("document.querySelector('#banner button').click()")
+        for _ in range(100):
+            if b.js("testing.app.reading === 0 && testing.app.model.rounds.every(o => o.ending !== 'complete')"):
+                break
+            time.sleep(0.05)
+        b.settle()
+        offer = b.js("[...document.querySelectorAll('#banner button')].map(one => one.textContent)")
+        t.holds(f"{name}: the button", f"Read with {' '.join(flags)}: {frames} frames more" in offer, offer)
+    show(b, written("asked.edges", slower(rows, 6)), "--margin", "200")
+    t.same("as asked for, nothing is advised", b.js("document.getElementById('banner').hidden"), True)
+    lost = "# cec-ctl --store-pin\n0.000000000 1\n0.012000000 65536\n0.015700000 1\n0.100000000 1\n"
+    show(b, written("lost.pin", lost))
+    t.same("lost events", b.js("document.getElementById('banner').textContent"),
+           "The program says: events were lost before line 3. ")
+    for name in ("capture.csv", "capture.pin"):
+        show(b, os.path.join(EXAMPLES, name))
+        # examples/capture.edges is the same line
+        wanted = [int(line.split()[0]) for line in example("capture.edges").splitlines() if re.match(r"\d+ [01]$", line)]
+        t.same(f"{name} has a wave", b.js("testing.app.model.wave.line.changes"), wanted)
+
+
+def attempts_are_the_audits(t, b):
+    """Three tries of 0 to 8 and two of 0 to 4 are no five attempts, and eight tries are eight (CEC 7.1)."""
+    tries = {"three.net": ["8", "8", "8", "4", "4"], "eight.net": ["8"] * 8}
+    for name, wanted in [("three.net", [1, 2, 3, 1, 2]), ("eight.net", [1, 2, 3, 4, 5, 6, 7, 8])]:
+        # Each header is pulled from outside, three bit periods and more after the last bit of the one before (CEC 9.1).
+        laid = "".join(f"{4000000 + 33900 * number} last 10 0>{to} give-osd-name\n" for number, to in enumerate(tries[name]))
+        pulls = program(laid, "lay")
+        show(b, written(name, f"device tv tv 4\nscript\n{pulls}end 9000000\n"))
+        shown = b.js("testing.app.model.rows.filter(row => row.type === 'round' && row.at >= 4000000).map(row => row.attempt)")
+        t.same(name, shown, wanted)
+
+
 def pages_are_made(t, b):
     """tools/page and tools/look: no page where the file is refused, one that opens where it is not, and no network."""
     missing = os.path.join(ROOM, "missing.html")
-    refused = written("refused.net", "device tv tv 4\nscript\nat x press tv play\nend 10\n")
-    done = subprocess.run([os.path.join(TOP, "tools/page"), refused, "-o", missing], capture_output=True, check=False)
-    t.same("a refused room", [done.returncode, os.path.exists(missing), b"script line 1" in done.stderr], [1, False, True])
+    top = "# a room\ndevice tv tv 4\n"
+    for name, text, words in [
+            ("typo.net", f"{top}script\nat 5 pres tv play\nend 10\n", ["line 4 of the input: at 5 pres tv play", "did you mean `press`"]),
+            ("typo.test", f"{top}script\nat 5 press tv play\nexpect nothing\nend 10\n", ["line 5 of the input: expect nothing"]),
+            ("returns.net", f"{top}script\nend 10\n".replace("\n", "\r\n"), ["lines end with LF; this one has a CR before it"]),
+            ("capital.net", f"{top}Script\nend 10\n", ["line 3: Script", "the line `script` is missing"])]:
+        for tool in (["tools/page", written(name, text), "-o", missing], ["tools/look", written(name, text), "-o", missing]):
+            done = subprocess.run([os.path.join(TOP, tool[0]), *tool[1:]], capture_output=True, check=False)
+            said = done.stderr.decode()
+            t.holds(f"{tool[0]} refuses {name} in the words of --explain", done.returncode == 1 and not os.path.exists(missing)
+                    and all(word in said for word in words), said)
+    out = os.path.join(ROOM, "standard-input.html")
+    subprocess.run([os.path.join(TOP, "tools/page"), "-o", out], input=example("wrong-film.test").encode(), check=True)
+    b.open(out)
+    t.same("a test on standard input is run", b.js("[hdminet.app.model.rounds.length, hdminet.app.model.tests.length]"), [6, 3])
     done = subprocess.run([os.path.join(TOP, "tools/page"), os.path.join(EXAMPLES, "first-path.trace"), "-o", missing],
                           capture_output=True, check=False)
     t.same("a trace is nothing to look at", [done.returncode, os.path.exists(missing), b"is no room" in done.stderr],
@@ -639,6 +725,13 @@ def pages_are_made(t, b):
         t.same(f"look opens {name}", read(opened), out)
         b.open(out)
         t.same(f"its rounds: {name}", [b.js("hdminet.app.model.rounds.length"), b.faults()], [count, []])
+    show(b, os.path.join(EXAMPLES, "denon-avr-x2300w.edid"))
+    found = b.js("[...document.querySelectorAll('#panel .finding')].map(one => [...one.children].map(part => part.textContent))")
+    t.same("the rules that an EDID breaks", found, [
+        ["fail srgb", "bit 2 of the features is set exactly where the chromaticities are those of sRGB (E-EDID A, 3.6.4)",
+         "here: features 0a"],
+        ["fail out-of-range", "video codes, established and standard timings are within the range limits (E-EDID A, 3.10.3.3)",
+         "here: video code 96"]])
     size = os.path.getsize(BARE)
     t.holds("the page without data is below 300 KB", size < 300000, size)
     capture = written("capture.test", example("capture.expect") + "capture\n" + example("capture.pin"))
@@ -724,7 +817,7 @@ def sources_are_plain(t, _):
 
 
 ALL = [sources_are_plain, verdicts_are_drawn, colours_differ, retries_are_folded, wave_is_drawn, other_lines_are_noticed,
-       capture_is_drawn, failures_are_drawn, keys_reach_all, mouse_works, hostile_inputs_are_harmless,
+       capture_is_drawn, advice_is_shown, attempts_are_the_audits, failures_are_drawn, keys_reach_all, mouse_works, hostile_inputs_are_harmless,
        inferences_are_the_programs, sentences_are_the_programs, dumps_are_read, files_may_be_dropped, pages_are_made,
        examples_have_pages,
        long_runs_are_fast]

@@ -22,8 +22,23 @@ export function whyStopped(model, { lane, slot }) {
 }
 
 export class Chart {
+  /* The rows shown, and the place of each from above. */
+  shown = [];
+  tops = new Float64Array(1);
+  /* The first and the last row in the document, for which instant the heads are, and what is measured. */
+  drawn = null;
+  headsAt = null;
+  due = 0;
+  seen = 0;
+  distance = 0;
+  scrolled = 0;
+  width = 0;
+
   constructor(app, box, heads, space) {
-    Object.assign(this, { app, box, heads, space, shown: [], tops: new Float64Array(1), drawn: null });
+    this.app = app;
+    this.box = box;
+    this.heads = heads;
+    this.space = space;
     box.addEventListener('scroll', () => this.drawSoon());
     new ResizeObserver(() => {
       this.drawn = null;
@@ -171,10 +186,16 @@ export class Chart {
 
 /* One row of the chart. */
 class RowPicture {
+  /* What is drawn above all else. */
+  onTop = [];
+
   constructor(chart, row, top) {
-    const height = HEIGHTS[row.type];
-    const middle = row.type === 'round' ? top + 21 : top + height / 2;
-    Object.assign(this, { chart, row, top, height, y: middle, model: chart.app.model, onTop: [] });
+    this.chart = chart;
+    this.row = row;
+    this.top = top;
+    this.height = HEIGHTS[row.type];
+    this.y = row.type === 'round' ? top + 21 : top + this.height / 2;
+    this.model = chart.app.model;
     this.group = this.frame();
   }
   x(lane) {

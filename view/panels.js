@@ -22,7 +22,7 @@ export const PANELS = {
   edids: { name: 'EDIDs', isThere: model => model.ports.length > 0 || model.meanings.length > 0, draw: drawEdids },
   notes: { name: 'Notes', isThere: model => model.faults.length > 0 || hasAudit(model), draw: drawNotes },
 };
-const hasAudit = model => Boolean(model.audit && model.audit.ofAll.length > 0);
+const hasAudit = model => model.ofAll.length > 0;
 
 const dim = text => html('p', { class: 'dim' }, text);
 const bad = text => html('span', { class: 'bad' }, text);
@@ -58,12 +58,14 @@ function drawRound(app, model, row) {
     table(partiesAndTimes(model, row)),
     round.bytes && blocks(model, round),
     widths(model, round),
-    row.remarks.length > 0 && [html('h3', {}, 'Remarks of the audit'), list(row.remarks)],
-    row.notes.length > 0 && [html('h3', {}, 'Notes of the audit'), list(row.notes)],
+    row.remarks.length > 0 && [html('h3', {}, 'Remarks of the audit'), list(row.remarks.map(inWords))],
+    row.notes.length > 0 && [html('h3', {}, 'Notes of the audit'), list(row.notes.map(inWords))],
     row.tests.length > 0 && [html('h3', {}, 'Tests'), row.tests.map(test => testButton(app, test))],
     html('h3', {}, 'Line'), html('pre', {}, round.line), html('p', {}, links),
   ];
 }
+/* A remark or a note, with its section of HDMI 1.4 CEC. */
+const inWords = ({ text, section }) => (section ? `${text} (CEC ${section})` : text);
 const list = texts => html('ul', {}, texts.map(text => html('li', {}, text)));
 
 function partiesAndTimes(model, row) {
@@ -80,7 +82,7 @@ function partiesAndTimes(model, row) {
     ['From', sender],
     row.destination && ['To', row.destination === 'f' ? 'all' : row.to.length > 0 ? both(row.to) : nobody],
     row.losers.length > 0 && ['Out', row.losers.map(loser => whyStopped(model, loser)).join('; ')],
-    (row.attempt > 1 || row.folded) && ['Attempt', attempts],
+    (row.attempt !== null || row.folded) && ['Attempt', attempts],
     ['Begin', `${round.begin} µs`],
     ['Close', `${round.close} µs, ${round.close - round.begin} later`],
     before && ['Before', `${round.begin - before.close} µs since the close of the round above`],
@@ -227,7 +229,7 @@ function oddities(model, row) {
   }
   if (row.remarks.length > 0) {
     const others = row.remarks.length > 1 ? ` and ${row.remarks.length - 1} more` : '';
-    odd.push([row.remarks[0] + others, 'broken']);
+    odd.push([row.remarks[0].text + others, 'broken']);
   }
   return odd;
 }
@@ -314,7 +316,7 @@ function drawTable(app, model) {
   const addresses = row => row.changes.map(({ lane, text }) => `${model.lanes[lane].name} ${text}`).join(', ');
   const line = row => [
     seconds(row.at), names(row.from || []), row.type === 'round' ? receivers(row) : '', link(what(row), () => app.select(row)),
-    row.verdict || '', addresses(row), (row.remarks || []).join('; '),
+    row.verdict || '', addresses(row), (row.remarks || []).map(remark => remark.text).join('; '),
   ];
   const page = first => app.openTable(first);
   return [
@@ -381,6 +383,11 @@ function drawTalk(app, model) {
   ];
 }
 
+/* A rule that an EDID breaks: what it asks with its section, and the value at fault, in the program's words. */
+const findingOf = ({ rule, said }) => html(
+  'div', { class: 'finding' }, html('code', { class: 'bad' }, rule), said.map(line => html('p', {}, line)),
+);
+
 /* The physical address in an EDID in hex: what follows the registration of HDMI's vendor block. */
 function physicalIn(edid) {
   const i = edid.indexOf('030c00');
@@ -400,18 +407,18 @@ function drawEdids(app, model) {
   const meant = line => [line.startsWith(' ') ? html('span', { class: 'dim' }, line) : line, '\n'];
   const meaning = ({ name, text }) => [html('h3', {}, name), html('pre', {}, text.split('\n').map(meant))];
   return [
-    model.findings.length > 0 && [html('h3', {}, 'Rules that it breaks'), list(model.findings)],
+    model.findings.length > 0 && [html('h3', {}, 'Rules that it breaks'), model.findings.map(findingOf)],
     model.ports.map(port), model.ports.length > 1 && dim('Red: bytes that the first one has otherwise.'),
     model.meanings.map(meaning),
   ];
 }
 
 function drawNotes(app, model) {
-  const { faults, audit } = model;
+  const { faults, ofAll } = model;
   const others = faults.length > 50 ? [`and ${faults.length - 50} more`] : [];
   return [
     faults.length > 0 && [html('h3', {}, 'Of the data'), list([...faults.slice(0, 50), ...others])],
-    hasAudit(model) && [html('h3', {}, 'Audit of all readings'), html('pre', {}, audit.ofAll.join('\n'))],
+    hasAudit(model) && [html('h3', {}, 'Audit of all readings'), html('pre', {}, ofAll.join('\n'))],
   ];
 }
 
@@ -419,10 +426,10 @@ export const COMMANDS = `./hdminet run --json < x.net > x.jsonl                 
 ./hdminet run --edges --as vcd --drives < x.net > x.vcd       the wave, and who pulls
 x.net                                                         what the events say, and plugs
 ./hdminet check --json < x.test > report.jsonl                a report of tests
-./hdminet mon --json --from-start < capture.vcd > x.jsonl     a capture: also capture.vcd itself
-./hdminet mon --audit < capture.vcd > audit.txt               and what the audit remarks
+./hdminet mon --audit --json < capture.vcd > x.jsonl          a capture and its audit: also capture.vcd itself
 ./hdminet dis --meaning < frames.hex > x.meant                what frames mean, by their bytes in hex
-./hdminet edid --meaning < tv.edid > tv.meaning               an EDID`;
+./hdminet edid --meaning < tv.edid > tv.meaning               an EDID
+./hdminet edid --check --explain < tv.edid 2> tv.rules        and the rules that it breaks`;
 
 export function help() {
   const marks = [

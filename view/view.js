@@ -5,7 +5,7 @@ import { byId, counted, html } from './elements.js';
 import { addWave, build, findIn, isWave } from './model.js';
 import { COMMANDS, drawSweep, help, PANELS } from './panels.js';
 import { acknowledgersOf, slotsOf } from './slots.js';
-import { asText, kindOf, lowerBound, readDump } from './texts.js';
+import { asText, isAudit, kindOf, lowerBound, readDump } from './texts.js';
 import { meaningOf } from './words.js';
 import { Wave, wavesHeight } from './wave.js';
 
@@ -20,13 +20,69 @@ const LATER = 1 << 20; // a wave of so many characters is read after the first p
 const isFailed = row => FAILED.includes(row.cls) || (row.type === 'event' && row.o.verdict !== 'ok');
 
 class App {
+  model = build([]);
+  texts = [];
+  /* What the page was made of: its readings, of which one is shown. */
+  data = null;
+  reading = 0;
+  isReading = true;
+  isWaiting = false;
+  selected = null;
+  banded = null;
+  hidden = new Set();
+  unfolded = new Set();
+  panel = 'selected';
+  tableFrom = null;
+  colours = {};
+  exportedText = '';
+  strip = null;
+  quiet = 0;
+
   constructor() {
-    Object.assign(this, {
-      model: build([]), texts: [], isReading: true, isWaiting: false, selected: null, banded: null, hidden: new Set(),
-      unfolded: new Set(), panel: 'selected', tableFrom: null, colours: {}, exportedText: '',
-    });
     this.chart = new Chart(this, byId('chart'), byId('heads'), byId('space'));
     this.wave = new Wave(this, byId('line'), byId('reading'));
+  }
+
+  /* Shows one of the readings that are in the page: of a capture there is one for each flag that the program advises. */
+  async openReading(index) {
+    const { texts, readings, title } = this.data;
+    const { texts: places, how } = readings[index];
+    const parts = places.map((place, i) => ({ ...texts[place], ...(i === 0 ? { name: title || texts[place].name } : {}), how }));
+    const readOne = async part => ({ ...part, name: asText(part.name), text: await inflated(part) });
+    const read = wanted => Promise.all(wanted.map(readOne));
+    const waves = parts.filter(part => part.wave && part.size > LATER);
+    this.reading = index;
+    this.isWaiting = waves.length > 0;
+    const first = await read(parts.filter(part => !waves.includes(part)));
+    if (this.reading !== index) return; // another one was asked for meanwhile
+    await this.load(first);
+    this.showBanner();
+    this.isWaiting = waves.length > 0;
+    requestAnimationFrame(() => performance.mark('first picture'));
+    if (waves.length > 0) await this.loadWaves(() => read(waves));
+  }
+  /* What the program says for the user, and what else the capture may be read with. */
+  showBanner() {
+    const readings = this.data ? this.data.readings : [];
+    const { frames, flags, said } = readings[this.reading] || { frames: 0, flags: '', said: [] };
+    const inWords = one => (one.flags ? `with ${one.flags}` : 'as it is');
+    const more = one => {
+      const difference = one.frames - frames;
+      return `${counted(Math.abs(difference), 'frame')} ${difference < 0 ? 'fewer' : 'more'}`;
+    };
+    const button = index => html(
+      'button', { click: () => this.openReading(index) }, `Read ${inWords(readings[index])}: ${more(readings[index])}`,
+    );
+    const says = ({ text }) => `The program says: ${text}. `;
+    const from = readings.findIndex(one => one.said.some(line => line.readings.includes(this.reading)));
+    const why = from < 0 ? null : readings[from].said.find(line => line.readings.includes(this.reading));
+    const lines = [
+      this.reading !== 0 && html('p', {}, html('b', {}, `Read with ${flags}. `), why && says(why), button(Math.max(from, 0))),
+      said.map(line => html('p', {}, says(line), line.readings.filter(index => index !== this.reading).map(button))),
+    ];
+    const banner = byId('banner');
+    banner.replaceChildren(html('div', {}, lines));
+    banner.hidden = this.reading === 0 && said.length === 0;
   }
 
   /* Takes texts in the place of those that are there, or beside them. A long wave is added after the first picture. */
@@ -47,7 +103,7 @@ class App {
     const waves = await read();
     if (loaded !== this.texts) return; // others were loaded meanwhile
     for (const one of waves) if (!loaded.includes(one)) loaded.push(one);
-    for (const one of waves) addWave(this.model, one, loaded[0]);
+    for (const one of waves) addWave(this.model, one);
     this.isWaiting = false;
     this.showWave();
     this.drawStrip(true);
@@ -107,9 +163,14 @@ class App {
     const texts = await Promise.all([...files].map(async file => ({ name: file.name, text: await file.text() })));
     if (texts.length > 0) await this.loadGiven(texts);
   }
-  /* Objects are a new run; anything else is added to what is there. */
+  /* Objects are a new run; anything else, also the audit of a run's line, is added to what is there. */
   loadGiven(texts) {
-    return this.load(texts, this.texts.length > 0 && texts.every(({ text }) => kindOf(text) !== 'objects'));
+    this.data = null;
+    this.reading = 0;
+    this.showBanner();
+    const isRun = this.model.rounds.length > 0 && !this.model.isCapture;
+    const isMore = ({ text }) => kindOf(text) !== 'objects' || (isRun && isAudit(text));
+    return this.load(texts, this.texts.length > 0 && texts.every(isMore));
   }
   loadPasted(text) {
     if (text.trim()) this.loadGiven([{ name: 'pasted', text }]);
@@ -473,15 +534,10 @@ async function inflated({ deflated }) {
   return new Response(new Blob([bytes]).stream().pipeThrough(new DecompressionStream('deflate'))).text();
 }
 async function loadEmbedded(app) {
-  const parts = JSON.parse(byId('data').textContent) || [];
-  const readOne = async part => ({ ...part, name: asText(part.name), text: await inflated(part) });
-  const read = wanted => Promise.all(wanted.map(readOne));
-  const waves = parts.filter(part => part.wave && part.size > LATER);
-  app.isWaiting = waves.length > 0;
-  await app.load(await read(parts.filter(part => !waves.includes(part))));
-  app.isWaiting = waves.length > 0;
+  app.data = JSON.parse(byId('data').textContent);
+  if (app.data) await app.openReading(app.data.first);
+  else await app.load([]);
   requestAnimationFrame(() => performance.mark('first picture'));
-  if (waves.length > 0) await app.loadWaves(() => read(waves));
   performance.mark('loaded');
 }
 
